@@ -1,0 +1,5 @@
+pub mod Schedule
+pub mod Action
+pub mod Matching
+pub mod Allowed
+pub mod Interleaving

@@ -1,0 +1,5 @@
+pub mod Costs
+pub mod Times
+pub mod Run
+pub mod Stuck
+pub mod Budget

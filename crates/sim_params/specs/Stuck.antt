@@ -1,0 +1,42 @@
+-- Stuck operations, and the reason of each.
+use Rattle.std.specs.Prelude.{ℕ, ◌≡◌, ◌||◌, ◌&&◌, Bool, true, false, not, List, [], ◌∷◌, Option, Some, None}
+use Rattle.std.specs.List.{find}
+use Rattle.goal_graph.specs.declared.action.OpId.{OpId}
+use Rattle.goal_graph.specs.declared.action.Timed.{Timed}
+use Rattle.goal_graph.specs.declared.action.Why.{Why}
+use Rattle.goal_graph.specs.declared.action.Why.TheVariants as why
+use Rattle.goal_graph.specs.declared.plan.Need.{Need}
+use Rattle.goal_graph.specs.Schedule.{Plan, needs, needed, operations}
+use Rattle.goal_graph.specs.Action.{Act, plain}
+use Rattle.goal_graph.specs.Matching.{fits}
+use Rattle.goal_graph.specs.Allowed.{has_started, has_ended, is_met}
+
+module _ (plans : List Plan) (eager : OpId → Bool) where
+  -- x has no end
+  abbrev pub IsStuck : List Act → OpId → Type 0
+  IsStuck h x = has_ended plans eager x h ≡ false
+
+  -- the first thing that x needs and that is not there, in the order of the dependencies
+  unfoldable pub first_unmet : List Act → OpId → Option Need
+  first_unmet h x = find (λ (d : Need). not (is_met plans eager h d.when (needed x d))) (needs plans x)
+
+  -- x and y fit, one a send and the other a receive
+  abbrev pub are_fit : OpId → OpId → Bool
+  are_fit x y = fits plans x y || fits plans y x
+
+  -- the least operation that fits x and has not started
+  unfoldable pub first_absent : List Act → OpId → Option OpId
+  first_absent h x = find (λ (y : OpId). are_fit x y && not (has_started plans y h)) (operations plans)
+
+  abbrev pub partner_or_alone : Option OpId → Why
+  partner_or_alone (Some y) = why.Partner y
+  partner_or_alone None = why.Alone
+
+  abbrev pub reason_by : List Act → OpId → Option Need → Why
+  reason_by h x (Some d) = why.Op (needed x d)
+  reason_by h x None = partner_or_alone (first_absent h x)
+
+  -- the reason of a stuck operation: what it needs and never comes, else the least partner that never starts,
+  -- else it is alone
+  unfoldable pub reason : List Act → OpId → Why
+  reason h x = reason_by h x (first_unmet h x)
