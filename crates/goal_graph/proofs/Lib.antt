@@ -1,4 +1,5 @@
 pub mod Actions
 pub mod Persist
 pub mod Rules
+pub mod Ever
 pub mod Partners
