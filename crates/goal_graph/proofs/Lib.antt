@@ -3,3 +3,4 @@ pub mod Persist
 pub mod Rules
 pub mod Ever
 pub mod Partners
+pub mod Stages
