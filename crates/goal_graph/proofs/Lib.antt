@@ -4,3 +4,5 @@ pub mod Rules
 pub mod Ever
 pub mod Partners
 pub mod Stages
+pub mod OneEach
+pub mod Waiting
