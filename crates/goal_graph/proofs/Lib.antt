@@ -6,3 +6,4 @@ pub mod Partners
 pub mod Stages
 pub mod OneEach
 pub mod Waiting
+pub mod Exists
