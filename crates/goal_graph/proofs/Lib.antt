@@ -7,3 +7,5 @@ pub mod Stages
 pub mod OneEach
 pub mod Waiting
 pub mod Exists
+pub mod Sums
+pub mod Once
