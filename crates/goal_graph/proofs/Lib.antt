@@ -9,3 +9,5 @@ pub mod Waiting
 pub mod Exists
 pub mod Sums
 pub mod Once
+pub mod Oldest
+pub mod Complete

@@ -1,5 +1,5 @@
 -- The laws of interleavings, as one reads them.
-use Rattle.std.specs.Prelude.{ℕ, ◌≡◌, ◌&&◌, not, Bool, true, false, List, [], ◌∷◌, Option, Some, None, count_by, sum_by}
+use Rattle.std.specs.Prelude.{ℕ, ◌≡◌, ◌≢◌, ◌&&◌, not, Bool, true, false, List, [], ◌∷◌, Option, Some, None, count_by, sum_by}
 use Rattle.goal_graph.specs.declared.action.OpId.{OpId}
 use Rattle.goal_graph.specs.declared.action.Class.{Class}
 use Rattle.goal_graph.specs.declared.action.Class.TheVariants.{Arrive, Serve, Data, Post, Begin}
@@ -7,7 +7,7 @@ use Rattle.goal_graph.specs.declared.plan.Kind.{Kind}
 use Rattle.goal_graph.specs.declared.plan.Kind.TheVariants.{Calc, Send, Recv}
 use Rattle.goal_graph.specs.Schedule.{Plan, kind_at, operations}
 use Rattle.goal_graph.specs.Action.{Act, happened}
-use Rattle.goal_graph.specs.Matching.{fits}
+use Rattle.goal_graph.specs.Matching.{fits, pairs, partner, is_paired}
 
 -- x is a calc, a send, a receive
 pub record IsCalc (plans : List Plan) (x : OpId) : Type 0 where
@@ -56,3 +56,22 @@ left_of plans h x = count_by (is_left plans h x) classes
 -- how many actions of all operations have not happened
 unfoldable pub left : List Plan → List Act → ℕ
 left plans h = sum_by (left_of plans h) (operations plans)
+
+-- a large send that has arrived and that no receive has taken
+pub record IsWaitingSend (plans : List Plan) (eager : OpId → Bool) (h : List Act) (m : OpId) : Type 0 where
+  pub is_send : IsSend plans m
+  pub is_large : eager m ≡ false
+  pub arrived : happened Arrive m h ≡ true
+  pub unpaired : is_paired (pairs plans h) m ≡ false
+
+-- a posted receive that no send has come for
+pub record IsWaitingReceive (plans : List Plan) (h : List Act) (x : OpId) : Type 0 where
+  pub is_receive : IsReceive plans x
+  pub posted : happened Post x h ≡ true
+  pub unpaired : is_paired (pairs plans h) x ≡ false
+
+-- y is paired with another than x
+pub record IsTaken (plans : List Plan) (h : List Act) (y x : OpId) : Type 0 where
+  pub taker : OpId
+  pub pair : partner (pairs plans h) y ≡ Some taker
+  pub other : taker ≢ x
