@@ -11,3 +11,4 @@ pub mod Sums
 pub mod Once
 pub mod Oldest
 pub mod Complete
+pub mod Members
