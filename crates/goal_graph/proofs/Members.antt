@@ -1,5 +1,5 @@
 -- What has happened and what is paired, said as membership in a list.
-use Rattle.std.proofs.Common.{⊎_elim, ℕ, zero, suc, ◌<◌, ◌≡◌, ◌⊎◌, inl, inr, Bool, true, false, List, [], ◌∷◌, length, get_or, Option, Some, None, Contains, refl, ap, sym, ◌∙◌, subst, arith}
+use Rattle.std.proofs.Common.{⊎_elim, ℕ, zero, suc, ◌<◌, ◌≡◌, ◌↔◌, ◌⊎◌, inl, inr, Bool, true, false, List, [], ◌∷◌, length, get_or, Option, Some, None, Contains, refl, ap, sym, ◌∙◌, subst, arith}
 use Rattle.std.proofs.lemmas.Bool.{both_ways, and_cases}
 use Rattle.std.proofs.lemmas.List.Sums.{AllPass-from_list_all}
 use Rattle.std.proofs.lemmas.List.Elements.{All-contains}
@@ -35,6 +35,11 @@ member_happened c x (a ∷ h) (zero, b, e) =
 member_happened c x (a ∷ h) (suc k, b, e) =
     happened_stays c x a h (member_happened c x h (k, omega (arith, b), e))
 
+-- what has happened after one more action
+pub happened_one_more : (c : Class) (x : OpId) (a : Act) (h : List Act) → (happened c x (a ∷ h) ≡ true) ↔ ((happened c x h ≡ true) ⊎ (a ≡ act_of c x))
+happened_one_more c x a h =
+    (λ e. ⊎_elim (λ was. inl was) (λ now. inr (is_act_true c x a now)) (happened_cases c x a h e), λ e. ⊎_elim (λ was. happened_stays c x a h was) (λ now. happened_new c x a h (is_act_from c x a (ap (λ (a : Act). a.class) now) (ap (λ (a : Act). a.op) now))) e)
+
 pub listed_member : (p : Pair) (ps : List Pair) → IsListed p ps → Contains ps p
 listed_member p [] l = absurd l
 listed_member p (q ∷ ps) (inl e) = contains_first q ps p e
@@ -52,6 +57,11 @@ some_fails {X} p (x ∷ xs) e = go (some_fails p xs) (and_cases (p x) (list_all 
     go : (list_all p xs ≡ false → (y : X) × Contains xs y × (p y ≡ false)) → ((p x ≡ false) ⊎ (list_all p xs ≡ false)) → (y : X) × Contains (x ∷ xs) y × (p y ≡ false)
     go rest (inl f) = (x, contains_first x xs x refl, f)
     go rest (inr f) = let found = rest f in (found.0, contains_more x xs found.0 found.1, found.2)
+
+-- partners stand in a pair
+pub partner_member : (ps : List Pair) (x y : OpId) → partner ps x ≡ Some y → Contains ps (pair_of x y) ⊎ Contains ps (pair_of y x)
+partner_member ps x y e =
+    ⊎_elim (λ l. inl (listed_member (pair_of x y) ps l)) (λ l. inr (listed_member (pair_of y x) ps l)) (partner_listed ps x y e)
 
 module _ (plans : List Plan) (eager : OpId → Bool) where
   -- each need of a ready operation is met

@@ -34,7 +34,7 @@ module _ (plans : List Plan) where
       clash : ◌≡◌ {A = Option Kind} (Some (Recv s.room s.from s.tag)) (Some (Calc r.nanos)) → ⊥
       clash e = cc e
 
-  fits_both : (x m : OpId) → fits plans x m ≡ true → IsReceive plans x × IsSend plans m
+  pub fits_both : (x m : OpId) → fits plans x m ≡ true → IsReceive plans x × IsSend plans m
   unfolding fits
   fits_both x m e = go (kind_at plans x) refl (kind_at plans m) refl e
     where
