@@ -1,11 +1,10 @@
 -- What has happened where nothing is left to happen, and why an operation has no end there.
-use Rattle.std.proofs.Common.{⊎_elim, ℕ, ◌≡◌, ◌≢◌, ◌&&◌, ◌||◌, ◌⊎◌, inl, inr, not, Bool, true, false, List, [], ◌∷◌, Option, Some, None, Contains, is_some, refl, ap, sym, ◌∙◌, subst}
-use Rattle.std.proofs.lemmas.Bool.{both_ways, cases_Bool, and_parts, and_cases, and_from, or_left, or_right, not-true, not-false, not_from_true, not_from_false, false_from_ne_true}
+use Rattle.std.proofs.Common.{⊎_elim, ◌≡◌, ◌≢◌, ◌⊎◌, inl, inr, not, Bool, true, false, List, Option, Some, None, sym, ◌∙◌, subst}
+use Rattle.std.proofs.lemmas.Bool.{both_ways, cases_Bool, and_cases, and_from, or_left, or_right, not-false, not_from_false, false_from_ne_true}
 use Rattle.goal_graph.specs.declared.action.OpId.{OpId}
 use Rattle.goal_graph.specs.declared.action.Class.{Class}
 use Rattle.goal_graph.specs.declared.action.Class.TheVariants.{Arrive, Serve, Data, Post, Begin}
 use Rattle.goal_graph.specs.declared.plan.Kind.{Kind}
-use Rattle.goal_graph.specs.declared.plan.Kind.TheVariants.{Calc, Send, Recv}
 use Rattle.goal_graph.specs.declared.plan.When.{When}
 use Rattle.goal_graph.specs.declared.plan.When.TheVariants.{AfterEnd, AfterStart}
 use Rattle.goal_graph.specs.Schedule.{Plan, kind_at}
@@ -13,10 +12,10 @@ use Rattle.goal_graph.specs.Action.{Act, happened}
 use Rattle.goal_graph.specs.Matching.{partner, is_paired, pairs, fits}
 use Rattle.goal_graph.specs.Allowed.{has_started, has_ended, is_met, is_ready, is_served, may, allowed}
 use Rattle.goal_graph.specs.Interleaving.{IsInterleaving, IsCompleteInterleaving}
-use Rattle.goal_graph.specs.Laws.{IsCalc, IsSend, IsReceive, HaveMet, IsWaitingSend, IsWaitingReceive, IsTaken}
+use Rattle.goal_graph.specs.Laws.{IsCalc, IsSend, IsReceive, IsWaitingSend, IsWaitingReceive, IsTaken}
 use Rattle.goal_graph.proofs.Actions.{act_of}
 use Rattle.goal_graph.proofs.Persist.{is_some_from, cases_some}
-use Rattle.goal_graph.proofs.Rules.{fits_receive, fits_send, not_send_receive}
+use Rattle.goal_graph.proofs.Rules.{fits_receive, fits_send}
 use Rattle.goal_graph.proofs.Ever.{arrived_begun}
 use Rattle.goal_graph.proofs.Partners.{partners_met, partner_of_send, partner_of_receive, partners_mutual}
 use Rattle.goal_graph.proofs.Stages.{KindOf, absent, calc, send, receive, cases_kind, started_send, started_receive, ended_calc, ended_eager, ended_large, ended_receive, ended_started}
@@ -105,6 +104,11 @@ module _ (plans : List Plan) (eager : OpId → Bool) where
             elim (cases_Bool (eager x)) [ inl t ↦ absurd (both_ways _ e (ended_eager plans eager h x k t ∙ ready_send_begun x k r)) | inr f ↦ inl (record { is_send = k; is_large = f; arrived = ready_send_arrived x k r; unpaired = free }) ]
         go (receive k) =
             inr (record { is_receive = k; posted = ready_receive_posted x k r; unpaired = free })
+
+    -- an operation that has no end is not ready, or waits for a partner
+    pub unended_cases : (x : OpId) → (kind_at plans x ≢ None) → has_ended plans eager x h ≡ false → (is_ready plans eager h x ≡ false) ⊎ (IsWaitingSend plans eager h x ⊎ IsWaitingReceive plans h x)
+    unended_cases x present e =
+        elim (cases_Bool (is_ready plans eager h x)) [ inl r ↦ inr (ready_waits x present r e) | inr f ↦ inl f ]
 
     -- whoever is paired with y is not x, where x is not paired
     taken_from : (x y : OpId) → is_paired (pairs plans h) x ≡ false → is_paired (pairs plans h) y ≡ true → IsTaken plans h y x

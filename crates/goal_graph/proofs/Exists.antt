@@ -1,5 +1,5 @@
 -- Which operations there are: `operations` lists each once, by rank and number.
-use Rattle.std.proofs.Common.{ℕ, zero, suc, ◌+◌, ◌<◌, ◌≤◌, ◌≡◌, ◌≢◌, ◌↔◌, Bool, true, false, ◌⊎◌, inl, inr, List, [], ◌∷◌, ◌++◌, length, Option, Some, None, All, AllPairs, Contains, sum_by, slice_get, refl, ap, sym, ◌∙◌, subst, ap₂, arith, length-append, is_some}
+use Rattle.std.proofs.Common.{ℕ, zero, suc, ◌+◌, ◌<◌, ◌≡◌, ◌≢◌, ◌↔◌, Bool, true, false, inl, inr, List, [], ◌∷◌, ◌++◌, length, Option, Some, None, All, AllPairs, Contains, sum_by, slice_get, refl, ap, sym, ◌∙◌, subst, ap₂, arith, length-append, is_some}
 use Rattle.std.specs.Option.{option_map, option_and_then}
 use Rattle.std.proofs.lemmas.Bool.{both_ways}
 use Rattle.std.proofs.lemmas.Option.{same_Some, none-some}
@@ -16,6 +16,7 @@ use Rattle.goal_graph.specs.Action.{Act}
 use Rattle.goal_graph.specs.Allowed.{may, allowed}
 use Rattle.goal_graph.specs.Laws.{IsEarlier}
 use Rattle.goal_graph.proofs.Persist.{is_some_from, cases_some}
+use Rattle.goal_graph.proofs.Lists.{contains_first, contains_more}
 use Rattle.goal_graph.proofs.Rules.{allowed_may}
 
 abbrev pub at : ℕ → ℕ → OpId
@@ -26,21 +27,15 @@ pub record IsAt (plans : List Plan) (x : OpId) : Type 0 where
   pub op : Op
   pub is : op_at plans x ≡ Some op
 
-Contains-here : (x : OpId) (xs : List OpId) → Contains (x ∷ xs) x
-Contains-here x xs = (0, omega arith, refl)
-
-Contains-later : (y : OpId) (xs : List OpId) (x : OpId) → Contains xs x → Contains (y ∷ xs) x
-Contains-later y xs x c = (suc c.0, omega (arith, c.1), c.2)
-
 rank_listed : (rank first : ℕ) (os : List Op) (k : ℕ) (o : Op) → slice_get os k ≡ Some o → Contains (places_of_rank rank first os) (at rank (first + k))
 unfolding places_of_rank
 rank_listed rank first [] k o e = absurd (cc e)
 rank_listed rank first (p ∷ os) zero o e =
     let same : first ≡ first + 0 = omega arith in
-    subst (λ (n : ℕ). Contains (at rank first ∷ places_of_rank rank (first + 1) os) (at rank n)) same (Contains-here (at rank first) (places_of_rank rank (first + 1) os))
+    subst (λ (n : ℕ). Contains (at rank first ∷ places_of_rank rank (first + 1) os) (at rank n)) same (contains_first (at rank first) (places_of_rank rank (first + 1) os) (at rank first) refl)
 rank_listed rank first (p ∷ os) (suc k) o e =
     let same : (first + 1) + k ≡ first + suc k = omega arith in
-    subst (λ (n : ℕ). Contains (at rank first ∷ places_of_rank rank (first + 1) os) (at rank n)) same (Contains-later (at rank first) _ (at rank ((first + 1) + k)) (rank_listed rank (first + 1) os k o e))
+    subst (λ (n : ℕ). Contains (at rank first ∷ places_of_rank rank (first + 1) os) (at rank n)) same (contains_more (at rank first) _ (at rank ((first + 1) + k)) (rank_listed rank (first + 1) os k o e))
 
 listed_from : (base : ℕ) (plans : List Plan) (r k : ℕ) (p : Plan) (o : Op) → slice_get plans r ≡ Some p → slice_get p.ops k ≡ Some o → Contains (places_from base plans) (at (base + r) k)
 unfolding places_from

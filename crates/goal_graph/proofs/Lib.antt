@@ -1,3 +1,4 @@
+pub mod Lists
 pub mod Actions
 pub mod Persist
 pub mod Rules

@@ -1,9 +1,8 @@
 -- What has happened and what is paired, said as membership in a list.
-use Rattle.std.proofs.Common.{⊎_elim, ℕ, zero, suc, ◌<◌, ◌≡◌, ◌↔◌, ◌⊎◌, inl, inr, Bool, true, false, List, [], ◌∷◌, length, get_or, Option, Some, None, Contains, refl, ap, sym, ◌∙◌, subst, arith}
-use Rattle.std.proofs.lemmas.Bool.{both_ways, and_cases}
+use Rattle.std.proofs.Common.{⊎_elim, zero, suc, ◌≡◌, ◌↔◌, ◌⊎◌, inl, inr, Bool, true, false, List, [], ◌∷◌, Some, Contains, ap, arith}
+use Rattle.std.proofs.lemmas.Bool.{both_ways}
 use Rattle.std.proofs.lemmas.List.Sums.{AllPass-from_list_all}
 use Rattle.std.proofs.lemmas.List.Elements.{All-contains}
-use Rattle.std.specs.List.{list_all}
 use Rattle.goal_graph.specs.declared.action.OpId.{OpId}
 use Rattle.goal_graph.specs.declared.action.Class.{Class}
 use Rattle.goal_graph.specs.declared.plan.Need.{Need}
@@ -12,16 +11,11 @@ use Rattle.goal_graph.specs.Action.{Act, happened}
 use Rattle.goal_graph.specs.Matching.{Pair, pair_of, partner, pairs}
 use Rattle.goal_graph.specs.Allowed.{is_met, is_ready}
 use Rattle.goal_graph.specs.Interleaving.{IsInterleaving}
+use Rattle.goal_graph.proofs.Lists.{contains_first, contains_more, some_fails}
 use Rattle.goal_graph.proofs.Actions.{act_of, is_act_true, is_act_from, happened_none, happened_cases, happened_stays, happened_new}
-use Rattle.goal_graph.proofs.Partners.{IsListed, partner_listed, listed_met, listed_partners, one_send, one_receive}
+use Rattle.goal_graph.proofs.Partners.{IsListed, partner_listed, one_send, one_receive}
 use Rattle.goal_graph.proofs.Ever.{ever}
 use Rattle.goal_graph.proofs.Exists.{allowed_listed}
-
-contains_more : {X : Type 0} (y : X) (xs : List X) (x : X) → Contains xs x → Contains (y ∷ xs) x
-contains_more y xs x (k, b, e) = (suc k, omega (arith, b), e)
-
-contains_first : {X : Type 0} (y : X) (xs : List X) (x : X) → y ≡ x → Contains (y ∷ xs) x
-contains_first y xs x e = (0, omega arith, e)
 
 pub happened_member : (c : Class) (x : OpId) (h : List Act) → happened c x h ≡ true → Contains h (act_of c x)
 happened_member c x [] e = absurd (both_ways _ (happened_none c x) e)
@@ -49,14 +43,6 @@ pub member_listed : (p : Pair) (ps : List Pair) → Contains ps p → IsListed p
 member_listed p [] (k, b, e) = absurd (omega (arith, b))
 member_listed p (q ∷ ps) (zero, b, e) = inl e
 member_listed p (q ∷ ps) (suc k, b, e) = inr (member_listed p ps (k, omega (arith, b), e))
-
-pub some_fails : {X : Type 0} (p : X → Bool) (xs : List X) → list_all p xs ≡ false → (x : X) × Contains xs x × (p x ≡ false)
-some_fails p [] e = absurd (both_ways true e refl)
-some_fails {X} p (x ∷ xs) e = go (some_fails p xs) (and_cases (p x) (list_all p xs) e)
-  where
-    go : (list_all p xs ≡ false → (y : X) × Contains xs y × (p y ≡ false)) → ((p x ≡ false) ⊎ (list_all p xs ≡ false)) → (y : X) × Contains (x ∷ xs) y × (p y ≡ false)
-    go rest (inl f) = (x, contains_first x xs x refl, f)
-    go rest (inr f) = let found = rest f in (found.0, contains_more x xs found.0 found.1, found.2)
 
 -- partners stand in a pair
 pub partner_member : (ps : List Pair) (x y : OpId) → partner ps x ≡ Some y → Contains ps (pair_of x y) ⊎ Contains ps (pair_of y x)

@@ -1,9 +1,8 @@
 -- The oldest of a list, read oldest first, is the first.
-use Rattle.std.proofs.Common.{◌≡◌, Bool, true, false, cond, List, [], ◌∷◌, ◌++◌, Option, Some, None, find, reverse, refl, ap, ap₂, sym, ◌∙◌, if◌then◌else◌}
+use Rattle.std.proofs.Common.{◌≡◌, Bool, true, false, cond, List, [], ◌∷◌, Option, Some, None, find, reverse, refl, ap, ap₂, sym, ◌∙◌, if◌then◌else◌}
 use Rattle.std.specs.Option.{option_map, option_or}
 use Rattle.std.proofs.lemmas.List.Folds.{find-append}
 use mathlib.Core.List.{reverse-cons}
-use Rattle.goal_graph.specs.declared.action.OpId.{OpId}
 use Rattle.goal_graph.specs.Action.{Act, oldest}
 
 op_or : (o n : Option Act) → option_map (λ (a : Act). a.op) (option_or o n) ≡ option_or (option_map (λ (a : Act). a.op) o) (option_map (λ (a : Act). a.op) n)

@@ -1,6 +1,6 @@
 -- The stages of one operation: what comes before what, and which actions are its start and its end.
-use Rattle.std.proofs.Common.{⊎_elim, ◌≡◌, Bool, true, false, not, ◌&&◌, ◌||◌, ◌⊎◌, inl, inr, List, [], ◌∷◌, Option, Some, None, if◌then◌else◌, refl, ap, sym, ◌∙◌, subst, is_some}
-use Rattle.std.proofs.lemmas.Bool.{both_ways, cases_Bool, or_cases}
+use Rattle.std.proofs.Common.{◌≡◌, Bool, true, false, inl, inr, List, Option, Some, None, refl, ap, sym, ◌∙◌, is_some}
+use Rattle.std.proofs.lemmas.Bool.{cases_Bool}
 use Rattle.goal_graph.specs.declared.action.OpId.{OpId}
 use Rattle.goal_graph.specs.declared.action.Class.{Class}
 use Rattle.goal_graph.specs.declared.action.Class.TheVariants.{Arrive, Serve, Data, Post, Begin}
@@ -9,12 +9,11 @@ use Rattle.goal_graph.specs.declared.plan.Kind.TheVariants.{Calc, Send, Recv}
 use Rattle.goal_graph.specs.Schedule.{Plan, kind_at}
 use Rattle.goal_graph.specs.Action.{Act, happened}
 use Rattle.goal_graph.specs.Matching.{partner, is_paired, pairs}
-use Rattle.goal_graph.specs.Allowed.{first_class, last_class, has_started, has_ended, is_ready, is_served, allowed}
+use Rattle.goal_graph.specs.Allowed.{first_class, last_class, has_started, has_ended, is_ready, is_served}
 use Rattle.goal_graph.specs.Interleaving.{IsInterleaving}
-use Rattle.goal_graph.specs.Laws.{IsCalc, IsSend, IsReceive, HaveMet}
+use Rattle.goal_graph.specs.Laws.{IsCalc, IsSend, IsReceive}
 use Rattle.goal_graph.proofs.Persist.{cases_some}
-use Rattle.goal_graph.proofs.Rules.{allowed_fresh}
-use Rattle.goal_graph.proofs.Ever.{begun_ready, posted_ready, arrived_begun, data_send, data_large, data_paired, served_receive, served_message}
+use Rattle.goal_graph.proofs.Ever.{begun_ready, posted_ready, arrived_begun, data_send, data_paired, served_receive, served_message}
 use Rattle.goal_graph.proofs.Partners.{partner_of_send, partner_of_receive}
 
 -- what an operation is
