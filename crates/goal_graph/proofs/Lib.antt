@@ -13,3 +13,4 @@ pub mod Once
 pub mod Oldest
 pub mod Complete
 pub mod Members
+pub mod Apart

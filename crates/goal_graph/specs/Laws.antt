@@ -209,3 +209,16 @@ ReadyWaits = (plans : List Plan) (eager : OpId → Bool) (h : List Act) (x : OpI
 -- and each operation that fits it has not started, or is paired with another
 abbrev pub FittingIsTaken : Type 0
 FittingIsTaken = (plans : List Plan) (eager : OpId → Bool) (h : List Act) (x y : OpId) → IsCompleteInterleaving plans eager h → is_ready plans eager h x ≡ true → has_ended plans eager x h ≡ false → ((fits plans x y ≡ true) ⊎ (fits plans y x ≡ true)) → (has_started plans y h ≡ false) ⊎ IsTaken plans h y x
+
+-- a send fits at most one receive, and a receive at most one send
+pub record IsApart (plans : List Plan) : Type 0 where
+  pub one_receive : (m x y : OpId) → fits plans x m ≡ true → fits plans y m ≡ true → x ≡ y
+  pub one_send : (x m n : OpId) → fits plans x m ≡ true → fits plans x n ≡ true → m ≡ n
+
+-- there a send and a receive are partners once the one has arrived, the other is posted, and they fit
+abbrev pub ApartArePartners : Type 0
+ApartArePartners = (plans : List Plan) (eager : OpId → Bool) (h : List Act) (m x : OpId) → IsApart plans → IsInterleaving plans eager h → (partner (pairs plans h) m ≡ Some x) × IsSend plans m ↔ HaveMet plans h m x
+
+-- there what starts and ends in one interleaving does so in each complete one in which no fewer sends are eager
+abbrev pub ApartCompletesAlike : Type 0
+ApartCompletesAlike = (plans : List Plan) (eager fewer : OpId → Bool) (h w : List Act) → IsApart plans → IsCompleteInterleaving plans eager h → IsInterleaving plans fewer w → ((m : OpId) → fewer m ≡ true → eager m ≡ true) → (x : OpId) → (has_started plans x w ≡ true → has_started plans x h ≡ true) × (has_ended plans fewer x w ≡ true → has_ended plans eager x h ≡ true)

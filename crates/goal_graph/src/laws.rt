@@ -1,5 +1,5 @@
 // The laws of the rules without times. Their functions do nothing: a proof cites a law by a call.
-ghost use Rattle.goal_graph.specs.Laws.{HappenedIsListed, HappenedCases, HappenedStays, PartnerStays, ReadyStays, MessageStays, AllowedStays, PartnersAreMutual, PartnersHaveMet, FitsAreReceiveAndSend, PairsArePartners, PartnersArePaired, OnePair, ArrivesAfterBegin, DataAfterPairing, ServesAfterPost, EndsAfterStart, StartsWhenReady, HappensOnce, AtMostThree, AtMostThreeEach, LeftFalls, OneAllowed, NeverBothWait, AllowedIsListed, OperationsAreListed, OperationsInOrder, ReadOldestFirst, PairedHasEnded, ReadyWaits, FittingIsTaken};
+ghost use Rattle.goal_graph.specs.Laws.{HappenedIsListed, HappenedCases, HappenedStays, PartnerStays, ReadyStays, MessageStays, AllowedStays, PartnersAreMutual, PartnersHaveMet, FitsAreReceiveAndSend, PairsArePartners, PartnersArePaired, OnePair, ArrivesAfterBegin, DataAfterPairing, ServesAfterPost, EndsAfterStart, StartsWhenReady, HappensOnce, AtMostThree, AtMostThreeEach, LeftFalls, OneAllowed, NeverBothWait, AllowedIsListed, OperationsAreListed, OperationsInOrder, ReadOldestFirst, PairedHasEnded, ReadyWaits, FittingIsTaken, ApartArePartners, ApartCompletesAlike};
 
 /// The laws of interleavings, for every schedule and whatever is eager:
 ///
@@ -72,4 +72,15 @@ pub fn laws_of_complete_interleavings()
     ensures paired_has_ended { PairedHasEnded }
     ensures ready_waits { ReadyWaits }
     ensures fitting_is_taken { FittingIsTaken }
+{}
+
+/// The laws of schedules in which a send fits at most one receive and a receive at most one send, whatever is eager:
+///
+/// - `apart_are_partners`: a send and a receive are partners once the one has arrived, the other is posted, and they
+///   fit.
+/// - `apart_completes_alike`: what starts and ends in one interleaving does so in each complete one in which no fewer
+///   sends are eager.
+pub fn laws_of_apart_schedules()
+    ensures apart_are_partners { ApartArePartners }
+    ensures apart_completes_alike { ApartCompletesAlike }
 {}
