@@ -1,0 +1,16 @@
+pub mod Lists
+pub mod Actions
+pub mod Persist
+pub mod Rules
+pub mod Ever
+pub mod Partners
+pub mod Stages
+pub mod OneEach
+pub mod Waiting
+pub mod Exists
+pub mod Sums
+pub mod Once
+pub mod Oldest
+pub mod Complete
+pub mod Members
+pub mod Apart
