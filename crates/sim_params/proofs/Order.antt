@@ -6,6 +6,7 @@ use Rattle.goal_graph.specs.declared.action.Timed.{Timed}
 use Rattle.goal_graph.specs.declared.action.Class.{Class}
 use Rattle.goal_graph.specs.declared.action.Class.TheVariants.{Arrive, Serve, Data, Post, Begin}
 use Rattle.goal_graph.specs.Action.{place}
+use Rattle.goal_graph.proofs.Actions.{place_same}
 use Rattle.sim_params.specs.Run.{IsBefore, key}
 use Rattle.sim_params.specs.Laws.{before}
 
@@ -59,21 +60,12 @@ false_before j k e p = let q = true_before j k p in cc
 pub before_decides : (j k : List ℕ) → (before j k ≡ true) ↔ IsBefore j k
 before_decides j k = (before_true j k, true_before j k)
 
--- the classes have places of their own
-pub place-injective : (c d : Class) → place c ≡ place d → c ≡ d
-place-injective Arrive Arrive e = refl
-place-injective Serve Serve e = refl
-place-injective Data Data e = refl
-place-injective Post Post e = refl
-place-injective Begin Begin e = refl
-place-injective c d e = absurd (omega arith)
-
 pub same_timed : (a b : Timed) → a.time ≡ b.time → a.class ≡ b.class → a.op.rank ≡ b.op.rank → a.op.op ≡ b.op.op → a ≡ b
 same_timed a b p q r s = λ i. record { time = p i; class = q i; op = record { rank = r i; op = s i } }
 
 -- a key determines its action
 pub key-injective : (a b : Timed) → key a ≡ key b → a ≡ b
-key-injective a b e = same_timed a b (cc) (place-injective a.class b.class (cc)) (cc) (cc)
+key-injective a b e = same_timed a b (cc) (place_same a.class b.class (cc)) (cc) (cc)
 
 -- two actions are one, or one of their keys is before the other
 pub key_cases : (a b : Timed) → (a ≡ b) ⊎ (IsBefore (key a) (key b) ⊎ IsBefore (key b) (key a))
