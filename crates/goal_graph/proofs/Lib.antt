@@ -1,2 +1,4 @@
 pub mod Actions
 pub mod Persist
+pub mod Rules
+pub mod Partners

@@ -3,3 +3,4 @@ pub mod Action
 pub mod Matching
 pub mod Allowed
 pub mod Interleaving
+pub mod Laws
