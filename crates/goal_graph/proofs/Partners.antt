@@ -1,5 +1,5 @@
 -- Who is whose partner. Pairs are listed newest first.
-use Rattle.std.proofs.Common.{◌≡◌, ◌==◌, Bool, true, false, not, ◌&&◌, ◌||◌, ◌⊎◌, inl, inr, List, [], ◌∷◌, Option, Some, None, if◌then◌else◌, refl, ap, sym, ◌∙◌, subst, is_some}
+use Rattle.std.proofs.Common.{⊎_elim, ◌≡◌, ◌==◌, Bool, true, false, not, ◌&&◌, ◌||◌, ◌⊎◌, inl, inr, List, [], ◌∷◌, Option, Some, None, if◌then◌else◌, refl, ap, sym, ◌∙◌, subst, is_some}
 use Rattle.std.specs.Option.{option_or, option_map}
 use Rattle.std.proofs.lemmas.Option.{same_Some}
 use Rattle.std.proofs.lemmas.Bool.{and_parts, and_from, cases_Bool, both_ways, not-true, not_from_false, false_from_ne_true, eqb-true}
@@ -15,6 +15,7 @@ use Rattle.goal_graph.specs.Allowed.{may, allowed}
 use Rattle.goal_graph.specs.Interleaving.{IsInterleaving}
 use Rattle.goal_graph.specs.Laws.{IsSend, IsReceive, HaveMet}
 use Rattle.goal_graph.proofs.Actions.{act_of, is_act_true, happened_none, same_op_true, same_op_itself, place_same, happened_stays, happened_now, happened_new, happened_cases, is_act_from, is_act_class, is_act_op}
+use Rattle.goal_graph.proofs.Rules.{allowed_fresh, not_send_receive, fits_receive, fits_send}
 use Rattle.goal_graph.proofs.Persist.{is_some_from, cases_some, partner_more, partner_stays}
 
 -- an action that the test passes, of that operation, has happened
@@ -131,3 +132,151 @@ module _ (plans : List Plan) where
       go Serve q e = absurd (cc e)
       go Data q e = absurd (cc e)
       go Begin q e = absurd (cc e)
+
+abbrev pub IsListed : Pair → List Pair → Type 0
+IsListed p [] = ⊥
+IsListed p (q ∷ ps) = (q ≡ p) ⊎ IsListed p ps
+
+listed_added : (p : Pair) (o : Option Pair) (ps : List Pair) → IsListed p (add_pair ps o) → IsListed p ps ⊎ (o ≡ Some p)
+listed_added p None ps l = inl l
+listed_added p (Some q) ps (inl e) = inr (ap (λ (q : Pair). Some q) e)
+listed_added p (Some q) ps (inr l) = inl l
+
+-- a partner stands with it in a pair of the list
+pub partner_listed : (ps : List Pair) (x y : OpId) → partner ps x ≡ Some y → IsListed (pair_of x y) ps ⊎ IsListed (pair_of y x) ps
+unfolding partner
+partner_listed [] x y e = absurd (cc e)
+partner_listed (p ∷ ps) x y e = go (partner_listed ps x y) (partner ps x) refl (same_op p.send x) refl (same_op p.recv x) refl e
+  where
+    go : (partner ps x ≡ Some y → IsListed (pair_of x y) ps ⊎ IsListed (pair_of y x) ps) → (o : Option OpId) → partner ps x ≡ o → (s : Bool) → same_op p.send x ≡ s → (r : Bool) → same_op p.recv x ≡ r → option_or o (if s then Some p.recv else (if r then Some p.send else None)) ≡ Some y → IsListed (pair_of x y) (p ∷ ps) ⊎ IsListed (pair_of y x) (p ∷ ps)
+    go before (Some z) q s u r v e = ⊎_elim (λ l. inl (inr l)) (λ l. inr (inr l)) (before (q ∙ e))
+    go before None q true u r v e =
+        let send = same_op_true p.send x u in
+        let recv = same_Some p.recv y e in
+        inl (inl (λ i. record { send = send i; recv = recv i }))
+    go before None q false u true v e =
+        let recv = same_op_true p.recv x v in
+        let send = same_Some p.send y e in
+        inr (inl (λ i. record { send = send i; recv = recv i }))
+    go before None q false u false v e = absurd (cc e)
+
+module _ (plans : List Plan) where
+  listed_cases : (p : Pair) (a : Act) (h : List Act) → IsListed p (pairs plans (a ∷ h)) → IsListed p (pairs plans h) ⊎ (new_pair plans (pairs plans h) h a.class a.op ≡ Some p)
+  unfolding pairs
+  listed_cases p a h l = listed_added p (new_pair plans (pairs plans h) h a.class a.op) (pairs plans h) l
+
+  pairs_more : (p : Pair) (a : Act) (h : List Act) → new_pair plans (pairs plans h) h a.class a.op ≡ Some p → pairs plans (a ∷ h) ≡ p ∷ pairs plans h
+  unfolding pairs
+  pairs_more p a h e = ap (λ (o : Option Pair). add_pair (pairs plans h) o) e
+
+  met_stays : (a : Act) (h : List Act) (m x : OpId) → HaveMet plans h m x → HaveMet plans (a ∷ h) m x
+  met_stays a h m x e = record {
+    arrived = happened_stays Arrive m a h e.arrived;
+    posted = happened_stays Post x a h e.posted;
+    fit = e.fit;
+  }
+
+  listed_none : (p : Pair) → IsListed p (pairs plans []) → ⊥
+  unfolding pairs
+  listed_none p l = l
+
+  pub listed_met : (h : List Act) (p : Pair) → IsListed p (pairs plans h) → HaveMet plans h p.send p.recv
+  listed_met [] p l = absurd (listed_none p l)
+  listed_met (a ∷ h) p l =
+      elim (listed_cases p a h l) [ inl was ↦ met_stays a h p.send p.recv (listed_met h p was) | inr new ↦ (new_pair_is plans a h p new).met ]
+
+  -- one of two partners is a send that has arrived, the other a receive that is posted, and they fit
+  pub partners_met : (h : List Act) (x y : OpId) → partner (pairs plans h) x ≡ Some y → HaveMet plans h x y ⊎ HaveMet plans h y x
+  partners_met h x y e =
+      ⊎_elim (λ l. inl (listed_met h (pair_of x y) l)) (λ l. inr (listed_met h (pair_of y x) l)) (partner_listed (pairs plans h) x y e)
+
+  -- a send that is paired has arrived
+  pub partner_of_send : (h : List Act) (m x : OpId) → IsSend plans m → partner (pairs plans h) m ≡ Some x → HaveMet plans h m x
+  partner_of_send h m x s e =
+      elim (partners_met h m x e) [ inl met ↦ met | inr met ↦ absurd (not_send_receive plans m s (fits_receive plans m x met.fit)) ]
+
+  -- a receive that is paired is posted
+  pub partner_of_receive : (h : List Act) (x m : OpId) → IsReceive plans x → partner (pairs plans h) x ≡ Some m → HaveMet plans h m x
+  partner_of_receive h x m r e =
+      elim (partners_met h x m e) [ inl met ↦ absurd (not_send_receive plans x (fits_send plans m x met.fit) r) | inr met ↦ met ]
+
+  -- who is in no pair of the list has no partner there
+  unpaired_from : (ps : List Pair) (x : OpId) → ((y : OpId) → partner ps x ≡ Some y → ⊥) → partner ps x ≡ None
+  unpaired_from ps x never = go (partner ps x) refl
+    where
+      go : (o : Option OpId) → partner ps x ≡ o → o ≡ None
+      go None e = refl
+      go (Some y) e = absurd (never y e)
+
+  -- a send that has not arrived has no partner
+  pub not_arrived : (h : List Act) (m : OpId) → IsSend plans m → happened Arrive m h ≡ false → partner (pairs plans h) m ≡ None
+  not_arrived h m s e =
+      unpaired_from (pairs plans h) m (λ x p. both_ways _ e (partner_of_send h m x s p).arrived)
+
+  -- a receive that is not posted has no partner
+  pub not_posted : (h : List Act) (x : OpId) → IsReceive plans x → happened Post x h ≡ false → partner (pairs plans h) x ≡ None
+  not_posted h x r e =
+      unpaired_from (pairs plans h) x (λ m p. both_ways _ e (partner_of_receive h x m r p).posted)
+
+  not_paired : (ps : List Pair) (x : OpId) → is_paired ps x ≡ false → partner ps x ≡ None
+  not_paired ps x e = unpaired_from ps x (λ y p. both_ways _ e (is_some_from (partner ps x) y p))
+
+  -- a send and a receive that fit are two operations
+  fit_differ : (x m : OpId) → fits plans x m ≡ true → same_op m x ≡ false
+  fit_differ x m e =
+      false_from_ne_true (same_op m x) (λ t. not_send_receive plans x (subst (λ (y : OpId). IsSend plans y) (same_op_true m x t) (fits_send plans x m e)) (fits_receive plans x m e))
+
+  partners_now : (ps : List Pair) (p : Pair) → partner ps p.send ≡ None → partner ps p.recv ≡ None → same_op p.send p.recv ≡ false → (partner (p ∷ ps) p.send ≡ Some p.recv) × (partner (p ∷ ps) p.recv ≡ Some p.send)
+  unfolding partner
+  partners_now ps p e f differ =
+      (at_send (partner ps p.send) e (same_op p.send p.send) (same_op_itself p.send), at_recv (partner ps p.recv) f (same_op p.send p.recv) differ (same_op p.recv p.recv) (same_op_itself p.recv))
+    where
+      at_send : (o : Option OpId) → o ≡ None → (s : Bool) → s ≡ true → option_or o (if s then Some p.recv else (if same_op p.recv p.send then Some p.send else None)) ≡ Some p.recv
+      at_send None e true q = refl
+      at_send None e false q = absurd (both_ways false refl q)
+      at_send (Some y) e s q = absurd (cc e)
+
+      at_recv : (o : Option OpId) → o ≡ None → (s : Bool) → s ≡ false → (r : Bool) → r ≡ true → option_or o (if s then Some p.recv else (if r then Some p.send else None)) ≡ Some p.send
+      at_recv None e false q true u = refl
+      at_recv None e false q false u = absurd (both_ways false refl u)
+      at_recv None e true q r u = absurd (both_ways true q refl)
+      at_recv (Some y) e s q r u = absurd (cc e)
+
+  module _ (eager : OpId → Bool) where
+    -- what a new pair joins had no partner before
+    new_unpaired : (a : Act) (h : List Act) (p : Pair) → IsInterleaving plans eager (a ∷ h) → IsNew plans h a p → (partner (pairs plans h) p.send ≡ None) × (partner (pairs plans h) p.recv ≡ None)
+    new_unpaired a h p i new = go new.by
+      where
+        fit : fits plans p.recv p.send ≡ true
+        fit = new.met.fit
+
+        go : ((a ≡ act_of Arrive p.send) × (is_paired (pairs plans h) p.recv ≡ false)) ⊎ ((a ≡ act_of Post p.recv) × (is_paired (pairs plans h) p.send ≡ false)) → (partner (pairs plans h) p.send ≡ None) × (partner (pairs plans h) p.recv ≡ None)
+        go (inl (e, free)) =
+            let fresh = allowed_fresh plans eager h Arrive p.send (subst (λ (b : Act). allowed plans eager h b.class b.op ≡ true) e i.1) in
+            (not_arrived h p.send (fits_send plans p.recv p.send fit) fresh, not_paired (pairs plans h) p.recv free)
+        go (inr (e, free)) =
+            let fresh = allowed_fresh plans eager h Post p.recv (subst (λ (b : Act). allowed plans eager h b.class b.op ≡ true) e i.1) in
+            (not_paired (pairs plans h) p.send free, not_posted h p.recv (fits_receive plans p.recv p.send fit) fresh)
+
+    -- the two of each pair are partners of each other
+    pub listed_partners : (h : List Act) (p : Pair) → IsInterleaving plans eager h → IsListed p (pairs plans h) → (partner (pairs plans h) p.send ≡ Some p.recv) × (partner (pairs plans h) p.recv ≡ Some p.send)
+    listed_partners [] p i l = absurd (listed_none p l)
+    listed_partners (a ∷ h) p i l =
+        ⊎_elim (λ was. let before = listed_partners h p i.0 was in (partner_stays plans a h p.send p.recv before.0, partner_stays plans a h p.recv p.send before.1)) (λ made. let new = new_pair_is plans a h p made in let free = new_unpaired a h p i new in subst (λ (ps : List Pair). (partner ps p.send ≡ Some p.recv) × (partner ps p.recv ≡ Some p.send)) (sym (pairs_more p a h made)) (partners_now (pairs plans h) p free.0 free.1 (fit_differ p.recv p.send new.met.fit))) (listed_cases p a h l)
+
+    -- my partner's partner is me
+    pub partners_mutual : (h : List Act) (x y : OpId) → IsInterleaving plans eager h → partner (pairs plans h) x ≡ Some y → partner (pairs plans h) y ≡ Some x
+    partners_mutual h x y i e =
+        ⊎_elim (λ l. (listed_partners h (pair_of x y) i l).1) (λ l. (listed_partners h (pair_of y x) i l).0) (partner_listed (pairs plans h) x y e)
+
+    -- two pairs with one send are one pair
+    pub one_send : (h : List Act) (p q : Pair) → IsInterleaving plans eager h → IsListed p (pairs plans h) → IsListed q (pairs plans h) → p.send ≡ q.send → p ≡ q
+    one_send h p q i l k send =
+        let recv = same_Some p.recv q.recv (sym (listed_partners h p i l).0 ∙ ap (λ (x : OpId). partner (pairs plans h) x) send ∙ (listed_partners h q i k).0) in
+        λ t. record { send = send t; recv = recv t }
+
+    -- two pairs with one receive are one pair
+    pub one_receive : (h : List Act) (p q : Pair) → IsInterleaving plans eager h → IsListed p (pairs plans h) → IsListed q (pairs plans h) → p.recv ≡ q.recv → p ≡ q
+    one_receive h p q i l k recv =
+        let send = same_Some p.send q.send (sym (listed_partners h p i l).1 ∙ ap (λ (x : OpId). partner (pairs plans h) x) recv ∙ (listed_partners h q i k).1) in
+        λ t. record { send = send t; recv = recv t }

@@ -1,0 +1,183 @@
+-- Which operations there are: `operations` lists each once, by rank and number.
+use Rattle.std.proofs.Common.{ℕ, zero, suc, ◌+◌, ◌<◌, ◌≤◌, ◌≡◌, ◌≢◌, Bool, true, false, ◌⊎◌, inl, inr, List, [], ◌∷◌, ◌++◌, length, Option, Some, None, All, AllPairs, Contains, sum_by, slice_get, refl, ap, sym, ◌∙◌, subst, ap₂, arith, length-append, is_some}
+use Rattle.std.specs.Option.{option_map, option_and_then}
+use Rattle.std.proofs.lemmas.Bool.{both_ways}
+use Rattle.std.proofs.lemmas.Option.{same_Some}
+use Rattle.std.proofs.lemmas.List.Sums.{sum_by-cons}
+use Rattle.std.proofs.lemmas.List.Kept.{AllPairs-cons}
+use Rattle.std.proofs.lemmas.List.Elements.{All-nil, All-cons, All-append, All-weaker, All-contains, Contains-append_left, Contains-append_right}
+use Rattle.goal_graph.specs.declared.action.OpId.{OpId}
+use Rattle.goal_graph.specs.declared.action.Class.{Class}
+use Rattle.goal_graph.specs.declared.action.Class.TheVariants.{Arrive, Serve, Data, Post, Begin}
+use Rattle.goal_graph.specs.declared.plan.Op.{Op}
+use Rattle.goal_graph.specs.declared.plan.Kind.{Kind}
+use Rattle.goal_graph.specs.Schedule.{Plan, op_at, kind_at, places_of_rank, places_from, operations}
+use Rattle.goal_graph.specs.Action.{Act}
+use Rattle.goal_graph.specs.Allowed.{may, allowed}
+use Rattle.goal_graph.specs.Laws.{IsCalc, IsSend, IsReceive}
+use Rattle.goal_graph.proofs.Rules.{allowed_may}
+
+abbrev pub at : ℕ → ℕ → OpId
+at rank op = record { rank = rank; op = op }
+
+-- an operation that stands at a place
+pub record IsAt (plans : List Plan) (x : OpId) : Type 0 where
+  pub op : Op
+  pub is : op_at plans x ≡ Some op
+
+Contains-here : (x : OpId) (xs : List OpId) → Contains (x ∷ xs) x
+Contains-here x xs = (0, omega arith, refl)
+
+Contains-later : (y : OpId) (xs : List OpId) (x : OpId) → Contains xs x → Contains (y ∷ xs) x
+Contains-later y xs x c = (suc c.0, omega (arith, c.1), c.2)
+
+rank_listed : (rank first : ℕ) (os : List Op) (k : ℕ) (o : Op) → slice_get os k ≡ Some o → Contains (places_of_rank rank first os) (at rank (first + k))
+unfolding places_of_rank
+rank_listed rank first [] k o e = absurd (cc e)
+rank_listed rank first (p ∷ os) zero o e =
+    let same : first ≡ first + 0 = omega arith in
+    subst (λ (n : ℕ). Contains (at rank first ∷ places_of_rank rank (first + 1) os) (at rank n)) same (Contains-here (at rank first) (places_of_rank rank (first + 1) os))
+rank_listed rank first (p ∷ os) (suc k) o e =
+    let same : (first + 1) + k ≡ first + suc k = omega arith in
+    subst (λ (n : ℕ). Contains (at rank first ∷ places_of_rank rank (first + 1) os) (at rank n)) same (Contains-later (at rank first) _ (at rank ((first + 1) + k)) (rank_listed rank (first + 1) os k o e))
+
+listed_from : (base : ℕ) (plans : List Plan) (r k : ℕ) (p : Plan) (o : Op) → slice_get plans r ≡ Some p → slice_get p.ops k ≡ Some o → Contains (places_from base plans) (at (base + r) k)
+unfolding places_from
+listed_from base [] r k p o e f = absurd (cc e)
+listed_from base (q ∷ plans) zero k p o e f =
+    let same : base ≡ base + 0 = omega arith in
+    let first : 0 + k ≡ k = omega arith in
+    subst (λ (n : ℕ). Contains (places_of_rank base 0 q.ops ++ places_from (base + 1) plans) (at n k)) same (Contains-append_left (places_of_rank base 0 q.ops) (places_from (base + 1) plans) (at base k) (subst (λ (n : ℕ). Contains (places_of_rank base 0 q.ops) (at base n)) first (rank_listed base 0 q.ops k o (subst (λ (p : Plan). slice_get p.ops k ≡ Some o) (sym (same_Some q p e)) f))))
+listed_from base (q ∷ plans) (suc r) k p o e f =
+    let same : (base + 1) + r ≡ base + suc r = omega arith in
+    subst (λ (n : ℕ). Contains (places_of_rank base 0 q.ops ++ places_from (base + 1) plans) (at n k)) same (Contains-append_right (places_of_rank base 0 q.ops) (places_from (base + 1) plans) (at ((base + 1) + r) k) (listed_from (base + 1) plans r k p o e f))
+
+-- what stands at a place, by its rank's plan
+op_parts : (plans : List Plan) (x : OpId) (o : Op) → op_at plans x ≡ Some o → (p : Plan) × (slice_get plans x.rank ≡ Some p) × (slice_get p.ops x.op ≡ Some o)
+unfolding op_at
+op_parts plans x o e = go (slice_get plans x.rank) refl e
+  where
+    go : (q : Option Plan) → slice_get plans x.rank ≡ q → option_and_then (λ (p : Plan). slice_get p.ops x.op) q ≡ Some o → (p : Plan) × (slice_get plans x.rank ≡ Some p) × (slice_get p.ops x.op ≡ Some o)
+    go None q e = absurd (cc e)
+    go (Some p) q e = (p, q, e)
+
+op_from_parts : (plans : List Plan) (x : OpId) (p : Plan) (o : Op) → slice_get plans x.rank ≡ Some p → slice_get p.ops x.op ≡ Some o → op_at plans x ≡ Some o
+unfolding op_at
+op_from_parts plans x p o e f =
+    ap (option_and_then (λ (p : Plan). slice_get p.ops x.op)) e ∙ f
+
+-- every operation is listed
+pub op_listed : (plans : List Plan) (x : OpId) → IsAt plans x → Contains (operations plans) x
+op_listed plans x a =
+    let parts = op_parts plans x a.op a.is in
+    let same : 0 + x.rank ≡ x.rank = omega arith in
+    subst (λ (n : ℕ). Contains (places_from 0 plans) (at n x.op)) same (listed_from 0 plans x.rank x.op parts.0 a.op parts.1 parts.2)
+
+kind_present : (plans : List Plan) (x : OpId) (k : Kind) → kind_at plans x ≡ Some k → IsAt plans x
+unfolding kind_at
+kind_present plans x k e = go (op_at plans x) refl e
+  where
+    go : (o : Option Op) → op_at plans x ≡ o → option_map (λ (o : Op). o.kind) o ≡ Some k → IsAt plans x
+    go None q e = absurd (cc e)
+    go (Some o) q e = record { op = o; is = q }
+
+pub kind_listed : (plans : List Plan) (x : OpId) (k : Kind) → kind_at plans x ≡ Some k → Contains (operations plans) x
+kind_listed plans x k e = op_listed plans x (kind_present plans x k e)
+
+pub allowed_listed : (plans : List Plan) (eager : OpId → Bool) (h : List Act) (c : Class) (x : OpId) → allowed plans eager h c x ≡ true → Contains (operations plans) x
+allowed_listed plans eager h c x e = go (kind_at plans x) refl (allowed_may plans eager h c x e)
+  where
+    nothing : (c : Class) → may plans eager h c x None ≡ true → ⊥
+    nothing Arrive e = both_ways false refl e
+    nothing Serve e = both_ways false refl e
+    nothing Data e = both_ways false refl e
+    nothing Post e = both_ways false refl e
+    nothing Begin e = both_ways false refl e
+
+    go : (k : Option Kind) → kind_at plans x ≡ k → may plans eager h c x k ≡ true → Contains (operations plans) x
+    go None q f = absurd (nothing c f)
+    go (Some k) q f = kind_listed plans x k q
+
+record IsPlaceOfRank (rank first : ℕ) (os : List Op) (y : OpId) : Type 0 where
+  number : ℕ
+  op : Op
+  of_rank : y.rank ≡ rank
+  place : y.op ≡ first + number
+  is : slice_get os number ≡ Some op
+
+rank_places : (rank first : ℕ) (os : List Op) → All (IsPlaceOfRank rank first os) (places_of_rank rank first os)
+unfolding places_of_rank
+rank_places rank first [] = All-nil (IsPlaceOfRank rank first [])
+rank_places rank first (o ∷ os) =
+    All-cons (IsPlaceOfRank rank first (o ∷ os)) (at rank first) (places_of_rank rank (first + 1) os) (record { number = 0; op = o; of_rank = refl; place = omega arith; is = refl }) (All-weaker (IsPlaceOfRank rank (first + 1) os) (IsPlaceOfRank rank first (o ∷ os)) (λ y p. record { number = suc p.number; op = p.op; of_rank = p.of_rank; place = omega (arith, p.place); is = p.is }) (places_of_rank rank (first + 1) os) (rank_places rank (first + 1) os))
+
+record IsPlaceFrom (base : ℕ) (plans : List Plan) (y : OpId) : Type 0 where
+  number : ℕ
+  plan : Plan
+  op : Op
+  rank : y.rank ≡ base + number
+  is_plan : slice_get plans number ≡ Some plan
+  is_op : slice_get plan.ops y.op ≡ Some op
+
+places : (base : ℕ) (plans : List Plan) → All (IsPlaceFrom base plans) (places_from base plans)
+unfolding places_from
+places base [] = All-nil (IsPlaceFrom base [])
+places base (p ∷ ps) =
+    All-append (IsPlaceFrom base (p ∷ ps)) (places_of_rank base 0 p.ops) (places_from (base + 1) ps) (All-weaker (IsPlaceOfRank base 0 p.ops) (IsPlaceFrom base (p ∷ ps)) (λ y a. record { number = 0; plan = p; op = a.op; rank = omega (arith, a.of_rank); is_plan = refl; is_op = ap (slice_get p.ops) (the_number y a) ∙ a.is }) (places_of_rank base 0 p.ops) (rank_places base 0 p.ops)) (All-weaker (IsPlaceFrom (base + 1) ps) (IsPlaceFrom base (p ∷ ps)) (λ y a. record { number = suc a.number; plan = a.plan; op = a.op; rank = omega (arith, a.rank); is_plan = a.is_plan; is_op = a.is_op }) (places_from (base + 1) ps) (places (base + 1) ps))
+  where
+    the_number : (y : OpId) (a : IsPlaceOfRank base 0 p.ops y) → y.op ≡ a.number
+    the_number y a = omega (arith, a.place)
+
+-- what is listed is an operation
+pub listed_op : (plans : List Plan) (x : OpId) → Contains (operations plans) x → IsAt plans x
+listed_op plans x c =
+    let place = All-contains (IsPlaceFrom 0 plans) (places_from 0 plans) x (places 0 plans) c in
+    let rank : x.rank ≡ place.number = omega (arith, place.rank) in
+    record {
+      op = place.op;
+      is = op_from_parts plans x place.plan place.op (ap (slice_get plans) rank ∙ place.is_plan) place.is_op;
+    }
+
+-- by rank, then by number
+abbrev pub IsEarlier : OpId → OpId → Type 0
+IsEarlier x y = (x.rank < y.rank) ⊎ ((x.rank ≡ y.rank) × (x.op < y.op))
+
+rank_in_order : (rank first : ℕ) (os : List Op) (rest : List OpId) → All (λ (y : OpId). rank < y.rank) rest → AllPairs IsEarlier rest → AllPairs IsEarlier (places_of_rank rank first os ++ rest)
+unfolding places_of_rank
+rank_in_order rank first [] rest later ordered = ordered
+rank_in_order rank first (o ∷ os) rest later ordered =
+    AllPairs-cons IsEarlier (at rank first) (places_of_rank rank (first + 1) os ++ rest) (All-append (IsEarlier (at rank first)) (places_of_rank rank (first + 1) os) rest (All-weaker (IsPlaceOfRank rank (first + 1) os) (IsEarlier (at rank first)) (λ y a. inr (sym a.of_rank, omega (arith, a.place))) (places_of_rank rank (first + 1) os) (rank_places rank (first + 1) os)) (All-weaker (λ (y : OpId). rank < y.rank) (IsEarlier (at rank first)) (λ y l. inl l) rest later)) (rank_in_order rank (first + 1) os rest later ordered)
+
+places_in_order : (base : ℕ) (plans : List Plan) → AllPairs IsEarlier (places_from base plans)
+unfolding places_from
+places_in_order base [] = λ i j d l b. absurd (omega arith)
+places_in_order base (p ∷ ps) =
+    rank_in_order base 0 p.ops (places_from (base + 1) ps) (All-weaker (IsPlaceFrom (base + 1) ps) (λ (y : OpId). base < y.rank) (λ y a. omega (arith, a.rank)) (places_from (base + 1) ps) (places (base + 1) ps)) (places_in_order (base + 1) ps)
+
+-- the operations stand by rank, then by number
+pub operations_in_order : (plans : List Plan) → AllPairs IsEarlier (operations plans)
+operations_in_order plans = places_in_order 0 plans
+
+earlier_differ : (x y : OpId) → IsEarlier x y → x ≢ y
+earlier_differ x y (inl l) e = omega (arith, l, ap (λ (z : OpId). z.rank) e)
+earlier_differ x y (inr l) e = omega (arith, l.1, ap (λ (z : OpId). z.op) e)
+
+-- none is listed twice
+pub operations_differ : (plans : List Plan) → AllPairs (λ (x y : OpId). x ≢ y) (operations plans)
+operations_differ plans i j d l b =
+    earlier_differ _ _ (operations_in_order plans i j d l b)
+
+length-places_of_rank : (rank first : ℕ) (os : List Op) → length (places_of_rank rank first os) ≡ length os
+unfolding places_of_rank
+length-places_of_rank rank first [] = refl
+length-places_of_rank rank first (o ∷ os) = ap suc (length-places_of_rank rank (first + 1) os)
+
+length-places_from : (base : ℕ) (plans : List Plan) → length (places_from base plans) ≡ sum_by (λ (p : Plan). length p.ops) plans
+unfolding places_from
+length-places_from base [] = refl
+length-places_from base (p ∷ ps) =
+    length-append (places_of_rank base 0 p.ops) (places_from (base + 1) ps) ∙ ap₂ (λ (m n : ℕ). m + n) (length-places_of_rank base 0 p.ops) (length-places_from (base + 1) ps) ∙ sym (sum_by-cons (λ (p : Plan). length p.ops) p ps)
+
+-- how many there are
+pub length-operations : (plans : List Plan) → length (operations plans) ≡ sum_by (λ (p : Plan). length p.ops) plans
+length-operations plans = length-places_from 0 plans
