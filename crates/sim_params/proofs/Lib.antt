@@ -4,3 +4,4 @@ pub mod Grow
 pub mod Interleavings
 pub mod Reach
 pub mod Budget
+pub mod Rise

@@ -24,6 +24,11 @@ before_transitive (a ∷ js) (b ∷ ks) (c ∷ ls) (inl p) (inr q) = inl (omega 
 before_transitive (a ∷ js) (b ∷ ks) (c ∷ ls) (inr p) (inl q) = inl (omega arith)
 before_transitive (a ∷ js) (b ∷ ks) (c ∷ ls) (inr p) (inr q) = inr (omega arith, before_transitive js ks ls p.1 q.1)
 
+-- the first number of a key is at most that of a later key
+pub before_le : (m n : ℕ) (ms ns : List ℕ) → IsBefore (m ∷ ms) (n ∷ ns) → m ≤ n
+before_le m n ms ns (inl p) = omega arith
+before_le m n ms ns (inr p) = omega arith
+
 -- two keys of one length are equal, or one is before the other
 pub before_cases : (j k : List ℕ) → length j ≡ length k → (j ≡ k) ⊎ (IsBefore j k ⊎ IsBefore k j)
 before_cases [] [] e = inl refl
