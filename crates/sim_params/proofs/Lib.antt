@@ -5,3 +5,5 @@ pub mod Interleavings
 pub mod Reach
 pub mod Budget
 pub mod Rise
+pub mod Unique
+pub mod Exists
