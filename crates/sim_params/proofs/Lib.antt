@@ -7,3 +7,4 @@ pub mod Budget
 pub mod Rise
 pub mod Unique
 pub mod Exists
+pub mod Reasons

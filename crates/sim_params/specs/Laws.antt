@@ -1,5 +1,5 @@
 -- The laws of the timed run, each as a statement.
-use Rattle.std.specs.Prelude.{ℕ, ◌+◌, ◌≡◌, ◌==◌, ◌&&◌, ◌||◌, ◌↔◌, max, Bool, true, false, nat_lt, List, [], ◌∷◌, Option, Some, None, if◌then◌else◌}
+use Rattle.std.specs.Prelude.{ℕ, ◌+◌, ◌≡◌, ◌≢◌, ◌==◌, ◌&&◌, ◌||◌, ◌↔◌, max, Bool, true, false, nat_lt, List, [], ◌∷◌, Option, Some, None, if◌then◌else◌}
 use Rattle.goal_graph.specs.declared.action.OpId.{OpId}
 use Rattle.goal_graph.specs.declared.action.Timed.{Timed}
 use Rattle.goal_graph.specs.declared.action.Class.{Class}
@@ -7,6 +7,9 @@ use Rattle.goal_graph.specs.declared.action.Class.TheVariants.{Arrive, Serve, Da
 use Rattle.goal_graph.specs.declared.plan.Kind.{Kind}
 use Rattle.goal_graph.specs.declared.plan.Kind.TheVariants.{Calc, Send, Recv}
 use Rattle.goal_graph.specs.Schedule.{Plan, kind_at}
+use Rattle.goal_graph.specs.Action.{Act}
+use Rattle.goal_graph.specs.Matching.{pairs, partner}
+use Rattle.goal_graph.specs.Allowed.{has_started}
 use Rattle.sim_params.specs.Costs.{CostModel, over, over_one, gap, gap_one, flight, flight_one, latency, is_eager}
 use Rattle.sim_params.specs.Times.{mate, cpu_hold, tx_hold, rx_hold, time, Possible}
 use Rattle.sim_params.specs.Run.{IsBefore, key}
@@ -57,3 +60,10 @@ module _ (plans : List Plan) (costs : CostModel) where
   payer h Data x = Some x
   payer h Post x = Some x
   payer h Begin x = Some x
+
+-- y has started, and is paired with another operation than x
+pub record HasOtherPartner (plans : List Plan) (h : List Act) (x y : OpId) : Type 0 where
+  pub started : has_started plans y h ≡ true
+  pub other : OpId
+  pub paired : partner (pairs plans h) y ≡ Some other
+  pub differs : other ≢ x
