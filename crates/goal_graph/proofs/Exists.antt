@@ -1,8 +1,8 @@
 -- Which operations there are: `operations` lists each once, by rank and number.
-use Rattle.std.proofs.Common.{ℕ, zero, suc, ◌+◌, ◌<◌, ◌≤◌, ◌≡◌, ◌≢◌, Bool, true, false, ◌⊎◌, inl, inr, List, [], ◌∷◌, ◌++◌, length, Option, Some, None, All, AllPairs, Contains, sum_by, slice_get, refl, ap, sym, ◌∙◌, subst, ap₂, arith, length-append, is_some}
+use Rattle.std.proofs.Common.{ℕ, zero, suc, ◌+◌, ◌<◌, ◌≡◌, ◌≢◌, ◌↔◌, Bool, true, false, inl, inr, List, [], ◌∷◌, ◌++◌, length, Option, Some, None, All, AllPairs, Contains, sum_by, slice_get, refl, ap, sym, ◌∙◌, subst, ap₂, arith, length-append, is_some}
 use Rattle.std.specs.Option.{option_map, option_and_then}
 use Rattle.std.proofs.lemmas.Bool.{both_ways}
-use Rattle.std.proofs.lemmas.Option.{same_Some}
+use Rattle.std.proofs.lemmas.Option.{same_Some, none-some}
 use Rattle.std.proofs.lemmas.List.Sums.{sum_by-cons}
 use Rattle.std.proofs.lemmas.List.Kept.{AllPairs-cons}
 use Rattle.std.proofs.lemmas.List.Elements.{All-nil, All-cons, All-append, All-weaker, All-contains, Contains-append_left, Contains-append_right}
@@ -14,7 +14,9 @@ use Rattle.goal_graph.specs.declared.plan.Kind.{Kind}
 use Rattle.goal_graph.specs.Schedule.{Plan, op_at, kind_at, places_of_rank, places_from, operations}
 use Rattle.goal_graph.specs.Action.{Act}
 use Rattle.goal_graph.specs.Allowed.{may, allowed}
-use Rattle.goal_graph.specs.Laws.{IsCalc, IsSend, IsReceive}
+use Rattle.goal_graph.specs.Laws.{IsEarlier}
+use Rattle.goal_graph.proofs.Persist.{is_some_from, cases_some}
+use Rattle.goal_graph.proofs.Lists.{contains_first, contains_more}
 use Rattle.goal_graph.proofs.Rules.{allowed_may}
 
 abbrev pub at : ℕ → ℕ → OpId
@@ -25,21 +27,15 @@ pub record IsAt (plans : List Plan) (x : OpId) : Type 0 where
   pub op : Op
   pub is : op_at plans x ≡ Some op
 
-Contains-here : (x : OpId) (xs : List OpId) → Contains (x ∷ xs) x
-Contains-here x xs = (0, omega arith, refl)
-
-Contains-later : (y : OpId) (xs : List OpId) (x : OpId) → Contains xs x → Contains (y ∷ xs) x
-Contains-later y xs x c = (suc c.0, omega (arith, c.1), c.2)
-
 rank_listed : (rank first : ℕ) (os : List Op) (k : ℕ) (o : Op) → slice_get os k ≡ Some o → Contains (places_of_rank rank first os) (at rank (first + k))
 unfolding places_of_rank
 rank_listed rank first [] k o e = absurd (cc e)
 rank_listed rank first (p ∷ os) zero o e =
     let same : first ≡ first + 0 = omega arith in
-    subst (λ (n : ℕ). Contains (at rank first ∷ places_of_rank rank (first + 1) os) (at rank n)) same (Contains-here (at rank first) (places_of_rank rank (first + 1) os))
+    subst (λ (n : ℕ). Contains (at rank first ∷ places_of_rank rank (first + 1) os) (at rank n)) same (contains_first (at rank first) (places_of_rank rank (first + 1) os) (at rank first) refl)
 rank_listed rank first (p ∷ os) (suc k) o e =
     let same : (first + 1) + k ≡ first + suc k = omega arith in
-    subst (λ (n : ℕ). Contains (at rank first ∷ places_of_rank rank (first + 1) os) (at rank n)) same (Contains-later (at rank first) _ (at rank ((first + 1) + k)) (rank_listed rank (first + 1) os k o e))
+    subst (λ (n : ℕ). Contains (at rank first ∷ places_of_rank rank (first + 1) os) (at rank n)) same (contains_more (at rank first) _ (at rank ((first + 1) + k)) (rank_listed rank (first + 1) os k o e))
 
 listed_from : (base : ℕ) (plans : List Plan) (r k : ℕ) (p : Plan) (o : Op) → slice_get plans r ≡ Some p → slice_get p.ops k ≡ Some o → Contains (places_from base plans) (at (base + r) k)
 unfolding places_from
@@ -138,9 +134,20 @@ listed_op plans x c =
       is = op_from_parts plans x place.plan place.op (ap (slice_get plans) rank ∙ place.is_plan) place.is_op;
     }
 
--- by rank, then by number
-abbrev pub IsEarlier : OpId → OpId → Type 0
-IsEarlier x y = (x.rank < y.rank) ⊎ ((x.rank ≡ y.rank) × (x.op < y.op))
+at_kind : (plans : List Plan) (x : OpId) (o : Op) → op_at plans x ≡ Some o → kind_at plans x ≡ Some o.kind
+unfolding kind_at
+at_kind plans x o e = ap (option_map (λ (o : Op). o.kind)) e
+
+-- what is listed is of some kind
+pub listed_kind : (plans : List Plan) (x : OpId) → Contains (operations plans) x → kind_at plans x ≢ None
+listed_kind plans x c none =
+    let a = listed_op plans x c in
+    none-some a.op.kind (sym none ∙ at_kind plans x a.op a.is)
+
+-- the operations are the places at which there is one
+pub listed_places : (plans : List Plan) (x : OpId) → Contains (operations plans) x ↔ (is_some (op_at plans x) ≡ true)
+listed_places plans x =
+    (λ c. let a = listed_op plans x c in is_some_from (op_at plans x) a.op a.is, λ e. let o = cases_some (op_at plans x) e in op_listed plans x (record { op = o.0; is = o.1 }))
 
 rank_in_order : (rank first : ℕ) (os : List Op) (rest : List OpId) → All (λ (y : OpId). rank < y.rank) rest → AllPairs IsEarlier rest → AllPairs IsEarlier (places_of_rank rank first os ++ rest)
 unfolding places_of_rank

@@ -1,3 +1,4 @@
+pub mod Lists
 pub mod Actions
 pub mod Persist
 pub mod Rules
@@ -9,3 +10,7 @@ pub mod Waiting
 pub mod Exists
 pub mod Sums
 pub mod Once
+pub mod Oldest
+pub mod Complete
+pub mod Members
+pub mod Apart

@@ -1,7 +1,7 @@
 -- Each action happens at most once, an operation goes through at most three, and how many are left.
-use Rattle.std.proofs.Common.{⊎_elim, ℕ, zero, suc, ◌+◌, ◌*◌, ◌≤◌, ◌<◌, ◌≡◌, ◌&&◌, ◌⊎◌, inl, inr, not, Bool, true, false, cond, List, [], ◌∷◌, length, Option, Some, None, Contains, All, sum_by, count_by, refl, arith, ap, sym, ◌∙◌, subst}
-use Rattle.std.proofs.lemmas.Bool.{both_ways, cases_Bool, and_parts, and_from, and_right, not-true, not_from_true, not_from_false, false_from_ne_true}
-use Rattle.std.proofs.lemmas.List.Sums.{sum_by-le, sum_by-le-sum_by}
+use Rattle.std.proofs.Common.{ℕ, ◌+◌, ◌*◌, ◌≤◌, ◌≡◌, ◌⊎◌, inl, inr, not, Bool, true, false, List, [], ◌∷◌, length, Option, Some, None, Contains, count_by, refl, arith, sym, ◌∙◌, subst}
+use Rattle.std.proofs.lemmas.Bool.{both_ways, cases_Bool, and_parts, and_from, and_right, not-true, not_from_true, not_from_false}
+use Rattle.std.proofs.lemmas.List.Sums.{sum_by-le}
 use Rattle.goal_graph.specs.declared.action.OpId.{OpId}
 use Rattle.goal_graph.specs.declared.action.Class.{Class}
 use Rattle.goal_graph.specs.declared.action.Class.TheVariants.{Arrive, Serve, Data, Post, Begin}
@@ -12,7 +12,7 @@ use Rattle.goal_graph.specs.Action.{Act, same_op, is_act, happened}
 use Rattle.goal_graph.specs.Allowed.{may, allowed}
 use Rattle.goal_graph.specs.Interleaving.{IsInterleaving}
 use Rattle.goal_graph.specs.Laws.{has_class, classes, is_left, left_of, left}
-use Rattle.goal_graph.proofs.Actions.{same_op_true, happened_now, happened_before, happened_stays, happened_new, is_act_not}
+use Rattle.goal_graph.proofs.Actions.{same_op_true, happened_now, happened_before, is_act_not}
 use Rattle.goal_graph.proofs.Rules.{allowed_fresh, allowed_may}
 use Rattle.goal_graph.proofs.Ever.{newest_allowed}
 use Rattle.goal_graph.proofs.Exists.{allowed_listed}

@@ -1,17 +1,16 @@
 -- At most one action of an operation is allowed at a time.
-use Rattle.std.proofs.Common.{inl, inr, ◌≡◌, Bool, true, false, List, Option, Some, None, refl, ap, sym, ◌∙◌, subst}
+use Rattle.std.proofs.Common.{inl, inr, ◌≡◌, Bool, true, List, refl}
 use Rattle.std.proofs.lemmas.Bool.{both_ways}
 use Rattle.goal_graph.specs.declared.action.OpId.{OpId}
 use Rattle.goal_graph.specs.declared.action.Class.{Class}
 use Rattle.goal_graph.specs.declared.action.Class.TheVariants.{Arrive, Serve, Data, Post, Begin}
-use Rattle.goal_graph.specs.Schedule.{Plan, kind_at}
+use Rattle.goal_graph.specs.Schedule.{Plan}
 use Rattle.goal_graph.specs.Action.{Act, happened}
-use Rattle.goal_graph.specs.Matching.{partner, is_paired, pairs}
-use Rattle.goal_graph.specs.Allowed.{is_served, allowed}
+use Rattle.goal_graph.specs.Matching.{partner, pairs}
+use Rattle.goal_graph.specs.Allowed.{allowed}
 use Rattle.goal_graph.specs.Interleaving.{IsInterleaving}
-use Rattle.goal_graph.specs.Laws.{IsCalc, IsSend, IsReceive}
 use Rattle.goal_graph.proofs.Persist.{cases_some}
-use Rattle.goal_graph.proofs.Rules.{not_send_receive, not_send_calc, not_receive_calc, allowed_fresh, allowed_arrive, allowed_data, allowed_serve, allowed_post, allowed_begin}
+use Rattle.goal_graph.proofs.Rules.{not_send_receive, not_receive_calc, allowed_fresh, allowed_arrive, allowed_data, allowed_serve, allowed_post, allowed_begin}
 use Rattle.goal_graph.proofs.Ever.{arrived_begun}
 use Rattle.goal_graph.proofs.Partners.{partner_of_send, partner_of_receive}
 use Rattle.goal_graph.proofs.Stages.{served_paired}

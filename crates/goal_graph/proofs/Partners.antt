@@ -1,22 +1,20 @@
 -- Who is whose partner. Pairs are listed newest first.
-use Rattle.std.proofs.Common.{⊎_elim, ◌≡◌, ◌==◌, Bool, true, false, not, ◌&&◌, ◌||◌, ◌⊎◌, inl, inr, List, [], ◌∷◌, Option, Some, None, if◌then◌else◌, refl, ap, sym, ◌∙◌, subst, is_some}
+use Rattle.std.proofs.Common.{⊎_elim, ◌≡◌, ◌==◌, Bool, true, false, not, ◌&&◌, ◌⊎◌, inl, inr, List, [], ◌∷◌, Option, Some, None, if◌then◌else◌, refl, ap, sym, ◌∙◌, subst, is_some}
 use Rattle.std.specs.Option.{option_or, option_map}
 use Rattle.std.proofs.lemmas.Option.{same_Some}
-use Rattle.std.proofs.lemmas.Bool.{and_parts, and_from, cases_Bool, both_ways, not-true, not_from_false, false_from_ne_true, eqb-true}
+use Rattle.std.proofs.lemmas.Bool.{and_parts, cases_Bool, both_ways, not-true, false_from_ne_true, eqb-true}
 use Rattle.goal_graph.specs.declared.action.OpId.{OpId}
 use Rattle.goal_graph.specs.declared.action.Class.{Class}
 use Rattle.goal_graph.specs.declared.action.Class.TheVariants.{Arrive, Serve, Data, Post, Begin}
-use Rattle.goal_graph.specs.declared.plan.Kind.{Kind}
-use Rattle.goal_graph.specs.declared.plan.Kind.TheVariants.{Calc, Send, Recv}
-use Rattle.goal_graph.specs.Schedule.{Plan, kind_at}
-use Rattle.goal_graph.specs.Action.{Act, place, same_op, is_act, happened, oldest}
-use Rattle.goal_graph.specs.Matching.{Pair, pair_of, other_in, partner, is_paired, add_pair, new_pair, pairs, fits, fits_kinds, is_open_receive, is_open_send}
-use Rattle.goal_graph.specs.Allowed.{may, allowed}
+use Rattle.goal_graph.specs.Schedule.{Plan}
+use Rattle.goal_graph.specs.Action.{Act, place, same_op, happened, oldest}
+use Rattle.goal_graph.specs.Matching.{Pair, pair_of, partner, is_paired, add_pair, new_pair, pairs, fits, is_open_receive, is_open_send}
+use Rattle.goal_graph.specs.Allowed.{allowed}
 use Rattle.goal_graph.specs.Interleaving.{IsInterleaving}
 use Rattle.goal_graph.specs.Laws.{IsSend, IsReceive, HaveMet}
-use Rattle.goal_graph.proofs.Actions.{act_of, is_act_true, happened_none, same_op_true, same_op_itself, place_same, happened_stays, happened_now, happened_new, happened_cases, is_act_from, is_act_class, is_act_op}
+use Rattle.goal_graph.proofs.Actions.{act_of, is_act_true, happened_none, same_op_true, same_op_itself, place_same, happened_stays, happened_now, happened_new, happened_cases, is_act_from}
 use Rattle.goal_graph.proofs.Rules.{allowed_fresh, not_send_receive, fits_receive, fits_send}
-use Rattle.goal_graph.proofs.Persist.{is_some_from, cases_some, partner_more, partner_stays}
+use Rattle.goal_graph.proofs.Persist.{is_some_from, partner_stays}
 
 -- an action that the test passes, of that operation, has happened
 pub record IsFound (test : Act → Bool) (h : List Act) (y : OpId) : Type 0 where
@@ -160,6 +158,17 @@ partner_listed (p ∷ ps) x y e = go (partner_listed ps x y) (partner ps x) refl
         inr (inl (λ i. record { send = send i; recv = recv i }))
     go before None q false u false v e = absurd (cc e)
 
+-- a pair leaves the partners of others as they were
+other_kept : (p : Pair) (ps : List Pair) (y : OpId) → same_op p.send y ≡ false → same_op p.recv y ≡ false → partner (p ∷ ps) y ≡ partner ps y
+unfolding partner
+other_kept p ps y s r = go (partner ps y) (same_op p.send y) s (same_op p.recv y) r
+  where
+    go : (o : Option OpId) (b : Bool) → b ≡ false → (c : Bool) → c ≡ false → option_or o (if b then Some p.recv else (if c then Some p.send else None)) ≡ o
+    go (Some z) b e c f = refl
+    go None false e false f = refl
+    go None true e c f = absurd (both_ways true e refl)
+    go None false e true f = absurd (both_ways true f refl)
+
 module _ (plans : List Plan) where
   listed_cases : (p : Pair) (a : Act) (h : List Act) → IsListed p (pairs plans (a ∷ h)) → IsListed p (pairs plans h) ⊎ (new_pair plans (pairs plans h) h a.class a.op ≡ Some p)
   unfolding pairs
@@ -169,8 +178,9 @@ module _ (plans : List Plan) where
   unfolding pairs
   pairs_more p a h e = ap (λ (o : Option Pair). add_pair (pairs plans h) o) e
 
-  met_stays : (a : Act) (h : List Act) (m x : OpId) → HaveMet plans h m x → HaveMet plans (a ∷ h) m x
-  met_stays a h m x e = record {
+  -- who have met have met ever after
+  pub have_met_stays : (a : Act) (h : List Act) (m x : OpId) → HaveMet plans h m x → HaveMet plans (a ∷ h) m x
+  have_met_stays a h m x e = record {
     arrived = happened_stays Arrive m a h e.arrived;
     posted = happened_stays Post x a h e.posted;
     fit = e.fit;
@@ -183,7 +193,7 @@ module _ (plans : List Plan) where
   pub listed_met : (h : List Act) (p : Pair) → IsListed p (pairs plans h) → HaveMet plans h p.send p.recv
   listed_met [] p l = absurd (listed_none p l)
   listed_met (a ∷ h) p l =
-      elim (listed_cases p a h l) [ inl was ↦ met_stays a h p.send p.recv (listed_met h p was) | inr new ↦ (new_pair_is plans a h p new).met ]
+      elim (listed_cases p a h l) [ inl was ↦ have_met_stays a h p.send p.recv (listed_met h p was) | inr new ↦ (new_pair_is plans a h p new).met ]
 
   -- one of two partners is a send that has arrived, the other a receive that is posted, and they fit
   pub partners_met : (h : List Act) (x y : OpId) → partner (pairs plans h) x ≡ Some y → HaveMet plans h x y ⊎ HaveMet plans h y x
@@ -199,6 +209,34 @@ module _ (plans : List Plan) where
   pub partner_of_receive : (h : List Act) (x m : OpId) → IsReceive plans x → partner (pairs plans h) x ≡ Some m → HaveMet plans h m x
   partner_of_receive h x m r e =
       elim (partners_met h x m e) [ inl met ↦ absurd (not_send_receive plans x (fits_send plans m x met.fit) r) | inr met ↦ met ]
+
+  -- the partner of a send is a receive, that of a receive a send
+  pub partner_is_receive : (h : List Act) (m x : OpId) → IsSend plans m → partner (pairs plans h) m ≡ Some x → IsReceive plans x
+  partner_is_receive h m x s e = fits_receive plans x m (partner_of_send h m x s e).fit
+
+  pub partner_is_send : (h : List Act) (x m : OpId) → IsReceive plans x → partner (pairs plans h) x ≡ Some m → IsSend plans m
+  partner_is_send h x m r e = fits_send plans x m (partner_of_receive h x m r e).fit
+
+  -- an action that makes no pair leaves the pairs as they were
+  pub pairs_same : (a : Act) (h : List Act) → new_pair plans (pairs plans h) h a.class a.op ≡ None → pairs plans (a ∷ h) ≡ pairs plans h
+  unfolding pairs
+  pairs_same a h e = ap (λ (o : Option Pair). add_pair (pairs plans h) o) e
+
+  -- a new pair leaves the partners of all others as they were
+  pub partner_other : (p : Pair) (a : Act) (h : List Act) (y : OpId) → new_pair plans (pairs plans h) h a.class a.op ≡ Some p → same_op p.send y ≡ false → same_op p.recv y ≡ false → partner (pairs plans (a ∷ h)) y ≡ partner (pairs plans h) y
+  partner_other p a h y e s r =
+      ap (λ (ps : List Pair). partner ps y) (pairs_more p a h e) ∙ other_kept p (pairs plans h) y s r
+
+  -- whom an action pairs is in its new pair
+  pub newly_paired : (a : Act) (h : List Act) (x : OpId) → is_paired (pairs plans h) x ≡ false → is_paired (pairs plans (a ∷ h)) x ≡ true → (p : Pair) × (new_pair plans (pairs plans h) h a.class a.op ≡ Some p) × ((p.send ≡ x) ⊎ (p.recv ≡ x))
+  newly_paired a h x free now =
+      go (new_pair plans (pairs plans h) h a.class a.op) refl
+    where
+      go : (o : Option Pair) → new_pair plans (pairs plans h) h a.class a.op ≡ o → (p : Pair) × (new_pair plans (pairs plans h) h a.class a.op ≡ Some p) × ((p.send ≡ x) ⊎ (p.recv ≡ x))
+      go None e =
+          absurd (both_ways _ free (subst (λ (ps : List Pair). is_paired ps x ≡ true) (pairs_same a h e) now))
+      go (Some p) e =
+          elim (cases_Bool (same_op p.send x)) [ inl s ↦ (p, e, inl (same_op_true p.send x s)) | inr s ↦ elim (cases_Bool (same_op p.recv x)) [ inl r ↦ (p, e, inr (same_op_true p.recv x r)) | inr r ↦ absurd (both_ways _ free (subst (λ (o : Option OpId). is_some o ≡ true) (partner_other p a h x e s r) now)) ] ]
 
   -- who is in no pair of the list has no partner there
   unpaired_from : (ps : List Pair) (x : OpId) → ((y : OpId) → partner ps x ≡ Some y → ⊥) → partner ps x ≡ None

@@ -1,6 +1,6 @@
 -- The stages of one operation: what comes before what, and which actions are its start and its end.
-use Rattle.std.proofs.Common.{⊎_elim, ◌≡◌, Bool, true, false, not, ◌&&◌, ◌||◌, ◌⊎◌, inl, inr, List, [], ◌∷◌, Option, Some, None, if◌then◌else◌, refl, ap, sym, ◌∙◌, subst, is_some}
-use Rattle.std.proofs.lemmas.Bool.{both_ways, cases_Bool, or_cases}
+use Rattle.std.proofs.Common.{◌≡◌, Bool, true, false, inl, inr, List, Option, Some, None, refl, ap, sym, ◌∙◌, is_some}
+use Rattle.std.proofs.lemmas.Bool.{cases_Bool}
 use Rattle.goal_graph.specs.declared.action.OpId.{OpId}
 use Rattle.goal_graph.specs.declared.action.Class.{Class}
 use Rattle.goal_graph.specs.declared.action.Class.TheVariants.{Arrive, Serve, Data, Post, Begin}
@@ -9,12 +9,11 @@ use Rattle.goal_graph.specs.declared.plan.Kind.TheVariants.{Calc, Send, Recv}
 use Rattle.goal_graph.specs.Schedule.{Plan, kind_at}
 use Rattle.goal_graph.specs.Action.{Act, happened}
 use Rattle.goal_graph.specs.Matching.{partner, is_paired, pairs}
-use Rattle.goal_graph.specs.Allowed.{first_class, last_class, has_started, has_ended, is_served, allowed}
+use Rattle.goal_graph.specs.Allowed.{first_class, last_class, has_started, has_ended, is_ready, is_served}
 use Rattle.goal_graph.specs.Interleaving.{IsInterleaving}
-use Rattle.goal_graph.specs.Laws.{IsCalc, IsSend, IsReceive, HaveMet}
+use Rattle.goal_graph.specs.Laws.{IsCalc, IsSend, IsReceive}
 use Rattle.goal_graph.proofs.Persist.{cases_some}
-use Rattle.goal_graph.proofs.Rules.{allowed_fresh}
-use Rattle.goal_graph.proofs.Ever.{arrived_begun, data_send, data_large, data_paired, served_receive, served_message}
+use Rattle.goal_graph.proofs.Ever.{begun_ready, posted_ready, arrived_begun, data_send, data_paired, served_receive, served_message}
 use Rattle.goal_graph.proofs.Partners.{partner_of_send, partner_of_receive}
 
 -- what an operation is
@@ -124,3 +123,14 @@ module _ (plans : List Plan) where
             started_receive h x k ∙ serve_posted h x i (sym (ended_receive h x k) ∙ e)
         go (send k) =
             elim (cases_Bool (eager x)) [ inl t ↦ started_send h x k ∙ sym (ended_eager h x k t) ∙ e | inr f ↦ started_send h x k ∙ data_begun h x i (sym (ended_large h x k f) ∙ e) ]
+
+    -- what has started was ready
+    pub started_ready : (h : List Act) (x : OpId) → IsInterleaving plans eager h → has_started plans x h ≡ true → is_ready plans eager h x ≡ true
+    started_ready h x i e = go (cases_kind plans x)
+      where
+        go : KindOf plans x → is_ready plans eager h x ≡ true
+        go (absent k) =
+            begun_ready plans eager h x i (sym (ap (λ (c : Class). happened c x h) (first_of_absent x k)) ∙ e)
+        go (calc k) = begun_ready plans eager h x i (sym (started_calc h x k) ∙ e)
+        go (send k) = begun_ready plans eager h x i (sym (started_send h x k) ∙ e)
+        go (receive k) = posted_ready plans eager h x i (sym (started_receive h x k) ∙ e)

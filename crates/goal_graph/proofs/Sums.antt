@@ -1,5 +1,5 @@
 -- A sum over a list falls where one part falls and none rises.
-use Rattle.std.proofs.Common.{ℕ, zero, suc, ◌+◌, ◌≤◌, ◌<◌, ◌≡◌, Bool, true, false, cond, List, [], ◌∷◌, length, get_or, Contains, sum_by, count_by, refl, arith, subst, sym, ap, ◌∙◌}
+use Rattle.std.proofs.Common.{ℕ, zero, suc, ◌+◌, ◌≤◌, ◌≡◌, Bool, true, false, cond, List, [], ◌∷◌, Contains, sum_by, count_by, refl, arith, subst, sym, ap, ◌∙◌}
 use Rattle.std.proofs.lemmas.List.Sums.{sum_by-cons, sum_by-le-sum_by}
 
 falls_here : {X : Type 0} (f g : X → ℕ) (w : ℕ) (y : X) (ys : List X) → ((y : X) → g y ≤ f y) → g y + w ≤ f y → sum_by g (y ∷ ys) + w ≤ sum_by f (y ∷ ys)

@@ -1,15 +1,15 @@
 -- A send that has arrived and a posted receive that fits it never both wait.
-use Rattle.std.proofs.Common.{⊎_elim, ◌≡◌, ◌==◌, Bool, true, false, not, ◌&&◌, ◌⊎◌, inl, inr, List, [], ◌∷◌, Option, Some, None, refl, ap, sym, ◌∙◌, subst, is_some, if◌then◌else◌, eq-eqb}
+use Rattle.std.proofs.Common.{⊎_elim, ◌≡◌, Bool, true, false, ◌⊎◌, inl, inr, List, [], ◌∷◌, Option, Some, None, refl, sym, ◌∙◌, subst, is_some, if◌then◌else◌}
 use Rattle.std.specs.Option.{option_map, option_or}
 use Rattle.std.proofs.lemmas.Bool.{both_ways, cases_Bool, and_from, not_from_false}
 use Rattle.goal_graph.specs.declared.action.OpId.{OpId}
 use Rattle.goal_graph.specs.declared.action.Class.{Class}
-use Rattle.goal_graph.specs.declared.action.Class.TheVariants.{Arrive, Serve, Data, Post, Begin}
-use Rattle.goal_graph.specs.Schedule.{Plan, kind_at}
-use Rattle.goal_graph.specs.Action.{Act, place, same_op, is_act, happened, oldest}
-use Rattle.goal_graph.specs.Matching.{Pair, pair_of, other_in, partner, is_paired, add_pair, new_pair, pairs, fits, is_open_receive, is_open_send}
+use Rattle.goal_graph.specs.declared.action.Class.TheVariants.{Arrive, Post}
+use Rattle.goal_graph.specs.Schedule.{Plan}
+use Rattle.goal_graph.specs.Action.{Act, same_op, is_act, happened, oldest}
+use Rattle.goal_graph.specs.Matching.{Pair, pair_of, other_in, partner, is_paired, add_pair, pairs, fits, is_open_receive, is_open_send}
 use Rattle.goal_graph.specs.Laws.{HaveMet}
-use Rattle.goal_graph.proofs.Actions.{act_of, same_op_itself, happened_none, happened_cases, is_act_class, is_act_op, is_act_true}
+use Rattle.goal_graph.proofs.Actions.{act_of, same_op_itself, happened_none, happened_cases, is_act_class, is_act_true}
 use Rattle.goal_graph.proofs.Persist.{paired_stays}
 use Rattle.goal_graph.proofs.Partners.{oldest_none}
 

@@ -1,13 +1,16 @@
--- The laws of interleavings, as one reads them.
-use Rattle.std.specs.Prelude.{ℕ, ◌≡◌, ◌&&◌, not, Bool, true, false, List, [], ◌∷◌, Option, Some, None, count_by, sum_by}
+-- The laws of interleavings, as one reads them, and the words that they use.
+use Rattle.std.specs.Prelude.{ℕ, ◌+◌, ◌*◌, ◌≡◌, ◌≢◌, ◌<◌, ◌≤◌, ◌⊎◌, ◌↔◌, ◌&&◌, not, Bool, true, false, List, [], ◌∷◌, length, reverse, find, Contains, AllPairs, Option, Some, is_some, count_by, sum_by}
+use Rattle.std.specs.Option.{option_map}
 use Rattle.goal_graph.specs.declared.action.OpId.{OpId}
 use Rattle.goal_graph.specs.declared.action.Class.{Class}
 use Rattle.goal_graph.specs.declared.action.Class.TheVariants.{Arrive, Serve, Data, Post, Begin}
 use Rattle.goal_graph.specs.declared.plan.Kind.{Kind}
 use Rattle.goal_graph.specs.declared.plan.Kind.TheVariants.{Calc, Send, Recv}
-use Rattle.goal_graph.specs.Schedule.{Plan, kind_at, operations}
-use Rattle.goal_graph.specs.Action.{Act, happened}
-use Rattle.goal_graph.specs.Matching.{fits}
+use Rattle.goal_graph.specs.Schedule.{Plan, op_at, kind_at, operations}
+use Rattle.goal_graph.specs.Action.{Act, same_op, is_act, happened, oldest}
+use Rattle.goal_graph.specs.Matching.{Pair, pair_of, fits, pairs, partner, is_paired}
+use Rattle.goal_graph.specs.Allowed.{has_started, has_ended, is_ready, is_served, allowed}
+use Rattle.goal_graph.specs.Interleaving.{IsInterleaving, IsCompleteInterleaving}
 
 -- x is a calc, a send, a receive
 pub record IsCalc (plans : List Plan) (x : OpId) : Type 0 where
@@ -56,3 +59,166 @@ left_of plans h x = count_by (is_left plans h x) classes
 -- how many actions of all operations have not happened
 unfoldable pub left : List Plan → List Act → ℕ
 left plans h = sum_by (left_of plans h) (operations plans)
+
+-- a large send that has arrived and that no receive has taken
+pub record IsWaitingSend (plans : List Plan) (eager : OpId → Bool) (h : List Act) (m : OpId) : Type 0 where
+  pub is_send : IsSend plans m
+  pub is_large : eager m ≡ false
+  pub arrived : happened Arrive m h ≡ true
+  pub unpaired : is_paired (pairs plans h) m ≡ false
+
+-- a posted receive that no send has come for
+pub record IsWaitingReceive (plans : List Plan) (h : List Act) (x : OpId) : Type 0 where
+  pub is_receive : IsReceive plans x
+  pub posted : happened Post x h ≡ true
+  pub unpaired : is_paired (pairs plans h) x ≡ false
+
+-- y is paired with another than x
+pub record IsTaken (plans : List Plan) (h : List Act) (y x : OpId) : Type 0 where
+  pub taker : OpId
+  pub pair : partner (pairs plans h) y ≡ Some taker
+  pub other : taker ≢ x
+
+-- by rank, then by number
+abbrev pub IsEarlier : OpId → OpId → Type 0
+IsEarlier x y = (x.rank < y.rank) ⊎ ((x.rank ≡ y.rank) × (x.op < y.op))
+
+-- The laws, for all schedules and whatever is eager: `laws_of_interleavings` ensures each.
+
+-- an action has happened exactly where the list has it
+abbrev pub HappenedIsListed : Type 0
+HappenedIsListed = (class : Class) (x : OpId) (h : List Act) → (happened class x h ≡ true) ↔ Contains h (record { class = class; op = x })
+
+-- what has happened after a newer action had happened before, or is that action
+abbrev pub HappenedCases : Type 0
+HappenedCases = (class : Class) (x : OpId) (a : Act) (h : List Act) → (happened class x (a ∷ h) ≡ true) ↔ ((happened class x h ≡ true) ⊎ (a ≡ record { class = class; op = x }))
+
+-- what has happened stays so
+abbrev pub HappenedStays : Type 0
+HappenedStays = (class : Class) (x : OpId) (a : Act) (h : List Act) → happened class x h ≡ true → happened class x (a ∷ h) ≡ true
+
+-- a partner once given stays the partner
+abbrev pub PartnerStays : Type 0
+PartnerStays = (plans : List Plan) (a : Act) (h : List Act) (x y : OpId) → partner (pairs plans h) x ≡ Some y → partner (pairs plans (a ∷ h)) x ≡ Some y
+
+-- what is ready stays ready
+abbrev pub ReadyStays : Type 0
+ReadyStays = (plans : List Plan) (eager : OpId → Bool) (a : Act) (h : List Act) (x : OpId) → is_ready plans eager h x ≡ true → is_ready plans eager (a ∷ h) x ≡ true
+
+-- the message of a partner stays there
+abbrev pub MessageStays : Type 0
+MessageStays = (plans : List Plan) (eager : OpId → Bool) (a : Act) (h : List Act) (x : OpId) → is_served plans eager h (partner (pairs plans h) x) ≡ true → is_served plans eager (a ∷ h) (partner (pairs plans (a ∷ h)) x) ≡ true
+
+-- an action that is allowed stays allowed until it happens
+abbrev pub AllowedStays : Type 0
+AllowedStays = (plans : List Plan) (eager : OpId → Bool) (a : Act) (h : List Act) (class : Class) (x : OpId) → is_act class x a ≡ false → allowed plans eager h class x ≡ true → allowed plans eager (a ∷ h) class x ≡ true
+
+-- my partner's partner is me
+abbrev pub PartnersAreMutual : Type 0
+PartnersAreMutual = (plans : List Plan) (eager : OpId → Bool) (h : List Act) (x y : OpId) → IsInterleaving plans eager h → partner (pairs plans h) x ≡ Some y → partner (pairs plans h) y ≡ Some x
+
+-- one of two partners is a send that has arrived, the other a receive that is posted, and they fit
+abbrev pub PartnersHaveMet : Type 0
+PartnersHaveMet = (plans : List Plan) (h : List Act) (x y : OpId) → partner (pairs plans h) x ≡ Some y → HaveMet plans h x y ⊎ HaveMet plans h y x
+
+-- what fits is a receive and a send
+abbrev pub FitsAreReceiveAndSend : Type 0
+FitsAreReceiveAndSend = (plans : List Plan) (x m : OpId) → fits plans x m ≡ true → IsReceive plans x × IsSend plans m
+
+-- the two of each pair are partners of each other
+abbrev pub PairsArePartners : Type 0
+PairsArePartners = (plans : List Plan) (eager : OpId → Bool) (h : List Act) (p : Pair) → IsInterleaving plans eager h → Contains (pairs plans h) p → (partner (pairs plans h) p.send ≡ Some p.recv) × (partner (pairs plans h) p.recv ≡ Some p.send)
+
+-- partners stand in a pair
+abbrev pub PartnersArePaired : Type 0
+PartnersArePaired = (plans : List Plan) (h : List Act) (x y : OpId) → partner (pairs plans h) x ≡ Some y → Contains (pairs plans h) (pair_of x y) ⊎ Contains (pairs plans h) (pair_of y x)
+
+-- each operation is in at most one pair: two that share the send or the receive are the same
+abbrev pub OnePair : Type 0
+OnePair = (plans : List Plan) (eager : OpId → Bool) (h : List Act) (p q : Pair) → IsInterleaving plans eager h → Contains (pairs plans h) p → Contains (pairs plans h) q → ((p.send ≡ q.send) ⊎ (p.recv ≡ q.recv)) → p ≡ q
+
+-- a message arrives after its send has begun
+abbrev pub ArrivesAfterBegin : Type 0
+ArrivesAfterBegin = (plans : List Plan) (eager : OpId → Bool) (h : List Act) (m : OpId) → IsInterleaving plans eager h → happened Arrive m h ≡ true → happened Begin m h ≡ true
+
+-- a send hands over its bytes after it is paired, and so after it has arrived
+abbrev pub DataAfterPairing : Type 0
+DataAfterPairing = (plans : List Plan) (eager : OpId → Bool) (h : List Act) (m : OpId) → IsInterleaving plans eager h → happened Data m h ≡ true → (is_paired (pairs plans h) m ≡ true) × (happened Arrive m h ≡ true)
+
+-- a receive takes its message after it is posted, is paired then, and the message is there
+abbrev pub ServesAfterPost : Type 0
+ServesAfterPost = (plans : List Plan) (eager : OpId → Bool) (h : List Act) (x : OpId) → IsInterleaving plans eager h → happened Serve x h ≡ true → (happened Post x h ≡ true) × (is_served plans eager h (partner (pairs plans h) x) ≡ true)
+
+-- what has ended has started
+abbrev pub EndsAfterStart : Type 0
+EndsAfterStart = (plans : List Plan) (eager : OpId → Bool) (h : List Act) (x : OpId) → IsInterleaving plans eager h → has_ended plans eager x h ≡ true → has_started plans x h ≡ true
+
+-- what has started was ready
+abbrev pub StartsWhenReady : Type 0
+StartsWhenReady = (plans : List Plan) (eager : OpId → Bool) (h : List Act) (x : OpId) → IsInterleaving plans eager h → has_started plans x h ≡ true → is_ready plans eager h x ≡ true
+
+-- each action happens at most once
+abbrev pub HappensOnce : Type 0
+HappensOnce = (plans : List Plan) (eager : OpId → Bool) (h : List Act) (class : Class) (x : OpId) → IsInterleaving plans eager h → count_by (is_act class x) h ≤ 1
+
+-- an operation has at most three actions
+abbrev pub AtMostThree : Type 0
+AtMostThree = (plans : List Plan) (eager : OpId → Bool) (h : List Act) (x : OpId) → IsInterleaving plans eager h → count_by (λ (a : Act). same_op a.op x) h ≤ 3
+
+-- what has happened and what is left are together at most three actions an operation
+abbrev pub AtMostThreeEach : Type 0
+AtMostThreeEach = (plans : List Plan) (eager : OpId → Bool) (h : List Act) → IsInterleaving plans eager h → length h + left plans h ≤ 3 * length (operations plans)
+
+-- with each allowed action less is left
+abbrev pub LeftFalls : Type 0
+LeftFalls = (plans : List Plan) (eager : OpId → Bool) (a : Act) (h : List Act) → allowed plans eager h a.class a.op ≡ true → left plans (a ∷ h) + 1 ≤ left plans h
+
+-- at most one action of an operation is allowed at a time
+abbrev pub OneAllowed : Type 0
+OneAllowed = (plans : List Plan) (eager : OpId → Bool) (h : List Act) (class other : Class) (x : OpId) → IsInterleaving plans eager h → allowed plans eager h class x ≡ true → allowed plans eager h other x ≡ true → class ≡ other
+
+-- a send that has arrived and a posted receive that fits it never both wait
+abbrev pub NeverBothWait : Type 0
+NeverBothWait = (plans : List Plan) (h : List Act) (m x : OpId) → HaveMet plans h m x → (is_paired (pairs plans h) m ≡ true) ⊎ (is_paired (pairs plans h) x ≡ true)
+
+-- an allowed action is one of an operation of the schedule
+abbrev pub AllowedIsListed : Type 0
+AllowedIsListed = (plans : List Plan) (eager : OpId → Bool) (h : List Act) (class : Class) (x : OpId) → allowed plans eager h class x ≡ true → Contains (operations plans) x
+
+-- the operations are those places at which the schedule has one
+abbrev pub OperationsAreListed : Type 0
+OperationsAreListed = (plans : List Plan) (x : OpId) → Contains (operations plans) x ↔ (is_some (op_at plans x) ≡ true)
+
+-- the operations are listed by rank and number, and so none twice
+abbrev pub OperationsInOrder : Type 0
+OperationsInOrder = (plans : List Plan) → AllPairs IsEarlier (operations plans) × AllPairs (λ (x y : OpId). x ≢ y) (operations plans)
+
+-- the oldest that passes is the first that passes in the list read oldest first
+abbrev pub ReadOldestFirst : Type 0
+ReadOldestFirst = (test : Act → Bool) (h : List Act) → oldest test h ≡ option_map (λ (a : Act). a.op) (find test (reverse h))
+
+-- where nothing is left to happen, what is paired has ended
+abbrev pub PairedHasEnded : Type 0
+PairedHasEnded = (plans : List Plan) (eager : OpId → Bool) (h : List Act) (x : OpId) → IsCompleteInterleaving plans eager h → is_paired (pairs plans h) x ≡ true → has_ended plans eager x h ≡ true
+
+-- where nothing is left to happen, an operation that is ready and has no end is a large send or a receive that
+-- waits for a partner
+abbrev pub ReadyWaits : Type 0
+ReadyWaits = (plans : List Plan) (eager : OpId → Bool) (h : List Act) (x : OpId) → IsCompleteInterleaving plans eager h → Contains (operations plans) x → is_ready plans eager h x ≡ true → has_ended plans eager x h ≡ false → IsWaitingSend plans eager h x ⊎ IsWaitingReceive plans h x
+
+-- and each operation that fits it has not started, or is paired with another
+abbrev pub FittingIsTaken : Type 0
+FittingIsTaken = (plans : List Plan) (eager : OpId → Bool) (h : List Act) (x y : OpId) → IsCompleteInterleaving plans eager h → is_ready plans eager h x ≡ true → has_ended plans eager x h ≡ false → ((fits plans x y ≡ true) ⊎ (fits plans y x ≡ true)) → (has_started plans y h ≡ false) ⊎ IsTaken plans h y x
+
+-- a send fits at most one receive, and a receive at most one send
+pub record IsApart (plans : List Plan) : Type 0 where
+  pub one_receive : (m x y : OpId) → fits plans x m ≡ true → fits plans y m ≡ true → x ≡ y
+  pub one_send : (x m n : OpId) → fits plans x m ≡ true → fits plans x n ≡ true → m ≡ n
+
+-- there a send and a receive are partners once the one has arrived, the other is posted, and they fit
+abbrev pub ApartArePartners : Type 0
+ApartArePartners = (plans : List Plan) (eager : OpId → Bool) (h : List Act) (m x : OpId) → IsApart plans → IsInterleaving plans eager h → (partner (pairs plans h) m ≡ Some x) × IsSend plans m ↔ HaveMet plans h m x
+
+-- there what starts and ends in one interleaving does so in each complete one in which no fewer sends are eager
+abbrev pub ApartCompletesAlike : Type 0
+ApartCompletesAlike = (plans : List Plan) (eager fewer : OpId → Bool) (h w : List Act) → IsApart plans → IsCompleteInterleaving plans eager h → IsInterleaving plans fewer w → ((m : OpId) → fewer m ≡ true → eager m ≡ true) → (x : OpId) → (has_started plans x w ≡ true → has_started plans x h ≡ true) × (has_ended plans fewer x w ≡ true → has_ended plans eager x h ≡ true)

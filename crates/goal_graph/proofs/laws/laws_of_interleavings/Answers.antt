@@ -1,0 +1,61 @@
+-- Each law is a lemma.
+use Rattle.goal_graph.proofs.Actions.{happened_stays}
+use Rattle.goal_graph.proofs.Persist.{ready_stays, served_stays, allowed_stays}
+use Rattle.goal_graph.proofs.Ever.{arrived_begun}
+use Rattle.goal_graph.proofs.Stages.{ended_started, started_ready}
+use Rattle.goal_graph.proofs.OneEach.{one_allowed}
+use Rattle.goal_graph.proofs.Once.{happens_once, at_most_three, happened_and_left, left_falls}
+use Rattle.goal_graph.proofs.Exists.{allowed_listed, listed_places, operations_in_order, operations_differ}
+use Rattle.goal_graph.proofs.Members.{happened_member, member_happened, happened_one_more}
+use Rattle.goal_graph.proofs.laws.laws_of_interleavings.Goals as goal
+
+pub returns-clause-happened_is_listed : goal.returns-clause-happened_is_listed
+returns-clause-happened_is_listed c = λ class x h. (happened_member class x h, member_happened class x h)
+
+pub returns-clause-happened_cases : goal.returns-clause-happened_cases
+returns-clause-happened_cases c = happened_one_more
+
+pub returns-clause-happened_stays : goal.returns-clause-happened_stays
+returns-clause-happened_stays c = happened_stays
+
+pub returns-clause-ready_stays : goal.returns-clause-ready_stays
+returns-clause-ready_stays c = ready_stays
+
+pub returns-clause-message_stays : goal.returns-clause-message_stays
+returns-clause-message_stays c = served_stays
+
+pub returns-clause-allowed_stays : goal.returns-clause-allowed_stays
+returns-clause-allowed_stays c = allowed_stays
+
+pub returns-clause-one_allowed : goal.returns-clause-one_allowed
+returns-clause-one_allowed c = one_allowed
+
+pub returns-clause-happens_once : goal.returns-clause-happens_once
+returns-clause-happens_once c = happens_once
+
+pub returns-clause-at_most_three : goal.returns-clause-at_most_three
+returns-clause-at_most_three c = at_most_three
+
+pub returns-clause-at_most_three_each : goal.returns-clause-at_most_three_each
+returns-clause-at_most_three_each c = happened_and_left
+
+pub returns-clause-left_falls : goal.returns-clause-left_falls
+returns-clause-left_falls c = left_falls
+
+pub returns-clause-arrives_after_begin : goal.returns-clause-arrives_after_begin
+returns-clause-arrives_after_begin c = arrived_begun
+
+pub returns-clause-ends_after_start : goal.returns-clause-ends_after_start
+returns-clause-ends_after_start c = ended_started
+
+pub returns-clause-starts_when_ready : goal.returns-clause-starts_when_ready
+returns-clause-starts_when_ready c = started_ready
+
+pub returns-clause-allowed_is_listed : goal.returns-clause-allowed_is_listed
+returns-clause-allowed_is_listed c = allowed_listed
+
+pub returns-clause-operations_are_listed : goal.returns-clause-operations_are_listed
+returns-clause-operations_are_listed c = listed_places
+
+pub returns-clause-operations_in_order : goal.returns-clause-operations_in_order
+returns-clause-operations_in_order c = λ plans. (operations_in_order plans, operations_differ plans)
