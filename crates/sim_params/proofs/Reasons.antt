@@ -20,16 +20,12 @@ use Rattle.goal_graph.specs.Action.{Act, happened}
 use Rattle.goal_graph.specs.Matching.{pairs, partner, is_paired, fits}
 use Rattle.goal_graph.specs.Allowed.{has_started, has_ended, is_met, is_ready, is_served, may, allowed}
 use Rattle.goal_graph.specs.Interleaving.{IsInterleaving, IsCompleteInterleaving}
-use Rattle.goal_graph.specs.Laws.{IsCalc, IsSend, IsReceive, HaveMet}
-use Rattle.goal_graph.proofs.Actions.{act_of}
-use Rattle.goal_graph.proofs.Persist.{is_some_from, cases_some}
-use Rattle.goal_graph.proofs.Rules.{allowed_from, fits_send, fits_receive, not_send_calc, not_receive_calc}
-use Rattle.goal_graph.proofs.Stages.{KindOf, absent, calc, send, receive, cases_kind, started_send, started_receive, ended_calc, ended_eager, ended_large, ended_receive, ended_started}
-use Rattle.goal_graph.proofs.Partners.{partner_of_receive, partners_mutual}
-use Rattle.goal_graph.proofs.Waiting.{never_both_wait}
+use Rattle.goal_graph.specs.Laws.{IsCalc, IsSend, IsReceive, IsTaken}
+use Rattle.goal_graph.proofs.Lists.{contains_first, contains_more}
+use Rattle.goal_graph.proofs.Rules.{fits_send, fits_receive}
 use Rattle.goal_graph.proofs.Exists.{kind_listed}
+use Rattle.goal_graph.proofs.Complete.{unstarted_unended, unmet_unended, ready_calc_ended, fitting_taken}
 use Rattle.sim_params.specs.Stuck.{IsStuck, first_unmet, are_fit, first_absent, partner_or_alone, reason_by, reason}
-use Rattle.sim_params.specs.Laws.{HasOtherPartner}
 
 found_or_later : {A : Type 0} (b : Bool) (y x : A) (r : Option A) → cond b (Some y) r ≡ Some x → ((b ≡ true) × (y ≡ x)) ⊎ (r ≡ Some x)
 found_or_later true y x r e = inl (refl, same_Some y x e)
@@ -48,7 +44,7 @@ find_passes p (y ∷ ys) x e =
 find_listed : {A : Type 0} (p : A → Bool) (xs : List A) (x : A) → find p xs ≡ Some x → Contains xs x
 find_listed p [] x e = absurd (cc e)
 find_listed p (y ∷ ys) x e =
-    ⊎_elim (λ f. (0, omega arith, f.1)) (λ f. Contains-append_right (y ∷ []) ys x (find_listed p ys x f)) (found_or_later (p y) y x (find p ys) e)
+    ⊎_elim (λ f. contains_first y ys x f.1) (λ f. contains_more y ys x (find_listed p ys x f)) (found_or_later (p y) y x (find p ys) e)
 
 find_none : {A : Type 0} (p : A → Bool) (xs : List A) → find p xs ≡ None → All (λ x. p x ≡ false) xs
 find_none p [] e = All-nil (λ x. p x ≡ false)
@@ -62,14 +58,6 @@ all_from_find p (y ∷ ys) e =
     and_from (p y) (list_all p ys) (not-false (p y) f.0) (all_from_find p ys f.1)
 
 module _ (plans : List Plan) (eager : OpId → Bool) where
-  -- what has not started has not ended
-  pub unstarted_stuck : (h : List Act) (y : OpId) → IsInterleaving plans eager h → has_started plans y h ≡ false → IsStuck plans eager h y
-  unstarted_stuck h y i e = false_from_ne_true _ (λ t. both_ways _ e (ended_started plans eager h y i t))
-
-  unmet_stuck : (h : List Act) (w : When) (y : OpId) → IsInterleaving plans eager h → is_met plans eager h w y ≡ false → IsStuck plans eager h y
-  unmet_stuck h AfterEnd y i e = e
-  unmet_stuck h AfterStart y i e = unstarted_stuck h y i e
-
   -- the need that an operation waits for
   pub record IsUnmet (h : List Act) (x y : OpId) : Type 0 where
     pub need : Need
@@ -150,116 +138,32 @@ module _ (plans : List Plan) (eager : OpId → Bool) where
 
   -- an operation that a reason names is stuck itself
   pub op_is_stuck : (h : List Act) (x y : OpId) → IsInterleaving plans eager h → reason plans eager h x ≡ why.Op y → IsStuck plans eager h y
-  op_is_stuck h x y i e = let u = op_is_unmet h x y e in unmet_stuck h u.need.when y i u.unmet
+  op_is_stuck h x y i e = let u = op_is_unmet h x y e in unmet_unended plans eager h u.need.when y i u.unmet
 
   pub partner_is_stuck : (h : List Act) (x y : OpId) → IsInterleaving plans eager h → reason plans eager h x ≡ why.Partner y → IsStuck plans eager h y
-  partner_is_stuck h x y i e = unstarted_stuck h y i (partner_is_absent h x y e).unstarted
+  partner_is_stuck h x y i e = unstarted_unended plans eager h y i (partner_is_absent h x y e).unstarted
 
   module _ (h : List Act) (c : IsCompleteInterleaving plans eager h) where
-    -- what may happen has happened
-    done : (class : Class) (x : OpId) → may plans eager h class x (kind_at plans x) ≡ true → happened class x h ≡ true
-    done class x e =
-        elim (cases_Bool (happened class x h)) [ inl t ↦ t | inr f ↦ absurd (both_ways _ (c.none_left (act_of class x)) (allowed_from plans eager h class x f e)) ]
+    -- what fits is an operation of the schedule
+    fit_listed : (x y : OpId) → (fits plans x y ≡ true) ⊎ (fits plans y x ≡ true) → Contains (operations plans) y
+    fit_listed x y (inl f) = let s = fits_send plans x y f in kind_listed plans y (Send s.bytes s.to s.tag) s.kind
+    fit_listed x y (inr f) = let r = fits_receive plans y x f in kind_listed plans y (Recv r.room r.from r.tag) r.kind
 
-    arrived_of : (m : OpId) → IsSend plans m → happened Begin m h ≡ true → happened Arrive m h ≡ true
-    arrived_of m s e = done Arrive m (subst (λ k. may plans eager h Arrive m k ≡ true) (sym s.kind) e)
-
-    data_of : (m : OpId) → IsSend plans m → eager m ≡ false → is_paired (pairs plans h) m ≡ true → happened Data m h ≡ true
-    data_of m s e p =
-        done Data m (subst (λ k. may plans eager h Data m k ≡ true) (sym s.kind) (and_from (not (eager m)) (is_paired (pairs plans h) m) (not_from_false (eager m) e) p))
-
-    served_of : (x m : OpId) → IsReceive plans x → IsSend plans m → partner (pairs plans h) x ≡ Some m → happened Serve x h ≡ true
-    served_of x m r s e =
-        done Serve x (subst (λ k. may plans eager h Serve x k ≡ true) (sym r.kind) (subst (λ o. is_served plans eager h o ≡ true) (sym e) there))
-      where
-        back : partner (pairs plans h) m ≡ Some x
-        back = partners_mutual plans eager h x m c.each e
-        there : (eager m || happened Data m h) ≡ true
-        there =
-            elim (cases_Bool (eager m)) [ inl t ↦ or_left (eager m) _ t | inr f ↦ or_right (eager m) _ (data_of m s f (is_some_from (partner (pairs plans h) m) x back)) ]
-
-    -- a stuck send that has begun is not paired, nor is a stuck receive
-    send_unpaired : (m : OpId) → IsSend plans m → happened Begin m h ≡ true → IsStuck plans eager h m → is_paired (pairs plans h) m ≡ false
-    send_unpaired m s b stuck =
-        elim (cases_Bool (eager m)) [ inl t ↦ absurd (both_ways _ stuck (ended_eager plans eager h m s t ∙ b)) | inr f ↦ false_from_ne_true _ (λ p. both_ways _ stuck (ended_large plans eager h m s f ∙ data_of m s f p)) ]
-
-    receive_unpaired : (x : OpId) → IsReceive plans x → IsStuck plans eager h x → is_paired (pairs plans h) x ≡ false
-    receive_unpaired x r stuck = false_from_ne_true _ paired
-      where
-        paired : is_paired (pairs plans h) x ≡ true → ⊥
-        paired p =
-            let o = cases_some (partner (pairs plans h) x) p in
-            both_ways _ stuck (ended_receive plans eager h x r ∙ served_of x o.0 r (fits_send plans x o.0 (partner_of_receive plans h x o.0 r o.1).fit) o.1)
-
-    -- what is paired, and not with x
-    other_of : (x y : OpId) → has_started plans y h ≡ true → is_paired (pairs plans h) x ≡ false → is_paired (pairs plans h) y ≡ true → HasOtherPartner plans h x y
-    other_of x y s free p =
-        let o = cases_some (partner (pairs plans h) y) p in
-        record {
-          started = s;
-          other = o.0;
-          paired = o.1;
-          differs = λ e. both_ways _ free (is_some_from (partner (pairs plans h) x) y (partners_mutual plans eager h y x c.each (o.1 ∙ ap (λ z. Some z) e)));
-        }
-
-    one_waits : (m x : OpId) → HaveMet plans h m x → (is_paired (pairs plans h) m ≡ false → is_paired (pairs plans h) x ≡ true) × (is_paired (pairs plans h) x ≡ false → is_paired (pairs plans h) m ≡ true)
-    one_waits m x met = go (never_both_wait plans h m x met)
-      where
-        go : (is_paired (pairs plans h) m ≡ true) ⊎ (is_paired (pairs plans h) x ≡ true) → (is_paired (pairs plans h) m ≡ false → is_paired (pairs plans h) x ≡ true) × (is_paired (pairs plans h) x ≡ false → is_paired (pairs plans h) m ≡ true)
-        go (inl t) = (λ f. absurd (both_ways _ f t), λ f. t)
-        go (inr t) = (λ f. t, λ f. absurd (both_ways _ f t))
-
-    begun_of : (x : OpId) → IsCalc plans x ⊎ IsSend plans x → is_ready plans eager h x ≡ true → happened Begin x h ≡ true
-    begun_of x (inl k) e = done Begin x (subst (λ k. may plans eager h Begin x k ≡ true) (sym k.kind) e)
-    begun_of x (inr s) e = done Begin x (subst (λ k. may plans eager h Begin x k ≡ true) (sym s.kind) e)
-
-    posted_of : (x : OpId) → IsReceive plans x → is_ready plans eager h x ≡ true → happened Post x h ≡ true
-    posted_of x r e = done Post x (subst (λ k. may plans eager h Post x k ≡ true) (sym r.kind) e)
-
-    receive_alone : (x y : OpId) → IsStuck plans eager h x → is_ready plans eager h x ≡ true → has_started plans y h ≡ true → fits plans x y ≡ true → HasOtherPartner plans h x y
-    receive_alone x y stuck ready started fit =
-        let r = fits_receive plans x y fit in
-        let s = fits_send plans x y fit in
-        let met : HaveMet plans h y x =
-            record {
-              arrived = arrived_of y s (sym (started_send plans h y s) ∙ started);
-              posted = posted_of x r ready;
-              fit = fit;
-            } in
-        let free = receive_unpaired x r stuck in
-        other_of x y started free ((one_waits y x met).1 free)
-
-    send_alone : (x y : OpId) → IsStuck plans eager h x → is_ready plans eager h x ≡ true → has_started plans y h ≡ true → fits plans y x ≡ true → HasOtherPartner plans h x y
-    send_alone x y stuck ready started fit =
-        let r = fits_receive plans y x fit in
-        let s = fits_send plans y x fit in
-        let begun = begun_of x (inr s) ready in
-        let met : HaveMet plans h x y =
-            record {
-              arrived = arrived_of x s begun;
-              posted = sym (started_receive plans h y r) ∙ started;
-              fit = fit;
-            } in
-        let free = send_unpaired x s begun stuck in
-        other_of x y started free ((one_waits x y met).0 free)
-
-    -- what is alone finds each operation that fits paired with another
-    pub alone_is_alone : (x y : OpId) → IsStuck plans eager h x → reason plans eager h x ≡ why.Alone → are_fit plans eager x y ≡ true → HasOtherPartner plans h x y
-    alone_is_alone x y stuck e fit = go (or_cases (fits plans x y) (fits plans y x) fit)
+    -- what is alone finds each operation that fits started, and paired with another
+    pub alone_is_alone : (x y : OpId) → IsStuck plans eager h x → reason plans eager h x ≡ why.Alone → are_fit plans eager x y ≡ true → (has_started plans y h ≡ true) × IsTaken plans h y x
+    alone_is_alone x y stuck e fit = (started, go (fitting_taken plans eager h c x y (ready_is h x facts.0) stuck fits_one))
       where
         facts : (first_unmet plans eager h x ≡ None) × (first_absent plans eager h x ≡ None)
         facts = alone_is h x e
-        ready : is_ready plans eager h x ≡ true
-        ready = ready_is h x facts.0
-        go : (fits plans x y ≡ true) ⊎ (fits plans y x ≡ true) → HasOtherPartner plans h x y
-        go (inl f) =
-            let s = fits_send plans x y f in
-            receive_alone x y stuck ready (started_is h x y facts.1 (kind_listed plans y (Send s.bytes s.to s.tag) s.kind) fit) f
-        go (inr f) =
-            let r = fits_receive plans y x f in
-            send_alone x y stuck ready (started_is h x y facts.1 (kind_listed plans y (Recv r.room r.from r.tag) r.kind) fit) f
+        fits_one : (fits plans x y ≡ true) ⊎ (fits plans y x ≡ true)
+        fits_one = or_cases (fits plans x y) (fits plans y x) fit
+        started : has_started plans y h ≡ true
+        started = started_is h x y facts.1 (fit_listed x y fits_one) fit
+        go : (has_started plans y h ≡ false) ⊎ IsTaken plans h y x → IsTaken plans h y x
+        go (inl f) = absurd (both_ways _ f started)
+        go (inr t) = t
 
     -- a stuck calc has a need that is not there
     pub calc_is_not_alone : (x : OpId) → IsCalc plans x → IsStuck plans eager h x → reason plans eager h x ≢ why.Alone
     calc_is_not_alone x k stuck e =
-        both_ways _ stuck (ended_calc plans eager h x k ∙ begun_of x (inl k) (ready_is h x (alone_is h x e).0))
+        both_ways _ stuck (ready_calc_ended plans eager h c x k (ready_is h x (alone_is h x e).0))

@@ -1,5 +1,5 @@
 -- The laws of the timed run, each as a statement.
-use Rattle.std.specs.Prelude.{ℕ, ◌+◌, ◌≡◌, ◌≢◌, ◌==◌, ◌&&◌, ◌||◌, ◌↔◌, max, Bool, true, false, nat_lt, List, [], ◌∷◌, Option, Some, None, if◌then◌else◌}
+use Rattle.std.specs.Prelude.{ℕ, ◌+◌, ◌≤◌, ◌≡◌, ◌≢◌, ◌==◌, ◌&&◌, ◌||◌, ◌↔◌, max, Bool, true, false, nat_lt, List, [], ◌∷◌, reverse, take, slice_get, Option, Some, None, if◌then◌else◌}
 use Rattle.goal_graph.specs.declared.action.OpId.{OpId}
 use Rattle.goal_graph.specs.declared.action.Timed.{Timed}
 use Rattle.goal_graph.specs.declared.action.Class.{Class}
@@ -7,17 +7,26 @@ use Rattle.goal_graph.specs.declared.action.Class.TheVariants.{Arrive, Serve, Da
 use Rattle.goal_graph.specs.declared.plan.Kind.{Kind}
 use Rattle.goal_graph.specs.declared.plan.Kind.TheVariants.{Calc, Send, Recv}
 use Rattle.goal_graph.specs.Schedule.{Plan, kind_at}
-use Rattle.goal_graph.specs.Action.{Act}
-use Rattle.goal_graph.specs.Matching.{pairs, partner}
-use Rattle.goal_graph.specs.Allowed.{has_started}
 use Rattle.sim_params.specs.Costs.{CostModel, over, over_one, gap, gap_one, flight, flight_one, latency, is_eager}
 use Rattle.sim_params.specs.Times.{mate, cpu_hold, tx_hold, rx_hold, time, Possible}
-use Rattle.sim_params.specs.Run.{IsBefore, key}
+use Rattle.sim_params.specs.Run.{IsBefore, key, IsNext}
 
 -- the first key is before the second, as a test
 unfoldable pub before : List ℕ → List ℕ → Bool
 before (m ∷ ms) (n ∷ ns) = nat_lt m n || ((m == n) && before ms ns)
 before _ _ = false
+
+-- a queue has an entry for b whose time is not later
+pub record HasBound (InQueue : Timed → Type 0) (b : Timed) : Type 0 where
+  pub entry : Timed
+  pub queued : InQueue entry
+  pub class : entry.class ≡ b.class
+  pub op : entry.op ≡ b.op
+  pub time : entry.time ≤ b.time
+
+-- no entry of the queue is before a
+abbrev pub IsLeastIn : (Timed → Type 0) → Timed → Type 0
+IsLeastIn InQueue a = (e : Timed) → InQueue e → ¬ (IsBefore (key e) (key a))
 
 module _ (plans : List Plan) (costs : CostModel) where
   -- the action of that class and operation, at its time after h
@@ -61,9 +70,7 @@ module _ (plans : List Plan) (costs : CostModel) where
   payer h Post x = Some x
   payer h Begin x = Some x
 
--- y has started, and is paired with another operation than x
-pub record HasOtherPartner (plans : List Plan) (h : List Act) (x y : OpId) : Type 0 where
-  pub started : has_started plans y h ≡ true
-  pub other : OpId
-  pub paired : partner (pairs plans h) y ≡ Some other
-  pub differs : other ≢ x
+  -- in a list of actions, oldest first, each is next after those before it
+  abbrev pub EachIsNext : List Timed → Type 0
+  EachIsNext trace =
+      (k : ℕ) (a : Timed) → slice_get trace k ≡ Some a → IsNext plans costs (reverse (take k trace)) a
