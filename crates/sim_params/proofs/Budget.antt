@@ -1,6 +1,6 @@
 -- Every time of a run is within the budget: each action raises the reach by at most what its share sets aside for it.
-use Rattle.std.proofs.Common.{ℕ, ◌+◌, ◌*◌, ◌<◌, ◌≤◌, ◌≡◌, ◌⊎◌, max, Bool, true, false, not, List, [], ◌∷◌, Option, Some, None, if◌then◌else◌, Contains, sum_by, inl, inr, refl, sym, ap, ◌∙◌, subst, arith, le_refl, zero-le}
-use Rattle.std.proofs.lemmas.Bool.{cases_Bool, both_ways, and_parts, not-true}
+use Rattle.std.proofs.Common.{ℕ, ◌+◌, ◌*◌, ◌≤◌, ◌≡◌, max, Bool, true, false, not, List, [], ◌∷◌, Option, Some, None, if◌then◌else◌, Contains, sum_by, refl, sym, ap, ◌∙◌, subst, arith, le_refl, zero-le}
+use Rattle.std.proofs.lemmas.Bool.{both_ways, and_parts, not-true}
 use Rattle.std.proofs.lemmas.List.Sums.{sum_by-le-sum_by}
 use Rattle.goal_graph.specs.declared.action.OpId.{OpId}
 use Rattle.goal_graph.specs.declared.action.Timed.{Timed}
@@ -8,11 +8,11 @@ use Rattle.goal_graph.specs.declared.action.Class.{Class}
 use Rattle.goal_graph.specs.declared.action.Class.TheVariants.{Arrive, Serve, Data, Post, Begin}
 use Rattle.goal_graph.specs.declared.plan.Kind.{Kind}
 use Rattle.goal_graph.specs.declared.plan.Kind.TheVariants.{Calc, Send, Recv}
-use Rattle.goal_graph.specs.Schedule.{Plan, op_at, kind_at, operations}
-use Rattle.goal_graph.specs.Action.{Act, happened, plain, plain_act}
-use Rattle.goal_graph.specs.Matching.{pairs, partner, is_paired}
+use Rattle.goal_graph.specs.Schedule.{Plan, kind_at, operations}
+use Rattle.goal_graph.specs.Action.{happened, plain, plain_act}
+use Rattle.goal_graph.specs.Matching.{pairs, is_paired}
 use Rattle.goal_graph.specs.Allowed.{is_served, may, allowed}
-use Rattle.goal_graph.specs.Laws.{IsSend, IsReceive, HaveMet}
+use Rattle.goal_graph.specs.Laws.{IsSend, IsReceive}
 use Rattle.goal_graph.proofs.Actions.{happened_stays, happened_now}
 use Rattle.goal_graph.proofs.Rules.{allowed_may, allowed_fresh, allowed_serve, fits_send}
 use Rattle.goal_graph.proofs.Partners.{partner_of_receive, partners_mutual}
@@ -20,11 +20,11 @@ use Rattle.goal_graph.proofs.Exists.{kind_listed, allowed_listed}
 use Rattle.goal_graph.proofs.Sums.{sum_falls}
 use Rattle.sim_params.specs.Costs.{CostModel, over, over_one, gap, gap_one, flight, flight_one, latency, is_eager}
 use Rattle.sim_params.specs.Times.{at_partner, mate, cpu_hold, tx_hold, rx_hold, Possible}
-use Rattle.sim_params.specs.Budget.{handshake_share, share_of, share, budget}
-use Rattle.sim_params.specs.Laws.{hold, reach, part_of, part, payer}
+use Rattle.sim_params.specs.Budget.{share_of, share, budget}
+use Rattle.sim_params.specs.Laws.{hold, reach, part_of, part, payer, IsWithin}
 use Rattle.sim_params.proofs.Grow.{mate_stays}
 use Rattle.sim_params.proofs.Interleavings.{EachPossible, each_interleaving}
-use Rattle.sim_params.proofs.Reach.{lag, reach_grows, reach_time, time_reach}
+use Rattle.sim_params.proofs.Reach.{lag, reach_time, time_reach, within_reach, within_later}
 
 -- a part that is paid, or not
 abbrev paid : Bool → ℕ → ℕ
@@ -127,14 +127,17 @@ module _ (plans : List Plan) (costs : CostModel) where
     where
       facts : IsReceive plans x × (is_served plans (is_eager plans costs) (plain h) (mate plans costs h x) ≡ true)
       facts = allowed_serve plans (is_eager plans costs) (plain h) x e
+
       go : (o : Option OpId) → mate plans costs h x ≡ o → is_served plans (is_eager plans costs) (plain h) o ≡ true → (m : OpId) × IsServedBy h x m
       go None p t = absurd (both_ways false refl t)
-      go (Some m) p t =
-          (m, record {
-            sender = p;
-            back = partners_mutual plans (is_eager plans costs) (plain h) x m (each_interleaving plans costs h each) p;
-            send = fits_send plans x m (partner_of_receive plans (plain h) x m facts.0 p).fit;
-          })
+      go (Some m) p t = (
+        m,
+        record {
+          sender = p;
+          back = partners_mutual plans (is_eager plans costs) (plain h) x m (each_interleaving plans costs h each) p;
+          send = fits_send plans x m (partner_of_receive plans (plain h) x m facts.0 p).fit;
+        },
+      )
 
   -- who pays for an action, and that it pays
   record IsPaidBy (h : List Timed) (a : Timed) (y : OpId) : Type 0 where
@@ -147,23 +150,31 @@ module _ (plans : List Plan) (costs : CostModel) where
     where
       fresh : happened a.class a.op (plain h) ≡ false
       fresh = allowed_fresh plans (is_eager plans costs) (plain h) a.class a.op p.allowed
+
       own : ¬ (a.class ≡ Serve) → payer plans costs h a.class a.op ≡ Some a.op → (y : OpId) × IsPaidBy h a y
-      own other e =
-          (a.op, record {
-            payer = e;
-            listed = allowed_listed plans (is_eager plans costs) (plain h) a.class a.op p.allowed;
-            pays = own_pays a h a.class a.op other fresh (now_happened a h);
-          })
+      own other e = (
+        a.op,
+        record {
+          payer = e;
+          listed = allowed_listed plans (is_eager plans costs) (plain h) a.class a.op p.allowed;
+          pays = own_pays a h a.class a.op other fresh (now_happened a h);
+        },
+      )
+
       at : (c : Class) → a.class ≡ c → (λ (d : Class). payer plans costs h d a.op) a.class ≡ (λ (d : Class). payer plans costs h d a.op) c
       at c e = ap (λ (d : Class). payer plans costs h d a.op) e
+
       served : a.class ≡ Serve → (y : OpId) × IsPaidBy h a y
       served e =
-          let s = served_by h a.op each (subst (λ (c : Class). allowed plans (is_eager plans costs) (plain h) c a.op ≡ true) e p.allowed) in
-          (s.0, record {
-            payer = at Serve e ∙ s.1.sender;
-            listed = kind_listed plans s.0 (Send s.1.send.bytes s.1.send.to s.1.send.tag) s.1.send.kind;
-            pays = subst (λ (c : Class). spent h s.0 + part plans costs c s.0 ≤ spent (a ∷ h) s.0) (sym e) (send_pays a h a.op s.0 s.1.back (subst (λ (c : Class). happened c a.op (plain h) ≡ false) e fresh) (subst (λ (c : Class). happened c a.op (plain (a ∷ h)) ≡ true) e (now_happened a h)));
-          })
+          let s = served_by h a.op each (subst (λ (c : Class). allowed plans (is_eager plans costs) (plain h) c a.op ≡ true) e p.allowed) in (
+            s.0,
+            record {
+              payer = at Serve e ∙ s.1.sender;
+              listed = kind_listed plans s.0 (Send s.1.send.bytes s.1.send.to s.1.send.tag) s.1.send.kind;
+              pays = subst (λ (c : Class). spent h s.0 + part plans costs c s.0 ≤ spent (a ∷ h) s.0) (sym e) (send_pays a h a.op s.0 s.1.back (subst (λ (c : Class). happened c a.op (plain h) ≡ false) e fresh) (subst (λ (c : Class). happened c a.op (plain (a ∷ h)) ≡ true) e (now_happened a h)));
+            },
+          )
+
       go : (c : Class) → a.class ≡ c → (y : OpId) × IsPaidBy h a y
       go Serve e = served e
       go Begin e = own (λ f. let g = sym e ∙ f in cc) (at Begin e)
@@ -232,3 +243,7 @@ module _ (plans : List Plan) (costs : CostModel) where
   -- a possible action lets go within the budget
   pub possible_budget : (h : List Timed) (a : Timed) → EachPossible plans costs h → Possible plans costs h a → a.time + hold plans costs h a ≤ budget plans costs
   possible_budget h a each p = omega (arith, reach_budget (a ∷ h) (each, p), reach_time plans costs a h)
+
+  pub within_budget : (h : List Timed) → EachPossible plans costs h → IsWithin plans costs h (budget plans costs)
+  within_budget h each =
+      within_later plans costs h (reach plans costs h) (budget plans costs) (reach_budget h each) (within_reach plans costs h each)

@@ -1,5 +1,5 @@
 -- After each run an action is next, or nothing is possible; so there is a complete run.
-use Rattle.std.proofs.Common.{ℕ, zero, suc, ◌+◌, ◌<◌, ◌≤◌, ◌≡◌, ◌⊎◌, Bool, true, false, List, [], ◌∷◌, All, Contains, length, inl, inr, refl, sym, ap, ap₂, ◌∙◌, subst, arith}
+use Rattle.std.proofs.Common.{ℕ, zero, suc, ◌+◌, ◌≤◌, ◌≡◌, ◌⊎◌, Bool, true, false, List, [], ◌∷◌, All, Contains, inl, inr, refl, sym, ap, ap₂, ◌∙◌, subst, arith}
 use Rattle.std.proofs.lemmas.Bool.{cases_Bool, both_ways}
 use Rattle.std.proofs.lemmas.List.Elements.{All-nil, All-cons, All-weaker, All-contains}
 use Rattle.goal_graph.specs.declared.action.OpId.{OpId}
@@ -7,7 +7,7 @@ use Rattle.goal_graph.specs.declared.action.Timed.{Timed}
 use Rattle.goal_graph.specs.declared.action.Class.{Class}
 use Rattle.goal_graph.specs.declared.action.Class.TheVariants.{Arrive, Serve, Data, Post, Begin}
 use Rattle.goal_graph.specs.Schedule.{Plan, operations}
-use Rattle.goal_graph.specs.Action.{Act, plain, plain_act}
+use Rattle.goal_graph.specs.Action.{plain, plain_act}
 use Rattle.goal_graph.specs.Allowed.{allowed}
 use Rattle.goal_graph.specs.Interleaving.{IsInterleaving}
 use Rattle.goal_graph.specs.Laws.{left}
@@ -81,6 +81,7 @@ module _ (plans : List Plan) (costs : CostModel) where
           first : (s.0 ≡ t.0) ⊎ IsBefore (key s.0) (key t.0) → ((a : Timed) × IsLeastOf h (x ∷ xs) a) ⊎ All (HasNone h) (x ∷ xs)
           first le =
               inl (s.0, record { possible = s.1; least = All-cons (NoneBefore h s.0) x xs s.2 (All-weaker (NoneBefore h t.0) (NoneBefore h s.0) (none_before_lesser h s.0 t.0 le) xs t.1.least) })
+
           pick : (s.0 ≡ t.0) ⊎ (IsBefore (key s.0) (key t.0) ⊎ IsBefore (key t.0) (key s.0)) → ((a : Timed) × IsLeastOf h (x ∷ xs) a) ⊎ All (HasNone h) (x ∷ xs)
           pick (inl e) = first (inl e)
           pick (inr (inl lt)) = first (inr lt)

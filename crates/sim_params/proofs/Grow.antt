@@ -1,6 +1,6 @@
 -- Times never fall: each time after one more action is at least what it was, for every history.
-use Rattle.std.proofs.Common.{ℕ, ◌+◌, ◌<◌, ◌≤◌, ◌≡◌, ◌⊎◌, ◌==◌, ◌&&◌, ◌||◌, max, Bool, true, false, List, [], ◌∷◌, Option, Some, None, if◌then◌else◌, inl, inr, refl, sym, ap, ◌∙◌, subst, arith, le_refl, zero-le}
-use Rattle.std.proofs.Math.Nat.{le-max_left, le-max_right}
+use Rattle.std.proofs.Common.{ℕ, ◌+◌, ◌≤◌, ◌≡◌, Bool, true, false, List, [], ◌∷◌, Option, Some, None, if◌then◌else◌, inl, inr, refl, sym, ◌∙◌, subst, arith, le_refl}
+use Rattle.std.proofs.Math.Nat.{le-max_left}
 use Rattle.std.proofs.lemmas.Bool.{cases_Bool, both_ways, cond-true, cond-false}
 use Rattle.goal_graph.specs.declared.action.OpId.{OpId}
 use Rattle.goal_graph.specs.declared.action.Timed.{Timed}
@@ -8,18 +8,18 @@ use Rattle.goal_graph.specs.declared.action.Class.{Class}
 use Rattle.goal_graph.specs.declared.action.Class.TheVariants.{Arrive, Serve, Data, Post, Begin}
 use Rattle.goal_graph.specs.declared.plan.Kind.{Kind}
 use Rattle.goal_graph.specs.declared.plan.Kind.TheVariants.{Calc, Send, Recv}
-use Rattle.goal_graph.specs.declared.plan.Op.{Op}
 use Rattle.goal_graph.specs.declared.plan.Need.{Need}
 use Rattle.goal_graph.specs.declared.plan.When.{When}
 use Rattle.goal_graph.specs.declared.plan.When.TheVariants.{AfterEnd, AfterStart}
 use Rattle.goal_graph.specs.Schedule.{Plan, kind_at, needs, needed}
 use Rattle.goal_graph.specs.Action.{Act, happened, plain, plain_act}
-use Rattle.goal_graph.specs.Matching.{pairs, partner, is_paired}
-use Rattle.goal_graph.specs.Allowed.{first_class, last_class, has_started, has_ended}
+use Rattle.goal_graph.specs.Matching.{pairs, is_paired}
+use Rattle.goal_graph.specs.Allowed.{last_class, has_started, has_ended}
 use Rattle.goal_graph.proofs.Actions.{happened_stays}
 use Rattle.goal_graph.proofs.Persist.{partner_stays, paired_stays, started_stays, ended_stays}
-use Rattle.sim_params.specs.Costs.{CostModel, over, over_one, gap, gap_one, flight, flight_one, latency, is_eager}
+use Rattle.sim_params.specs.Costs.{CostModel, over, flight, is_eager}
 use Rattle.sim_params.specs.Times.{since, greatest, at_partner, mate, cpu_hold, cpu, tx, rx, start, end, met_at, ready, paired_at, there_at, time_of, time}
+use Rattle.sim_params.specs.Laws.{NoneFalls}
 
 pub plain_cons : (a : Timed) (h : List Timed) → plain (a ∷ h) ≡ plain_act a ∷ plain h
 unfolding plain
@@ -131,6 +131,7 @@ module _ (plans : List Plan) where
         part : (m : OpId) → there_at plans costs h x (Some m) ≤ there_at plans costs (a ∷ h) x (Some m)
         part m =
             elim (is_eager plans costs m) as (λ e. (if e then paired_at plans costs h x else since (happened Data m) h + flight plans costs m) ≤ (if e then paired_at plans costs (a ∷ h) x else since (happened Data m) (a ∷ h) + flight plans costs m)) [ true ↦ paired_at_grows a h x | false ↦ omega (arith, since_grows (happened Data m) a h (happened_is_kept Data m)) ]
+
         go : (o : Option OpId) → ((m : OpId) → o ≡ Some m → mate plans costs (a ∷ h) x ≡ Some m) → there_at plans costs h x o ≤ there_at plans costs (a ∷ h) x (mate plans costs (a ∷ h) x)
         go None stays = omega arith
         go (Some m) stays = subst (λ o. there_at plans costs h x (Some m) ≤ there_at plans costs (a ∷ h) x o) (sym (stays m refl)) (part m)
@@ -148,3 +149,15 @@ module _ (plans : List Plan) where
     pub time_grows : (a : Timed) (h : List Timed) (c : Class) (x : OpId) → time plans costs h c x ≤ time plans costs (a ∷ h) c x
     unfolding time
     time_grows a h c x = time_of_grows a h c x (kind_at plans x)
+
+    pub none_falls : (h : List Timed) (a : Timed) → NoneFalls plans costs h a
+    none_falls h a = record {
+      times = λ c x. time_grows a h c x;
+      starts = λ x. start_grows a h x;
+      ends = λ x. end_grows a h x;
+      ready_times = λ x. ready_grows a h x;
+      pair_times = λ x. paired_at_grows a h x;
+      free_cpus = λ x. cpu_grows a h x;
+      free_senders = λ x. tx_grows a h x;
+      free_receivers = λ x. rx_grows a h x;
+    }

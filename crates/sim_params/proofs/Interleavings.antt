@@ -1,18 +1,18 @@
 -- A run without its times is an interleaving, and what is possible stays so.
-use Rattle.std.proofs.Common.{ℕ, ◌≤◌, ◌≡◌, ◌⊎◌, Bool, true, false, List, [], ◌∷◌, inl, inr, refl, sym, ap, ◌∙◌, subst}
-use Rattle.std.proofs.lemmas.Bool.{cases_Bool, both_ways, false_from_ne_true}
+use Rattle.std.proofs.Common.{◌≤◌, ◌≡◌, true, false, List, [], ◌∷◌, refl, sym, subst}
+use Rattle.std.proofs.lemmas.Bool.{both_ways, false_from_ne_true}
 use Rattle.goal_graph.specs.declared.action.OpId.{OpId}
 use Rattle.goal_graph.specs.declared.action.Timed.{Timed}
 use Rattle.goal_graph.specs.declared.action.Class.{Class}
 use Rattle.goal_graph.specs.Schedule.{Plan}
-use Rattle.goal_graph.specs.Action.{Act, is_act, happened, plain, plain_act}
+use Rattle.goal_graph.specs.Action.{is_act, plain, plain_act}
 use Rattle.goal_graph.specs.Allowed.{allowed}
 use Rattle.goal_graph.specs.Interleaving.{IsInterleaving, IsCompleteInterleaving}
 use Rattle.goal_graph.proofs.Actions.{is_act_class, is_act_op}
 use Rattle.goal_graph.proofs.Persist.{allowed_stays}
 use Rattle.sim_params.specs.Costs.{CostModel, is_eager}
 use Rattle.sim_params.specs.Times.{time, Possible}
-use Rattle.sim_params.specs.Run.{IsNext, IsRun, IsFinished, IsCompleteRun}
+use Rattle.sim_params.specs.Run.{IsRun, IsFinished, IsCompleteRun}
 use Rattle.sim_params.specs.Laws.{at_its_time}
 use Rattle.sim_params.proofs.Grow.{time_grows}
 

@@ -1,11 +1,7 @@
 -- The order of keys: total, and a key determines its action.
-use Rattle.std.proofs.Common.{ℕ, ◌+◌, ◌<◌, ◌≤◌, ◌≡◌, ◌⊎◌, ◌==◌, ◌&&◌, ◌||◌, ◌↔◌, Bool, true, false, List, [], ◌∷◌, length, ltb, nat_lt, eqb, inl, inr, ⊎_elim, refl, sym, ap, arith, ltb-true, lt-ltb, eqb-true, eq-eqb}
+use Rattle.std.proofs.Common.{ℕ, ◌<◌, ◌≤◌, ◌≡◌, ◌⊎◌, ◌==◌, ◌&&◌, ◌↔◌, true, false, List, [], ◌∷◌, length, nat_lt, inl, inr, ⊎_elim, refl, sym, arith, ltb-true, lt-ltb, eqb-true, eq-eqb}
 use Rattle.std.proofs.lemmas.Bool.{cases_order, or_cases, and_parts, or_left, or_right, and_from}
-use Rattle.goal_graph.specs.declared.action.OpId.{OpId}
 use Rattle.goal_graph.specs.declared.action.Timed.{Timed}
-use Rattle.goal_graph.specs.declared.action.Class.{Class}
-use Rattle.goal_graph.specs.declared.action.Class.TheVariants.{Arrive, Serve, Data, Post, Begin}
-use Rattle.goal_graph.specs.Action.{place}
 use Rattle.goal_graph.proofs.Actions.{place_same}
 use Rattle.sim_params.specs.Run.{IsBefore, key}
 use Rattle.sim_params.specs.Laws.{before}

@@ -1,7 +1,7 @@
 -- Newest first and oldest first say the same.
-use Rattle.std.proofs.Common.{ℕ, zero, suc, ◌+◌, ◌<◌, ◌≤◌, ◌≡◌, ◌⊎◌, ◌↔◌, List, [], ◌∷◌, ◌++◌, length, take, reverse, slice_get, Option, Some, None, inl, inr, refl, sym, ap, ◌∙◌, subst, arith, length-append}
-use Rattle.std.proofs.lemmas.Bool.{cases_order, cases_lt}
-use Rattle.std.proofs.lemmas.List.{take-append-le, take_all, length-reverse, reverse-reverse}
+use Rattle.std.proofs.Common.{ℕ, zero, suc, ◌<◌, ◌≡◌, List, [], ◌∷◌, ◌++◌, length, take, reverse, slice_get, Some, inl, inr, refl, sym, ap, ◌∙◌, subst, arith, length-append}
+use Rattle.std.proofs.lemmas.Bool.{cases_order}
+use Rattle.std.proofs.lemmas.List.{take-append-le, reverse-reverse}
 use Rattle.std.proofs.lemmas.Option.{slice_get_within, same_Some}
 use Rattle.std.proofs.Math.Seq.{take-append_seam}
 use mathlib.Core.List.{reverse-cons}
@@ -29,11 +29,13 @@ module _ (plans : List Plan) (costs : CostModel) where
       before : k < length t → IsNext plans costs (reverse (take k (t ++ a ∷ []))) b
       before lt =
           subst (λ l. IsNext plans costs (reverse l) b) (sym (take-append-le k t (a ∷ []) (omega arith))) (each k b (sym (slice_get_kept t a k lt) ∙ e))
+
       at_end : k ≡ length t → IsNext plans costs (reverse (take k (t ++ a ∷ []))) b
       at_end s =
           let same : a ≡ b = same_Some a b (sym (slice_get_last t a) ∙ ap (slice_get (t ++ a ∷ [])) (sym s) ∙ e) in
           let front : take k (t ++ a ∷ []) ≡ t = ap (λ n. take n (t ++ a ∷ [])) s ∙ take-append_seam t (a ∷ []) in
           subst (λ l. IsNext plans costs (reverse l) b) (sym front) (subst (λ c. IsNext plans costs (reverse t) c) same next)
+
       past : length t < k → IsNext plans costs (reverse (take k (t ++ a ∷ []))) b
       past gt = absurd (omega (arith, slice_get_within (t ++ a ∷ []) k b e, length-append t (a ∷ [])))
 
@@ -44,6 +46,7 @@ module _ (plans : List Plan) (costs : CostModel) where
       front k b e =
           let lt : k < length t = slice_get_within t k b e in
           subst (λ l. IsNext plans costs (reverse l) b) (take-append-le k t (a ∷ []) (omega arith)) (each k b (slice_get_kept t a k lt ∙ e))
+
       last : IsNext plans costs (reverse t) a
       last =
           subst (λ l. IsNext plans costs (reverse l) a) (take-append_seam t (a ∷ [])) (each (length t) a (slice_get_last t a))

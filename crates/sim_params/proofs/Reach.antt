@@ -1,7 +1,8 @@
 -- No start, end or free time is later than the reach of the history, and a possible action waits no longer than its lag.
-use Rattle.std.proofs.Common.{ℕ, ◌+◌, ◌<◌, ◌≤◌, ◌≡◌, ◌⊎◌, ◌==◌, ◌&&◌, ◌||◌, max, Bool, true, false, not, List, [], ◌∷◌, Option, Some, None, if◌then◌else◌, inl, inr, refl, sym, ap, ◌∙◌, subst, arith, le_refl, zero-le}
+use Rattle.std.proofs.Common.{ℕ, ◌+◌, ◌≤◌, ◌≡◌, ◌⊎◌, ◌&&◌, Bool, true, false, List, [], ◌∷◌, Option, Some, None, if◌then◌else◌, inl, inr, refl, sym, ap, ◌∙◌, subst, arith, le_trans, zero-le, All}
 use Rattle.std.specs.List.{list_all}
-use Rattle.std.proofs.lemmas.Bool.{cases_Bool, both_ways, cond-true, cond-false, and_parts}
+use Rattle.std.proofs.lemmas.Bool.{cases_Bool, both_ways, and_parts}
+use Rattle.std.proofs.lemmas.List.Elements.{All-nil, All-cons, All-weaker}
 use Rattle.goal_graph.specs.declared.action.OpId.{OpId}
 use Rattle.goal_graph.specs.declared.action.Timed.{Timed}
 use Rattle.goal_graph.specs.declared.action.Class.{Class}
@@ -15,14 +16,14 @@ use Rattle.goal_graph.specs.declared.plan.When.TheVariants.{AfterEnd, AfterStart
 use Rattle.goal_graph.specs.Schedule.{Plan, op_at, kind_at, needs, needed}
 use Rattle.goal_graph.specs.Action.{Act, is_act, happened, plain, plain_act}
 use Rattle.goal_graph.specs.Matching.{pairs, partner, is_paired, add_pair, new_pair}
-use Rattle.goal_graph.specs.Allowed.{last_class, has_started, has_ended, is_met, is_ready, is_served, may, allowed}
+use Rattle.goal_graph.specs.Allowed.{last_class, has_started, has_ended, is_met, is_ready, is_served, may}
 use Rattle.goal_graph.proofs.Actions.{happened_none, happened_cases, is_act_class, is_act_op}
 use Rattle.goal_graph.proofs.Ever.{served_message}
 use Rattle.goal_graph.proofs.Rules.{allowed_may}
-use Rattle.sim_params.specs.Costs.{CostModel, over, over_one, gap, gap_one, flight, flight_one, latency, is_eager}
-use Rattle.sim_params.specs.Times.{since, greatest, at_partner, mate, holds_cpu, holds_tx, holds_rx, same_place, cpu_hold, tx_hold, rx_hold, cpu, tx, rx, start, end, met_at, ready, paired_at, there_at, time_of, time, Possible}
-use Rattle.sim_params.specs.Laws.{hold, reach}
-use Rattle.sim_params.proofs.Grow.{since_kept, since_new, since_absent, mate_stays, plain_cons}
+use Rattle.sim_params.specs.Costs.{CostModel, over, flight, flight_one, latency, is_eager}
+use Rattle.sim_params.specs.Times.{since, greatest, at_partner, mate, holds_cpu, holds_tx, holds_rx, same_place, cpu_hold, tx_hold, rx_hold, cpu, tx, rx, end, met_at, ready, paired_at, there_at, time_of, time, Possible}
+use Rattle.sim_params.specs.Laws.{hold, reach, IsWithin}
+use Rattle.sim_params.proofs.Grow.{since_kept, since_new, since_absent, mate_stays}
 use Rattle.sim_params.proofs.Interleavings.{EachPossible, each_interleaving}
 
 -- a number under a test is at most a bound of the number
@@ -114,11 +115,14 @@ module _ (plans : List Plan) (costs : CostModel) where
     where
       last : Class
       last = last_class (is_eager plans costs x) (kind_at plans x)
+
       old : has_ended plans (is_eager plans costs) x (plain h) ≡ true → end plans costs h x ≤ reach plans costs h → end plans costs (a ∷ h) x ≤ reach plans costs (a ∷ h)
       old t before = omega (arith, since_kept (has_ended plans (is_eager plans costs) x) a h t, last_hold_kept a h x (kind_at plans x) each.0 t, reach_grows a h)
+
       holds : last ≡ a.class → x ≡ a.op → a.time + cpu_hold plans costs h last x (kind_at plans x) ≤ reach plans costs (a ∷ h)
       holds p q =
           subst (λ (c : Class). a.time + cpu_hold plans costs h c x (kind_at plans x) ≤ reach plans costs (a ∷ h)) (sym p) (subst (λ (y : OpId). a.time + cpu_hold plans costs h a.class y (kind_at plans y) ≤ reach plans costs (a ∷ h)) (sym q) (omega (arith, reach_time a h)))
+
       new : has_ended plans (is_eager plans costs) x (plain h) ≡ false → (happened last x (plain h) ≡ true) ⊎ (is_act last x (plain_act a) ≡ true) → end plans costs (a ∷ h) x ≤ reach plans costs (a ∷ h)
       new f (inl t) = absurd (both_ways _ f t)
       new f (inr t) =
@@ -163,3 +167,31 @@ module _ (plans : List Plan) (costs : CostModel) where
   unfolding time
   time_reach h a each p =
       subst (λ n. n ≤ reach plans costs h + lag h a.class a.op (kind_at plans a.op)) (sym p.time) (time_of_reach h a.class a.op (kind_at plans a.op) each (allowed_may plans (is_eager plans costs) (plain h) a.class a.op p.allowed))
+
+  times_reach : (h : List Timed) → All (λ (a : Timed). a.time ≤ reach plans costs h) h
+  times_reach [] = All-nil (λ (a : Timed). a.time ≤ reach plans costs [])
+  times_reach (a ∷ h) =
+      All-cons (λ (b : Timed). b.time ≤ reach plans costs (a ∷ h)) a h (omega (arith, reach_time a h)) (All-weaker (λ (b : Timed). b.time ≤ reach plans costs h) (λ (b : Timed). b.time ≤ reach plans costs (a ∷ h)) (λ b le. le_trans le (reach_grows a h)) h (times_reach h))
+
+  pub within_reach : (h : List Timed) → EachPossible plans costs h → IsWithin plans costs h (reach plans costs h)
+  within_reach h each = record {
+    times = times_reach h;
+    starts = λ x. since_reach (has_started plans x) h;
+    ends = λ x e. end_reach h x each e;
+    ready_times = λ x e. ready_reach h x each e;
+    free_cpus = λ x. cpu_reach h x;
+    free_senders = λ x. tx_reach h x;
+    free_receivers = λ x. rx_reach h x;
+  }
+
+  -- a later bound is a bound
+  pub within_later : (h : List Timed) (m n : ℕ) → m ≤ n → IsWithin plans costs h m → IsWithin plans costs h n
+  within_later h m n le w = record {
+    times = All-weaker (λ (a : Timed). a.time ≤ m) (λ (a : Timed). a.time ≤ n) (λ a s. le_trans s le) h w.times;
+    starts = λ x. le_trans (w.starts x) le;
+    ends = λ x e. le_trans (w.ends x e) le;
+    ready_times = λ x e. le_trans (w.ready_times x e) le;
+    free_cpus = λ x. le_trans (w.free_cpus x) le;
+    free_senders = λ x. le_trans (w.free_senders x) le;
+    free_receivers = λ x. le_trans (w.free_receivers x) le;
+  }

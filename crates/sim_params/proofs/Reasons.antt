@@ -1,31 +1,26 @@
 -- What the reason of a stuck operation says: a named operation is stuck itself, and an operation that is alone finds
 -- each one that fits paired with another.
-use Rattle.std.proofs.Common.{ℕ, ◌≡◌, ◌≢◌, ◌⊎◌, ◌&&◌, ◌||◌, Bool, true, false, not, cond, List, [], ◌∷◌, Option, Some, None, All, Contains, find, is_some, inl, inr, ⊎_elim, arith, refl, sym, ap, ◌∙◌, subst}
+use Rattle.std.proofs.Common.{◌≡◌, ◌≢◌, ◌⊎◌, ◌&&◌, Bool, true, false, not, cond, List, [], ◌∷◌, Option, Some, None, All, Contains, find, inl, inr, ⊎_elim, refl, subst}
 use Rattle.std.specs.List.{list_all}
-use Rattle.std.proofs.lemmas.Bool.{cases_Bool, both_ways, and_parts, and_cases, and_from, or_cases, or_left, or_right, not-true, not-false, not_from_false, not_from_true, false_from_ne_true}
-use Rattle.std.proofs.lemmas.List.Elements.{All-nil, All-cons, All-contains, Contains-append_right}
+use Rattle.std.proofs.lemmas.Bool.{both_ways, and_parts, and_cases, and_from, or_cases, not-true, not-false}
+use Rattle.std.proofs.lemmas.List.Elements.{All-nil, All-cons, All-contains}
 use Rattle.std.proofs.lemmas.Option.{same_Some}
 use Rattle.goal_graph.specs.declared.action.OpId.{OpId}
-use Rattle.goal_graph.specs.declared.action.Why.{Why}
 use Rattle.goal_graph.specs.declared.action.Why.TheVariants as why
-use Rattle.goal_graph.specs.declared.action.Class.{Class}
-use Rattle.goal_graph.specs.declared.action.Class.TheVariants.{Arrive, Serve, Data, Post, Begin}
-use Rattle.goal_graph.specs.declared.plan.Kind.{Kind}
-use Rattle.goal_graph.specs.declared.plan.Kind.TheVariants.{Calc, Send, Recv}
+use Rattle.goal_graph.specs.declared.plan.Kind.TheVariants.{Send, Recv}
 use Rattle.goal_graph.specs.declared.plan.Need.{Need}
-use Rattle.goal_graph.specs.declared.plan.When.{When}
-use Rattle.goal_graph.specs.declared.plan.When.TheVariants.{AfterEnd, AfterStart}
-use Rattle.goal_graph.specs.Schedule.{Plan, kind_at, needs, needed, operations}
-use Rattle.goal_graph.specs.Action.{Act, happened}
-use Rattle.goal_graph.specs.Matching.{pairs, partner, is_paired, fits}
-use Rattle.goal_graph.specs.Allowed.{has_started, has_ended, is_met, is_ready, is_served, may, allowed}
+use Rattle.goal_graph.specs.Schedule.{Plan, needs, needed, operations}
+use Rattle.goal_graph.specs.Action.{Act}
+use Rattle.goal_graph.specs.Matching.{fits}
+use Rattle.goal_graph.specs.Allowed.{has_started, is_met, is_ready}
 use Rattle.goal_graph.specs.Interleaving.{IsInterleaving, IsCompleteInterleaving}
-use Rattle.goal_graph.specs.Laws.{IsCalc, IsSend, IsReceive, IsTaken}
+use Rattle.goal_graph.specs.Laws.{IsCalc, IsTaken}
 use Rattle.goal_graph.proofs.Lists.{contains_first, contains_more}
 use Rattle.goal_graph.proofs.Rules.{fits_send, fits_receive}
 use Rattle.goal_graph.proofs.Exists.{kind_listed}
 use Rattle.goal_graph.proofs.Complete.{unstarted_unended, unmet_unended, ready_calc_ended, fitting_taken}
 use Rattle.sim_params.specs.Stuck.{IsStuck, first_unmet, are_fit, first_absent, partner_or_alone, reason_by, reason}
+use Rattle.sim_params.specs.Laws.{IsUnmet, IsAbsent}
 
 found_or_later : {A : Type 0} (b : Bool) (y x : A) (r : Option A) → cond b (Some y) r ≡ Some x → ((b ≡ true) × (y ≡ x)) ⊎ (r ≡ Some x)
 found_or_later true y x r e = inl (refl, same_Some y x e)
@@ -58,20 +53,7 @@ all_from_find p (y ∷ ys) e =
     and_from (p y) (list_all p ys) (not-false (p y) f.0) (all_from_find p ys f.1)
 
 module _ (plans : List Plan) (eager : OpId → Bool) where
-  -- the need that an operation waits for
-  pub record IsUnmet (h : List Act) (x y : OpId) : Type 0 where
-    pub need : Need
-    pub listed : Contains (needs plans x) need
-    pub names : y ≡ needed x need
-    pub unmet : is_met plans eager h need.when y ≡ false
-
-  -- an operation that fits and has not started
-  pub record IsAbsent (h : List Act) (x y : OpId) : Type 0 where
-    pub listed : Contains (operations plans) y
-    pub fit : are_fit plans eager x y ≡ true
-    pub unstarted : has_started plans y h ≡ false
-
-  unmet_is : (h : List Act) (x : OpId) (d : Need) → first_unmet plans eager h x ≡ Some d → IsUnmet h x (needed x d)
+  unmet_is : (h : List Act) (x : OpId) (d : Need) → first_unmet plans eager h x ≡ Some d → IsUnmet plans eager h x (needed x d)
   unfolding first_unmet
   unmet_is h x d e = record {
     need = d;
@@ -80,7 +62,7 @@ module _ (plans : List Plan) (eager : OpId → Bool) where
     unmet = not-true (is_met plans eager h d.when (needed x d)) (find_passes (λ (d : Need). not (is_met plans eager h d.when (needed x d))) (needs plans x) d e);
   }
 
-  absent_is : (h : List Act) (x y : OpId) → first_absent plans eager h x ≡ Some y → IsAbsent h x y
+  absent_is : (h : List Act) (x y : OpId) → first_absent plans eager h x ≡ Some y → IsAbsent plans eager h x y
   unfolding first_absent
   absent_is h x y e =
       let t = and_parts (are_fit plans eager x y) (not (has_started plans y h)) (find_passes (λ (y : OpId). are_fit plans eager x y && not (has_started plans y h)) (operations plans) y e) in
@@ -103,25 +85,27 @@ module _ (plans : List Plan) (eager : OpId → Bool) where
       elim (and_cases (are_fit plans eager x y) (not (has_started plans y h)) none) [ inl f ↦ absurd (both_ways _ f fit) | inr f ↦ not-false (has_started plans y h) f ]
 
   -- what each reason says
-  pub op_is_unmet : (h : List Act) (x y : OpId) → reason plans eager h x ≡ why.Op y → IsUnmet h x y
+  pub op_is_unmet : (h : List Act) (x y : OpId) → reason plans eager h x ≡ why.Op y → IsUnmet plans eager h x y
   unfolding reason
   op_is_unmet h x y e = go (first_unmet plans eager h x) refl e
     where
       no_op : (o : Option OpId) → partner_or_alone plans eager o ≡ why.Op y → ⊥
       no_op None e = cc e
       no_op (Some z) e = cc e
-      go : (o : Option Need) → first_unmet plans eager h x ≡ o → reason_by plans eager h x o ≡ why.Op y → IsUnmet h x y
-      go None p e = absurd (no_op (first_absent plans eager h x) e)
-      go (Some d) p e = let same : needed x d ≡ y = cc e in subst (λ z. IsUnmet h x z) same (unmet_is h x d p)
 
-  pub partner_is_absent : (h : List Act) (x y : OpId) → reason plans eager h x ≡ why.Partner y → IsAbsent h x y
+      go : (o : Option Need) → first_unmet plans eager h x ≡ o → reason_by plans eager h x o ≡ why.Op y → IsUnmet plans eager h x y
+      go None p e = absurd (no_op (first_absent plans eager h x) e)
+      go (Some d) p e = let same : needed x d ≡ y = cc e in subst (λ z. IsUnmet plans eager h x z) same (unmet_is h x d p)
+
+  pub partner_is_absent : (h : List Act) (x y : OpId) → reason plans eager h x ≡ why.Partner y → IsAbsent plans eager h x y
   unfolding reason
   partner_is_absent h x y e = go (first_unmet plans eager h x) e
     where
-      of_partner : (o : Option OpId) → first_absent plans eager h x ≡ o → partner_or_alone plans eager o ≡ why.Partner y → IsAbsent h x y
+      of_partner : (o : Option OpId) → first_absent plans eager h x ≡ o → partner_or_alone plans eager o ≡ why.Partner y → IsAbsent plans eager h x y
       of_partner None p e = absurd (cc e)
-      of_partner (Some z) p e = let same : z ≡ y = cc e in subst (λ z. IsAbsent h x z) same (absent_is h x z p)
-      go : (o : Option Need) → reason_by plans eager h x o ≡ why.Partner y → IsAbsent h x y
+      of_partner (Some z) p e = let same : z ≡ y = cc e in subst (λ z. IsAbsent plans eager h x z) same (absent_is h x z p)
+
+      go : (o : Option Need) → reason_by plans eager h x o ≡ why.Partner y → IsAbsent plans eager h x y
       go None e = of_partner (first_absent plans eager h x) refl e
       go (Some d) e = absurd (cc e)
 
@@ -132,6 +116,7 @@ module _ (plans : List Plan) (eager : OpId → Bool) where
       of_partner : (o : Option OpId) → partner_or_alone plans eager o ≡ why.Alone → o ≡ None
       of_partner None e = refl
       of_partner (Some z) e = absurd (cc e)
+
       go : (o : Option Need) → first_unmet plans eager h x ≡ o → reason_by plans eager h x o ≡ why.Alone → (first_unmet plans eager h x ≡ None) × (first_absent plans eager h x ≡ None)
       go None p e = (p, of_partner (first_absent plans eager h x) e)
       go (Some d) p e = absurd (cc e)
@@ -155,10 +140,13 @@ module _ (plans : List Plan) (eager : OpId → Bool) where
       where
         facts : (first_unmet plans eager h x ≡ None) × (first_absent plans eager h x ≡ None)
         facts = alone_is h x e
+
         fits_one : (fits plans x y ≡ true) ⊎ (fits plans y x ≡ true)
         fits_one = or_cases (fits plans x y) (fits plans y x) fit
+
         started : has_started plans y h ≡ true
         started = started_is h x y facts.1 (fit_listed x y fits_one) fit
+
         go : (has_started plans y h ≡ false) ⊎ IsTaken plans h y x → IsTaken plans h y x
         go (inl f) = absurd (both_ways _ f started)
         go (inr t) = t

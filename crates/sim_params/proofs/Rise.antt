@@ -1,8 +1,8 @@
 -- Along a run times rise: what an action makes possible does not happen before it.
-use Rattle.std.proofs.Common.{ℕ, ◌+◌, ◌<◌, ◌≤◌, ◌≡◌, ◌⊎◌, ◌||◌, max, Bool, true, false, not, List, [], ◌∷◌, Option, Some, None, if◌then◌else◌, is_some, All, inl, inr, refl, sym, ap, ◌∙◌, subst, arith, le_refl, zero-le, le_trans}
+use Rattle.std.proofs.Common.{ℕ, ◌+◌, ◌≤◌, ◌≡◌, ◌⊎◌, ◌||◌, Bool, true, false, not, List, [], ◌∷◌, Option, Some, None, if◌then◌else◌, All, inl, inr, refl, sym, ◌∙◌, subst, arith, le_trans}
 use Rattle.std.proofs.Math.Nat.{le-max_left, le-max_right}
 use Rattle.std.specs.List.{list_all}
-use Rattle.std.proofs.lemmas.Bool.{cases_Bool, cases_lt, both_ways, and_parts, and_cases, or_cases, or_left, or_right, or_parts, false_from_ne_true, not-true}
+use Rattle.std.proofs.lemmas.Bool.{cases_Bool, cases_lt, both_ways, and_parts, and_cases, or_left, or_right, false_from_ne_true}
 use Rattle.std.proofs.lemmas.List.Elements.{All-nil, All-cons, All-weaker}
 use Rattle.goal_graph.specs.declared.action.OpId.{OpId}
 use Rattle.goal_graph.specs.declared.action.Timed.{Timed}
@@ -15,22 +15,21 @@ use Rattle.goal_graph.specs.declared.plan.When.{When}
 use Rattle.goal_graph.specs.declared.plan.When.TheVariants.{AfterEnd, AfterStart}
 use Rattle.goal_graph.specs.Schedule.{Plan, kind_at, needs, needed}
 use Rattle.goal_graph.specs.Action.{Act, happened, plain, plain_act}
-use Rattle.goal_graph.specs.Matching.{pairs, partner, is_paired}
+use Rattle.goal_graph.specs.Matching.{pairs, is_paired}
 use Rattle.goal_graph.specs.Allowed.{has_started, has_ended, is_met, is_ready, is_served, may, allowed}
 use Rattle.goal_graph.specs.Interleaving.{IsInterleaving}
 use Rattle.goal_graph.specs.Laws.{IsSend}
 use Rattle.goal_graph.proofs.Stages.{started_send}
 use Rattle.goal_graph.proofs.Actions.{happened_before}
-use Rattle.goal_graph.proofs.Persist.{is_some_from, cases_some, partner_stays}
+use Rattle.goal_graph.proofs.Persist.{is_some_from, cases_some}
 use Rattle.goal_graph.proofs.Rules.{allowed_may, allowed_fresh, allowed_from}
 use Rattle.goal_graph.proofs.Ever.{data_paired}
 use Rattle.goal_graph.proofs.Partners.{partners_mutual}
-use Rattle.sim_params.specs.Costs.{CostModel, over, over_one, gap, gap_one, flight, flight_one, latency, is_eager}
-use Rattle.sim_params.specs.Times.{since, greatest, mate, cpu, tx, rx, start, end, met_at, ready, paired_at, there_at, time_of, time, Possible}
-use Rattle.sim_params.specs.Run.{IsNext, IsRun, key}
+use Rattle.sim_params.specs.Costs.{CostModel, flight, is_eager}
+use Rattle.sim_params.specs.Times.{since, greatest, mate, met_at, ready, paired_at, there_at, time_of, time, Possible}
+use Rattle.sim_params.specs.Run.{IsRun}
 use Rattle.sim_params.specs.Laws.{at_its_time}
 use Rattle.sim_params.proofs.Grow.{since_new, mate_stays, time_grows}
-use Rattle.sim_params.proofs.Order.{before_le}
 use Rattle.sim_params.proofs.Interleavings.{possible_at, run_interleaving}
 
 -- where not all passed before, and all pass now, one passes newly
@@ -61,26 +60,31 @@ module _ (plans : List Plan) (costs : CostModel) where
     where
       eager : OpId → Bool
       eager = is_eager plans costs
+
       -- x was not paired with m before
       apart : (m : OpId) → (eager m ≡ true) ⊎ (happened Data m (plain h) ≡ true) → mate plans costs h x ≡ Some m → ⊥
       apart m s e =
           let t : is_served plans eager (plain h) (Some m) ≡ true = elim s [ inl u ↦ or_left (eager m) _ u | inr u ↦ or_right (eager m) _ u ] in
           both_ways _ p (subst (λ o. is_served plans eager (plain h) o ≡ true) (sym e) t)
+
       newly : (m : OpId) → mate plans costs (a ∷ h) x ≡ Some m → eager m ≡ true → is_paired (pairs plans (plain h)) x ≡ false
       newly m e s =
           false_from_ne_true _ (λ t. let o = cases_some (mate plans costs h x) t in let same : Some m ≡ Some o.0 = sym e ∙ mate_stays plans costs a h x o.0 o.1 in apart m (inl s) (o.1 ∙ sym same))
+
       -- a partner whose bytes were there was the partner before
       partner_before : (m : OpId) → mate plans costs (a ∷ h) x ≡ Some m → happened Data m (plain h) ≡ true → ⊥
       partner_before m e t =
           let o = cases_some (mate plans costs h m) (data_paired plans eager (plain h) m i.0 t) in
           let same : Some o.0 ≡ Some x = sym (mate_stays plans costs a h m o.0 o.1) ∙ partners_mutual plans eager (plain (a ∷ h)) x m i e in
           apart m (inr t) (partners_mutual plans eager (plain h) m x i.0 (o.1 ∙ same))
+
       part : (m : OpId) → mate plans costs (a ∷ h) x ≡ Some m → (b : Bool) → eager m ≡ b → (b || happened Data m (plain (a ∷ h))) ≡ true → a.time ≤ (if b then paired_at plans costs (a ∷ h) x else since (happened Data m) (a ∷ h) + flight plans costs m)
       part m e true s t =
           since_rises (λ l. is_paired (pairs plans l) x) a h (newly m e s) (is_some_from (mate plans costs (a ∷ h) x) m e)
       part m e false s t =
           let r : a.time ≤ since (happened Data m) (a ∷ h) = since_rises (happened Data m) a h (false_from_ne_true _ (partner_before m e)) t in
           omega arith
+
       go : (o : Option OpId) → mate plans costs (a ∷ h) x ≡ o → is_served plans eager (plain (a ∷ h)) o ≡ true → a.time ≤ there_at plans costs (a ∷ h) x o
       go None e t = absurd (both_ways false refl t)
       go (Some m) e t = part m e (eager m) refl t

@@ -1,11 +1,11 @@
 -- There is one run of each length, and one complete run.
-use Rattle.std.proofs.Common.{ℕ, suc, ◌+◌, ◌<◌, ◌≤◌, ◌≡◌, ◌⊎◌, List, [], ◌∷◌, ◌++◌, length, inl, inr, refl, sym, ap, ◌∙◌, subst, arith}
+use Rattle.std.proofs.Common.{◌≤◌, ◌≡◌, ◌⊎◌, List, [], ◌∷◌, ◌++◌, length, inl, inr, refl, sym, ap, subst, arith}
 use Rattle.std.proofs.lemmas.Bool.{cases_eq, cases_lt}
 use Rattle.goal_graph.specs.declared.action.Timed.{Timed}
 use Rattle.goal_graph.specs.Schedule.{Plan}
 use Rattle.sim_params.specs.Costs.{CostModel}
 use Rattle.sim_params.specs.Times.{Possible}
-use Rattle.sim_params.specs.Run.{IsNext, IsRun, IsFinished, IsCompleteRun}
+use Rattle.sim_params.specs.Run.{IsNext, IsRun, IsCompleteRun}
 use Rattle.sim_params.proofs.Order.{one_least}
 
 module _ (plans : List Plan) (costs : CostModel) where
