@@ -41,7 +41,7 @@ module _ (plans : List Plan) (apart : IsApart plans) where
   met_partners eager h m x i met =
       ⊎_elim (λ e. (e, partners_mutual plans eager h m x i e)) (λ e. (partners_mutual plans eager h x m i e, e)) (one_has h m x met)
 
-  pub partners_iff_met : (eager : OpId → Bool) (h : List Act) (m x : OpId) → IsInterleaving plans eager h → (partner (pairs plans h) m ≡ Some x) × IsSend plans m ↔ HaveMet plans h m x
+  pub partners_iff_met : (eager : OpId → Bool) (h : List Act) (m x : OpId) → IsInterleaving plans eager h → ((partner (pairs plans h) m ≡ Some x) × IsSend plans m) ↔ HaveMet plans h m x
   partners_iff_met eager h m x i =
       (λ p. partner_of_send plans h m x p.1 p.0, λ met. ((met_partners eager h m x i met).0, fits_send plans x m met.fit))
 

@@ -83,7 +83,7 @@ pub record IsTaken (plans : List Plan) (h : List Act) (y x : OpId) : Type 0 wher
 abbrev pub IsEarlier : OpId → OpId → Type 0
 IsEarlier x y = (x.rank < y.rank) ⊎ ((x.rank ≡ y.rank) × (x.op < y.op))
 
--- The laws, for all schedules and whatever is eager: `laws_of_interleavings` ensures each.
+-- The laws, for all schedules and whatever is eager. The functions `laws_of_..` ensure each.
 
 -- an action has happened exactly where the list has it
 abbrev pub HappenedIsListed : Type 0
@@ -217,7 +217,7 @@ pub record IsApart (plans : List Plan) : Type 0 where
 
 -- there a send and a receive are partners once the one has arrived, the other is posted, and they fit
 abbrev pub ApartArePartners : Type 0
-ApartArePartners = (plans : List Plan) (eager : OpId → Bool) (h : List Act) (m x : OpId) → IsApart plans → IsInterleaving plans eager h → (partner (pairs plans h) m ≡ Some x) × IsSend plans m ↔ HaveMet plans h m x
+ApartArePartners = (plans : List Plan) (eager : OpId → Bool) (h : List Act) (m x : OpId) → IsApart plans → IsInterleaving plans eager h → ((partner (pairs plans h) m ≡ Some x) × IsSend plans m) ↔ HaveMet plans h m x
 
 -- there what starts and ends in one interleaving does so in each complete one in which no fewer sends are eager
 abbrev pub ApartCompletesAlike : Type 0
