@@ -1,13 +1,15 @@
 -- A run without its times is an interleaving, and what is possible stays so.
-use Rattle.std.proofs.Common.{◌≤◌, ◌≡◌, true, false, List, [], ◌∷◌, refl, sym, subst}
+use Rattle.std.proofs.Common.{suc, ◌+◌, ◌*◌, ◌<◌, length, ap, arith, ◌≤◌, ◌≡◌, true, false, List, [], ◌∷◌, refl, sym, subst}
 use Rattle.std.proofs.lemmas.Bool.{both_ways, false_from_ne_true}
 use Rattle.goal_graph.specs.declared.action.OpId.{OpId}
 use Rattle.goal_graph.specs.declared.action.Timed.{Timed}
 use Rattle.goal_graph.specs.declared.action.Class.{Class}
-use Rattle.goal_graph.specs.Schedule.{Plan}
+use Rattle.goal_graph.specs.Schedule.{Plan, operations}
 use Rattle.goal_graph.specs.Action.{is_act, plain, plain_act}
 use Rattle.goal_graph.specs.Allowed.{allowed}
 use Rattle.goal_graph.specs.Interleaving.{IsInterleaving, IsCompleteInterleaving}
+use Rattle.goal_graph.specs.Laws.{left}
+use Rattle.goal_graph.proofs.Once.{happened_and_left, left_falls}
 use Rattle.goal_graph.proofs.Actions.{is_act_class, is_act_op}
 use Rattle.goal_graph.proofs.Persist.{allowed_stays}
 use Rattle.sim_params.specs.Costs.{CostModel, is_eager}
@@ -54,3 +56,18 @@ module _ (plans : List Plan) (costs : CostModel) where
   -- the other way: nothing is possible where nothing is allowed
   pub finished_from : (h : List Timed) → IsCompleteInterleaving plans (is_eager plans costs) (plain h) → IsFinished plans costs h
   finished_from h c a p = both_ways _ (c.none_left (record { class = a.class; op = a.op })) p.allowed
+
+  pub length-plain : (h : List Timed) → length (plain h) ≡ length h
+  unfolding plain
+  length-plain [] = refl
+  length-plain (a ∷ h) = ap suc (length-plain h)
+
+  -- what has happened and what is left are at most three actions an operation
+  pub run_length : (h : List Timed) → IsRun plans costs h → length h + left plans (plain h) ≤ 3 * length (operations plans)
+  run_length h r =
+      omega (arith, length-plain h, happened_and_left plans (is_eager plans costs) (plain h) (run_interleaving h r))
+
+  -- so there is room for one more that is possible
+  pub possible_room : (h : List Timed) (a : Timed) → IsRun plans costs h → Possible plans costs h a → length h < 3 * length (operations plans)
+  possible_room h a r p =
+      omega (arith, run_length h r, left_falls plans (is_eager plans costs) (plain_act a) (plain h) p.allowed)

@@ -2,6 +2,7 @@ pub mod Examples
 pub mod Order
 pub mod Grow
 pub mod Interleavings
+pub mod Fixed
 pub mod Reach
 pub mod Budget
 pub mod Rise

@@ -1,5 +1,5 @@
 -- No start, end or free time is later than the reach of the history, and a possible action waits no longer than its lag.
-use Rattle.std.proofs.Common.{ℕ, ◌+◌, ◌≤◌, ◌≡◌, ◌⊎◌, ◌&&◌, Bool, true, false, List, [], ◌∷◌, Option, Some, None, if◌then◌else◌, inl, inr, refl, sym, ap, ◌∙◌, subst, arith, le_trans, zero-le, All}
+use Rattle.std.proofs.Common.{ℕ, ◌+◌, ◌≤◌, ◌≡◌, ◌⊎◌, ◌&&◌, Bool, true, false, List, [], ◌∷◌, Option, Some, None, if◌then◌else◌, inl, inr, sym, subst, arith, le_trans, zero-le, All}
 use Rattle.std.specs.List.{list_all}
 use Rattle.std.proofs.lemmas.Bool.{cases_Bool, both_ways, and_parts}
 use Rattle.std.proofs.lemmas.List.Elements.{All-nil, All-cons, All-weaker}
@@ -15,16 +15,16 @@ use Rattle.goal_graph.specs.declared.plan.When.{When}
 use Rattle.goal_graph.specs.declared.plan.When.TheVariants.{AfterEnd, AfterStart}
 use Rattle.goal_graph.specs.Schedule.{Plan, op_at, kind_at, needs, needed}
 use Rattle.goal_graph.specs.Action.{Act, is_act, happened, plain, plain_act}
-use Rattle.goal_graph.specs.Matching.{pairs, partner, is_paired, add_pair, new_pair}
-use Rattle.goal_graph.specs.Allowed.{last_class, has_started, has_ended, is_met, is_ready, is_served, may}
+use Rattle.goal_graph.specs.Matching.{pairs, is_paired}
+use Rattle.goal_graph.specs.Allowed.{last_class, has_started, has_ended, is_met, is_ready, may}
 use Rattle.goal_graph.proofs.Actions.{happened_none, happened_cases, is_act_class, is_act_op}
-use Rattle.goal_graph.proofs.Ever.{served_message}
 use Rattle.goal_graph.proofs.Rules.{allowed_may}
-use Rattle.sim_params.specs.Costs.{CostModel, over, flight, flight_one, latency, is_eager}
+use Rattle.sim_params.specs.Costs.{CostModel, flight, flight_one, latency, is_eager}
 use Rattle.sim_params.specs.Times.{since, greatest, at_partner, mate, holds_cpu, holds_tx, holds_rx, same_place, cpu_hold, tx_hold, rx_hold, cpu, tx, rx, end, met_at, ready, paired_at, there_at, time_of, time, Possible}
 use Rattle.sim_params.specs.Laws.{hold, reach, IsWithin}
-use Rattle.sim_params.proofs.Grow.{since_kept, since_new, since_absent, mate_stays}
-use Rattle.sim_params.proofs.Interleavings.{EachPossible, each_interleaving}
+use Rattle.sim_params.proofs.Grow.{since_kept, since_new, since_absent}
+use Rattle.sim_params.proofs.Fixed.{end_kept, end_now}
+use Rattle.sim_params.proofs.Interleavings.{EachPossible}
 
 -- a number under a test is at most a bound of the number
 if_le : (b : Bool) (n m : ℕ) → n ≤ m → (if b then n else 0) ≤ m
@@ -75,60 +75,19 @@ module _ (plans : List Plan) (costs : CostModel) where
   since_reach test (a ∷ h) =
       elim (cases_Bool (test (plain h))) [ inl t ↦ omega (arith, since_kept test a h t, since_reach test h, reach_grows a h) | inr f ↦ elim (cases_Bool (test (plain (a ∷ h)))) [ inl t ↦ omega (arith, since_new test a h f t, reach_time a h) | inr g ↦ omega (arith, since_absent test a h f g) ] ]
 
-  -- a receive that has its message has a partner
-  pub served_mate : (h : List Timed) (x : OpId) → EachPossible plans costs h → happened Serve x (plain h) ≡ true → (m : OpId) × (mate plans costs h x ≡ Some m)
-  served_mate h x each e = go (mate plans costs h x) refl (served_message plans (is_eager plans costs) (plain h) x (each_interleaving plans costs h each) e)
-    where
-      go : (o : Option OpId) → mate plans costs h x ≡ o → is_served plans (is_eager plans costs) (plain h) o ≡ true → (m : OpId) × (mate plans costs h x ≡ Some m)
-      go None p q = absurd (both_ways false refl q)
-      go (Some m) p q = (m, p)
-
-  -- what an action that happened before holds is not told anew
-  last_hold_kept : (a : Timed) (h : List Timed) (x : OpId) (k : Option Kind) → EachPossible plans costs h → happened (last_class (is_eager plans costs x) k) x (plain h) ≡ true → cpu_hold plans costs (a ∷ h) (last_class (is_eager plans costs x) k) x k ≡ cpu_hold plans costs h (last_class (is_eager plans costs x) k) x k
-  last_hold_kept a h x (Some (Calc nanos)) each e = refl
-  last_hold_kept a h x (Some (Send bytes to tag)) each e =
-      elim (is_eager plans costs x) as (λ b. cpu_hold plans costs (a ∷ h) (if b then Begin else Data) x (Some (Send bytes to tag)) ≡ cpu_hold plans costs h (if b then Begin else Data) x (Some (Send bytes to tag))) [ true ↦ refl | false ↦ refl ]
-  last_hold_kept a h x (Some (Recv room from tag)) each e =
-      let m = served_mate h x each e in
-      ap (at_partner (over plans costs)) (mate_stays plans costs a h x m.0 m.1 ∙ sym m.1)
-  last_hold_kept a h x None each e = refl
-
-  -- a Serve pairs nothing
-  mate_served : (a : Timed) (h : List Timed) (x : OpId) → a.class ≡ Serve → mate plans costs (a ∷ h) x ≡ mate plans costs h x
-  unfolding plain pairs
-  mate_served a h x e =
-      ap (λ (c : Class). partner (add_pair (pairs plans (plain h)) (new_pair plans (pairs plans (plain h)) (plain h) c a.op)) x) e
-
-  -- the newest action itself does not change what it holds
-  hold_now : (a : Timed) (h : List Timed) (c : Class) (x : OpId) (k : Option Kind) → a.class ≡ c → cpu_hold plans costs (a ∷ h) c x k ≡ cpu_hold plans costs h c x k
-  hold_now a h Serve x (Some (Recv room from tag)) e = ap (at_partner (over plans costs)) (mate_served a h x e)
-  hold_now a h Begin x (Some (Calc nanos)) e = refl
-  hold_now a h Begin x (Some (Send bytes to tag)) e = refl
-  hold_now a h Data x (Some (Send bytes to tag)) e = refl
-  hold_now a h _ x _ e = refl
-
   pub end_reach : (h : List Timed) (x : OpId) → EachPossible plans costs h → has_ended plans (is_eager plans costs) x (plain h) ≡ true → end plans costs h x ≤ reach plans costs h
   unfolding plain
   end_reach [] x each e = absurd (both_ways _ (happened_none (last_class (is_eager plans costs x) (kind_at plans x)) x) e)
   end_reach (a ∷ h) x each e =
-      elim (cases_Bool (has_ended plans (is_eager plans costs) x (plain h))) [ inl t ↦ old t (end_reach h x each.0 t) | inr f ↦ new f (happened_cases last x (plain_act a) (plain h) e) ]
+      elim (cases_Bool (has_ended plans (is_eager plans costs) x (plain h))) [ inl t ↦ omega (arith, end_kept plans costs a h x each.0 t, end_reach h x each.0 t, reach_grows a h) | inr f ↦ new f (happened_cases last x (plain_act a) (plain h) e) ]
     where
       last : Class
       last = last_class (is_eager plans costs x) (kind_at plans x)
 
-      old : has_ended plans (is_eager plans costs) x (plain h) ≡ true → end plans costs h x ≤ reach plans costs h → end plans costs (a ∷ h) x ≤ reach plans costs (a ∷ h)
-      old t before = omega (arith, since_kept (has_ended plans (is_eager plans costs) x) a h t, last_hold_kept a h x (kind_at plans x) each.0 t, reach_grows a h)
-
-      holds : last ≡ a.class → x ≡ a.op → a.time + cpu_hold plans costs h last x (kind_at plans x) ≤ reach plans costs (a ∷ h)
-      holds p q =
-          subst (λ (c : Class). a.time + cpu_hold plans costs h c x (kind_at plans x) ≤ reach plans costs (a ∷ h)) (sym p) (subst (λ (y : OpId). a.time + cpu_hold plans costs h a.class y (kind_at plans y) ≤ reach plans costs (a ∷ h)) (sym q) (omega (arith, reach_time a h)))
-
       new : has_ended plans (is_eager plans costs) x (plain h) ≡ false → (happened last x (plain h) ≡ true) ⊎ (is_act last x (plain_act a) ≡ true) → end plans costs (a ∷ h) x ≤ reach plans costs (a ∷ h)
       new f (inl t) = absurd (both_ways _ f t)
       new f (inr t) =
-          let p = is_act_class last x (plain_act a) t in
-          let q = is_act_op last x (plain_act a) t in
-          omega (arith, since_new (has_ended plans (is_eager plans costs) x) a h f e, hold_now a h last x (kind_at plans x) p, holds (sym p) (sym q))
+          omega (arith, end_now plans costs a h x f (is_act_class last x (plain_act a) t) (is_act_op last x (plain_act a) t), reach_time a h)
 
   met_reach : (h : List Timed) (w : When) (y : OpId) → EachPossible plans costs h → is_met plans (is_eager plans costs) (plain h) w y ≡ true → met_at plans costs h w y ≤ reach plans costs h
   met_reach h AfterEnd y each e = end_reach h y each e

@@ -1,5 +1,5 @@
 -- The laws of the timed run, as one reads them, and the words that they use.
-use Rattle.std.specs.Prelude.{ℕ, ◌+◌, ◌≤◌, ◌≡◌, ◌≢◌, ◌⊎◌, ◌↔◌, ◌==◌, ◌&&◌, ◌||◌, max, Bool, true, false, nat_lt, List, [], ◌∷◌, ◌++◌, length, reverse, take, slice_get, All, Contains, Option, Some, if◌then◌else◌}
+use Rattle.std.specs.Prelude.{ℕ, ◌+◌, ◌*◌, ◌<◌, ◌≤◌, ◌≡◌, ◌≢◌, ◌⊎◌, ◌↔◌, ◌==◌, ◌&&◌, ◌||◌, max, Bool, true, false, nat_lt, List, [], ◌∷◌, ◌++◌, length, reverse, take, slice_get, All, Contains, Option, Some, if◌then◌else◌}
 use Rattle.goal_graph.specs.declared.action.OpId.{OpId}
 use Rattle.goal_graph.specs.declared.action.Timed.{Timed}
 use Rattle.goal_graph.specs.declared.action.Why.TheVariants as why
@@ -10,9 +10,10 @@ use Rattle.goal_graph.specs.declared.plan.Kind.TheVariants.{Calc, Send}
 use Rattle.goal_graph.specs.declared.plan.Need.{Need}
 use Rattle.goal_graph.specs.Schedule.{Plan, kind_at, needs, needed, operations}
 use Rattle.goal_graph.specs.Action.{Act, plain}
-use Rattle.goal_graph.specs.Allowed.{has_started, has_ended, is_met, is_ready}
+use Rattle.goal_graph.specs.Matching.{pairs, is_paired}
+use Rattle.goal_graph.specs.Allowed.{first_class, last_class, has_started, has_ended, is_met, is_ready}
 use Rattle.goal_graph.specs.Interleaving.{IsInterleaving, IsCompleteInterleaving}
-use Rattle.goal_graph.specs.Laws.{IsCalc, IsTaken}
+use Rattle.goal_graph.specs.Laws.{IsCalc, IsTaken, left}
 use Rattle.sim_params.specs.Costs.{CostModel, over, over_one, gap, gap_one, flight, flight_one, latency, is_eager}
 use Rattle.sim_params.specs.Times.{at_partner, mate, cpu_hold, tx_hold, rx_hold, cpu, tx, rx, start, end, ready, paired_at, time, Possible}
 use Rattle.sim_params.specs.Run.{IsBefore, key, IsNext, IsRun, IsFinished, IsCompleteRun}
@@ -150,6 +151,22 @@ TimesNeverFall = (plans : List Plan) (costs : CostModel) (h : List Timed) (a : T
 abbrev pub PossibleStays : Type 0
 PossibleStays = (plans : List Plan) (costs : CostModel) (h : List Timed) (a b : Timed) → Possible plans costs h b → ¬ ((a.class ≡ b.class) × (a.op ≡ b.op)) → Possible plans costs (a ∷ h) (at_its_time plans costs (a ∷ h) b.class b.op) × (b.time ≤ time plans costs (a ∷ h) b.class b.op)
 
+-- the start of an operation stays once it is there
+abbrev pub StartStays : Type 0
+StartStays = (plans : List Plan) (costs : CostModel) (h : List Timed) (a : Timed) (x : OpId) → has_started plans x (plain h) ≡ true → start plans costs (a ∷ h) x ≡ start plans costs h x
+
+-- and so does the time at which it was paired
+abbrev pub PairTimeStays : Type 0
+PairTimeStays = (plans : List Plan) (costs : CostModel) (h : List Timed) (a : Timed) (x : OpId) → is_paired (pairs plans (plain h)) x ≡ true → paired_at plans costs (a ∷ h) x ≡ paired_at plans costs h x
+
+-- an operation starts with its first action
+abbrev pub StartsWithFirst : Type 0
+StartsWithFirst = (plans : List Plan) (costs : CostModel) (h : List Timed) (a : Timed) → Possible plans costs h a → a.class ≡ first_class (kind_at plans a.op) → start plans costs (a ∷ h) a.op ≡ a.time
+
+-- and ends when its last action lets go of the cpu
+abbrev pub EndsWithLast : Type 0
+EndsWithLast = (plans : List Plan) (costs : CostModel) (h : List Timed) (a : Timed) → Possible plans costs h a → a.class ≡ last_class (is_eager plans costs a.op) (kind_at plans a.op) → end plans costs (a ∷ h) a.op ≡ a.time + cpu_hold plans costs h a.class a.op (kind_at plans a.op)
+
 -- The laws of runs, for every schedule and all costs: `laws_of_runs` ensures each.
 
 -- a run without its times is an interleaving
@@ -159,6 +176,18 @@ IsAnInterleaving = (plans : List Plan) (costs : CostModel) (h : List Timed) → 
 -- and a complete one, if the run is complete
 abbrev pub IsACompleteInterleaving : Type 0
 IsACompleteInterleaving = (plans : List Plan) (costs : CostModel) (h : List Timed) → IsCompleteRun plans costs h → IsCompleteInterleaving plans (is_eager plans costs) (plain h)
+
+-- what has happened in a run and what is left are at most three actions an operation
+abbrev pub AtMostThreeEach : Type 0
+AtMostThreeEach = (plans : List Plan) (costs : CostModel) (h : List Timed) → IsRun plans costs h → length h + left plans (plain h) ≤ 3 * length (operations plans)
+
+-- where an action is possible, a run has not as many yet
+abbrev pub RoomForPossible : Type 0
+RoomForPossible = (plans : List Plan) (costs : CostModel) (h : List Timed) (a : Timed) → IsRun plans costs h → Possible plans costs h a → length h < 3 * length (operations plans)
+
+-- an end stays once it is there
+abbrev pub EndStays : Type 0
+EndStays = (plans : List Plan) (costs : CostModel) (h : List Timed) (a : Timed) (x : OpId) → IsRun plans costs h → has_ended plans (is_eager plans costs) x (plain h) ≡ true → end plans costs (a ∷ h) x ≡ end plans costs h x
 
 -- an action is not before the one that it follows
 abbrev pub TimesRise : Type 0

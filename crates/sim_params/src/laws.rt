@@ -1,5 +1,5 @@
 // The laws of the timed run. Their functions do nothing: a proof cites a law by a call.
-ghost use Rattle.sim_params.specs.Laws.{NotBeforeItself, BeforeIsTransitive, OneIsBefore, KeyTellsAction, BeforeIsTested, TimesNeverFall, PossibleStays, IsAnInterleaving, IsACompleteInterleaving, TimesRise, NewestIsLast, PossibleIsNotPast, OneIsNext, NextOrFinished, OneRunOfEachLength, OneBeginsAsTheOther, CompleteRunBeginsAsEach, OneCompleteRun, SomeCompleteRun, ReadOldestFirst, LeastEntryIsNext, WithinReach, WithinBudget, PossibleWithinBudget, ReachRisesByPart, PartsAreTheShare, ReasonsAreStuck, OpIsNeeded, PartnerIsAbsent, AloneIsAlone, CalcIsNotAlone};
+ghost use Rattle.sim_params.specs.Laws.{NotBeforeItself, BeforeIsTransitive, OneIsBefore, KeyTellsAction, BeforeIsTested, TimesNeverFall, PossibleStays, StartStays, PairTimeStays, StartsWithFirst, EndsWithLast, IsAnInterleaving, IsACompleteInterleaving, AtMostThreeEach, RoomForPossible, EndStays, TimesRise, NewestIsLast, PossibleIsNotPast, OneIsNext, NextOrFinished, OneRunOfEachLength, OneBeginsAsTheOther, CompleteRunBeginsAsEach, OneCompleteRun, SomeCompleteRun, ReadOldestFirst, LeastEntryIsNext, WithinReach, WithinBudget, PossibleWithinBudget, ReachRisesByPart, PartsAreTheShare, ReasonsAreStuck, OpIsNeeded, PartnerIsAbsent, AloneIsAlone, CalcIsNotAlone};
 
 /// The laws of the keys by which actions are ordered:
 ///
@@ -20,15 +20,25 @@ pub fn laws_of_keys()
 ///
 /// - `times_never_fall`: one more action makes no time of an action, no start, end or ready time and no free time less.
 /// - `possible_stays`: a possible action stays possible until it happens, at a time that is not less.
+/// - `start_stays`, `pair_time_stays`: the start of an operation, and the time at which it was paired, stay once there.
+/// - `starts_with_first`: an operation starts with its first action.
+/// - `ends_with_last`: it ends when its last action lets go of the cpu.
 pub fn laws_of_times()
     ensures times_never_fall { TimesNeverFall }
     ensures possible_stays { PossibleStays }
+    ensures start_stays { StartStays }
+    ensures pair_time_stays { PairTimeStays }
+    ensures starts_with_first { StartsWithFirst }
+    ensures ends_with_last { EndsWithLast }
 {}
 
 /// The laws of runs, for every schedule and all costs:
 ///
 /// - `is_an_interleaving`: a run without its times is an interleaving.
 /// - `is_a_complete_interleaving`: and a complete one, if the run is complete.
+/// - `at_most_three_each`: what has happened and what is left are at most three actions an operation.
+/// - `room_for_possible`: where an action is possible, a run has not as many yet.
+/// - `end_stays`: the end of an operation stays once it is there.
 /// - `times_rise`: an action is not before the one that it follows.
 /// - `newest_is_last`: nor before any of those before it.
 /// - `possible_is_not_past`: what is possible after a run is not before any of its actions.
@@ -45,6 +55,9 @@ pub fn laws_of_times()
 pub fn laws_of_runs()
     ensures is_an_interleaving { IsAnInterleaving }
     ensures is_a_complete_interleaving { IsACompleteInterleaving }
+    ensures at_most_three_each { AtMostThreeEach }
+    ensures room_for_possible { RoomForPossible }
+    ensures end_stays { EndStays }
     ensures times_rise { TimesRise }
     ensures newest_is_last { NewestIsLast }
     ensures possible_is_not_past { PossibleIsNotPast }

@@ -1,6 +1,7 @@
 -- Each law is a lemma.
 use Rattle.std.proofs.Common.{Contains}
-use Rattle.sim_params.proofs.Interleavings.{run_interleaving, complete_interleaving}
+use Rattle.sim_params.proofs.Interleavings.{run_each, run_interleaving, complete_interleaving, run_length, possible_room}
+use Rattle.sim_params.proofs.Fixed.{end_kept}
 use Rattle.sim_params.proofs.Rise.{times_rise, newest_last, possible_last}
 use Rattle.sim_params.proofs.Unique.{one_next, one_of_length, one_starts_other, starts_complete, one_complete}
 use Rattle.sim_params.proofs.Exists.{next_or_finished, some_complete}
@@ -13,6 +14,15 @@ returns-clause-is_an_interleaving c = run_interleaving
 
 pub returns-clause-is_a_complete_interleaving : goal.returns-clause-is_a_complete_interleaving
 returns-clause-is_a_complete_interleaving c = complete_interleaving
+
+pub returns-clause-at_most_three_each : goal.returns-clause-at_most_three_each
+returns-clause-at_most_three_each c = run_length
+
+pub returns-clause-room_for_possible : goal.returns-clause-room_for_possible
+returns-clause-room_for_possible c = possible_room
+
+pub returns-clause-end_stays : goal.returns-clause-end_stays
+returns-clause-end_stays c = λ plans costs h a x r. end_kept plans costs a h x (run_each plans costs h r)
 
 pub returns-clause-times_rise : goal.returns-clause-times_rise
 returns-clause-times_rise c = λ plans costs h a b. times_rise plans costs a b h
