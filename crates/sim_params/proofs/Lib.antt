@@ -1,1 +1,13 @@
 pub mod Examples
+pub mod Order
+pub mod Grow
+pub mod Interleavings
+pub mod Fixed
+pub mod Reach
+pub mod Budget
+pub mod Rise
+pub mod Unique
+pub mod Exists
+pub mod Reasons
+pub mod Places
+pub mod Queue

@@ -3,3 +3,4 @@ pub mod Times
 pub mod Run
 pub mod Stuck
 pub mod Budget
+pub mod Laws

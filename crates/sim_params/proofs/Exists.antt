@@ -1,0 +1,112 @@
+-- After each run an action is next, or nothing is possible; so there is a complete run.
+use Rattle.std.proofs.Common.{ℕ, zero, suc, ◌+◌, ◌≤◌, ◌≡◌, ◌⊎◌, Bool, true, false, List, [], ◌∷◌, All, Contains, inl, inr, refl, sym, ap, ap₂, ◌∙◌, subst, arith}
+use Rattle.std.proofs.lemmas.Bool.{cases_Bool, both_ways}
+use Rattle.std.proofs.lemmas.List.Elements.{All-nil, All-cons, All-weaker, All-contains}
+use Rattle.goal_graph.specs.declared.action.OpId.{OpId}
+use Rattle.goal_graph.specs.declared.action.Timed.{Timed}
+use Rattle.goal_graph.specs.declared.action.Class.{Class}
+use Rattle.goal_graph.specs.declared.action.Class.TheVariants.{Arrive, Serve, Data, Post, Begin}
+use Rattle.goal_graph.specs.Schedule.{Plan, operations}
+use Rattle.goal_graph.specs.Action.{plain, plain_act}
+use Rattle.goal_graph.specs.Allowed.{allowed}
+use Rattle.goal_graph.specs.Interleaving.{IsInterleaving}
+use Rattle.goal_graph.specs.Laws.{left}
+use Rattle.goal_graph.proofs.Exists.{allowed_listed}
+use Rattle.goal_graph.proofs.OneEach.{one_allowed}
+use Rattle.goal_graph.proofs.Once.{left_falls}
+use Rattle.sim_params.specs.Costs.{CostModel, is_eager}
+use Rattle.sim_params.specs.Times.{time, Possible}
+use Rattle.sim_params.specs.Run.{IsBefore, key, IsNext, IsRun, IsFinished, IsCompleteRun}
+use Rattle.sim_params.specs.Laws.{at_its_time}
+use Rattle.sim_params.proofs.Order.{before_irreflexive, before_transitive, key_cases, same_timed}
+use Rattle.sim_params.proofs.Interleavings.{possible_at, run_interleaving}
+
+-- a class that passes a test, or none
+all_classes : (test : Class → Bool) → test Arrive ≡ false → test Serve ≡ false → test Data ≡ false → test Post ≡ false → test Begin ≡ false → (c : Class) → test c ≡ false
+all_classes test a s d p b Arrive = a
+all_classes test a s d p b Serve = s
+all_classes test a s d p b Data = d
+all_classes test a s d p b Post = p
+all_classes test a s d p b Begin = b
+
+pub find_class : (test : Class → Bool) → ((c : Class) × (test c ≡ true)) ⊎ ((c : Class) → test c ≡ false)
+find_class test =
+    elim (cases_Bool (test Arrive)) [ inl t ↦ inl (Arrive, t) | inr a ↦ elim (cases_Bool (test Serve)) [ inl t ↦ inl (Serve, t) | inr s ↦ elim (cases_Bool (test Data)) [ inl t ↦ inl (Data, t) | inr d ↦ elim (cases_Bool (test Post)) [ inl t ↦ inl (Post, t) | inr p ↦ elim (cases_Bool (test Begin)) [ inl t ↦ inl (Begin, t) | inr b ↦ inr (all_classes test a s d p b) ] ] ] ] ]
+
+module _ (plans : List Plan) (costs : CostModel) where
+  -- no possible action of x is before a
+  abbrev NoneBefore : List Timed → Timed → OpId → Type 0
+  NoneBefore h a x = (b : Timed) → b.op ≡ x → Possible plans costs h b → ¬ (IsBefore (key b) (key a))
+
+  -- x has no possible action
+  abbrev HasNone : List Timed → OpId → Type 0
+  HasNone h x = (b : Timed) → b.op ≡ x → ¬ (Possible plans costs h b)
+
+  -- the least possible action of these operations
+  record IsLeastOf (h : List Timed) (xs : List OpId) (a : Timed) : Type 0 where
+    possible : Possible plans costs h a
+    least : All (NoneBefore h a) xs
+
+  -- a possible action of x is the only one
+  only_one : (h : List Timed) (c : Class) (x : OpId) → IsInterleaving plans (is_eager plans costs) (plain h) → allowed plans (is_eager plans costs) (plain h) c x ≡ true → NoneBefore h (at_its_time plans costs h c x) x
+  only_one h c x i e b p q before =
+      let class : b.class ≡ c = one_allowed plans (is_eager plans costs) (plain h) b.class c b.op i q.allowed (subst (λ y. allowed plans (is_eager plans costs) (plain h) c y ≡ true) (sym p) e) in
+      let same : b ≡ at_its_time plans costs h c x = same_timed b (at_its_time plans costs h c x) (q.time ∙ ap₂ (time plans costs h) class p) class (ap (λ (y : OpId). y.rank) p) (ap (λ (y : OpId). y.op) p) in
+      before_irreflexive (key b) (subst (λ a. IsBefore (key b) (key a)) (sym same) before)
+
+  of_one : (h : List Timed) (x : OpId) → IsInterleaving plans (is_eager plans costs) (plain h) → ((a : Timed) × Possible plans costs h a × NoneBefore h a x) ⊎ HasNone h x
+  of_one h x i =
+      elim (find_class (λ c. allowed plans (is_eager plans costs) (plain h) c x)) [ inl t ↦ inl (at_its_time plans costs h t.0 x, possible_at plans costs h t.0 x t.1, only_one h t.0 x i t.1) | inr none ↦ inr (λ b p q. both_ways _ (none b.class) (subst (λ y. allowed plans (is_eager plans costs) (plain h) b.class y ≡ true) p q.allowed)) ]
+
+  -- a lesser action has none before it either
+  none_before_lesser : (h : List Timed) (a b : Timed) → (a ≡ b) ⊎ IsBefore (key a) (key b) → (x : OpId) → NoneBefore h b x → NoneBefore h a x
+  none_before_lesser h a b (inl e) x none c p q before = none c p q (subst (λ d. IsBefore (key c) (key d)) e before)
+  none_before_lesser h a b (inr lt) x none c p q before = none c p q (before_transitive (key c) (key a) (key b) before lt)
+
+  none_of_none : (h : List Timed) (a : Timed) (x : OpId) → HasNone h x → NoneBefore h a x
+  none_of_none h a x none b p q before = none b p q
+
+  least_of : (h : List Timed) (xs : List OpId) → IsInterleaving plans (is_eager plans costs) (plain h) → ((a : Timed) × IsLeastOf h xs a) ⊎ All (HasNone h) xs
+  least_of h [] i = inr (All-nil (HasNone h))
+  least_of h (x ∷ xs) i = go (of_one h x i) (least_of h xs i)
+    where
+      go : ((a : Timed) × Possible plans costs h a × NoneBefore h a x) ⊎ HasNone h x → ((a : Timed) × IsLeastOf h xs a) ⊎ All (HasNone h) xs → ((a : Timed) × IsLeastOf h (x ∷ xs) a) ⊎ All (HasNone h) (x ∷ xs)
+      go (inr none) (inr rest) = inr (All-cons (HasNone h) x xs none rest)
+      go (inr none) (inl t) =
+          inl (t.0, record { possible = t.1.possible; least = All-cons (NoneBefore h t.0) x xs (none_of_none h t.0 x none) t.1.least })
+      go (inl s) (inr rest) =
+          inl (s.0, record { possible = s.1; least = All-cons (NoneBefore h s.0) x xs s.2 (All-weaker (HasNone h) (NoneBefore h s.0) (none_of_none h s.0) xs rest) })
+      go (inl s) (inl t) = pick (key_cases s.0 t.0)
+        where
+          first : (s.0 ≡ t.0) ⊎ IsBefore (key s.0) (key t.0) → ((a : Timed) × IsLeastOf h (x ∷ xs) a) ⊎ All (HasNone h) (x ∷ xs)
+          first le =
+              inl (s.0, record { possible = s.1; least = All-cons (NoneBefore h s.0) x xs s.2 (All-weaker (NoneBefore h t.0) (NoneBefore h s.0) (none_before_lesser h s.0 t.0 le) xs t.1.least) })
+
+          pick : (s.0 ≡ t.0) ⊎ (IsBefore (key s.0) (key t.0) ⊎ IsBefore (key t.0) (key s.0)) → ((a : Timed) × IsLeastOf h (x ∷ xs) a) ⊎ All (HasNone h) (x ∷ xs)
+          pick (inl e) = first (inl e)
+          pick (inr (inl lt)) = first (inr lt)
+          pick (inr (inr gt)) =
+              inl (t.0, record { possible = t.1.possible; least = All-cons (NoneBefore h t.0) x xs (none_before_lesser h t.0 s.0 (inr gt) x s.2) t.1.least })
+
+  -- after a run an action is next, or nothing is possible
+  pub next_or_finished : (h : List Timed) → IsRun plans costs h → ((a : Timed) × IsNext plans costs h a) ⊎ IsFinished plans costs h
+  next_or_finished h r =
+      elim (least_of h (operations plans) (run_interleaving plans costs h r)) [ inl t ↦ inl (t.0, record { possible = t.1.possible; least = λ b q. All-contains (NoneBefore h t.0) (operations plans) b.op t.1.least (listed b q) b refl q }) | inr none ↦ inr (λ b q. All-contains (HasNone h) (operations plans) b.op none (listed b q) b refl q) ]
+    where
+      listed : (b : Timed) → Possible plans costs h b → Contains (operations plans) b.op
+      listed b q = allowed_listed plans (is_eager plans costs) (plain h) b.class b.op q.allowed
+
+  left_of_run : (a : Timed) (h : List Timed) → IsNext plans costs h a → left plans (plain (a ∷ h)) + 1 ≤ left plans (plain h)
+  unfolding plain
+  left_of_run a h n = left_falls plans (is_eager plans costs) (plain_act a) (plain h) n.possible.allowed
+
+  -- a run goes on to a complete one, in at most as many steps as actions are left
+  goes_on : (n : ℕ) (h : List Timed) → left plans (plain h) ≤ n → IsRun plans costs h → (k : List Timed) × IsCompleteRun plans costs k
+  goes_on zero h le r =
+      elim (next_or_finished h r) [ inl t ↦ absurd (omega (arith, left_of_run t.0 h t.1)) | inr f ↦ (h, record { run = r; finished = f }) ]
+  goes_on (suc n) h le r =
+      elim (next_or_finished h r) [ inl t ↦ goes_on n (t.0 ∷ h) (omega (arith, left_of_run t.0 h t.1)) (r, t.1) | inr f ↦ (h, record { run = r; finished = f }) ]
+
+  -- there is a complete run
+  pub some_complete : (k : List Timed) × IsCompleteRun plans costs k
+  some_complete = goes_on (left plans (plain [])) [] (omega arith) tt

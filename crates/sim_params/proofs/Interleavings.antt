@@ -1,0 +1,73 @@
+-- A run without its times is an interleaving, and what is possible stays so.
+use Rattle.std.proofs.Common.{suc, ◌+◌, ◌*◌, ◌<◌, length, ap, arith, ◌≤◌, ◌≡◌, true, false, List, [], ◌∷◌, refl, sym, subst}
+use Rattle.std.proofs.lemmas.Bool.{both_ways, false_from_ne_true}
+use Rattle.goal_graph.specs.declared.action.OpId.{OpId}
+use Rattle.goal_graph.specs.declared.action.Timed.{Timed}
+use Rattle.goal_graph.specs.declared.action.Class.{Class}
+use Rattle.goal_graph.specs.Schedule.{Plan, operations}
+use Rattle.goal_graph.specs.Action.{is_act, plain, plain_act}
+use Rattle.goal_graph.specs.Allowed.{allowed}
+use Rattle.goal_graph.specs.Interleaving.{IsInterleaving, IsCompleteInterleaving}
+use Rattle.goal_graph.specs.Laws.{left}
+use Rattle.goal_graph.proofs.Once.{happened_and_left, left_falls}
+use Rattle.goal_graph.proofs.Actions.{is_act_class, is_act_op}
+use Rattle.goal_graph.proofs.Persist.{allowed_stays}
+use Rattle.sim_params.specs.Costs.{CostModel, is_eager}
+use Rattle.sim_params.specs.Times.{time, Possible}
+use Rattle.sim_params.specs.Run.{IsRun, IsFinished, IsCompleteRun}
+use Rattle.sim_params.specs.Laws.{at_its_time}
+use Rattle.sim_params.proofs.Grow.{time_grows}
+
+module _ (plans : List Plan) (costs : CostModel) where
+  -- what is allowed is possible at its time
+  pub possible_at : (h : List Timed) (c : Class) (x : OpId) → allowed plans (is_eager plans costs) (plain h) c x ≡ true → Possible plans costs h (at_its_time plans costs h c x)
+  possible_at h c x e = record { allowed = e; time = refl }
+
+  -- another action leaves a possible action possible, at a time that is not less
+  pub possible_stays : (h : List Timed) (a b : Timed) → Possible plans costs h b → ¬ ((a.class ≡ b.class) × (a.op ≡ b.op)) → Possible plans costs (a ∷ h) (at_its_time plans costs (a ∷ h) b.class b.op) × (b.time ≤ time plans costs (a ∷ h) b.class b.op)
+  unfolding plain
+  possible_stays h a b p other =
+      let e : is_act b.class b.op (plain_act a) ≡ false = false_from_ne_true _ (λ t. other (is_act_class b.class b.op (plain_act a) t, is_act_op b.class b.op (plain_act a) t)) in
+      (possible_at (a ∷ h) b.class b.op (allowed_stays plans (is_eager plans costs) (plain_act a) (plain h) b.class b.op e p.allowed), subst (λ n. n ≤ time plans costs (a ∷ h) b.class b.op) (sym p.time) (time_grows plans costs a h b.class b.op))
+
+  -- each action was possible after those before it
+  abbrev pub EachPossible : List Timed → Type 0
+  EachPossible [] = Unit {0}
+  EachPossible (a ∷ h) = EachPossible h × Possible plans costs h a
+
+  pub run_each : (h : List Timed) → IsRun plans costs h → EachPossible h
+  run_each [] r = tt
+  run_each (a ∷ h) r = (run_each h r.0, r.1.possible)
+
+  pub each_interleaving : (h : List Timed) → EachPossible h → IsInterleaving plans (is_eager plans costs) (plain h)
+  unfolding plain
+  each_interleaving [] r = tt
+  each_interleaving (a ∷ h) r = (each_interleaving h r.0, r.1.allowed)
+
+  pub run_interleaving : (h : List Timed) → IsRun plans costs h → IsInterleaving plans (is_eager plans costs) (plain h)
+  run_interleaving h r = each_interleaving h (run_each h r)
+
+  pub complete_interleaving : (h : List Timed) → IsCompleteRun plans costs h → IsCompleteInterleaving plans (is_eager plans costs) (plain h)
+  complete_interleaving h r = record {
+    each = run_interleaving h r.run;
+    none_left = λ a. false_from_ne_true _ (λ t. r.finished (at_its_time plans costs h a.class a.op) (possible_at h a.class a.op t));
+  }
+
+  -- the other way: nothing is possible where nothing is allowed
+  pub finished_from : (h : List Timed) → IsCompleteInterleaving plans (is_eager plans costs) (plain h) → IsFinished plans costs h
+  finished_from h c a p = both_ways _ (c.none_left (record { class = a.class; op = a.op })) p.allowed
+
+  pub length-plain : (h : List Timed) → length (plain h) ≡ length h
+  unfolding plain
+  length-plain [] = refl
+  length-plain (a ∷ h) = ap suc (length-plain h)
+
+  -- what has happened and what is left are at most three actions an operation
+  pub run_length : (h : List Timed) → IsRun plans costs h → length h + left plans (plain h) ≤ 3 * length (operations plans)
+  run_length h r =
+      omega (arith, length-plain h, happened_and_left plans (is_eager plans costs) (plain h) (run_interleaving h r))
+
+  -- so there is room for one more that is possible
+  pub possible_room : (h : List Timed) (a : Timed) → IsRun plans costs h → Possible plans costs h a → length h < 3 * length (operations plans)
+  possible_room h a r p =
+      omega (arith, run_length h r, left_falls plans (is_eager plans costs) (plain_act a) (plain h) p.allowed)

@@ -1,0 +1,106 @@
+// The laws of the timed run. Their functions do nothing: a proof cites a law by a call.
+ghost use Rattle.sim_params.specs.Laws.{NotBeforeItself, BeforeIsTransitive, OneIsBefore, KeyTellsAction, BeforeIsTested, TimesNeverFall, PossibleStays, StartStays, PairTimeStays, StartsWithFirst, EndsWithLast, IsAnInterleaving, IsACompleteInterleaving, AtMostThreeEach, RoomForPossible, EndStays, TimesRise, NewestIsLast, PossibleIsNotPast, OneIsNext, NextOrFinished, OneRunOfEachLength, OneBeginsAsTheOther, CompleteRunBeginsAsEach, OneCompleteRun, SomeCompleteRun, ReadOldestFirst, LeastEntryIsNext, WithinReach, WithinBudget, PossibleWithinBudget, ReachRisesByPart, PartsAreTheShare, ReasonsAreStuck, OpIsNeeded, PartnerIsAbsent, AloneIsAlone, CalcIsNotAlone};
+
+/// The laws of the keys by which actions are ordered:
+///
+/// - `not_before_itself`: no key is before itself.
+/// - `transitive`: what is before a key that is before a third is before the third.
+/// - `one_is_before`: of two actions that differ, one is before the other.
+/// - `key_tells_action`: a key determines its action.
+/// - `tested`: the test `before` tells the order.
+pub fn laws_of_keys()
+    ensures not_before_itself { NotBeforeItself }
+    ensures transitive { BeforeIsTransitive }
+    ensures one_is_before { OneIsBefore }
+    ensures key_tells_action { KeyTellsAction }
+    ensures tested { BeforeIsTested }
+{}
+
+/// The laws of times, for every schedule, all costs and every history, be it a run or not:
+///
+/// - `times_never_fall`: one more action makes no time of an action, no start, end or ready time and no free time less.
+/// - `possible_stays`: a possible action stays possible until it happens, at a time that is not less.
+/// - `start_stays`, `pair_time_stays`: the start of an operation, and the time at which it was paired, stay once there.
+/// - `starts_with_first`: an operation starts with its first action.
+/// - `ends_with_last`: it ends when its last action lets go of the cpu.
+pub fn laws_of_times()
+    ensures times_never_fall { TimesNeverFall }
+    ensures possible_stays { PossibleStays }
+    ensures start_stays { StartStays }
+    ensures pair_time_stays { PairTimeStays }
+    ensures starts_with_first { StartsWithFirst }
+    ensures ends_with_last { EndsWithLast }
+{}
+
+/// The laws of runs, for every schedule and all costs:
+///
+/// - `is_an_interleaving`: a run without its times is an interleaving.
+/// - `is_a_complete_interleaving`: and a complete one, if the run is complete.
+/// - `at_most_three_each`: what has happened and what is left are at most three actions an operation.
+/// - `room_for_possible`: where an action is possible, a run has not as many yet.
+/// - `end_stays`: the end of an operation stays once it is there.
+/// - `times_rise`: an action is not before the one that it follows.
+/// - `newest_is_last`: nor before any of those before it.
+/// - `possible_is_not_past`: what is possible after a run is not before any of its actions.
+/// - `one_is_next`: one action is next.
+/// - `next_or_finished`: after a run an action is next, or nothing is possible.
+/// - `one_run_of_each_length`: two runs with as many actions are one.
+/// - `one_begins_as_the_other`: of two runs, one begins as the other.
+/// - `complete_run_begins_as_each`: a complete run begins as each run does.
+/// - `one_complete_run`: two complete runs are one.
+/// - `some_complete_run`: there is a complete run.
+/// - `read_oldest_first`: read oldest first, each action of a run is next after those before it.
+/// - `least_entry_is_next`: where each possible action has an entry whose time is not later than its own, an entry
+///   that is least of all and whose time is right is next.
+pub fn laws_of_runs()
+    ensures is_an_interleaving { IsAnInterleaving }
+    ensures is_a_complete_interleaving { IsACompleteInterleaving }
+    ensures at_most_three_each { AtMostThreeEach }
+    ensures room_for_possible { RoomForPossible }
+    ensures end_stays { EndStays }
+    ensures times_rise { TimesRise }
+    ensures newest_is_last { NewestIsLast }
+    ensures possible_is_not_past { PossibleIsNotPast }
+    ensures one_is_next { OneIsNext }
+    ensures next_or_finished { NextOrFinished }
+    ensures one_run_of_each_length { OneRunOfEachLength }
+    ensures one_begins_as_the_other { OneBeginsAsTheOther }
+    ensures complete_run_begins_as_each { CompleteRunBeginsAsEach }
+    ensures one_complete_run { OneCompleteRun }
+    ensures some_complete_run { SomeCompleteRun }
+    ensures read_oldest_first { ReadOldestFirst }
+    ensures least_entry_is_next { LeastEntryIsNext }
+{}
+
+/// The laws of the budget, for every schedule and all costs:
+///
+/// - `within_reach`: no time of a run is later than its reach, the last moment at which an action happened or let go
+///   of a cpu or an interface.
+/// - `within_budget`: no time of a run is later than the budget.
+/// - `possible_within_budget`: a possible action lets go of what it holds within the budget.
+/// - `reach_rises_by_part`: an action raises the reach by at most its part of a share: a Serve by its part of its
+///   partner's share, another by its part of its own operation's.
+/// - `parts_are_the_share`: the parts of an operation are its share.
+pub fn laws_of_the_budget()
+    ensures within_reach { WithinReach }
+    ensures within_budget { WithinBudget }
+    ensures possible_within_budget { PossibleWithinBudget }
+    ensures reach_rises_by_part { ReachRisesByPart }
+    ensures parts_are_the_share { PartsAreTheShare }
+{}
+
+/// The laws of reasons, for every schedule and whatever is eager:
+///
+/// - `reasons_are_stuck`: an operation that a reason names is stuck itself.
+/// - `op_is_needed`: an operation whose reason is `Op` needs the one named, and what it needs of it is not there.
+/// - `partner_is_absent`: an operation whose reason is `Partner` fits the one named, which has not started.
+/// - `alone_is_alone`: where nothing is left to happen, each operation that fits a stuck one that is alone has
+///   started, and is paired with another.
+/// - `calc_is_not_alone`: there a stuck calc is never alone.
+pub fn laws_of_reasons()
+    ensures reasons_are_stuck { ReasonsAreStuck }
+    ensures op_is_needed { OpIsNeeded }
+    ensures partner_is_absent { PartnerIsAbsent }
+    ensures alone_is_alone { AloneIsAlone }
+    ensures calc_is_not_alone { CalcIsNotAlone }
+{}
