@@ -1,4 +1,6 @@
 pub mod Costs
+pub mod Limits
+pub mod Numbers
 pub mod Times
 pub mod Run
 pub mod Stuck
