@@ -2,8 +2,11 @@
 //! writing a piece whole, and text that is made piece by piece.
 #![tactic(auto)]
 
+mod calls;
 mod device;
+mod files;
 mod limits;
+mod mem_host;
 mod read;
 mod text;
 mod write;
@@ -13,6 +16,7 @@ pub use limits::{
     MAX_BUDGET, MAX_BYTES, MAX_DEPS, MAX_INPUT, MAX_NANOS, MAX_NOTES, MAX_OPS, MAX_PARAM,
     MAX_PER_BYTE, MAX_RANKS,
 };
+pub use mem_host::MemHost;
 pub use read::{ReadAll, read_all};
 pub use text::TextOut;
 pub use write::{WriteStop, write_all};
