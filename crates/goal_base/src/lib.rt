@@ -7,6 +7,7 @@ mod device;
 mod files;
 mod limits;
 mod mem_host;
+mod mem_sink;
 mod read;
 mod text;
 mod write;
@@ -17,6 +18,7 @@ pub use limits::{
     MAX_PER_BYTE, MAX_RANKS,
 };
 pub use mem_host::MemHost;
+pub use mem_sink::MemSink;
 pub use read::{ReadAll, read_all};
 pub use text::TextOut;
 pub use write::{WriteStop, write_all};
