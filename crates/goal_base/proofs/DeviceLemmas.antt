@@ -1,8 +1,7 @@
 -- One call of a device after another.
-use Rattle.std.proofs.Common.{◌≡◌, ℕ, ◌+◌, ◌≤◌, true, List, [], ◌++◌, length, take, drop, refl, sym, ap, ◌∙◌, append_assoc}
+use Rattle.std.proofs.Common.{◌≡◌, ℕ, ◌+◌, true, List, ◌++◌, take, drop, sym, ap, ◌∙◌, append_assoc}
 use Rattle.std.proofs.Math.Seq.{take-add}
-use Rattle.std.proofs.lemmas.List.{append-nil}
-use Rattle.goal_base.specs.Device.{HostState, SinkState, SinkLater, Takes, Grows, SameRest}
+use Rattle.goal_base.specs.Device.{HostState, SinkState, Takes, Grows, SameRest}
 
 -- taken from the rest, and then more of it
 pub takes_more : (a b c : HostState) (xs ys : List ℕ) → Takes a b xs → b.tells ≡ a.tells

@@ -1,14 +1,14 @@
 -- Maps of files.
-use Rattle.std.proofs.Common.{Less, Equal, Greater, ◌≡◌, ℕ, Bool, true, false, cond, List, [], ◌∷◌, ◌++◌, map, Option, Some, None, refl, sym, ap, ◌∙◌, Vec, String, Global, nat_cmp, Ordering}
+use Rattle.std.proofs.Common.{Less, Equal, Greater, ◌≡◌, ℕ, Bool, true, false, cond, List, [], ◌∷◌, ◌++◌, map, Option, Some, refl, sym, ap, ◌∙◌, Vec, String, Global, nat_cmp, Ordering}
 use Rattle.std.specs.Option.{option_map}
 use Rattle.std.specs.Ordering.{is_eq, eq_by_cmp}
-use Rattle.std.specs.Map.{lookup, update}
+use Rattle.std.specs.Map.{lookup}
 use Rattle.std.specs.Str.{bytes_eq}
 use Rattle.std.specs.String.{string_bytes, string_cmp}
 use Rattle.std.specs.Cmp.{eq_by_cmp_equiv}
 use Rattle.std.specs.Cmp.Lexicographic.{slice_cmp, nat_list_cmp_total}
 use Rattle.std.specs.BTreeMap.{BTreeMap, is_at, UpdatesBy, get_by_text}
-use Rattle.std.specs.FinMap.{get_tied, FinMap, get, insert, empty, same_map, get-insert, get-from_entries, find, nat_cmp-IsAntisymmetric, slice_cmp-IsAntisymmetric}
+use Rattle.std.specs.FinMap.{get_tied, get, insert, empty, same_map, get-insert, get-from_entries, find, nat_cmp-IsAntisymmetric, slice_cmp-IsAntisymmetric}
 use Rattle.std.proofs.lemmas.Bool.{false≢true}
 use Rattle.std.proofs.lemmas.Map.Text.{btree_map_updates_text, is_eq-slice_cmp}
 use Rattle.goal_base.specs.Device.{Files, grown}
@@ -46,7 +46,7 @@ pub files_of-set : (m n : Map) (name : List ℕ) (v : Vec ℕ Global) → Update
     → files_of n.entries ≡ insert (files_of m.entries) name v.items
 files_of-set m n name v updates = same_files _ _ (λ q.
     let test : bytes_eq name q ≡ eq_by_cmp (slice_cmp nat_cmp) q name =
-        sym (is_eq-slice_cmp name q) ∙ (eq_by_cmp_equiv nat_list_cmp_total).symm name q in
+    sym (is_eq-slice_cmp name q) ∙ (eq_by_cmp_equiv nat_list_cmp_total).symm name q in
     get-files_of n q ∙ ap (option_map bytes_of) (btree_map_updates_text name m n (Some v) updates q)
     ∙ sym (mapped (bytes_eq name q) v (get_by_text m q))
     ∙ ap (λ (b : Bool). cond b (Some v.items) (option_map bytes_of (get_by_text m q))) test
@@ -62,10 +62,10 @@ is_equal Greater e = absurd (false≢true e)
 pub insert_same : (m : Files) (name v : List ℕ) → get m name ≡ Some v → insert m name v ≡ m
 insert_same m name v is = same_files _ _ (λ q.
     let tested : (b : Bool) → eq_by_cmp (slice_cmp nat_cmp) q name ≡ b → cond b (Some v) (get m q) ≡ get m q =
-        λ b. elim b as (λ (x : Bool). eq_by_cmp (slice_cmp nat_cmp) q name ≡ x → cond x (Some v) (get m q) ≡ get m q) [
-          | true ↦ λ e. sym is ∙ get_tied nat_list_cmp_total m q name (is_equal _ e)
-          | false ↦ λ e. refl
-        ] in
+    λ b. elim b as (λ (x : Bool). eq_by_cmp (slice_cmp nat_cmp) q name ≡ x → cond x (Some v) (get m q) ≡ get m q) [
+      | true ↦ λ e. sym is ∙ get_tied nat_list_cmp_total m q name (is_equal _ e)
+      | false ↦ λ e. refl
+    ] in
     get-insert nat_list_cmp_total m name v q ∙ tested _ refl)
 
 -- a value that grew

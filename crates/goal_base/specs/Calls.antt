@@ -1,5 +1,5 @@
 -- Which calls of a device in memory fail.
-use Rattle.std.specs.Prelude.{◌≡◌, ℕ, ◌+◌, ◌-◌, ◌^◌, ◌<◌, min, List, Contains}
+use Rattle.std.specs.Prelude.{ℕ, ◌+◌, ◌-◌, ◌^◌, ◌<◌, min, List, Contains}
 
 -- The numbers of the calls that fail, and how many calls were made, up to 2^64-1. The first call has the number 1.
 pub record CallPlan : Type 0 where
@@ -12,5 +12,5 @@ pub record IsFailing (plan : CallPlan) : Type 0 where
   pub among : Contains plan.fails (plan.made + 1)
 
 -- after one more call
-abbrev pub counted : CallPlan → CallPlan
-counted plan = record plan { made = min (plan.made + 1) (2 ^ 64 - 1) }
+abbrev pub next_call : CallPlan → CallPlan
+next_call plan = record plan { made = min (plan.made + 1) (2 ^ 64 - 1) }

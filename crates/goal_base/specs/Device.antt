@@ -120,7 +120,7 @@ pub record Takes (old new : HostState) (bytes : List ℕ) : Type 0 where
   pub told : old.tells ≡ true → old.rest ≡ bytes ++ new.rest
 
 -- The file was opened, and at most this many of its bytes were taken: the rest is what is left of it.
-pub record TakesOf (old new : HostState) (name : List ℕ) (most : ℕ) : Type 0 where
+pub record ReadsAtMost (old new : HostState) (name : List ℕ) (most : ℕ) : Type 0 where
   pub taken : List ℕ
   pub no_more : length taken ≤ most
   pub told : old.tells ≡ true → file_of old name ≡ Some (taken ++ new.rest)

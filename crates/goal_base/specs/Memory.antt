@@ -2,7 +2,7 @@
 use Rattle.std.specs.Prelude.{◌≡◌, ℕ, ◌^◌, ◌<◌, Bool, true, false, List, [], ◌++◌, drop, Option, Some, None, refl}
 use Rattle.std.specs.Coded.{Coded, code_by, coded×, coded_ℕ, coded_bool, coded_list, coded_option}
 use Rattle.std.specs.FinMap.{insert, empty, code}
-use Rattle.goal_base.specs.Calls.{CallPlan, counted}
+use Rattle.goal_base.specs.Calls.{CallPlan, next_call}
 use Rattle.goal_base.specs.Device.{HostState, SinkState, Files, risen_from, appended_to}
 
 -- A host in memory: what a host means, how many bytes a read or a write moves at most, and which calls fail.
@@ -21,7 +21,7 @@ Parts = Bool × (Files × (List ℕ × (Option (List ℕ) × (Bool × (Bool × (
 abbrev state_code : Coded HostState
 state_code = code_by Parts
     (coded× coded_bool (coded× files_code (coded× (coded_list coded_ℕ) (coded× (coded_option (coded_list coded_ℕ))
-      (coded× coded_bool (coded× coded_bool (coded× coded_ℕ (coded× coded_ℕ (coded× coded_ℕ coded_bool)))))))))
+    (coded× coded_bool (coded× coded_bool (coded× coded_ℕ (coded× coded_ℕ (coded× coded_ℕ coded_bool)))))))))
     (λ s. (s.tells, (s.files, (s.rest, (s.output, (s.reading, (s.writing, (s.read_count, (s.absent_count, (s.write_count, s.stops))))))))))
     (λ p. record {
       tells = p.0;
@@ -73,39 +73,39 @@ new_host most fails = record {
 
 -- the host after one more call, with this state
 abbrev pub after_call : MemHostState → HostState → MemHostState
-after_call host state = record host { state = state; calls = counted host.calls }
+after_call host state = record host { state = state; calls = next_call host.calls }
 
 -- the read count rose
-abbrev pub read_failed : HostState → HostState
-read_failed s = record s { read_count = risen_from true s.read_count }
+abbrev pub with_read_fault : HostState → HostState
+with_read_fault s = record s { read_count = risen_from true s.read_count }
 
 -- the absent count rose
-abbrev pub found_absent : HostState → HostState
-found_absent s = record s { absent_count = risen_from true s.absent_count }
+abbrev pub with_absent_name : HostState → HostState
+with_absent_name s = record s { absent_count = risen_from true s.absent_count }
 
 -- the write count rose
-abbrev pub write_failed : HostState → HostState
-write_failed s = record s { write_count = risen_from true s.write_count }
+abbrev pub with_write_fault : HostState → HostState
+with_write_fault s = record s { write_count = risen_from true s.write_count }
 
 -- a file with these bytes is open as the input
-abbrev pub opened : HostState → List ℕ → HostState
-opened s bytes = record s { rest = bytes; reading = true }
+abbrev pub with_input : HostState → List ℕ → HostState
+with_input s bytes = record s { rest = bytes; reading = true }
 
--- n bytes were taken from the input
-abbrev pub taken : HostState → ℕ → HostState
-taken s n = record s { rest = drop n s.rest }
+-- n bytes were with_taken from the input
+abbrev pub with_taken : HostState → ℕ → HostState
+with_taken s n = record s { rest = drop n s.rest }
 
 -- the file of that name is empty, and is open as the output
-abbrev pub created : HostState → List ℕ → HostState
-created s name = record s { files = insert s.files name []; output = Some name; writing = true }
+abbrev pub with_created : HostState → List ℕ → HostState
+with_created s name = record s { files = insert s.files name []; output = Some name; writing = true }
 
 -- these bytes were appended to the output
-abbrev pub written : HostState → List ℕ → HostState
-written s bytes = record s { files = appended_to s.output s.files bytes }
+abbrev pub with_appended : HostState → List ℕ → HostState
+with_appended s bytes = record s { files = appended_to s.output s.files bytes }
 
--- the output is closed
-abbrev pub closed : HostState → HostState
-closed s = record s { output = None; writing = false }
+-- the output is with_no_output
+abbrev pub with_no_output : HostState → HostState
+with_no_output s = record s { output = None; writing = false }
 
 -- the host with this file
 abbrev pub with_file : MemHostState → List ℕ → List ℕ → MemHostState
@@ -132,13 +132,13 @@ new_sink most fails = record {
 }
 
 -- the sink after one more call, with this state
-abbrev pub after_write : MemSinkState → SinkState → MemSinkState
-after_write sink state = record sink { state = state; calls = counted sink.calls }
+abbrev pub after_sink_call : MemSinkState → SinkState → MemSinkState
+after_sink_call sink state = record sink { state = state; calls = next_call sink.calls }
 
 -- the count rose
-abbrev pub failed : SinkState → SinkState
-failed s = record s { count = risen_from false s.count }
+abbrev pub with_fault : SinkState → SinkState
+with_fault s = record s { count = risen_from false s.count }
 
 -- these bytes were appended
-abbrev pub grew : SinkState → List ℕ → SinkState
-grew s bytes = record s { bytes = s.bytes ++ bytes }
+abbrev pub with_bytes : SinkState → List ℕ → SinkState
+with_bytes s bytes = record s { bytes = s.bytes ++ bytes }

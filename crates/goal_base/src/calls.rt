@@ -21,7 +21,7 @@ impl Model for Calls {
 }
 
 impl Calls {
-    ghost use Rattle.goal_base.specs.Calls.{IsFailing, counted};
+    ghost use Rattle.goal_base.specs.Calls.{IsFailing, next_call};
 
     // No call was made yet.
     pub(crate) fn new(alloc: Global, fails: &[u64]) -> Result<Calls, NoMemory>
@@ -36,7 +36,7 @@ impl Calls {
     // Counts a call, and says whether it is one of those that fail.
     pub(crate) fn count(&mut self) -> bool
         ensures failing { IsTrue result ↔ IsFailing self.old }
-        ensures counted { self.new ≡ counted self.old }
+        ensures counted { self.new ≡ next_call self.old }
     {
         if self.made == u64::MAX {
             return false;

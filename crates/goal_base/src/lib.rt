@@ -22,3 +22,6 @@ pub use mem_sink::MemSink;
 pub use read::{ReadAll, read_all};
 pub use text::TextOut;
 pub use write::{WriteStop, write_all};
+
+#[cfg(test)]
+mod tests;

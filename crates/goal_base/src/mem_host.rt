@@ -41,20 +41,20 @@ impl Model for MemHost {
     ghost coded = { host_code };
 
     ghost view = { λ h. record {
-        state = record {
-            tells = true;
-            files = h.files;
-            rest = drop h.at h.input.items;
-            output = option_map string_bytes h.output;
-            reading = h.reading;
-            writing = is_some h.output;
-            read_count = h.read_count;
-            absent_count = h.absent_count;
-            write_count = h.write_count;
-            stops = true
-        };
-        most = h.most;
-        calls = h.calls
+      state = record {
+        tells = true;
+        files = h.files;
+        rest = drop h.at h.input.items;
+        output = option_map string_bytes h.output;
+        reading = h.reading;
+        writing = is_some h.output;
+        read_count = h.read_count;
+        absent_count = h.absent_count;
+        write_count = h.write_count;
+        stops = true;
+      };
+      most = h.most;
+      calls = h.calls;
     } };
 
     ghost invariant = { λ h. (0 < h.most) × (h.at ≤ length h.input.items) };
@@ -102,7 +102,7 @@ impl MemHost {
 }
 
 impl Host for MemHost {
-    ghost use Rattle.goal_base.specs.Memory.{IsMemHost, after_call, read_failed, found_absent, write_failed, opened, taken, created, written, closed};
+    ghost use Rattle.goal_base.specs.Memory.{IsMemHost, after_call, with_read_fault, with_absent_name, with_write_fault, with_input, with_taken, with_created, with_appended, with_no_output};
 
     ghost state = { λ h. h.state };
 
@@ -111,15 +111,15 @@ impl Host for MemHost {
         ensures sound { IsMemHost self.old }
         ensures failed { IsErrOf result OpenFault.Failed ↔ IsFailing self.old.calls }
         ensures failed_state { IsErrOf result OpenFault.Failed
-            → self.new ≡ after_call self.old (read_failed self.old.state) }
+            → self.new ≡ after_call self.old (with_read_fault self.old.state) }
         ensures absent { file_of self.old.state name.now ≡ None
             → IsErrOf result OpenFault.Failed ⊎ IsErrOf result OpenFault.Absent }
         ensures absent_name { IsErrOf result OpenFault.Absent → file_of self.old.state name.now ≡ None }
         ensures absent_state { IsErrOf result OpenFault.Absent
-            → self.new ≡ after_call self.old (found_absent self.old.state) }
+            → self.new ≡ after_call self.old (with_absent_name self.old.state) }
         ensures memory_state { IsErrOf result OpenFault.NoMemory → self.new ≡ after_call self.old self.old.state }
         ensures ok { OnOk result (file_of self.old.state name.now ≡ Some self.new.state.rest) }
-        ensures ok_state { OnOk result (self.new ≡ after_call self.old (opened self.old.state self.new.state.rest)) }
+        ensures ok_state { OnOk result (self.new ≡ after_call self.old (with_input self.old.state self.new.state.rest)) }
     {
         if self.calls.count() {
             self.read_count = self.read_count.saturating_add(1);
@@ -148,11 +148,11 @@ impl Host for MemHost {
         requires open { self.old.state.reading ≡ true }
         ensures sound { IsMemHost self.old }
         ensures failed { IsErrOf result IoFault.Failed ↔ IsFailing self.old.calls }
-        ensures failed_state { OnErr result (self.new ≡ after_call self.old (read_failed self.old.state)) }
+        ensures failed_state { OnErr result (self.new ≡ after_call self.old (with_read_fault self.old.state)) }
         ensures memory { IsErrOf result IoFault.NoMemory → ⊥ }
         ensures moved { IfOk result (λ n. n ≡ min (min self.old.most (length buf.old)) (length self.old.state.rest)) }
         ensures bytes { IfOk result (λ n. buf.new ≡ take n self.old.state.rest ++ drop n buf.old) }
-        ensures ok_state { IfOk result (λ n. self.new ≡ after_call self.old (taken self.old.state n)) }
+        ensures ok_state { IfOk result (λ n. self.new ≡ after_call self.old (with_taken self.old.state n)) }
     {
         if self.calls.count() {
             self.read_count = self.read_count.saturating_add(1);
@@ -170,9 +170,9 @@ impl Host for MemHost {
         ensures sound { IsMemHost self.old }
         ensures failed { IsErrOf result IoFault.Failed ↔ IsFailing self.old.calls }
         ensures failed_state { IsErrOf result IoFault.Failed
-            → self.new ≡ after_call self.old (write_failed self.old.state) }
+            → self.new ≡ after_call self.old (with_write_fault self.old.state) }
         ensures memory_state { IsErrOf result IoFault.NoMemory → self.new ≡ after_call self.old self.old.state }
-        ensures ok_state { OnOk result (self.new ≡ after_call self.old (created self.old.state name.now)) }
+        ensures ok_state { OnOk result (self.new ≡ after_call self.old (with_created self.old.state name.now)) }
     {
         if self.calls.count() {
             self.write_count = self.write_count.saturating_add(1);
@@ -197,11 +197,11 @@ impl Host for MemHost {
         ensures sound { IsMemHost self.old }
         ensures failed { IsErrOf result IoFault.Failed ↔ IsFailing self.old.calls }
         ensures failed_state { IsErrOf result IoFault.Failed
-            → self.new ≡ after_call self.old (write_failed self.old.state) }
+            → self.new ≡ after_call self.old (with_write_fault self.old.state) }
         ensures memory_state { IsErrOf result IoFault.NoMemory → self.new ≡ after_call self.old self.old.state }
         ensures moved { IfOk result (λ n. n ≡ min self.old.most (length piece.now)) }
         ensures ok_state { IfOk result (λ n.
-            self.new ≡ after_call self.old (written self.old.state (take n piece.now))) }
+            self.new ≡ after_call self.old (with_appended self.old.state (take n piece.now))) }
     {
         if self.calls.count() {
             self.write_count = self.write_count.saturating_add(1);
@@ -222,9 +222,9 @@ impl Host for MemHost {
         requires open { self.old.state.writing ≡ true }
         ensures sound { IsMemHost self.old }
         ensures failed { IsErrOf result IoFault.Failed ↔ IsFailing self.old.calls }
-        ensures failed_state { OnErr result (self.new ≡ after_call self.old (closed (write_failed self.old.state))) }
+        ensures failed_state { OnErr result (self.new ≡ after_call self.old (with_no_output (with_write_fault self.old.state))) }
         ensures memory { IsErrOf result IoFault.NoMemory → ⊥ }
-        ensures ok_state { OnOk result (self.new ≡ after_call self.old (closed self.old.state)) }
+        ensures ok_state { OnOk result (self.new ≡ after_call self.old (with_no_output self.old.state)) }
     {
         self.output = None;
         if self.calls.count() {

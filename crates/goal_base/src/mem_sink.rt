@@ -27,9 +27,9 @@ impl Model for MemSink {
     ghost Value = { MemSinkState };
 
     ghost view = { λ s. record {
-        state = record { tells = true; bytes = s.bytes.items; count = s.count; stops = false };
-        most = s.most;
-        calls = s.calls
+      state = record { tells = true; bytes = s.bytes.items; count = s.count; stops = false };
+      most = s.most;
+      calls = s.calls;
     } };
 
     ghost invariant = { λ s. (0 < s.most) × (s.count ≤ s.calls.made) };
@@ -61,7 +61,7 @@ impl MemSink {
 }
 
 impl Sink for MemSink {
-    ghost use Rattle.goal_base.specs.Memory.{IsMemSink, after_write, failed, grew};
+    ghost use Rattle.goal_base.specs.Memory.{IsMemSink, after_sink_call, with_fault, with_bytes};
 
     ghost state = { λ s. s.state };
 
@@ -70,11 +70,11 @@ impl Sink for MemSink {
         ensures sound { IsMemSink self.old }
         ensures failed { IsErrOf result IoFault.Failed ↔ IsFailing self.old.calls }
         ensures failed_state { IsErrOf result IoFault.Failed
-            → self.new ≡ after_write self.old (failed self.old.state) }
-        ensures memory_state { IsErrOf result IoFault.NoMemory → self.new ≡ after_write self.old self.old.state }
+            → self.new ≡ after_sink_call self.old (with_fault self.old.state) }
+        ensures memory_state { IsErrOf result IoFault.NoMemory → self.new ≡ after_sink_call self.old self.old.state }
         ensures moved { IfOk result (λ n. n ≡ min self.old.most (length piece.now)) }
         ensures ok_state { IfOk result (λ n.
-            self.new ≡ after_write self.old (grew self.old.state (take n piece.now))) }
+            self.new ≡ after_sink_call self.old (with_bytes self.old.state (take n piece.now))) }
     {
         if self.calls.count() {
             self.count += 1;

@@ -1,6 +1,6 @@
 //! Reading a file whole.
 ghost use Rattle.std.specs.Prelude.{◌≡◌, ◌⊎◌, ℕ, ◌+◌, ◌^◌, ◌<◌, ◌≤◌, true, List, [], ◌++◌, length, Some, OnOk, IfOk, IsErrOf, IsOk};
-ghost use Rattle.goal_base.specs.Device.{Rose, Held, Later, SameReadCounts, SameFiles, SameRest, Takes, TakesOf, IsTooLong, file_of, ReadFaulted};
+ghost use Rattle.goal_base.specs.Device.{Rose, Held, Later, SameReadCounts, SameFiles, SameRest, Takes, ReadsAtMost, IsTooLong, file_of, ReadFaulted};
 ghost use Rattle.goal_base.specs.declared.read.ReadAll.TheVariants.{NoMemory};
 
 use crate::device::{Host, IoFault, OpenFault};
@@ -60,7 +60,7 @@ pub fn read_all<H: Host>(alloc: Global, host: &mut H, name: &str) -> Result<Vec<
 
     // Nothing was taken from the input, or at most 2^27+1 bytes from the file.
     ensures taken { SameRest (H.state host.old) (H.state host.new)
-        ⊎ TakesOf (H.state host.old) (H.state host.new) name.now (2 ^ 27 + 1) }
+        ⊎ ReadsAtMost (H.state host.old) (H.state host.new) name.now (2 ^ 27 + 1) }
     ensures reading { OnOk result ((H.state host.new).reading ≡ true) }
     ensures reading_stays { (H.state host.old).reading ≡ true → (H.state host.new).reading ≡ true }
     ensures files { SameFiles (H.state host.old) (H.state host.new) }

@@ -1,5 +1,5 @@
-use Rattle.std.proofs.Common.{rules, ◌≡◌, ◌≤◌, ◌+◌, ◌-◌, ◌++◌, take, drop, length, arith, length-append, length-take}
-use Rattle.goal_base.proofs.DeviceLemmas.{takes_same, takes_more}
+use Rattle.std.proofs.Common.{◌++◌, take, arith, length-append, length-take}
+use Rattle.goal_base.proofs.DeviceLemmas.{takes_more}
 use Rattle.goal_base.proofs.read.read_rest.Goals as goal
 
 pub returns-in_err-extend_from_slice-clause-taken : goal.returns-in_err-extend_from_slice-clause-taken

@@ -1,4 +1,4 @@
-use Rattle.std.proofs.Common.{◌≡◌, rules, ◌∙◌, arith, length-drop}
+use Rattle.std.proofs.Common.{rules, ◌∙◌, arith, length-drop}
 use Rattle.std.proofs.lemmas.List.{take_rest}
 use Rattle.goal_base.proofs.DeviceLemmas.{grows_more}
 use Rattle.goal_base.proofs.write.write_all.Goals as goal
