@@ -41,15 +41,17 @@ get-files_of m q = get-from_entries nat_list_cmp_total _ q ∙ found q m.entries
 pub same_files : (m n : Files) → ((q : List ℕ) → get m q ≡ get n q) → m ≡ n
 same_files m n = same_map nat_list_cmp_total (slice_cmp-IsAntisymmetric nat_cmp-IsAntisymmetric) m n
 
+-- the two tests of a name
+same_name : (name q : List ℕ) → bytes_eq name q ≡ eq_by_cmp (slice_cmp nat_cmp) q name
+same_name name q = sym (is_eq-slice_cmp name q) ∙ (eq_by_cmp_equiv nat_list_cmp_total).symm name q
+
 -- a changed value
 pub files_of-set : (m n : Map) (name : List ℕ) (v : Vec ℕ Global) → UpdatesBy string_cmp (λ k. slice_cmp nat_cmp name (string_bytes k)) m n (Some v)
     → files_of n.entries ≡ insert (files_of m.entries) name v.items
 files_of-set m n name v updates = same_files _ _ (λ q.
-    let test : bytes_eq name q ≡ eq_by_cmp (slice_cmp nat_cmp) q name =
-    sym (is_eq-slice_cmp name q) ∙ (eq_by_cmp_equiv nat_list_cmp_total).symm name q in
     get-files_of n q ∙ ap (option_map bytes_of) (btree_map_updates_text name m n (Some v) updates q)
     ∙ sym (mapped (bytes_eq name q) v (get_by_text m q))
-    ∙ ap (λ (b : Bool). cond b (Some v.items) (option_map bytes_of (get_by_text m q))) test
+    ∙ ap (λ (b : Bool). cond b (Some v.items) (option_map bytes_of (get_by_text m q))) (same_name name q)
     ∙ ap (cond (eq_by_cmp (slice_cmp nat_cmp) q name) (Some v.items)) (sym (get-files_of m q))
     ∙ sym (get-insert nat_list_cmp_total (files_of m.entries) name v.items q))
 
@@ -58,15 +60,14 @@ is_equal Less e = absurd (false≢true e)
 is_equal Equal e = refl
 is_equal Greater e = absurd (false≢true e)
 
+at_name : (m : Files) (name v q : List ℕ) → get m name ≡ Some v → (b : Bool) → eq_by_cmp (slice_cmp nat_cmp) q name ≡ b
+    → cond b (Some v) (get m q) ≡ get m q
+at_name m name v q is true e = sym is ∙ get_tied nat_list_cmp_total m q name (is_equal _ e)
+at_name m name v q is false e = refl
+
 -- what is there already
 pub insert_same : (m : Files) (name v : List ℕ) → get m name ≡ Some v → insert m name v ≡ m
-insert_same m name v is = same_files _ _ (λ q.
-    let tested : (b : Bool) → eq_by_cmp (slice_cmp nat_cmp) q name ≡ b → cond b (Some v) (get m q) ≡ get m q =
-    λ b. elim b as (λ (x : Bool). eq_by_cmp (slice_cmp nat_cmp) q name ≡ x → cond x (Some v) (get m q) ≡ get m q) [
-      | true ↦ λ e. sym is ∙ get_tied nat_list_cmp_total m q name (is_equal _ e)
-      | false ↦ λ e. refl
-    ] in
-    get-insert nat_list_cmp_total m name v q ∙ tested _ refl)
+insert_same m name v is = same_files _ _ (λ q. get-insert nat_list_cmp_total m name v q ∙ at_name m name v q is _ refl)
 
 -- a value that grew
 pub files_of-append : (m n : Map) (name : List ℕ) (old new : Vec ℕ Global) (piece : List ℕ) → get_by_text m name ≡ Some old
