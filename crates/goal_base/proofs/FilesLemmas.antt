@@ -1,0 +1,91 @@
+-- Maps of files.
+use Rattle.std.proofs.Common.{Less, Equal, Greater, ◌≡◌, ℕ, Bool, true, false, cond, List, [], ◌∷◌, ◌++◌, map, Option, Some, refl, sym, ap, ◌∙◌, Vec, String, Global, nat_cmp, Ordering}
+use Rattle.std.specs.Option.{option_map}
+use Rattle.std.specs.Ordering.{is_eq, eq_by_cmp}
+use Rattle.std.specs.Map.{lookup}
+use Rattle.std.specs.Str.{bytes_eq}
+use Rattle.std.specs.String.{string_bytes, string_cmp}
+use Rattle.std.specs.Cmp.{eq_by_cmp_equiv}
+use Rattle.std.specs.Cmp.Lexicographic.{slice_cmp, nat_list_cmp_total}
+use Rattle.std.specs.BTreeMap.{BTreeMap, is_at, UpdatesBy, get_by_text}
+use Rattle.std.specs.FinMap.{get_tied, get, insert, empty, same_map, get-insert, get-from_entries, find, nat_cmp-IsAntisymmetric, slice_cmp-IsAntisymmetric}
+use Rattle.std.proofs.lemmas.Bool.{false≢true}
+use Rattle.std.proofs.lemmas.Map.Text.{btree_map_updates_text, is_eq-slice_cmp}
+use Rattle.goal_base.specs.Device.{Files, grown}
+use Rattle.goal_base.specs.NamedFiles.{files_of}
+
+abbrev Entries : Type 0
+Entries = List (String Global × Vec ℕ Global)
+
+abbrev pub Map : Type 0
+Map = BTreeMap (String Global) (Vec ℕ Global)
+
+abbrev pub bytes_of : Vec ℕ Global → List ℕ
+bytes_of v = v.items
+
+mapped : (b : Bool) (v : Vec ℕ Global) (o : Option (Vec ℕ Global)) → cond b (Some v.items) (option_map bytes_of o) ≡ option_map bytes_of (cond b (Some v) o)
+mapped true v o = refl
+mapped false v o = refl
+
+found : (q : List ℕ) (es : Entries) → find (slice_cmp nat_cmp) q (map (λ (e : String Global × Vec ℕ Global). (string_bytes e.0, e.1.items)) es)
+    ≡ option_map bytes_of (lookup (is_at (λ (k : String Global). slice_cmp nat_cmp q (string_bytes k))) es)
+found q [] = refl
+found q (e ∷ es) = ap (cond (eq_by_cmp (slice_cmp nat_cmp) q (string_bytes e.0)) (Some e.1.items)) (found q es) ∙ mapped _ e.1 _
+
+-- what a look-up by a name finds
+pub get-files_of : (m : Map) (q : List ℕ) → get (files_of m.entries) q ≡ option_map bytes_of (get_by_text m q)
+unfolding files_of
+get-files_of m q = get-from_entries nat_list_cmp_total _ q ∙ found q m.entries
+
+-- two maps that find the same
+pub same_files : (m n : Files) → ((q : List ℕ) → get m q ≡ get n q) → m ≡ n
+same_files m n = same_map nat_list_cmp_total (slice_cmp-IsAntisymmetric nat_cmp-IsAntisymmetric) m n
+
+-- the two tests of a name
+same_name : (name q : List ℕ) → bytes_eq name q ≡ eq_by_cmp (slice_cmp nat_cmp) q name
+same_name name q = sym (is_eq-slice_cmp name q) ∙ (eq_by_cmp_equiv nat_list_cmp_total).symm name q
+
+-- a changed value
+pub files_of-set : (m n : Map) (name : List ℕ) (v : Vec ℕ Global) → UpdatesBy string_cmp (λ k. slice_cmp nat_cmp name (string_bytes k)) m n (Some v)
+    → files_of n.entries ≡ insert (files_of m.entries) name v.items
+files_of-set m n name v updates = same_files _ _ (λ q.
+    get-files_of n q ∙ ap (option_map bytes_of) (btree_map_updates_text name m n (Some v) updates q)
+    ∙ sym (mapped (bytes_eq name q) v (get_by_text m q))
+    ∙ ap (λ (b : Bool). cond b (Some v.items) (option_map bytes_of (get_by_text m q))) (same_name name q)
+    ∙ ap (cond (eq_by_cmp (slice_cmp nat_cmp) q name) (Some v.items)) (sym (get-files_of m q))
+    ∙ sym (get-insert nat_list_cmp_total (files_of m.entries) name v.items q))
+
+is_equal : (o : Ordering) → is_eq o ≡ true → o ≡ Equal
+is_equal Less e = absurd (false≢true e)
+is_equal Equal e = refl
+is_equal Greater e = absurd (false≢true e)
+
+at_name : (m : Files) (name v q : List ℕ) → get m name ≡ Some v → (b : Bool) → eq_by_cmp (slice_cmp nat_cmp) q name ≡ b
+    → cond b (Some v) (get m q) ≡ get m q
+at_name m name v q is true e = sym is ∙ get_tied nat_list_cmp_total m q name (is_equal _ e)
+at_name m name v q is false e = refl
+
+-- what is there already
+pub insert_same : (m : Files) (name v : List ℕ) → get m name ≡ Some v → insert m name v ≡ m
+insert_same m name v is = same_files _ _ (λ q. get-insert nat_list_cmp_total m name v q ∙ at_name m name v q is _ refl)
+
+-- a value that grew
+pub files_of-append : (m n : Map) (name : List ℕ) (old new : Vec ℕ Global) (piece : List ℕ) → get_by_text m name ≡ Some old
+    → UpdatesBy string_cmp (λ k. slice_cmp nat_cmp name (string_bytes k)) m n (Some new) → new.items ≡ old.items ++ piece
+    → files_of n.entries ≡ grown (get (files_of m.entries) name) (files_of m.entries) name piece
+files_of-append m n name old new piece was updates is =
+    let told : get (files_of m.entries) name ≡ Some old.items = get-files_of m name ∙ ap (option_map bytes_of) was in
+    files_of-set m n name new updates ∙ ap (λ (l : List ℕ). insert (files_of m.entries) name l) is
+    ∙ ap (λ (o : Option (List ℕ)). grown o (files_of m.entries) name piece) (sym told)
+
+-- and one that didn't
+pub files_of-same : (m n : Map) (name : List ℕ) (old new : Vec ℕ Global) → get_by_text m name ≡ Some old
+    → UpdatesBy string_cmp (λ k. slice_cmp nat_cmp name (string_bytes k)) m n (Some new) → new.items ≡ old.items
+    → files_of n.entries ≡ files_of m.entries
+files_of-same m n name old new was updates is =
+    files_of-set m n name new updates ∙ ap (λ (l : List ℕ). insert (files_of m.entries) name l) is
+    ∙ insert_same (files_of m.entries) name old.items (get-files_of m name ∙ ap (option_map bytes_of) was)
+
+pub files_of-none : (m : Map) → m.entries ≡ [] → files_of m.entries ≡ empty
+unfolding files_of
+files_of-none m is = ap files_of is

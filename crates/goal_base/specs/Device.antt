@@ -1,0 +1,130 @@
+-- What a program sees of the outside: a host with files, and sinks that take bytes.
+use Rattle.std.specs.Prelude.{◌≡◌, ◌⊎◌, ℕ, ◌+◌, ◌-◌, ◌^◌, ◌<◌, ◌≤◌, min, Bool, true, false, List, [], ◌++◌, length, Option, Some, None}
+use Rattle.std.specs.Ordering.{nat_cmp}
+use Rattle.std.specs.Cmp.Lexicographic.{slice_cmp}
+use Rattle.std.specs.FinMap.{FinMap, get, insert}
+
+-- files by their names: bytes to bytes
+abbrev pub Files : Type 0
+Files = FinMap (slice_cmp nat_cmp) (List ℕ)
+
+-- A host: whether it tells its contents; its files; the rest of the open input; the name of the open output;
+-- whether an input and an output are open; three counts of refusals; whether the counts stop at 2^64-1.
+-- Where it doesn't tell, nothing is known of files, rest and output.
+pub record HostState : Type 0 where
+  pub tells : Bool
+  pub files : Files
+  pub rest : List ℕ
+  pub output : Option (List ℕ)
+  pub reading : Bool
+  pub writing : Bool
+  -- faults of `open` and `read`
+  pub read_count : ℕ
+  -- names that `open` didn't find
+  pub absent_count : ℕ
+  -- faults of `create`, `write` and `finish`
+  pub write_count : ℕ
+  pub stops : Bool
+
+-- A sink: whether it tells its bytes; its bytes; its count of faults; whether the count stops at 2^64-1.
+pub record SinkState : Type 0 where
+  pub tells : Bool
+  pub bytes : List ℕ
+  pub count : ℕ
+  pub stops : Bool
+
+-- the least later count that shows a rise: one more, or 2^64-1 for a count that stops there
+abbrev pub risen_from : Bool → ℕ → ℕ
+risen_from true before = min (before + 1) (2 ^ 64 - 1)
+risen_from false before = before + 1
+
+-- the count rose, or stands at 2^64-1 and stops there
+abbrev pub Rose : Bool → ℕ → ℕ → Type 0
+Rose stops before after = risen_from stops before ≤ after
+
+-- the count didn't rise, and doesn't stand where it stops
+abbrev pub Held : Bool → ℕ → ℕ → Type 0
+Held stops before after = after < risen_from stops before
+
+-- No call changes whether a host tells or whether its counts stop, and its counts never fall.
+pub record Later (old new : HostState) : Type 0 where
+  pub tells : new.tells ≡ old.tells
+  pub stops : new.stops ≡ old.stops
+  pub read_count : old.read_count ≤ new.read_count
+  pub absent_count : old.absent_count ≤ new.absent_count
+  pub write_count : old.write_count ≤ new.write_count
+
+-- the same of a sink
+pub record SinkLater (old new : SinkState) : Type 0 where
+  pub tells : new.tells ≡ old.tells
+  pub stops : new.stops ≡ old.stops
+  pub count : old.count ≤ new.count
+
+-- neither the read count nor the absent count has changed
+pub record SameReadCounts (old new : HostState) : Type 0 where
+  pub read_count : new.read_count ≡ old.read_count
+  pub absent_count : new.absent_count ≡ old.absent_count
+
+-- the files and the name of the output are as they were
+pub record SameFiles (old new : HostState) : Type 0 where
+  pub files : old.tells ≡ true → new.files ≡ old.files
+  pub output : old.tells ≡ true → new.output ≡ old.output
+
+-- the rest of the input is as it was
+pub record SameRest (old new : HostState) : Type 0 where
+  pub told : old.tells ≡ true → new.rest ≡ old.rest
+
+-- the bytes of a file, or None where the name is absent
+abbrev pub file_of : HostState → List ℕ → Option (List ℕ)
+file_of host name = get host.files name
+
+-- where the files are told, the name isn't among them
+abbrev pub IsAbsent : HostState → List ℕ → Type 0
+IsAbsent host name = host.tells ≡ true → file_of host name ≡ None
+
+-- a count of reading rose: that of faults, or that of absent names for a name that is absent
+abbrev pub ReadFaulted : HostState → HostState → List ℕ → Type 0
+ReadFaulted old new name =
+    Rose old.stops old.read_count new.read_count ⊎ (Rose old.stops old.absent_count new.absent_count × IsAbsent old name)
+
+-- the file of that name is empty, and is the output
+pub record Creates (old new : HostState) (name : List ℕ) : Type 0 where
+  pub files : old.tells ≡ true → new.files ≡ insert old.files name []
+  pub output : old.tells ≡ true → new.output ≡ Some name
+
+-- the files with these bytes at the end of the file of that name, if it is there
+abbrev pub grown : Option (List ℕ) → Files → List ℕ → List ℕ → Files
+grown None files name bytes = files
+grown (Some old) files name bytes = insert files name (old ++ bytes)
+
+-- the files with these bytes at the end of the output
+abbrev pub appended_to : Option (List ℕ) → Files → List ℕ → Files
+appended_to None files bytes = files
+appended_to (Some name) files bytes = grown (get files name) files name bytes
+
+-- the output grew by these bytes, and is still the output
+pub record Writes (old new : HostState) (bytes : List ℕ) : Type 0 where
+  pub files : old.tells ≡ true → new.files ≡ appended_to old.output old.files bytes
+  pub output : old.tells ≡ true → new.output ≡ old.output
+
+-- the sink holds what it held, and then these bytes
+pub record Grows (old new : SinkState) (bytes : List ℕ) : Type 0 where
+  pub told : old.tells ≡ true → new.bytes ≡ old.bytes ++ bytes
+
+-- the sink's bytes are as they were
+pub record SameBytes (old new : SinkState) : Type 0 where
+  pub told : old.tells ≡ true → new.bytes ≡ old.bytes
+
+-- These bytes were taken from the rest of the input.
+pub record Takes (old new : HostState) (bytes : List ℕ) : Type 0 where
+  pub told : old.tells ≡ true → old.rest ≡ bytes ++ new.rest
+
+-- The file was opened, and at most this many of its bytes were taken: the rest is what is left of it.
+pub record ReadsAtMost (old new : HostState) (name : List ℕ) (most : ℕ) : Type 0 where
+  pub taken : List ℕ
+  pub no_more : length taken ≤ most
+  pub told : old.tells ≡ true → file_of old name ≡ Some (taken ++ new.rest)
+
+-- where the files are told, the file is there and has more than 2^27 bytes
+pub record IsTooLong (host : HostState) (name : List ℕ) : Type 0 where
+  pub told : host.tells ≡ true → (text : List ℕ) × (file_of host name ≡ Some text) × (2 ^ 27 < length text)

@@ -1,0 +1,4 @@
+pub mod Calls
+pub mod Device
+pub mod Memory
+pub mod NamedFiles

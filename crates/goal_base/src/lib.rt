@@ -1,0 +1,27 @@
+//! The outside of `goal`: its limits, the traits of a host with files and of a sink, reading a file whole,
+//! writing a piece whole, and text that is made piece by piece.
+#![tactic(auto)]
+
+mod calls;
+mod device;
+mod files;
+mod limits;
+mod mem_host;
+mod mem_sink;
+mod read;
+mod text;
+mod write;
+
+pub use device::{Host, IoFault, NoMemory, OpenFault, Sink};
+pub use limits::{
+    MAX_BUDGET, MAX_BYTES, MAX_DEPS, MAX_INPUT, MAX_NANOS, MAX_NOTES, MAX_OPS, MAX_PARAM,
+    MAX_PER_BYTE, MAX_RANKS,
+};
+pub use mem_host::MemHost;
+pub use mem_sink::MemSink;
+pub use read::{ReadAll, read_all};
+pub use text::TextOut;
+pub use write::{WriteStop, write_all};
+
+#[cfg(test)]
+mod tests;

@@ -1,0 +1,32 @@
+//! How large a schedule, its parts and its input may be.
+
+/// The most ranks of a schedule. It has at least one.
+pub const MAX_RANKS: u32 = 65_536;
+
+/// The most operations of a schedule, all ranks together.
+pub const MAX_OPS: u32 = 1_048_576;
+
+/// The most dependencies of a schedule, all ranks together.
+pub const MAX_DEPS: u32 = 4_194_304;
+
+/// The most notes of a schedule, all ranks together.
+pub const MAX_NOTES: u32 = 1_048_576;
+
+/// The most bytes of an input.
+pub const MAX_INPUT: usize = 134_217_728;
+
+/// The largest size of a message and of a receive, in bytes.
+pub const MAX_BYTES: u64 = 1_099_511_627_775;
+
+/// The longest calculation, in nanoseconds.
+pub const MAX_NANOS: u64 = 281_474_976_710_655;
+
+/// The largest latency, overhead and gap of a message, in nanoseconds, and the largest size that may be sent
+/// eagerly, in bytes.
+pub const MAX_PARAM: u64 = 1_099_511_627_775;
+
+/// The largest gap and overhead for each byte, in nanoseconds.
+pub const MAX_PER_BYTE: u64 = 1_048_575;
+
+/// The largest time budget of a schedule, in nanoseconds.
+pub const MAX_BUDGET: u64 = 9_223_372_036_854_775_807;

@@ -1,0 +1,118 @@
+//! Reading a file whole.
+ghost use Rattle.std.specs.Prelude.{◌≡◌, ◌⊎◌, ℕ, ◌+◌, ◌^◌, ◌<◌, ◌≤◌, true, List, [], ◌++◌, length, Some, OnOk, IfOk, IsErrOf, IsOk};
+ghost use Rattle.goal_base.specs.Device.{Rose, Held, Later, SameReadCounts, SameFiles, SameRest, Takes, ReadsAtMost, IsTooLong, file_of, ReadFaulted};
+ghost use Rattle.goal_base.specs.declared.read.ReadAll.TheVariants.{NoMemory};
+
+use crate::device::{Host, IoFault, OpenFault};
+use crate::limits::MAX_INPUT;
+use std::alloc::{AllocError, Global};
+
+// How many bytes are asked for at once.
+const PIECE: usize = 16_384;
+
+/// Why a file was not read.
+#[derive(Clone, Copy, Debug, PartialEq, Eq)]
+pub enum ReadAll {
+    /// The host failed, or has no file of that name. It counts both.
+    Fault,
+    /// The file has more than 2^27 bytes.
+    TooLong,
+    /// There was no memory left.
+    NoMemory,
+}
+
+impl From<AllocError> for ReadAll {
+    ghost from_gives = { λ _ e. e ≡ NoMemory };
+
+    fn from(_: AllocError) -> Self {
+        ReadAll::NoMemory
+    }
+}
+
+/// Opens a file and reads it to its end, or to 2^27+1 bytes. It changes no file and no output.
+///
+/// `Fault` comes only where the read count rose, or the absent count rose for a name that isn't among the files
+/// that are told. No other answer comes where one of them rose.
+pub fn read_all<H: Host>(alloc: Global, host: &mut H, name: &str) -> Result<Vec<u8>, ReadAll>
+    ensures ok { IfOk result (λ bytes. (H.state host.old).tells ≡ true
+        → file_of (H.state host.old) name.now ≡ Some bytes.items) }
+    ensures ok_length { IfOk result (λ bytes. length bytes.items ≤ 2 ^ 27) }
+    ensures ok_rest { OnOk result ((H.state host.old).tells ≡ true → (H.state host.new).rest ≡ []) }
+    ensures too_long { IsErrOf result ReadAll.TooLong → IsTooLong (H.state host.old) name.now }
+    ensures fault { IsErrOf result ReadAll.Fault → ReadFaulted (H.state host.old) (H.state host.new) name.now }
+
+    // No answer but a fault comes where the host counted one.
+    ensures ok_counts { OnOk result (SameReadCounts (H.state host.old) (H.state host.new)) }
+    ensures too_long_counts { IsErrOf result ReadAll.TooLong
+        → SameReadCounts (H.state host.old) (H.state host.new) }
+    ensures memory_counts { IsErrOf result ReadAll.NoMemory
+        → SameReadCounts (H.state host.old) (H.state host.new) }
+
+    // A file that is there is read, or is too long, unless the host failed.
+    ensures complete { (H.state host.old).tells ≡ true → (text : List ℕ)
+        → file_of (H.state host.old) name.now ≡ Some text → length text ≤ 2 ^ 27
+        → Held (H.state host.old).stops (H.state host.old).read_count (H.state host.new).read_count
+        → IsOk result ⊎ IsErrOf result ReadAll.NoMemory }
+    ensures complete_long { (H.state host.old).tells ≡ true → (text : List ℕ)
+        → file_of (H.state host.old) name.now ≡ Some text → 2 ^ 27 < length text
+        → Held (H.state host.old).stops (H.state host.old).read_count (H.state host.new).read_count
+        → IsErrOf result ReadAll.TooLong ⊎ IsErrOf result ReadAll.NoMemory }
+
+    // Nothing was taken from the input, or at most 2^27+1 bytes from the file.
+    ensures taken { SameRest (H.state host.old) (H.state host.new)
+        ⊎ ReadsAtMost (H.state host.old) (H.state host.new) name.now (2 ^ 27 + 1) }
+    ensures reading { OnOk result ((H.state host.new).reading ≡ true) }
+    ensures reading_stays { (H.state host.old).reading ≡ true → (H.state host.new).reading ≡ true }
+    ensures files { SameFiles (H.state host.old) (H.state host.new) }
+    ensures writing { (H.state host.new).writing ≡ (H.state host.old).writing }
+    ensures write_count { (H.state host.new).write_count ≡ (H.state host.old).write_count }
+    ensures later { Later (H.state host.old) (H.state host.new) }
+{
+    match host.open(name) {
+        Ok(()) => read_rest(alloc, host),
+        Err(OpenFault::NoMemory) => Err(ReadAll::NoMemory),
+        Err(OpenFault::Absent) => Err(ReadAll::Fault),
+        Err(OpenFault::Failed) => Err(ReadAll::Fault),
+    }
+}
+
+// Reads the open input to its end, or to 2^27+1 bytes.
+fn read_rest<H: Host>(alloc: Global, host: &mut H) -> Result<Vec<u8>, ReadAll>
+    requires open { (H.state host.old).reading ≡ true }
+
+    ensures ok { IfOk result (λ bytes. Takes (H.state host.old) (H.state host.new) bytes.items) }
+    ensures ok_length { IfOk result (λ bytes. length bytes.items ≤ 2 ^ 27) }
+    ensures ok_rest { OnOk result ((H.state host.old).tells ≡ true → (H.state host.new).rest ≡ []) }
+    ensures too_long { IsErrOf result ReadAll.TooLong
+        → (H.state host.old).tells ≡ true → 2 ^ 27 < length (H.state host.old).rest }
+    ensures fault { IsErrOf result ReadAll.Fault
+        → Rose (H.state host.old).stops (H.state host.old).read_count (H.state host.new).read_count }
+    ensures ok_counts { OnOk result (SameReadCounts (H.state host.old) (H.state host.new)) }
+    ensures too_long_counts { IsErrOf result ReadAll.TooLong
+        → SameReadCounts (H.state host.old) (H.state host.new) }
+    ensures memory_counts { IsErrOf result ReadAll.NoMemory
+        → SameReadCounts (H.state host.old) (H.state host.new) }
+    ensures taken { (bytes : List ℕ) × (length bytes ≤ 2 ^ 27 + 1)
+        × Takes (H.state host.old) (H.state host.new) bytes }
+    ensures reading { (H.state host.new).reading ≡ true }
+    ensures files { SameFiles (H.state host.old) (H.state host.new) }
+    ensures writing { (H.state host.new).writing ≡ (H.state host.old).writing }
+    ensures write_count { (H.state host.new).write_count ≡ (H.state host.old).write_count }
+    ensures later { Later (H.state host.old) (H.state host.new) }
+{
+    let mut bytes = Vec::new(alloc);
+    let mut buffer = [0u8; PIECE];
+    'pieces: while bytes.len() <= MAX_INPUT {
+        let room = PIECE.min(MAX_INPUT + 1 - bytes.len());
+        let count = match host.read(&mut buffer[..room]) {
+            Ok(count) => count,
+            Err(IoFault::Failed) => return Err(ReadAll::Fault),
+            Err(IoFault::NoMemory) => return Err(ReadAll::NoMemory),
+        };
+        if count == 0 {
+            return Ok(bytes);
+        }
+        bytes.extend_from_slice(&buffer[..count])?;
+    }
+    Err(ReadAll::TooLong)
+}

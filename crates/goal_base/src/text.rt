@@ -1,0 +1,57 @@
+//! Text that is made piece by piece.
+ghost use Rattle.std.specs.Prelude.{◌≡◌, [], ◌++◌, decimal, OnOk, OnErr};
+
+use crate::device::NoMemory;
+use itoa::Buffer;
+use std::alloc::Global;
+use std::marker::Model;
+
+/// A text in memory, which grows at its end. Contracts see it as its bytes.
+#[derive(Drop)]
+pub struct TextOut {
+    bytes: Vec<u8>,
+}
+
+impl Model for TextOut {
+    ghost use Rattle.std.specs.Prelude.{List, ℕ};
+
+    ghost Value = { List ℕ };
+
+    ghost view = { λ t. t.bytes.items };
+}
+
+impl TextOut {
+    /// An empty text. It takes no memory.
+    pub fn new(alloc: Global) -> TextOut
+        ensures { result ≡ [] }
+    {
+        TextOut {
+            bytes: Vec::new(alloc),
+        }
+    }
+
+    /// Appends a word. The text is as it was where there was no memory left.
+    pub fn word(&mut self, text: &str) -> Result<(), NoMemory>
+        ensures ok { OnOk result (self.new ≡ self.old ++ text.now) }
+        ensures err { OnErr result (self.new ≡ self.old) }
+    {
+        self.bytes.extend_from_slice(text.as_bytes())?;
+        Ok(())
+    }
+
+    /// Appends a number in decimal. The text is as it was where there was no memory left.
+    pub fn number(&mut self, n: u128) -> Result<(), NoMemory>
+        ensures ok { OnOk result (self.new ≡ self.old ++ decimal n) }
+        ensures err { OnErr result (self.new ≡ self.old) }
+    {
+        let mut buffer = Buffer::new();
+        self.word(buffer.format(n))
+    }
+
+    /// The bytes of the text.
+    pub fn into_bytes(self) -> Vec<u8>
+        ensures { result.items ≡ self }
+    {
+        self.bytes
+    }
+}

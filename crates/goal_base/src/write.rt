@@ -1,0 +1,43 @@
+//! Writing a piece whole.
+ghost use Rattle.std.specs.Prelude.{◌≡◌, ◌<◌, length, take, OnOk, IfErr};
+ghost use Rattle.goal_base.specs.Device.{Rose, SinkLater, Grows};
+
+use crate::device::{IoFault, Sink};
+
+/// Where a piece was cut off, and why.
+#[derive(Clone, Copy, Debug, PartialEq, Eq)]
+pub struct WriteStop {
+    /// How many of the piece's bytes were written: fewer than it has.
+    pub done: u64,
+    /// What the sink answered then.
+    pub why: IoFault,
+}
+
+/// Appends a piece to a sink. Where it stops, the first `done` bytes were appended, and `Failed` is the reason only
+/// where the sink's count rose.
+pub fn write_all<S: Sink>(sink: &mut S, piece: &[u8]) -> Result<(), WriteStop>
+    ensures ok { OnOk result (Grows (S.state sink.old) (S.state sink.new) piece.now) }
+    ensures ok_count { OnOk result ((S.state sink.new).count ≡ (S.state sink.old).count) }
+    ensures short { IfErr result (λ stop. stop.done < length piece.now) }
+    ensures part { IfErr result (λ stop.
+        Grows (S.state sink.old) (S.state sink.new) (take stop.done piece.now)) }
+    ensures failed { IfErr result (λ stop. stop.why ≡ IoFault.Failed
+        → Rose (S.state sink.old).stops (S.state sink.old).count (S.state sink.new).count) }
+    ensures memory_count { IfErr result (λ stop. stop.why ≡ IoFault.NoMemory
+        → (S.state sink.new).count ≡ (S.state sink.old).count) }
+    ensures later { SinkLater (S.state sink.old) (S.state sink.new) }
+{
+    let mut done = 0;
+    'pieces: while done < piece.len() {
+        match sink.write(&piece[done..]) {
+            Ok(count) => done += count,
+            Err(why) => {
+                return Err(WriteStop {
+                    done: done as u64,
+                    why,
+                });
+            }
+        }
+    }
+    Ok(())
+}
