@@ -1,4 +1,6 @@
 pub mod Schedule
+pub mod Fault
+pub mod Rows
 pub mod Action
 pub mod Matching
 pub mod Allowed

@@ -2,7 +2,11 @@
 #![tactic(auto)]
 
 mod action;
+mod fault;
+mod limits;
 mod plan;
+mod rows;
 
 pub use action::{Class, OpId, Stuck, Timed, Why};
+pub use fault::PlanFault;
 pub use plan::{Dep, Kind, Need, Note, Op, RankPlan, When};
