@@ -1,3 +1,5 @@
 pub mod Numbers
 pub mod Flat
 pub mod Links
+pub mod Plain
+pub mod Places

@@ -6,6 +6,7 @@ mod fault;
 mod limits;
 mod plan;
 mod rows;
+mod tables;
 
 pub use action::{Class, OpId, Stuck, Timed, Why};
 pub use fault::PlanFault;
