@@ -3,3 +3,8 @@ pub mod Flat
 pub mod Links
 pub mod Plain
 pub mod Places
+pub mod Ranges
+pub mod Counts
+pub mod Depths
+pub mod Searching
+pub mod Faults

@@ -1,9 +1,7 @@
 -- Where each operation stands in the order of all.
-use Rattle.std.proofs.Common.{◌≡◌, ◌⊎◌, ℕ, zero, suc, ◌+◌, ◌-◌, ◌<◌, ◌≤◌, Bool, true, false, List, [], ◌∷◌, ◌++◌, length, get_or, take, drop, map, Option, Some, None, is_some, slice_get, refl, sym, ap, ◌∙◌, subst, arith, inl, inr, add-zero, zero-add, add-one, add_assoc, length-append}
-use Rattle.std.specs.Prelude.{unwrap_or, option_and_then}
-use Rattle.std.specs.Option.{option_map}
-use Rattle.std.specs.List.{flat_map, sum_by, range_with_len}
-use Rattle.std.proofs.lemmas.Bool.{cases_lt, cases_eq, false≢true}
+use Rattle.std.proofs.Common.{◌≡◌, ◌⊎◌, ℕ, zero, suc, ◌+◌, ◌<◌, ◌≤◌, List, [], ◌∷◌, ◌++◌, length, get_or, take, Some, is_some, slice_get, refl, sym, ap, ◌∙◌, arith, inl, inr, add-zero, zero-add, length-append}
+use Rattle.std.specs.List.{sum_by}
+use Rattle.std.proofs.lemmas.Bool.{cases_lt, false≢true}
 use Rattle.std.proofs.lemmas.List.{take-take, take_all, length-take-le, length_push, get_or_append_left, get_or_push, get_or-append-add, get_or_default}
 use Rattle.std.proofs.lemmas.List.Sums.{sum_by-cons, sum_by_more, sum_by_more_le}
 use Rattle.std.proofs.lemmas.List.Concat.{get_or-flat_map, length-flat_map}
@@ -11,7 +9,7 @@ use Rattle.std.proofs.lemmas.List.FromFn.{length-map-range_with_len, get_or-map-
 use Rattle.std.proofs.lemmas.Option.{slice_get-get_or, slice_get_cases}
 use Rattle.goal_graph.specs.declared.action.OpId.{OpId}
 use Rattle.goal_graph.specs.declared.plan.Op.{Op}
-use Rattle.goal_graph.specs.declared.plan.Dep.{Dep}
+use Rattle.goal_graph.specs.declared.plan.Kind.TheVariants.{Calc}
 use Rattle.goal_graph.specs.declared.plan.Need.{Need}
 use Rattle.goal_graph.specs.declared.rows.Listing.{Listing}
 use Rattle.goal_graph.specs.declared.rows.Listing.TheVariants.{Needs, WaitingOn}
@@ -21,7 +19,7 @@ use Rattle.goal_graph.specs.Rows.{row, rank_rows, all_rows}
 use Rattle.goal_graph.specs.Tables.{index_of, AreStarts}
 
 -- a value of the type, for a read past the end
-no_plan : Plan
+pub no_plan : Plan
 no_plan = record { ops = []; deps = []; notes = [] }
 
 -- one more rank has so many operations more
@@ -58,14 +56,14 @@ AreStarts-more plans i n starts inside are at =
   where
     go : (rank : ℕ) → rank ≤ length (take (i + 1) plans) → (rank < i + 1) ⊎ (i + 1 ≤ rank) → get_or (starts ++ n ∷ []) rank 0 ≡ op_count (take rank (take (i + 1) plans))
     go rank in_range (inl below) =
-      let size = length-take-le i plans (omega arith) in
-      let old : get_or starts rank 0 ≡ op_count (take rank plans) = rw (take-take rank i plans (omega arith)) at (are.start rank (omega arith)) in
-      rw (get_or_append_left starts (n ∷ []) 0 rank (omega (arith, are.one_each)), take-take rank (i + 1) plans (omega arith)) old
+        let size = length-take-le i plans (omega arith) in
+        let old : get_or starts rank 0 ≡ op_count (take rank plans) = rw (take-take rank i plans (omega arith)) at (are.start rank (omega arith)) in
+        rw (get_or_append_left starts (n ∷ []) 0 rank (omega (arith, are.one_each)), take-take rank (i + 1) plans (omega arith)) old
     go rank in_range (inr here) =
-      let size = length-take-le i plans (omega arith) in
-      let more = length-take-le (i + 1) plans (omega arith) in
-      let e : rank ≡ i + 1 = omega arith in
-      rw (e, take-take (i + 1) (i + 1) plans (omega arith)) (get_or_push starts n 0 (i + 1) (omega (arith, are.one_each)) ∙ at)
+        let size = length-take-le i plans (omega arith) in
+        let more = length-take-le (i + 1) plans (omega arith) in
+        let e : rank ≡ i + 1 = omega arith in
+        rw (e, take-take (i + 1) (i + 1) plans (omega arith)) (get_or_push starts n 0 (i + 1) (omega (arith, are.one_each)) ∙ at)
 
 -- a rank has a row for each operation, and so have all ranks
 pub length-rank_rows : (listing : Listing) (p : Plan) → length (rank_rows listing p) ≡ length p.ops
@@ -120,7 +118,7 @@ places_from-at first (p ∷ plans) zero op x inside in_rank =
     ∙ rw (zero-add op, add-zero first) refl)
 places_from-at first (p ∷ plans) (suc rank) op x inside in_rank =
     let e : op_count (p ∷ take rank plans) + op ≡ length (places_of_rank first 0 p.ops) + (op_count (take rank plans) + op) =
-        omega (arith, op_count-cons p (take rank plans), length-places_of_rank first 0 p.ops) in
+    omega (arith, op_count-cons p (take rank plans), length-places_of_rank first 0 p.ops) in
     let shifted : first + 1 + rank ≡ first + suc rank = omega arith in
     rw e
     (get_or-append-add (places_of_rank first 0 p.ops) (places_from (first + 1) plans) (op_count (take rank plans) + op) x
@@ -142,14 +140,17 @@ IsOp-located plans x is_op = elim (slice_get_cases plans x.rank).1 [
   | inr past ↦ absurd (false≢true (rw past.1 at is_op))
 ]
 
+pub deps_at-rank : (plans : List Plan) (rank : ℕ) (p : Plan) → rank < length plans → deps_at plans rank ≡ (get_or plans rank p).deps
+unfolding deps_at
+deps_at-rank plans rank p inside = rw (slice_get-get_or plans rank p inside) refl
+
 module _ (plans : List Plan) (x : OpId) (located : IsLocated plans x) where
   pub op_at-located : (p : Plan) (o : Op) → op_at plans x ≡ Some (get_or (get_or plans x.rank p).ops x.op o)
   unfolding op_at
   op_at-located p o = rw (slice_get-get_or plans x.rank p located.rank_in) (slice_get-get_or (get_or plans x.rank p).ops x.op o (located.op_in p))
 
   pub deps_at-located : (p : Plan) → deps_at plans x.rank ≡ (get_or plans x.rank p).deps
-  unfolding deps_at
-  deps_at-located p = rw (slice_get-get_or plans x.rank p located.rank_in) refl
+  deps_at-located p = deps_at-rank plans x.rank p located.rank_in
 
   -- its place is below the number of all operations
   pub index_of-below : index_of plans x < op_count plans
@@ -165,21 +166,21 @@ module _ (plans : List Plan) (x : OpId) (located : IsLocated plans x) where
   pub all_rows-at : (listing : Listing) → slice_get (all_rows listing plans) (index_of plans x) ≡ Some (row listing (deps_at plans x.rank) x.op)
   unfolding all_rows index_of
   all_rows-at listing =
-    let f = rank_rows listing in
-    let p = get_or plans x.rank no_plan in
-    let below : index_of plans x < length (all_rows listing plans) = omega (arith, length-all_rows listing plans, index_of-below) in
-    let in_row : x.op < length (f p) = omega (arith, length-rank_rows listing p, located.op_in no_plan) in
-    let read = rw (length-all_rows listing (take x.rank plans)) at (get_or-flat_map f plans x.rank x.op no_plan [] located.rank_in in_row) in
-    slice_get-get_or (all_rows listing plans) (index_of plans x) [] below
-    ∙ ap (λ r. Some r) (read ∙ rank_rows-at listing p x.op (located.op_in no_plan) ∙ ap (λ ds. row listing ds x.op) (sym (deps_at-located no_plan)))
+      let f = rank_rows listing in
+      let p = get_or plans x.rank no_plan in
+      let below : index_of plans x < length (all_rows listing plans) = omega (arith, length-all_rows listing plans, index_of-below) in
+      let in_row : x.op < length (f p) = omega (arith, length-rank_rows listing p, located.op_in no_plan) in
+      let read = rw (length-all_rows listing (take x.rank plans)) at (get_or-flat_map f plans x.rank x.op no_plan [] located.rank_in in_row) in
+      slice_get-get_or (all_rows listing plans) (index_of plans x) [] below
+      ∙ ap (λ r. Some r) (read ∙ rank_rows-at listing p x.op (located.op_in no_plan) ∙ ap (λ ds. row listing ds x.op) (sym (deps_at-located no_plan)))
 
   -- and the operation itself, in the list of all
   pub operations-at : slice_get (operations plans) (index_of plans x) ≡ Some x
   unfolding index_of
   operations-at =
-    let below : index_of plans x < length (operations plans) = omega (arith, length-operations plans, index_of-below) in
-    slice_get-get_or (operations plans) (index_of plans x) x below
-    ∙ ap (λ y. Some y) (places_from-at 0 plans x.rank x.op x located.rank_in (located.op_in no_plan) ∙ ap (λ n. record { rank = n; op = x.op }) (zero-add x.rank))
+      let below : index_of plans x < length (operations plans) = omega (arith, length-operations plans, index_of-below) in
+      slice_get-get_or (operations plans) (index_of plans x) x below
+      ∙ ap (λ y. Some y) (places_from-at 0 plans x.rank x.op x located.rank_in (located.op_in no_plan) ∙ ap (λ n. record { rank = n; op = x.op }) (zero-add x.rank))
 
 -- what an operation needs is its row, and so is what waits on it
 pub row-needs : (plans : List Plan) (x : OpId) → row Needs (deps_at plans x.rank) x.op ≡ needs plans x
@@ -209,3 +210,21 @@ AreStarts-last plans starts are =
     are.start (length plans) (omega arith)
     ∙ ap op_count (take_all (length plans) plans (omega arith))
     ∙ sym (length-operations plans)
+
+-- a value of the type, for a read past the end
+no_op : Op
+no_op = record { kind = Calc 0; cpu = 0; nic = 0 }
+
+-- what is located exists
+pub IsOp-from_located : (plans : List Plan) (x : OpId) → IsLocated plans x → IsOp plans x
+IsOp-from_located plans x located = ap is_some (op_at-located plans x located no_plan no_op)
+
+-- so does each operation below the number of its rank's
+pub IsOp-below : (plans : List Plan) (x : OpId) → x.rank < length plans → x.op < length (get_or plans x.rank no_plan).ops → IsOp plans x
+IsOp-below plans x rank_in op_in =
+    IsOp-from_located plans x (record { rank_in = rank_in; op_in = λ p. rw (get_or_default plans x.rank p no_plan rank_in) op_in })
+
+-- how many operations a rank has, as the code reads it
+pub rank_size : (plans read : List Plan) (rank : ℕ) (p : Plan) (n : ℕ) → read ≡ plans → rank < length plans → p ≡ get_or read rank p → n ≡ length p.ops → n ≡ length (get_or plans rank no_plan).ops
+rank_size plans read rank p n same inside at size =
+    size ∙ ap (λ (q : Plan). length q.ops) (rw same at at ∙ get_or_default plans rank p no_plan inside)

@@ -1,9 +1,9 @@
 -- What holds of plans that have no fault but perhaps a cycle.
-use Rattle.std.proofs.Common.{◌≡◌, ◌⊎◌, ℕ, zero, suc, ◌+◌, ◌<◌, ◌≤◌, ◌&&◌, eqb, ltb, leb, Bool, true, false, List, [], ◌∷◌, length, get_or, Option, Some, None, refl, sym, ap, ◌∙◌, subst, arith, All, add-zero, zero-add}
+use Rattle.std.proofs.Common.{◌≡◌, ℕ, zero, suc, ◌+◌, ◌<◌, ◌≤◌, eqb, ltb, Bool, true, false, List, [], ◌∷◌, length, get_or, Option, Some, None, refl, arith, All, add-zero, zero-add}
 use Rattle.std.specs.Prelude.{if◌then◌else◌}
 use Rattle.std.specs.Option.{option_or}
-use Rattle.std.proofs.lemmas.Bool.{cases_lt}
 use Rattle.std.proofs.lemmas.Bool.Decides.{nat_tests}
+use Rattle.goal_graph.proofs.Numbers.{and_left, and_right}
 use Rattle.goal_graph.specs.declared.fault.PlanFault.{PlanFault}
 use Rattle.goal_graph.specs.declared.fault.PlanFault.TheVariants.{Count}
 use Rattle.goal_graph.specs.declared.limits.TheConstants.{MAX_RANKS, MAX_OPS, MAX_DEPS, MAX_NOTES}
@@ -15,15 +15,6 @@ use Rattle.goal_graph.specs.declared.rows.Listing.TheVariants.{Needs, WaitingOn}
 use Rattle.goal_graph.specs.Schedule.{Plan}
 use Rattle.goal_graph.specs.Rows.{owner}
 use Rattle.goal_graph.specs.Fault.{op_count, dep_count, note_count, over, count_fault, op_fault, dep_fault, note_fault, value_fits, has_peer, dep_in_range, note_fits, first_fault, rank_fault, plain_fault}
-
--- both sides of an "and" that holds
-pub and_left : (a b : Bool) → (a && b) ≡ true → a ≡ true
-and_left true b h = refl
-and_left false b h = absurd (cc)
-
-pub and_right : (a b : Bool) → (a && b) ≡ true → b ≡ true
-and_right true b h = h
-and_right false b h = absurd (cc)
 
 -- neither of two is there
 pub option_or-none : {T : Type 0} (a b : Option T) → option_or a b ≡ None → (a ≡ None) × (b ≡ None)
@@ -66,6 +57,7 @@ count_fault-none plans h =
   where
     ranks_some : (n : ℕ) → (if eqb n 0 then Some (Count 0 MAX_RANKS) else over MAX_RANKS n) ≡ None → 0 < n
     ranks_some n h = grind (arith, nat_tests)
+
     ranks_over : (n : ℕ) → (if eqb n 0 then Some (Count 0 MAX_RANKS) else over MAX_RANKS n) ≡ None → n ≤ MAX_RANKS
     ranks_over n h = grind (arith, nat_tests)
 

@@ -4,7 +4,7 @@ use Rattle.std.specs.List.{list_all, sum_by}
 use Rattle.std.specs.Option.{option_or}
 use Rattle.goal_graph.specs.declared.action.OpId.{OpId}
 use Rattle.goal_graph.specs.declared.fault.PlanFault.{PlanFault}
-use Rattle.goal_graph.specs.declared.fault.PlanFault.TheVariants.{Count, Value, Peer, DepRange, NoteMisfit, Cycle, NoMemory}
+use Rattle.goal_graph.specs.declared.fault.PlanFault.TheVariants.{Count, Value, Peer, DepRange, NoteMisfit, Cycle}
 use Rattle.goal_graph.specs.declared.limits.TheConstants.{MAX_RANKS, MAX_OPS, MAX_DEPS, MAX_NOTES, MAX_BYTES, MAX_NANOS}
 use Rattle.goal_graph.specs.declared.plan.Op.{Op}
 use Rattle.goal_graph.specs.declared.plan.Kind.{Kind}
@@ -124,9 +124,11 @@ pub record IsFirstCycle (plans : List Plan) (x : OpId) : Type 0 where
   pub cyclic : HasDepth plans x → ⊥
   pub first : (y : OpId) → IsOp plans y → IsBefore y x → HasDepth plans y
 
-abbrev pub IsCycle : List Plan → PlanFault → Type 0
-IsCycle plans (Cycle rank op) = IsFirstCycle plans (record { rank = rank; op = op })
-IsCycle plans _ = ⊥
+-- the fault names it
+pub record IsCycle (plans : List Plan) (fault : PlanFault) : Type 0 where
+  pub op : OpId
+  pub named : fault ≡ Cycle op.rank op.op
+  pub first : IsFirstCycle plans op
 
 -- the first fault: one that is told at once, or where there is none a cycle
 abbrev pub IsFault : List Plan → PlanFault → Type 0

@@ -2,6 +2,7 @@ pub mod Schedule
 pub mod Fault
 pub mod Rows
 pub mod Tables
+pub mod Search
 pub mod Action
 pub mod Matching
 pub mod Allowed

@@ -2,12 +2,15 @@
 #![tactic(auto)]
 
 mod action;
+mod cycle;
 mod fault;
 mod limits;
 mod plan;
 mod rows;
+mod sched;
 mod tables;
 
 pub use action::{Class, OpId, Stuck, Timed, Why};
 pub use fault::PlanFault;
 pub use plan::{Dep, Kind, Need, Note, Op, RankPlan, When};
+pub use sched::Sched;

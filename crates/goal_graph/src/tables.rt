@@ -62,14 +62,16 @@ impl Tables {
         requires { IsOp self.now id }
         ensures { result.now ≡ needs self.now id }
     {
-        self.needs.row(index_in(&self.plans, &self.starts, id) as usize)
+        self.needs
+            .row(index_in(&self.plans, &self.starts, id) as usize)
     }
 
     pub fn waiting_on(&self, id: OpId) -> &[Need]
         requires { IsOp self.now id }
         ensures { result.now ≡ waiting_on self.now id }
     {
-        self.waiting_on.row(index_in(&self.plans, &self.starts, id) as usize)
+        self.waiting_on
+            .row(index_in(&self.plans, &self.starts, id) as usize)
     }
 
     pub fn count(&self) -> u32

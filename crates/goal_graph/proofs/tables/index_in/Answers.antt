@@ -1,5 +1,5 @@
 -- The first place of the rank, and the number in it.
-use Rattle.std.proofs.Common.{◌≡◌, ◌+◌, ◌<◌, arith, sym}
+use Rattle.std.proofs.Common.{arith, sym}
 use Rattle.goal_graph.proofs.Places.{IsOp-located, index_of-below, index_of-starts}
 use Rattle.goal_graph.proofs.tables.index_in.Goals as goal
 

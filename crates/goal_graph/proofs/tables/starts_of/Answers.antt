@@ -1,5 +1,5 @@
 -- Each rank's number of operations is added.
-use Rattle.std.proofs.Common.{◌≡◌, ◌+◌, ◌<◌, ◌≤◌, length, get_or, take, sym, ap, ◌∙◌, arith}
+use Rattle.std.proofs.Common.{◌≡◌, ◌+◌, length, get_or, take, sym, ap, ◌∙◌, arith}
 use Rattle.std.proofs.lemmas.List.{take_all}
 use Rattle.goal_graph.specs.Schedule.{Plan}
 use Rattle.goal_graph.specs.Fault.{op_count}
@@ -27,9 +27,9 @@ overflow_add-count c =
 pub loop-plan-preserved : goal.loop-plan-preserved
 loop-plan-preserved c =
     let size : c.len.result ≡ length (get_or c.args.plans.now c.loop-plan.plan-index c.plan-item.result).ops =
-        c.len.ensures ∙ c.plan.inside.ops.ok.0 ∙ ap (λ (p : Plan). length p.ops) (c.plan.view_is ∙ c.plan-item.is) in
+    c.len.ensures ∙ c.plan.inside.ops.ok.0 ∙ ap (λ (p : Plan). length p.ops) (c.plan.view_is ∙ c.plan-item.is) in
     let counted : c.loop-plan.count + c.len.result ≡ op_count (take (c.loop-plan.plan-index + 1) c.args.plans.now) =
-        omega (arith, size, op_count-more c.args.plans.now c.loop-plan.plan-index c.plan-item.result c.loop-plan-test.true, c.loop-plan.invariant.counted) in
+    omega (arith, size, op_count-more c.args.plans.now c.loop-plan.plan-index c.plan-item.result c.loop-plan-test.true, c.loop-plan.invariant.counted) in
     record {
       counted = counted;
       starts = rw c.in_ok-push-2.ensures.items (AreStarts-more c.args.plans.now c.loop-plan.plan-index _ c.loop-plan.starts.items c.loop-plan-test.true c.loop-plan.invariant.starts counted);

@@ -1,5 +1,5 @@
 -- The last place is the number of all.
-use Rattle.std.proofs.Common.{◌≡◌, length, get_or, sym, ap, ◌∙◌, arith}
+use Rattle.std.proofs.Common.{length, ◌∙◌, arith}
 use Rattle.std.proofs.lemmas.List.{get_or_default}
 use Rattle.goal_graph.proofs.Places.{AreStarts-last}
 use Rattle.goal_graph.proofs.tables.Tables.count.Goals as goal

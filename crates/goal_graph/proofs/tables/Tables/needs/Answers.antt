@@ -1,5 +1,5 @@
 -- The row at the place of the operation.
-use Rattle.std.proofs.Common.{◌∙◌, sym, ap, arith}
+use Rattle.std.proofs.Common.{◌∙◌, sym, arith}
 use Rattle.std.proofs.lemmas.Option.{same_Some}
 use Rattle.goal_graph.specs.declared.rows.Listing.TheVariants.{Needs}
 use Rattle.goal_graph.proofs.Plain.{plain-counts}

@@ -1,5 +1,5 @@
 -- The operation stands at its number in its rank's list.
-use Rattle.std.proofs.Common.{◌≡◌, ◌<◌, length, get_or, Some, arith, sym, ap, ◌∙◌}
+use Rattle.std.proofs.Common.{length, get_or, Some, arith, sym, ap, ◌∙◌}
 use Rattle.goal_graph.specs.Schedule.{Plan}
 use Rattle.goal_graph.proofs.Places.{IsOp-located, op_at-located}
 use Rattle.goal_graph.proofs.tables.Tables.op.Goals as goal
