@@ -14,3 +14,14 @@ pub mod Oldest
 pub mod Complete
 pub mod Members
 pub mod Apart
+pub mod Numbers
+pub mod Flat
+pub mod Links
+pub mod Plain
+pub mod Places
+pub mod Ranges
+pub mod Counts
+pub mod Depths
+pub mod Searching
+pub mod Faults
+pub mod ListingLemmas

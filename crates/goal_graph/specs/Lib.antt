@@ -1,4 +1,8 @@
 pub mod Schedule
+pub mod Fault
+pub mod Rows
+pub mod Tables
+pub mod Search
 pub mod Action
 pub mod Matching
 pub mod Allowed

@@ -2,12 +2,21 @@
 #![tactic(auto)]
 
 mod action;
+mod cycle;
+mod fault;
 mod laws;
+mod limits;
+mod listing;
 mod plan;
+mod rows;
+mod sched;
+mod tables;
 
 pub use action::{Class, OpId, Stuck, Timed, Why};
+pub use fault::PlanFault;
 pub use laws::{
     laws_of_apart_schedules, laws_of_complete_interleavings, laws_of_interleavings,
     laws_of_partners,
 };
 pub use plan::{Dep, Kind, Need, Note, Op, RankPlan, When};
+pub use sched::Sched;

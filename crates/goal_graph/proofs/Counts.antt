@@ -1,0 +1,103 @@
+-- Counts of needs.
+use Rattle.std.proofs.Common.{◌≡◌, ◌⊎◌, ℕ, zero, suc, ◌+◌, ◌<◌, ◌≤◌, ◌||◌, eqb, Bool, true, false, cond, List, [], ◌∷◌, ◌++◌, length, get_or, take, map, filter, refl, sym, ap, ◌∙◌, arith, inl, inr, zero-add}
+use Rattle.std.specs.Prelude.{if◌then◌else◌}
+use Rattle.std.proofs.lemmas.Bool.{cases_eq, eq-eqb, false≢true}
+use Rattle.goal_graph.specs.declared.plan.Dep.{Dep}
+use Rattle.goal_graph.specs.declared.plan.Need.{Need}
+use Rattle.goal_graph.specs.declared.rows.Listing.{Listing}
+use Rattle.goal_graph.specs.declared.rows.Listing.TheVariants.{Needs, WaitingOn}
+use Rattle.goal_graph.specs.Rows.{owner, entry, row}
+use Rattle.goal_graph.specs.Search.{is_among, unfinished, count_of}
+use Rattle.goal_graph.proofs.Numbers.{ne-eqb, or_false}
+
+pub is_among-append : (xs ys : List ℕ) (op : ℕ) → is_among (xs ++ ys) op ≡ (is_among xs op || is_among ys op)
+unfolding is_among
+is_among-append [] ys op = refl
+is_among-append (x ∷ xs) ys op = go (eqb x op) (is_among-append xs ys op)
+  where
+    go : (b : Bool) → is_among (xs ++ ys) op ≡ (is_among xs op || is_among ys op) → (b || is_among (xs ++ ys) op) ≡ ((b || is_among xs op) || is_among ys op)
+    go true e = refl
+    go false e = e
+
+-- one more at the end
+pub is_among-push : (xs : List ℕ) (x op : ℕ) → is_among (xs ++ x ∷ []) op ≡ (is_among xs op || eqb x op)
+unfolding is_among
+is_among-push xs x op = is_among-append xs (x ∷ []) op ∙ ap (λ b. is_among xs op || b) (or_false (eqb x op))
+
+pub count_of-push : (ds : List Need) (d : Need) (op : ℕ) → count_of (ds ++ d ∷ []) op ≡ count_of ds op + (if eqb d.op op then 1 else 0)
+unfolding count_of
+count_of-push [] d op = omega arith
+count_of-push (e ∷ ds) d op = omega (arith, count_of-push ds d op)
+
+-- an operation that is newly finished takes its needs off
+pub unfinished-push : (done : List ℕ) (e : ℕ) (ds : List Need) → is_among done e ≡ false → unfinished (done ++ e ∷ []) ds + count_of ds e ≡ unfinished done ds
+unfolding unfinished count_of
+unfinished-push done e [] fresh = refl
+unfinished-push done e (d ∷ ds) fresh = go (cases_eq d.op e) (unfinished-push done e ds fresh)
+  where
+    go : (d.op ≡ e) ⊎ (d.op ≡ e → ⊥) → unfinished (done ++ e ∷ []) ds + count_of ds e ≡ unfinished done ds
+        → (if is_among (done ++ e ∷ []) d.op then 0 else 1) + unfinished (done ++ e ∷ []) ds + ((if eqb d.op e then 1 else 0) + count_of ds e) ≡ (if is_among done d.op then 0 else 1) + unfinished done ds
+    go (inl same) rest = rw (is_among-push done e d.op, same, fresh, eq-eqb e e refl) (omega arith)
+    go (inr other) rest =
+        rw (is_among-push done e d.op, ne-eqb d.op e other, ne-eqb e d.op (λ h. other (sym h)), or_false (is_among done d.op)) (omega arith)
+
+-- no operation is finished
+pub unfinished-nil : (ds : List Need) → unfinished [] ds ≡ length ds
+unfolding unfinished is_among
+unfinished-nil [] = refl
+unfinished-nil (d ∷ ds) = omega (arith, unfinished-nil ds)
+
+-- one more dependency
+count_of-row : (listing : Listing) (d : Dep) (deps : List Dep) (op x : ℕ) → count_of (row listing (d ∷ deps) op) x ≡ (if eqb (owner listing d) op then (if eqb (entry listing d).op x then 1 else 0) else 0) + count_of (row listing deps op) x
+unfolding row count_of
+count_of-row listing d deps op x = go (eqb (owner listing d) op) (filter (λ (d : Dep). eqb (owner listing d) op) deps)
+  where
+    go : (b : Bool) (ds : List Dep) → count_of (map (entry listing) (cond b (d ∷ ds) ds)) x ≡ (if b then (if eqb (entry listing d).op x then 1 else 0) else 0) + count_of (map (entry listing) ds) x
+    go true ds = refl
+    go false ds = sym (zero-add _)
+
+both : (a b : Bool) → ◌≡◌ {A = ℕ} (if a then (if b then 1 else 0) else 0) (if b then (if a then 1 else 0) else 0)
+both true true = refl
+both true false = refl
+both false true = refl
+both false false = refl
+
+count_of-none : (later earlier : ℕ) → count_of (row WaitingOn [] earlier) later ≡ count_of (row Needs [] later) earlier
+unfolding row count_of
+count_of-none later earlier = refl
+
+-- a need of one operation is one that waits on another
+pub count_of-rows : (deps : List Dep) (later earlier : ℕ) → count_of (row WaitingOn deps earlier) later ≡ count_of (row Needs deps later) earlier
+count_of-rows [] later earlier = count_of-none later earlier
+count_of-rows (d ∷ deps) later earlier =
+    rw (count_of-row WaitingOn d deps earlier later, count_of-row Needs d deps later earlier, count_of-rows deps later earlier)
+    (ap (λ n. n + count_of (row Needs deps later) earlier) (both (eqb d.earlier earlier) (eqb d.later later)))
+
+-- a part of the needs has at most as many of an operation
+pub count_of-take-le : (ds : List Need) (k op : ℕ) → count_of (take k ds) op ≤ count_of ds op
+unfolding count_of
+count_of-take-le [] zero op = omega arith
+count_of-take-le [] (suc k) op = omega arith
+count_of-take-le (d ∷ ds) zero op = omega arith
+count_of-take-le (d ∷ ds) (suc k) op = omega (arith, count_of-take-le ds k op)
+
+pub count_of-nil : (op : ℕ) → count_of [] op ≡ 0
+unfolding count_of
+count_of-nil op = refl
+
+-- what is among them stands at some place
+pub is_among-found : (xs : List ℕ) (op : ℕ) → is_among xs op ≡ true → (k : ℕ) × (k < length xs) × (get_or xs k 0 ≡ op)
+unfolding is_among
+is_among-found [] op h = absurd (false≢true h)
+is_among-found (x ∷ xs) op h = go (cases_eq x op) (is_among-found xs op)
+  where
+    go : (x ≡ op) ⊎ (x ≡ op → ⊥) → (is_among xs op ≡ true → (k : ℕ) × (k < length xs) × (get_or xs k 0 ≡ op)) → (k : ℕ) × (k < suc (length xs)) × (get_or (x ∷ xs) k 0 ≡ op)
+    go (inl same) rest = (0, omega arith, same)
+    go (inr other) rest = let r = rest (rw (ne-eqb x op other) at h) in (suc r.0, omega (arith, r.1), r.2)
+
+-- what is above all of them is not among them
+pub is_among-above : (xs : List ℕ) (op : ℕ) → ((k : ℕ) → k < length xs → get_or xs k 0 < op) → is_among xs op ≡ false
+unfolding is_among
+is_among-above [] op below = refl
+is_among-above (x ∷ xs) op below =
+    rw (ne-eqb x op (λ same. omega (arith, below 0 (omega arith)))) (is_among-above xs op (λ k inside. below (suc k) (omega arith)))

@@ -1,0 +1,108 @@
+-- What holds of plans that have no fault but perhaps a cycle.
+use Rattle.std.proofs.Common.{◌≡◌, ℕ, zero, suc, ◌+◌, ◌<◌, ◌≤◌, eqb, ltb, Bool, true, false, List, [], ◌∷◌, length, get_or, Option, Some, None, refl, arith, All, add-zero, zero-add}
+use Rattle.std.specs.Prelude.{if◌then◌else◌}
+use Rattle.std.specs.Option.{option_or}
+use Rattle.std.proofs.lemmas.Bool.Decides.{nat_tests}
+use Rattle.goal_graph.proofs.Numbers.{and_left, and_right}
+use Rattle.goal_graph.specs.declared.fault.PlanFault.{PlanFault}
+use Rattle.goal_graph.specs.declared.fault.PlanFault.TheVariants.{Count}
+use Rattle.goal_graph.specs.declared.limits.TheConstants.{MAX_RANKS, MAX_OPS, MAX_DEPS, MAX_NOTES}
+use Rattle.goal_graph.specs.declared.plan.Op.{Op}
+use Rattle.goal_graph.specs.declared.plan.Dep.{Dep}
+use Rattle.goal_graph.specs.declared.plan.Note.{Note}
+use Rattle.goal_graph.specs.declared.rows.Listing.{Listing}
+use Rattle.goal_graph.specs.declared.rows.Listing.TheVariants.{Needs, WaitingOn}
+use Rattle.goal_graph.specs.Schedule.{Plan}
+use Rattle.goal_graph.specs.Rows.{owner}
+use Rattle.goal_graph.specs.Fault.{op_count, dep_count, note_count, over, count_fault, op_fault, dep_fault, note_fault, value_fits, has_peer, dep_in_range, note_fits, first_fault, rank_fault, plain_fault}
+
+-- neither of two is there
+pub option_or-none : {T : Type 0} (a b : Option T) → option_or a b ≡ None → (a ≡ None) × (b ≡ None)
+option_or-none None b h = (refl, h)
+option_or-none (Some x) b h = absurd (cc)
+
+-- no item has a fault
+pub first_fault-none : {A : Type 0} (fault : ℕ → A → Option PlanFault) (n : ℕ) (xs : List A) → first_fault fault n xs ≡ None → (k : ℕ) (d : A) → k < length xs → fault (n + k) (get_or xs k d) ≡ None
+unfolding first_fault
+first_fault-none fault n [] h k d inside = absurd (omega arith)
+first_fault-none fault n (x ∷ xs) h zero d inside = rw add-zero (option_or-none _ _ h).0
+first_fault-none fault n (x ∷ xs) h (suc k) d inside =
+    let e : n + 1 + k ≡ n + suc k = omega arith in
+    rw (← e) (first_fault-none fault (n + 1) xs (option_or-none _ _ h).1 k d (omega arith))
+
+over-none : (limit found : ℕ) → over limit found ≡ None → found ≤ limit
+over-none limit found h = grind (arith, nat_tests)
+
+-- the numbers of ranks, operations, dependencies and notes are within their limits
+pub record AreCountsWithin (plans : List Plan) : Type 0 where
+  pub some_rank : 0 < length plans
+  pub ranks : length plans ≤ MAX_RANKS
+  pub ops : op_count plans ≤ MAX_OPS
+  pub deps : dep_count plans ≤ MAX_DEPS
+  pub notes : note_count plans ≤ MAX_NOTES
+
+count_fault-none : (plans : List Plan) → count_fault plans ≡ None → AreCountsWithin plans
+unfolding count_fault
+count_fault-none plans h =
+    let a = option_or-none _ _ h in
+    let b = option_or-none _ _ a.1 in
+    let c = option_or-none _ _ b.1 in
+    record {
+      some_rank = ranks_some (length plans) a.0;
+      ranks = ranks_over (length plans) a.0;
+      ops = over-none _ _ b.0;
+      deps = over-none _ _ c.0;
+      notes = over-none _ _ c.1;
+    }
+  where
+    ranks_some : (n : ℕ) → (if eqb n 0 then Some (Count 0 MAX_RANKS) else over MAX_RANKS n) ≡ None → 0 < n
+    ranks_some n h = grind (arith, nat_tests)
+
+    ranks_over : (n : ℕ) → (if eqb n 0 then Some (Count 0 MAX_RANKS) else over MAX_RANKS n) ≡ None → n ≤ MAX_RANKS
+    ranks_over n h = grind (arith, nat_tests)
+
+-- a test that would have told a fault has passed
+passed : (b : Bool) (fault : PlanFault) → (if b then None else Some fault) ≡ None → b ≡ true
+passed true fault h = refl
+passed false fault h = absurd (cc)
+
+passed_both : (a b : Bool) (first second : PlanFault) → (if a then (if b then None else Some second) else Some first) ≡ None → (a ≡ true) × (b ≡ true)
+passed_both true b first second h = (refl, passed b second h)
+passed_both false b first second h = absurd (cc)
+
+-- both operations of a dependency are the rank's
+pub dep_in_range-parts : (ops : ℕ) (d : Dep) → dep_in_range ops d ≡ true → (d.later < ops) × (d.earlier < ops)
+dep_in_range-parts ops d h =
+    let l : ltb d.later ops ≡ true = and_left (ltb d.later ops) (ltb d.earlier ops) h in
+    let e : ltb d.earlier ops ≡ true = and_right (ltb d.later ops) (ltb d.earlier ops) h in
+    (grind (arith, nat_tests), grind (arith, nat_tests))
+
+module _ (plans : List Plan) (plain : plain_fault plans ≡ None) where
+  pub plain-counts : AreCountsWithin plans
+  unfolding plain_fault
+  plain-counts = count_fault-none plans (option_or-none _ _ plain).0
+
+  module _ (rank : ℕ) (p : Plan) (inside : rank < length plans) where
+    plain-rank : rank_fault (length plans) rank (get_or plans rank p) ≡ None
+    unfolding plain_fault
+    plain-rank = rw zero-add at (first_fault-none (rank_fault (length plans)) 0 plans (option_or-none _ _ plain).1 rank p inside)
+
+    -- its operations have values and peers within range
+    pub plain-op : (k : ℕ) (d : Op) → k < length (get_or plans rank p).ops → let o = get_or (get_or plans rank p).ops k d in (value_fits o.kind o.nic ≡ true) × (has_peer (length plans) o.kind ≡ true)
+    unfolding rank_fault
+    plain-op k d below = passed_both _ _ _ _ (first_fault-none (op_fault (length plans) rank) 0 (get_or plans rank p).ops (option_or-none _ _ plain-rank).0 k d below)
+
+    -- its dependencies name operations of the rank
+    pub plain-dep : (k : ℕ) (d : Dep) → k < length (get_or plans rank p).deps → dep_in_range (length (get_or plans rank p).ops) (get_or (get_or plans rank p).deps k d) ≡ true
+    unfolding rank_fault
+    plain-dep k d below = passed _ _ (first_fault-none (dep_fault (length (get_or plans rank p).ops) rank) 0 (get_or plans rank p).deps (option_or-none _ _ (option_or-none _ _ plain-rank).1).0 k d below)
+
+    -- its notes name operations of the rank that can do them
+    pub plain-note : (k : ℕ) (n : Note) → k < length (get_or plans rank p).notes → note_fits (get_or plans rank p).ops (get_or (get_or plans rank p).notes k n) ≡ true
+    unfolding rank_fault
+    plain-note k n below = passed _ _ (first_fault-none (note_fault (get_or plans rank p).ops rank) 0 (get_or plans rank p).notes (option_or-none _ _ (option_or-none _ _ plain-rank).1).1 k n below)
+
+  -- each dependency stands in the row of an operation of its rank
+  pub plain-owner : (listing : Listing) → All (λ (p : Plan). All (λ (d : Dep). owner listing d < length p.ops) p.deps) plans
+  plain-owner Needs rank p inside k d below = (dep_in_range-parts _ (get_or (get_or plans rank p).deps k d) (plain-dep rank p inside k d below)).0
+  plain-owner WaitingOn rank p inside k d below = (dep_in_range-parts _ (get_or (get_or plans rank p).deps k d) (plain-dep rank p inside k d below)).1

@@ -1,0 +1,8 @@
+use Rattle.std.proofs.Common.{◌≡◌, ◌++◌, drop}
+use Rattle.goal_graph.specs.Schedule.{places_of_rank}
+use Rattle.goal_graph.proofs.listing.list_rank.Given as goal
+
+-- what is listed, and then what is left, is what was there and the places of the rank
+abbrev pub invariant-loop-op : goal.invariant-loop-op
+invariant-loop-op l =
+    l.ids.items ++ places_of_rank l.rank l.op (drop l.op l.ops) ≡ l.initial.ids.items ++ places_of_rank l.rank 0 l.ops

@@ -1,0 +1,119 @@
+// Schedules: lists of plans that break no rule.
+ghost use Rattle.std.specs.Prelude.{◌≡◌, ◌≢◌, ◌⊎◌, List, length, Some, None, All, IfOk, IfErr, OnOk, IsOkUnless, IsErrOf, slice_get};
+ghost use Rattle.goal_graph.specs.declared.fault.PlanFault.{PlanFault};
+ghost use Rattle.goal_graph.specs.Schedule.{Plan, op_at, needs, waiting_on, needed, operations};
+ghost use Rattle.goal_graph.specs.Fault.{plain_fault, IsOp, IsFault, IsAccepted};
+
+use crate::action::OpId;
+use crate::cycle::first_cycle;
+use crate::fault::PlanFault;
+use crate::listing::list_operations;
+use crate::plan::{Need, Op, RankPlan};
+use crate::tables::Tables;
+use std::alloc::Global;
+use std::marker::Model;
+
+/// A schedule: for each rank its operations, the order among them, and notes. It breaks no rule.
+/// Contracts see it as the list of its plans.
+#[derive(Debug, Drop)]
+pub struct Sched {
+    tables: Tables,
+    operations: Vec<OpId>,
+}
+
+impl Model for Sched {
+    ghost use Rattle.std.specs.Prelude.{◌≡◌, List};
+    ghost use Rattle.goal_graph.specs.Schedule.{Plan, operations as all_operations};
+    ghost use Rattle.goal_graph.specs.Fault.{IsAccepted};
+
+    ghost Value = { List Plan };
+
+    ghost view = { λ s. s.tables };
+
+    ghost invariant = { λ s. IsAccepted s.tables × (s.operations.items ≡ all_operations s.tables) };
+}
+
+impl Sched {
+    /// The schedule of these plans, or the first rule that they break.
+    pub fn build(alloc: Global, plans: Vec<RankPlan>) -> Result<Sched, PlanFault>
+        requires { plain_fault plans.items ≡ None }
+        ensures schedule { IfOk result (λ sched. sched ≡ plans.items) }
+        ensures accepted { OnOk result (IsAccepted plans.items) }
+        ensures accepts { IsAccepted plans.items → IsOkUnless result PlanFault.NoMemory }
+        ensures fault { IfErr result (λ fault. fault ≢ PlanFault.NoMemory → IsFault plans.items fault) }
+        ensures faults { (fault : PlanFault) → IsFault plans.items fault
+            → IsErrOf result fault ⊎ IsErrOf result PlanFault.NoMemory }
+    {
+        let tables = Tables::of(alloc, plans)?;
+        if let Some(OpId { rank, op }) = first_cycle(alloc, &tables)? {
+            return Err(PlanFault::Cycle { rank, op });
+        }
+        let operations = list_operations(alloc, tables.plans())?;
+        Ok(Sched { tables, operations })
+    }
+
+    /// The plans of all ranks.
+    pub fn plans(&self) -> &[RankPlan]
+        ensures plans { result.now ≡ self.now }
+        ensures accepted { IsAccepted self.now }
+    {
+        self.tables.plans()
+    }
+
+    /// The schedule breaks no rule.
+    pub fn known(&self)
+        ensures accepted { IsAccepted self.now }
+    {
+        let _ = &self.tables;
+    }
+
+    /// Every operation, by rank and number.
+    pub fn operations(&self) -> &[OpId]
+        ensures all { result.now ≡ operations self.now }
+        ensures exist { All (λ x. IsOp self.now x) result.now }
+    {
+        &self.operations
+    }
+
+    /// The operation at this place.
+    pub fn op(&self, id: OpId) -> &Op
+        requires { IsOp self.now id }
+        ensures { op_at self.now id ≡ Some result.now }
+    {
+        self.tables.op(id)
+    }
+
+    /// What the operation needs, in the order of the rank's dependencies.
+    pub fn needs(&self, id: OpId) -> &[Need]
+        requires { IsOp self.now id }
+        ensures needs { result.now ≡ needs self.now id }
+        ensures exist { All (λ need. IsOp self.now (needed id need)) result.now }
+    {
+        self.tables.needs(id)
+    }
+
+    /// The operations that need this one, in the order of the rank's dependencies.
+    pub fn waiting_on(&self, id: OpId) -> &[Need]
+        requires { IsOp self.now id }
+        ensures waiting_on { result.now ≡ waiting_on self.now id }
+        ensures exist { All (λ need. IsOp self.now (needed id need)) result.now }
+    {
+        self.tables.waiting_on(id)
+    }
+
+    /// The number of all operations.
+    pub fn count(&self) -> u32
+        ensures count { result ≡ length (operations self.now) }
+        ensures accepted { IsAccepted self.now }
+    {
+        self.tables.count()
+    }
+
+    /// The place of the operation in the order of all, by rank and number.
+    pub fn index(&self, id: OpId) -> u32
+        requires { IsOp self.now id }
+        ensures { slice_get (operations self.now) result ≡ Some id }
+    {
+        self.tables.index(id)
+    }
+}
