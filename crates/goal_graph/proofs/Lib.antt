@@ -8,3 +8,4 @@ pub mod Counts
 pub mod Depths
 pub mod Searching
 pub mod Faults
+pub mod FirstFault
