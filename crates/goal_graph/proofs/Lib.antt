@@ -25,3 +25,4 @@ pub mod Depths
 pub mod Searching
 pub mod Faults
 pub mod ListingLemmas
+pub mod FirstFault

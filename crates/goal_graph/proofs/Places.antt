@@ -3,7 +3,7 @@ use Rattle.std.proofs.Common.{◌≡◌, ◌⊎◌, ℕ, zero, suc, ◌+◌, ◌
 use Rattle.std.specs.List.{sum_by}
 use Rattle.std.proofs.lemmas.Bool.{cases_lt, false≢true}
 use Rattle.std.proofs.lemmas.List.{take-take, take_all, length-take-le, length_push, get_or_append_left, get_or_push, get_or-append-add, get_or_default}
-use Rattle.std.proofs.lemmas.List.Sums.{sum_by-cons, sum_by_more, sum_by_more_le}
+use Rattle.std.proofs.lemmas.List.Sums.{sum_by-cons, sum_by_more, sum_by_more_le, get_or-le-sum_by}
 use Rattle.std.proofs.lemmas.List.Concat.{get_or-flat_map, length-flat_map}
 use Rattle.std.proofs.lemmas.List.FromFn.{length-map-range_with_len, get_or-map-range_with_len}
 use Rattle.std.proofs.lemmas.Option.{slice_get-get_or, slice_get_cases}
@@ -14,7 +14,7 @@ use Rattle.goal_graph.specs.declared.plan.Need.{Need}
 use Rattle.goal_graph.specs.declared.rows.Listing.{Listing}
 use Rattle.goal_graph.specs.declared.rows.Listing.TheVariants.{Needs, WaitingOn}
 use Rattle.goal_graph.specs.Schedule.{Plan, needs, waiting_on, op_at, deps_at, places_of_rank, places_from, operations}
-use Rattle.goal_graph.specs.Fault.{IsOp, op_count}
+use Rattle.goal_graph.specs.Fault.{IsOp, op_count, dep_count, note_count}
 use Rattle.goal_graph.specs.Rows.{row, rank_rows, all_rows}
 use Rattle.goal_graph.specs.Tables.{index_of, AreStarts}
 
@@ -228,3 +228,21 @@ IsOp-below plans x rank_in op_in =
 pub rank_size : (plans read : List Plan) (rank : ℕ) (p : Plan) (n : ℕ) → read ≡ plans → rank < length plans → p ≡ get_or read rank p → n ≡ length p.ops → n ≡ length (get_or plans rank no_plan).ops
 rank_size plans read rank p n same inside at size =
     size ∙ ap (λ (q : Plan). length q.ops) (rw same at at ∙ get_or_default plans rank p no_plan inside)
+
+-- one more rank has so many dependencies and notes more
+pub dep_count-more : (plans : List Plan) (i : ℕ) (p : Plan) → i < length plans → dep_count (take (i + 1) plans) ≡ dep_count (take i plans) + length (get_or plans i p).deps
+unfolding dep_count
+dep_count-more plans i p inside = sum_by_more (λ (q : Plan). length q.deps) plans i p inside
+
+pub note_count-more : (plans : List Plan) (i : ℕ) (p : Plan) → i < length plans → note_count (take (i + 1) plans) ≡ note_count (take i plans) + length (get_or plans i p).notes
+unfolding note_count
+note_count-more plans i p inside = sum_by_more (λ (q : Plan). length q.notes) plans i p inside
+
+-- each rank has at most as many as all together
+pub lengths-le : (plans : List Plan) (i : ℕ) (p : Plan) → i < length plans → record { ops : length (get_or plans i p).ops ≤ op_count plans; deps : length (get_or plans i p).deps ≤ dep_count plans; notes : length (get_or plans i p).notes ≤ note_count plans }
+unfolding op_count dep_count note_count
+lengths-le plans i p inside = record {
+  ops = get_or-le-sum_by (λ (q : Plan). length q.ops) plans i p inside;
+  deps = get_or-le-sum_by (λ (q : Plan). length q.deps) plans i p inside;
+  notes = get_or-le-sum_by (λ (q : Plan). length q.notes) plans i p inside;
+}

@@ -1,5 +1,5 @@
 -- What holds of plans that have no fault but perhaps a cycle.
-use Rattle.std.proofs.Common.{◌≡◌, ℕ, zero, suc, ◌+◌, ◌<◌, ◌≤◌, eqb, ltb, Bool, true, false, List, [], ◌∷◌, length, get_or, Option, Some, None, refl, arith, All, add-zero, zero-add}
+use Rattle.std.proofs.Common.{◌≡◌, ℕ, zero, suc, ◌+◌, ◌<◌, ◌≤◌, eqb, ltb, Bool, true, false, List, [], ◌∷◌, length, get_or, Option, Some, None, refl, ap, arith, All, add-zero, zero-add}
 use Rattle.std.specs.Prelude.{if◌then◌else◌}
 use Rattle.std.specs.Option.{option_or}
 use Rattle.std.proofs.lemmas.Bool.Decides.{nat_tests}
@@ -21,6 +21,10 @@ pub option_or-none : {T : Type 0} (a b : Option T) → option_or a b ≡ None �
 option_or-none None b h = (refl, h)
 option_or-none (Some x) b h = absurd (cc)
 
+option_or_assoc : {T : Type 0} (a b c : Option T) → option_or (option_or a b) c ≡ option_or a (option_or b c)
+option_or_assoc None b c = refl
+option_or_assoc (Some x) b c = refl
+
 -- no item has a fault
 pub first_fault-none : {A : Type 0} (fault : ℕ → A → Option PlanFault) (n : ℕ) (xs : List A) → first_fault fault n xs ≡ None → (k : ℕ) (d : A) → k < length xs → fault (n + k) (get_or xs k d) ≡ None
 unfolding first_fault
@@ -41,7 +45,7 @@ pub record AreCountsWithin (plans : List Plan) : Type 0 where
   pub deps : dep_count plans ≤ MAX_DEPS
   pub notes : note_count plans ≤ MAX_NOTES
 
-count_fault-none : (plans : List Plan) → count_fault plans ≡ None → AreCountsWithin plans
+pub count_fault-none : (plans : List Plan) → count_fault plans ≡ None → AreCountsWithin plans
 unfolding count_fault
 count_fault-none plans h =
     let a = option_or-none _ _ h in
@@ -106,3 +110,31 @@ module _ (plans : List Plan) (plain : plain_fault plans ≡ None) where
   pub plain-owner : (listing : Listing) → All (λ (p : Plan). All (λ (d : Dep). owner listing d < length p.ops) p.deps) plans
   plain-owner Needs rank p inside k d below = (dep_in_range-parts _ (get_or (get_or plans rank p).deps k d) (plain-dep rank p inside k d below)).0
   plain-owner WaitingOn rank p inside k d below = (dep_in_range-parts _ (get_or (get_or plans rank p).deps k d) (plain-dep rank p inside k d below)).1
+
+-- the parts of the fault of the counts
+module _ (plans : List Plan) where
+  pub count_fault-empty : true ≡ eqb (length plans) 0 → Some (Count 0 MAX_RANKS) ≡ count_fault plans
+  unfolding count_fault
+  count_fault-empty none = rw (← none) refl
+
+  module _ (some : false ≡ eqb (length plans) 0) where
+    pub count_fault-ranks : (f : PlanFault) → Some f ≡ over MAX_RANKS (length plans) → Some f ≡ count_fault plans
+    unfolding count_fault
+    count_fault-ranks f found = rw (← some) (ap (λ o. option_or o rest) found)
+      where
+        rest : Option PlanFault
+        rest = option_or (over MAX_OPS (op_count plans)) (option_or (over MAX_DEPS (dep_count plans)) (over MAX_NOTES (note_count plans)))
+
+    pub count_fault-rest : None ≡ over MAX_RANKS (length plans) → option_or (option_or (over MAX_OPS (op_count plans)) (over MAX_DEPS (dep_count plans))) (over MAX_NOTES (note_count plans)) ≡ count_fault plans
+    unfolding count_fault
+    count_fault-rest none =
+        rw (← some, ← none) (option_or_assoc (over MAX_OPS (op_count plans)) (over MAX_DEPS (dep_count plans)) (over MAX_NOTES (note_count plans)))
+
+-- a plan fault's parts: the counts come first
+pub plain_fault-counts : (plans : List Plan) (f : PlanFault) → Some f ≡ count_fault plans → Some f ≡ plain_fault plans
+unfolding plain_fault
+plain_fault-counts plans f found = rw (← found) refl
+
+pub plain_fault-ranks : (plans : List Plan) → None ≡ count_fault plans → first_fault (rank_fault (length plans)) 0 plans ≡ plain_fault plans
+unfolding plain_fault
+plain_fault-ranks plans none = rw (← none) refl

@@ -1,5 +1,6 @@
 pub mod Schedule
 pub mod Fault
+pub mod Widths
 pub mod Rows
 pub mod Tables
 pub mod Search

@@ -2,6 +2,7 @@
 #![tactic(auto)]
 
 mod action;
+mod check;
 mod cycle;
 mod fault;
 mod laws;

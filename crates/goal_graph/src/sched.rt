@@ -1,10 +1,12 @@
 // Schedules: lists of plans that break no rule.
-ghost use Rattle.std.specs.Prelude.{◌≡◌, ◌≢◌, ◌⊎◌, List, length, Some, None, All, IfOk, IfErr, OnOk, IsOkUnless, IsErrOf, slice_get};
+ghost use Rattle.std.specs.Prelude.{◌≡◌, ◌≢◌, ◌⊎◌, List, length, Some, All, IfOk, IfErr, OnOk, IsOkUnless, IsErrOf, slice_get};
 ghost use Rattle.goal_graph.specs.declared.fault.PlanFault.{PlanFault};
 ghost use Rattle.goal_graph.specs.Schedule.{Plan, op_at, needs, waiting_on, needed, operations};
-ghost use Rattle.goal_graph.specs.Fault.{plain_fault, IsOp, IsFault, IsAccepted};
+ghost use Rattle.goal_graph.specs.Fault.{IsOp, IsFault, IsAccepted};
+ghost use Rattle.goal_graph.specs.Widths.{AreInWidth};
 
 use crate::action::OpId;
+use crate::check::first_plain_fault;
 use crate::cycle::first_cycle;
 use crate::fault::PlanFault;
 use crate::listing::list_operations;
@@ -25,18 +27,18 @@ impl Model for Sched {
     ghost use Rattle.std.specs.Prelude.{◌≡◌, List};
     ghost use Rattle.goal_graph.specs.Schedule.{Plan, operations as all_operations};
     ghost use Rattle.goal_graph.specs.Fault.{IsAccepted};
+    ghost use Rattle.goal_graph.specs.Widths.{AreInWidth};
 
     ghost Value = { List Plan };
 
     ghost view = { λ s. s.tables };
 
-    ghost invariant = { λ s. IsAccepted s.tables × (s.operations.items ≡ all_operations s.tables) };
+    ghost invariant = { λ s. IsAccepted s.tables × AreInWidth s.tables × (s.operations.items ≡ all_operations s.tables) };
 }
 
 impl Sched {
     /// The schedule of these plans, or the first rule that they break.
     pub fn build(alloc: Global, plans: Vec<RankPlan>) -> Result<Sched, PlanFault>
-        requires { plain_fault plans.items ≡ None }
         ensures schedule { IfOk result (λ sched. sched ≡ plans.items) }
         ensures accepted { OnOk result (IsAccepted plans.items) }
         ensures accepts { IsAccepted plans.items → IsOkUnless result PlanFault.NoMemory }
@@ -44,6 +46,9 @@ impl Sched {
         ensures faults { (fault : PlanFault) → IsFault plans.items fault
             → IsErrOf result fault ⊎ IsErrOf result PlanFault.NoMemory }
     {
+        if let Some(fault) = first_plain_fault(&plans) {
+            return Err(fault);
+        }
         let tables = Tables::of(alloc, plans)?;
         if let Some(OpId { rank, op }) = first_cycle(alloc, &tables)? {
             return Err(PlanFault::Cycle { rank, op });
@@ -56,6 +61,7 @@ impl Sched {
     pub fn plans(&self) -> &[RankPlan]
         ensures plans { result.now ≡ self.now }
         ensures accepted { IsAccepted self.now }
+        ensures widths { AreInWidth self.now }
     {
         self.tables.plans()
     }
