@@ -12,7 +12,7 @@ use Rattle.goal_graph.specs.Fault.{IsOp, plain_fault, op_count}
 use Rattle.std.proofs.Common.{None}
 use Rattle.goal_graph.proofs.Plain.{plain-counts}
 use Rattle.goal_graph.proofs.Exists.{listed_places}
-use Rattle.goal_graph.proofs.Places.{no_plan}
+use Rattle.goal_graph.proofs.Places.{no_plan, length-operations}
 
 no_op : Op
 no_op = record { kind = Calc 0; cpu = 0; nic = 0 }
@@ -65,3 +65,8 @@ listed_exist plans tables ids same is =
     let among : Contains (operations plans) (get_or ids k d) =
     subst (λ (ps : List Plan). Contains (operations ps) (get_or ids k d)) same (subst (λ (xs : List OpId). Contains xs (get_or ids k d)) is (Contains-get_or ids k d h)) in
     (listed_places plans (get_or ids k d)).0 among
+
+pub few_listed : (plans : List Plan) (count : ℕ) → plain_fault plans ≡ None → count ≡ length (operations plans) → count ≤ 2 ^ 20
+few_listed plans count plain is =
+    let counts = plain-counts plans plain in
+    omega (arith, length-operations plans, counts.ops, is)

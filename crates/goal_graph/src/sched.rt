@@ -1,5 +1,5 @@
 // Schedules: lists of plans that break no rule.
-ghost use Rattle.std.specs.Prelude.{◌≡◌, ◌≢◌, ◌⊎◌, List, length, Some, All, IfOk, IfErr, OnOk, IsOkUnless, IsErrOf, slice_get};
+ghost use Rattle.std.specs.Prelude.{◌≡◌, ◌≢◌, ◌⊎◌, ◌≤◌, ◌^◌, List, length, Some, All, IfOk, IfErr, OnOk, IsOkUnless, IsErrOf, slice_get};
 ghost use Rattle.goal_graph.specs.declared.fault.PlanFault.{PlanFault};
 ghost use Rattle.goal_graph.specs.Schedule.{Plan, op_at, needs, waiting_on, needed, operations};
 ghost use Rattle.goal_graph.specs.Fault.{IsOp, IsFault, IsAccepted};
@@ -110,6 +110,7 @@ impl Sched {
     /// The number of all operations.
     pub fn count(&self) -> u32
         ensures count { result ≡ length (operations self.now) }
+        ensures few { result ≤ 2 ^ 20 }
         ensures accepted { IsAccepted self.now }
     {
         self.tables.count()

@@ -2,9 +2,11 @@ pub mod Examples
 pub mod Order
 pub mod Grow
 pub mod Interleavings
+pub mod Accepted
+pub mod SharesLemmas
 pub mod Fixed
 pub mod Reach
-pub mod Budget
+pub mod BudgetBound
 pub mod Rise
 pub mod Unique
 pub mod Exists

@@ -6,3 +6,4 @@ pub mod Run
 pub mod Stuck
 pub mod Budget
 pub mod Laws
+pub mod Shares

@@ -4,7 +4,9 @@
 mod costs;
 mod laws;
 mod params;
+mod shares;
 
 pub use costs::{Costs, LogGops};
 pub use laws::{laws_of_keys, laws_of_reasons, laws_of_runs, laws_of_the_budget, laws_of_times};
 pub use params::{Param, ParamFault, Params};
+pub use shares::{budget, op_count};

@@ -1,7 +1,7 @@
 -- Each law is a lemma.
 use Rattle.sim_params.proofs.Interleavings.{run_each}
 use Rattle.sim_params.proofs.Reach.{within_reach}
-use Rattle.sim_params.proofs.Budget.{within_budget, possible_budget, reach_rises, parts_make_share}
+use Rattle.sim_params.proofs.BudgetBound.{within_budget, possible_budget, reach_rises, parts_make_share}
 use Rattle.sim_params.proofs.laws.laws_of_the_budget.Goals as goal
 
 pub returns-clause-within_reach : goal.returns-clause-within_reach

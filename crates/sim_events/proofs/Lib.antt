@@ -1,0 +1,10 @@
+pub mod Keys
+pub mod Tables
+pub mod HoldsLemmas
+pub mod Calcs
+pub mod Ready
+pub mod Choice
+pub mod Leasts
+pub mod Steps
+pub mod Empty
+pub mod Finished

@@ -1,0 +1,125 @@
+-- When an operation is ready, need by need.
+use Rattle.std.proofs.Common.{◌≡◌, ℕ, zero, suc, ◌+◌, ◌<◌, ◌≤◌, max, nat_lt, Bool, true, false, ◌&&◌, ◌==◌, List, [], ◌∷◌, length, map, filter, drop, get_or, Option, Some, None, slice_get, unwrap_or, if◌then◌else◌, refl, sym, ap, ◌∙◌, subst, arith, ltb-true}
+use Rattle.std.specs.List.{list_all}
+use Rattle.std.specs.Option.{option_map}
+use Rattle.std.proofs.lemmas.Bool.{and_parts}
+use Rattle.std.proofs.lemmas.Option.{same_Some, slice_get-get_or}
+use Rattle.std.proofs.lemmas.List.{drop_more, drop_all}
+use Rattle.goal_graph.specs.declared.action.OpId.{OpId}
+use Rattle.goal_graph.specs.declared.action.Timed.{Timed}
+use Rattle.goal_graph.specs.declared.plan.Dep.{Dep}
+use Rattle.goal_graph.specs.declared.plan.Need.{Need}
+use Rattle.goal_graph.specs.declared.plan.When.{When}
+use Rattle.goal_graph.specs.declared.plan.When.TheVariants.{AfterEnd, AfterStart}
+use Rattle.goal_graph.specs.Schedule.{Plan, deps_at, earlier_of, needs, needed}
+use Rattle.goal_graph.specs.Fault.{IsOp, IsAccepted}
+use Rattle.goal_graph.specs.Action.{plain}
+use Rattle.goal_graph.specs.Allowed.{is_met, is_ready}
+use Rattle.sim_params.specs.Costs.{CostModel, is_eager}
+use Rattle.sim_params.specs.Times.{greatest, met_at, ready}
+use Rattle.sim_params.proofs.Accepted.{dep_fits}
+use Rattle.sim_params.proofs.SharesLemmas.{is_op_at}
+use Rattle.sim_events.specs.Mirrors.{moment_told, ready_told}
+
+-- an item of a filtered list, and of a mapped one, comes from the list
+filtered_at : {A : Type 0} (p : A → Bool) (xs : List A) (k : ℕ) (x : A) → slice_get (filter p xs) k ≡ Some x → (i : ℕ) × (slice_get xs i ≡ Some x)
+filtered_at p [] k x e = absurd (cc)
+filtered_at p (y ∷ ys) k x e = go (λ j f. filtered_at p ys j x f) (p y) k e
+  where
+    later : (i : ℕ) × (slice_get ys i ≡ Some x) → (i : ℕ) × (slice_get (y ∷ ys) i ≡ Some x)
+    later m = (suc m.0, m.1)
+
+    go : ((j : ℕ) → slice_get (filter p ys) j ≡ Some x → (i : ℕ) × (slice_get ys i ≡ Some x)) → (b : Bool) (k : ℕ) → slice_get (if b then y ∷ filter p ys else filter p ys) k ≡ Some x → (i : ℕ) × (slice_get (y ∷ ys) i ≡ Some x)
+    go rest true zero f = (0, f)
+    go rest true (suc j) f = later (rest j f)
+    go rest false j f = later (rest j f)
+
+mapped_at : {A B : Type 0} (f : A → B) (xs : List A) (k : ℕ) (y : B) → slice_get (map f xs) k ≡ Some y → (x : A) × (slice_get xs k ≡ Some x) × (f x ≡ y)
+mapped_at f [] k y e = absurd (cc)
+mapped_at f (x ∷ xs) zero y e = (x, refl, same_Some (f x) y e)
+mapped_at f (x ∷ xs) (suc k) y e = mapped_at f xs k y e
+
+-- what an operation needs exists
+pub needed_exists : (plans : List Plan) → IsAccepted plans → (x : OpId) (k : ℕ) (d : Need) → slice_get (needs plans x) k ≡ Some d → IsOp plans (needed x d)
+unfolding needs deps_at
+needed_exists plans accepted x k d e = go (slice_get plans x.rank) refl (mapped_at earlier_of _ k d e)
+  where
+    by_dep : (p : Plan) (dep : Dep) (i : ℕ) → slice_get plans x.rank ≡ Some p → earlier_of dep ≡ d → slice_get p.deps i ≡ Some dep → IsOp plans (needed x d)
+    by_dep p dep i s same f =
+        let fits = and_parts (nat_lt dep.later (length p.ops)) (nat_lt dep.earlier (length p.ops)) (dep_fits plans accepted x.rank i p dep s f) in
+        subst (λ (d : Need). IsOp plans (needed x d)) same (is_op_at plans x.rank dep.earlier p s (ltb-true dep.earlier (length p.ops) fits.1))
+
+    go : (q : Option Plan) → slice_get plans x.rank ≡ q → (dep : Dep) × (slice_get (filter (λ (d : Dep). d.later == x.op) (unwrap_or (option_map (λ (p : Plan). p.deps) q) [])) k ≡ Some dep) × (earlier_of dep ≡ d) → IsOp plans (needed x d)
+    go None s m = let none = m.1 in absurd (cc)
+    go (Some p) s m =
+        let i = filtered_at (λ (d : Dep). d.later == x.op) p.deps k m.0 m.1 in by_dep p m.0 i.0 s m.2 i.1
+
+module _ (plans : List Plan) (costs : CostModel) (h : List Timed) (x : OpId) where
+  -- the moment of a need, whether it is there, and both
+  abbrev pub is_there : Need → Bool
+  is_there d = is_met plans (is_eager plans costs) (plain h) d.when (needed x d)
+
+  abbrev pub there_at : Need → ℕ
+  there_at d = met_at plans costs h d.when (needed x d)
+
+  -- the greatest of n and the moments of the needs, once these are there
+  unfoldable pub ready_from : ℕ → List Need → Option ℕ
+  ready_from n ds = if list_all is_there ds then Some (max n (greatest there_at ds)) else None
+
+  pub ready_start : ready_from 0 (needs plans x) ≡ ready_told plans costs h x
+  unfolding ready_from is_ready ready
+  ready_start = ap (λ n. if list_all is_there (needs plans x) then Some n else None) (omega arith)
+
+  pub ready_end : (n : ℕ) → ready_from n [] ≡ Some n
+  unfolding ready_from greatest
+  ready_end n = ap Some (omega arith)
+
+  moment_is : (d : Need) → moment_told plans costs h d.when (needed x d) ≡ (if is_there d then Some (there_at d) else None)
+  moment_is d = go d.when
+    where
+      go : (w : When) → moment_told plans costs h w (needed x d) ≡ (if is_met plans (is_eager plans costs) (plain h) w (needed x d) then Some (met_at plans costs h w (needed x d)) else None)
+      go AfterEnd = refl
+      go AfterStart = refl
+
+  -- a need that is there
+  pub ready_met : (n m : ℕ) (d : Need) (ds : List Need) → moment_told plans costs h d.when (needed x d) ≡ Some m → ready_from n (d ∷ ds) ≡ ready_from (max n m) ds
+  unfolding ready_from greatest
+  ready_met n m d ds e = go (is_there d) (sym (moment_is d) ∙ e)
+    where
+      go : (b : Bool) → (if b then Some (there_at d) else None) ≡ Some m → (if b && list_all is_there ds then Some (max n (max (there_at d) (greatest there_at ds))) else None) ≡ (if list_all is_there ds then Some (max (max n m) (greatest there_at ds)) else None)
+      go true f =
+          let same = same_Some (there_at d) m f in
+          ap (λ k. if list_all is_there ds then Some k else None) (omega arith)
+      go false f = absurd (cc)
+
+  -- a need that is not
+  pub ready_unmet : (n : ℕ) (d : Need) (ds : List Need) → moment_told plans costs h d.when (needed x d) ≡ None → ready_from n (d ∷ ds) ≡ None
+  unfolding ready_from
+  ready_unmet n d ds e = go (is_there d) (sym (moment_is d) ∙ e)
+    where
+      go : (b : Bool) → (if b then Some (there_at d) else None) ≡ None → (if b && list_all is_there ds then Some (max n (greatest there_at (d ∷ ds))) else None) ≡ None
+      go true f = absurd (cc)
+      go false f = refl
+
+  -- the needs as they are read, one after another
+  module _ (items : List Need) (are_needs : items ≡ needs plans x) (k : ℕ) (n : ℕ) (whole : Option ℕ) (so_far : ready_from n (drop k (needs plans x)) ≡ whole) where
+    this_and_rest : (d : Need) → k < length items → drop k (needs plans x) ≡ get_or items k d ∷ drop (k + 1) (needs plans x)
+    this_and_rest d l = subst (λ ds. drop k ds ≡ get_or items k d ∷ drop (k + 1) ds) are_needs (drop_more items k d l)
+
+    pub read_met : (d : Need) (r : Option ℕ) (m : ℕ) → k < length items → r ≡ moment_told plans costs h (get_or items k d).when (needed x (get_or items k d)) → r ≡ Some m → ready_from (max n m) (drop (k + 1) (needs plans x)) ≡ whole
+    read_met d r m l e f =
+        sym (ap (ready_from n) (this_and_rest d l) ∙ ready_met n m (get_or items k d) (drop (k + 1) (needs plans x)) (sym e ∙ f)) ∙ so_far
+
+    pub read_unmet : (d : Need) (r : Option ℕ) → k < length items → r ≡ moment_told plans costs h (get_or items k d).when (needed x (get_or items k d)) → r ≡ None → None ≡ whole
+    read_unmet d r l e f =
+        sym (ap (ready_from n) (this_and_rest d l) ∙ ready_unmet n (get_or items k d) (drop (k + 1) (needs plans x)) (sym e ∙ f)) ∙ so_far
+
+    pub read_all : length items ≤ k → Some n ≡ whole
+    read_all l =
+        let none : drop k (needs plans x) ≡ [] = drop_all k (needs plans x) (subst (λ ds. length ds ≤ k) are_needs l) in
+        sym (ap (ready_from n) none ∙ ready_end n) ∙ so_far
+
+-- a need that is read names an operation
+pub read_exists : (plans : List Plan) → IsAccepted plans → (x : OpId) (items : List Need) → items ≡ needs plans x → (k : ℕ) (d : Need) → k < length items → IsOp plans (needed x (get_or items k d))
+read_exists plans accepted x items e k d l =
+    needed_exists plans accepted x k (get_or items k d) (subst (λ ds. slice_get ds k ≡ Some (get_or items k d)) e (slice_get-get_or items k d l))

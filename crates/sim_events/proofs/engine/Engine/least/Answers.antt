@@ -1,0 +1,23 @@
+use Rattle.std.proofs.Common.{◌+◌, ◌<◌, length, sym, ap, ◌∙◌, subst, arith}
+use Rattle.goal_graph.specs.declared.action.OpId.{OpId}
+use Rattle.sim_params.proofs.Accepted.{few_ranks}
+use Rattle.sim_events.specs.Least.{IsLeastAmong}
+use Rattle.sim_events.proofs.Leasts.{rank_more, least_next, none_finished}
+use Rattle.sim_events.proofs.engine.Engine.least.Goals as goal
+
+pub overflow_cast-ranks : goal.overflow_cast-ranks
+overflow_cast-ranks g c =
+    omega (arith, few_ranks c.args.self.now.plans c.known.ensures.accepted, ap length (c.plans.ensures.plans ∙ c.sched.ensures))
+
+pub loop-rank-preserved : goal.loop-rank-preserved
+loop-rank-preserved g c =
+    let more = rank_more c.args.self.now.plans (g.C.Costs.model c.args.self.now.costs) c.args.self.now.history c.loop-rank.rank c.loop-rank.best c.least_of_rank.result c.loop-rank.invariant c.least_of_rank.ensures in
+    subst (IsLeastAmong c.args.self.now.plans (g.C.Costs.model c.args.self.now.costs) (λ (y : OpId). y.rank < c.loop-rank.rank + 1) c.args.self.now.history) (sym c.lesser-best.ensures) more
+
+pub returns-clause-next : goal.returns-clause-next
+returns-clause-next g c =
+    least_next c.args.self.now.plans (g.C.Costs.model c.args.self.now.costs) c.args.self.now.history c.loop-rank.rank c.loop-rank.best (omega (arith, ap length (c.plans.ensures.plans ∙ c.sched.ensures), c.loop-rank-test.false)) c.loop-rank.invariant
+
+pub returns-clause-none : goal.returns-clause-none
+returns-clause-none g c =
+    none_finished c.args.self.now.plans (g.C.Costs.model c.args.self.now.costs) c.args.self.now.history c.loop-rank.rank c.loop-rank.best (omega (arith, ap length (c.plans.ensures.plans ∙ c.sched.ensures), c.loop-rank-test.false)) c.loop-rank.invariant

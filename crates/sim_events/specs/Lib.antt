@@ -1,0 +1,4 @@
+pub mod Engine
+pub mod Least
+pub mod Holds
+pub mod Mirrors

@@ -1,0 +1,155 @@
+-- The share of an operation by what it does, bounds on shares, and sums of shares by ranks.
+use Rattle.std.proofs.Common.{◌≡◌, ℕ, suc, ◌+◌, ◌^◌, ◌<◌, ◌≤◌, true, false, nat_le, List, [], ◌∷◌, ◌++◌, length, drop, get_or, Option, Some, None, is_some, slice_get, refl, sym, ap, ◌∙◌, subst, inl, inr, arith, leb-true}
+use Rattle.std.specs.List.{sum_by}
+use Rattle.std.specs.Option.{option_map}
+use Rattle.std.proofs.lemmas.Bool.{and_parts, cases_Bool}
+use Rattle.std.proofs.lemmas.Option.{slice_get-get_or}
+use Rattle.std.proofs.lemmas.List.{at_drop_more, at_drop_all}
+use Rattle.std.proofs.lemmas.List.Sums.{sum_by-cons, sum_by-append, sum_by-le}
+use Rattle.goal_graph.specs.declared.action.OpId.{OpId}
+use Rattle.goal_graph.specs.declared.plan.Op.{Op}
+use Rattle.goal_graph.specs.declared.plan.Kind.{Kind}
+use Rattle.goal_graph.specs.declared.plan.Kind.TheVariants.{Calc, Send, Recv}
+use Rattle.goal_graph.specs.Schedule.{Plan, op_at, kind_at, places_of_rank, places_from}
+use Rattle.goal_graph.specs.Fault.{value_fits, IsOp, IsAccepted}
+use Rattle.sim_params.specs.Costs.{CostModel, IsBounded, is_eager}
+use Rattle.sim_params.specs.Budget.{share}
+use Rattle.sim_params.specs.Shares.{message_share, request_share, ops_at, places_at}
+use Rattle.sim_params.proofs.Accepted.{value_within}
+
+-- a place within a list has an item
+pub slice_get_within_some : {A : Type 0} (xs : List A) (i : ℕ) → i < length xs → (x : A) × (slice_get xs i ≡ Some x)
+slice_get_within_some [] i h = absurd (omega arith)
+slice_get_within_some (x ∷ xs) i h = (get_or (x ∷ xs) i x, slice_get-get_or (x ∷ xs) i x h)
+
+-- what the operation at a place does
+pub kind_of : (plans : List Plan) (x : OpId) (o : Op) (k : Kind) → op_at plans x ≡ Some o → o.kind ≡ k → kind_at plans x ≡ Some k
+unfolding kind_at
+kind_of plans x o k e f = ap (option_map (λ (o : Op). o.kind)) e ∙ ap Some f
+
+module _ (plans : List Plan) (accepted : IsAccepted plans) where
+  pub few_bytes : (x : OpId) (o : Op) (bytes to tag : ℕ) → op_at plans x ≡ Some o → o.kind ≡ Send bytes to tag → bytes < 2 ^ 40
+  few_bytes x o bytes to tag e k =
+      let fits : nat_le bytes 1099511627775 ≡ true = subst (λ (k : Kind). value_fits k o.nic ≡ true) k (value_within plans accepted x o e) in
+      omega (arith, leb-true bytes 1099511627775 fits)
+
+  pub few_nanos : (x : OpId) (o : Op) (nanos : ℕ) → op_at plans x ≡ Some o → o.kind ≡ Calc nanos → nanos < 2 ^ 48
+  few_nanos x o nanos e k =
+      let fits = subst (λ (k : Kind). value_fits k o.nic ≡ true) k (value_within plans accepted x o e) in
+      omega (arith, leb-true nanos 281474976710655 (and_parts (nat_le nanos 281474976710655) _ fits).0)
+
+module _ (plans : List Plan) (costs : CostModel) (x : OpId) where
+  pub share_calc : (nanos : ℕ) → kind_at plans x ≡ Some (Calc nanos) → share plans costs x ≡ nanos
+  unfolding share
+  share_calc nanos e = rw e refl
+
+  pub share_recv : (room : ℕ) (from tag : Option ℕ) → kind_at plans x ≡ Some (Recv room from tag) → share plans costs x ≡ 0
+  unfolding share
+  share_recv room from tag e = rw e refl
+
+  pub share_none : kind_at plans x ≡ None → share plans costs x ≡ 0
+  unfolding share
+  share_none e = rw e refl
+
+  pub share_eager : (bytes to tag : ℕ) → kind_at plans x ≡ Some (Send bytes to tag) → costs.eager x.rank to bytes ≡ true → share plans costs x ≡ message_share costs x.rank to bytes
+  unfolding share is_eager
+  share_eager bytes to tag e eager = simp (e, eager) (omega arith)
+
+  pub share_large : (bytes to tag : ℕ) → kind_at plans x ≡ Some (Send bytes to tag) → costs.eager x.rank to bytes ≡ false → share plans costs x ≡ message_share costs x.rank to bytes + request_share costs x.rank to
+  unfolding share is_eager
+  share_large bytes to tag e eager = simp (e, eager)
+
+-- no share is over 2^66
+module _ (plans : List Plan) (costs : CostModel) (accepted : IsAccepted plans) (bounded : IsBounded costs) where
+  send_bound : (x : OpId) (bytes to tag : ℕ) → kind_at plans x ≡ Some (Send bytes to tag) → bytes < 2 ^ 40 → share plans costs x ≤ 2 ^ 66
+  send_bound x bytes to tag e few =
+      elim (cases_Bool (costs.eager x.rank to bytes)) [ inl t ↦ omega (arith, share_eager plans costs x bytes to tag e t, bounded.over x.rank to bytes few, bounded.gap x.rank to bytes few, bounded.flight x.rank to bytes few) | inr f ↦ omega (arith, share_large plans costs x bytes to tag e f, bounded.over x.rank to bytes few, bounded.gap x.rank to bytes few, bounded.flight x.rank to bytes few, bounded.over x.rank to 1 (omega arith), bounded.gap x.rank to 1 (omega arith), bounded.flight x.rank to 1 (omega arith), bounded.latency x.rank to) ]
+
+  kind_bound : (x : OpId) (o : Op) → op_at plans x ≡ Some o → (k : Kind) → o.kind ≡ k → share plans costs x ≤ 2 ^ 66
+  kind_bound x o e (Calc nanos) f =
+      omega (arith, share_calc plans costs x nanos (kind_of plans x o _ e f), few_nanos plans accepted x o nanos e f)
+  kind_bound x o e (Send bytes to tag) f =
+      send_bound x bytes to tag (kind_of plans x o _ e f) (few_bytes plans accepted x o bytes to tag e f)
+  kind_bound x o e (Recv room from tag) f = omega (arith, share_recv plans costs x room from tag (kind_of plans x o _ e f))
+
+  pub share_bound : (x : OpId) → share plans costs x ≤ 2 ^ 66
+  unfolding kind_at
+  share_bound x = go (op_at plans x) refl
+    where
+      go : (o : Option Op) → op_at plans x ≡ o → share plans costs x ≤ 2 ^ 66
+      go None e = omega (arith, share_none plans costs x (ap (option_map (λ (o : Op). o.kind)) e))
+      go (Some o) e = kind_bound x o e o.kind refl
+
+  pub shares_bound : (xs : List OpId) → length xs ≤ 2 ^ 20 → sum_by (share plans costs) xs ≤ 2 ^ 86
+  shares_bound xs few =
+      omega (arith, sum_by-le (share plans costs) (2 ^ 66) xs (λ k d h. share_bound (get_or xs k d)), few)
+
+-- the places of one rank from a number on
+pub places_more : (rank i : ℕ) (ops : List Op) → i < length ops → places_of_rank rank i (drop i ops) ≡ record { rank = rank; op = i } ∷ places_of_rank rank (i + 1) (drop (i + 1) ops)
+unfolding places_of_rank
+places_more rank i [] h = absurd (omega arith)
+places_more rank i (o ∷ os) h = at_drop_more (places_of_rank rank i) (o ∷ os) i o h
+
+pub places_none : (rank i : ℕ) (ops : List Op) → length ops ≤ i → places_of_rank rank i (drop i ops) ≡ []
+unfolding places_of_rank
+places_none rank i ops h = at_drop_all (places_of_rank rank i) ops i h
+
+pub ops_at_some : (plans : List Plan) (rank : ℕ) (p : Plan) → slice_get plans rank ≡ Some p → ops_at plans rank ≡ p.ops
+unfolding ops_at
+ops_at_some plans rank p e = rw e refl
+
+-- the places of all ranks from one on
+pub ranks_more : (plans : List Plan) (rank : ℕ) → rank < length plans → places_from rank (drop rank plans) ≡ places_at plans rank ++ places_from (rank + 1) (drop (rank + 1) plans)
+unfolding places_from places_at
+ranks_more [] rank h = absurd (omega arith)
+ranks_more (p ∷ ps) rank h =
+    let all = p ∷ ps in
+    let here = slice_get-get_or all rank p h in
+    at_drop_more (places_from rank) all rank p h ∙ ap (λ os. places_of_rank rank 0 os ++ places_from (rank + 1) (drop (rank + 1) all)) (sym (ops_at_some all rank (get_or all rank p) here))
+
+pub ranks_none : (plans : List Plan) (rank : ℕ) → length plans ≤ rank → places_from rank (drop rank plans) ≡ []
+unfolding places_from
+ranks_none plans rank h = at_drop_all (places_from rank) plans rank h
+
+-- an operation of a rank exists
+pub op_at_rank : (plans : List Plan) (rank op : ℕ) (p : Plan) → slice_get plans rank ≡ Some p → op_at plans (record { rank = rank; op = op }) ≡ slice_get p.ops op
+unfolding op_at
+op_at_rank plans rank op p e = rw e refl
+
+pub is_op_at : (plans : List Plan) (rank op : ℕ) (p : Plan) → slice_get plans rank ≡ Some p → op < length p.ops → IsOp plans (record { rank = rank; op = op })
+is_op_at plans rank op p e h =
+    let o = slice_get_within_some p.ops op h in
+    subst (λ o. is_some o ≡ true) (sym (op_at_rank plans rank op p e ∙ o.1)) refl
+
+-- an operation whose number is below that of all of its rank exists
+pub is_op_below : (plans : List Plan) (rank op : ℕ) → rank < length plans → op < length (ops_at plans rank) → IsOp plans (record { rank = rank; op = op })
+is_op_below plans rank op h k =
+    let p = slice_get_within_some plans rank h in
+    is_op_at plans rank op p.0 p.1 (subst (λ os. op < length os) (ops_at_some plans rank p.0 p.1) k)
+
+-- the shares of a rank from a number on
+pub shares_more : (f : OpId → ℕ) (rank i : ℕ) (ops : List Op) → i < length ops → sum_by f (places_of_rank rank i (drop i ops)) ≡ f (record { rank = rank; op = i }) + sum_by f (places_of_rank rank (i + 1) (drop (i + 1) ops))
+shares_more f rank i ops h =
+    ap (sum_by f) (places_more rank i ops h) ∙ sum_by-cons f (record { rank = rank; op = i }) (places_of_rank rank (i + 1) (drop (i + 1) ops))
+
+pub shares_none : (f : OpId → ℕ) (rank i : ℕ) (ops : List Op) → length ops ≤ i → sum_by f (places_of_rank rank i (drop i ops)) ≡ 0
+shares_none f rank i ops h = ap (sum_by f) (places_none rank i ops h)
+
+-- the shares of all ranks from one on
+pub rank_shares_more : (f : OpId → ℕ) (plans : List Plan) (rank : ℕ) → rank < length plans → sum_by f (places_from rank (drop rank plans)) ≡ sum_by f (places_at plans rank) + sum_by f (places_from (rank + 1) (drop (rank + 1) plans))
+rank_shares_more f plans rank h =
+    ap (sum_by f) (ranks_more plans rank h) ∙ sum_by-append f (places_at plans rank) (places_from (rank + 1) (drop (rank + 1) plans))
+
+pub rank_shares_none : (f : OpId → ℕ) (plans : List Plan) (rank : ℕ) → length plans ≤ rank → sum_by f (places_from rank (drop rank plans)) ≡ 0
+rank_shares_none f plans rank h = ap (sum_by f) (ranks_none plans rank h)
+
+length-places : (rank i : ℕ) (ops : List Op) → length (places_of_rank rank i ops) ≡ length ops
+unfolding places_of_rank
+length-places rank i [] = refl
+length-places rank i (o ∷ os) = ap suc (length-places rank (i + 1) os)
+
+-- all shares of a rank together
+pub rank_bound : (plans : List Plan) (costs : CostModel) → IsAccepted plans → IsBounded costs → (rank : ℕ) → length (ops_at plans rank) ≤ 2 ^ 20 → sum_by (share plans costs) (places_at plans rank) ≤ 2 ^ 86
+unfolding places_at
+rank_bound plans costs accepted bounded rank few =
+    shares_bound plans costs accepted bounded (places_of_rank rank 0 (ops_at plans rank)) (omega (arith, length-places rank 0 (ops_at plans rank), few))

@@ -1,0 +1,86 @@
+// The time budget: a bound on every time of a run, known before it.
+ghost use Rattle.std.specs.Prelude.{◌≡◌, ◌<◌, ◌≤◌, ◌^◌, length, sum_by};
+ghost use Rattle.goal_graph.specs.Fault.{IsOp};
+ghost use Rattle.sim_params.specs.Budget.{budget, share};
+ghost use Rattle.sim_params.specs.Shares.{message_share, request_share, ops_at, places_at};
+
+use crate::Costs;
+use goal_graph::{Kind, OpId, Sched};
+
+/// The time budget of a run, in nanoseconds: the sum of what each operation may add to the times. It is below 2^87.
+pub fn budget<C: Costs>(sched: &Sched, costs: &C) -> u128
+    ensures { result ≡ budget sched.now (C.model costs.now) }
+{
+    sched.known();
+    let _count = sched.count();
+    let ranks = sched.plans().len() as u32;
+    let mut sum = 0;
+    for rank in 0..ranks {
+        let shares = rank_share(sched, costs, rank);
+        sum += shares;
+    }
+    sum
+}
+
+// The shares of the operations of one rank, added up.
+fn rank_share<C: Costs>(sched: &Sched, costs: &C, rank: u32) -> u128
+    requires { rank < length sched.now }
+    ensures { result ≡ sum_by (share sched.now (C.model costs.now)) (places_at sched.now rank) }
+{
+    sched.known();
+    let mut sum = 0;
+    for op in 0..op_count(sched, rank) {
+        sum += share(sched, costs, OpId { rank, op });
+    }
+    sum
+}
+
+/// How many operations a rank has.
+pub fn op_count(sched: &Sched, rank: u32) -> u32
+    requires { rank < length sched.now }
+    ensures count { result ≡ length (ops_at sched.now rank) }
+    ensures few { result ≤ 2 ^ 20 }
+{
+    sched.known();
+    let plan = &sched.plans()[rank as usize];
+    plan.ops.len() as u32
+}
+
+// What an operation may add to the times.
+fn share<C: Costs>(sched: &Sched, costs: &C, id: OpId) -> u128
+    requires { IsOp sched.now id }
+    ensures { result ≡ share sched.now (C.model costs.now) id }
+{
+    sched.known();
+    let from = id.rank;
+    match sched.op(id).kind {
+        Kind::Calc { nanos } => u128::from(nanos),
+        Kind::Send { bytes, to, .. } => {
+            let message = u128::from(message_share(costs, from, to, bytes));
+            if costs.eager(from, to, bytes) {
+                message
+            } else {
+                message + u128::from(request_share(costs, from, to))
+            }
+        }
+        Kind::Recv { .. } => 0,
+    }
+}
+
+// What a message may add to the times.
+fn message_share<C: Costs>(costs: &C, from: u32, to: u32, bytes: u64) -> u64
+    requires { bytes < 2 ^ 40 }
+    ensures { result ≡ message_share (C.model costs.now) from to bytes }
+{
+    2 * (costs.over(from, to, bytes) + costs.gap(from, to, bytes)) + costs.flight(from, to, bytes)
+}
+
+// What the handshake before a large message may add.
+fn request_share<C: Costs>(costs: &C, from: u32, to: u32) -> u64
+    ensures { result ≡ request_share (C.model costs.now) from to }
+{
+    costs.over(from, to, 1)
+        + costs.gap(from, to, 1)
+        + costs.flight(from, to, 1)
+        + costs.latency(from, to)
+}
