@@ -16,23 +16,23 @@ loop-need-init g c =
 
 pub moment-requires : goal.moment-requires
 moment-requires g c =
-    let items = c.needs-need-items.ensures ∙ ap (λ (v : View _). needs v.plans c.args.id) c.self.view_is in
+    let items = c.needs-need-items.ensures.needs ∙ ap (λ (v : View _). needs v.plans c.args.id) c.self.view_is in
     let accepted = subst (λ (v : View _). IsAccepted v.plans) c.self.view_is c.self.invariant.accepted in
     read_exists _ accepted c.args.id c.needs-need-items.result.now items c.loop-need.need-index none c.loop-need-test.true
 
 pub returns-in-None : goal.returns-in-None
 returns-in-None g c =
-    let items = c.needs-need-items.ensures ∙ ap (λ (v : View _). needs v.plans c.args.id) c.self.view_is in
+    let items = c.needs-need-items.ensures.needs ∙ ap (λ (v : View _). needs v.plans c.args.id) c.self.view_is in
     read_unmet _ (g.C.Costs.model c.args.self.now.costs) c.args.self.now.history c.args.id c.needs-need-items.result.now items c.loop-need.need-index c.loop-need.ready _ c.loop-need.invariant none c.moment.result c.loop-need-test.true c.moment.ensures c.in-None.is
 
 pub loop-need-preserved : goal.loop-need-preserved
 loop-need-preserved g c =
-    let items = c.needs-need-items.ensures ∙ ap (λ (v : View _). needs v.plans c.args.id) c.self.view_is in
+    let items = c.needs-need-items.ensures.needs ∙ ap (λ (v : View _). needs v.plans c.args.id) c.self.view_is in
     let rest = drop (c.loop-need.need-index + 1) (needs c.args.self.now.plans c.args.id) in
     let met = read_met _ (g.C.Costs.model c.args.self.now.costs) c.args.self.now.history c.args.id c.needs-need-items.result.now items c.loop-need.need-index c.loop-need.ready _ c.loop-need.invariant none c.moment.result c.in-Some.at c.loop-need-test.true c.moment.ensures c.in-Some.is in
     ap (λ n. ready_from c.args.self.now.plans (g.C.Costs.model c.args.self.now.costs) c.args.self.now.history c.args.id n rest) c.max-ready.ensures ∙ met
 
 pub returns : goal.returns
 returns g c =
-    let items = c.needs-need-items.ensures ∙ ap (λ (v : View _). needs v.plans c.args.id) c.self.view_is in
+    let items = c.needs-need-items.ensures.needs ∙ ap (λ (v : View _). needs v.plans c.args.id) c.self.view_is in
     read_all _ (g.C.Costs.model c.args.self.now.costs) c.args.self.now.history c.args.id c.needs-need-items.result.now items c.loop-need.need-index c.loop-need.ready _ c.loop-need.invariant c.loop-need-test.false
