@@ -1,0 +1,10 @@
+pub mod AnswerLemmas
+pub mod RefusalLemmas
+pub mod TimelineLemmas
+pub mod SmallWordsLemmas
+pub mod SmallFormLemmas
+pub mod SmallBlockLemmas
+pub mod SmallPlansLemmas
+pub mod SmallDraftLemmas
+pub mod SmallPlainLemmas
+pub mod CalcsLemmas

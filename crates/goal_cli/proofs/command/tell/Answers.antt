@@ -1,0 +1,11 @@
+use Rattle.goal_cli.proofs.AnswerLemmas.{answered}
+use Rattle.goal_cli.proofs.command.tell.Goals as goal
+
+pub returns-in-BadLine-clause-answered : goal.returns-in-BadLine-clause-answered
+returns-in-BadLine-clause-answered g c = rw c.in-BadLine.is (answered _ _ _ _ _ c.say.ensures.said)
+
+pub returns-in-ReadFault-clause-answered : goal.returns-in-ReadFault-clause-answered
+returns-in-ReadFault-clause-answered g c = rw c.in-ReadFault.is (answered _ _ _ _ _ c.say-in-ReadFault.ensures.said)
+
+pub returns-in-WriteFault-clause-answered : goal.returns-in-WriteFault-clause-answered
+returns-in-WriteFault-clause-answered g c = rw c.in-WriteFault.is (answered _ _ _ _ _ c.say-in-WriteFault.ensures.said)

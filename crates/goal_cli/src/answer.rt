@@ -1,0 +1,46 @@
+// How a command line is answered.
+
+/// How a call of `goal` ends. The numbers of the statuses are 0 to 7 in this order.
+#[derive(Clone, Copy, Debug, PartialEq, Eq)]
+pub enum Status {
+    /// The printed run was written.
+    Done,
+    /// The printed run was written, and has an operation without an end.
+    Stuck,
+    /// The words are no command line.
+    BadLine,
+    /// The input has no run.
+    Refused,
+    /// The input was not read.
+    ReadFault,
+    /// The output was not written whole.
+    WriteFault,
+    /// The schedule is not certified.
+    NotCertified,
+    /// There was no memory left.
+    NoMemory,
+}
+
+// What a command line leads to.
+#[derive(Clone, Copy)]
+pub enum Answer {
+    Done,
+    BadLine,
+    Refused(Refusal),
+    ReadFault,
+    WriteFault,
+    NoMemory,
+}
+
+/// Why an input is refused.
+#[derive(Clone, Copy, Debug, PartialEq, Eq)]
+pub enum Refusal {
+    /// It has more than 2^27 bytes.
+    TooLong,
+    /// It is not in the small form.
+    Form,
+    /// This operation is the first that waits for itself, or only follows one that does.
+    Cycle { rank: u32, op: u32 },
+    /// The time budget, this sum in nanoseconds, exceeds 2^63-1.
+    Budget { sum: u128 },
+}

@@ -1,0 +1,46 @@
+//! `goal`: reads communication schedules and runs them.
+//!
+//! `goal sim NAME` reads a schedule from the file NAME, runs it, and prints when each operation starts and ends.
+#![tactic(auto)]
+
+mod answer;
+mod command;
+mod real;
+mod simulate;
+mod small;
+#[cfg(test)]
+mod tests;
+mod timeline;
+
+use answer::Status;
+use command::goal;
+use real::{RealHost, RealSink};
+use std::io::ErrorKind;
+use std::process::ExitCode;
+use std::{env, io};
+
+// The status of a program whose words the system does not hand over.
+const NO_WORDS: u8 = 8;
+
+// The words after the program's name.
+fn words(rt: &HostRuntime) -> io::Result<Vec<String>> {
+    Ok(env::args(rt)?.skip(1).collect(rt.alloc())?)
+}
+
+fn main(rt: HostRuntime) -> ExitCode {
+    let words = match words(&rt) {
+        Ok(words) => words,
+        Err(error) => {
+            return match error.kind() {
+                ErrorKind::OutOfMemory => ExitCode::from(Status::NoMemory as u8),
+                _ => ExitCode::from(NO_WORDS),
+            };
+        }
+    };
+    let alloc = rt.alloc();
+    let mut out = RealSink::new(rt.stdout());
+    let mut err = RealSink::new(rt.stderr());
+    let mut host = RealHost::new(rt);
+    let status = goal(alloc, &words, &mut host, &mut out, &mut err);
+    ExitCode::from(status as u8)
+}

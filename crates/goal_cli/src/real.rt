@@ -1,0 +1,155 @@
+// The real outside: files and streams of the system. They tell nothing of what they hold.
+ghost use Rattle.std.specs.Prelude.{◌≡◌, ◌≤◌, true, is_some};
+ghost use Rattle.goal_base.specs.Device.{Rose};
+
+use goal_base::{Host, IoFault, OpenFault, Sink};
+use std::io::{ErrorKind, Read, Write};
+use std::rt::Files;
+use std::{fs, io};
+
+/// The files of the system. Each count rises at each error of its kind, and stops at 2^64-1.
+#[derive(Drop)]
+pub struct RealHost<R: Files> {
+    rt: R,
+    input: Option<R::File>,
+    output: Option<R::File>,
+    reads: u64,
+    absent: u64,
+    writes: u64,
+}
+
+impl<R: Files> RealHost<R> {
+    /// The files that this runtime gives, of which none is open.
+    pub fn new(rt: R) -> RealHost<R> {
+        RealHost {
+            rt,
+            input: None,
+            output: None,
+            reads: 0,
+            absent: 0,
+            writes: 0,
+        }
+    }
+}
+
+// Counts an error; want of memory is counted nowhere.
+fn fault_of(count: &mut u64, error: io::Error) -> IoFault
+    ensures failed { result ≡ IoFault.Failed → Rose true count.old count.new }
+    ensures memory { result ≡ IoFault.NoMemory → count.new ≡ count.old }
+    ensures later { count.old ≤ count.new }
+{
+    match error.kind() {
+        ErrorKind::OutOfMemory => IoFault::NoMemory,
+        _ => {
+            *count = count.saturating_add(1);
+            IoFault::Failed
+        }
+    }
+}
+
+impl<R: Files + Drop> Host for RealHost<R> {
+    ghost use Rattle.std.specs.Prelude.{is_some};
+    ghost use Rattle.goal_cli.specs.Real.{untold_host};
+
+    ghost state = { λ h. untold_host (is_some h.input) (is_some h.output) h.reads h.absent h.writes };
+
+    fn open(&mut self, name: &str) -> Result<(), OpenFault> {
+        match fs::open(&self.rt, name) {
+            Ok(file) => {
+                self.input = Some(file);
+                Ok(())
+            }
+            Err(error) => match error.kind() {
+                ErrorKind::OutOfMemory => Err(OpenFault::NoMemory),
+                ErrorKind::NotFound => {
+                    self.absent = self.absent.saturating_add(1);
+                    Err(OpenFault::Absent)
+                }
+                _ => {
+                    self.reads = self.reads.saturating_add(1);
+                    Err(OpenFault::Failed)
+                }
+            },
+        }
+    }
+
+    fn read(&mut self, buf: &mut [u8]) -> Result<usize, IoFault> {
+        match &mut self.input {
+            Some(file) => match file.read(buf) {
+                Ok(count) => Ok(count),
+                Err(error) => Err(fault_of(&mut self.reads, error)),
+            },
+            None => unreachable!(),
+        }
+    }
+
+    fn create(&mut self, name: &str) -> Result<(), IoFault> {
+        match fs::create(&self.rt, name) {
+            Ok(file) => {
+                self.output = Some(file);
+                Ok(())
+            }
+            Err(error) => Err(fault_of(&mut self.writes, error)),
+        }
+    }
+
+    fn write(&mut self, piece: &[u8]) -> Result<usize, IoFault> {
+        match &mut self.output {
+            Some(file) => match file.write(piece) {
+                Ok(0) if !piece.is_empty() => {
+                    self.writes = self.writes.saturating_add(1);
+                    Err(IoFault::Failed)
+                }
+                Ok(count) => Ok(count),
+                Err(error) => Err(fault_of(&mut self.writes, error)),
+            },
+            None => unreachable!(),
+        }
+    }
+
+    fn finish(&mut self) -> Result<(), IoFault> {
+        match self.output.take() {
+            Some(mut file) => match file.flush() {
+                Ok(()) => Ok(()),
+                Err(error) => Err(fault_of(&mut self.writes, error)),
+            },
+            None => unreachable!(),
+        }
+    }
+}
+
+/// A stream of the system, as the standard output, which is flushed at each write. Its count rises at each error, and
+/// stops at 2^64-1.
+#[derive(Drop)]
+pub struct RealSink<W> {
+    stream: W,
+    faults: u64,
+}
+
+impl<W: Write> RealSink<W> {
+    /// A sink over this stream.
+    pub fn new(stream: W) -> RealSink<W> {
+        RealSink { stream, faults: 0 }
+    }
+}
+
+impl<W: Write> Sink for RealSink<W> {
+    ghost use Rattle.goal_cli.specs.Real.{untold_sink};
+
+    ghost state = { λ s. untold_sink s.faults };
+
+    fn write(&mut self, piece: &[u8]) -> Result<usize, IoFault> {
+        let written = match self.stream.write(piece) {
+            Ok(0) if !piece.is_empty() => {
+                self.faults = self.faults.saturating_add(1);
+                return Err(IoFault::Failed);
+            }
+            Ok(count) => count,
+            Err(error) => return Err(fault_of(&mut self.faults, error)),
+        };
+        match self.stream.flush() {
+            Ok(()) => Ok(written),
+            Err(error) => Err(fault_of(&mut self.faults, error)),
+        }
+    }
+}
