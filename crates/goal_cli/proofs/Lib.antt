@@ -3,6 +3,7 @@ pub mod RefusalLemmas
 pub mod TimelineLemmas
 pub mod SmallWordsLemmas
 pub mod SmallFormLemmas
+pub mod SmallItemLemmas
 pub mod SmallBlockLemmas
 pub mod SmallPlansLemmas
 pub mod SmallDraftLemmas

@@ -1,21 +1,25 @@
 -- The plans of every text in the small form are plain, so that no fault but a cycle is left.
-use Rattle.std.proofs.Common.{◌≡◌, ℕ, ◌+◌, ◌≤◌, Bool, true, false, ◌&&◌, cond, eqb, ltb, leb, List, [], ◌∷◌, map, length, Option, Some, None, IfSome, option_and_then, refl, ap, subst, ◌∙◌, arith}
+use Rattle.std.proofs.Common.{◌≡◌, ℕ, ◌+◌, ◌<◌, ◌≤◌, Bool, true, false, ◌&&◌, cond, eqb, ltb, leb, List, [], ◌∷◌, map, length, Option, Some, None, IfSome, option_and_then, refl, sym, ap, subst, ◌∙◌, inl, inr, arith}
+use Rattle.std.specs.Prelude.{bytes_eq}
 use Rattle.std.specs.Option.{option_map, option_or}
 use Rattle.std.specs.List.{range_with_len, list_all}
-use Rattle.std.proofs.lemmas.Bool.{cond-true, cond-false, and_parts, and_from, eqb-true, leb-true, le-leb, le-ltb, ne_eqb, false≢true}
+use Rattle.std.proofs.lemmas.Bool.{cond-true, cond-false, cases_Bool, and_parts, and_from, eqb-true, eq-eqb, leb-true, le-leb, lt-ltb, le-ltb, ne_eqb, false≢true}
 use Rattle.std.proofs.lemmas.List.Folds.{sum_by-zero}
 use Rattle.std.proofs.lemmas.List.FromFn.{length-map-range_with_len}
 use Rattle.goal_graph.specs.declared.fault.PlanFault.{PlanFault}
 use Rattle.goal_graph.specs.declared.fault.PlanFault.TheVariants as fault
 use Rattle.goal_graph.specs.declared.plan.Op.{Op}
+use Rattle.goal_graph.specs.declared.plan.When.{When}
+use Rattle.goal_graph.specs.declared.plan.When.TheVariants.{AfterEnd, AfterStart}
 use Rattle.goal_graph.specs.declared.plan.Dep.{Dep}
 use Rattle.goal_graph.specs.declared.plan.Note.{Note}
 use Rattle.goal_graph.specs.declared.plan.Kind.{Kind}
 use Rattle.goal_graph.specs.declared.plan.Kind.TheVariants.{Calc as CalcKind, Send, Recv}
 use Rattle.goal_graph.specs.Schedule.{Plan}
 use Rattle.goal_graph.specs.Fault.{op_count, dep_count, note_count, over, count_fault, is_calc, value_fits, has_peer, op_fault, dep_in_range, dep_fault, note_fault, first_fault, rank_fault, plain_fault}
-use Rattle.goal_cli.specs.SmallWords.{Word, NumRanks, Rank, Calc, Opens, Closes, Number, words, word, word_list, is_number, number_of, number_or_other, value_of}
-use Rattle.goal_cli.specs.Small.{Item, Inside, Block, op_of, plan_of, block_of, blocks, inside, with_block, with_item, ended, calc_of, plan_at, plans_at, ranks_fit, counts_fit, schedule, plans_of, small_form}
+use Rattle.goal_cli.specs.SmallWords.{Word, NumRanks, Rank, Calc, Cpu, Requires, Irequires, Opens, Closes, Number, Label, Names, words, word, word_list, is_number, number_of, value_of, is_label, before_colon, names_or_other, label_or_other, number_or_other}
+use Rattle.goal_cli.specs.Small.{Item, Does, Links, Link, Inside, Block, op_of, ops_of, named, labels_of, number_at, links_of, dep, deps_of, plan_of, block_of, blocks, inside, with_block, with_item, with_calc, with_calc_on, with_link, ended, plan_at, plans_at, ranks_fit, counts_fit, schedule, plans_of, small_form}
+use Rattle.goal_cli.proofs.SmallItemLemmas.{plan_parts, some-same, some-not-none}
 use Rattle.goal_cli.specs.SmallPlain.{is_plain_op, is_plain_plan, are_plain}
 
 -- each number is within the limit
@@ -34,19 +38,26 @@ if-fits : (b : Bool) {v w : Word} → IsFit v → IsFit w → IsFit (cond b v w)
 if-fits true h k = h
 if-fits false h k = k
 
-number-fits : (w : List ℕ) → IsFit (number_or_other (number_of w))
+label-fits : (w : List ℕ) → IsFit (label_or_other w)
+label-fits w = if-fits (is_label w) (record { fit = tt }) (go (before_colon w))
+  where
+    go : (o : Option (List ℕ)) → IsFit (names_or_other o)
+    go None = record { fit = tt }
+    go (Some x) = if-fits (is_label x) (record { fit = tt }) (record { fit = tt })
+
+number-fits : (w : List ℕ) → IsFit (number_or_other (number_of w) w)
 unfolding number_of
 number-fits w = go (is_number w) refl
   where
-    go : (b : Bool) → is_number w ≡ b → IsFit (number_or_other (cond b (Some (value_of w)) None))
+    go : (b : Bool) → is_number w ≡ b → IsFit (number_or_other (cond b (Some (value_of w)) None) w)
     go true e = record { fit = leb-true (value_of w) 281474976710655 (and_parts _ (leb (value_of w) 281474976710655) e).1 }
-    go false e = record { fit = tt }
+    go false e = label-fits w
 
 word-fits : (w : List ℕ) → IsFit (word w)
 unfolding word
 word-fits w =
     let sign : (v : Word) → WordFits v → IsFit v = λ v h. record { fit = h } in
-    if-fits _ (sign NumRanks tt) (if-fits _ (sign Rank tt) (if-fits _ (sign Calc tt) (if-fits _ (sign Opens tt) (if-fits _ (sign Closes tt) (number-fits w)))))
+    if-fits _ (sign NumRanks tt) (if-fits _ (sign Rank tt) (if-fits _ (sign Calc tt) (if-fits _ (sign Cpu tt) (if-fits _ (sign Requires tt) (if-fits _ (sign Irequires tt) (if-fits _ (sign Opens tt) (if-fits _ (sign Closes tt) (number-fits w))))))))
 
 words-fit : (ws : List (List ℕ)) → AllFit (map word ws)
 words-fit [] = tt
@@ -54,7 +65,8 @@ words-fit (w ∷ ws) = ((word-fits w).fit, words-fit ws)
 
 -- an item and a block within the limits
 abbrev item_fits : Item → Bool
-item_fits i = leb i.nanos 281474976710655
+item_fits (Does o) = leb o.nanos 281474976710655
+item_fits (Links l) = true
 
 abbrev is_plain_block : Block → Bool
 is_plain_block b = is_plain_plan b.plan
@@ -63,24 +75,59 @@ record IsPlainInside (i : Inside) : Type 0 where
   items : list_all item_fits i.items ≡ true
   blocks : list_all is_plain_block i.blocks ≡ true
 
-plain-ops : (items : List Item) → list_all item_fits items ≡ true → list_all is_plain_op (map op_of items) ≡ true
+plain-ops : (items : List Item) → list_all item_fits items ≡ true → list_all is_plain_op (ops_of items) ≡ true
+unfolding ops_of
 plain-ops [] h = refl
-plain-ops (i ∷ items) h =
-    let parts = and_parts (item_fits i) (list_all item_fits items) h in
-    and_from _ _ (and_from (leb i.nanos 281474976710655) true parts.0 refl) (plain-ops items parts.1)
+plain-ops (Does o ∷ items) h =
+    let parts = and_parts (leb o.nanos 281474976710655) (list_all item_fits items) h in
+    and_from _ _ (and_from (leb o.nanos 281474976710655) true parts.0 refl) (plain-ops items parts.1)
+plain-ops (Links l ∷ items) h = plain-ops items h
 
-plain-plan_of : (items : List Item) → list_all item_fits items ≡ true → IfSome (plan_of items) (λ p. is_plain_plan p ≡ true)
-unfolding plan_of
-plain-plan_of items h = and_from _ _ (and_from _ _ (plain-ops items h) refl) refl
+-- a label stands for one of the operations
+named-in_range : (label : Option (List ℕ)) (n limit : ℕ) (labels : List (List ℕ × ℕ)) (x : List ℕ) (k : ℕ) → n < limit → ((k : ℕ) → number_at labels x ≡ Some k → k < limit) → number_at (named label n labels) x ≡ Some k → k < limit
+named-in_range None n limit labels x k l h e = h k e
+named-in_range (Some y) n limit labels x k l h e =
+    elim (cases_Bool (bytes_eq x y)) [
+      | inl t ↦ subst (λ (m : ℕ). m < limit) (some-same n k (sym (cond-true (bytes_eq x y) (Some n) (number_at labels x) t) ∙ e)) l
+      | inr f ↦ h k (sym (cond-false (bytes_eq x y) (Some n) (number_at labels x) f) ∙ e)
+    ]
+
+label-in_range : (n : ℕ) (items : List Item) (x : List ℕ) (k : ℕ) → number_at (labels_of n items) x ≡ Some k → k < n + length (ops_of items)
+unfolding labels_of ops_of
+label-in_range n [] x k e = absurd (some-not-none k (sym e))
+label-in_range n (Does o ∷ items) x k e =
+    named-in_range o.label n (n + length (op_of o ∷ ops_of items)) (labels_of (n + 1) items) x k (omega arith) (λ m h. omega (arith, label-in_range (n + 1) items x m h)) e
+label-in_range n (Links l ∷ items) x k e = label-in_range n items x k e
+
+deps-in_range : (labels : List (List ℕ × ℕ)) (limit : ℕ) → ((x : List ℕ) (k : ℕ) → number_at labels x ≡ Some k → k < limit) → (links : List Link) (ds : List Dep) → deps_of labels links ≡ Some ds → list_all (dep_in_range limit) ds ≡ true
+unfolding deps_of
+deps-in_range labels limit h [] ds e = subst (λ (ds : List Dep). list_all (dep_in_range limit) ds ≡ true) (some-same [] ds e) refl
+deps-in_range labels limit h (l ∷ links) ds e =
+    go (number_at labels l.later) (number_at labels l.earlier) (deps_of labels links) (h l.later) (h l.earlier) (deps-in_range labels limit h links) e
+  where
+    go : (a b : Option ℕ) (p : Option (List Dep)) → ((k : ℕ) → a ≡ Some k → k < limit) → ((k : ℕ) → b ≡ Some k → k < limit) → ((ds : List Dep) → p ≡ Some ds → list_all (dep_in_range limit) ds ≡ true) → option_and_then (λ (d : Dep). option_map (λ (ds : List Dep). d ∷ ds) p) (option_and_then (λ (later : ℕ). option_map (dep l.when later) b) a) ≡ Some ds → list_all (dep_in_range limit) ds ≡ true
+    go None b p la lb rest e = absurd (some-not-none ds (sym e))
+    go (Some a) None p la lb rest e = absurd (some-not-none ds (sym e))
+    go (Some a) (Some b) None la lb rest e = absurd (some-not-none ds (sym e))
+    go (Some a) (Some b) (Some more) la lb rest e =
+        subst (λ (ds : List Dep). list_all (dep_in_range limit) ds ≡ true) (some-same (dep l.when a b ∷ more) ds e) (and_from _ _ (and_from (ltb a limit) (ltb b limit) (lt-ltb a limit (la a refl)) (lt-ltb b limit (lb b refl))) (rest more refl))
+
+plain-plan_of : (items : List Item) (p : Plan) → list_all item_fits items ≡ true → plan_of items ≡ Some p → is_plain_plan p ≡ true
+plain-plan_of items p h e =
+    let parts = plan_parts items p e in
+    let ops : list_all is_plain_op p.ops ≡ true = ap (list_all is_plain_op) parts.ops ∙ plain-ops items h in
+    let deps : list_all (dep_in_range (length (ops_of items))) p.deps ≡ true = deps-in_range (labels_of 0 items) (length (ops_of items)) (λ x k found. omega (arith, label-in_range 0 items x k found)) (links_of items) p.deps parts.deps in
+    let in_plan : list_all (dep_in_range (length p.ops)) p.deps ≡ true = ap (λ (ops : List Op). list_all (dep_in_range (length ops)) p.deps) parts.ops ∙ deps in
+    and_from _ _ (and_from _ _ ops in_plan) (eq-eqb (length p.notes) 0 (ap length parts.notes))
 
 -- the steps of the reading keep that
 plain-with_block : (r : ℕ) (o : Option Inside) → IfSome o IsPlainInside → IfSome (option_and_then (with_block r) o) (λ bs. list_all is_plain_block bs ≡ true)
 plain-with_block r None h = tt
-plain-with_block r (Some i) h = go (plan_of i.items) (plain-plan_of i.items h.items)
+plain-with_block r (Some i) h = go (plan_of i.items) (λ p e. plain-plan_of i.items p h.items e)
   where
-    go : (p : Option Plan) → IfSome p (λ p. is_plain_plan p ≡ true) → IfSome (option_map (block_of r i.blocks) p) (λ bs. list_all is_plain_block bs ≡ true)
+    go : (p : Option Plan) → ((q : Plan) → p ≡ Some q → is_plain_plan q ≡ true) → IfSome (option_map (block_of r i.blocks) p) (λ bs. list_all is_plain_block bs ≡ true)
     go None k = tt
-    go (Some p) k = and_from (is_plain_plan p) (list_all is_plain_block i.blocks) k h.blocks
+    go (Some p) k = and_from (is_plain_plan p) (list_all is_plain_block i.blocks) (k p refl) h.blocks
 
 plain-ended : (o : Option (List Block)) → IfSome o (λ bs. list_all is_plain_block bs ≡ true) → IfSome (option_map ended o) IsPlainInside
 plain-ended None h = tt
@@ -90,6 +137,21 @@ plain-with_item : (item : Item) (o : Option Inside) → item_fits item ≡ true 
 plain-with_item item None fits h = tt
 plain-with_item item (Some i) fits h =
     record { items = and_from (item_fits item) (list_all item_fits i.items) fits h.items; blocks = h.blocks }
+
+plain-calc : (label : Option (List ℕ)) (nanos cpu : ℕ) (o : Option Inside) → nanos ≤ 281474976710655 → IfSome o IsPlainInside → IfSome (with_calc label nanos cpu o) IsPlainInside
+plain-calc label nanos cpu o l h =
+    plain-with_item (Does (record { label = label; nanos = nanos; cpu = cpu })) o (le-leb nanos 281474976710655 l) h
+
+plain-calc_on : (label : Option (List ℕ)) (nanos cpu : ℕ) (o : Option Inside) → nanos ≤ 281474976710655 → IfSome o IsPlainInside → IfSome (with_calc_on label nanos cpu o) IsPlainInside
+plain-calc_on label nanos cpu o l h = go (leb cpu 255)
+  where
+    go : (b : Bool) → IfSome (cond b (with_calc label nanos cpu o) None) IsPlainInside
+    go true = plain-calc label nanos cpu o l h
+    go false = tt
+
+plain-link : (later earlier : List ℕ) (when : When) (o : Option Inside) → IfSome o IsPlainInside → IfSome (with_link later earlier when o) IsPlainInside
+plain-link later earlier when o h =
+    plain-with_item (Links (record { later = later; earlier = earlier; when = when })) o refl h
 
 mutual
   unfolding blocks inside
@@ -101,7 +163,12 @@ mutual
 
   plain-inside : (ws : List Word) → AllFit ws → IfSome (inside ws) IsPlainInside
   plain-inside (Closes ∷ ws) h = plain-ended (blocks ws) (plain-blocks ws h.1)
-  plain-inside (Calc ∷ Number n ∷ ws) h = plain-with_item (calc_of n) (inside ws) (le-leb n 281474976710655 h.1.0) (plain-inside ws h.1.1)
+  plain-inside (Calc ∷ Number d ∷ Cpu ∷ Number c ∷ ws) h = plain-calc_on None d c (inside ws) h.1.0 (plain-inside ws h.1.1.1.1)
+  plain-inside (Calc ∷ Number d ∷ ws) h = plain-calc None d 0 (inside ws) h.1.0 (plain-inside ws h.1.1)
+  plain-inside (Names x ∷ Calc ∷ Number d ∷ Cpu ∷ Number c ∷ ws) h = plain-calc_on (Some x) d c (inside ws) h.1.1.0 (plain-inside ws h.1.1.1.1.1)
+  plain-inside (Names x ∷ Calc ∷ Number d ∷ ws) h = plain-calc (Some x) d 0 (inside ws) h.1.1.0 (plain-inside ws h.1.1.1)
+  plain-inside (Label x ∷ Requires ∷ Label y ∷ ws) h = plain-link x y AfterEnd (inside ws) (plain-inside ws h.1.1.1)
+  plain-inside (Label x ∷ Irequires ∷ Label y ∷ ws) h = plain-link x y AfterStart (inside ws) (plain-inside ws h.1.1.1)
   plain-inside _ h = tt
 
 -- the plans of all ranks

@@ -1,14 +1,15 @@
 -- The words of a text, byte by byte.
-use Rattle.std.proofs.Common.{◌≡◌, ℕ, ◌+◌, ◌<◌, ◌≤◌, true, false, leb, Some, None, List, [], ◌∷◌, ◌++◌, length, take, drop, get_or, refl, sym, ap, ◌∙◌, subst, map, arith}
+use Rattle.std.proofs.Common.{◌≡◌, ℕ, ◌+◌, ◌<◌, ◌≤◌, Bool, true, false, cond, eqb, leb, Some, None, List, [], ◌∷◌, ◌++◌, length, take, drop, get_or, refl, sym, ap, ◌∙◌, subst, map, arith}
 use Rattle.std.specs.List.{list_all}
+use Rattle.std.specs.Option.{option_map}
 use Rattle.std.specs.Char.{is_ascii_digit}
 use Rattle.std.proofs.lemmas.List.Folds.{list_all_at}
-use Rattle.std.proofs.lemmas.Bool.{cond-true, cond-false, not-true, and_parts, and_left, and_right, and_from, lt-leb, le-leb}
+use Rattle.std.proofs.lemmas.Bool.{cond-true, cond-false, not-true, and_parts, and_left, and_right, and_from, lt-leb, le-leb, eq-eqb, ne_eqb}
 use Rattle.std.proofs.lemmas.List.{drop_more, take-append-drop, length-take-le}
 use Rattle.goal_cli.specs.declared.small.words.Token.{Token}
 use Rattle.goal_cli.specs.declared.small.words.Token.TheVariants as token
 use Rattle.goal_cli.specs.SmallTokens.{with_token, IsShorter}
-use Rattle.goal_cli.specs.SmallWords.{is_blank, is_in_word, begins_word, in_front, words, Word, word, word_list, value_of, is_number, number_of}
+use Rattle.goal_cli.specs.SmallWords.{is_blank, is_in_word, begins_word, in_front, words, Word, word, word_list, value_of, is_number, number_of, before_colon}
 
 -- a blank in front is passed
 words-blank : (b : ℕ) (bs : List ℕ) → is_blank b ≡ true → words (b ∷ bs) ≡ words bs
@@ -51,6 +52,10 @@ words_cut xs n l p h e =
     let long : 0 < length (take n xs) = omega (arith, length-take-le n xs l) in
     let cut : words (take n xs ++ drop n xs) ≡ take n xs ∷ words (drop n xs) = words-first (take n xs) (drop n xs) long h e in
     subst (λ (t : List ℕ). words t ≡ take n xs ∷ words (drop n xs)) (take-append-drop n xs) cut
+
+carried : (c : ℕ) (w : List ℕ) (b : Bool) → option_map (λ (w : List ℕ). c ∷ w) (cond b (Some w) None) ≡ cond b (Some (c ∷ w)) None
+carried c w true = refl
+carried c w false = refl
 
 -- when a word is no number, and when it is one
 pub number-none : (w : List ℕ) → is_number w ≡ false → None ≡ number_of w
@@ -96,10 +101,24 @@ first_word text tail w rest k t e l p all stops front back t_is =
 
 pub IsShorter-from : (t : Token) (m n : ℕ) → m < n → IsShorter t m n
 IsShorter-from token.End m n h = tt
-IsShorter-from token.NumRanks m n h = h
-IsShorter-from token.Rank m n h = h
-IsShorter-from token.Calc m n h = h
-IsShorter-from token.Open m n h = h
-IsShorter-from token.Close m n h = h
-IsShorter-from (token.Number k) m n h = h
-IsShorter-from token.Other m n h = h
+IsShorter-from _ m n h = h
+
+-- the last byte of a word
+before_colon-push : (w : List ℕ) (b : ℕ) → before_colon (w ++ b ∷ []) ≡ cond (eqb b 58) (Some w) None
+unfolding before_colon
+before_colon-push [] b = refl
+before_colon-push (c ∷ []) b = ap (option_map (λ (w : List ℕ). c ∷ w)) (before_colon-push [] b) ∙ carried c [] (eqb b 58)
+before_colon-push (c ∷ d ∷ w) b = ap (option_map (λ (w : List ℕ). c ∷ w)) (before_colon-push (d ∷ w) b) ∙ carried c (d ∷ w) (eqb b 58)
+
+pub before_colon-there : (w front : List ℕ) (last : ℕ) → w ≡ front ++ last ∷ [] → last ≡ 58 → before_colon w ≡ Some front
+before_colon-there w front last e h =
+    ap before_colon e ∙ before_colon-push front last ∙ cond-true (eqb last 58) _ _ (eq-eqb last 58 h)
+
+pub before_colon-absent : (w front : List ℕ) (last : ℕ) → w ≡ front ++ last ∷ [] → (last ≡ 58 → ⊥) → before_colon w ≡ None
+before_colon-absent w front last e h =
+    ap before_colon e ∙ before_colon-push front last ∙ cond-false (eqb last 58) _ _ (ne_eqb last 58 h)
+
+pub before_colon-empty : (w : List ℕ) → length w ≡ 0 → before_colon w ≡ None
+unfolding before_colon
+before_colon-empty [] e = refl
+before_colon-empty (b ∷ w) e = absurd (omega arith)

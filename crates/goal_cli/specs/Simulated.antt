@@ -37,11 +37,12 @@ pub record HasSchedule (text : List ℕ) (plans : List Plan) : Type 0 where
   pub accepted : IsAccepted plans
   pub fits : budget plans usual_costs < 2 ^ 63
 
--- The output is the printed run of a schedule: that of its complete run with the usual costs, in which at each step
+-- The output is the printed run of a schedule: that of its one complete run with the usual costs, in which at each step
 -- the least possible action by time and tie rule happens next.
 pub record IsPrintedRun (plans : List Plan) (output : List ℕ) : Type 0 where
   pub history : List Timed
   pub complete : IsCompleteRun plans usual_costs history
+  pub only : (h : List Timed) → IsCompleteRun plans usual_costs h → h ≡ history
   pub printed : output ≡ timeline plans usual_costs history
 
 -- the text has a schedule, and the output is its printed run

@@ -1,17 +1,34 @@
--- The small form of schedule texts: `num_ranks N`, and then blocks `rank R { .. }` of operations.
-use Rattle.std.specs.Prelude.{ℕ, ◌==◌, ◌&&◌, ◌||◌, nat_lt, nat_le, Bool, true, false, not, List, [], ◌∷◌, map, Option, Some, None, option_and_then, if◌then◌else◌}
+-- The small form of schedule texts: `num_ranks N`, and then blocks `rank R { .. }` of calcs and of dependencies.
+use Rattle.std.specs.Prelude.{ℕ, ◌+◌, ◌==◌, ◌&&◌, ◌||◌, nat_lt, nat_le, Bool, true, false, not, List, [], ◌∷◌, map, bytes_eq, Option, Some, None, is_none, option_and_then, if◌then◌else◌}
 use Rattle.std.specs.Option.{option_map}
 use Rattle.std.specs.List.{range_with_len}
+use Rattle.std.specs.Map.{lookup}
 use Rattle.goal_graph.specs.declared.limits.TheConstants.{MAX_RANKS, MAX_OPS, MAX_DEPS}
 use Rattle.goal_graph.specs.declared.plan.Op.{Op}
+use Rattle.goal_graph.specs.declared.plan.Dep.{Dep}
+use Rattle.goal_graph.specs.declared.plan.When.{When}
+use Rattle.goal_graph.specs.declared.plan.When.TheVariants.{AfterEnd, AfterStart}
 use Rattle.goal_graph.specs.declared.plan.Kind.TheVariants as kind
 use Rattle.goal_graph.specs.Schedule.{Plan}
 use Rattle.goal_graph.specs.Fault.{op_count, dep_count}
-use Rattle.goal_cli.specs.SmallWords.{Word, NumRanks, Rank, Calc, Opens, Closes, Number, word_list}
+use Rattle.goal_cli.specs.SmallWords.{Word, NumRanks, Rank, Calc, Cpu, Requires, Irequires, Opens, Closes, Number, Label, Names, word_list}
 
--- an item of a block: a calc of so many nanoseconds
-pub record Item : Type 0 where
+-- a calc of so many nanoseconds, with its label if it has one and its cpu
+pub record Operation : Type 0 where
+  pub label : Option (List ℕ)
   pub nanos : ℕ
+  pub cpu : ℕ
+
+-- the operation with the one label needs that with the other
+pub record Link : Type 0 where
+  pub later : List ℕ
+  pub earlier : List ℕ
+  pub when : When
+
+-- an item of a block
+pub data Item : Type 0 where
+  Does : Operation → Item
+  Links : Link → Item
 
 -- a block, with the plan that its items make
 pub record Block : Type 0 where
@@ -23,17 +40,72 @@ pub record Inside : Type 0 where
   pub items : List Item
   pub blocks : List Block
 
-abbrev pub op_of : Item → Op
-op_of i = record { kind = kind.Calc i.nanos; cpu = 0; nic = 0 }
+-- the operation of a calc, which has nic 0
+abbrev pub op_of : Operation → Op
+op_of o = record { kind = kind.Calc o.nanos; cpu = o.cpu; nic = 0 }
 
--- the plan that the items of a block make
+-- the operations of a block, in the order of the text
+unfoldable pub ops_of : List Item → List Op
+ops_of [] = []
+ops_of (Does o ∷ items) = op_of o ∷ ops_of items
+ops_of (Links l ∷ items) = ops_of items
+
+-- a label, if there is one, with the number of its operation, before others
+abbrev pub named : Option (List ℕ) → ℕ → List (List ℕ × ℕ) → List (List ℕ × ℕ)
+named (Some x) n labels = (x, n) ∷ labels
+named None n labels = labels
+
+-- the labels that a block defines, each with the number of its operation; that of the first operation is given
+unfoldable pub labels_of : ℕ → List Item → List (List ℕ × ℕ)
+labels_of n [] = []
+labels_of n (Does o ∷ items) = named o.label n (labels_of (n + 1) items)
+labels_of n (Links l ∷ items) = labels_of n items
+
+-- the number of the operation with a label
+abbrev pub number_at : List (List ℕ × ℕ) → List ℕ → Option ℕ
+number_at labels x = lookup (bytes_eq x) labels
+
+-- no label is defined twice
+unfoldable pub are_distinct : List (List ℕ × ℕ) → Bool
+are_distinct [] = true
+are_distinct (e ∷ labels) = is_none (number_at labels e.0) && are_distinct labels
+
+-- the dependencies of a block, in the order of the text
+unfoldable pub links_of : List Item → List Link
+links_of [] = []
+links_of (Does o ∷ items) = links_of items
+links_of (Links l ∷ items) = l ∷ links_of items
+
+-- the dependency between two operations by their numbers
+abbrev pub dep : When → ℕ → ℕ → Dep
+dep when later earlier = record { later = later; earlier = earlier; when = when }
+
+-- each label of a dependency stands for the operation that has it
+abbrev pub dep_of : List (List ℕ × ℕ) → Link → Option Dep
+dep_of labels l =
+    option_and_then (λ (later : ℕ). option_map (dep l.when later) (number_at labels l.earlier)) (number_at labels l.later)
+
+-- the dependencies, if each of their labels is defined
+unfoldable pub deps_of : List (List ℕ × ℕ) → List Link → Option (List Dep)
+deps_of labels [] = Some []
+deps_of labels (l ∷ links) =
+    option_and_then (λ (d : Dep). option_map (λ (ds : List Dep). d ∷ ds) (deps_of labels links)) (dep_of labels l)
+
+-- a plan without notes
+abbrev pub plan_with : List Op → List Dep → Plan
+plan_with ops deps = record { ops = ops; deps = deps; notes = [] }
+
+-- the plan that the items of a block make: no label is defined twice, and each that a dependency names is defined
 unfoldable pub plan_of : List Item → Option Plan
-plan_of items = Some (record { ops = map op_of items; deps = []; notes = [] })
+plan_of items =
+    let labels = labels_of 0 items in
+    if are_distinct labels then option_map (plan_with (ops_of items)) (deps_of labels (links_of items)) else None
 
+-- a block before others
 abbrev pub block_of : ℕ → List Block → Plan → List Block
 block_of rank blocks plan = record { rank = rank; plan = plan } ∷ blocks
 
--- the block of a rank, before the blocks after it
+-- the block of a rank, by what stands inside it, before the blocks after it
 abbrev pub with_block : ℕ → Inside → Option (List Block)
 with_block rank inside = option_map (block_of rank inside.blocks) (plan_of inside.items)
 
@@ -46,8 +118,17 @@ abbrev pub with_item : Item → Inside → Inside
 with_item item inside = record { items = item ∷ inside.items; blocks = inside.blocks }
 
 -- a calc
-abbrev pub calc_of : ℕ → Item
-calc_of nanos = record { nanos = nanos }
+abbrev pub with_calc : Option (List ℕ) → ℕ → ℕ → Option Inside → Option Inside
+with_calc label nanos cpu rest = option_map (with_item (Does (record { label = label; nanos = nanos; cpu = cpu }))) rest
+
+-- a calc on a cpu, of at most 255
+abbrev pub with_calc_on : Option (List ℕ) → ℕ → ℕ → Option Inside → Option Inside
+with_calc_on label nanos cpu rest = if nat_le cpu 255 then with_calc label nanos cpu rest else None
+
+-- a dependency
+abbrev pub with_link : List ℕ → List ℕ → When → Option Inside → Option Inside
+with_link later earlier when rest =
+    option_map (with_item (Links (record { later = later; earlier = earlier; when = when }))) rest
 
 unfoldable mutual
   -- the blocks that the words are: each is `rank R {`, and what stands inside
@@ -59,9 +140,15 @@ unfoldable mutual
   -- what stands inside a block: its items, and `}`, and then further blocks
   pub inside : List Word → Option Inside
   inside (Closes ∷ ws) = option_map ended (blocks ws)
-  inside (Calc ∷ Number d ∷ ws) = option_map (with_item (calc_of d)) (inside ws)
+  inside (Calc ∷ Number d ∷ Cpu ∷ Number c ∷ ws) = with_calc_on None d c (inside ws)
+  inside (Calc ∷ Number d ∷ ws) = with_calc None d 0 (inside ws)
+  inside (Names x ∷ Calc ∷ Number d ∷ Cpu ∷ Number c ∷ ws) = with_calc_on (Some x) d c (inside ws)
+  inside (Names x ∷ Calc ∷ Number d ∷ ws) = with_calc (Some x) d 0 (inside ws)
+  inside (Label x ∷ Requires ∷ Label y ∷ ws) = with_link x y AfterEnd (inside ws)
+  inside (Label x ∷ Irequires ∷ Label y ∷ ws) = with_link x y AfterStart (inside ws)
   inside _ = None
 
+-- the plan of a rank without a block
 abbrev pub empty_plan : Plan
 empty_plan = record { ops = []; deps = []; notes = [] }
 

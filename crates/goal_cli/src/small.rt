@@ -67,10 +67,11 @@ fn read_ranks<'a>(text: &'a [u8]) -> Option<Start<'a>>
     }
 }
 
-/// Reads a text in the small form: the plans of its ranks.
+/// Reads a text in the small form: the plans of its ranks, one a rank.
 ///
-/// `Form` is the answer exactly for a text that is not in the small form, unless memory runs out before that is
-/// found.
+/// `Form` is the answer only where the text is not in the small form, and such a text gets no other, unless memory
+/// runs out before. Every operation that is read is a calc, and no plan has notes. `Sched::build` finds no fault in
+/// the plans but a cycle.
 pub fn read_small(alloc: Global, text: &[u8]) -> Result<Vec<RankPlan>, SmallFault>
     ensures ok { IfOk result (λ plans. small_form text.now ≡ Some plans.items) }
     ensures form { IsErrOf result SmallFault.Form → small_form text.now ≡ None }

@@ -12,9 +12,9 @@ use std::alloc::{AllocError, Global};
 
 const MAX_RANKS: u64 = 65_536;
 
-const MAX_OPS: usize = 1_048_576;
+const MAX_OPS: u32 = 1_048_576;
 
-const MAX_DEPS: usize = 4_194_304;
+const MAX_DEPS: u32 = 4_194_304;
 
 /// The plans so far, which ranks have had their block, and what may still come.
 #[derive(Drop)]
@@ -83,8 +83,7 @@ impl Draft {
             return Err(SmallFault::Form);
         }
         let Block { plan, rest } = read_block(alloc, open.rest, self.room)?;
-        self.room.ops -= plan.ops.len();
-        self.room.deps -= plan.deps.len();
+        self.room = self.room.less(&plan);
         self.plans[rank as usize] = plan;
         self.seen[rank as usize] = true;
         Ok(rest)

@@ -5,4 +5,6 @@ pub returns-in-Close-clause-some : goal.returns-in-Close-clause-some
 returns-in-Close-clause-some c = inside_end _ _ _ c.next_word-step.ensures.words c.in-Close.is
 
 pub returns-in_default-clause-none : goal.returns-in_default-clause-none
-returns-in_default-clause-none c = inside_no_item _ _ _ c.next_word-step.ensures.words c.in_default.not-Calc c.in_default.not-Close
+returns-in_default-clause-none c =
+    let no = c.in_default in
+    inside_no_item _ _ _ c.next_word-step.ensures.words no.not-Close no.not-Calc no.not-Names no.not-Label

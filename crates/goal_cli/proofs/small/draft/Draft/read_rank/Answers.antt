@@ -1,7 +1,6 @@
 use Rattle.std.proofs.Common.{◌≡◌, ◌∙◌, ◌<◌, ap, refl, length, List, ◌∷◌, ◌++◌, arith}
 use Rattle.std.specs.Option.{option_and_then}
 use Rattle.std.proofs.lemmas.Result.{err_from_is_err_and}
-use Rattle.goal_graph.specs.Schedule.{Plan}
 use Rattle.goal_cli.specs.SmallWords.{Rank, word_list}
 use Rattle.goal_cli.specs.Small.{Block, blocks, inside, with_block, schedule}
 use Rattle.goal_cli.proofs.SmallFormLemmas.{blocks_no_number, blocks_no_open, blocks_open}
@@ -47,10 +46,8 @@ returns-clause-ok c =
     let r = c.in-Number.rank in
     let plan = c.in_ok-plan.field-0.plan in
     let there : r < length d.seen.items = omega (arith, c.if-rank-len.false, c.len.ensures, d.seen.ok.0) in
-    let ops : c.len-2.result ≡ length plan.ops = c.len-2.ensures ∙ c.plan.inside.ops.ok.0 ∙ ap (λ (p : Plan). length p.ops) c.plan.view_is in
-    let deps : c.len-3.result ≡ length plan.deps = c.len-3.ensures ∙ c.plan.inside.deps.ok.0 ∙ ap (λ (p : Plan). length p.deps) c.plan.view_is in
     record {
       block = record { rank = r; plan = plan };
-      drafts = λ n bs h. block_drafted _ _ n bs _ h (rank_in d n r bs h there) (rank_seen d n r bs _ h there c.index.ensures ∙ c.if-index.false) refl refl (omega (arith, ops, c.in_ok-plan.ensures.ops)) (omega (arith, deps, c.in_ok-plan.ensures.deps));
+      drafts = λ n bs h. block_drafted _ _ n bs _ h (rank_in d n r bs h there) (rank_seen d n r bs _ h there c.index.ensures ∙ c.if-index.false) refl refl c.less-self.ensures.ops c.less-self.ensures.deps;
       plans = λ n bs. block_read n r bs _ _ _ _ (opened (goal.at.returns-clause-ok c).In-Open) c.in_ok-plan.ensures.ok;
     }
