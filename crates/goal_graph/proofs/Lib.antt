@@ -9,3 +9,5 @@ pub mod Depths
 pub mod Searching
 pub mod Faults
 pub mod FirstFault
+pub mod Operations
+pub mod Accepted
