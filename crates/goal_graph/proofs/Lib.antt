@@ -26,3 +26,5 @@ pub mod Searching
 pub mod Faults
 pub mod ListingLemmas
 pub mod FirstFault
+pub mod Operations
+pub mod Accepted

@@ -80,12 +80,12 @@ pub rank_rows-at : (listing : Listing) (p : Plan) (op : ℕ) → op < length p.o
 unfolding rank_rows
 rank_rows-at listing p op inside = get_or-map-range_with_len (row listing p.deps) 0 (length p.ops) op op [] inside (omega arith)
 
-length-places_of_rank : (rank op : ℕ) (ops : List Op) → length (places_of_rank rank op ops) ≡ length ops
+pub length-places_of_rank : (rank op : ℕ) (ops : List Op) → length (places_of_rank rank op ops) ≡ length ops
 unfolding places_of_rank
 length-places_of_rank rank op [] = refl
 length-places_of_rank rank op (o ∷ os) = ap suc (length-places_of_rank rank (op + 1) os)
 
-places_of_rank-at : (rank first : ℕ) (ops : List Op) (op : ℕ) (x : OpId) → op < length ops → get_or (places_of_rank rank first ops) op x ≡ record { rank = rank; op = first + op }
+pub places_of_rank-at : (rank first : ℕ) (ops : List Op) (op : ℕ) (x : OpId) → op < length ops → get_or (places_of_rank rank first ops) op x ≡ record { rank = rank; op = first + op }
 unfolding places_of_rank
 places_of_rank-at rank first [] op x inside = absurd (omega arith)
 places_of_rank-at rank first (o ∷ os) zero x inside = ap (λ n. record { rank = rank; op = n }) (sym (add-zero first))
@@ -93,7 +93,7 @@ places_of_rank-at rank first (o ∷ os) (suc op) x inside =
     let e : first + 1 + op ≡ first + suc op = omega arith in
     places_of_rank-at rank (first + 1) os op x (omega arith) ∙ ap (λ n. record { rank = rank; op = n }) e
 
-op_count-cons : (p : Plan) (plans : List Plan) → op_count (p ∷ plans) ≡ length p.ops + op_count plans
+pub op_count-cons : (p : Plan) (plans : List Plan) → op_count (p ∷ plans) ≡ length p.ops + op_count plans
 unfolding op_count
 op_count-cons p plans = sum_by-cons (λ (q : Plan). length q.ops) p plans
 
@@ -223,6 +223,9 @@ IsOp-from_located plans x located = ap is_some (op_at-located plans x located no
 pub IsOp-below : (plans : List Plan) (x : OpId) → x.rank < length plans → x.op < length (get_or plans x.rank no_plan).ops → IsOp plans x
 IsOp-below plans x rank_in op_in =
     IsOp-from_located plans x (record { rank_in = rank_in; op_in = λ p. rw (get_or_default plans x.rank p no_plan rank_in) op_in })
+
+pub IsOp-in_rank : (plans : List Plan) (x : OpId) (p : Plan) → x.rank < length plans → x.op < length (get_or plans x.rank p).ops → IsOp plans x
+IsOp-in_rank plans x p rank_in op_in = IsOp-below plans x rank_in (rw (get_or_default plans x.rank no_plan p rank_in) op_in)
 
 -- how many operations a rank has, as the code reads it
 pub rank_size : (plans read : List Plan) (rank : ℕ) (p : Plan) (n : ℕ) → read ≡ plans → rank < length plans → p ≡ get_or read rank p → n ≡ length p.ops → n ≡ length (get_or plans rank no_plan).ops

@@ -6,7 +6,7 @@ use Rattle.std.proofs.lemmas.Bool.Decides.{nat_tests}
 use Rattle.goal_graph.proofs.Numbers.{and_left, and_right}
 use Rattle.goal_graph.specs.declared.fault.PlanFault.{PlanFault}
 use Rattle.goal_graph.specs.declared.fault.PlanFault.TheVariants.{Count}
-use Rattle.goal_graph.specs.declared.limits.TheConstants.{MAX_RANKS, MAX_OPS, MAX_DEPS, MAX_NOTES}
+use Rattle.goal_base.specs.declared.limits.TheConstants.{MAX_RANKS, MAX_OPS, MAX_DEPS, MAX_NOTES}
 use Rattle.goal_graph.specs.declared.plan.Op.{Op}
 use Rattle.goal_graph.specs.declared.plan.Dep.{Dep}
 use Rattle.goal_graph.specs.declared.plan.Note.{Note}
@@ -14,7 +14,7 @@ use Rattle.goal_graph.specs.declared.rows.Listing.{Listing}
 use Rattle.goal_graph.specs.declared.rows.Listing.TheVariants.{Needs, WaitingOn}
 use Rattle.goal_graph.specs.Schedule.{Plan}
 use Rattle.goal_graph.specs.Rows.{owner}
-use Rattle.goal_graph.specs.Fault.{op_count, dep_count, note_count, over, count_fault, op_fault, dep_fault, note_fault, value_fits, has_peer, dep_in_range, note_fits, first_fault, rank_fault, plain_fault}
+use Rattle.goal_graph.specs.Fault.{AreCountsWithin, op_count, dep_count, note_count, over, count_fault, op_fault, dep_fault, note_fault, value_fits, has_peer, dep_in_range, note_fits, first_fault, rank_fault, plain_fault}
 
 -- neither of two is there
 pub option_or-none : {T : Type 0} (a b : Option T) → option_or a b ≡ None → (a ≡ None) × (b ≡ None)
@@ -36,14 +36,6 @@ first_fault-none fault n (x ∷ xs) h (suc k) d inside =
 
 over-none : (limit found : ℕ) → over limit found ≡ None → found ≤ limit
 over-none limit found h = grind (arith, nat_tests)
-
--- the numbers of ranks, operations, dependencies and notes are within their limits
-pub record AreCountsWithin (plans : List Plan) : Type 0 where
-  pub some_rank : 0 < length plans
-  pub ranks : length plans ≤ MAX_RANKS
-  pub ops : op_count plans ≤ MAX_OPS
-  pub deps : dep_count plans ≤ MAX_DEPS
-  pub notes : note_count plans ≤ MAX_NOTES
 
 pub count_fault-none : (plans : List Plan) → count_fault plans ≡ None → AreCountsWithin plans
 unfolding count_fault

@@ -6,7 +6,6 @@ mod check;
 mod cycle;
 mod fault;
 mod laws;
-mod limits;
 mod listing;
 mod plan;
 mod rows;

@@ -1,8 +1,8 @@
 // Schedules: lists of plans that break no rule.
-ghost use Rattle.std.specs.Prelude.{◌≡◌, ◌≢◌, ◌⊎◌, ◌≤◌, ◌^◌, List, length, Some, All, IfOk, IfErr, OnOk, IsOkUnless, IsErrOf, slice_get};
+ghost use Rattle.std.specs.Prelude.{◌≡◌, ◌≢◌, ◌⊎◌, ◌≤◌, List, length, Some, All, IfOk, IfErr, OnOk, IsTrue, IsOkUnless, IsErrOf, slice_get};
 ghost use Rattle.goal_graph.specs.declared.fault.PlanFault.{PlanFault};
 ghost use Rattle.goal_graph.specs.Schedule.{Plan, op_at, needs, waiting_on, needed, operations};
-ghost use Rattle.goal_graph.specs.Fault.{IsOp, IsFault, IsAccepted};
+ghost use Rattle.goal_graph.specs.Fault.{IsOp, IsFault, IsAccepted, AreCountsWithin, value_fits, has_peer};
 ghost use Rattle.goal_graph.specs.Widths.{AreInWidth};
 
 use crate::action::OpId;
@@ -12,6 +12,7 @@ use crate::fault::PlanFault;
 use crate::listing::list_operations;
 use crate::plan::{Need, Op, RankPlan};
 use crate::tables::Tables;
+use goal_base::MAX_OPS;
 use std::alloc::Global;
 use std::marker::Model;
 
@@ -61,6 +62,7 @@ impl Sched {
     pub fn plans(&self) -> &[RankPlan]
         ensures plans { result.now ≡ self.now }
         ensures accepted { IsAccepted self.now }
+        ensures counts { AreCountsWithin self.now }
         ensures widths { AreInWidth self.now }
     {
         self.tables.plans()
@@ -84,7 +86,9 @@ impl Sched {
     /// The operation at this place.
     pub fn op(&self, id: OpId) -> &Op
         requires { IsOp self.now id }
-        ensures { op_at self.now id ≡ Some result.now }
+        ensures op { op_at self.now id ≡ Some result.now }
+        ensures value { IsTrue (value_fits result.now.kind result.now.nic) }
+        ensures peer { IsTrue (has_peer (length self.now) result.now.kind) }
     {
         self.tables.op(id)
     }
@@ -110,8 +114,7 @@ impl Sched {
     /// The number of all operations.
     pub fn count(&self) -> u32
         ensures count { result ≡ length (operations self.now) }
-        ensures few { result ≤ 2 ^ 20 }
-        ensures accepted { IsAccepted self.now }
+        ensures small { result ≤ MAX_OPS }
     {
         self.tables.count()
     }
@@ -124,3 +127,6 @@ impl Sched {
         self.tables.index(id)
     }
 }
+
+#[cfg(test)]
+mod tests;

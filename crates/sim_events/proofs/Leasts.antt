@@ -57,9 +57,9 @@ module _ (plans : List Plan) (costs : CostModel) (h : List Timed) where
   pub none_below : (rank : ℕ) → IsLeastAmong plans costs (Below rank 0) h None
   none_below rank b p q = omega (arith, q.1)
 
-  pub one_more : (rank op : ℕ) (best next : Option Timed) → IsLeastAmong plans costs (Below rank op) h best → IsLeastAmong plans costs (λ (y : OpId). y ≡ record { rank = rank; op = op }) h next → IsLeastAmong plans costs (Below rank (op + 1)) h (lesser best next)
-  one_more rank op best next least other =
-      least_more (Below rank op) (λ (y : OpId). y ≡ record { rank = rank; op = op }) (Below rank (op + 1)) best next least other (λ b p q. go b.op q (cases_lt b.op.op op))
+  pub one_more : (rank op : ℕ) (best next both : Option Timed) → IsLeastAmong plans costs (Below rank op) h best → IsLeastAmong plans costs (λ (y : OpId). y ≡ record { rank = rank; op = op }) h next → both ≡ lesser best next → IsLeastAmong plans costs (Below rank (op + 1)) h both
+  one_more rank op best next both least other e =
+      subst (IsLeastAmong plans costs (Below rank (op + 1)) h) (sym e) (least_more (Below rank op) (λ (y : OpId). y ≡ record { rank = rank; op = op }) (Below rank (op + 1)) best next least other (λ b p q. go b.op q (cases_lt b.op.op op)))
     where
       go : (y : OpId) → Below rank (op + 1) y → (y.op < op) ⊎ (op ≤ y.op) → Below rank op y ⊎ (y ≡ record { rank = rank; op = op })
       go y q (inl l) = inl (q.0, l)
@@ -75,9 +75,9 @@ module _ (plans : List Plan) (costs : CostModel) (h : List Timed) where
   pub no_rank : IsLeastAmong plans costs (λ (y : OpId). y.rank < 0) h None
   no_rank b p q = omega (arith, q)
 
-  pub rank_more : (rank : ℕ) (best next : Option Timed) → IsLeastAmong plans costs (λ (y : OpId). y.rank < rank) h best → IsLeastAmong plans costs (λ (y : OpId). y.rank ≡ rank) h next → IsLeastAmong plans costs (λ (y : OpId). y.rank < rank + 1) h (lesser best next)
-  rank_more rank best next least other =
-      least_more (λ (y : OpId). y.rank < rank) (λ (y : OpId). y.rank ≡ rank) (λ (y : OpId). y.rank < rank + 1) best next least other (λ b p q. elim (cases_lt b.op.rank rank) [ inl l ↦ inl l | inr l ↦ inr (omega (arith, q, l)) ])
+  pub rank_more : (rank : ℕ) (best next both : Option Timed) → IsLeastAmong plans costs (λ (y : OpId). y.rank < rank) h best → IsLeastAmong plans costs (λ (y : OpId). y.rank ≡ rank) h next → both ≡ lesser best next → IsLeastAmong plans costs (λ (y : OpId). y.rank < rank + 1) h both
+  rank_more rank best next both least other e =
+      subst (IsLeastAmong plans costs (λ (y : OpId). y.rank < rank + 1) h) (sym e) (least_more (λ (y : OpId). y.rank < rank) (λ (y : OpId). y.rank ≡ rank) (λ (y : OpId). y.rank < rank + 1) best next least other (λ b p q. elim (cases_lt b.op.rank rank) [ inl l ↦ inl l | inr l ↦ inr (omega (arith, q, l)) ]))
 
   -- the least of all ranks happens next
   pub least_next : (rank : ℕ) (best : Option Timed) → length plans ≤ rank → IsLeastAmong plans costs (λ (y : OpId). y.rank < rank) h best → IfSome best (IsNext plans costs h)

@@ -17,42 +17,7 @@ use Rattle.goal_graph.specs.Action.{plain}
 use Rattle.goal_graph.specs.Allowed.{is_met, is_ready}
 use Rattle.sim_params.specs.Costs.{CostModel, is_eager}
 use Rattle.sim_params.specs.Times.{greatest, met_at, ready}
-use Rattle.sim_params.proofs.Accepted.{dep_fits}
-use Rattle.sim_params.proofs.SharesLemmas.{is_op_at}
 use Rattle.sim_events.specs.Mirrors.{moment_told, ready_told}
-
--- an item of a filtered list, and of a mapped one, comes from the list
-filtered_at : {A : Type 0} (p : A → Bool) (xs : List A) (k : ℕ) (x : A) → slice_get (filter p xs) k ≡ Some x → (i : ℕ) × (slice_get xs i ≡ Some x)
-filtered_at p [] k x e = absurd (cc)
-filtered_at p (y ∷ ys) k x e = go (λ j f. filtered_at p ys j x f) (p y) k e
-  where
-    later : (i : ℕ) × (slice_get ys i ≡ Some x) → (i : ℕ) × (slice_get (y ∷ ys) i ≡ Some x)
-    later m = (suc m.0, m.1)
-
-    go : ((j : ℕ) → slice_get (filter p ys) j ≡ Some x → (i : ℕ) × (slice_get ys i ≡ Some x)) → (b : Bool) (k : ℕ) → slice_get (if b then y ∷ filter p ys else filter p ys) k ≡ Some x → (i : ℕ) × (slice_get (y ∷ ys) i ≡ Some x)
-    go rest true zero f = (0, f)
-    go rest true (suc j) f = later (rest j f)
-    go rest false j f = later (rest j f)
-
-mapped_at : {A B : Type 0} (f : A → B) (xs : List A) (k : ℕ) (y : B) → slice_get (map f xs) k ≡ Some y → (x : A) × (slice_get xs k ≡ Some x) × (f x ≡ y)
-mapped_at f [] k y e = absurd (cc)
-mapped_at f (x ∷ xs) zero y e = (x, refl, same_Some (f x) y e)
-mapped_at f (x ∷ xs) (suc k) y e = mapped_at f xs k y e
-
--- what an operation needs exists
-pub needed_exists : (plans : List Plan) → IsAccepted plans → (x : OpId) (k : ℕ) (d : Need) → slice_get (needs plans x) k ≡ Some d → IsOp plans (needed x d)
-unfolding needs deps_at
-needed_exists plans accepted x k d e = go (slice_get plans x.rank) refl (mapped_at earlier_of _ k d e)
-  where
-    by_dep : (p : Plan) (dep : Dep) (i : ℕ) → slice_get plans x.rank ≡ Some p → earlier_of dep ≡ d → slice_get p.deps i ≡ Some dep → IsOp plans (needed x d)
-    by_dep p dep i s same f =
-        let fits = and_parts (nat_lt dep.later (length p.ops)) (nat_lt dep.earlier (length p.ops)) (dep_fits plans accepted x.rank i p dep s f) in
-        subst (λ (d : Need). IsOp plans (needed x d)) same (is_op_at plans x.rank dep.earlier p s (ltb-true dep.earlier (length p.ops) fits.1))
-
-    go : (q : Option Plan) → slice_get plans x.rank ≡ q → (dep : Dep) × (slice_get (filter (λ (d : Dep). d.later == x.op) (unwrap_or (option_map (λ (p : Plan). p.deps) q) [])) k ≡ Some dep) × (earlier_of dep ≡ d) → IsOp plans (needed x d)
-    go None s m = let none = m.1 in absurd (cc)
-    go (Some p) s m =
-        let i = filtered_at (λ (d : Dep). d.later == x.op) p.deps k m.0 m.1 in by_dep p m.0 i.0 s m.2 i.1
 
 module _ (plans : List Plan) (costs : CostModel) (h : List Timed) (x : OpId) where
   -- the moment of a need, whether it is there, and both
@@ -118,8 +83,3 @@ module _ (plans : List Plan) (costs : CostModel) (h : List Timed) (x : OpId) whe
     read_all l =
         let none : drop k (needs plans x) ≡ [] = drop_all k (needs plans x) (subst (λ ds. length ds ≤ k) are_needs l) in
         sym (ap (ready_from n) none ∙ ready_end n) ∙ so_far
-
--- a need that is read names an operation
-pub read_exists : (plans : List Plan) → IsAccepted plans → (x : OpId) (items : List Need) → items ≡ needs plans x → (k : ℕ) (d : Need) → k < length items → IsOp plans (needed x (get_or items k d))
-read_exists plans accepted x items e k d l =
-    needed_exists plans accepted x k (get_or items k d) (subst (λ ds. slice_get ds k ≡ Some (get_or items k d)) e (slice_get-get_or items k d l))

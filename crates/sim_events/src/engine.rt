@@ -17,13 +17,11 @@ ghost use Rattle.sim_events.specs.Mirrors.{moment_told, ready_told};
 
 use crate::least::lesser;
 use crate::resource::hold_cpu;
+use goal_base::MAX_BUDGET;
 use goal_graph::{Class, Kind, OpId, Sched, Timed, When};
 use sim_params::{Costs, budget, op_count};
 use std::alloc::{AllocError, Global};
 use std::marker::Model;
-
-/// The greatest time budget of a schedule that runs, in nanoseconds.
-pub const MAX_BUDGET: u128 = (1 << 63) - 1;
 
 /// Why an engine is not made.
 #[derive(Clone, Copy, Debug, PartialEq, Eq)]
@@ -59,7 +57,9 @@ pub struct Record {
 pub struct Engine<'a, C: Costs> {
     sched: &'a Sched,
     costs: C,
+    // what has happened, oldest first
     history: Vec<Timed>,
+    // for each operation, in the order of all, when it started, when it ends, and when its cpu is free
     started: Vec<Option<u64>>,
     ended: Vec<Option<u64>>,
     free: Vec<u64>,
@@ -89,10 +89,11 @@ impl<'a, C: Costs + Drop> Engine<'a, C> {
         ensures fault { IfErr result (IsBudgetFault (budget sched.now (C.model costs))) }
     {
         let sum = budget(sched, &costs);
-        if sum > MAX_BUDGET {
+        let most = u128::from(MAX_BUDGET);
+        if sum > most {
             return Err(EngineFault::Budget { sum });
         }
-        sched.known();
+        let _plans = sched.plans();
         let count = sched.count() as usize;
         let history = Vec::with_capacity(alloc, 3 * count)?;
         let started = vec![in alloc; None; count]?;
@@ -110,164 +111,6 @@ impl<'a, C: Costs + Drop> Engine<'a, C> {
 }
 
 impl<'a, C: Costs> Engine<'a, C> {
-    /// What has happened, oldest first.
-    pub fn trace(&self) -> &[Timed]
-        ensures { result.now ≡ reverse self.now.history }
-    {
-        self.history.as_slice()
-    }
-
-    /// The schedule that runs.
-    pub fn sched(&self) -> &Sched
-        ensures { result.now ≡ self.now.plans }
-    {
-        self.sched
-    }
-
-    /// The costs of its messages.
-    pub fn costs(&self) -> &C
-        ensures { result.now ≡ self.now.costs }
-    {
-        &self.costs
-    }
-
-    /// What is known of an operation.
-    pub fn record(&self, id: OpId) -> Record
-        requires { IsOp self.now.plans id }
-        ensures start { result.start ≡ start_told self.now.plans (C.model self.now.costs) self.now.history id }
-        ensures end { result.end ≡ end_told self.now.plans (C.model self.now.costs) self.now.history id }
-        ensures partner { result.partner ≡ mate self.now.plans (C.model self.now.costs) self.now.history id }
-    {
-        let at = self.sched.index(id) as usize;
-        Record {
-            start: self.started[at],
-            end: self.ended[at],
-            partner: None,
-        }
-    }
-
-    /// What holds of every engine: its schedule is accepted and has calcs only, its time budget is at most 2^63-1, what
-    /// has happened is the run so far, and no time of it is later than the budget.
-    pub fn known(&self)
-        ensures accepted { IsAccepted self.now.plans }
-        ensures calcs { IsAllCalcs self.now.plans }
-        ensures fits { budget self.now.plans (C.model self.now.costs) < 2 ^ 63 }
-        ensures run { IsRun self.now.plans (C.model self.now.costs) self.now.history }
-        ensures times { IsWithin self.now.plans (C.model self.now.costs) self.now.history (budget self.now.plans (C.model self.now.costs)) }
-    {
-        let _sched = &self.sched;
-    }
-
-    // When the cpu that an operation uses is free.
-    fn cpu_free(&self, id: OpId) -> u64
-        requires { IsOp self.now.plans id }
-        ensures { result ≡ cpu self.now.plans (C.model self.now.costs) self.now.history id }
-    {
-        let at = self.sched.index(id) as usize;
-        self.free[at]
-    }
-
-    // The moment of an operation that a dependency waits for, once it is there.
-    fn moment(&self, when: When, id: OpId) -> Option<u64>
-        requires { IsOp self.now.plans id }
-        ensures { result ≡ moment_told self.now.plans (C.model self.now.costs) self.now.history when id }
-    {
-        let at = self.sched.index(id) as usize;
-        match when {
-            When::AfterEnd => self.ended[at],
-            When::AfterStart => self.started[at],
-        }
-    }
-
-    // When all that an operation needs is there, once it is.
-    fn ready(&self, id: OpId) -> Option<u64>
-        requires { IsOp self.now.plans id }
-        ensures { result ≡ ready_told self.now.plans (C.model self.now.costs) self.now.history id }
-    {
-        let mut ready: u64 = 0;
-        for need in self.sched.needs(id) {
-            let needed = OpId {
-                rank: id.rank,
-                op: need.op,
-            };
-            match self.moment(need.when, needed) {
-                Some(at) => ready = ready.max(at),
-                None => return None,
-            }
-        }
-        Some(ready)
-    }
-
-    // The possible action of an operation, if it has one.
-    fn choice(&self, id: OpId) -> Option<Timed>
-        requires { IsOp self.now.plans id }
-        ensures { IsLeastAmong self.now.plans (C.model self.now.costs) (λ y. y ≡ id) self.now.history result }
-    {
-        self.known();
-        if self.moment(When::AfterStart, id).is_some() {
-            return None;
-        }
-        let ready = self.ready(id)?;
-        let free = self.cpu_free(id);
-        Some(Timed {
-            time: ready.max(free),
-            class: Class::Begin,
-            op: id,
-        })
-    }
-
-    // The possible action of the least key among the operations of a rank.
-    fn least_of_rank(&self, rank: u32) -> Option<Timed>
-        requires { rank < length self.now.plans }
-        ensures { IsLeastAmong self.now.plans (C.model self.now.costs) (λ y. y.rank ≡ rank) self.now.history result }
-    {
-        let mut best = None;
-        for op in 0..op_count(self.sched(), rank) {
-            best = lesser(best, self.choice(OpId { rank, op }));
-        }
-        best
-    }
-
-    // The possible action of the least key.
-    fn least(&self) -> Option<Timed>
-        ensures next { IfSome result (IsNext self.now.plans (C.model self.now.costs) self.now.history) }
-        ensures none { IfNone result (IsFinished self.now.plans (C.model self.now.costs) self.now.history) }
-    {
-        self.known();
-        let ranks = self.sched().plans().len() as u32;
-        let mut best = None;
-        for rank in 0..ranks {
-            best = lesser(best, self.least_of_rank(rank));
-        }
-        best
-    }
-
-    // When an action lets go of the cpu that it holds.
-    fn release(&self, action: Timed) -> u64
-        requires { IsNext self.now.plans (C.model self.now.costs) self.now.history action }
-        ensures { result ≡ action.time + cpu_hold self.now.plans (C.model self.now.costs) self.now.history action.class action.op (kind_at self.now.plans action.op) }
-    {
-        self.known();
-        let Kind::Calc { nanos } = self.sched().op(action.op).kind else {
-            unreachable!()
-        };
-        action.time + nanos
-    }
-
-    // Lets the next action happen.
-    fn perform(&mut self, action: Timed)
-        requires { IsNext self.old.plans (C.model self.old.costs) self.old.history action }
-        ensures { self.new ≡ record self.old { history = action ∷ self.old.history } }
-    {
-        let until = self.release(action);
-        let sched = self.sched;
-        let at = sched.index(action.op) as usize;
-        self.started[at] = Some(action.time);
-        self.ended[at] = Some(until);
-        hold_cpu(sched, self.free.as_mut_slice(), action.op, until);
-        self.history.push_reserved(action);
-    }
-
     /// Lets the next action happen and answers it: the possible one of the least key. Where nothing is possible it
     /// answers None, and nothing changes.
     pub fn step(&mut self) -> Option<Timed>
@@ -307,5 +150,163 @@ impl<'a, C: Costs> Engine<'a, C> {
         ensures { IsTrue result ↔ IsFinished self.now.plans (C.model self.now.costs) self.now.history }
     {
         self.least().is_none()
+    }
+
+    /// What has happened, oldest first.
+    pub fn trace(&self) -> &[Timed]
+        ensures { result.now ≡ reverse self.now.history }
+    {
+        self.history.as_slice()
+    }
+
+    /// What is known of an operation.
+    pub fn record(&self, id: OpId) -> Record
+        requires { IsOp self.now.plans id }
+        ensures start { result.start ≡ start_told self.now.plans (C.model self.now.costs) self.now.history id }
+        ensures end { result.end ≡ end_told self.now.plans (C.model self.now.costs) self.now.history id }
+        ensures partner { result.partner ≡ mate self.now.plans (C.model self.now.costs) self.now.history id }
+    {
+        let at = self.sched.index(id) as usize;
+        Record {
+            start: self.started[at],
+            end: self.ended[at],
+            partner: None,
+        }
+    }
+
+    /// The schedule that runs.
+    pub fn sched(&self) -> &'a Sched
+        ensures { result.now ≡ self.now.plans }
+    {
+        self.sched
+    }
+
+    /// The costs of its messages.
+    pub fn costs(&self) -> &C
+        ensures { result.now ≡ self.now.costs }
+    {
+        &self.costs
+    }
+
+    /// What holds of every engine: its schedule is accepted and has calcs only, its time budget is at most 2^63-1, what
+    /// has happened is the run so far, and no time of it is later than the budget.
+    pub fn known(&self)
+        ensures accepted { IsAccepted self.now.plans }
+        ensures calcs { IsAllCalcs self.now.plans }
+        ensures fits { budget self.now.plans (C.model self.now.costs) < 2 ^ 63 }
+        ensures run { IsRun self.now.plans (C.model self.now.costs) self.now.history }
+        ensures times { IsWithin self.now.plans (C.model self.now.costs) self.now.history (budget self.now.plans (C.model self.now.costs)) }
+    {
+        let _sched = &self.sched;
+    }
+
+    // The possible action of the least key.
+    fn least(&self) -> Option<Timed>
+        ensures next { IfSome result (IsNext self.now.plans (C.model self.now.costs) self.now.history) }
+        ensures none { IfNone result (IsFinished self.now.plans (C.model self.now.costs) self.now.history) }
+    {
+        self.known();
+        let ranks = self.sched().plans().len() as u32;
+        let mut best = None;
+        for rank in 0..ranks {
+            best = lesser(best, self.least_of_rank(rank));
+        }
+        best
+    }
+
+    // The possible action of the least key among the operations of a rank.
+    fn least_of_rank(&self, rank: u32) -> Option<Timed>
+        requires { rank < length self.now.plans }
+        ensures { IsLeastAmong self.now.plans (C.model self.now.costs) (λ y. y.rank ≡ rank) self.now.history result }
+    {
+        let mut best = None;
+        for op in 0..op_count(self.sched(), rank) {
+            best = lesser(best, self.choice(OpId { rank, op }));
+        }
+        best
+    }
+
+    // The possible action of an operation, if it has one.
+    fn choice(&self, id: OpId) -> Option<Timed>
+        requires { IsOp self.now.plans id }
+        ensures { IsLeastAmong self.now.plans (C.model self.now.costs) (λ y. y ≡ id) self.now.history result }
+    {
+        self.known();
+        if self.moment(When::AfterStart, id).is_some() {
+            return None;
+        }
+        let ready = self.ready(id)?;
+        let free = self.cpu_free(id);
+        Some(Timed {
+            time: ready.max(free),
+            class: Class::Begin,
+            op: id,
+        })
+    }
+
+    // When all that an operation needs is there, once it is.
+    fn ready(&self, id: OpId) -> Option<u64>
+        requires { IsOp self.now.plans id }
+        ensures { result ≡ ready_told self.now.plans (C.model self.now.costs) self.now.history id }
+    {
+        let mut ready: u64 = 0;
+        for need in self.sched.needs(id) {
+            let needed = OpId {
+                rank: id.rank,
+                op: need.op,
+            };
+            match self.moment(need.when, needed) {
+                Some(at) => ready = ready.max(at),
+                None => return None,
+            }
+        }
+        Some(ready)
+    }
+
+    // The moment of an operation that a dependency waits for, once it is there.
+    fn moment(&self, when: When, id: OpId) -> Option<u64>
+        requires { IsOp self.now.plans id }
+        ensures { result ≡ moment_told self.now.plans (C.model self.now.costs) self.now.history when id }
+    {
+        let at = self.sched.index(id) as usize;
+        match when {
+            When::AfterEnd => self.ended[at],
+            When::AfterStart => self.started[at],
+        }
+    }
+
+    // When the cpu that an operation uses is free.
+    fn cpu_free(&self, id: OpId) -> u64
+        requires { IsOp self.now.plans id }
+        ensures { result ≡ cpu self.now.plans (C.model self.now.costs) self.now.history id }
+    {
+        let at = self.sched.index(id) as usize;
+        self.free[at]
+    }
+
+    // Lets the next action happen.
+    fn perform(&mut self, action: Timed)
+        requires { IsNext self.old.plans (C.model self.old.costs) self.old.history action }
+        ensures { self.new ≡ record self.old { history = action ∷ self.old.history } }
+    {
+        let until = self.release(action);
+        let sched = self.sched;
+        let at = sched.index(action.op) as usize;
+        self.started[at] = Some(action.time);
+        self.ended[at] = Some(until);
+        hold_cpu(sched, self.free.as_mut_slice(), action.op, until);
+        self.history.push_reserved(action);
+    }
+
+    // When an action lets go of the cpu that it holds.
+    fn release(&self, action: Timed) -> u64
+        requires { IsNext self.now.plans (C.model self.now.costs) self.now.history action }
+        ensures { result ≡ action.time + cpu_hold self.now.plans (C.model self.now.costs) self.now.history action.class action.op (kind_at self.now.plans action.op) }
+    {
+        self.known();
+        let Kind::Calc { nanos } = self.sched().op(action.op).kind else {
+            unreachable!()
+        };
+        action.time + nanos
     }
 }

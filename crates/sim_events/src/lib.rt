@@ -8,3 +8,6 @@ mod resource;
 
 pub use engine::{Engine, EngineFault, Record};
 pub use kinds::is_all_calcs;
+
+#[cfg(test)]
+mod tests;

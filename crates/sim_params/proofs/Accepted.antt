@@ -6,7 +6,7 @@ use Rattle.std.proofs.lemmas.List.Sums.{get_or-le-sum_by}
 use Rattle.goal_graph.specs.declared.action.OpId.{OpId}
 use Rattle.goal_graph.specs.declared.fault.PlanFault.{PlanFault}
 use Rattle.goal_graph.specs.declared.fault.PlanFault.TheVariants.{Count, Value, Peer, DepRange}
-use Rattle.goal_graph.specs.declared.limits.TheConstants.{MAX_RANKS, MAX_OPS}
+use Rattle.goal_base.specs.declared.limits.TheConstants.{MAX_RANKS, MAX_OPS}
 use Rattle.goal_graph.specs.declared.plan.Op.{Op}
 use Rattle.goal_graph.specs.declared.plan.Dep.{Dep}
 use Rattle.goal_graph.specs.Schedule.{Plan, op_at}
@@ -75,18 +75,7 @@ module _ (plans : List Plan) (accepted : IsAccepted plans) where
       let none = (or_none (first_fault (op_fault (length plans) rank) 0 p.ops) _ (rank_has_no_fault rank p e)).0 in
       subst (λ i. op_fault (length plans) rank i o ≡ None) (omega arith) (no_fault_at (op_fault (length plans) rank) 0 p.ops op o none f)
 
-  -- both operations of a dependency are operations of the rank
-  pub dep_fits : (rank dep : ℕ) (p : Plan) (d : Dep) → slice_get plans rank ≡ Some p → slice_get p.deps dep ≡ Some d → dep_in_range (length p.ops) d ≡ true
-  unfolding rank_fault
-  dep_fits rank dep p d e f =
-      let rest = (or_none (first_fault (op_fault (length plans) rank) 0 p.ops) _ (rank_has_no_fault rank p e)).1 in
-      let none = (or_none (first_fault (dep_fault (length p.ops) rank) 0 p.deps) _ rest).0 in
-      go (dep_in_range (length p.ops) d) refl (no_fault_at (dep_fault (length p.ops) rank) 0 p.deps dep d none f)
-    where
-      go : (b : Bool) → dep_in_range (length p.ops) d ≡ b → (if b then None else Some (DepRange rank (0 + dep))) ≡ None → dep_in_range (length p.ops) d ≡ true
-      go true t g = t
-      go false t g = absurd (cc)
-
+  -- its size or duration is within its limit
   pub value_within : (x : OpId) (o : Op) → op_at plans x ≡ Some o → value_fits o.kind o.nic ≡ true
   unfolding op_at
   value_within x o e = go (slice_get plans x.rank) refl e

@@ -27,16 +27,16 @@ pub kind_of : (plans : List Plan) (x : OpId) (o : Op) (k : Kind) → op_at plans
 unfolding kind_at
 kind_of plans x o k e f = ap (option_map (λ (o : Op). o.kind)) e ∙ ap Some f
 
-module _ (plans : List Plan) (accepted : IsAccepted plans) where
-  pub few_bytes : (x : OpId) (o : Op) (bytes to tag : ℕ) → op_at plans x ≡ Some o → o.kind ≡ Send bytes to tag → bytes < 2 ^ 40
-  few_bytes x o bytes to tag e k =
-      let fits : nat_le bytes 1099511627775 ≡ true = subst (λ (k : Kind). value_fits k o.nic ≡ true) k (value_within plans accepted x o e) in
-      omega (arith, leb-true bytes 1099511627775 fits)
+-- a message's size and a calc's duration are within their limits
+pub few_bytes : (o : Op) (bytes to tag : ℕ) → value_fits o.kind o.nic ≡ true → o.kind ≡ Send bytes to tag → bytes < 2 ^ 40
+few_bytes o bytes to tag fits k =
+    let within : nat_le bytes 1099511627775 ≡ true = subst (λ (k : Kind). value_fits k o.nic ≡ true) k fits in
+    omega (arith, leb-true bytes 1099511627775 within)
 
-  pub few_nanos : (x : OpId) (o : Op) (nanos : ℕ) → op_at plans x ≡ Some o → o.kind ≡ Calc nanos → nanos < 2 ^ 48
-  few_nanos x o nanos e k =
-      let fits = subst (λ (k : Kind). value_fits k o.nic ≡ true) k (value_within plans accepted x o e) in
-      omega (arith, leb-true nanos 281474976710655 (and_parts (nat_le nanos 281474976710655) _ fits).0)
+pub few_nanos : (o : Op) (nanos : ℕ) → value_fits o.kind o.nic ≡ true → o.kind ≡ Calc nanos → nanos < 2 ^ 48
+few_nanos o nanos fits k =
+    let within = subst (λ (k : Kind). value_fits k o.nic ≡ true) k fits in
+    omega (arith, leb-true nanos 281474976710655 (and_parts (nat_le nanos 281474976710655) _ within).0)
 
 module _ (plans : List Plan) (costs : CostModel) (x : OpId) where
   pub share_calc : (nanos : ℕ) → kind_at plans x ≡ Some (Calc nanos) → share plans costs x ≡ nanos
@@ -67,9 +67,9 @@ module _ (plans : List Plan) (costs : CostModel) (accepted : IsAccepted plans) (
 
   kind_bound : (x : OpId) (o : Op) → op_at plans x ≡ Some o → (k : Kind) → o.kind ≡ k → share plans costs x ≤ 2 ^ 66
   kind_bound x o e (Calc nanos) f =
-      omega (arith, share_calc plans costs x nanos (kind_of plans x o _ e f), few_nanos plans accepted x o nanos e f)
+      omega (arith, share_calc plans costs x nanos (kind_of plans x o _ e f), few_nanos o nanos (value_within plans accepted x o e) f)
   kind_bound x o e (Send bytes to tag) f =
-      send_bound x bytes to tag (kind_of plans x o _ e f) (few_bytes plans accepted x o bytes to tag e f)
+      send_bound x bytes to tag (kind_of plans x o _ e f) (few_bytes o bytes to tag (value_within plans accepted x o e) f)
   kind_bound x o e (Recv room from tag) f = omega (arith, share_recv plans costs x room from tag (kind_of plans x o _ e f))
 
   pub share_bound : (x : OpId) → share plans costs x ≤ 2 ^ 66

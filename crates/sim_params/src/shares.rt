@@ -11,7 +11,6 @@ use goal_graph::{Kind, OpId, Sched};
 pub fn budget<C: Costs>(sched: &Sched, costs: &C) -> u128
     ensures { result ≡ budget sched.now (C.model costs.now) }
 {
-    sched.known();
     let _count = sched.count();
     let ranks = sched.plans().len() as u32;
     let mut sum = 0;
@@ -27,7 +26,7 @@ fn rank_share<C: Costs>(sched: &Sched, costs: &C, rank: u32) -> u128
     requires { rank < length sched.now }
     ensures { result ≡ sum_by (share sched.now (C.model costs.now)) (places_at sched.now rank) }
 {
-    sched.known();
+    let _plans = sched.plans();
     let mut sum = 0;
     for op in 0..op_count(sched, rank) {
         sum += share(sched, costs, OpId { rank, op });
@@ -41,7 +40,6 @@ pub fn op_count(sched: &Sched, rank: u32) -> u32
     ensures count { result ≡ length (ops_at sched.now rank) }
     ensures few { result ≤ 2 ^ 20 }
 {
-    sched.known();
     let plan = &sched.plans()[rank as usize];
     plan.ops.len() as u32
 }
@@ -51,7 +49,6 @@ fn share<C: Costs>(sched: &Sched, costs: &C, id: OpId) -> u128
     requires { IsOp sched.now id }
     ensures { result ≡ share sched.now (C.model costs.now) id }
 {
-    sched.known();
     let from = id.rank;
     match sched.op(id).kind {
         Kind::Calc { nanos } => u128::from(nanos),

@@ -23,7 +23,7 @@ pub loop-id-preserved : goal.loop-id-preserved
 loop-id-preserved g c =
     let items = c.operations-id-items.result.now in
     let id = get_or items c.loop-id.id-index (record { rank = 0; op = 0 }) in
-    let found : op_at c.args.engine.now.plans id ≡ Some c.op.result.now = rw c.requires.same c.op.ensures in (
+    let found : op_at c.args.engine.now.plans id ≡ Some c.op.result.now = rw c.requires.same c.op.ensures.op in (
       rw (
         take_more items c.loop-id.id-index (record { rank = 0; op = 0 }) c.loop-id-test.true,
         c.with-summary.ensures.stuck,

@@ -18,7 +18,7 @@ loop-id-preserved g c =
     let items = c.operations-id-items.result.now in
     let i = c.loop-id.id-index in
     let id = get_or items i (record { rank = 0; op = 0 }) in
-    let line = line_is c.args.sched.now costs h id c.op.result.now c.op.ensures in
+    let line = line_is c.args.sched.now costs h id c.op.result.now c.op.ensures.op in
     let lines = line_of c.args.sched.now costs h in
     let first = first_line c.args.sched.now costs h in
     rw (take_more items i (record { rank = 0; op = 0 }) c.loop-id-test.true)

@@ -26,7 +26,7 @@ loop-op-init c = λ f e. e ∙ hold_none c.args.sched.now c.args.id c.args.until
 
 pub loop-op-preserved : goal.loop-op-preserved
 loop-op-preserved c =
-    elim c.if-op-cpu.branch [ then-op-cpu w ↦ λ f e. w.free-is ∙ ap (λ n. set c.loop-op.free w.index-at.result n) w.max.ensures ∙ hold_same c.args.sched.now c.args.id c.args.until f c.loop-op.op w.index-at.result _ _ c.loop-op.free w.index-at.ensures c.op-in-loop-op.ensures c.op.ensures w.if-op-cpu.true (c.loop-op.invariant f e) | else-op-cpu w ↦ λ f e. w.free-is ∙ c.loop-op.invariant f e ∙ hold_other c.args.sched.now c.args.id c.args.until f c.loop-op.op _ _ c.op-in-loop-op.ensures c.op.ensures w.if-op-cpu.false ]
+    elim c.if-op-cpu.branch [ then-op-cpu w ↦ λ f e. w.free-is ∙ ap (λ n. set c.loop-op.free w.index-at.result n) w.max.ensures ∙ hold_same c.args.sched.now c.args.id c.args.until f c.loop-op.op w.index-at.result _ _ c.loop-op.free w.index-at.ensures c.op-in-loop-op.ensures.op c.op.ensures.op w.if-op-cpu.true (c.loop-op.invariant f e) | else-op-cpu w ↦ λ f e. w.free-is ∙ c.loop-op.invariant f e ∙ hold_other c.args.sched.now c.args.id c.args.until f c.loop-op.op _ _ c.op-in-loop-op.ensures.op c.op.ensures.op w.if-op-cpu.false ]
 
 pub returns : goal.returns
 returns c =

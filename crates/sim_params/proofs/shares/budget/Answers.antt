@@ -14,7 +14,7 @@ step g c =
     omega (arith, more, c.loop-rank.invariant, c.rank_share-shares.ensures)
 
 pub overflow_cast-ranks : goal.overflow_cast-ranks
-overflow_cast-ranks g c = omega (arith, few_ranks c.args.sched.now c.known.ensures.accepted, ap length c.plans.ensures.plans)
+overflow_cast-ranks g c = omega (arith, few_ranks c.args.sched.now c.plans.ensures.accepted, ap length c.plans.ensures.plans)
 
 pub loop-rank-init : goal.loop-rank-init
 unfolding budget
@@ -23,8 +23,8 @@ loop-rank-init g c = omega arith
 pub overflow_add-sum : goal.overflow_add-sum
 unfolding budget
 overflow_add-sum g c =
-    let few : length (operations c.args.sched.now) ≤ 2 ^ 20 = omega (arith, c.count-count.ensures.count, c.count-count.ensures.few) in
-    let all = shares_bound c.args.sched.now (g.C.Costs.model c.args.costs.now) c.known.ensures.accepted (g.met.C.Costs.bounded c.args.costs.now) (operations c.args.sched.now) few in
+    let few : length (operations c.args.sched.now) ≤ 2 ^ 20 = omega (arith, c.count-count.ensures.count, c.count-count.ensures.small) in
+    let all = shares_bound c.args.sched.now (g.C.Costs.model c.args.costs.now) c.plans.ensures.accepted (g.met.C.Costs.bounded c.args.costs.now) (operations c.args.sched.now) few in
     omega (arith, step g c, all)
 
 pub loop-rank-preserved : goal.loop-rank-preserved

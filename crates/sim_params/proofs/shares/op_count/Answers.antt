@@ -13,7 +13,7 @@ counted : (c : After-len) → c.len.result ≡ length c.index-plans-rank.result.
 counted c = omega (arith, c.plan.inside.ops.ok.0, c.len.ensures, ap (λ (p : Plan). length p.ops) c.plan.view_is)
 
 few : (c : After-len) → c.len.result ≤ 2 ^ 20
-few c = omega (arith, counted c, few_ops_at c.args.sched.now c.known.ensures.accepted c.args.rank c.index-plans-rank.result (here c))
+few c = omega (arith, counted c, few_ops_at c.args.sched.now c.plans.ensures.accepted c.args.rank c.index-plans-rank.result (here c))
 
 pub overflow_cast-result : goal.overflow_cast-result
 overflow_cast-result c = omega (arith, few c)

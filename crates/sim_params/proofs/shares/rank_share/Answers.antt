@@ -23,7 +23,7 @@ share-sum-requires g c = is_op_below c.args.sched.now c.args.rank c.loop-op.op c
 pub overflow_add-sum : goal.overflow_add-sum
 overflow_add-sum g c =
     let few : length (ops_at c.args.sched.now c.args.rank) ≤ 2 ^ 20 = omega (arith, c.op_count-op-end.ensures.count, c.op_count-op-end.ensures.few) in
-    let all = rank_bound c.args.sched.now (g.C.Costs.model c.args.costs.now) c.known.ensures.accepted (g.met.C.Costs.bounded c.args.costs.now) c.args.rank few in
+    let all = rank_bound c.args.sched.now (g.C.Costs.model c.args.costs.now) c.plans-plans.ensures.accepted (g.met.C.Costs.bounded c.args.costs.now) c.args.rank few in
     omega (arith, step g c, all)
 
 pub loop-op-preserved : goal.loop-op-preserved

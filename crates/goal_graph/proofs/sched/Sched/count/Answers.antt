@@ -4,6 +4,6 @@ use Rattle.goal_graph.specs.Schedule.{operations}
 use Rattle.goal_graph.proofs.ListingLemmas.{few_listed}
 use Rattle.goal_graph.proofs.sched.Sched.count.Goals as goal
 
-pub returns-clause-few : goal.returns-clause-few
-returns-clause-few c =
+pub returns-clause-small : goal.returns-clause-small
+returns-clause-small c =
     few_listed c.self.inside.tables c.count.result c.self.invariant.0.plain c.count.ensures

@@ -11,8 +11,7 @@ overflow_cast-ranks g c =
 
 pub loop-rank-preserved : goal.loop-rank-preserved
 loop-rank-preserved g c =
-    let more = rank_more c.args.self.now.plans (g.C.Costs.model c.args.self.now.costs) c.args.self.now.history c.loop-rank.rank c.loop-rank.best c.least_of_rank.result c.loop-rank.invariant c.least_of_rank.ensures in
-    subst (IsLeastAmong c.args.self.now.plans (g.C.Costs.model c.args.self.now.costs) (λ (y : OpId). y.rank < c.loop-rank.rank + 1) c.args.self.now.history) (sym c.lesser-best.ensures) more
+    rank_more c.args.self.now.plans (g.C.Costs.model c.args.self.now.costs) c.args.self.now.history c.loop-rank.rank c.loop-rank.best c.least_of_rank.result c.lesser-best.result c.loop-rank.invariant c.least_of_rank.ensures c.lesser-best.ensures
 
 pub returns-clause-next : goal.returns-clause-next
 returns-clause-next g c =

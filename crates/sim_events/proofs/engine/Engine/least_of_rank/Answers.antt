@@ -12,8 +12,7 @@ choice-requires g c =
 
 pub loop-op-preserved : goal.loop-op-preserved
 loop-op-preserved g c =
-    let more = one_more c.args.self.now.plans (g.C.Costs.model c.args.self.now.costs) c.args.self.now.history c.args.rank c.loop-op.op c.loop-op.best c.choice.result c.loop-op.invariant c.choice.ensures in
-    subst (IsLeastAmong c.args.self.now.plans (g.C.Costs.model c.args.self.now.costs) (Below c.args.self.now.plans (g.C.Costs.model c.args.self.now.costs) c.args.self.now.history c.args.rank (c.loop-op.op + 1)) c.args.self.now.history) (sym c.lesser-best.ensures) more
+    one_more c.args.self.now.plans (g.C.Costs.model c.args.self.now.costs) c.args.self.now.history c.args.rank c.loop-op.op c.loop-op.best c.choice.result c.lesser-best.result c.loop-op.invariant c.choice.ensures c.lesser-best.ensures
 
 pub returns : goal.returns
 returns g c =

@@ -13,9 +13,9 @@ invariant_of-result g c =
     let ended = c.in_ok-ended.ensures.items_if_clones_equal (elim [ None ↦ λ h. refl | Some y ↦ λ h. absurd h ]) in
     let free = c.in_ok-free.ensures.items_if_clones_equal (λ y e. e) in
     subst (λ items. Mirrors plans costs (reverse items) c.in_ok-started.started.items c.in_ok-ended.ended.items c.in_ok-free.free.items (vec_capacity c.in_ok-history.history)) (sym c.in_ok-history.ensures.items) (record {
-      accepted = c.known.ensures.accepted;
+      accepted = c.plans-plans.ensures.accepted;
       calcs = c.requires.calcs;
-      within = omega (arith, c.budget-sum.ensures, c.if-sum-gt-MAX_BUDGET.false);
+      within = omega (arith, c.budget-sum.ensures, c.if-sum-most.false);
       run = tt;
       starts = fresh_table _ None (operations plans) _ _ c.count-count.ensures.count started (no_start plans costs);
       ends = fresh_table _ None (operations plans) _ _ c.count-count.ensures.count ended (no_end plans costs);
