@@ -1,5 +1,5 @@
 -- When a list of plans is a schedule, and else the first rule that it breaks.
-use Rattle.std.specs.Prelude.{◌≡◌, ℕ, zero, suc, ◌+◌, ◌<◌, ◌≤◌, ◌==◌, ◌&&◌, ◌⊎◌, Bool, true, false, nat_lt, nat_le, List, [], ◌∷◌, length, Option, Some, None, is_some, slice_get, if◌then◌else◌}
+use Rattle.std.specs.Prelude.{◌≡◌, ℕ, zero, suc, ◌+◌, ◌<◌, ◌≤◌, ◌==◌, ◌&&◌, ◌⊎◌, Bool, true, false, not, nat_lt, nat_le, List, [], ◌∷◌, length, Option, Some, None, is_some, slice_get, if◌then◌else◌}
 use Rattle.std.specs.List.{list_all, sum_by}
 use Rattle.std.specs.Option.{option_or}
 use Rattle.goal_graph.specs.declared.action.OpId.{OpId}
@@ -71,7 +71,7 @@ is_calc (Recv bytes from tag) = false
 
 abbrev pub can_move : Option Op → Bool
 can_move None = false
-can_move (Some o) = if is_calc o.kind then false else true
+can_move (Some o) = not (is_calc o.kind)
 
 abbrev pub can_add : Option Op → Bool
 can_add None = false

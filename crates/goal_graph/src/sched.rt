@@ -1,5 +1,5 @@
 // Schedules: lists of plans that break no rule.
-ghost use Rattle.std.specs.Prelude.{◌≡◌, ◌≢◌, ◌⊎◌, ◌≤◌, List, length, Some, All, IfOk, IfErr, OnOk, IsTrue, IsOkUnless, IsErrOf, slice_get};
+ghost use Rattle.std.specs.Prelude.{◌≡◌, ◌≢◌, ◌<◌, ◌≤◌, ◌⊎◌, List, length, Some, All, IfOk, IfErr, OnOk, IsTrue, IsOkUnless, IsErrOf, slice_get};
 ghost use Rattle.goal_graph.specs.declared.fault.PlanFault.{PlanFault};
 ghost use Rattle.goal_graph.specs.Schedule.{Plan, op_at, needs, waiting_on, needed, operations};
 ghost use Rattle.goal_graph.specs.Fault.{IsOp, IsFault, IsAccepted, AreCountsWithin, value_fits, has_peer};
@@ -122,7 +122,8 @@ impl Sched {
     /// The place of the operation in the order of all, by rank and number.
     pub fn index(&self, id: OpId) -> u32
         requires { IsOp self.now id }
-        ensures { slice_get (operations self.now) result ≡ Some id }
+        ensures index { slice_get (operations self.now) result ≡ Some id }
+        ensures below { result < length (operations self.now) }
     {
         self.tables.index(id)
     }
