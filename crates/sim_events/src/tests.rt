@@ -31,7 +31,12 @@ fn costs() -> Result<LogGops, Fail> {
 }
 
 // When an operation started and when it ends.
-fn told(rt: &impl Abort, engine: &Engine<LogGops>, rank: u32, op: u32) -> (Option<u64>, Option<u64>) {
+fn told(
+    rt: &impl Abort,
+    engine: &Engine<LogGops>,
+    rank: u32,
+    op: u32,
+) -> (Option<u64>, Option<u64>) {
     let plans = engine.sched().plans();
     assert!(rt; (rank as usize) < plans.len());
     let plan = &plans[rank as usize];
@@ -84,7 +89,11 @@ fn a_chain(rt: HostRuntime) -> Result<(), Fail> {
     engine.run();
     let times = [(0, 100), (0, 30), (100, 110), (100, 105)];
     for (op, (start, end)) in times.into_iter().enumerate() {
-        assert_eq!(rt; told(&rt, &engine, 0, op as u32), (Some(start), Some(end)), "at {op}");
+        assert_eq!(rt;
+            told(&rt, &engine, 0, op as u32),
+            (Some(start), Some(end)),
+            "at {op}"
+        );
     }
     Ok(())
 }
@@ -100,6 +109,11 @@ fn a_budget_that_is_over(rt: HostRuntime) -> Result<(), Fail> {
     let sched = Sched::build(rt.alloc(), vec![in rt.alloc(); calcs]?)?;
     assert!(rt; is_all_calcs(&sched));
     let fault = Engine::new(rt.alloc(), &sched, costs()?).err();
-    assert_eq!(rt; fault, Some(EngineFault::Budget { sum: 9_223_653_511_831_453_695 }));
+    assert_eq!(rt;
+        fault,
+        Some(EngineFault::Budget {
+            sum: 9_223_653_511_831_453_695
+        })
+    );
     Ok(())
 }

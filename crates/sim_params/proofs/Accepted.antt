@@ -5,12 +5,11 @@ use Rattle.std.proofs.lemmas.Option.{same_Some, slice_get_within, get_or_from_sl
 use Rattle.std.proofs.lemmas.List.Sums.{get_or-le-sum_by}
 use Rattle.goal_graph.specs.declared.action.OpId.{OpId}
 use Rattle.goal_graph.specs.declared.fault.PlanFault.{PlanFault}
-use Rattle.goal_graph.specs.declared.fault.PlanFault.TheVariants.{Count, Value, Peer, DepRange}
+use Rattle.goal_graph.specs.declared.fault.PlanFault.TheVariants.{Count, Value, Peer}
 use Rattle.goal_base.specs.declared.limits.TheConstants.{MAX_RANKS, MAX_OPS}
 use Rattle.goal_graph.specs.declared.plan.Op.{Op}
-use Rattle.goal_graph.specs.declared.plan.Dep.{Dep}
 use Rattle.goal_graph.specs.Schedule.{Plan, op_at}
-use Rattle.goal_graph.specs.Fault.{op_count, over, count_fault, value_fits, has_peer, dep_in_range, op_fault, dep_fault, first_fault, rank_fault, plain_fault, IsAccepted}
+use Rattle.goal_graph.specs.Fault.{op_count, over, count_fault, value_fits, has_peer, op_fault, first_fault, rank_fault, plain_fault, IsAccepted}
 
 -- where neither of two things is there, both are absent
 pub or_none : {A : Type 0} (o p : Option A) → option_or o p ≡ None → (o ≡ None) × (p ≡ None)

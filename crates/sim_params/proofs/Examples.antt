@@ -1,7 +1,6 @@
 -- The rules tried on small schedules: the run is computed, and its starts, ends and matches are as worked by hand.
-use Rattle.std.specs.Prelude.{ℕ, zero, suc, ◌+◌, ◌*◌, ◌≡◌, ◌==◌, ◌&&◌, ◌||◌, Bool, true, false, nat_lt, List, [], ◌∷◌, ◌++◌, Option, Some, None, if◌then◌else◌, map, refl}
-use Rattle.std.specs.List.{flat_map, list_all}
-use Rattle.std.specs.Option.{option_map}
+use Rattle.std.specs.Prelude.{ℕ, zero, suc, ◌≡◌, ◌==◌, ◌&&◌, ◌||◌, Bool, false, nat_lt, List, [], ◌∷◌, Option, Some, None, if◌then◌else◌, map, refl}
+use Rattle.std.specs.List.{flat_map}
 use Rattle.goal_graph.specs.declared.action.OpId.{OpId}
 use Rattle.goal_graph.specs.declared.action.Timed.{Timed}
 use Rattle.goal_graph.specs.declared.action.Why.{Why}
@@ -10,15 +9,14 @@ use Rattle.goal_graph.specs.declared.action.Class.{Class}
 use Rattle.goal_graph.specs.declared.action.Class.TheVariants.{Arrive, Serve, Data, Post, Begin}
 use Rattle.goal_graph.specs.declared.plan.Kind.{Kind}
 use Rattle.goal_graph.specs.declared.plan.Kind.TheVariants.{Calc, Send, Recv}
-use Rattle.goal_graph.specs.declared.plan.Op.{Op}
 use Rattle.goal_graph.specs.declared.plan.Dep.{Dep}
 use Rattle.goal_graph.specs.declared.plan.When.TheVariants.{AfterEnd, AfterStart}
-use Rattle.goal_graph.specs.Schedule.{Plan, op_at, kind_at, deps_at, needs, needed, places_of_rank, places_from, operations, earlier_of}
-use Rattle.goal_graph.specs.Action.{Act, place, same_op, is_act, happened, oldest, plain}
-use Rattle.goal_graph.specs.Matching.{Pair, fits, pairs, partner}
+use Rattle.goal_graph.specs.Schedule.{Plan, op_at, kind_at, deps_at, needs, places_of_rank, places_from, operations}
+use Rattle.goal_graph.specs.Action.{happened, oldest, plain}
+use Rattle.goal_graph.specs.Matching.{fits, pairs, partner}
 use Rattle.goal_graph.specs.Allowed.{has_started, has_ended, is_ready, allowed}
 use Rattle.sim_params.specs.Costs.{CostModel, Numbers, log_gops, is_eager}
-use Rattle.sim_params.specs.Times.{since, greatest, cpu, tx, rx, start, end, ready, time, mate}
+use Rattle.sim_params.specs.Times.{since, greatest, cpu, tx, rx, start, end, ready, time}
 use Rattle.sim_params.specs.Run.{key}
 use Rattle.sim_params.specs.Stuck.{first_unmet, first_absent, reason}
 use Rattle.sim_params.specs.Budget.{share, budget}

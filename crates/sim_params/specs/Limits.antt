@@ -1,5 +1,5 @@
 -- The limits of the parameters: 2^40-1 for L, o, g and S, 2^20-1 for G and O.
-use Rattle.std.specs.Prelude.{ℕ, ◌<◌, ◌^◌, ◌≤◌, nat_lt, Option, Some, None, if◌then◌else◌}
+use Rattle.std.specs.Prelude.{ℕ, ◌<◌, ◌^◌, nat_lt, Option, Some, None, if◌then◌else◌}
 use Rattle.sim_params.specs.declared.params.Param.{Param}
 use Rattle.sim_params.specs.declared.params.Param.TheVariants.{Latency, Overhead, Gap, GapPerByte, OverheadPerByte, Sync}
 

@@ -1,5 +1,5 @@
 -- The numbers of the parameters, and the bound on the costs of LogGOPS.
-use Rattle.std.specs.Prelude.{ℕ, ◌≡◌, ◌+◌, ◌-◌, ◌*◌, ◌<◌, ◌≤◌, ◌^◌, max}
+use Rattle.std.specs.Prelude.{ℕ, ◌≡◌, ◌-◌, ◌*◌, ◌<◌, ◌≤◌, ◌^◌, max}
 use Rattle.std.proofs.Common.{arith}
 use Rattle.sim_params.specs.declared.params.Params.{Params}
 use Rattle.sim_params.specs.Costs.{Numbers, IsBounded, log_gops}

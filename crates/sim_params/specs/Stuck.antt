@@ -1,13 +1,12 @@
 -- Stuck operations, and the reason of each.
-use Rattle.std.specs.Prelude.{ℕ, ◌≡◌, ◌||◌, ◌&&◌, Bool, true, false, not, List, [], ◌∷◌, Option, Some, None}
+use Rattle.std.specs.Prelude.{◌≡◌, ◌||◌, ◌&&◌, Bool, false, not, List, Option, Some, None}
 use Rattle.std.specs.List.{find}
 use Rattle.goal_graph.specs.declared.action.OpId.{OpId}
-use Rattle.goal_graph.specs.declared.action.Timed.{Timed}
 use Rattle.goal_graph.specs.declared.action.Why.{Why}
 use Rattle.goal_graph.specs.declared.action.Why.TheVariants as why
 use Rattle.goal_graph.specs.declared.plan.Need.{Need}
 use Rattle.goal_graph.specs.Schedule.{Plan, needs, needed, operations}
-use Rattle.goal_graph.specs.Action.{Act, plain}
+use Rattle.goal_graph.specs.Action.{Act}
 use Rattle.goal_graph.specs.Matching.{fits}
 use Rattle.goal_graph.specs.Allowed.{has_started, has_ended, is_met}
 

@@ -1,8 +1,7 @@
 -- Each turn lists one rank.
-use Rattle.std.proofs.Common.{◌≡◌, ◌<◌, ◌++◌, List, [], ◌∷◌, length, get_or, drop, sym, ap, ◌∙◌, arith, append-nil}
+use Rattle.std.proofs.Common.{◌≡◌, ◌++◌, List, [], length, get_or, drop, sym, ap, ◌∙◌, arith, append-nil}
 use Rattle.std.proofs.lemmas.List.{drop_all, get_or_default}
 use Rattle.goal_graph.specs.declared.action.OpId.{OpId}
-use Rattle.goal_graph.specs.declared.plan.Op.{Op}
 use Rattle.goal_graph.specs.Schedule.{Plan, places_from}
 use Rattle.goal_graph.proofs.Places.{op_count-more_le, no_plan}
 use Rattle.goal_graph.proofs.ListingLemmas.{one_rank_listed, places_from-nil}

@@ -1,4 +1,4 @@
-use Rattle.std.proofs.Common.{◌≡◌, ◌++◌, drop, length}
+use Rattle.std.proofs.Common.{◌≡◌, ◌++◌, drop}
 use Rattle.goal_graph.specs.Schedule.{operations, places_from}
 use Rattle.goal_graph.proofs.listing.list_operations.Given as goal
 

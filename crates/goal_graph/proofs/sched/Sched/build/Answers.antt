@@ -1,6 +1,4 @@
 -- The plans of the tables have few ranks and operations.
-use Rattle.std.proofs.Common.{arith}
-use Rattle.goal_graph.proofs.Plain.{plain-counts}
 use Rattle.goal_graph.proofs.ListingLemmas.{few_ranks, few_operations}
 use Rattle.goal_graph.proofs.sched.Sched.build.Goals as goal
 

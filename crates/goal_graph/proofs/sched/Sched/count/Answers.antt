@@ -1,6 +1,4 @@
 -- An accepted schedule has few operations.
-use Rattle.std.proofs.Common.{◌∙◌, ap, sym}
-use Rattle.goal_graph.specs.Schedule.{operations}
 use Rattle.goal_graph.proofs.ListingLemmas.{few_listed}
 use Rattle.goal_graph.proofs.sched.Sched.count.Goals as goal
 

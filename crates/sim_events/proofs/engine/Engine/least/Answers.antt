@@ -1,7 +1,5 @@
-use Rattle.std.proofs.Common.{◌+◌, ◌<◌, length, sym, ap, ◌∙◌, subst, arith}
-use Rattle.goal_graph.specs.declared.action.OpId.{OpId}
+use Rattle.std.proofs.Common.{length, ap, ◌∙◌, arith}
 use Rattle.sim_params.proofs.Accepted.{few_ranks}
-use Rattle.sim_events.specs.Least.{IsLeastAmong}
 use Rattle.sim_events.proofs.Leasts.{rank_more, least_next, none_finished}
 use Rattle.sim_events.proofs.engine.Engine.least.Goals as goal
 

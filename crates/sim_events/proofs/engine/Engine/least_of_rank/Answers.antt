@@ -1,8 +1,7 @@
-use Rattle.std.proofs.Common.{◌+◌, length, sym, ap, subst, arith}
+use Rattle.std.proofs.Common.{length, ap, arith}
 use Rattle.sim_params.specs.Shares.{ops_at}
 use Rattle.sim_params.proofs.SharesLemmas.{is_op_below}
-use Rattle.sim_events.specs.Least.{IsLeastAmong}
-use Rattle.sim_events.proofs.Leasts.{Below, one_more, all_below}
+use Rattle.sim_events.proofs.Leasts.{one_more, all_below}
 use Rattle.sim_events.proofs.engine.Engine.least_of_rank.Goals as goal
 
 pub choice-requires : goal.choice-requires

@@ -1,4 +1,4 @@
-use Rattle.std.proofs.Common.{◌<◌, ◌^◌, ◌*◌, ◌≤◌, arith}
+use Rattle.std.proofs.Common.{◌^◌, ◌*◌, ◌≤◌, arith}
 use Rattle.sim_params.specs.Numbers.{product_bound_by}
 use Rattle.sim_params.proofs.costs.LogGopsCosts.flight.Goals as goal
 use Rattle.sim_params.proofs.costs.LogGopsCosts.flight.Goals.{After-saturating_sub}
