@@ -1,7 +1,7 @@
 -- What follows from the table of causes.
-use Rattle.std.proofs.Common.{◌≡◌, ℕ, ◌<◌, ◌≤◌, ◌⊎◌, Bool, true, false, List, [], ◌∷◌, ◌++◌, take, length, Option, Some, None, refl, sym, ap, ◌∙◌, subst, inl, inr, arith}
+use Rattle.std.proofs.Common.{◌≡◌, ℕ, ◌⊎◌, true, List, length, Option, Some, None, inl, inr, arith}
 use Rattle.std.proofs.Math.Seq.{take-length}
-use Rattle.goal_base.specs.Device.{HostState, SinkState, Rose, Held, SameReadCounts, Grows, file_of, ReadFaulted}
+use Rattle.goal_base.specs.Device.{HostState, SinkState, Grows, file_of, ReadFaulted}
 use Rattle.goal_cli.specs.declared.answer.Answer.{Answer}
 use Rattle.goal_cli.specs.declared.answer.Answer.TheVariants as answer
 use Rattle.goal_cli.specs.declared.answer.Refusal.{Refusal}

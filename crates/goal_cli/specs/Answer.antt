@@ -1,5 +1,5 @@
 -- What each answer of `goal` says of the call, and what `err` gets.
-use Rattle.std.specs.Prelude.{ℕ, ◌≡◌, ◌+◌, ◌<◌, ◌⊎◌, Bool, true, List, [], ◌∷◌, ◌++◌, take, length, Option, Some, None, IsSomeAnd, IfSome, codes, decimal}
+use Rattle.std.specs.Prelude.{ℕ, ◌≡◌, ◌⊎◌, true, List, [], ◌++◌, take, Option, Some, None, IsSomeAnd, IfSome, codes, decimal}
 use Rattle.goal_base.specs.Device.{HostState, SinkState, Rose, Held, SameReadCounts, Grows, file_of, ReadFaulted}
 use Rattle.goal_cli.specs.declared.answer.Answer.{Answer}
 use Rattle.goal_cli.specs.declared.answer.Answer.TheVariants as answer

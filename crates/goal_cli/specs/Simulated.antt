@@ -1,5 +1,5 @@
 -- What a text is to `goal sim`: the schedule and the printed run that it stands for, or why it is refused.
-use Rattle.std.specs.Prelude.{ℕ, ◌≡◌, ◌<◌, ◌≤◌, ◌^◌, List, length, Option, Some, None}
+use Rattle.std.specs.Prelude.{ℕ, ◌≡◌, ◌<◌, ◌≤◌, ◌^◌, List, length, Some, None}
 use Rattle.goal_graph.specs.declared.action.Timed.{Timed}
 use Rattle.goal_graph.specs.declared.fault.PlanFault.TheVariants as fault
 use Rattle.goal_graph.specs.Schedule.{Plan}

@@ -3,7 +3,7 @@ use Rattle.std.specs.Prelude.{ℕ, ◌+◌, ◌==◌, ◌&&◌, ◌||◌, nat_lt
 use Rattle.std.specs.Option.{option_map}
 use Rattle.std.specs.List.{range_with_len}
 use Rattle.std.specs.Map.{lookup}
-use Rattle.goal_graph.specs.declared.limits.TheConstants.{MAX_RANKS, MAX_OPS, MAX_DEPS}
+use Rattle.goal_base.specs.declared.limits.TheConstants.{MAX_RANKS, MAX_OPS, MAX_DEPS}
 use Rattle.goal_graph.specs.declared.plan.Op.{Op}
 use Rattle.goal_graph.specs.declared.plan.Dep.{Dep}
 use Rattle.goal_graph.specs.declared.plan.When.{When}

@@ -3,7 +3,7 @@ use Rattle.std.specs.Prelude.{◌≡◌, ℕ, ◌+◌, ◌≤◌, true, List, []
 use Rattle.std.specs.List.{range_with_len}
 use Rattle.goal_graph.specs.Schedule.{Plan}
 use Rattle.goal_graph.specs.Fault.{op_count, dep_count}
-use Rattle.goal_graph.specs.declared.limits.TheConstants.{MAX_RANKS, MAX_OPS, MAX_DEPS}
+use Rattle.goal_base.specs.declared.limits.TheConstants.{MAX_RANKS, MAX_OPS, MAX_DEPS}
 use Rattle.goal_cli.specs.declared.small.draft.Draft.{Draft}
 use Rattle.goal_cli.specs.SmallWords.{Word, NumRanks, Rank, Number, word_list}
 use Rattle.goal_cli.specs.Small.{Block, blocks, plans_at, has_block, ranks_fit, schedule}

@@ -3,7 +3,7 @@ use Rattle.std.specs.Prelude.{ℕ, ◌+◌, ◌*◌, ◌-◌, ◌==◌, ◌&&◌
 use Rattle.std.specs.List.{list_all, list_any}
 use Rattle.std.specs.Option.{option_map}
 use Rattle.std.specs.Char.{is_ascii_digit, is_ascii_alphabetic, is_ascii_alphanumeric}
-use Rattle.goal_graph.specs.declared.limits.TheConstants.{MAX_NANOS}
+use Rattle.goal_base.specs.declared.limits.TheConstants.{MAX_NANOS}
 
 -- a blank: a space, a tab, a line feed or a carriage return
 abbrev pub is_blank : ℕ → Bool

@@ -1,5 +1,4 @@
-use Rattle.std.proofs.Common.{◌≡◌, ◌≤◌, take}
-use Rattle.goal_graph.specs.Schedule.{operations}
+use Rattle.std.proofs.Common.{◌≤◌, take}
 use Rattle.goal_cli.specs.Timeline.{IsSummary}
 use Rattle.goal_cli.proofs.timeline.sum_up.Given as goal
 

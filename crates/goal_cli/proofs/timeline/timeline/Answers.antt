@@ -1,4 +1,4 @@
-use Rattle.std.proofs.Common.{◌≡◌, ◌++◌, take, get_or, length, refl, sym, ap, ◌∙◌, arith}
+use Rattle.std.proofs.Common.{take, get_or, refl, sym, ◌∙◌}
 use Rattle.std.proofs.lemmas.List.{append-nil, take_more, take_all, flat_map_more}
 use Rattle.goal_cli.specs.Timeline.{first_line, line_of, timeline}
 use Rattle.goal_cli.proofs.TimelineLemmas.{first_line_is, line_is}
