@@ -1,11 +1,11 @@
 pub mod AnswerLemmas
+pub mod CalcsLemmas
 pub mod RefusalLemmas
-pub mod TimelineLemmas
-pub mod SmallWordsLemmas
+pub mod SmallBlockLemmas
+pub mod SmallDraftLemmas
 pub mod SmallFormLemmas
 pub mod SmallItemLemmas
-pub mod SmallBlockLemmas
-pub mod SmallPlansLemmas
-pub mod SmallDraftLemmas
 pub mod SmallPlainLemmas
-pub mod CalcsLemmas
+pub mod SmallPlansLemmas
+pub mod SmallWordsLemmas
+pub mod TimelineLemmas

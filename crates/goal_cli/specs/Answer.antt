@@ -52,7 +52,8 @@ module _ (name : Option (List ℕ)) (host host' : HostState) (out out' : SinkSta
   IsCause answer.Done =
       ForInput name host (GetsRun out out') × SameReadCounts host host' × (out'.count ≡ out.count)
   IsCause answer.BadLine = (name ≡ None) × SameReadCounts host host' × (out' ≡ out)
-  IsCause (answer.Refused r) = ForInput name host (λ text. IsRefused text r) × SameReadCounts host host' × (out' ≡ out)
+  IsCause (answer.Refused r) =
+      ForInput name host (λ text. IsRefused text r) × SameReadCounts host host' × (out' ≡ out)
   IsCause answer.ReadFault = IsSomeAnd name (ReadFaulted host host') × (out' ≡ out)
   IsCause answer.WriteFault =
       ForInput name host (GetsPartOfRun out out') × SameReadCounts host host' × Rose out.stops out.count out'.count

@@ -2,10 +2,10 @@ pub mod Answer
 pub mod Line
 pub mod Real
 pub mod Simulated
-pub mod Timeline
-pub mod SmallWords
-pub mod SmallTokens
 pub mod Small
-pub mod SmallPlain
 pub mod SmallBlock
 pub mod SmallDraft
+pub mod SmallPlain
+pub mod SmallTokens
+pub mod SmallWords
+pub mod Timeline

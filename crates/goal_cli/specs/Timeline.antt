@@ -44,12 +44,14 @@ partner_text (Recv bytes from tag) y = match_text y
 -- the line of an operation of this kind, with its start, its end and its partner
 abbrev pub operation_line : OpId → Kind → Option ℕ → Option ℕ → Option OpId → List ℕ
 operation_line x kind start end partner =
-    codes "op " ++ id_text x ++ kind_text kind ++ time_text start ++ codes " end " ++ time_text end ++ partner_text kind partner ++ line_feed
+    codes "op " ++ id_text x ++ kind_text kind
+    ++ time_text start ++ codes " end " ++ time_text end ++ partner_text kind partner ++ line_feed
 
 -- the first line: how many ranks, operations, operations without an end, unread messages, and the last end
 abbrev pub summary_line : ℕ → ℕ → ℕ → ℕ → ℕ → List ℕ
 summary_line ranks ops stuck unread finish =
-    codes "ranks " ++ decimal ranks ++ codes " ops " ++ decimal ops ++ codes " stuck " ++ decimal stuck ++ codes " unread " ++ decimal unread ++ codes " finish " ++ decimal finish ++ line_feed
+    codes "ranks " ++ decimal ranks ++ codes " ops " ++ decimal ops ++ codes " stuck " ++ decimal stuck
+    ++ codes " unread " ++ decimal unread ++ codes " finish " ++ decimal finish ++ line_feed
 
 abbrev pub is_send : Option Kind → Bool
 is_send (Some (Send bytes to tag)) = true
@@ -83,7 +85,8 @@ module _ (plans : List Plan) (costs : CostModel) (h : List Timed) where
 
   unfoldable pub first_line : List ℕ
   first_line =
-      summary_line (length plans) (length (operations plans)) (count_by lacks_end (operations plans)) (count_by is_unread (operations plans)) (greatest end_or_zero (operations plans))
+      summary_line (length plans) (length (operations plans)) (count_by lacks_end (operations plans))
+      (count_by is_unread (operations plans)) (greatest end_or_zero (operations plans))
 
   abbrev pub line_by : OpId → Option Kind → List ℕ
   line_by x None = []

@@ -41,8 +41,10 @@ pub fn goal<H: Host, W: Sink, E: Sink>(
     // The host failed, or has no file NAME.
     ensures read_fault { result ≡ Status.ReadFault
         → IsSomeAnd (name_in words.now) (ReadFaulted (H.state host.old) (H.state host.new)) }
-    ensures read_risen { (H.state host.old).read_count < (H.state host.new).read_count → Answers result Status.ReadFault }
-    ensures absent_risen { (H.state host.old).absent_count < (H.state host.new).absent_count → Answers result Status.ReadFault }
+    ensures read_risen { (H.state host.old).read_count < (H.state host.new).read_count
+        → Answers result Status.ReadFault }
+    ensures absent_risen { (H.state host.old).absent_count < (H.state host.new).absent_count
+        → Answers result Status.ReadFault }
     ensures absent_name { IfSome (name_in words.now) (λ name. (H.state host.old).tells ≡ true
         → file_of (H.state host.old) name ≡ None → Answers result Status.ReadFault) }
 
@@ -60,13 +62,19 @@ pub fn goal<H: Host, W: Sink, E: Sink>(
         × ForInput (name_in words.now) (H.state host.old) (GetsPartOfRun (W.state out.old) (W.state out.new)) }
     ensures write_risen { (W.state out.old).count < (W.state out.new).count → Answers result Status.WriteFault }
 
-    // For every input that has a run, unless want of memory is answered or a device fails, `out` gets the printed run.
-    ensures headline { result ≡ Status.Done
+    // The printed run was written whole.
+    ensures done { result ≡ Status.Done
         → ForInput (name_in words.now) (H.state host.old) (GetsRun (W.state out.old) (W.state out.new)) }
-    ensures complete { IfInput (name_in words.now) (H.state host.old) (λ text. (plans : List Plan)
+
+    // For every file that has a schedule whose time budget fits 63 bits, unless want of memory is answered or a device
+    // fails, `out` gets the start and the end of each operation in the one run where the least possible action by time
+    // and tie rule happens next.
+    ensures headline { IfInput (name_in words.now) (H.state host.old) (λ text. (plans : List Plan)
         → HasSchedule text plans → ReadsHeld (H.state host.old) (H.state host.new)
         → WritesHeld (W.state out.old) (W.state out.new)
         → AnswersWith result Status.Done (GetsRun (W.state out.old) (W.state out.new) text)) }
+
+    // Every operation of a run of calcs ends, and nothing is certified.
     ensures never_stuck { result ≢ Status.Stuck }
     ensures never_not_certified { result ≢ Status.NotCertified }
 
@@ -79,7 +87,8 @@ pub fn goal<H: Host, W: Sink, E: Sink>(
     ensures says { IfSome (line_at result) (λ line. Says (E.state err.old) (E.state err.new) line) }
     ensures says_nothing { result ≡ Status.Done → E.state err.new ≡ E.state err.old }
     ensures says_part { result ≡ Status.NoMemory → (answer : Answer)
-        × IsCause (name_in words.now) (H.state host.old) (H.state host.new) (W.state out.old) (W.state out.new) answer
+        × IsCause (name_in words.now) (H.state host.old) (H.state host.new)
+        (W.state out.old) (W.state out.new) answer
         × GrowsByPart (E.state err.old) (E.state err.new) (line_for answer) }
 
     // No file changes, and of the input at most 2^27+1 bytes are taken.
@@ -87,7 +96,8 @@ pub fn goal<H: Host, W: Sink, E: Sink>(
     ensures writing { (H.state host.new).writing ≡ (H.state host.old).writing }
     ensures writes { (H.state host.new).write_count ≡ (H.state host.old).write_count }
     ensures taken { SameRest (H.state host.old) (H.state host.new)
-        ⊎ IsSomeAnd (name_in words.now) (λ name. ReadsAtMost (H.state host.old) (H.state host.new) name (2 ^ 27 + 1)) }
+        ⊎ IsSomeAnd (name_in words.now) (λ name.
+        ReadsAtMost (H.state host.old) (H.state host.new) name (2 ^ 27 + 1)) }
     ensures later { Later (H.state host.old) (H.state host.new) }
     ensures later_out { SinkLater (W.state out.old) (W.state out.new) }
     ensures later_err { SinkLater (E.state err.old) (E.state err.new) }
@@ -100,22 +110,27 @@ pub fn goal<H: Host, W: Sink, E: Sink>(
 fn name_of(words: &[String]) -> Option<&str>
     ensures { MatchOption result (name_in words.now ≡ None) (λ name. name_in words.now ≡ Some name.now) }
 {
-    match words {
-        [command, name] if command.as_str() == "sim" && !name.as_str().starts_with('-') => Some(
-            name.as_str(),
-        ),
-        _ => None,
+    let [command, name] = words else {
+        return None;
+    };
+    let name = name.as_str();
+    if command.as_str() == "sim" && !name.starts_with('-') {
+        Some(name)
+    } else {
+        None
     }
 }
 
 // The answer to the words. It gives `out` the printed run, and says nothing.
 fn carry_out<H: Host, W: Sink>(alloc: Global, words: &[String], host: &mut H, out: &mut W) -> Answer
-    ensures cause { IsCause (name_in words.now) (H.state host.old) (H.state host.new) (W.state out.old) (W.state out.new) result }
+    ensures cause { IsCause (name_in words.now) (H.state host.old) (H.state host.new)
+        (W.state out.old) (W.state out.new) result }
     ensures files { SameFiles (H.state host.old) (H.state host.new) }
     ensures writing { (H.state host.new).writing ≡ (H.state host.old).writing }
     ensures write_count { (H.state host.new).write_count ≡ (H.state host.old).write_count }
     ensures taken { SameRest (H.state host.old) (H.state host.new)
-        ⊎ IsSomeAnd (name_in words.now) (λ name. ReadsAtMost (H.state host.old) (H.state host.new) name (2 ^ 27 + 1)) }
+        ⊎ IsSomeAnd (name_in words.now) (λ name.
+        ReadsAtMost (H.state host.old) (H.state host.new) name (2 ^ 27 + 1)) }
     ensures later { Later (H.state host.old) (H.state host.new) }
     ensures later_out { SinkLater (W.state out.old) (W.state out.new) }
 {

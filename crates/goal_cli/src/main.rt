@@ -23,12 +23,12 @@ use std::{env, io};
 const NO_WORDS: u8 = 8;
 
 // The words after the program's name.
-fn words(rt: &HostRuntime) -> io::Result<Vec<String>> {
+fn command_words(rt: &HostRuntime) -> io::Result<Vec<String>> {
     Ok(env::args(rt)?.skip(1).collect(rt.alloc())?)
 }
 
 fn main(rt: HostRuntime) -> ExitCode {
-    let words = match words(&rt) {
+    let words = match command_words(&rt) {
         Ok(words) => words,
         Err(error) => {
             return match error.kind() {

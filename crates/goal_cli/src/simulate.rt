@@ -17,7 +17,7 @@ use sim_params::{LogGops, Params};
 use std::alloc::Global;
 
 // The costs of a run.
-fn default_costs() -> LogGops
+fn usual_costs() -> LogGops
     ensures { log_gops (numbers result.params) ≡ usual_costs }
 {
     match Params::new(2_500, 1_500, 1_000, 6, 0, 65_535) {
@@ -33,6 +33,7 @@ pub enum Stop {
 }
 
 // The schedule of a text.
+#[tactic(auto, using(crate::proofs::CalcsLemmas::plain_are_calcs))]
 fn read_schedule(alloc: Global, text: &[u8]) -> Result<Sched, Stop>
     requires short { length text.now ≤ 2 ^ 27 }
     ensures read { IfOk result (λ sched. IsReadAs text.now sched) }
@@ -60,7 +61,7 @@ fn print_run(alloc: Global, sched: &Sched) -> Result<Vec<u8>, EngineFault>
     ensures run { IfOk result (λ output. IsPrintedRun sched.now output.items) }
     ensures fault { IfErr result (λ fault. IsBudgetFault (budget sched.now usual_costs) fault) }
 {
-    let mut engine = match Engine::new(alloc, sched, default_costs()) {
+    let mut engine = match Engine::new(alloc, sched, usual_costs()) {
         Ok(engine) => engine,
         Err(fault) => return Err(fault),
     };

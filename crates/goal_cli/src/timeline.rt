@@ -1,8 +1,7 @@
 // The printed run.
-ghost use Rattle.std.specs.Prelude.{◌≡◌, ◌+◌, ◌-◌, ◌++◌, ◌<◌, ◌≤◌, ◌^◌, [], length, OnOk, IfOk, Some, is_some, unwrap_or, max, if◌then◌else◌};
+ghost use Rattle.std.specs.Prelude.{◌≡◌, ◌+◌, ◌-◌, ◌++◌, ◌<◌, ◌^◌, length, OnOk, IfOk, Some, is_some, unwrap_or, max, if◌then◌else◌};
 ghost use Rattle.goal_graph.specs.Schedule.{operations};
-ghost use Rattle.sim_params.specs.Budget.{budget};
-ghost use Rattle.goal_cli.specs.Timeline.{operation_line, summary_line, time_text, id_text, kind_text, partner_text, match_text, first_line, timeline, IsSummary, is_unread_send};
+ghost use Rattle.goal_cli.specs.Timeline.{operation_line, summary_line, time_text, id_text, kind_text, partner_text, match_text, timeline, IsSummary, is_unread_send};
 
 use goal_base::{NoMemory, TextOut};
 use goal_graph::{Kind, OpId, Sched};
@@ -17,7 +16,8 @@ pub fn timeline<C: Costs + Drop>(
     engine: &Engine<'_, C>,
 ) -> Result<Vec<u8>, NoMemory>
     requires same { engine.now.plans ≡ sched.now }
-    ensures { IfOk result (λ text. text.items ≡ timeline sched.now (C.model engine.now.costs) engine.now.history) }
+    ensures { IfOk result (λ text.
+        text.items ≡ timeline sched.now (C.model engine.now.costs) engine.now.history) }
 {
     let mut out = TextOut::new(alloc);
     put_summary(&mut out, sched, &sum_up(sched, engine))?;
@@ -41,7 +41,8 @@ impl Summary {
         requires stuck_fits { self.stuck < 2 ^ 64 - 1 }
         requires unread_fits { self.unread < 2 ^ 64 - 1 }
         ensures stuck { result.stuck ≡ self.stuck + (if is_some times.end then 0 else 1) }
-        ensures unread { result.unread ≡ self.unread + (if is_unread_send (Some kind) times.start times.partner then 1 else 0) }
+        ensures unread { result.unread ≡ self.unread
+            + (if is_unread_send (Some kind) times.start times.partner then 1 else 0) }
         ensures finish { result.finish ≡ max self.finish (unwrap_or times.end 0) }
     {
         Summary {
@@ -55,7 +56,8 @@ impl Summary {
 // The summary of all operations, of an engine whose run is over.
 fn sum_up<C: Costs + Drop>(sched: &Sched, engine: &Engine<'_, C>) -> Summary
     requires same { engine.now.plans ≡ sched.now }
-    ensures { IsSummary sched.now (C.model engine.now.costs) engine.now.history (operations sched.now) result.stuck result.unread result.finish }
+    ensures { IsSummary sched.now (C.model engine.now.costs) engine.now.history (operations sched.now)
+        result.stuck result.unread result.finish }
 {
     let mut summary = Summary {
         stuck: 0,
@@ -79,8 +81,10 @@ fn is_unread(kind: Kind, times: Record) -> bool
     }
 }
 
+// Appends the first line.
 fn put_summary(out: &mut TextOut, sched: &Sched, summary: &Summary) -> Result<(), NoMemory>
-    ensures { OnOk result (out.new ≡ out.old ++ summary_line (length sched.now) (length (operations sched.now)) summary.now.stuck summary.now.unread summary.now.finish) }
+    ensures { OnOk result (out.new ≡ out.old ++ summary_line (length sched.now) (length (operations sched.now))
+        summary.now.stuck summary.now.unread summary.now.finish) }
 {
     out.word("ranks ")?;
     out.number(sched.plans().len() as u128)?;
@@ -95,8 +99,10 @@ fn put_summary(out: &mut TextOut, sched: &Sched, summary: &Summary) -> Result<()
     out.word("\n")
 }
 
+// Appends the line of an operation of that kind.
 fn put_operation(out: &mut TextOut, id: OpId, kind: Kind, times: Record) -> Result<(), NoMemory>
-    ensures { OnOk result (out.new ≡ out.old ++ operation_line id kind times.start times.end times.partner) }
+    ensures { OnOk result (out.new
+        ≡ out.old ++ operation_line id kind times.start times.end times.partner) }
 {
     out.word("op ")?;
     put_id(out, id)?;
@@ -108,6 +114,7 @@ fn put_operation(out: &mut TextOut, id: OpId, kind: Kind, times: Record) -> Resu
     out.word("\n")
 }
 
+// The word of a kind in the line of an operation, and what stands before its start.
 fn kind_word(kind: Kind) -> &'static str
     ensures { result.now ≡ kind_text kind }
 {
@@ -137,6 +144,7 @@ pub fn put_id(out: &mut TextOut, id: OpId) -> Result<(), NoMemory>
     out.number(u128::from(id.op))
 }
 
+// Appends the partner of a send or a receive.
 fn put_match(out: &mut TextOut, partner: Option<OpId>) -> Result<(), NoMemory>
     ensures { OnOk result (out.new ≡ out.old ++ match_text partner) }
 {
@@ -149,7 +157,7 @@ fn put_match(out: &mut TextOut, partner: Option<OpId>) -> Result<(), NoMemory>
     }
 }
 
-// Appends the match of a send or a receive; a calc has none.
+// Appends what the line of a kind tells of a partner: that of a calc nothing.
 fn put_partner(out: &mut TextOut, kind: Kind, partner: Option<OpId>) -> Result<(), NoMemory>
     ensures { OnOk result (out.new ≡ out.old ++ partner_text kind partner) }
 {
