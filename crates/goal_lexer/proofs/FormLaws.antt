@@ -1,0 +1,165 @@
+-- The forms of runs, as the scan finds them and as pieces have them.
+use Rattle.std.proofs.Common.{◌≡◌, ◌≢◌, ℕ, Bool, true, false, List, [], ◌∷◌, ◌++◌, Option, Some, None, if◌then◌else◌, ◌==◌, refl, sym, ap, subst, ◌∙◌, arith}
+use Rattle.std.proofs.lemmas.List.{append-nil}
+use Rattle.std.proofs.lemmas.Bool.Decides.{nat_tests}
+use Rattle.goal_lexer.specs.declared.mode.Form.{Form}
+use Rattle.goal_lexer.specs.declared.mode.Form.TheVariants.{Word, Digits, Sized}
+use Rattle.goal_lexer.specs.Bytes.{begins_word, is_digit, is_run_byte, size_mark}
+use Rattle.goal_lexer.specs.Scan.{form_with}
+use Rattle.goal_lexer.specs.Pieces.{Each, AreDigits, HasForm}
+use Rattle.goal_lexer.proofs.ByteLaws.{digit_no_word, digit_in_run, word_in_run}
+
+-- the form of the first byte of a run
+abbrev pub first_form : ℕ → Option Form
+first_form c = if begins_word c then Some Word else (if is_digit c then Some Digits else None)
+
+-- the form with more bytes, each of which has to belong to a run
+abbrev pub forms_with : Option Form → List ℕ → Option Form
+forms_with None cs = None
+forms_with (Some form) [] = Some form
+forms_with (Some form) (c ∷ cs) = forms_with (if is_run_byte c then form_with form c else None) cs
+
+-- the form of a run
+abbrev pub form_of : List ℕ → Option Form
+form_of [] = None
+form_of (c ∷ cs) = forms_with (first_form c) cs
+
+forms_nil : (form : Option Form) → forms_with form [] ≡ form
+forms_nil None = refl
+forms_nil (Some form) = refl
+
+forms-append : (form : Option Form) (xs ys : List ℕ) → forms_with form (xs ++ ys) ≡ forms_with (forms_with form xs) ys
+forms-append None xs ys = refl
+forms-append (Some form) [] ys = refl
+forms-append (Some form) (x ∷ xs) ys = forms-append (if is_run_byte x then form_with form x else None) xs ys
+
+-- a run and more bytes
+pub form_of-append : (bytes ys : List ℕ) (form : Form) → form_of bytes ≡ Some form →
+    form_of (bytes ++ ys) ≡ forms_with (Some form) ys
+form_of-append [] ys form has = cc
+form_of-append (c ∷ cs) ys form has = forms-append (first_form c) cs ys ∙ ap (λ (f : Option Form). forms_with f ys) has
+
+-- a run and one byte of a run more
+pub form_of-grown : (bytes : List ℕ) (c : ℕ) (form : Form) → form_of bytes ≡ Some form → is_run_byte c ≡ true →
+    form_of (bytes ++ c ∷ []) ≡ form_with form c
+form_of-grown bytes c form has in_run =
+    form_of-append bytes (c ∷ []) form has
+    ∙ ap (λ (b : Bool). forms_with (if b then form_with form c else None) []) in_run
+    ∙ forms_nil (form_with form c)
+
+-- what has no form has none with more bytes
+pub form_of-none : (bytes ys : List ℕ) → bytes ≢ [] → form_of bytes ≡ None → form_of (bytes ++ ys) ≡ None
+form_of-none [] ys some none = absurd (some refl)
+form_of-none (c ∷ cs) ys some none = forms-append (first_form c) cs ys ∙ ap (λ (f : Option Form). forms_with f ys) none
+
+-- behind a word: bytes of a run
+words_more : (b : Bool) (c : ℕ) (cs : List ℕ) (form : Form) → is_run_byte c ≡ b →
+    (forms_with (Some Word) cs ≡ Some form → (Word ≡ form) × Each is_run_byte cs) →
+    forms_with (if b then Some Word else None) cs ≡ Some form → (Word ≡ form) × Each is_run_byte (c ∷ cs)
+words_more true c cs form in_run more has = ((more has).0, (in_run, (more has).1))
+words_more false c cs form in_run more has = cc
+
+words : (cs : List ℕ) (form : Form) → forms_with (Some Word) cs ≡ Some form → (Word ≡ form) × Each is_run_byte cs
+words [] form has = (cc, tt)
+words (c ∷ cs) form has = words_more (is_run_byte c) c cs form refl (words cs form) has
+
+-- behind a size: nothing
+sized_more : (b : Bool) (c : ℕ) (cs : List ℕ) (form : Form) →
+    forms_with (if b then None else None) cs ≡ Some form → (Sized ≡ form) × (c ∷ cs ≡ [])
+sized_more true c cs form has = cc
+sized_more false c cs form has = cc
+
+sized : (cs : List ℕ) (form : Form) → forms_with (Some Sized) cs ≡ Some form → (Sized ≡ form) × (cs ≡ [])
+sized [] form has = (cc, refl)
+sized (c ∷ cs) form has = sized_more (is_run_byte c) c cs form has
+
+-- behind digits: digits, and maybe the mark of a size
+abbrev BehindDigits : Form → List ℕ → Type 0
+BehindDigits Word cs = ⊥
+BehindDigits Digits cs = Each is_digit cs
+BehindDigits Sized cs = (digits : List ℕ) × (cs ≡ digits ++ size_mark ∷ []) × Each is_digit digits
+
+one_digit_more : (form : Form) (c : ℕ) (cs : List ℕ) → is_digit c ≡ true → BehindDigits form cs → BehindDigits form (c ∷ cs)
+one_digit_more Word c cs digit behind = behind
+one_digit_more Digits c cs digit behind = (digit, behind)
+one_digit_more Sized c cs digit behind = (c ∷ behind.0, ap (λ (t : List ℕ). c ∷ t) behind.1, (digit, behind.2))
+
+digits_more : (r d m : Bool) (c : ℕ) (cs : List ℕ) (form : Form) → is_digit c ≡ d → (c == size_mark) ≡ m →
+    (forms_with (Some Digits) cs ≡ Some form → BehindDigits form cs) →
+    forms_with (if r then (if d then Some Digits else (if m then Some Sized else None)) else None) cs ≡ Some form →
+    BehindDigits form (c ∷ cs)
+digits_more false d m c cs form is_d is_m more has = cc
+digits_more true true m c cs form is_d is_m more has = one_digit_more form c cs is_d (more has)
+digits_more true false false c cs form is_d is_m more has = cc
+digits_more true false true c cs form is_d is_m more has =
+    let known = sized cs form has in
+    let mark : c ≡ size_mark = grind (arith, nat_tests) in
+    subst (λ (f : Form). BehindDigits f (c ∷ cs)) known.0
+    ([], ap (λ (t : List ℕ). c ∷ t) known.1 ∙ ap (λ (b : ℕ). b ∷ []) mark, tt)
+
+digits : (cs : List ℕ) (form : Form) → forms_with (Some Digits) cs ≡ Some form → BehindDigits form cs
+digits [] form has = let is : Digits ≡ form = cc in subst (λ (f : Form). BehindDigits f []) is tt
+digits (c ∷ cs) form has = digits_more (is_run_byte c) (is_digit c) (c == size_mark) c cs form refl refl (digits cs form) has
+
+-- digits with a digit in front, and maybe the mark behind
+digits_first : (form : Form) (c : ℕ) (cs : List ℕ) → is_digit c ≡ true → BehindDigits form cs → HasForm form (c ∷ cs)
+digits_first Word c cs digit behind = absurd behind
+digits_first Digits c cs digit behind = (digit, behind)
+digits_first Sized c cs digit behind = (c ∷ behind.0, ap (λ (t : List ℕ). c ∷ t) behind.1, (digit, behind.2))
+
+-- the form that the scan finds is the form of the run
+from_first : (b d : Bool) (c : ℕ) (cs : List ℕ) (form : Form) → begins_word c ≡ b → is_digit c ≡ d →
+    forms_with (if b then Some Word else (if d then Some Digits else None)) cs ≡ Some form → HasForm form (c ∷ cs)
+from_first true d c cs form is_b is_d has =
+    let known = words cs form has in subst (λ (f : Form). HasForm f (c ∷ cs)) known.0 (is_b, known.1)
+from_first false true c cs form is_b is_d has = digits_first form c cs is_d (digits cs form has)
+from_first false false c cs form is_b is_d has = cc
+
+pub has_form : (bytes : List ℕ) (form : Form) → form_of bytes ≡ Some form → HasForm form bytes
+has_form [] form has = cc
+has_form (c ∷ cs) form has = from_first (begins_word c) (is_digit c) c cs form refl refl has
+
+-- and the other way round
+words_back : (cs : List ℕ) → Each is_run_byte cs → forms_with (Some Word) cs ≡ Some Word
+words_back [] each = refl
+words_back (c ∷ cs) each =
+    ap (λ (b : Bool). forms_with (if b then Some Word else None) cs) each.0 ∙ words_back cs each.1
+
+digits_back : (cs ys : List ℕ) → Each is_digit cs → forms_with (Some Digits) (cs ++ ys) ≡ forms_with (Some Digits) ys
+digits_back [] ys each = refl
+digits_back (c ∷ cs) ys each =
+    ap (λ (b : Bool). forms_with (if b then form_with Digits c else None) (cs ++ ys)) (digit_in_run c each.0)
+    ∙ ap (λ (b : Bool). forms_with (if b then Some Digits else (if c == size_mark then Some Sized else None)) (cs ++ ys)) each.0
+    ∙ digits_back cs ys each.1
+
+digit_first : (c : ℕ) → is_digit c ≡ true → first_form c ≡ Some Digits
+digit_first c digit =
+    ap (λ (b : Bool). if b then Some Word else (if is_digit c then Some Digits else None)) (digit_no_word c digit)
+    ∙ ap (λ (b : Bool). if b then Some Digits else None) digit
+
+digits_of : (bytes ys : List ℕ) → AreDigits bytes → form_of (bytes ++ ys) ≡ forms_with (Some Digits) ys
+digits_of [] ys are = absurd are
+digits_of (c ∷ cs) ys are =
+    ap (λ (f : Option Form). forms_with f (cs ++ ys)) (digit_first c are.0) ∙ digits_back cs ys are.1
+
+pub form_from : (form : Form) (bytes : List ℕ) → HasForm form bytes → form_of bytes ≡ Some form
+form_from Word [] has = absurd has
+form_from Word (c ∷ cs) has =
+    ap (λ (b : Bool). forms_with (if b then Some Word else (if is_digit c then Some Digits else None)) cs) has.0
+    ∙ words_back cs has.1
+form_from Digits bytes has = ap form_of (sym (append-nil bytes)) ∙ digits_of bytes [] has
+form_from Sized bytes has = ap form_of has.1 ∙ digits_of has.0 (size_mark ∷ []) has.2
+
+-- a run has a first byte, which belongs to runs
+pub first_in_run : (form : Form) (bytes : List ℕ) → HasForm form bytes →
+    (c : ℕ) × (cs : List ℕ) × (bytes ≡ c ∷ cs) × (is_run_byte c ≡ true)
+first_in_run Word [] has = absurd has
+first_in_run Word (c ∷ cs) has = (c, cs, refl, word_in_run c has.0)
+first_in_run Digits [] has = absurd has
+first_in_run Digits (c ∷ cs) has = (c, cs, refl, digit_in_run c has.0)
+first_in_run Sized bytes has = sized_first has.0 bytes has.1 has.2
+  where
+    sized_first : (ds bs : List ℕ) → bs ≡ ds ++ size_mark ∷ [] → AreDigits ds →
+        (c : ℕ) × (cs : List ℕ) × (bs ≡ c ∷ cs) × (is_run_byte c ≡ true)
+    sized_first [] bs is are = absurd are
+    sized_first (d ∷ ds) bs is are = (d, ds ++ size_mark ∷ [], is, digit_in_run d are.0)

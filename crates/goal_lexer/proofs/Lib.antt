@@ -1,0 +1,13 @@
+pub mod Values
+pub mod ScanLaws
+pub mod StandsLaws
+pub mod ReservedWords
+pub mod PieceLaws
+pub mod ByteLaws
+pub mod FormLaws
+pub mod CommentLaws
+pub mod NothingLaws
+pub mod ReadingLaws
+pub mod OnlyLaws
+pub mod StretchLaws
+pub mod GoesOnLaws

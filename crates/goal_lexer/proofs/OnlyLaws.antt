@@ -1,0 +1,175 @@
+-- A text is pieces in one way only.
+use Rattle.std.proofs.Common.{◌≡◌, ℕ, ◌+◌, Bool, false, List, [], ◌∷◌, ◌++◌, length, Option, Some, None, IsSome, refl, sym, ap, subst, ◌∙◌, arith, append_assoc}
+use Rattle.std.proofs.lemmas.Bool.{false≢true}
+use Rattle.goal_lexer.specs.declared.mode.Form.{Form}
+use Rattle.goal_lexer.specs.Bytes.{is_run_byte, slash, star}
+use Rattle.goal_lexer.specs.Scan.{lexed}
+use Rattle.goal_lexer.specs.Stands.{begins_run}
+use Rattle.goal_lexer.specs.Pieces.{Piece, blank, line_comment, block_comment, run, sign, bytes_of, Each, HasForm, has_close, EndsLine, sign_kind, IsRight, spelled, AreRight, IsCutInto, tokens_of, NothingBegins, EndsWith}
+use Rattle.goal_lexer.proofs.ByteLaws.{run_no_blank, run_no_slash, run_no_sign, slash_no_blank, slash_no_sign, blank_no_sign}
+use Rattle.goal_lexer.proofs.FormLaws.{form_of, form_from, first_in_run}
+use Rattle.goal_lexer.proofs.CommentLaws.{has_close-tail}
+use Rattle.goal_lexer.proofs.NothingLaws.{run_in_front, run_bytes}
+use Rattle.goal_lexer.proofs.ReadingLaws.{in_line, reading_of}
+
+-- the first byte passes the test
+abbrev starts : (ℕ → Bool) → List ℕ → Bool
+starts test [] = false
+starts test (c ∷ cs) = test c
+
+-- the longest front of bytes that pass a test is one
+one_front : (test : ℕ → Bool) (xs ys a b : List ℕ) → Each test xs → Each test ys → starts test a ≡ false → starts test b ≡ false →
+    xs ++ a ≡ ys ++ b → (xs ≡ ys) × (a ≡ b)
+one_front test [] [] a b each_x each_y stop_a stop_b same = (refl, same)
+one_front test [] (y ∷ ys) a b each_x each_y stop_a stop_b same =
+    absurd (false≢true (sym stop_a ∙ ap (starts test) same ∙ each_y.0))
+one_front test (x ∷ xs) [] a b each_x each_y stop_a stop_b same =
+    absurd (false≢true (sym stop_b ∙ ap (starts test) (sym same) ∙ each_x.0))
+one_front test (x ∷ xs) (y ∷ ys) a b each_x each_y stop_a stop_b same =
+    let head : x ≡ y = cc in
+    let tails : xs ++ a ≡ ys ++ b = cc in
+    let known = one_front test xs ys a b each_x.1 each_y.1 stop_a stop_b tails in
+    (ap (λ (c : ℕ). c ∷ xs) head ∙ ap (λ (t : List ℕ). y ∷ t) known.0, known.1)
+
+run_stops : (after : List ℕ) → begins_run after ≡ false → starts is_run_byte after ≡ false
+run_stops [] apart = refl
+run_stops (c ∷ cs) apart = apart
+
+line_stops : (after : List ℕ) → EndsLine after → starts in_line after ≡ false
+line_stops [] ends = refl
+line_stops (c ∷ cs) ends = ap in_line ends
+
+-- the first `*/` is one
+one_close : (xs ys a b : List ℕ) → has_close xs ≡ false → has_close ys ≡ false →
+    xs ++ star ∷ slash ∷ a ≡ ys ++ star ∷ slash ∷ b → (xs ≡ ys) × (a ≡ b)
+one_close [] [] a b none_x none_y same = (refl, cc)
+one_close [] (y ∷ []) a b none_x none_y same = let no : slash ≡ star = cc in absurd (omega arith)
+one_close [] (y ∷ z ∷ ys) a b none_x none_y same =
+    let first : y ≡ star = cc in
+    let second : z ≡ slash = cc in
+    absurd (false≢true (sym none_y ∙ ap (λ (c : ℕ). has_close (c ∷ z ∷ ys)) first ∙ ap (λ (d : ℕ). has_close (star ∷ d ∷ ys)) second))
+one_close (x ∷ []) [] a b none_x none_y same = let no : slash ≡ star = cc in absurd (omega arith)
+one_close (x ∷ z ∷ xs) [] a b none_x none_y same =
+    let first : x ≡ star = cc in
+    let second : z ≡ slash = cc in
+    absurd (false≢true (sym none_x ∙ ap (λ (c : ℕ). has_close (c ∷ z ∷ xs)) first ∙ ap (λ (d : ℕ). has_close (star ∷ d ∷ xs)) second))
+one_close (x ∷ xs) (y ∷ ys) a b none_x none_y same =
+    let head : x ≡ y = cc in
+    let tails : xs ++ star ∷ slash ∷ a ≡ ys ++ star ∷ slash ∷ b = cc in
+    let known = one_close xs ys a b (has_close-tail x xs none_x) (has_close-tail y ys none_y) tails in
+    (ap (λ (c : ℕ). c ∷ xs) head ∙ ap (λ (t : List ℕ). y ∷ t) known.0, known.1)
+
+one_block : (xs ys a b : List ℕ) → has_close xs ≡ false → has_close ys ≡ false →
+    xs ++ star ∷ slash ∷ [] ++ a ≡ ys ++ star ∷ slash ∷ [] ++ b → (xs ≡ ys) × (a ≡ b)
+one_block xs ys a b none_x none_y same =
+    one_close xs ys a b none_x none_y
+    (sym (append_assoc xs (star ∷ slash ∷ []) a) ∙ same ∙ append_assoc ys (star ∷ slash ∷ []) b)
+
+-- two runs in front are one
+one_run : (f g : Form) (xs ys a b : List ℕ) → HasForm f xs → HasForm g ys → begins_run a ≡ false → begins_run b ≡ false →
+    xs ++ a ≡ ys ++ b → (run f xs ≡ run g ys) × (a ≡ b)
+one_run f g xs ys a b has_f has_g apart_a apart_b same =
+    let found_f = form_from f xs has_f in
+    let found_g = form_from g ys has_g in
+    let known = one_front is_run_byte xs ys a b (run_bytes xs f found_f) (run_bytes ys g found_g) (run_stops a apart_a) (run_stops b apart_b) same in
+    let forms : Some f ≡ Some g = sym found_f ∙ ap form_of known.0 ∙ found_g in
+    let form : f ≡ g = cc in
+    (ap (λ (h : Form). run h xs) form ∙ ap (λ (t : List ℕ). run g t) known.0, known.1)
+
+-- one piece in front of a text
+one_piece : (p q : Piece) (a b : List ℕ) → bytes_of p ++ a ≡ bytes_of q ++ b → IsRight p a → IsRight q b → (p ≡ q) × (a ≡ b)
+one_piece (blank c) (blank d) a b same right_p right_q = let head : c ≡ d = cc in (ap (λ (e : ℕ). blank e) head, cc)
+one_piece (blank c) (line_comment j) a b same right_p right_q =
+    let head : c ≡ slash = cc in absurd (slash_no_blank c head right_p)
+one_piece (blank c) (block_comment j) a b same right_p right_q =
+    let head : c ≡ slash = cc in absurd (slash_no_blank c head right_p)
+one_piece (blank c) (run g ys) a b same right_p right_q =
+    absurd (run_no_blank c (run_in_front g ys b c a same right_q.0) right_p)
+one_piece (blank c) (sign d) a b same right_p right_q =
+    let head : d ≡ c = cc in absurd (blank_no_sign c right_p (subst (λ (e : ℕ). IsSome (sign_kind e)) head right_q))
+one_piece (line_comment i) (blank d) a b same right_p right_q =
+    let head : d ≡ slash = cc in absurd (slash_no_blank d head right_q)
+one_piece (line_comment i) (line_comment j) a b same right_p right_q =
+    let tails : i ++ a ≡ j ++ b = cc in
+    let known = one_front in_line i j a b right_p.0 right_q.0 (line_stops a right_p.1) (line_stops b right_q.1) tails in
+    (ap (λ (t : List ℕ). line_comment t) known.0, known.1)
+one_piece (line_comment i) (block_comment j) a b same right_p right_q =
+    let no : slash ≡ star = cc in absurd (omega arith)
+one_piece (line_comment i) (run g ys) a b same right_p right_q =
+    absurd (run_no_slash slash (run_in_front g ys b slash (slash ∷ i ++ a) same right_q.0) refl)
+one_piece (line_comment i) (sign d) a b same right_p right_q =
+    let head : d ≡ slash = cc in absurd (slash_no_sign d head right_q)
+one_piece (block_comment i) (blank d) a b same right_p right_q =
+    let head : d ≡ slash = cc in absurd (slash_no_blank d head right_q)
+one_piece (block_comment i) (line_comment j) a b same right_p right_q =
+    let no : star ≡ slash = cc in absurd (omega arith)
+one_piece (block_comment i) (block_comment j) a b same right_p right_q =
+    let tails : i ++ star ∷ slash ∷ [] ++ a ≡ j ++ star ∷ slash ∷ [] ++ b = cc in
+    let known = one_block i j a b right_p right_q tails in
+    (ap (λ (t : List ℕ). block_comment t) known.0, known.1)
+one_piece (block_comment i) (run g ys) a b same right_p right_q =
+    absurd (run_no_slash slash (run_in_front g ys b slash (star ∷ i ++ star ∷ slash ∷ [] ++ a) same right_q.0) refl)
+one_piece (block_comment i) (sign d) a b same right_p right_q =
+    let head : d ≡ slash = cc in absurd (slash_no_sign d head right_q)
+one_piece (run f xs) (blank d) a b same right_p right_q =
+    absurd (run_no_blank d (run_in_front f xs a d b (sym same) right_p.0) right_q)
+one_piece (run f xs) (line_comment j) a b same right_p right_q =
+    absurd (run_no_slash slash (run_in_front f xs a slash (slash ∷ j ++ b) (sym same) right_p.0) refl)
+one_piece (run f xs) (block_comment j) a b same right_p right_q =
+    absurd (run_no_slash slash (run_in_front f xs a slash (star ∷ j ++ star ∷ slash ∷ [] ++ b) (sym same) right_p.0) refl)
+one_piece (run f xs) (run g ys) a b same right_p right_q =
+    one_run f g xs ys a b right_p.0 right_q.0 right_p.2 right_q.2 same
+one_piece (run f xs) (sign d) a b same right_p right_q =
+    absurd (run_no_sign d (run_in_front f xs a d b (sym same) right_p.0) right_q)
+one_piece (sign c) (blank d) a b same right_p right_q =
+    let head : c ≡ d = cc in absurd (blank_no_sign d right_q (subst (λ (e : ℕ). IsSome (sign_kind e)) head right_p))
+one_piece (sign c) (line_comment j) a b same right_p right_q =
+    let head : c ≡ slash = cc in absurd (slash_no_sign c head right_p)
+one_piece (sign c) (block_comment j) a b same right_p right_q =
+    let head : c ≡ slash = cc in absurd (slash_no_sign c head right_p)
+one_piece (sign c) (run g ys) a b same right_p right_q =
+    absurd (run_no_sign c (run_in_front g ys b c a same right_q.0) right_p)
+one_piece (sign c) (sign d) a b same right_p right_q = let head : c ≡ d = cc in (ap (λ (e : ℕ). sign e) head, cc)
+
+-- two cuts of a text, each up to where nothing begins
+one_cut : (ps qs : List Piece) (r s : List ℕ) → spelled ps ++ r ≡ spelled qs ++ s → AreRight ps r → AreRight qs s →
+    NothingBegins r → NothingBegins s → (ps ≡ qs) × (r ≡ s)
+one_cut [] [] r s same right_p right_q nothing_r nothing_s = (refl, same)
+one_cut [] (q ∷ qs) r s same right_p right_q nothing_r nothing_s =
+    absurd (nothing_r q (spelled qs ++ s) (same ∙ append_assoc (bytes_of q) (spelled qs) s) right_q.0)
+one_cut (p ∷ ps) [] r s same right_p right_q nothing_r nothing_s =
+    absurd (nothing_s p (spelled ps ++ r) (sym same ∙ append_assoc (bytes_of p) (spelled ps) r) right_p.0)
+one_cut (p ∷ ps) (q ∷ qs) r s same right_p right_q nothing_r nothing_s =
+    let first = one_piece p q (spelled ps ++ r) (spelled qs ++ s)
+    (sym (append_assoc (bytes_of p) (spelled ps) r) ∙ same ∙ append_assoc (bytes_of q) (spelled qs) s) right_p.0 right_q.0 in
+    let others = one_cut ps qs r s first.1 right_p.1 right_q.1 nothing_r nothing_s in
+    (ap (λ (x : Piece). x ∷ ps) first.0 ∙ ap (λ (xs : List Piece). q ∷ xs) others.0, others.1)
+
+-- nothing begins where nothing is
+nothing_at_end : NothingBegins []
+nothing_at_end (blank c) after same right = cc
+nothing_at_end (line_comment inside) after same right = cc
+nothing_at_end (block_comment inside) after same right = cc
+nothing_at_end (run form bytes) after same right =
+    let first = first_in_run form bytes right.0 in
+    let whole : [] ≡ first.0 ∷ first.1 ++ after = same ∙ ap (λ (t : List ℕ). t ++ after) first.2 in
+    cc
+nothing_at_end (sign c) after same right = cc
+
+nothing_at_rest : (fault : Option ℕ) (place : ℕ) (rest : List ℕ) → EndsWith fault place rest → NothingBegins rest
+nothing_at_rest None place rest ends = subst NothingBegins (sym ends) nothing_at_end
+nothing_at_rest (Some at) place rest ends = ends.2
+
+-- however a text is cut into pieces up to where nothing begins, its tokens and its fault are those of the scan
+pub only_reading : (text : List ℕ) (pieces : List Piece) (rest : List ℕ) → IsCutInto text pieces rest → NothingBegins rest →
+    ((lexed text).0 ≡ tokens_of 0 pieces) × EndsWith (lexed text).1 (length (spelled pieces)) rest
+only_reading text pieces rest cut nothing =
+    let reading = reading_of text in
+    let place : 0 + length (spelled reading.pieces) ≡ length (spelled reading.pieces) = omega arith in
+    let known = one_cut reading.pieces pieces reading.rest rest (sym reading.cut.whole ∙ cut.whole) reading.cut.right cut.right
+    (nothing_at_rest (lexed text).1 (0 + length (spelled reading.pieces)) reading.rest reading.end) nothing in (
+      reading.tokens_are ∙ ap (tokens_of 0) known.0,
+      subst (EndsWith (lexed text).1 (length (spelled pieces))) known.1
+          (subst (λ (ps : List Piece). EndsWith (lexed text).1 (length (spelled ps)) reading.rest) known.0
+          (subst (λ (p : ℕ). EndsWith (lexed text).1 p reading.rest) place reading.end)),
+    )

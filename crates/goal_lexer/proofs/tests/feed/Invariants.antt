@@ -1,0 +1,15 @@
+use Rattle.std.proofs.Common.{◌≡◌, ◌≤◌, ◌<◌, ◌+◌, ◌-◌, ◌*◌, length, drop, true, false, if◌then◌else◌}
+use Rattle.goal_lexer.specs.Stands.{begins_run}
+use Rattle.goal_lexer.proofs.tests.feed.Given as goal
+
+abbrev pub invariant-loop-at : goal.invariant-loop-at
+invariant-loop-at l = record {
+  within : l.at ≤ length l.piece;
+  place : l.lexer.place ≡ l.initial.lexer.place + l.at;
+  apart : l.lexer.ends_run ≡ true → begins_run (drop l.at l.piece) ≡ false;
+  left : l.lexer.ends_run ≡ true → l.at < length l.piece;
+}
+
+-- the bytes left, and whether the run before them was handed out
+abbrev pub decreases-loop-at : goal.decreases-loop-at
+decreases-loop-at l = 2 * (length l.piece - l.at) + (if l.lexer.ends_run then 0 else 1)

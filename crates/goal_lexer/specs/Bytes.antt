@@ -1,0 +1,43 @@
+-- What a byte of the text is.
+use Rattle.std.specs.Prelude.{ℕ, Bool, ◌||◌, ◌==◌}
+use Rattle.std.specs.Char.{is_ascii_alphabetic, is_ascii_digit}
+
+-- a space, a tab, a carriage return or a line feed
+abbrev pub is_blank : ℕ → Bool
+is_blank c = c == 32 || c == 9 || c == 13 || c == 10
+
+-- a letter or `_`
+abbrev pub begins_word : ℕ → Bool
+begins_word c = is_ascii_alphabetic c || c == 95
+
+-- a decimal digit
+abbrev pub is_digit : ℕ → Bool
+is_digit c = is_ascii_digit c
+
+-- a letter, a digit or `_`: the bytes of a run
+abbrev pub is_run_byte : ℕ → Bool
+is_run_byte c = begins_word c || is_digit c
+
+-- `{`, `}` and `:`, which are tokens by themselves
+abbrev pub left_brace : ℕ
+left_brace = 123
+
+abbrev pub right_brace : ℕ
+right_brace = 125
+
+abbrev pub colon : ℕ
+colon = 58
+
+-- `/`, `*` and the line feed, which begin and end comments
+abbrev pub slash : ℕ
+slash = 47
+
+abbrev pub star : ℕ
+star = 42
+
+abbrev pub line_feed : ℕ
+line_feed = 10
+
+-- the `b` behind the digits of a size
+abbrev pub size_mark : ℕ
+size_mark = 98

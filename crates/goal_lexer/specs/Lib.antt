@@ -1,0 +1,11 @@
+pub mod Bytes
+pub mod Numbers
+pub mod Padding
+pub mod Pieces
+pub mod Runs
+pub mod Scan
+pub mod Sound
+pub mod Stands
+pub mod State
+pub mod Steps
+pub mod Words

@@ -1,0 +1,13 @@
+-- How a label lies in its 64 bytes.
+use Rattle.std.specs.Prelude.{◌≡◌, ℕ, ◌-◌, ◌≤◌, List, ◌++◌, length, replicate, take}
+use Rattle.std.proofs.Common.{arith, ap, length-append}
+use Rattle.std.proofs.lemmas.List.{length-take, length-replicate}
+
+-- the bytes, and zeros behind them up to 64 in all
+abbrev pub padded : List ℕ → List ℕ
+padded bs = bs ++ replicate (64 - length bs) 0
+
+pub length_taken : (n : ℕ) (bs : List ℕ) → n ≤ 64 → padded (take n bs) ≡ bs → length (take n bs) ≡ n
+length_taken n bs fits whole =
+    let front = take n bs in
+    omega (arith, length-take n bs, ap length whole, length-append front (replicate {A = ℕ} (64 - length front) 0), length-replicate {A = ℕ} (64 - length front) 0)

@@ -1,0 +1,31 @@
+//! What a byte of the text is.
+ghost use Rattle.std.specs.Prelude.{◌≡◌};
+ghost use Rattle.goal_lexer.specs.Bytes.{is_blank, begins_word, is_digit, is_run_byte};
+
+/// Whether the byte is a space, a tab, a carriage return or a line feed.
+pub(crate) fn is_blank(byte: u8) -> bool
+    ensures { result ≡ is_blank byte }
+{
+    byte == b' ' || byte == b'\t' || byte == b'\r' || byte == b'\n'
+}
+
+/// Whether the byte is a letter or `_`.
+pub(crate) fn begins_word(byte: u8) -> bool
+    ensures { result ≡ begins_word byte }
+{
+    byte.is_ascii_alphabetic() || byte == b'_'
+}
+
+/// Whether the byte is a decimal digit.
+pub(crate) fn is_digit(byte: u8) -> bool
+    ensures { result ≡ is_digit byte }
+{
+    byte.is_ascii_digit()
+}
+
+/// Whether the byte is a letter, a digit or `_`.
+pub(crate) fn is_run_byte(byte: u8) -> bool
+    ensures { result ≡ is_run_byte byte }
+{
+    begins_word(byte) || is_digit(byte)
+}

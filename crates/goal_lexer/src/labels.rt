@@ -1,0 +1,97 @@
+//! A label of an operation.
+ghost use Rattle.std.specs.Prelude.{◌≡◌, ℕ, ◌<◌, ◌≤◌, List, [], ◌∷◌, ◌++◌, length, nat_eq};
+ghost use Rattle.std.specs.Cmp.Lexicographic.{pointwise, nat_list_eq_equiv};
+ghost use Rattle.std.specs.Cmp.{partial_equiv_from_equiv};
+ghost use Rattle.std.specs.Cmp.Rules.{hashing};
+ghost use Rattle.std.specs.Hash as fed;
+ghost use Rattle.std.proofs.Common.{rules};
+
+use std::hash::{Hash, Hasher};
+use std::marker::Model;
+
+/// The most bytes that a run has: a label, a reserved word, a number or a size.
+pub const MOST_RUN_BYTES: usize = 64;
+
+/// A label of 1 to 64 bytes, held without memory of its own. It is seen as the list of its bytes.
+#[derive(Clone, Copy, Debug)]
+pub struct Label {
+    bytes: [u8; MOST_RUN_BYTES],
+    len: u8,
+}
+
+impl Model for Label {
+    ghost use Rattle.std.specs.Prelude.{ℕ, List, ◌≡◌, ◌<◌, ◌≤◌, take, length};
+    ghost use Rattle.goal_lexer.specs.Padding.{padded, length_taken};
+
+    ghost Value = { List ℕ };
+
+    ghost view = { λ l. take l.len l.bytes };
+
+    ghost invariant = { λ l. (0 < l.len) × (l.len ≤ 64) × (padded (take l.len l.bytes) ≡ l.bytes) };
+
+    ghost inverse = { λ bs. record { bytes = padded bs; len = length bs } };
+
+    ghost inverse_ok = { λ l h i. record { bytes = h.2 i; len = length_taken l.len l.bytes h.1 h.2 i } };
+}
+
+impl Label {
+    /// The label of one byte.
+    pub(crate) fn of_byte(byte: u8) -> Label
+        ensures { result ≡ byte ∷ [] }
+    {
+        let mut bytes = [0; MOST_RUN_BYTES];
+        bytes[0] = byte;
+        Label { bytes, len: 1 }
+    }
+
+    /// Adds a byte at the end.
+    pub(crate) fn push(&mut self, byte: u8)
+        requires { length self.old < 64 }
+        ensures { self.new ≡ self.old ++ byte ∷ [] }
+    {
+        self.bytes[self.len as usize] = byte;
+        self.len += 1;
+    }
+
+    /// The number of bytes.
+    pub(crate) fn len(&self) -> usize
+        ensures value { result ≡ length self.now }
+        ensures above { 0 < result }
+        ensures most { result ≤ 64 }
+    {
+        self.len as usize
+    }
+
+    /// The bytes of the label, in order.
+    pub fn as_bytes(&self) -> &[u8]
+        ensures bytes { result.now ≡ self.now }
+        ensures some { 0 < length result.now }
+        ensures most { length result.now ≤ 64 }
+    {
+        &self.bytes[..self.len as usize]
+    }
+}
+
+impl PartialEq for Label {
+    ghost eq = { pointwise nat_eq };
+
+    ghost laws = { partial_equiv_from_equiv nat_list_eq_equiv };
+
+    fn eq(&self, other: &Label) -> bool {
+        self.as_bytes() == other.as_bytes()
+    }
+}
+
+impl Eq for Label {
+    ghost laws = { nat_list_eq_equiv };
+}
+
+impl Hash for Label {
+    ghost hash_input = { fed.slice fed.u8 };
+
+    ghost respects_eq = { Prim.search (hashing, rules) };
+
+    fn hash<H: Hasher>(&self, state: &mut H) {
+        self.as_bytes().hash(state);
+    }
+}

@@ -1,0 +1,158 @@
+//! The lexer.
+ghost use Rattle.std.specs.Prelude.{◌≡◌, ℕ, ◌+◌, ◌<◌, ◌≤◌, ◌⊎◌, ◌^◌, Bool, true, false, List, [], ◌∷◌, ◌++◌, length, take, drop, Some, None, IfOk, IfErr, IsSome, Ok, Err, option_to_list};
+ghost use Rattle.goal_lexer.specs.Sound.{IsSound};
+ghost use Rattle.goal_lexer.specs.Scan.{scanned, lexed};
+ghost use Rattle.goal_lexer.specs.Stands.{Stands, handed, begins_run};
+ghost use Rattle.goal_lexer.specs.State.{LexState};
+
+use crate::mode::Mode;
+use crate::scanning::{Stop, take_piece};
+use crate::tokens::{LexFault, Lexed, Token};
+use crate::words::run_kind;
+use std::marker::Model;
+
+/// Takes a text in pieces, and hands out its tokens.
+///
+/// A lexer keeps what is open where it stands, how many bytes it took, and whether a run that it handed
+/// out ends there. It doesn't keep the bytes that it took, so its contracts speak of each text that it
+/// *stands for* (`Stands`). [`Lexer::new`] stands for the empty text, and after a call that takes bytes
+/// the lexer stands for the text before followed by these bytes. After a fault it stands for no text, and
+/// answers the same fault from then on.
+#[derive(Drop)]
+pub struct Lexer {
+    mode: Mode,
+    place: u64,
+    ends_run: bool,
+}
+
+impl Model for Lexer {
+    ghost use Rattle.std.specs.Prelude.{◌≡◌, true};
+    ghost use Rattle.goal_lexer.specs.State.{LexState};
+    ghost use Rattle.goal_lexer.specs.declared.mode.Mode.TheVariants.{Between};
+
+    ghost Value = { LexState };
+
+    ghost view = { λ l. record { mode = l.mode; place = l.place; ends_run = l.ends_run } };
+
+    // Behind a run that was handed out, nothing is open.
+    ghost invariant = { λ l. l.ends_run ≡ true → l.mode ≡ Between };
+}
+
+impl Lexer {
+    /// A lexer that has taken no byte.
+    pub fn new() -> Lexer
+        ensures stands { Stands result [] }
+        ensures handed { handed result [] ≡ [] }
+        ensures place { result.place ≡ 0 }
+        ensures apart { result.ends_run ≡ false }
+    {
+        Lexer {
+            mode: Mode::Between,
+            place: 0,
+            ends_run: false,
+        }
+    }
+
+    /// Takes bytes from the front of `rest`, up to the end of the next token, and hands that token out. Where
+    /// no token was completed, all of `rest` is taken and the token is `None`.
+    ///
+    /// The token of a run is completed once the byte behind the run is given, and that byte isn't taken. `{`,
+    /// `}` and `:` are completed with their own byte.
+    ///
+    /// # Errors
+    ///
+    /// `LexFault` at the first byte behind the tokens handed out, blanks and comments where no token, blank or
+    /// comment begins, whatever follows `rest`; and after a fault the same again.
+    pub fn next_token(&mut self, rest: &[u8]) -> Result<Lexed, LexFault>
+        // The places are numbers of 64 bits.
+        requires place { self.old.place + length rest.now < 2 ^ 64 }
+
+        // What follows a run that was handed out is no more of that run.
+        requires apart { self.old.ends_run ≡ true → begins_run rest.now ≡ false }
+
+        ensures taken { IfOk result (λ l. l.taken ≤ length rest.now) }
+        ensures all { IfOk result (λ l. l.token ≡ None → l.taken ≡ length rest.now) }
+        ensures some { IfOk result (λ l. IsSome l.token → 0 < length rest.now) }
+        ensures place { IfOk result (λ l. self.new.place ≡ self.old.place + l.taken) }
+        ensures apart_next { IfOk result (λ l. self.new.ends_run ≡ true → begins_run (drop l.taken rest.now) ≡ false) }
+        ensures left { IfOk result (λ l. 0 < length rest.now → self.new.ends_run ≡ true → l.taken < length rest.now) }
+
+        // A call on bytes takes one, or hands out the run that ended before them.
+        ensures moves { IfOk result (λ l. 0 < length rest.now → (0 < l.taken) ⊎ ((self.old.ends_run ≡ false) × (self.new.ends_run ≡ true))) }
+
+        // The text goes on by the bytes taken, and the tokens handed out by the token.
+        ensures stands { IfOk result (λ l. (text : List ℕ) → Stands self.old text → Stands self.new (text ++ take l.taken rest.now)) }
+        ensures handed { IfOk result (λ l. (text : List ℕ) → Stands self.old text → handed self.new (text ++ take l.taken rest.now) ≡ handed self.old text ++ option_to_list l.token) }
+
+        // The fault is that of each text that begins with the bytes given so far, and its tokens are those handed out.
+        ensures fault { IfErr result (λ e. (text : List ℕ) → Stands self.old text → scanned (text ++ rest.now) ≡ (Mode.Failed e.at, handed self.old text)) }
+        ensures every { IfErr result (λ e. (text more : List ℕ) → Stands self.old text → lexed (text ++ rest.now ++ more) ≡ (handed self.old text, Some e.at)) }
+        ensures failed { IfErr result (λ e. self.new.mode ≡ Mode.Failed e.at) }
+        ensures again { (at : ℕ) → self.old.mode ≡ Mode.Failed at → (result ≡ Err (record { at = at })) × (self.new ≡ self.old) }
+    {
+        if let Mode::Failed { at } = self.mode {
+            return Err(LexFault { at });
+        }
+        if rest.is_empty() {
+            return Ok(Lexed {
+                taken: 0,
+                token: None,
+            });
+        }
+        match take_piece(&mut self.mode, self.place, rest) {
+            Stop::Piece => {
+                self.place += rest.len() as u64;
+                self.ends_run = false;
+                Ok(Lexed {
+                    taken: rest.len(),
+                    token: None,
+                })
+            }
+            Stop::Run(taken, token) => {
+                self.place += taken as u64;
+                self.ends_run = true;
+                Ok(Lexed {
+                    taken,
+                    token: Some(token),
+                })
+            }
+            Stop::Sign(taken, token) => {
+                self.place += taken as u64;
+                self.ends_run = false;
+                Ok(Lexed {
+                    taken,
+                    token: Some(token),
+                })
+            }
+            Stop::Fault(at) => {
+                self.ends_run = false;
+                Err(LexFault { at })
+            }
+        }
+    }
+
+    /// Says that the text has ended, and hands out its last token, where a run was open. Where none was, it is
+    /// `None`.
+    ///
+    /// # Errors
+    ///
+    /// `LexFault` at a `/` that begins no comment or at a comment that is never closed, and after a fault the
+    /// same again.
+    pub fn finish(self) -> Result<Option<Token>, LexFault>
+        ensures ok { IfOk result (λ last. (text : List ℕ) → Stands self text → lexed text ≡ (handed self text ++ option_to_list last, None)) }
+        ensures fault { IfErr result (λ e. (text : List ℕ) → Stands self text → lexed text ≡ (handed self text, Some e.at)) }
+        ensures again { (at : ℕ) → self.mode ≡ Mode.Failed at → result ≡ Err (record { at = at }) }
+    {
+        let Lexer { mode, place, .. } = self;
+        match mode {
+            Mode::Between | Mode::LineComment { .. } => Ok(None),
+            Mode::Run { start, bytes, form } => Ok(Some(Token {
+                kind: run_kind(&bytes, form),
+                start,
+                end: place,
+            })),
+            Mode::Slash { start } | Mode::BlockComment { start, .. } => Err(LexFault { at: start }),
+            Mode::Failed { at } => Err(LexFault { at }),
+        }
+    }
+}

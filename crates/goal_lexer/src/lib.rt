@@ -1,0 +1,25 @@
+//! The tokens of a schedule text, taken from the text in pieces.
+//!
+//! A [`Lexer`] is handed the text piece by piece, cut at any places. Each call of
+//! [`Lexer::next_token`] takes bytes from the front of a piece up to the end of the next token, and
+//! [`Lexer::finish`] ends the text. The lexer takes no memory, and keeps no byte but those of the run
+//! that is open.
+#![tactic(auto)]
+
+mod bytes;
+mod labels;
+mod laws;
+mod lexing;
+mod mode;
+mod numbers;
+mod scanning;
+mod stretches;
+#[cfg(test)]
+mod tests;
+mod tokens;
+mod words;
+
+pub use labels::{Label, MOST_RUN_BYTES};
+pub use laws::laws_of_tokens;
+pub use lexing::Lexer;
+pub use tokens::{LexFault, Lexed, Token, TokenKind};

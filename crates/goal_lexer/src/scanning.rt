@@ -1,0 +1,184 @@
+//! What the bytes of a piece make of what is open.
+ghost use Rattle.std.specs.Prelude.{◌≡◌, ℕ, ◌+◌, ◌<◌, ◌^◌, length};
+ghost use Rattle.goal_lexer.specs.Sound.{IsSound};
+ghost use Rattle.goal_lexer.specs.Steps.{StepsTo, StopsAt};
+ghost use Rattle.goal_lexer.specs.Scan.{form_with};
+
+use crate::bytes::{begins_word, is_blank, is_digit, is_run_byte};
+use crate::labels::{Label, MOST_RUN_BYTES};
+use crate::mode::{Form, Mode};
+use crate::stretches::take_stretch;
+use crate::tokens::{Token, TokenKind};
+use crate::words::run_kind;
+
+/// What one byte ended.
+pub(crate) enum Step {
+    /// No token.
+    Nothing,
+    /// The run before it. The byte itself isn't taken.
+    Run(Token),
+    /// The sign that it is.
+    Sign(Token),
+    /// All tokens: none begins at this place.
+    Fault(u64),
+}
+
+/// What a piece ended.
+pub(crate) enum Stop {
+    /// No token: the whole piece is taken.
+    Piece,
+    /// A run, after so many bytes.
+    Run(usize, Token),
+    /// A sign, after so many bytes, its own included.
+    Sign(usize, Token),
+    /// All tokens: none begins at this place.
+    Fault(u64),
+}
+
+/// The token of one byte at this place.
+fn sign(kind: TokenKind, place: u64) -> Step
+    requires { place + 1 < 2 ^ 64 }
+    ensures { result ≡ Step.Sign (record { kind = kind; start = place; end = place + 1 }) }
+{
+    Step::Sign(Token {
+        kind,
+        start: place,
+        end: place + 1,
+    })
+}
+
+/// Takes a byte where nothing is open.
+fn begin_at(mode: &mut Mode, place: u64, byte: u8) -> Step
+    requires room { place + 1 < 2 ^ 64 }
+    requires between { mode.old ≡ Mode.Between }
+    ensures { StepsTo result Mode.Between place byte mode.new }
+{
+    if begins_word(byte) {
+        *mode = Mode::Run {
+            start: place,
+            bytes: Label::of_byte(byte),
+            form: Form::Word,
+        };
+        Step::Nothing
+    } else if is_digit(byte) {
+        *mode = Mode::Run {
+            start: place,
+            bytes: Label::of_byte(byte),
+            form: Form::Digits,
+        };
+        Step::Nothing
+    } else if is_blank(byte) {
+        Step::Nothing
+    } else if byte == b'{' {
+        sign(TokenKind::Open, place)
+    } else if byte == b'}' {
+        sign(TokenKind::Close, place)
+    } else if byte == b':' {
+        sign(TokenKind::Colon, place)
+    } else if byte == b'/' {
+        *mode = Mode::Slash { start: place };
+        Step::Nothing
+    } else {
+        *mode = Mode::Failed { at: place };
+        Step::Fault(place)
+    }
+}
+
+/// The form of a run with one byte of a run more, where there is one.
+fn form_with(form: Form, byte: u8) -> Option<Form>
+    ensures { result ≡ form_with form byte }
+{
+    match form {
+        Form::Word => Some(Form::Word),
+        Form::Digits if is_digit(byte) => Some(Form::Digits),
+        Form::Digits if byte == b'b' => Some(Form::Sized),
+        Form::Digits => None,
+        Form::Sized => None,
+    }
+}
+
+/// Takes one byte at this place.
+fn take_byte(mode: &mut Mode, place: u64, byte: u8) -> Step
+    requires { place + 1 < 2 ^ 64 }
+    ensures { StepsTo result mode.old place byte mode.new }
+{
+    match mode {
+        Mode::Between => begin_at(mode, place, byte),
+        Mode::Run { start, bytes, form } => {
+            let start = *start;
+            if !is_run_byte(byte) {
+                let kind = run_kind(bytes, *form);
+                *mode = Mode::Between;
+                return Step::Run(Token {
+                    kind,
+                    start,
+                    end: place,
+                });
+            }
+            match form_with(*form, byte) {
+                Some(longer) if bytes.len() < MOST_RUN_BYTES => {
+                    bytes.push(byte);
+                    *form = longer;
+                    Step::Nothing
+                }
+                _ => {
+                    *mode = Mode::Failed { at: start };
+                    Step::Fault(start)
+                }
+            }
+        }
+        Mode::Slash { start } => {
+            let start = *start;
+            if byte == b'/' {
+                *mode = Mode::LineComment { start };
+                Step::Nothing
+            } else if byte == b'*' {
+                *mode = Mode::BlockComment {
+                    start,
+                    closes: false,
+                };
+                Step::Nothing
+            } else {
+                *mode = Mode::Failed { at: start };
+                Step::Fault(start)
+            }
+        }
+        Mode::LineComment { .. } => {
+            if byte == b'\n' {
+                *mode = Mode::Between;
+            }
+            Step::Nothing
+        }
+        Mode::BlockComment { closes, .. } => {
+            if *closes && byte == b'/' {
+                *mode = Mode::Between;
+            } else {
+                *closes = byte == b'*';
+            }
+            Step::Nothing
+        }
+        Mode::Failed { at } => Step::Fault(*at),
+    }
+}
+
+/// Takes the bytes of a piece, the first of which stands at this place, up to the end of a token.
+pub(crate) fn take_piece(mode: &mut Mode, place: u64, piece: &[u8]) -> Stop
+    requires room { place + length piece.now < 2 ^ 64 }
+    requires sound { IsSound mode.old }
+    ensures { StopsAt result mode.old place piece.now mode.new }
+{
+    let mut taken = 0;
+    while taken < piece.len() {
+        taken += take_stretch(mode, &piece[taken..]);
+        if taken == piece.len() {
+            return Stop::Piece;
+        }
+        match take_byte(mode, place + taken as u64, piece[taken]) {
+            Step::Nothing => taken += 1,
+            Step::Run(token) => return Stop::Run(taken, token),
+            Step::Sign(token) => return Stop::Sign(taken + 1, token),
+            Step::Fault(at) => return Stop::Fault(at),
+        }
+    }
+    Stop::Piece
+}

@@ -1,0 +1,110 @@
+//! Bytes in a row that end nothing.
+ghost use Rattle.std.specs.Prelude.{◌≡◌, ℕ, ◌+◌, ◌<◌, ◌≤◌, ◌++◌, [], true, false, length, take, slice_index, ◌==◌};
+ghost use Rattle.goal_lexer.specs.Bytes.{is_blank, is_digit, is_run_byte, star, line_feed};
+ghost use Rattle.goal_lexer.specs.Scan.{scan};
+ghost use Rattle.goal_lexer.specs.Sound.{IsSound};
+
+use crate::bytes::{is_blank, is_digit, is_run_byte};
+use crate::labels::{Label, MOST_RUN_BYTES};
+use crate::mode::{Form, Mode};
+
+/// How many blanks stand in front.
+fn count_blanks(bytes: &[u8]) -> usize
+    ensures within { result ≤ length bytes.now }
+    ensures each { (k : ℕ) → k < result → is_blank (slice_index bytes.now k) ≡ true }
+{
+    for (n, byte) in bytes.iter().enumerate() {
+        if !is_blank(*byte) {
+            return n;
+        }
+    }
+    bytes.len()
+}
+
+/// How many bytes stand before the next line feed, or at all.
+fn count_in_line(bytes: &[u8]) -> usize
+    ensures within { result ≤ length bytes.now }
+    ensures each { (k : ℕ) → k < result → (slice_index bytes.now k == line_feed) ≡ false }
+{
+    for (n, byte) in bytes.iter().enumerate() {
+        if *byte == b'\n' {
+            return n;
+        }
+    }
+    bytes.len()
+}
+
+/// How many bytes stand before the next `*`, or at all.
+fn count_before_star(bytes: &[u8]) -> usize
+    ensures within { result ≤ length bytes.now }
+    ensures each { (k : ℕ) → k < result → (slice_index bytes.now k == star) ≡ false }
+{
+    for (n, byte) in bytes.iter().enumerate() {
+        if *byte == b'*' {
+            return n;
+        }
+    }
+    bytes.len()
+}
+
+/// Adds the bytes of a run that stand in front to a word, as far as it has room.
+fn extend_word(word: &mut Label, bytes: &[u8]) -> usize
+    ensures within { result ≤ length bytes.now }
+    ensures each { (k : ℕ) → k < result → is_run_byte (slice_index bytes.now k) ≡ true }
+    ensures word { word.new ≡ word.old ++ take result bytes.now }
+    ensures most { 0 < result → length word.new ≤ 64 }
+{
+    let mut taken = 0;
+    while taken < bytes.len() && word.len() < MOST_RUN_BYTES && is_run_byte(bytes[taken]) {
+        word.push(bytes[taken]);
+        taken += 1;
+    }
+    taken
+}
+
+/// Adds the digits that stand in front to digits, as far as they have room.
+fn extend_digits(digits: &mut Label, bytes: &[u8]) -> usize
+    ensures within { result ≤ length bytes.now }
+    ensures each { (k : ℕ) → k < result → is_digit (slice_index bytes.now k) ≡ true }
+    ensures digits { digits.new ≡ digits.old ++ take result bytes.now }
+    ensures most { 0 < result → length digits.new ≤ 64 }
+{
+    let mut taken = 0;
+    while taken < bytes.len() && digits.len() < MOST_RUN_BYTES && is_digit(bytes[taken]) {
+        digits.push(bytes[taken]);
+        taken += 1;
+    }
+    taken
+}
+
+/// Adds the bytes that stand in front to a run of this form, as far as they keep it and it has room.
+fn extend_run(run: &mut Label, form: Form, bytes: &[u8]) -> usize
+    ensures within { result ≤ length bytes.now }
+    ensures quiet { (start place : ℕ) → scan (Mode.Run start run.old form) place (take result bytes.now) ≡ (Mode.Run start run.new form, []) }
+{
+    match form {
+        Form::Word => extend_word(run, bytes),
+        Form::Digits => extend_digits(run, bytes),
+        Form::Sized => 0,
+    }
+}
+
+/// Takes bytes in front that end nothing, and answers how many it took.
+pub(crate) fn take_stretch(mode: &mut Mode, bytes: &[u8]) -> usize
+    requires { IsSound mode.old }
+    ensures within { result ≤ length bytes.now }
+    ensures quiet { (place : ℕ) → scan mode.old place (take result bytes.now) ≡ (mode.new, []) }
+    ensures sound { IsSound mode.new }
+{
+    match mode {
+        Mode::Between => count_blanks(bytes),
+        Mode::Run {
+            bytes: run,
+            form,
+            ..
+        } => extend_run(run, *form, bytes),
+        Mode::LineComment { .. } => count_in_line(bytes),
+        Mode::BlockComment { closes, .. } => { if *closes { 0 } else { count_before_star(bytes) } }
+        Mode::Slash { .. } | Mode::Failed { .. } => 0,
+    }
+}

@@ -1,0 +1,97 @@
+//! Tokens, what a call of the lexer answers, and its fault.
+ghost use Rattle.std.specs.Prelude.{◌++◌, Some, codes, decimal};
+
+use crate::labels::Label;
+use std::error::Error;
+use std::fmt;
+
+/// What a token is.
+#[derive(Clone, Copy, Debug, PartialEq, Eq)]
+pub enum TokenKind {
+    /// The reserved word `num_ranks`.
+    NumRanks,
+    /// The reserved word `rank`.
+    Rank,
+    /// The reserved word `calc`.
+    Calc,
+    /// The reserved word `send`.
+    Send,
+    /// The reserved word `recv`.
+    Recv,
+    /// The reserved word `to`.
+    To,
+    /// The reserved word `from`.
+    From,
+    /// The reserved word `tag`.
+    Tag,
+    /// The reserved word `cpu`.
+    Cpu,
+    /// The reserved word `nic`.
+    Nic,
+    /// The reserved word `any`.
+    Any,
+    /// The reserved word `requires`.
+    Requires,
+    /// The reserved word `irequires`.
+    Irequires,
+    /// The reserved word `moves`.
+    Moves,
+    /// The reserved word `adds`.
+    Adds,
+    /// A word that isn't reserved.
+    Label(Label),
+    /// Digits, with their decimal value, or 2^64-1 where that is larger.
+    Number {
+        /// The value, at most 2^64-1.
+        value: u64,
+    },
+    /// Digits and a `b` behind them, with the value of the digits, or 2^64-1 where that is larger.
+    Size {
+        /// The value, at most 2^64-1.
+        value: u64,
+    },
+    /// The sign `{`.
+    Open,
+    /// The sign `}`.
+    Close,
+    /// The sign `:`.
+    Colon,
+}
+
+/// A token with its place in the text.
+#[derive(Clone, Copy, Debug, PartialEq, Eq)]
+pub struct Token {
+    /// What the token is.
+    pub kind: TokenKind,
+    /// The place of its first byte, from 0.
+    pub start: u64,
+    /// The place after its last byte.
+    pub end: u64,
+}
+
+/// What a call of `Lexer::next_token` took and found.
+#[derive(Clone, Copy, Debug, PartialEq, Eq)]
+pub struct Lexed {
+    /// How many bytes were taken from the front of the piece.
+    pub taken: usize,
+    /// The token that was completed, or `None` where the whole piece was taken and none was.
+    pub token: Option<Token>,
+}
+
+/// No token, blank or comment begins at this place.
+#[derive(Clone, Copy, Debug, PartialEq, Eq)]
+pub struct LexFault {
+    /// The place of the byte, from 0.
+    pub at: u64,
+}
+
+impl fmt::Display for LexFault {
+    ghost output = { λ e. Some (codes "no token, blank or comment begins at byte " ++ decimal e.at) };
+
+    fn fmt<W: fmt::Write>(&self, f: &mut fmt::Formatter<W>) -> fmt::Result {
+        let at = self.at;
+        write!(f, "no token, blank or comment begins at byte {at}")
+    }
+}
+
+impl Error for LexFault {}

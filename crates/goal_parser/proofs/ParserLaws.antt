@@ -1,0 +1,72 @@
+-- What a token that fails no test is.
+use Rattle.std.proofs.Common.{◌≡◌, ℕ, Bool, true, false, not, List, Option, Some, None, refl, nat_eq, nat_lt}
+use Rattle.std.specs.List.{list_any}
+use Rattle.std.specs.Option.{option_or, IfNone}
+use Rattle.goal_lexer.specs.declared.tokens.Token.{Token}
+use Rattle.goal_lexer.specs.declared.tokens.TokenKind.{TokenKind}
+use Rattle.goal_lexer.specs.declared.tokens.TokenKind.TheVariants as token
+use Rattle.goal_parser.specs.declared.faults.TextFault.{TextFault}
+use Rattle.goal_parser.specs.declared.faults.TextFault.TheVariants.{Number, Rank, Repeat, TooMany}
+use Rattle.goal_parser.specs.declared.sentence.State.{State}
+use Rattle.goal_parser.specs.declared.sentence.State.TheVariants as state
+use Rattle.goal_parser.specs.declared.draft.OptionWord.{OptionWord}
+use Rattle.goal_parser.specs.declared.counts.Counts.{Counts}
+use Rattle.goal_parser.specs.declared.draft.Draft.{Draft}
+use Rattle.goal_parser.specs.declared.line.Mention.{Mention}
+use Rattle.goal_parser.specs.Lines.{Definition}
+use Rattle.goal_parser.specs.Numbers.{is_within}
+use Rattle.goal_parser.specs.Counts.{is_too_many}
+use Rattle.goal_parser.specs.Ranks.{IsNewRank}
+use Rattle.goal_parser.specs.Faults.{fault_if, syntax_fault, number_fault, rank_fault, rank_fault_of, option_fault, label_fault, count_fault, unknown_fault, fault_by}
+
+pub none_first : {A : Type 0} (a b : Option A) → option_or a b ≡ None → a ≡ None
+none_first None b h = refl
+none_first (Some x) b h = cc
+
+pub none_second : {A : Type 0} (a b : Option A) → option_or a b ≡ None → b ≡ None
+none_second None b h = h
+none_second (Some x) b h = cc
+
+not_so : (b : Bool) (f : TextFault) → fault_if b f ≡ None → b ≡ false
+not_so true f h = cc
+not_so false f h = refl
+
+so : (b : Bool) (f : TextFault) → fault_if (not b) f ≡ None → b ≡ true
+so true f h = refl
+so false f h = cc
+
+pub number_passes : (s : State) (option : OptionWord) (t : Token) → number_fault s option t ≡ None → is_within s option t.kind ≡ true
+unfolding number_fault
+number_passes s option t h = so (is_within s option t.kind) (Number t.start) h
+
+pub count_passes : (counts : Counts) (t : Token) → count_fault counts t ≡ None → is_too_many t.kind counts ≡ false
+unfolding count_fault
+count_passes counts t h = not_so (is_too_many t.kind counts) (TooMany t.start) h
+
+new_rank : (s : State) (ranks : ℕ) (blocks : List ℕ) (k : TokenKind) (at : ℕ) → rank_fault_of s ranks blocks k at ≡ None → IsNewRank s blocks k
+new_rank state.Block ranks blocks (token.Number n) at h =
+    not_so (list_any (nat_eq n) blocks) (Repeat at) (none_second (fault_if (not (nat_lt n ranks)) (Rank at)) (fault_if (list_any (nat_eq n) blocks) (Repeat at)) h)
+new_rank _ ranks blocks _ at h = tt
+
+pub rank_passes : (s : State) (ranks : ℕ) (blocks : List ℕ) (t : Token) → rank_fault s ranks blocks t ≡ None → IsNewRank s blocks t.kind
+unfolding rank_fault
+rank_passes s ranks blocks t h = new_rank s ranks blocks t.kind t.start h
+
+-- the label before a colon is new, where a token fails no test
+pub label_passes : (s : State) (draft : Draft) (ranks : ℕ) (blocks : List ℕ) (ds : List Definition) (subject : Option Mention) (counts : Counts) (us : List Mention) (t : Token)
+    → fault_by s draft ranks blocks ds subject counts us t ≡ None → label_fault ds subject t ≡ None
+unfolding fault_by
+label_passes s draft ranks blocks ds subject counts us t h =
+    let last = option_or (count_fault counts t) (unknown_fault ds us t) in
+    let labels = option_or (label_fault ds subject t) last in
+    let options = option_or (option_fault draft t) labels in
+    let numbered = option_or (rank_fault s ranks blocks t) options in
+    none_first (label_fault ds subject t) last
+    (none_second (option_fault draft t) labels
+    (none_second (rank_fault s ranks blocks t) options
+    (none_second (number_fault s draft.option t) numbered
+    (none_second (syntax_fault s t) (option_or (number_fault s draft.option t) numbered) h))))
+
+pub if_none : {A : Type 0} (o : Option A) (P : Type 0) → (o ≡ None → P) → IfNone o P
+if_none None P h = h refl
+if_none (Some x) P h = tt

@@ -1,0 +1,293 @@
+-- Labels that are defined and used, one more at a time.
+use Rattle.std.proofs.Common.{◌≡◌, ℕ, ◌+◌, ◌<◌, ◌≤◌, Bool, true, false, cond, List, [], ◌∷◌, ◌++◌, Option, Some, None, length, get_or, slice_get, take, zero, suc, rules, refl, sym, ap, subst, ◌∙◌, arith, bytes_eq, is_some, if◌then◌else◌, length-append}
+use Rattle.std.specs.Option.{option_or}
+use Rattle.std.specs.List.{list_any}
+use Rattle.std.specs.Map.{lookup, lookup_key, keys_of}
+use Rattle.std.proofs.lemmas.Cmp.{nat_list_eq_equiv}
+use Rattle.std.proofs.lemmas.Slice.Eq.{bytes_eq-Decides}
+use Rattle.std.proofs.lemmas.Option.{slice_get-map, get_or_from_slice_get, slice_get_within}
+use Rattle.std.proofs.lemmas.List.{take_more, take_all}
+use Rattle.std.proofs.Math.ListN.{get_or-append}
+use Rattle.std.proofs.Math.Seq.{get_or-append_seam}
+use Rattle.indexmap.specs.IndexMap.{insert_entry}
+use Rattle.indexmap.proofs.SetLemmas.{keys_insert_entry}
+use Rattle.goal_parser.specs.declared.labels.Slot.{Slot}
+use Rattle.goal_parser.specs.declared.line.Mention.{Mention}
+use Rattle.goal_parser.specs.Lines.{Definition, number_of, is_defined, first_outside, first_unknown}
+use Rattle.goal_parser.specs.Slots.{Entries, op_in, place_in, op_by, first_by, label_at, Keeps, Grows}
+
+option_or-none : {A : Type 0} (a : Option A) → option_or a None ≡ a
+option_or-none None = refl
+option_or-none (Some x) = refl
+
+-- one more at the end
+
+first_by-append : (test : List ℕ → Bool) (es : Entries) (e : List ℕ × Slot) → first_by test (es ++ e ∷ []) ≡ option_or (first_by test es) (if test e.0 then None else Some e.1.at)
+unfolding first_by
+first_by-append test [] e = refl
+first_by-append test (f ∷ es) e = by (test f.0) (first_by-append test es e)
+  where
+    by : (b : Bool) → first_by test (es ++ e ∷ []) ≡ option_or (first_by test es) (if test e.0 then None else Some e.1.at)
+        → (if b then first_by test (es ++ e ∷ []) else Some f.1.at) ≡ option_or (if b then first_by test es else Some f.1.at) (if test e.0 then None else Some e.1.at)
+    by true rest = rest
+    by false rest = refl
+
+first_outside-append : (test : List ℕ → Bool) (us : List Mention) (u : Mention) → first_outside test (us ++ u ∷ []) ≡ option_or (first_outside test us) (if test u.label then None else Some u.at)
+unfolding first_outside
+first_outside-append test [] u = refl
+first_outside-append test (f ∷ us) u = by (test f.label) (first_outside-append test us u)
+  where
+    by : (b : Bool) → first_outside test (us ++ u ∷ []) ≡ option_or (first_outside test us) (if test u.label then None else Some u.at)
+        → (if b then first_outside test (us ++ u ∷ []) else Some f.at) ≡ option_or (if b then first_outside test us else Some f.at) (if test u.label then None else Some u.at)
+    by true rest = rest
+    by false rest = refl
+
+number_of-append : (ds : List Definition) (d : Definition) (q : List ℕ) → number_of (ds ++ d ∷ []) q ≡ option_or (number_of ds q) (if bytes_eq q d.label then Some d.op else None)
+unfolding number_of
+number_of-append [] d q = refl
+number_of-append (f ∷ ds) d q = by (bytes_eq q f.label) (number_of-append ds d q)
+  where
+    by : (b : Bool) → number_of (ds ++ d ∷ []) q ≡ option_or (number_of ds q) (if bytes_eq q d.label then Some d.op else None)
+        → (if b then Some f.op else number_of (ds ++ d ∷ []) q) ≡ option_or (if b then Some f.op else number_of ds q) (if bytes_eq q d.label then Some d.op else None)
+    by true rest = refl
+    by false rest = rest
+
+-- an entry that is put in
+
+module _ (eq : List ℕ → List ℕ → Bool) (x : List ℕ) (v : Slot) where
+  insert-absent : (es : Entries) → lookup (eq x) es ≡ None → insert_entry eq es x v ≡ es ++ (x, v) ∷ []
+  insert-absent [] none = refl
+  insert-absent (e ∷ es) none = by (eq x e.0) none (insert-absent es)
+    where
+      by : (b : Bool) → cond b (Some e.1) (lookup (eq x) es) ≡ None → (lookup (eq x) es ≡ None → insert_entry eq es x v ≡ es ++ (x, v) ∷ [])
+          → (if b then (e.0, v) ∷ es else e ∷ insert_entry eq es x v) ≡ e ∷ (es ++ (x, v) ∷ [])
+      by true h rest = cc
+      by false h rest = ap (λ l. e ∷ l) (rest h)
+
+  -- a label that is there keeps its place
+  first_by-present : (test : List ℕ → Bool) (es : Entries) (s : Slot) → lookup (eq x) es ≡ Some s → v.at ≡ s.at → first_by test (insert_entry eq es x v) ≡ first_by test es
+  unfolding first_by
+  first_by-present test [] s there same = cc
+  first_by-present test (e ∷ es) s there same = by (eq x e.0) there (λ h. first_by-present test es s h same)
+    where
+      by : (b : Bool) → cond b (Some e.1) (lookup (eq x) es) ≡ Some s → (lookup (eq x) es ≡ Some s → first_by test (insert_entry eq es x v) ≡ first_by test es)
+          → first_by test (if b then (e.0, v) ∷ es else e ∷ insert_entry eq es x v) ≡ first_by test (e ∷ es)
+      by true h rest = let k : e.1 ≡ s = cc in ap (λ a. if test e.0 then first_by test es else Some a) (same ∙ sym (ap (λ (z : Slot). z.at) k))
+      by false h rest = ap (λ r. if test e.0 then r else Some e.1.at) (rest h)
+
+  -- where its label fails a test, some label fails it
+  first_by-some : (test : List ℕ → Bool) (es : Entries) (s : Slot) → ((q : List ℕ) → eq x q ≡ true → q ≡ x) → lookup (eq x) es ≡ Some s → test x ≡ false → is_some (first_by test es) ≡ true
+  unfolding first_by
+  first_by-some test [] s exact there fails = cc
+  first_by-some test (e ∷ es) s exact there fails = by (eq x e.0) refl there (λ h. first_by-some test es s exact h fails)
+    where
+      at_test : (b : Bool) → (is_some (first_by test es) ≡ true) → is_some (if b then first_by test es else Some e.1.at) ≡ true
+      at_test true h = h
+      at_test false h = refl
+
+      by : (b : Bool) → eq x e.0 ≡ b → cond b (Some e.1) (lookup (eq x) es) ≡ Some s → (lookup (eq x) es ≡ Some s → is_some (first_by test es) ≡ true)
+          → is_some (if test e.0 then first_by test es else Some e.1.at) ≡ true
+      by true q h rest = subst (λ b. is_some (if b then first_by test es else Some e.1.at) ≡ true) (sym (ap test (exact e.0 q) ∙ fails)) refl
+      by false q h rest = at_test (test e.0) (rest h)
+
+  key_found : (es : Entries) (k : List ℕ) → lookup_key (eq x) es ≡ Some k → eq x k ≡ true
+  key_found [] k h = cc
+  key_found (e ∷ es) k h = by (eq x e.0) refl h (key_found es k)
+    where
+      by : (b : Bool) → eq x e.0 ≡ b → cond b (Some e.0) (lookup_key (eq x) es) ≡ Some k → (lookup_key (eq x) es ≡ Some k → eq x k ≡ true) → eq x k ≡ true
+      by true q h rest = let k : e.0 ≡ k = cc in subst (λ z. eq x z ≡ true) k q
+      by false q h rest = rest h
+
+exact : (x q : List ℕ) → bytes_eq x q ≡ true → q ≡ x
+exact x q h = sym ((bytes_eq-Decides x q).0 h)
+
+-- labels by their slots
+
+pub label_of_entry : (es : Entries) (i : ℕ) (k : List ℕ) (v : Slot) → slice_get es i ≡ Some (k, v) → (i < length es) × (label_at es i ≡ k)
+unfolding label_at
+label_of_entry es i k v h =
+    (slice_get_within es i (k, v) h, get_or_from_slice_get (keys_of es) i k [] (slice_get-map (λ (e : List ℕ × Slot). e.0) es i ∙ ap (λ (o : Option (List ℕ × Slot)). elim o [ None ↦ None | Some e ↦ Some e.0 ]) h))
+
+pub label_of_found : (es : Entries) (i : ℕ) (x k : List ℕ) (v : Slot) → slice_get es i ≡ Some (k, v) → lookup_key (bytes_eq x) es ≡ Some k → label_at es i ≡ x
+label_of_found es i x k v h found = (label_of_entry es i k v h).1 ∙ exact x k (key_found bytes_eq x v es k found)
+
+length-keys : (es : Entries) → length (keys_of es) ≡ length es
+length-keys [] = refl
+length-keys (e ∷ es) = ap (λ n. suc n) (length-keys es)
+
+pub Grows-same : (es : Entries) → Grows es es
+Grows-same es = record { more = omega arith; labels = λ i h. refl }
+
+Grows-by_keys : (es fs : Entries) (more : List (List ℕ)) → keys_of fs ≡ keys_of es ++ more → Grows es fs
+unfolding label_at
+Grows-by_keys es fs more same = record {
+  more = omega (arith, length-keys es, length-keys fs, ap length same, length-append (keys_of es) more);
+  labels = λ i h. ap (λ ks. get_or ks i []) same ∙ get_or-append (keys_of es) more [] i (omega (arith, length-keys es));
+}
+
+pub Grows-insert : (es fs : Entries) (x : List ℕ) (v : Slot) → fs ≡ insert_entry bytes_eq es x v → Grows es fs
+Grows-insert es fs x v same = by (list_any (bytes_eq x) (keys_of es)) (ap keys_of same ∙ keys_insert_entry bytes_eq es x v)
+  where
+    by : (b : Bool) → keys_of fs ≡ (if b then keys_of es else keys_of es ++ x ∷ []) → Grows es fs
+    by true h = Grows-by_keys es fs [] (h ∙ search (rules))
+    by false h = Grows-by_keys es fs (x ∷ []) h
+
+-- what the slots know
+
+option_or-some : {A : Type 0} (a b : Option A) → is_some a ≡ true → option_or a b ≡ a
+option_or-some None b h = cc
+option_or-some (Some x) b h = refl
+
+pub Keeps-empty : (es : Entries) → es ≡ [] → Keeps es [] []
+unfolding op_by first_by first_outside number_of
+Keeps-empty es none = record {
+  numbers = λ q. ap (λ (l : Entries). op_in (lookup (bytes_eq q) l)) none;
+  firsts = λ test all. ap (first_by test) none;
+}
+
+-- a label that stood before is used again
+pub Keeps-again : (es : Entries) (ds : List Definition) (us : List Mention) (u : Mention) (s : Slot) → lookup (bytes_eq u.label) es ≡ Some s → Keeps es ds us → Keeps es ds (us ++ u ∷ [])
+Keeps-again es ds us u s there k = record { numbers = k.numbers; firsts = λ test all. by test (test u.label) refl (k.firsts test all) ∙ sym (first_outside-append test us u) }
+  where
+    by : (test : List ℕ → Bool) (b : Bool) → test u.label ≡ b → first_by test es ≡ first_outside test us → first_by test es ≡ option_or (first_outside test us) (if b then None else Some u.at)
+    by test true q h = h ∙ sym (option_or-none (first_outside test us))
+    by test false q h =
+        let some : is_some (first_outside test us) ≡ true = subst (λ o. is_some o ≡ true) h (first_by-some bytes_eq u.label s test es s (exact u.label) there q) in
+        h ∙ sym (option_or-some (first_outside test us) (Some u.at) some)
+
+Updated : (x : List ℕ) (v : Slot) (es fs : Entries) → Type 0
+Updated x v es fs = (q : List ℕ) → lookup (bytes_eq q) fs ≡ cond (bytes_eq x q) (Some v) (lookup (bytes_eq q) es)
+
+none_outside : (ds : List Definition) (x : List ℕ) → is_defined ds x ≡ false → number_of ds x ≡ None
+none_outside ds x h = by (number_of ds x) h
+  where
+    by : (o : Option ℕ) → is_some o ≡ false → o ≡ None
+    by None h = refl
+    by (Some n) h = cc
+
+-- a label stands for the first time, and is used
+pub Keeps-used : (es fs : Entries) (ds : List Definition) (us : List Mention) (u : Mention) → lookup (bytes_eq u.label) es ≡ None
+    → fs ≡ insert_entry bytes_eq es u.label (record { op = None; at = u.at }) → ((q : List ℕ) → lookup (bytes_eq q) fs ≡ cond (bytes_eq u.label q) (Some (record { op = None; at = u.at })) (lookup (bytes_eq q) es))
+    → Keeps es ds us → Keeps fs ds (us ++ u ∷ [])
+unfolding op_by
+Keeps-used es fs ds us u none put updated k = record {
+  numbers = λ q. ap op_in (updated q) ∙ by q (bytes_eq u.label q) refl;
+  firsts = λ test all. ap (first_by test) (put ∙ insert-absent bytes_eq u.label (record { op = None; at = u.at }) es none)
+      ∙ first_by-append test es (u.label, record { op = None; at = u.at })
+      ∙ ap (λ o. option_or o (if test u.label then None else Some u.at)) (k.firsts test all)
+      ∙ sym (first_outside-append test us u);
+}
+  where
+    by : (q : List ℕ) (b : Bool) → bytes_eq u.label q ≡ b → op_in (cond b (Some (record { op = None; at = u.at })) (lookup (bytes_eq q) es)) ≡ number_of ds q
+    by q true h = subst (λ z. None ≡ number_of ds z) (sym (exact u.label q h)) (sym (ap op_in none) ∙ k.numbers u.label)
+    by q false h = k.numbers q
+
+defined_more : (ds : List Definition) (d : Definition) (q : List ℕ) → is_defined ds q ≡ true → is_defined (ds ++ d ∷ []) q ≡ true
+defined_more ds d q h = ap is_some (number_of-append ds d q) ∙ by (number_of ds q) (if bytes_eq q d.label then Some d.op else None) h
+  where
+    by : (a b : Option ℕ) → is_some a ≡ true → is_some (option_or a b) ≡ true
+    by None b h = cc
+    by (Some n) b h = refl
+
+own_label : (x : List ℕ) → bytes_eq x x ≡ true
+own_label x = nat_list_eq_equiv.refl x
+
+defined_now : (ds : List Definition) (x : List ℕ) (op : ℕ) → is_defined (ds ++ record { label = x; op = op } ∷ []) x ≡ true
+defined_now ds x op = ap is_some (number_of-append ds (record { label = x; op = op }) x) ∙ ap (λ b. is_some (option_or (number_of ds x) (if b then Some op else None))) (own_label x) ∙ by (number_of ds x)
+  where
+    by : (a : Option ℕ) → is_some (option_or a (Some op)) ≡ true
+    by None = refl
+    by (Some n) = refl
+
+-- a label is defined
+pub Keeps-defined : (es fs : Entries) (ds : List Definition) (us : List Mention) (x : List ℕ) (op at place : ℕ) → place ≡ place_in (lookup (bytes_eq x) es) at
+    → fs ≡ insert_entry bytes_eq es x (record { op = Some op; at = place }) → ((q : List ℕ) → lookup (bytes_eq q) fs ≡ cond (bytes_eq x q) (Some (record { op = Some op; at = place })) (lookup (bytes_eq q) es))
+    → Keeps es ds us → is_defined ds x ≡ false → Keeps fs (ds ++ record { label = x; op = op } ∷ []) us
+unfolding op_by
+Keeps-defined es fs ds us x op at place placed put updated k fresh = record {
+  numbers = λ q. ap op_in (updated q) ∙ by q (bytes_eq x q) refl ∙ sym (number_of-append ds (record { label = x; op = op }) q);
+  firsts = λ test all. ap (first_by test) put
+      ∙ firsts test (lookup (bytes_eq x) es) refl (all x (defined_now ds x op))
+      ∙ k.firsts test (λ q h. all q (defined_more ds (record { label = x; op = op }) q h));
+}
+  where
+    by : (q : List ℕ) (b : Bool) → bytes_eq x q ≡ b → op_in (cond b (Some (record { op = Some op; at = place })) (lookup (bytes_eq q) es)) ≡ option_or (number_of ds q) (if bytes_eq q x then Some op else None)
+    by q true h =
+        let same = exact x q h in
+        sym (ap (λ o. option_or o (if bytes_eq q x then Some op else None)) (ap (number_of ds) same ∙ none_outside ds x fresh)
+        ∙ ap (λ b. if b then Some op else None) (nat_list_eq_equiv.symm q x ∙ h))
+    by q false h =
+        k.numbers q ∙ sym (ap (λ b. option_or (number_of ds q) (if b then Some op else None)) (nat_list_eq_equiv.symm q x ∙ h) ∙ option_or-none (number_of ds q))
+
+    firsts : (test : List ℕ → Bool) (o : Option Slot) → lookup (bytes_eq x) es ≡ o → test x ≡ true → first_by test (insert_entry bytes_eq es x (record { op = Some op; at = place })) ≡ first_by test es
+    firsts test None h passes =
+        ap (first_by test) (insert-absent bytes_eq x (record { op = Some op; at = place }) es h)
+        ∙ first_by-append test es (x, record { op = Some op; at = place })
+        ∙ ap (λ b. option_or (first_by test es) (if b then None else Some place)) passes
+        ∙ option_or-none (first_by test es)
+    firsts test (Some s) h passes =
+        first_by-present bytes_eq x (record { op = Some op; at = place }) test es s h (placed ∙ ap (λ o. place_in o at) h)
+
+-- the first label that isn't defined
+
+first_by-found : (test : List ℕ → Bool) (es : Entries) (i : ℕ) (e : List ℕ × Slot) → first_by test (take i es) ≡ None → slice_get es i ≡ Some e → test e.0 ≡ false → first_by test es ≡ Some e.1.at
+unfolding first_by
+first_by-found test [] i e before at fails = cc
+first_by-found test (f ∷ es) zero e before at fails =
+    let same : f ≡ e = cc in
+    ap (λ (g : List ℕ × Slot). if test g.0 then first_by test es else Some g.1.at) same ∙ ap (λ b. if b then first_by test es else Some e.1.at) fails
+first_by-found test (f ∷ es) (suc i) e before at fails = by (test f.0) before (λ h. first_by-found test es i e h at fails)
+  where
+    by : (b : Bool) → (if b then first_by test (take i es) else Some f.1.at) ≡ None → (first_by test (take i es) ≡ None → first_by test es ≡ Some e.1.at)
+        → (if b then first_by test es else Some f.1.at) ≡ Some e.1.at
+    by true h rest = rest h
+    by false h rest = cc
+
+first_by-more : (test : List ℕ → Bool) (es : Entries) (i : ℕ) (e : List ℕ × Slot) → first_by test (take i es) ≡ None → slice_get es i ≡ Some e → test e.0 ≡ true → first_by test (take (i + 1) es) ≡ None
+first_by-more test es i e before at passes =
+    ap (first_by test) (take_more es i e (slice_get_within es i e at))
+    ∙ first_by-append test (take i es) (get_or es i e)
+    ∙ ap (λ (g : List ℕ × Slot). option_or (first_by test (take i es)) (if test g.0 then None else Some g.1.at)) (get_or_from_slice_get es i e e at)
+    ∙ ap (λ b. option_or (first_by test (take i es)) (if b then None else Some e.1.at)) passes
+    ∙ ap (λ o. option_or o None) before
+
+-- the slot of an entry tells whether its label is defined
+pub slot_tells : (es : Entries) (ds : List Definition) (us : List Mention) (k : List ℕ) (s : Slot) → Keeps es ds us → lookup (bytes_eq k) es ≡ Some s → is_defined ds k ≡ is_some s.op
+unfolding op_by
+slot_tells es ds us k s keeps h = ap is_some (sym (keeps.numbers k) ∙ ap op_in h)
+
+pub IsFrontDefined : Entries → ℕ → Type 0
+IsFrontDefined es i = (ds : List Definition) (us : List Mention) → Keeps es ds us → first_by (is_defined ds) (take i es) ≡ None
+
+pub front_none : (es : Entries) → IsFrontDefined es 0
+unfolding first_by IsFrontDefined
+front_none es ds us k = refl
+
+pub front_more : (es : Entries) (i : ℕ) (k : List ℕ) (s : Slot) → IsFrontDefined es i → slice_get es i ≡ Some (k, s) → lookup (bytes_eq k) es ≡ Some s → is_some s.op ≡ true → IsFrontDefined es (i + 1)
+unfolding IsFrontDefined
+front_more es i k s front at found defined =
+    λ ds us keeps. first_by-more (is_defined ds) es i (k, s) (front ds us keeps) at (slot_tells es ds us k s keeps found ∙ defined)
+
+pub front_found : (es : Entries) (i : ℕ) (k : List ℕ) (s : Slot) → IsFrontDefined es i → slice_get es i ≡ Some (k, s) → lookup (bytes_eq k) es ≡ Some s → is_some s.op ≡ false → (ds : List Definition) (us : List Mention) → Keeps es ds us → Some s.at ≡ first_unknown ds us
+unfolding IsFrontDefined
+front_found es i k s front at found undefined ds us keeps =
+    sym (first_by-found (is_defined ds) es i (k, s) (front ds us keeps) at (slot_tells es ds us k s keeps found ∙ undefined))
+    ∙ keeps.firsts (is_defined ds) (λ q h. h)
+
+pub front_all : (es : Entries) (i : ℕ) → IsFrontDefined es i → length es ≤ i → (ds : List Definition) (us : List Mention) → Keeps es ds us → None ≡ first_unknown ds us
+unfolding IsFrontDefined
+front_all es i front all ds us keeps =
+    sym (front ds us keeps) ∙ ap (first_by (is_defined ds)) (take_all i es all) ∙ keeps.firsts (is_defined ds) (λ q h. h)
+
+keys-push : (l : Entries) (e : List ℕ × Slot) → keys_of (l ++ e ∷ []) ≡ keys_of l ++ e.0 ∷ []
+keys-push [] e = refl
+keys-push (f ∷ l) e = ap (λ ks. f.0 ∷ ks) (keys-push l e)
+
+-- a new label goes last
+pub label_of_new : (es fs : Entries) (x : List ℕ) (v : Slot) (n : ℕ) → lookup (bytes_eq x) es ≡ None → fs ≡ insert_entry bytes_eq es x v → n ≡ length es → label_at fs n ≡ x
+unfolding label_at
+label_of_new es fs x v n none put last =
+    ap (λ (l : Entries). get_or (keys_of l) n []) (put ∙ insert-absent bytes_eq x v es none)
+    ∙ ap (λ ks. get_or ks n []) (keys-push es (x, v))
+    ∙ ap (λ m. get_or (keys_of es ++ x ∷ []) m []) (last ∙ sym (length-keys es))
+    ∙ get_or-append_seam (keys_of es) x [] []

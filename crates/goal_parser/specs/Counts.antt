@@ -1,0 +1,34 @@
+-- How many operations, dependencies and notes a text begins.
+use Rattle.std.specs.Prelude.{◌+◌, Bool, false, nat_le, List, [], ◌∷◌}
+use Rattle.goal_lexer.specs.declared.tokens.Token.{Token}
+use Rattle.goal_lexer.specs.declared.tokens.TokenKind.{TokenKind}
+use Rattle.goal_lexer.specs.declared.tokens.TokenKind.TheVariants as token
+use Rattle.goal_base.specs.declared.limits.TheConstants.{MAX_OPS, MAX_DEPS, MAX_NOTES}
+use Rattle.goal_parser.specs.declared.counts.Counts.{Counts}
+
+-- `calc`, `send` and `recv` begin an operation, `requires` and `irequires` a dependency, `moves` and `adds` a note
+unfoldable pub counts_with : TokenKind → Counts → Counts
+counts_with token.Calc counts = record counts { ops = counts.ops + 1 }
+counts_with token.Send counts = record counts { ops = counts.ops + 1 }
+counts_with token.Recv counts = record counts { ops = counts.ops + 1 }
+counts_with token.Requires counts = record counts { deps = counts.deps + 1 }
+counts_with token.Irequires counts = record counts { deps = counts.deps + 1 }
+counts_with token.Moves counts = record counts { notes = counts.notes + 1 }
+counts_with token.Adds counts = record counts { notes = counts.notes + 1 }
+counts_with _ counts = counts
+
+-- how many of each the whole text has begun
+unfoldable pub counts_of : List Token → Counts
+counts_of [] = record { ops = 0; deps = 0; notes = 0 }
+counts_of (t ∷ before) = counts_with t.kind (counts_of before)
+
+-- the word begins one more than a schedule may have
+unfoldable pub is_too_many : TokenKind → Counts → Bool
+is_too_many token.Calc counts = nat_le MAX_OPS counts.ops
+is_too_many token.Send counts = nat_le MAX_OPS counts.ops
+is_too_many token.Recv counts = nat_le MAX_OPS counts.ops
+is_too_many token.Requires counts = nat_le MAX_DEPS counts.deps
+is_too_many token.Irequires counts = nat_le MAX_DEPS counts.deps
+is_too_many token.Moves counts = nat_le MAX_NOTES counts.notes
+is_too_many token.Adds counts = nat_le MAX_NOTES counts.notes
+is_too_many _ counts = false

@@ -1,0 +1,12 @@
+pub mod Actions
+pub mod Counts
+pub mod Faults
+pub mod Lines
+pub mod Numbers
+pub mod Plans
+pub mod Ranks
+pub mod Reader
+pub mod Reads
+pub mod Sentence
+pub mod Slots
+pub mod Taken

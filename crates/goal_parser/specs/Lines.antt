@@ -1,0 +1,196 @@
+-- The items of a block that begin with a label: definitions, dependencies and notes.
+use Rattle.std.specs.Prelude.{ℕ, Bool, true, false, List, [], ◌∷◌, ◌++◌, Option, Some, None, is_some, if◌then◌else◌, bytes_eq, length, unwrap_or, ⊤}
+use Rattle.goal_lexer.specs.declared.tokens.Token.{Token}
+use Rattle.goal_lexer.specs.declared.tokens.TokenKind.{TokenKind}
+use Rattle.goal_lexer.specs.declared.tokens.TokenKind.TheVariants as token
+use Rattle.goal_graph.specs.declared.plan.Op.{Op}
+use Rattle.goal_graph.specs.declared.plan.Dep.{Dep}
+use Rattle.goal_graph.specs.declared.plan.When.{When}
+use Rattle.goal_graph.specs.declared.plan.When.TheVariants.{AfterEnd, AfterStart}
+use Rattle.goal_graph.specs.declared.plan.Note.{Note}
+use Rattle.goal_graph.specs.declared.plan.Note.TheVariants.{Moves, Adds}
+use Rattle.goal_parser.specs.declared.sentence.State.{State}
+use Rattle.goal_parser.specs.declared.sentence.State.TheVariants as state
+use Rattle.goal_parser.specs.declared.line.Mention.{Mention}
+use Rattle.goal_parser.specs.declared.line.Verb.{Verb}
+use Rattle.goal_parser.specs.declared.line.Verb.TheVariants as verb
+use Rattle.goal_parser.specs.declared.line.Line.{Line}
+use Rattle.goal_parser.specs.Sentence.{state_of}
+use Rattle.goal_parser.specs.Actions.{draft_of, op_of}
+
+-- a label begins an item, but behind `requires` or `irequires`
+abbrev pub label_line : State → Mention → Line → Line
+label_line state.Label mention line = line
+label_line _ mention line = record line { subject = Some mention }
+
+-- the first slot of a note
+abbrev pub low_line : State → ℕ → Line → Line
+low_line state.Note1 n line = record line { low = n }
+low_line _ n line = line
+
+unfoldable pub line_with : State → TokenKind → ℕ → Line → Line
+line_with s (token.Label label) at line = label_line s (record { label = label; at = at }) line
+line_with s token.Requires at line = record line { verb = verb.Requires }
+line_with s token.Irequires at line = record line { verb = verb.Irequires }
+line_with s token.Moves at line = record line { verb = verb.Moves }
+line_with s token.Adds at line = record line { verb = verb.Adds }
+line_with s (token.Number n) at line = low_line s n line
+line_with s _ at line = line
+
+-- The label that the newest item begins with, the newest verb, and the newest first slot. The newest token stands first.
+unfoldable pub line_of : List Token → Line
+line_of [] = record { subject = None; verb = verb.Requires; low = 0 }
+line_of (t ∷ before) = line_with (state_of before) t.kind t.start (line_of before)
+
+-- the token ends an action: it isn't one of the action's own
+abbrev pub begins_item : TokenKind → Bool
+begins_item token.Close = true
+begins_item (token.Label label) = true
+begins_item token.Calc = true
+begins_item token.Send = true
+begins_item token.Recv = true
+begins_item _ = false
+
+unfoldable pub ends_action : State → TokenKind → Bool
+ends_action state.Calc2 kind = begins_item kind
+ends_action state.Send4 kind = begins_item kind
+ends_action state.Recv4 kind = begins_item kind
+ends_action _ kind = false
+
+-- the operations with an action that ends at this token
+abbrev pub ended_ops : State → TokenKind → Op → List Op → List Op
+ended_ops s kind op ops = if ends_action s kind then ops ++ op ∷ [] else ops
+
+unfoldable pub ops_with : State → TokenKind → Op → List Op → List Op
+ops_with s token.Close op ops = []
+ops_with s kind op ops = ended_ops s kind op ops
+
+-- the operations of the present block whose actions have ended
+unfoldable pub ops_of : List Token → List Op
+ops_of [] = []
+ops_of (t ∷ before) = ops_with (state_of before) t.kind (op_of (draft_of before)) (ops_of before)
+
+-- a label with the number of the operation that it stands before
+pub record Definition : Type 0 where
+  pub label : List ℕ
+  pub op : ℕ
+
+-- the number of a label's operation, if the label is defined
+unfoldable pub number_of : List Definition → List ℕ → Option ℕ
+number_of [] label = None
+number_of (d ∷ ds) label = if bytes_eq label d.label then Some d.op else number_of ds label
+
+abbrev pub is_defined : List Definition → List ℕ → Bool
+is_defined ds label = is_some (number_of ds label)
+
+-- a colon defines the label before it
+abbrev pub define : Option Mention → ℕ → List Definition → List Definition
+define None op ds = ds
+define (Some subject) op ds = ds ++ record { label = subject.label; op = op } ∷ []
+
+unfoldable pub defined_with : TokenKind → Option Mention → ℕ → List Definition → List Definition
+defined_with token.Close subject op ds = []
+defined_with token.Colon subject op ds = define subject op ds
+defined_with _ subject op ds = ds
+
+-- the labels that the present block has defined
+unfoldable pub defined_of : List Token → List Definition
+defined_of [] = []
+defined_of (t ∷ before) = defined_with t.kind (line_of before).subject (length (ops_of before)) (defined_of before)
+
+-- a dependency, by its labels: `later` requires or irequires `earlier`
+pub record NamedDep : Type 0 where
+  pub later : List ℕ
+  pub earlier : List ℕ
+  pub when : When
+
+-- a note, by its label
+pub record NamedNote : Type 0 where
+  pub subject : List ℕ
+  pub verb : Verb
+  pub first : ℕ
+  pub second : ℕ
+
+abbrev pub when_of : Verb → When
+when_of verb.Requires = AfterEnd
+when_of _ = AfterStart
+
+-- a dependency ends with its second label
+abbrev pub dep_ended : State → Option Mention → Verb → List ℕ → List NamedDep → List NamedDep
+dep_ended state.Label (Some subject) verb earlier deps =
+    deps ++ record { later = subject.label; earlier = earlier; when = when_of verb } ∷ []
+dep_ended _ _ verb earlier deps = deps
+
+unfoldable pub deps_with : State → TokenKind → Line → List NamedDep → List NamedDep
+deps_with s token.Close line deps = []
+deps_with s (token.Label label) line deps = dep_ended s line.subject line.verb label deps
+deps_with s _ line deps = deps
+
+-- the dependencies of the present block
+unfoldable pub deps_of : List Token → List NamedDep
+deps_of [] = []
+deps_of (t ∷ before) = deps_with (state_of before) t.kind (line_of before) (deps_of before)
+
+-- a note ends with its second number
+abbrev pub note_ended : State → Option Mention → Verb → ℕ → ℕ → List NamedNote → List NamedNote
+note_ended state.Note3 (Some subject) verb low n notes =
+    notes ++ record { subject = subject.label; verb = verb; first = low; second = n } ∷ []
+note_ended _ _ verb low n notes = notes
+
+unfoldable pub notes_with : State → TokenKind → Line → List NamedNote → List NamedNote
+notes_with s token.Close line notes = []
+notes_with s (token.Number n) line notes = note_ended s line.subject line.verb line.low n notes
+notes_with s _ line notes = notes
+
+-- the notes of the present block
+unfoldable pub notes_of : List Token → List NamedNote
+notes_of [] = []
+notes_of (t ∷ before) = notes_with (state_of before) t.kind (line_of before) (notes_of before)
+
+-- a dependency uses both its labels, and a note uses its label
+abbrev pub dep_uses : State → Option Mention → Mention → List Mention → List Mention
+dep_uses state.Label (Some subject) earlier used = (used ++ subject ∷ []) ++ earlier ∷ []
+dep_uses _ _ earlier used = used
+
+abbrev pub note_uses : State → Option Mention → List Mention → List Mention
+note_uses state.Note3 (Some subject) used = used ++ subject ∷ []
+note_uses _ _ used = used
+
+unfoldable pub used_with : State → TokenKind → ℕ → Line → List Mention → List Mention
+used_with s token.Close at line used = []
+used_with s (token.Label label) at line used = dep_uses s line.subject (record { label = label; at = at }) used
+used_with s (token.Number n) at line used = note_uses s line.subject used
+used_with s _ at line used = used
+
+-- the labels that stand in dependencies and notes of the present block, in the order of the text
+unfoldable pub used_of : List Token → List Mention
+used_of [] = []
+used_of (t ∷ before) = used_with (state_of before) t.kind t.start (line_of before) (used_of before)
+
+-- the place of the first of these labels that doesn't pass the test
+unfoldable pub first_outside : (List ℕ → Bool) → List Mention → Option ℕ
+first_outside test [] = None
+first_outside test (u ∷ us) = if test u.label then first_outside test us else Some u.at
+
+-- the place of the first of these labels that isn't defined
+abbrev pub first_unknown : List Definition → List Mention → Option ℕ
+first_unknown ds us = first_outside (is_defined ds) us
+
+-- a dependency and a note, by the numbers of operations
+abbrev pub op_number : List Definition → List ℕ → ℕ
+op_number ds label = unwrap_or (number_of ds label) 0
+
+abbrev pub dep_by : List Definition → NamedDep → Dep
+dep_by ds d = record { later = op_number ds d.later; earlier = op_number ds d.earlier; when = d.when }
+
+abbrev pub note_as : Verb → ℕ → ℕ → ℕ → Note
+note_as verb.Moves op first second = Moves op first second
+note_as _ op first second = Adds op first second
+
+abbrev pub note_by : List Definition → NamedNote → Note
+note_by ds n = note_as n.verb (op_number ds n.subject) n.first n.second
+
+-- the token isn't the one that ends a block
+abbrev pub IsInside : TokenKind → Type 0
+IsInside token.Close = ⊥
+IsInside _ = ⊤

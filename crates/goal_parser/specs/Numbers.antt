@@ -1,0 +1,45 @@
+-- The limits of the numbers of a text.
+use Rattle.std.specs.Prelude.{◌≡◌, ℕ, ◌-◌, ◌^◌, Bool, true, ◌&&◌, nat_le}
+use Rattle.goal_lexer.specs.declared.tokens.TokenKind.{TokenKind}
+use Rattle.goal_lexer.specs.declared.tokens.TokenKind.TheVariants as token
+use Rattle.goal_base.specs.declared.limits.TheConstants.{MAX_RANKS, MAX_BYTES, MAX_NANOS}
+use Rattle.goal_parser.specs.declared.sentence.State.{State}
+use Rattle.goal_parser.specs.declared.sentence.State.TheVariants as state
+use Rattle.goal_parser.specs.declared.draft.OptionWord.{OptionWord}
+use Rattle.goal_parser.specs.declared.draft.OptionWord.TheVariants as option
+
+-- a schedule has a rank
+abbrev pub least : State → ℕ
+least state.Ranks = 1
+least _ = 0
+
+-- the limit of an option's number
+abbrev pub option_most : OptionWord → ℕ
+option_most option.Tag = 2 ^ 32 - 1
+option_most option.Cpu = 255
+option_most option.Nic = 255
+
+-- the limit of a number that stands here, where this option word stood last
+abbrev pub most : State → OptionWord → ℕ
+most state.Ranks option = MAX_RANKS
+most state.Calc1 option = MAX_NANOS
+most state.Send1 option = MAX_BYTES
+most state.Recv1 option = MAX_BYTES
+most state.Calc3 option = option_most option
+most state.Send5 option = option_most option
+most state.Recv5 option = option_most option
+most state.Recv6 option = option_most option
+most _ option = 2 ^ 32 - 1
+
+abbrev pub number_within : State → OptionWord → ℕ → Bool
+number_within s option n = nat_le (least s) n && nat_le n (most s option)
+
+-- the token's number or size, if it has one, is within the limits of its place
+unfoldable pub is_within : State → OptionWord → TokenKind → Bool
+is_within s option (token.Number n) = number_within s option n
+is_within s option (token.Size n) = number_within s option n
+is_within s option _ = true
+
+-- the same, whichever option word stood last
+abbrev pub IsWithin : State → TokenKind → Type 0
+IsWithin s kind = (option : OptionWord) × (is_within s option kind ≡ true)

@@ -1,0 +1,133 @@
+//! The block that is read.
+ghost use Rattle.std.specs.Prelude.{◌≡◌, ℕ, List, [], ◌∷◌, ◌++◌, IfOk, OnOk, map, length, Some, None};
+ghost use Rattle.goal_parser.specs.declared.line.Mention.{Mention};
+ghost use Rattle.goal_parser.specs.Actions.{op_of};
+ghost use Rattle.goal_parser.specs.Lines.{Definition, NamedDep, NamedNote, begins_item, ends_action, ended_ops, ops_with, defined_with, used_with, deps_with, notes_with, dep_by, note_by};
+ghost use Rattle.goal_parser.specs.Plans.{plan_ended};
+ghost use Rattle.goal_parser.specs.Numbers.{IsWithin};
+ghost use Rattle.goal_parser.specs.Faults.{label_fault};
+ghost use Rattle.goal_parser.specs.Slots.{Holds};
+
+use crate::draft::Draft;
+use crate::line::Line;
+use crate::names::Names;
+use crate::sentence::State;
+use goal_graph::{Op, RankPlan};
+use goal_lexer::{Token, TokenKind};
+use std::alloc::{AllocError, Global};
+use std::mem;
+
+/// What is read of a block. Between blocks it is empty.
+#[derive(Drop)]
+pub struct Block {
+    /// The operations whose actions have ended.
+    pub ops: Vec<Op>,
+    /// The labels, the dependencies and the notes.
+    pub names: Names,
+}
+
+/// Whether the token begins an item, or ends the block.
+fn begins_item(kind: &TokenKind) -> bool
+    ensures { result ≡ begins_item kind.now }
+{
+    match kind {
+        TokenKind::Close
+        | TokenKind::Label(_)
+        | TokenKind::Calc
+        | TokenKind::Send
+        | TokenKind::Recv => true,
+        _ => false,
+    }
+}
+
+/// Whether the token ends an action.
+#[tactic(auto, unfolding(crate::specs::Lines::ends_action))]
+fn ends_action(state: State, kind: &TokenKind) -> bool
+    ensures { result ≡ ends_action state kind.now }
+{
+    match state {
+        State::Calc2 | State::Send4 | State::Recv4 => begins_item(kind),
+        _ => false,
+    }
+}
+
+/// Adds the operation of the action that ends at this token, if one does.
+fn end_action(
+    ops: &mut Vec<Op>,
+    state: State,
+    kind: &TokenKind,
+    draft: &Draft,
+) -> Result<(), AllocError>
+    ensures { OnOk result (ops.new.items ≡ ended_ops state kind.now (op_of draft.now) ops.old.items) }
+{
+    if ends_action(state, kind) {
+        ops.push(draft.op())?;
+    }
+    Ok(())
+}
+
+impl Block {
+    /// An empty block.
+    pub fn new(alloc: Global) -> Block
+        ensures ops { result.ops.items ≡ [] }
+        ensures names { Holds result.names [] [] [] [] }
+    {
+        Block {
+            ops: Vec::new(alloc),
+            names: Names::new(alloc),
+        }
+    }
+
+    /// The plan of the block, which ends in this state.
+    fn finish(self, state: State, draft: &Draft) -> Result<RankPlan, AllocError>
+        ensures { IfOk result (λ plan. (ds : List Definition) (us : List Mention) (deps : List NamedDep) (notes : List NamedNote) → Holds self.names ds us deps notes →
+            plan ≡ record { ops = ended_ops state TokenKind.Close (op_of draft.now) self.ops.items; deps = map (dep_by ds) deps; notes = map (note_by ds) notes }) }
+    {
+        let Block { mut ops, mut names } = self;
+        end_action(&mut ops, state, &TokenKind::Close, draft)?;
+        names.resolve();
+        let Names {
+            labels,
+            deps,
+            notes,
+        } = names;
+        drop(labels);
+        Ok(RankPlan { ops, deps, notes })
+    }
+
+    /// Takes a token that stands in this state. The answer is the plan of the block where the token ends it.
+    #[tactic(auto, unfolding(crate::specs::Lines::ops_with))]
+    pub fn take(
+        &mut self,
+        alloc: Global,
+        state: State,
+        token: &Token,
+        draft: &Draft,
+        line: &Line,
+    ) -> Result<Option<RankPlan>, AllocError>
+        requires { IsWithin state token.now.kind }
+        ensures ops { OnOk result (self.new.ops.items ≡ ops_with state token.now.kind (op_of draft.now) self.old.ops.items) }
+        ensures names { OnOk result ((ds : List Definition) (us : List Mention) (deps : List NamedDep) (notes : List NamedNote) → Holds self.old.names ds us deps notes → label_fault ds line.now.subject token.now ≡ None →
+            Holds self.new.names (defined_with token.now.kind line.now.subject (length self.old.ops.items) ds) (used_with state token.now.kind token.now.start line.now us)
+            (deps_with state token.now.kind line.now deps) (notes_with state token.now.kind line.now notes)) }
+        ensures plan { IfOk result (λ plan. (ds : List Definition) (us : List Mention) (deps : List NamedDep) (notes : List NamedNote) → Holds self.old.names ds us deps notes →
+            plan ≡ plan_ended token.now.kind (record { ops = ended_ops state TokenKind.Close (op_of draft.now) self.old.ops.items; deps = map (dep_by ds) deps; notes = map (note_by ds) notes })) }
+    {
+        match &token.kind {
+            TokenKind::Close => {
+                let block = mem::replace(self, Block::new(alloc));
+                let plan = block.finish(state, draft)?;
+                Ok(Some(plan))
+            }
+            kind => {
+                // More operations than 32 bits can number count as want of memory.
+                let Ok(op) = u32::try_from(self.ops.len()) else {
+                    return Err(AllocError);
+                };
+                self.names.take(state, token, line, op)?;
+                end_action(&mut self.ops, state, kind, draft)?;
+                Ok(None)
+            }
+        }
+    }
+}

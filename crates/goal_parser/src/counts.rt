@@ -1,0 +1,60 @@
+//! How many operations, dependencies and notes a text has begun.
+ghost use Rattle.std.specs.Prelude.{◌≡◌, false};
+ghost use Rattle.goal_parser.specs.Faults.{count_fault};
+ghost use Rattle.goal_parser.specs.Counts.{counts_with, is_too_many};
+
+use crate::faults::TextFault;
+use goal_base::{MAX_DEPS, MAX_NOTES, MAX_OPS};
+use goal_lexer::{Token, TokenKind};
+
+/// How many of each the whole text has begun so far.
+#[derive(Clone, Copy, Debug, PartialEq, Eq)]
+pub struct Counts {
+    /// The operations.
+    pub ops: u32,
+    /// The dependencies.
+    pub deps: u32,
+    /// The notes.
+    pub notes: u32,
+}
+
+impl Counts {
+    /// Nothing has begun.
+    pub fn new() -> Counts
+        ensures { result ≡ record { ops = 0; deps = 0; notes = 0 } }
+    {
+        Counts {
+            ops: 0,
+            deps: 0,
+            notes: 0,
+        }
+    }
+
+    /// Why the token is refused, if it begins one operation, dependency or note more than a schedule may have.
+    #[tactic(auto, unfolding(crate::specs::Counts::is_too_many, crate::specs::Faults::count_fault))]
+    pub fn fault(&self, token: &Token) -> Option<TextFault>
+        ensures { result ≡ count_fault self.now token.now }
+    {
+        let is_too_many = match &token.kind {
+            TokenKind::Calc | TokenKind::Send | TokenKind::Recv => self.ops >= MAX_OPS,
+            TokenKind::Requires | TokenKind::Irequires => self.deps >= MAX_DEPS,
+            TokenKind::Moves | TokenKind::Adds => self.notes >= MAX_NOTES,
+            _ => false,
+        };
+        is_too_many.then_some(TextFault::TooMany { at: token.start })
+    }
+
+    /// Counts what the token begins.
+    #[tactic(auto, unfolding(crate::specs::Counts::is_too_many, crate::specs::Counts::counts_with))]
+    pub fn take(&mut self, kind: &TokenKind)
+        requires fits { is_too_many kind.now self.old ≡ false }
+        ensures counted { self.new ≡ counts_with kind.now self.old }
+    {
+        match kind {
+            TokenKind::Calc | TokenKind::Send | TokenKind::Recv => self.ops += 1,
+            TokenKind::Requires | TokenKind::Irequires => self.deps += 1,
+            TokenKind::Moves | TokenKind::Adds => self.notes += 1,
+            _ => {}
+        }
+    }
+}

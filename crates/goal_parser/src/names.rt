@@ -1,0 +1,216 @@
+//! The labels of a block, and the dependencies and notes that name them.
+ghost use Rattle.std.specs.Prelude.{◌≡◌, ℕ, List, [], ◌∷◌, ◌++◌, IfOk, OnOk, map, Some, None};
+ghost use Rattle.goal_parser.specs.declared.line.Mention.{Mention};
+ghost use Rattle.goal_parser.specs.Lines.{Definition, NamedDep, NamedNote, define, dep_ended, note_ended, dep_uses, note_uses, defined_with, used_with, deps_with, notes_with, when_of, note_as, IsInside};
+ghost use Rattle.goal_parser.specs.Slots.{Holds, IsNote, IsDep, dep_at, note_at};
+ghost use Rattle.goal_parser.specs.Numbers.{IsWithin};
+ghost use Rattle.goal_parser.specs.Faults.{defined_fault, label_fault};
+
+use crate::labels::Labels;
+use crate::line::{Line, Mention, Verb};
+use crate::sentence::State;
+use goal_graph::{Dep, Note, When};
+use goal_lexer::{Label, Token, TokenKind};
+use std::alloc::{AllocError, Global};
+
+/// The labels of a block, and its dependencies and notes with slots of labels in place of operations.
+#[derive(Drop)]
+pub struct Names {
+    /// The labels.
+    pub labels: Labels,
+    /// The dependencies.
+    pub deps: Vec<Dep>,
+    /// The notes.
+    pub notes: Vec<Note>,
+}
+
+/// Which moment of the earlier operation a dependency waits for.
+fn when_of(verb: Verb) -> When
+    ensures { result ≡ when_of verb }
+{
+    match verb {
+        Verb::Requires => When::AfterEnd,
+        _ => When::AfterStart,
+    }
+}
+
+/// A note of an operation or a slot.
+fn note_as(verb: Verb, op: u32, first: u32, second: u32) -> Note
+    ensures { result ≡ note_as verb op first second }
+{
+    match verb {
+        Verb::Moves => Note::Moves {
+            op,
+            lo: first,
+            hi: second,
+        },
+        _ => Note::Adds {
+            op,
+            from: first,
+            to: second,
+        },
+    }
+}
+
+impl Names {
+    /// Nothing is named.
+    pub fn new(alloc: Global) -> Names
+        ensures { Holds result [] [] [] [] }
+    {
+        Names {
+            labels: Labels::new(alloc),
+            deps: Vec::new(alloc),
+            notes: Vec::new(alloc),
+        }
+    }
+
+    /// Defines a label that the block hasn't defined: it stands before the operation of this number.
+    fn define(&mut self, subject: &Option<Mention>, op: u32) -> Result<(), AllocError>
+        ensures { OnOk result ((ds : List Definition) (us : List Mention) (deps : List NamedDep) (notes : List NamedNote) → Holds self.old ds us deps notes → defined_fault ds subject.now ≡ None →
+            Holds self.new (define subject.now op ds) us deps notes) }
+    {
+        match subject {
+            Some(subject) => {
+                self.labels.define(subject, op)?;
+                Ok(())
+            }
+            None => Ok(()),
+        }
+    }
+
+    /// Takes the second label of a dependency.
+    fn end_dep(
+        &mut self,
+        state: State,
+        subject: &Option<Mention>,
+        verb: Verb,
+        earlier: &Mention,
+    ) -> Result<(), AllocError>
+        ensures { OnOk result ((ds : List Definition) (us : List Mention) (deps : List NamedDep) (notes : List NamedNote) → Holds self.old ds us deps notes →
+            Holds self.new ds (dep_uses state subject.now earlier.now us) (dep_ended state subject.now verb earlier.now.label deps) notes) }
+    {
+        match (state, subject) {
+            (State::Label, Some(subject)) => {
+                let later = self.labels.mention(subject)?;
+                let earlier = self.labels.mention(earlier)?;
+                self.deps.push(Dep {
+                    later,
+                    earlier,
+                    when: when_of(verb),
+                })?;
+                Ok(())
+            }
+            _ => Ok(()),
+        }
+    }
+
+    /// Takes the second number of a note.
+    #[tactic(auto, unfolding(crate::specs::Numbers::is_within))]
+    fn end_note(&mut self, state: State, line: &Line, second: u64) -> Result<(), AllocError>
+        requires { IsWithin state (TokenKind.Number second) }
+        ensures { OnOk result ((ds : List Definition) (us : List Mention) (deps : List NamedDep) (notes : List NamedNote) → Holds self.old ds us deps notes →
+            Holds self.new ds (note_uses state line.now.subject us) deps (note_ended state line.now.subject line.now.verb line.now.low second notes)) }
+    {
+        match (state, &line.subject) {
+            (State::Note3, Some(subject)) => {
+                let second = second as u32;
+                let op = self.labels.mention(subject)?;
+                self.notes.push(note_as(line.verb, op, line.low, second))?;
+                Ok(())
+            }
+            _ => Ok(()),
+        }
+    }
+
+    /// Takes a token that stands in this state, where the block has so many operations. It ends no block.
+    #[tactic(auto, unfolding(crate::specs::Lines::defined_with, crate::specs::Lines::used_with, crate::specs::Lines::deps_with, crate::specs::Lines::notes_with, crate::specs::Faults::label_fault))]
+    pub fn take(
+        &mut self,
+        state: State,
+        token: &Token,
+        line: &Line,
+        op: u32,
+    ) -> Result<(), AllocError>
+        requires within { IsWithin state token.now.kind }
+        requires inside { IsInside token.now.kind }
+        ensures { OnOk result ((ds : List Definition) (us : List Mention) (deps : List NamedDep) (notes : List NamedNote) → Holds self.old ds us deps notes → label_fault ds line.now.subject token.now ≡ None →
+            Holds self.new (defined_with token.now.kind line.now.subject op ds) (used_with state token.now.kind token.now.start line.now us)
+            (deps_with state token.now.kind line.now deps) (notes_with state token.now.kind line.now notes)) }
+    {
+        match &token.kind {
+            TokenKind::Colon => {
+                self.define(&line.subject, op)?;
+                Ok(())
+            }
+            TokenKind::Label(label) => {
+                let earlier = Mention {
+                    label: *label,
+                    at: token.start,
+                };
+                self.end_dep(state, &line.subject, line.verb, &earlier)?;
+                Ok(())
+            }
+            TokenKind::Number { value } => {
+                self.end_note(state, line, *value)?;
+                Ok(())
+            }
+            _ => Ok(()),
+        }
+    }
+
+    /// Puts the numbers of operations in the place of slots.
+    pub fn resolve(&mut self)
+        ensures deps { self.new.deps.items ≡ map (dep_at self.old.labels.slots.entries) self.old.deps.items }
+        ensures notes { self.new.notes.items ≡ map (note_at self.old.labels.slots.entries) self.old.notes.items }
+    {
+        resolve_deps(&self.labels, &mut self.deps);
+        resolve_notes(&self.labels, &mut self.notes);
+    }
+}
+
+/// A dependency of slots, by the numbers of their operations.
+fn dep_at(labels: &Labels, dep: &Dep) -> Dep
+    ensures { result ≡ dep_at labels.now.slots.entries dep.now }
+{
+    Dep {
+        later: labels.op(dep.later),
+        earlier: labels.op(dep.earlier),
+        when: dep.when,
+    }
+}
+
+/// A note of a slot, by the number of its operation.
+fn note_at(labels: &Labels, note: &Note) -> Note
+    ensures { result ≡ note_at labels.now.slots.entries note.now }
+{
+    match note {
+        Note::Moves { op, lo, hi } => Note::Moves {
+            op: labels.op(*op),
+            lo: *lo,
+            hi: *hi,
+        },
+        Note::Adds { op, from, to } => Note::Adds {
+            op: labels.op(*op),
+            from: *from,
+            to: *to,
+        },
+    }
+}
+
+/// Puts the numbers of operations in the place of slots.
+fn resolve_deps(labels: &Labels, deps: &mut [Dep])
+    ensures { deps.new ≡ map (dep_at labels.now.slots.entries) deps.old }
+{
+    for dep in deps.iter_mut() {
+        *dep = dep_at(labels, dep);
+    }
+}
+
+/// Puts the numbers of operations in the place of slots.
+fn resolve_notes(labels: &Labels, notes: &mut [Note])
+    ensures { notes.new ≡ map (note_at labels.now.slots.entries) notes.old }
+{
+    for note in notes.iter_mut() {
+        *note = note_at(labels, note);
+    }
+}

@@ -1,0 +1,88 @@
+//! The number of ranks, and the ranks of the blocks.
+ghost use Rattle.std.specs.Prelude.{◌≡◌, ◌≤◌, ◌++◌, [], ◌∷◌, None, OnOk, nat_eq, IfOk};
+ghost use Rattle.std.specs.List.{list_any};
+ghost use Rattle.goal_parser.specs.Ranks.{ranks_with, blocks_with, rank_with, IsNewRank};
+ghost use Rattle.goal_parser.specs.Faults.{numbered_rank_fault, rank_fault};
+
+use crate::faults::TextFault;
+use crate::sentence::State;
+use goal_lexer::{Token, TokenKind};
+use indexmap::IndexSet;
+use std::alloc::{AllocError, Global};
+
+/// The number of ranks, and the ranks of the blocks.
+#[derive(Drop)]
+pub struct Ranks {
+    /// The number of ranks, or 0 before it is read.
+    pub count: u64,
+    /// The rank of the newest block.
+    pub present: u64,
+    /// The ranks that had a block, in the order of the text.
+    pub blocks: IndexSet<u64>,
+}
+
+impl Ranks {
+    /// What no token has given.
+    pub fn new(alloc: Global) -> Ranks
+        ensures count { result.count ≡ 0 }
+        ensures present { result.present ≡ 0 }
+        ensures blocks { result.blocks.keys ≡ [] }
+    {
+        Ranks {
+            count: 0,
+            present: 0,
+            blocks: IndexSet::new(alloc),
+        }
+    }
+
+    /// Why the number behind `rank` is refused, if it is.
+    fn numbered_fault(&self, state: State, value: u64, at: u64) -> Option<TextFault>
+        ensures { result ≡ numbered_rank_fault state self.now.count self.now.blocks.keys value at }
+    {
+        match state {
+            State::Block => {
+                if value >= self.count {
+                    Some(TextFault::Rank { at })
+                } else if self.blocks.contains(&value) {
+                    Some(TextFault::Repeat { at })
+                } else {
+                    None
+                }
+            }
+            _ => None,
+        }
+    }
+
+    /// Why the token is refused as a rank, if it is.
+    #[tactic(auto, unfolding(crate::specs::Faults::rank_fault))]
+    pub fn fault(&self, state: State, token: &Token) -> Option<TextFault>
+        ensures { result ≡ rank_fault state self.now.count self.now.blocks.keys token.now }
+    {
+        match &token.kind {
+            TokenKind::Number { value } => self.numbered_fault(state, *value, token.start),
+            _ => None,
+        }
+    }
+
+    /// Takes a token that stands in this state and isn't refused as a rank.
+    #[tactic(auto, unfolding(crate::specs::Ranks::ranks_with, crate::specs::Ranks::blocks_with, crate::specs::Ranks::rank_with))]
+    pub fn take(&mut self, state: State, kind: &TokenKind) -> Result<(), AllocError>
+        requires new { IsNewRank state self.old.blocks.keys kind.now }
+        ensures count { OnOk result (self.new.count ≡ ranks_with state kind.now self.old.count) }
+        ensures present { OnOk result (self.new.present ≡ rank_with state kind.now self.old.present) }
+        ensures blocks { OnOk result (self.new.blocks.keys ≡ blocks_with state kind.now self.old.blocks.keys) }
+    {
+        match (state, kind) {
+            (State::Ranks, TokenKind::Number { value }) => {
+                self.count = *value;
+                Ok(())
+            }
+            (State::Block, TokenKind::Number { value }) => {
+                self.present = *value;
+                self.blocks.insert(*value)?;
+                Ok(())
+            }
+            _ => Ok(()),
+        }
+    }
+}

@@ -1,0 +1,117 @@
+//! What no clause says: the faults of texts that are written out.
+ghost use Rattle.std.specs.Prelude.{◌≤◌, length};
+
+use crate::faults::TextFault;
+use crate::reader::Reader;
+use crate::text::read_text;
+use std::alloc::Global;
+use std::test::Fail;
+
+/// Six operations with a comment between them.
+const LONGER: &str = "num_ranks 2
+rank 0 {
+l1: calc 100 cpu 0
+l2: send 10b to 1 tag 0 cpu 0 nic 0
+l3: recv 10b from 1 tag 0 cpu 0 nic 0
+l2 requires l1
+}
+rank 1 {
+l1: recv 10b from 0 tag 0 cpu 0 nic 0
+l2: calc 200 cpu 0 // work
+l3: send 10b to 0 tag 0 cpu 0 nic 0
+l2 requires l1
+l3 requires l2
+}
+";
+
+#[test]
+fn faults(rt: HostRuntime) -> Result<(), Fail> {
+    for (text, fault) in [
+        ("", TextFault::Syntax { at: 0 }),
+        ("num_ranks 0", TextFault::Number { at: 10 }),
+        ("num_ranks 65537", TextFault::Number { at: 10 }),
+        ("num_ranks 1 rank 1 { }", TextFault::Rank { at: 17 }),
+        (
+            "num_ranks 1 rank 4294967296 { }",
+            TextFault::Number { at: 17 },
+        ),
+        (
+            "num_ranks 1 rank 0 { calc 1 } rank 0 { }",
+            TextFault::Repeat { at: 35 },
+        ),
+        (
+            "num_ranks 1 rank 0 { a: calc 1 a: calc 2 }",
+            TextFault::Repeat { at: 31 },
+        ),
+        (
+            "num_ranks 1 rank 0 { calc 1 cpu 2 cpu 3 }",
+            TextFault::Repeat { at: 34 },
+        ),
+        (
+            "num_ranks 1 rank 0 { recv 1 from any tag any nic 1 tag 2 }",
+            TextFault::Repeat { at: 51 },
+        ),
+        (
+            "num_ranks 1 rank 0 { calc 1 cpu 256 }",
+            TextFault::Number { at: 32 },
+        ),
+        (
+            "num_ranks 1 rank 0 { send 1b to any }",
+            TextFault::Syntax { at: 32 },
+        ),
+        (
+            "num_ranks 1 rank 0 { a: calc 1 a requires b }",
+            TextFault::UnknownLabel { at: 42 },
+        ),
+        (
+            "num_ranks 1 rank 0 { c requires a a: calc 1 b moves 0 to 1 c moves 0 to 1 }",
+            TextFault::UnknownLabel { at: 21 },
+        ),
+        ("num_ranks 1 rank 0 { calc 5x }", TextFault::Lex { at: 26 }),
+        (
+            "num_ranks 1 rank 0 { calc 5b }",
+            TextFault::Syntax { at: 26 },
+        ),
+        ("num_ranks 1 rank 0 { calc 5", TextFault::Syntax { at: 27 }),
+        ("num_ranks 1 rank 0 { calc 5 /*", TextFault::Lex { at: 28 }),
+    ] {
+        match read_text(rt.alloc(), text.as_bytes()) {
+            Ok(sched) => {
+                drop(sched);
+                assert!(rt; false, "{text} is read");
+            }
+            Err(found) => assert_eq!(rt; found, fault, "of {text}"),
+        }
+    }
+    Ok(())
+}
+
+/// How many ranks, operations and dependencies a text has. It is handed over in two pieces.
+fn counted(alloc: Global, text: &[u8], cut: usize) -> Result<(usize, usize, usize), TextFault>
+    requires { cut ≤ length text.now }
+{
+    let mut reader = Reader::new(alloc);
+    reader.feed(&text[..cut])?;
+    reader.feed(&text[cut..])?;
+    let plans = reader.finish()?;
+    let mut ops = 0usize;
+    let mut deps = 0usize;
+    for plan in plans.iter() {
+        ops = ops.saturating_add(plan.ops.len());
+        deps = deps.saturating_add(plan.deps.len());
+    }
+    Ok((plans.len(), ops, deps))
+}
+
+#[test]
+fn plans(rt: HostRuntime) -> Result<(), Fail> {
+    let text = LONGER.as_bytes();
+    for cut in 0..=text.len() {
+        assert_eq!(rt;
+            counted(rt.alloc(), text, cut),
+            Ok((2, 6, 3)),
+            "cut at {cut}"
+        );
+    }
+    Ok(())
+}

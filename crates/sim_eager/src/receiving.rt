@@ -1,0 +1,48 @@
+// A receive takes its message.
+ghost use Rattle.std.specs.Prelude.{◌≡◌, ◌+◌, ◌<◌, ◌^◌, max};
+ghost use Rattle.goal_graph.specs.Laws.{IsSend, IsReceive};
+ghost use Rattle.sim_params.specs.Costs.{over, gap};
+ghost use Rattle.sim_resources.specs.Holds.{SameFreeTimes, cpu_free, rx_free, hold_cpu, hold_rx};
+
+use goal_graph::{OpId, Sched};
+use sim_params::Costs;
+use sim_resources::{Resources, message_of};
+
+/// When a receive may take its message, which is there from `from` on: once its cpu and the receiving side of its
+/// interface are free.
+#[tactic(auto, using(sim_resources::proofs::OfKind::receive_is_op))]
+pub fn serve_at(res: &Resources, recv: OpId, from: u64) -> u64
+    requires { IsReceive res.now.plans recv }
+    ensures { result ≡ max from (max (cpu_free res.now recv) (rx_free res.now recv)) }
+{
+    from.max(res.cpu(recv).max(res.rx(recv)))
+}
+
+/// Takes the message of the send at the time `at`, and answers when the receive ends: it holds its cpu and the
+/// receiving side of its interface by the size of the message, and nothing else changes.
+#[tactic(auto, using(sim_resources::proofs::OfKind::receive_is_op))]
+pub fn serve<C: Costs>(
+    sched: &Sched,
+    costs: &C,
+    res: &mut Resources,
+    recv: OpId,
+    send: OpId,
+    at: u64,
+) -> u64
+    requires same_schedule { res.old.plans ≡ sched.now }
+    requires receives { IsReceive sched.now recv }
+    requires sends { IsSend sched.now send }
+    requires over_fits { at + over sched.now (C.model costs.now) send < 2 ^ 63 }
+    requires gap_fits { at + gap sched.now (C.model costs.now) send < 2 ^ 63 }
+
+    ensures end { result ≡ at + over sched.now (C.model costs.now) send }
+    ensures holds { SameFreeTimes res.new
+        (hold_rx (hold_cpu res.old recv result) recv (at + gap sched.now (C.model costs.now) send)) }
+{
+    let message = message_of(sched, send);
+    let end = at + costs.over(send.rank, message.to, message.bytes);
+    let received = at + costs.gap(send.rank, message.to, message.bytes);
+    res.hold_cpu(recv, end);
+    res.hold_rx(recv, received);
+    end
+}

@@ -1,0 +1,13 @@
+pub mod First
+pub mod Filters
+pub mod Ops
+pub mod WaitingLemmas
+pub mod Turns
+pub mod Targets
+pub mod Fitting
+pub mod Kept
+pub mod Written
+pub mod RoomLemmas
+pub mod Begun
+pub mod HeardLemmas
+pub mod Partnered

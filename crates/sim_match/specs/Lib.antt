@@ -1,0 +1,6 @@
+pub mod Heard
+pub mod Waiting
+pub mod Rooms
+pub mod Lists
+pub mod Matcher
+pub mod Laws

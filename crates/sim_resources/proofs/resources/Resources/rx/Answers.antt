@@ -1,0 +1,22 @@
+use Rattle.std.proofs.Common.{◌≡◌, subst}
+use Rattle.goal_graph.specs.Fault.{IsOp}
+use Rattle.sim_resources.specs.Holds.{Holds, rx_free}
+use Rattle.sim_resources.proofs.OfKind.{receive_is_op}
+use Rattle.sim_resources.proofs.FreeTimes.{place_in, slot_in, free_is}
+use Rattle.sim_resources.proofs.resources.Resources.rx.Goals as goal
+
+pub index-requires : goal.index-requires
+index-requires c =
+    subst (λ (r : Holds). IsOp r.plans c.args.id → IsOp c.self.inside.sched.now c.args.id) c.self.view_is (λ is_op. is_op) (receive_is_op _ _ c.requires)
+
+pub free-requires : goal.free-requires
+free-requires c =
+    rw (c.deref.ensures.value, c.deref-2.ensures.value) (record {
+      place_in = place_in _ _ _ _ c.self.invariant.rxs _ _ c.index.ensures.index;
+      slot_in = slot_in _ _ _ _ c.self.invariant.rxs _ _ c.index.ensures.index;
+    })
+
+pub returns : goal.returns
+returns c =
+    subst (λ (r : Holds). c.free.result ≡ rx_free r c.args.id) c.self.view_is
+    (free_is _ _ _ _ c.self.invariant.rxs _ _ c.index.ensures.index c.free.result (rw (c.deref.ensures.value, c.deref-2.ensures.value) at c.free.ensures))

@@ -1,0 +1,63 @@
+-- Until when the cpus and the interfaces of the ranks are held, in nanoseconds.
+use Rattle.std.specs.Prelude.{ℕ, ◌≡◌, ◌==◌, ◌&&◌, max, Bool, false, List, [], ◌∷◌, Option, Some, if◌then◌else◌}
+use Rattle.goal_graph.specs.declared.action.OpId.{OpId}
+use Rattle.goal_graph.specs.declared.plan.Op.{Op}
+use Rattle.goal_graph.specs.Schedule.{Plan, op_at}
+use Rattle.sim_resources.specs.declared.holds.Hold.{Hold}
+
+-- two operations of one rank that use the same cpu, or the same interface
+abbrev pub shares_place : (Op → ℕ) → OpId → Option Op → OpId → Option Op → Bool
+shares_place place x (Some o) y (Some p) = (x.rank == y.rank) && (place o == place p)
+shares_place place x _ y _ = false
+
+abbrev pub shares : (Op → ℕ) → List Plan → OpId → OpId → Bool
+shares place plans x y = shares_place place x (op_at plans x) y (op_at plans y)
+
+-- when what x uses is free: the greatest `until` of the holds on it, 0 with none
+unfoldable pub free_at : (Op → ℕ) → List Plan → List Hold → OpId → ℕ
+free_at place plans [] x = 0
+free_at place plans (h ∷ hs) x =
+    max (free_at place plans hs x)
+    (if shares_place place x (op_at plans x) h.op (op_at plans h.op) then h.until else 0)
+
+-- the holds of cpus, of the sending sides of interfaces and of their receiving sides, each list newest first
+pub record Holds : Type 0 where
+  pub plans : List Plan
+  pub cpu : List Hold
+  pub tx : List Hold
+  pub rx : List Hold
+
+-- when the cpu that x uses is free, the sending side of its interface, the receiving side
+abbrev pub cpu_free : Holds → OpId → ℕ
+cpu_free r x = free_at (λ (o : Op). o.cpu) r.plans r.cpu x
+
+abbrev pub tx_free : Holds → OpId → ℕ
+tx_free r x = free_at (λ (o : Op). o.nic) r.plans r.tx x
+
+abbrev pub rx_free : Holds → OpId → ℕ
+rx_free r x = free_at (λ (o : Op). o.nic) r.plans r.rx x
+
+-- with one hold more of what x uses
+abbrev pub hold : OpId → ℕ → Hold
+hold x until = record { op = x; until = until }
+
+abbrev pub hold_cpu : Holds → OpId → ℕ → Holds
+hold_cpu r x until = record r { cpu = hold x until ∷ r.cpu }
+
+abbrev pub hold_tx : Holds → OpId → ℕ → Holds
+hold_tx r x until = record r { tx = hold x until ∷ r.tx }
+
+abbrev pub hold_rx : Holds → OpId → ℕ → Holds
+hold_rx r x until = record r { rx = hold x until ∷ r.rx }
+
+-- no hold at all
+abbrev pub unheld : List Plan → Holds
+unheld plans = record { plans = plans; cpu = []; tx = []; rx = [] }
+
+-- The same schedule, and each cpu and each side of an interface is free at the same time. `Resources` keeps one hold for
+-- each of them, its longest; these holds stand for all that were made, in that everything is free at the same times.
+pub record SameFreeTimes (r s : Holds) : Type 0 where
+  pub plans : r.plans ≡ s.plans
+  pub cpu : (x : OpId) → cpu_free r x ≡ cpu_free s x
+  pub tx : (x : OpId) → tx_free r x ≡ tx_free s x
+  pub rx : (x : OpId) → rx_free r x ≡ rx_free s x
