@@ -1,14 +1,16 @@
 -- What follows from the table of causes.
 use Rattle.std.proofs.Common.{◌≡◌, ℕ, ◌⊎◌, true, List, length, Option, Some, None, inl, inr, arith}
 use Rattle.std.proofs.Math.Seq.{take-length}
-use Rattle.goal_base.specs.Device.{HostState, SinkState, Grows, file_of, ReadFaulted}
+use Rattle.goal_base.specs.Device.{HostState, SinkState, Rose, Grows, file_of, ReadFaulted}
 use Rattle.goal_cli.specs.declared.answer.Answer.{Answer}
 use Rattle.goal_cli.specs.declared.answer.Answer.TheVariants as answer
 use Rattle.goal_cli.specs.declared.answer.Refusal.{Refusal}
 use Rattle.goal_cli.specs.declared.answer.Status.{Status}
 use Rattle.goal_cli.specs.declared.answer.Status.TheVariants as status
-use Rattle.goal_cli.specs.Answer.{Says, GrowsByPart, GetsRun, GetsPartOfRun, ForInput, ForFile, IfInput, ReadsHeld, AnswersWith, IsCause, IsAnswered, line_for, refused_line}
-use Rattle.goal_cli.specs.Simulated.{IsRefused}
+use Rattle.goal_cli.specs.Answer.{Says, GrowsByPart, GetsRun, GetsPartOfRun, ForInput, ForFile, IfInput, ReadsHeld, WritesHeld, AnswersWith, IsCause, IsAnswered, line_for}
+use Rattle.goal_cli.specs.Refusal.{refused_line}
+use Rattle.goal_graph.specs.Schedule.{Plan}
+use Rattle.goal_cli.specs.Simulated.{HasSchedule, IsRefused}
 use Rattle.goal_cli.proofs.RefusalLemmas.{same_refusal, no_refusal}
 
 -- all of a line is a prefix of it
@@ -97,3 +99,28 @@ refused_as (Some n) host host' out out' err err' answer.ReadFault s cause (inl (
 refused_as (Some n) host host' out out' err err' answer.WriteFault s cause (inl (e, told)) =
     λ tells text file r refused held. absurd (run_not_refused host n text r out out' tells file refused cause.0)
 refused_as (Some n) host host' out out' err err' answer.NoMemory s cause (inl (e, told)) = λ tells text file r refused held. inr e
+
+held_writes : (old new : SinkState) → WritesHeld old new → Rose old.stops old.count new.count → ⊥
+held_writes old new held rose = omega arith
+
+-- an input that has a schedule gets its printed run, unless a device fails
+pub ran_as : (name : Option (List ℕ)) (host host' : HostState) (out out' err err' : SinkState) (a : Answer) (s : Status)
+    → IsCause name host host' out out' a → IsAnswered err err' a s
+    → IfInput name host
+    (λ text. (sched : List Plan) → HasSchedule text sched → ReadsHeld host host' → WritesHeld out out' → AnswersWith s status.Done (GetsRun out out' text))
+ran_as None host host' out out' err err' a s cause told = tt
+ran_as (Some n) host host' out out' err err' a s cause (inr (e, part)) = λ tells text file sched has reads writes. inr e
+ran_as (Some n) host host' out out' err err' answer.Done s cause (inl (e, told)) =
+    λ tells text file sched has reads writes.
+    let k = cause.0 tells in
+    inl (e, rw (same_file host n text k.0 file k.1) at k.2)
+ran_as (Some n) host host' out out' err err' answer.BadLine s cause (inl (e, told)) = cc
+ran_as (Some n) host host' out out' err err' (answer.Refused q) s cause (inl (e, told)) =
+    λ tells text file sched has reads writes.
+    let k = cause.0 tells in
+    absurd (no_refusal text sched q has (rw (same_file host n text k.0 file k.1) at k.2))
+ran_as (Some n) host host' out out' err err' answer.ReadFault s cause (inl (e, told)) =
+    λ tells text file sched has reads writes. absurd (held_reads host host' n text tells file reads cause.0)
+ran_as (Some n) host host' out out' err err' answer.WriteFault s cause (inl (e, told)) =
+    λ tells text file sched has reads writes. absurd (held_writes out out' writes cause.2)
+ran_as (Some n) host host' out out' err err' answer.NoMemory s cause (inl (e, told)) = λ tells text file sched has reads writes. inr e

@@ -1,11 +1,3 @@
 pub mod AnswerLemmas
-pub mod CalcsLemmas
 pub mod RefusalLemmas
-pub mod SmallBlockLemmas
-pub mod SmallDraftLemmas
-pub mod SmallFormLemmas
-pub mod SmallItemLemmas
-pub mod SmallPlainLemmas
-pub mod SmallPlansLemmas
-pub mod SmallWordsLemmas
 pub mod TimelineLemmas

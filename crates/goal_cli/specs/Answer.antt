@@ -1,14 +1,13 @@
 -- What each answer of `goal` says of the call, and what `err` gets.
-use Rattle.std.specs.Prelude.{ℕ, ◌≡◌, ◌⊎◌, true, List, [], ◌++◌, take, Option, Some, None, IsSomeAnd, IfSome, codes, decimal}
+use Rattle.std.specs.Prelude.{ℕ, ◌≡◌, ◌⊎◌, true, List, [], ◌++◌, take, Option, Some, None, IsSomeAnd, IfSome, codes}
 use Rattle.goal_base.specs.Device.{HostState, SinkState, Rose, Held, SameReadCounts, Grows, file_of, ReadFaulted}
 use Rattle.goal_cli.specs.declared.answer.Answer.{Answer}
 use Rattle.goal_cli.specs.declared.answer.Answer.TheVariants as answer
-use Rattle.goal_cli.specs.declared.answer.Refusal.{Refusal}
-use Rattle.goal_cli.specs.declared.answer.Refusal.TheVariants as refusal
 use Rattle.goal_cli.specs.declared.answer.Status.{Status}
 use Rattle.goal_cli.specs.declared.answer.Status.TheVariants as status
 use Rattle.goal_cli.specs.Simulated.{IsSimulated, IsRefused}
-use Rattle.goal_cli.specs.Timeline.{line_feed, id_text}
+use Rattle.goal_cli.specs.Refusal.{refused_line}
+use Rattle.goal_cli.specs.Timeline.{line_feed}
 
 -- where the host tells its files, the file of that name is there, and P holds of its bytes
 abbrev pub ForFile : HostState → List ℕ → (List ℕ → Type 0) → Type 0
@@ -58,16 +57,6 @@ module _ (name : Option (List ℕ)) (host host' : HostState) (out out' : SinkSta
   IsCause answer.WriteFault =
       ForInput name host (GetsPartOfRun out out') × SameReadCounts host host' × Rose out.stops out.count out'.count
   IsCause answer.NoMemory = (out' ≡ out) ⊎ ForInput name host (GetsPartOfRun out out')
-
-abbrev pub refusal_words : Refusal → List ℕ
-refusal_words refusal.TooLong = codes "input longer than 134217728 bytes"
-refusal_words refusal.Form = codes "form"
-refusal_words (refusal.Cycle rank op) = codes "plan: cycle " ++ id_text (record { rank = rank; op = op })
-refusal_words (refusal.Budget sum) = codes "budget " ++ decimal sum
-
--- the line of a refusal
-abbrev pub refused_line : Refusal → List ℕ
-refused_line r = codes "goal: refused: " ++ refusal_words r ++ line_feed
 
 -- the lines to `err` of the answers; none for Done
 abbrev pub line_for : Answer → List ℕ

@@ -1,11 +1,5 @@
 pub mod Answer
 pub mod Line
-pub mod Real
+pub mod Refusal
 pub mod Simulated
-pub mod Small
-pub mod SmallBlock
-pub mod SmallDraft
-pub mod SmallPlain
-pub mod SmallTokens
-pub mod SmallWords
 pub mod Timeline

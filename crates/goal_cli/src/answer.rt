@@ -1,5 +1,7 @@
 // How a command line is answered.
 
+use goal_parser::TextFault;
+
 /// How a call of `goal` ends. The numbers of the statuses are 0 to 7 in this order.
 #[derive(Clone, Copy, Debug, PartialEq, Eq)]
 pub enum Status {
@@ -37,10 +39,10 @@ pub enum Answer {
 pub enum Refusal {
     /// It has more than 2^27 bytes.
     TooLong,
-    /// It is not in the small form.
-    Form,
-    /// This operation is the first that waits for itself, or only follows one that does.
-    Cycle { rank: u32, op: u32 },
+    /// As a text it has this first fault.
+    Text(TextFault),
+    /// The schedule has a send or a receive, which are not run yet.
+    NotBuilt,
     /// The time budget, this sum in nanoseconds, exceeds 2^63-1.
     Budget { sum: u128 },
 }

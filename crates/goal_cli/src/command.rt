@@ -2,17 +2,17 @@
 ghost use Rattle.std.specs.Prelude.{◌≡◌, ◌≢◌, ◌⊎◌, ◌+◌, ◌^◌, ◌<◌, true, List, ◌++◌, MatchOption, Some, None, IsSomeAnd, IfSome, IfOk, OnOk};
 ghost use Rattle.goal_base.specs.Device.{Rose, Later, SinkLater, SameFiles, SameRest, ReadsAtMost, file_of, ReadFaulted};
 ghost use Rattle.goal_graph.specs.Schedule.{Plan};
-ghost use Rattle.goal_cli.specs.Answer.{IsCause, ForInput, IfInput, GetsRun, GetsPartOfRun, GrowsByPart, ReadsHeld, WritesHeld, Answers, AnswersWith, IsSilent, line_at, line_for, refused_line, refusal_words, Says, IsAnswered};
+ghost use Rattle.goal_cli.specs.Answer.{IsCause, ForInput, IfInput, GetsRun, GetsPartOfRun, GrowsByPart, ReadsHeld, WritesHeld, Answers, AnswersWith, IsSilent, line_at, line_for, Says, IsAnswered};
 ghost use Rattle.goal_cli.specs.Line.{name_in};
+ghost use Rattle.goal_cli.specs.Refusal.{refused_line};
 ghost use Rattle.goal_cli.specs.Simulated.{HasSchedule, IsRefused};
 ghost use Rattle.goal_cli.specs.declared.answer.Answer.{Answer};
 ghost use Rattle.goal_cli.specs.declared.answer.Refusal.{Refusal};
 
 use crate::answer::{Answer, Refusal, Status};
+use crate::refusal::refused_line;
 use crate::simulate::{Stop, simulate};
-use crate::timeline::put_id;
-use goal_base::{Host, IoFault, NoMemory, ReadAll, Sink, TextOut, read_all, write_all};
-use goal_graph::OpId;
+use goal_base::{Host, IoFault, NoMemory, ReadAll, Sink, read_all, write_all};
 use std::alloc::Global;
 
 const BAD_LINE: &[u8] = b"goal: the words are not a command line of goal\n";
@@ -155,35 +155,6 @@ fn carry_out<H: Host, W: Sink>(alloc: Global, words: &[String], host: &mut H, ou
             IoFault::Failed => Answer::WriteFault,
             IoFault::NoMemory => Answer::NoMemory,
         },
-    }
-}
-
-// The line to `err` of a refusal.
-fn refused_line(alloc: Global, refusal: Refusal) -> Result<Vec<u8>, NoMemory>
-    ensures { IfOk result (λ line. line.items ≡ refused_line refusal) }
-{
-    let mut out = TextOut::new(alloc);
-    out.word("goal: refused: ")?;
-    put_refusal(&mut out, refusal)?;
-    out.word("\n")?;
-    Ok(out.into_bytes())
-}
-
-// Appends the words of a refusal.
-fn put_refusal(out: &mut TextOut, refusal: Refusal) -> Result<(), NoMemory>
-    ensures { OnOk result (out.new ≡ out.old ++ refusal_words refusal) }
-{
-    match refusal {
-        Refusal::TooLong => out.word("input longer than 134217728 bytes"),
-        Refusal::Form => out.word("form"),
-        Refusal::Cycle { rank, op } => {
-            out.word("plan: cycle ")?;
-            put_id(out, OpId { rank, op })
-        }
-        Refusal::Budget { sum } => {
-            out.word("budget ")?;
-            out.number(sum)
-        }
     }
 }
 

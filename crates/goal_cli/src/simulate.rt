@@ -8,11 +8,11 @@ ghost use Rattle.sim_events.specs.Engine.{IsAllCalcs, IsBudgetFault};
 ghost use Rattle.goal_cli.specs.Simulated.{usual_costs, IsReadAs, IsPrintedRun, IsSimulated, IsStop};
 
 use crate::answer::Refusal;
-use crate::small::{SmallFault, read_small};
 use crate::timeline::timeline;
 use goal_base::NoMemory;
-use goal_graph::{PlanFault, Sched};
-use sim_events::{Engine, EngineFault};
+use goal_graph::Sched;
+use goal_parser::{TextFault, read_text};
+use sim_events::{Engine, EngineFault, is_all_calcs};
 use sim_params::{LogGops, Params};
 use std::alloc::Global;
 
@@ -33,24 +33,15 @@ pub enum Stop {
 }
 
 // The schedule of a text.
-#[tactic(auto, using(crate::proofs::CalcsLemmas::plain_are_calcs))]
 fn read_schedule(alloc: Global, text: &[u8]) -> Result<Sched, Stop>
     requires short { length text.now ≤ 2 ^ 27 }
     ensures read { IfOk result (λ sched. IsReadAs text.now sched) }
-    ensures accepted { IfOk result (λ sched. IsAccepted sched) }
-    ensures calcs { IfOk result (λ sched. IsAllCalcs sched) }
     ensures stop { IfErr result (λ stop. IsStop text.now stop) }
 {
-    let plans = match read_small(alloc, text) {
-        Ok(plans) => plans,
-        Err(SmallFault::Form) => return Err(Stop::Refused(Refusal::Form)),
-        Err(SmallFault::NoMemory) => return Err(Stop::NoMemory),
-    };
-    match Sched::build(alloc, plans) {
+    match read_text(alloc, text) {
         Ok(sched) => Ok(sched),
-        Err(PlanFault::Cycle { rank, op }) => Err(Stop::Refused(Refusal::Cycle { rank, op })),
-        Err(PlanFault::NoMemory) => Err(Stop::NoMemory),
-        Err(_) => unreachable!(),
+        Err(TextFault::NoMemory) => Err(Stop::NoMemory),
+        Err(fault) => Err(Stop::Refused(Refusal::Text(fault))),
     }
 }
 
@@ -82,6 +73,9 @@ pub fn simulate(alloc: Global, text: &[u8]) -> Result<Vec<u8>, Stop>
         Ok(sched) => sched,
         Err(stop) => return Err(stop),
     };
+    if !is_all_calcs(&sched) {
+        return Err(Stop::Refused(Refusal::NotBuilt));
+    }
     match print_run(alloc, &sched) {
         Ok(output) => Ok(output),
         Err(EngineFault::Budget { sum }) => Err(Stop::Refused(Refusal::Budget { sum })),

@@ -93,15 +93,75 @@ fn texts(rt: HostRuntime) -> Result<(), Fail> {
             out: "",
             err: "goal: refused: plan: cycle 0 0\n",
         },
-        Row {
-            text: "num_ranks 1 rank 0 { send 1b to 0 }",
-            status: Status::Refused,
-            out: "",
-            err: "goal: refused: form\n",
-        },
     ];
     for row in &rows {
         check(&rt, rt.alloc(), &["sim", "a"], SOUND, *row)?;
+    }
+    Ok(())
+}
+
+// A text, and the words of its refusal.
+#[derive(Clone, Copy)]
+struct Refused<'a> {
+    text: &'a str,
+    words: &'a str,
+}
+
+#[test]
+fn refusals(rt: HostRuntime) -> Result<(), Fail> {
+    let rows = [
+        Refused {
+            text: "",
+            words: "text: syntax at 0",
+        },
+        Refused {
+            text: "num_ranks 0",
+            words: "text: number at 10",
+        },
+        Refused {
+            text: "num_ranks 1 rank 1 { }",
+            words: "text: rank at 17",
+        },
+        Refused {
+            text: "num_ranks 1 rank 0 { calc 1 } rank 0 { }",
+            words: "text: repeat at 35",
+        },
+        Refused {
+            text: "num_ranks 1 rank 0 { a: calc 1 a requires b }",
+            words: "text: label at 42",
+        },
+        Refused {
+            text: "num_ranks 1 rank 0 { calc 5x }",
+            words: "text: lex at 26",
+        },
+        Refused {
+            text: "num_ranks 1 rank 0 { calc 5b }",
+            words: "text: syntax at 26",
+        },
+        Refused {
+            text: "num_ranks 1 rank 0 { send 1 to 1 }",
+            words: "plan: peer 0 0",
+        },
+        Refused {
+            text: "num_ranks 1 rank 0 { l1: calc 1 l1 moves 0 to 0 }",
+            words: "plan: note 0 0",
+        },
+        Refused {
+            text: "num_ranks 2 rank 0 { l1: send 10b to 1 tag 0 cpu 0 nic 0 } rank 1 { l1: recv 10b from 0 tag 0 cpu 0 nic 0 }",
+            words: "not built",
+        },
+    ];
+    for row in &rows {
+        let mut line = String::from_str(rt.alloc(), "goal: refused: ")?;
+        line.push_str(row.words)?;
+        line.push_str("\n")?;
+        let row = Row {
+            text: row.text,
+            status: Status::Refused,
+            out: "",
+            err: line.as_str(),
+        };
+        check(&rt, rt.alloc(), &["sim", "a"], SOUND, row)?;
     }
     Ok(())
 }

@@ -49,7 +49,7 @@ fn fault_of(count: &mut u64, error: io::Error) -> IoFault
 
 impl<R: Files + Drop> Host for RealHost<R> {
     ghost use Rattle.std.specs.Prelude.{is_some};
-    ghost use Rattle.goal_cli.specs.Real.{untold_host};
+    ghost use Rattle.goal_prog.specs.Real.{untold_host};
 
     ghost state = { λ h. untold_host (is_some h.input) (is_some h.output) h.reads h.absent h.writes };
 
@@ -134,7 +134,7 @@ impl<W: Write> RealSink<W> {
 }
 
 impl<W: Write> Sink for RealSink<W> {
-    ghost use Rattle.goal_cli.specs.Real.{untold_sink};
+    ghost use Rattle.goal_prog.specs.Real.{untold_sink};
 
     ghost state = { λ s. untold_sink s.faults };
 

@@ -1,19 +1,9 @@
-//! `goal`: reads communication schedules and runs them.
-//!
-//! `goal sim NAME` reads a schedule from the file NAME, runs it, and prints when each operation starts and ends.
+//! The program `goal`: the words and devices of the system, handed to the top call of goal_cli.
 #![tactic(auto)]
 
-mod answer;
-mod command;
 mod real;
-mod simulate;
-mod small;
-#[cfg(test)]
-mod tests;
-mod timeline;
 
-use answer::Status;
-use command::goal;
+use goal_cli::{Status, goal};
 use real::{RealHost, RealSink};
 use std::io::ErrorKind;
 use std::process::ExitCode;

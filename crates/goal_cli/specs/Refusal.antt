@@ -1,0 +1,50 @@
+-- The words of refusals.
+use Rattle.std.specs.Prelude.{ℕ, List, [], ◌++◌, codes, decimal}
+use Rattle.goal_graph.specs.declared.fault.PlanFault.{PlanFault}
+use Rattle.goal_graph.specs.declared.fault.PlanFault.TheVariants as plan
+use Rattle.goal_parser.specs.declared.faults.TextFault.{TextFault}
+use Rattle.goal_parser.specs.declared.faults.TextFault.TheVariants as text
+use Rattle.goal_cli.specs.declared.answer.Refusal.{Refusal}
+use Rattle.goal_cli.specs.declared.answer.Refusal.TheVariants as refusal
+use Rattle.goal_cli.specs.Timeline.{line_feed, id_text}
+
+-- words and a place
+abbrev pub at_text : List ℕ → ℕ → List ℕ
+at_text words at = words ++ decimal at
+
+-- words, a rank, and the number of an operation, a dependency or a note of it
+abbrev pub pair_text : List ℕ → ℕ → ℕ → List ℕ
+pair_text words rank number = words ++ id_text (record { rank = rank; op = number })
+
+-- The first rule that plans break. What is read, as a text or as a compiled file, keeps the limits of counts and values,
+-- so their words are never met.
+abbrev pub plan_words : PlanFault → List ℕ
+plan_words (plan.Count found limit) = codes "plan: count"
+plan_words (plan.Value rank op) = pair_text (codes "plan: value ") rank op
+plan_words (plan.Peer rank op) = pair_text (codes "plan: peer ") rank op
+plan_words (plan.DepRange rank dep) = pair_text (codes "plan: dependency ") rank dep
+plan_words (plan.NoteMisfit rank note) = pair_text (codes "plan: note ") rank note
+plan_words (plan.Cycle rank op) = pair_text (codes "plan: cycle ") rank op
+plan_words plan.NoMemory = []
+
+-- the first fault of a text
+abbrev pub text_words : TextFault → List ℕ
+text_words (text.Lex at) = at_text (codes "text: lex at ") at
+text_words (text.Syntax at) = at_text (codes "text: syntax at ") at
+text_words (text.Number at) = at_text (codes "text: number at ") at
+text_words (text.Rank at) = at_text (codes "text: rank at ") at
+text_words (text.Repeat at) = at_text (codes "text: repeat at ") at
+text_words (text.TooMany at) = at_text (codes "text: many at ") at
+text_words (text.UnknownLabel at) = at_text (codes "text: label at ") at
+text_words (text.Plan fault) = plan_words fault
+text_words text.NoMemory = []
+
+abbrev pub refusal_words : Refusal → List ℕ
+refusal_words refusal.TooLong = codes "input longer than 134217728 bytes"
+refusal_words (refusal.Text fault) = text_words fault
+refusal_words refusal.NotBuilt = codes "not built"
+refusal_words (refusal.Budget sum) = codes "budget " ++ decimal sum
+
+-- the line of a refusal
+abbrev pub refused_line : Refusal → List ℕ
+refused_line r = codes "goal: refused: " ++ refusal_words r ++ line_feed

@@ -1,0 +1,84 @@
+// The words of refusals.
+ghost use Rattle.std.specs.Prelude.{◌≡◌, ◌++◌, List, IfOk, OnOk, codes};
+ghost use Rattle.goal_cli.specs.Refusal.{at_text, pair_text, plan_words, text_words, refusal_words, refused_line};
+
+use crate::answer::Refusal;
+use crate::timeline::put_id;
+use goal_base::{NoMemory, TextOut};
+use goal_graph::{OpId, PlanFault};
+use goal_parser::TextFault;
+use std::alloc::Global;
+
+/// The line to `err` of a refusal.
+pub fn refused_line(alloc: Global, refusal: Refusal) -> Result<Vec<u8>, NoMemory>
+    ensures { IfOk result (λ line. line.items ≡ refused_line refusal) }
+{
+    let mut out = TextOut::new(alloc);
+    out.word("goal: refused: ")?;
+    put_refusal(&mut out, refusal)?;
+    out.word("\n")?;
+    Ok(out.into_bytes())
+}
+
+// Appends the words of a refusal.
+fn put_refusal(out: &mut TextOut, refusal: Refusal) -> Result<(), NoMemory>
+    ensures { OnOk result (out.new ≡ out.old ++ refusal_words refusal) }
+{
+    match refusal {
+        Refusal::TooLong => out.word("input longer than 134217728 bytes"),
+        Refusal::Text(fault) => put_text_fault(out, fault),
+        Refusal::NotBuilt => out.word("not built"),
+        Refusal::Budget { sum } => {
+            out.word("budget ")?;
+            out.number(sum)
+        }
+    }
+}
+
+// Appends the words of the fault of a text.
+fn put_text_fault(out: &mut TextOut, fault: TextFault) -> Result<(), NoMemory>
+    ensures { OnOk result (out.new ≡ out.old ++ text_words fault) }
+{
+    match fault {
+        TextFault::Lex { at } => put_at(out, "text: lex at ", at),
+        TextFault::Syntax { at } => put_at(out, "text: syntax at ", at),
+        TextFault::Number { at } => put_at(out, "text: number at ", at),
+        TextFault::Rank { at } => put_at(out, "text: rank at ", at),
+        TextFault::Repeat { at } => put_at(out, "text: repeat at ", at),
+        TextFault::TooMany { at } => put_at(out, "text: many at ", at),
+        TextFault::UnknownLabel { at } => put_at(out, "text: label at ", at),
+        TextFault::Plan(fault) => put_plan_fault(out, fault),
+        TextFault::NoMemory => Ok(()),
+    }
+}
+
+// Appends the words of the first rule that plans break.
+fn put_plan_fault(out: &mut TextOut, fault: PlanFault) -> Result<(), NoMemory>
+    ensures { OnOk result (out.new ≡ out.old ++ plan_words fault) }
+{
+    match fault {
+        PlanFault::Count { .. } => out.word("plan: count"),
+        PlanFault::Value { rank, op } => put_pair(out, "plan: value ", rank, op),
+        PlanFault::Peer { rank, op } => put_pair(out, "plan: peer ", rank, op),
+        PlanFault::DepRange { rank, dep } => put_pair(out, "plan: dependency ", rank, dep),
+        PlanFault::NoteMisfit { rank, note } => put_pair(out, "plan: note ", rank, note),
+        PlanFault::Cycle { rank, op } => put_pair(out, "plan: cycle ", rank, op),
+        PlanFault::NoMemory => Ok(()),
+    }
+}
+
+// Appends words and a place.
+fn put_at(out: &mut TextOut, words: &str, at: u64) -> Result<(), NoMemory>
+    ensures { OnOk result (out.new ≡ out.old ++ at_text words.now at) }
+{
+    out.word(words)?;
+    out.number(u128::from(at))
+}
+
+// Appends words, a rank, and the number of an operation, a dependency or a note of it.
+fn put_pair(out: &mut TextOut, words: &str, rank: u32, number: u32) -> Result<(), NoMemory>
+    ensures { OnOk result (out.new ≡ out.old ++ pair_text words.now rank number) }
+{
+    out.word(words)?;
+    put_id(out, OpId { rank, op: number })
+}
