@@ -1,7 +1,9 @@
 -- One call of a device after another.
-use Rattle.std.proofs.Common.{◌≡◌, ℕ, ◌+◌, true, List, ◌++◌, take, drop, sym, ap, ◌∙◌, append_assoc}
+use Rattle.std.proofs.Common.{◌≡◌, ℕ, ◌+◌, true, List, ◌++◌, take, drop, Option, Some, sym, ap, ◌∙◌, append_assoc}
+use Rattle.std.specs.FinMap.{get, insert}
 use Rattle.std.proofs.Math.Seq.{take-add}
-use Rattle.goal_base.specs.Device.{HostState, SinkState, Takes, Grows, SameRest}
+use Rattle.goal_base.specs.Device.{HostState, SinkState, Files, file_of, Takes, Writes, Grows, SameRest, Holds, appended_to}
+use Rattle.goal_base.proofs.FilesLemmas.{get_inserted, appended_to_inserted}
 
 -- taken from the rest, and then more of it
 pub takes_more : (a b c : HostState) (xs ys : List ℕ) → Takes a b xs → b.tells ≡ a.tells
@@ -23,4 +25,21 @@ grows_more a b c piece left n k first same is more = record {
   told = λ t. more.told (same ∙ t) ∙ ap (λ (l : List ℕ). l ++ take k left) (first.told t)
       ∙ append_assoc a.bytes (take n piece) (take k left)
       ∙ ap (λ (l : List ℕ). a.bytes ++ (take n piece ++ take k l)) is ∙ ap (λ (l : List ℕ). a.bytes ++ l) (sym (take-add n k piece));
+}
+
+-- the file of that name is what was written
+pub file_held : (a b : HostState) (name bytes : List ℕ) → Holds a b name bytes → a.tells ≡ true
+    → file_of b name ≡ Some bytes
+file_held a b name bytes held t = ap (λ (f : Files). get f name) (held.told t) ∙ get_inserted a.files name bytes
+
+-- the first bytes of a file, and then more of what was left of it
+pub holds_more : (a b c : HostState) (name bytes left : List ℕ) (n k : ℕ) → Holds a b name (take n bytes)
+    → (a.tells ≡ true → b.output ≡ Some name) → b.tells ≡ a.tells → left ≡ drop n bytes → Writes b c (take k left)
+    → Holds a c name (take (n + k) bytes)
+holds_more a b c name bytes left n k first output same is more = record {
+  told = λ t. more.files (same ∙ t) ∙ ap (λ (o : Option (List ℕ)). appended_to o b.files (take k left)) (output t)
+      ∙ ap (λ (f : Files). appended_to (Some name) f (take k left)) (first.told t)
+      ∙ appended_to_inserted a.files name (take n bytes) (take k left)
+      ∙ ap (λ (l : List ℕ). insert a.files name (take n bytes ++ take k l)) is
+      ∙ ap (λ (l : List ℕ). insert a.files name l) (sym (take-add n k bytes));
 }

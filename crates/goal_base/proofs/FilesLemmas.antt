@@ -11,7 +11,7 @@ use Rattle.std.specs.BTreeMap.{BTreeMap, is_at, UpdatesBy, get_by_text}
 use Rattle.std.specs.FinMap.{get_tied, get, insert, empty, same_map, get-insert, get-from_entries, find, nat_cmp-IsAntisymmetric, slice_cmp-IsAntisymmetric}
 use Rattle.std.proofs.lemmas.Bool.{false≢true}
 use Rattle.std.proofs.lemmas.Map.Text.{btree_map_updates_text, is_eq-slice_cmp}
-use Rattle.goal_base.specs.Device.{Files, grown}
+use Rattle.goal_base.specs.Device.{Files, grown, appended_to}
 use Rattle.goal_base.specs.NamedFiles.{files_of}
 
 abbrev Entries : Type 0
@@ -68,6 +68,31 @@ at_name m name v q is false e = refl
 -- what is there already
 pub insert_same : (m : Files) (name v : List ℕ) → get m name ≡ Some v → insert m name v ≡ m
 insert_same m name v is = same_files _ _ (λ q. get-insert nat_list_cmp_total m name v q ∙ at_name m name v q is _ refl)
+
+-- what was just inserted
+pub get_inserted : (m : Files) (name v : List ℕ) → get (insert m name v) name ≡ Some v
+get_inserted m name v =
+    get-insert nat_list_cmp_total m name v name
+    ∙ ap (λ (b : Bool). cond b (Some v) (get m name)) ((eq_by_cmp_equiv nat_list_cmp_total).refl name)
+
+cond_twice : (b : Bool) (x y z : Option (List ℕ)) → cond b x (cond b y z) ≡ cond b x z
+cond_twice true x y z = refl
+cond_twice false x y z = refl
+
+-- the later of two values stays
+pub insert_twice : (m : Files) (name v w : List ℕ) → insert (insert m name v) name w ≡ insert m name w
+insert_twice m name v w = same_files _ _ (λ q.
+    get-insert nat_list_cmp_total (insert m name v) name w q
+    ∙ ap (cond (eq_by_cmp (slice_cmp nat_cmp) q name) (Some w)) (get-insert nat_list_cmp_total m name v q)
+    ∙ cond_twice (eq_by_cmp (slice_cmp nat_cmp) q name) (Some w) (Some v) (get m q)
+    ∙ sym (get-insert nat_list_cmp_total m name w q))
+
+-- bytes at the end of an output that holds others
+pub appended_to_inserted : (m : Files) (name old bytes : List ℕ)
+    → appended_to (Some name) (insert m name old) bytes ≡ insert m name (old ++ bytes)
+appended_to_inserted m name old bytes =
+    ap (λ (o : Option (List ℕ)). grown o (insert m name old) name bytes) (get_inserted m name old)
+    ∙ insert_twice m name old (old ++ bytes)
 
 -- a value that grew
 pub files_of-append : (m n : Map) (name : List ℕ) (old new : Vec ℕ Global) (piece : List ℕ) → get_by_text m name ≡ Some old

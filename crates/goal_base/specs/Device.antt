@@ -1,5 +1,5 @@
 -- What a program sees of the outside: a host with files, and sinks that take bytes.
-use Rattle.std.specs.Prelude.{◌≡◌, ◌⊎◌, ℕ, ◌+◌, ◌-◌, ◌^◌, ◌<◌, ◌≤◌, min, Bool, true, false, List, [], ◌++◌, length, Option, Some, None}
+use Rattle.std.specs.Prelude.{◌≡◌, ◌⊎◌, ℕ, ◌+◌, ◌-◌, ◌^◌, ◌<◌, ◌≤◌, min, Bool, true, false, List, [], ◌++◌, length, take, Option, Some, None}
 use Rattle.std.specs.Ordering.{nat_cmp}
 use Rattle.std.specs.Cmp.Lexicographic.{slice_cmp}
 use Rattle.std.specs.FinMap.{FinMap, get, insert}
@@ -106,6 +106,14 @@ appended_to (Some name) files bytes = grown (get files name) files name bytes
 pub record Writes (old new : HostState) (bytes : List ℕ) : Type 0 where
   pub files : old.tells ≡ true → new.files ≡ appended_to old.output old.files bytes
   pub output : old.tells ≡ true → new.output ≡ old.output
+
+-- the file of that name holds these bytes, and every other file is as it was
+pub record Holds (old new : HostState) (name bytes : List ℕ) : Type 0 where
+  pub told : old.tells ≡ true → new.files ≡ insert old.files name bytes
+
+-- the files are as they were, or that of the name holds the first of these bytes and every other is as it was
+abbrev pub HoldsPart : HostState → HostState → List ℕ → List ℕ → Type 0
+HoldsPart old new name bytes = SameFiles old new ⊎ ((n : ℕ) × (n ≤ length bytes) × Holds old new name (take n bytes))
 
 -- the sink holds what it held, and then these bytes
 pub record Grows (old new : SinkState) (bytes : List ℕ) : Type 0 where

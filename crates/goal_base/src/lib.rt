@@ -1,5 +1,5 @@
 //! The outside of `goal`: its limits, the traits of a host with files and of a sink, reading a file whole,
-//! writing a piece whole, and text that is made piece by piece.
+//! writing a piece or a file whole, and text that is made piece by piece.
 #![tactic(auto)]
 
 mod calls;
@@ -8,6 +8,7 @@ mod files;
 mod limits;
 mod mem_host;
 mod mem_sink;
+mod output;
 mod read;
 mod text;
 mod write;
@@ -19,6 +20,7 @@ pub use limits::{
 };
 pub use mem_host::MemHost;
 pub use mem_sink::MemSink;
+pub use output::write_file;
 pub use read::{ReadAll, read_all};
 pub use text::TextOut;
 pub use write::{WriteStop, write_all};

@@ -75,3 +75,32 @@ fn words_and_numbers(rt: HostRuntime) -> Result<(), Fail> {
     );
     Ok(())
 }
+
+#[test]
+fn a_file_is_written_whole(rt: HostRuntime) -> Result<(), Fail> {
+    let alloc = rt.alloc();
+    let mut host = MemHost::new(alloc, 4, &[])?;
+    host.add("a", TEXT)?;
+    host.add("b", b"another")?;
+    write_file(&mut host, "a", b"numbers")?;
+    assert_eq!(rt;
+        read_all(alloc, &mut host, "a")?.as_slice(),
+        b"numbers".as_slice()
+    );
+    assert_eq!(rt;
+        read_all(alloc, &mut host, "b")?.as_slice(),
+        b"another".as_slice()
+    );
+    Ok(())
+}
+
+#[test]
+fn a_file_is_cut_off(rt: HostRuntime) -> Result<(), Fail> {
+    let alloc = rt.alloc();
+    let mut host = MemHost::new(alloc, 4, &[3])?;
+    let answer = write_file(&mut host, "a", b"numbers");
+    assert_eq!(rt; answer, Err(IoFault::Failed));
+    let file = host.file("a").ok_or("no file")?;
+    assert_eq!(rt; file, b"numb".as_slice());
+    Ok(())
+}
