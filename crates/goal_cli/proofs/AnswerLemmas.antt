@@ -1,17 +1,20 @@
 -- What follows from the table of causes.
-use Rattle.std.proofs.Common.{◌≡◌, ℕ, ◌⊎◌, true, List, length, Option, Some, None, inl, inr, arith}
+use Rattle.std.proofs.Common.{◌≡◌, ◌≢◌, ℕ, ◌<◌, ◌⊎◌, Bool, true, false, List, length, Option, Some, None, IfSome, IsSomeAnd, inl, inr, refl, sym, ap, arith}
 use Rattle.std.proofs.Math.Seq.{take-length}
-use Rattle.goal_base.specs.Device.{HostState, SinkState, Rose, Grows, file_of, ReadFaulted}
+use Rattle.goal_base.specs.Device.{HostState, SinkState, Held, Grows, file_of, ReadFaulted, SameReadCounts}
+use Rattle.goal_graph.specs.Schedule.{Plan}
+use Rattle.sim_params.specs.Costs.{Numbers, log_gops}
+use Rattle.goal_words.specs.Words.{Command, Sim, Compile, Show}
 use Rattle.goal_cli.specs.declared.answer.Answer.{Answer}
 use Rattle.goal_cli.specs.declared.answer.Answer.TheVariants as answer
 use Rattle.goal_cli.specs.declared.answer.Refusal.{Refusal}
 use Rattle.goal_cli.specs.declared.answer.Status.{Status}
 use Rattle.goal_cli.specs.declared.answer.Status.TheVariants as status
-use Rattle.goal_cli.specs.Answer.{Says, GrowsByPart, GetsRun, GetsPartOfRun, ForInput, ForFile, IfInput, ReadsHeld, WritesHeld, AnswersWith, IsCause, IsAnswered, line_for}
+use Rattle.goal_cli.specs.Output.{IsRefused, HasRun, HasOutput}
 use Rattle.goal_cli.specs.Refusal.{refused_line}
-use Rattle.goal_graph.specs.Schedule.{Plan}
-use Rattle.goal_cli.specs.Simulated.{HasSchedule, IsRefused}
-use Rattle.goal_cli.proofs.RefusalLemmas.{same_refusal, no_refusal}
+use Rattle.goal_cli.specs.Answer.{input_of, ForFile, IfFile, ForInput, IfInput, GrowsByPart, ReadsHeld, Gets, GetsPart, Elsewhere, WritesRose, WritesHeld, GetsOutput, GetsPartOfOutput, AnswersWhole, PrintsRun, IsUntouched, IsWritten, IsCutOff, IsCauseOf, IsCauseOfNone, IsCause, line_for, status_of, Answers, AnswersWith, IsSilent, Says, IsAnswered}
+use Rattle.goal_cli.proofs.InputLemmas.{same_schedule}
+use Rattle.goal_cli.proofs.RefusalLemmas.{same_refusal, no_refusal, output_had}
 
 -- all of a line is a prefix of it
 pub all_is_part : (old new : SinkState) (bytes : List ℕ) → Grows old new bytes → GrowsByPart old new bytes
@@ -29,98 +32,337 @@ pub answered : (old new : SinkState) (s t : Status) (line : List ℕ)
 answered old new s t line (inl said) = inl said
 answered old new s t line (inr none) = inr (none.0, inl none.1)
 
--- where NAME's bytes have got their printed run to the sink, a part of it is there
-part_of_run : (name : Option (List ℕ)) (host : HostState) (out out' : SinkState) → ForInput name host (GetsRun out out')
-    → ForInput name host (GetsPartOfRun out out')
-part_of_run None host out out' got = got
-part_of_run (Some n) host out out' got =
-    λ told.
-    let g = got told in
-    (g.0, g.1, (g.2.0, g.2.1, all_is_part out out' g.2.0 g.2.2))
-
--- whatever the answer, the sink got nothing or a part of the printed run
-pub part_or_none : (name : Option (List ℕ)) (host host' : HostState) (out out' : SinkState) (a : Answer) → IsCause name host host' out out' a
-    → IsCause name host host' out out' answer.NoMemory
-part_or_none name host host' out out' answer.Done cause = inr (part_of_run name host out out' cause.0)
-part_or_none name host host' out out' answer.BadLine cause = inl cause.2
-part_or_none name host host' out out' (answer.Refused r) cause = inl cause.2
-part_or_none name host host' out out' answer.ReadFault cause = inl cause.1
-part_or_none name host host' out out' answer.WriteFault cause = inr cause.0
-part_or_none name host host' out out' answer.NoMemory cause = cause
-
--- where the status is want of memory, a part of the line of an answer was said: that of want of memory, or of the
--- answer that it came in place of
-pub part_said : (name : Option (List ℕ)) (host host' : HostState) (out out' err err' : SinkState) (a : Answer) (s : Status)
-    → IsCause name host host' out out' a → IsAnswered err err' a s → s ≡ status.NoMemory
-    → (b : Answer) × IsCause name host host' out out' b × GrowsByPart err err' (line_for b)
-part_said name host host' out out' err err' a s cause (inr (e, inl part)) none = (a, cause, part)
-part_said name host host' out out' err err' a s cause (inr (e, inr part)) none =
-    (answer.NoMemory, part_or_none name host host' out out' a cause, part)
-part_said name host host' out out' err err' answer.Done s cause (inl (e, told)) none = cc
-part_said name host host' out out' err err' answer.BadLine s cause (inl (e, told)) none = cc
-part_said name host host' out out' err err' (answer.Refused r) s cause (inl (e, told)) none = cc
-part_said name host host' out out' err err' answer.ReadFault s cause (inl (e, told)) none = cc
-part_said name host host' out out' err err' answer.WriteFault s cause (inl (e, told)) none = cc
-part_said name host host' out out' err err' answer.NoMemory s cause (inl (e, told)) none = (answer.NoMemory, cause, told)
-
 -- a name has one file
-same_file : (host : HostState) (name text other : List ℕ) → file_of host name ≡ Some text → file_of host name ≡ Some other → other ≡ text
-same_file host name text other a b = cc
+same_file : (host : HostState) (name input other : List ℕ) → file_of host name ≡ Some input → file_of host name ≡ Some other → other ≡ input
+same_file host name input other a b = cc
 
--- what got its printed run, or a part of it, is not refused
-run_not_refused : (host : HostState) (name text : List ℕ) (r : Refusal) (out out' : SinkState) → host.tells ≡ true
-    → file_of host name ≡ Some text → IsRefused text r → ForFile host name (GetsPartOfRun out out') → ⊥
-run_not_refused host name text r out out' told file refused got =
-    let g = got told in
-    no_refusal text _ r (rw (same_file host name text g.0 file g.1) at g.2.1.schedule) refused
+module _ (host host' : HostState) (out out' : SinkState) where
+  -- what was written whole was written in part
+  whole_is_part : (c : Command) (bytes : List ℕ) → Gets host host' out out' c bytes → GetsPart host host' out out' c bytes
+  whole_is_part (Sim name numbers) bytes got = all_is_part out out' bytes got
+  whole_is_part (Compile name file) bytes got = inr (length bytes, omega arith, rw (take-length bytes) got)
+  whole_is_part (Show name) bytes got = all_is_part out out' bytes got
 
-held_reads : (old new : HostState) (name text : List ℕ) → old.tells ≡ true → file_of old name ≡ Some text → ReadsHeld old new
-    → ReadFaulted old new name → ⊥
-held_reads old new name text told file held (inl rose) = omega arith
-held_reads old new name text told file held (inr absent) = let none = absent.1 told in cc
+  part_of_output : (stuck : Bool) (c : Command) → ForFile host (input_of c) (GetsOutput host host' out out' stuck c)
+      → ForFile host (input_of c) (GetsPartOfOutput host host' out out' c)
+  part_of_output stuck c got =
+      λ told.
+      let g = got told in
+      (g.0, g.1, (g.2.0, (stuck, g.2.1), whole_is_part c g.2.0 g.2.2))
 
--- an input that is refused gets its refusal's line
-pub refused_as : (name : Option (List ℕ)) (host host' : HostState) (out out' err err' : SinkState) (a : Answer) (s : Status)
-    → IsCause name host host' out out' a → IsAnswered err err' a s
-    → IfInput name host (λ text. (r : Refusal) → IsRefused text r → ReadsHeld host host' → AnswersWith s status.Refused (Says err err' (refused_line r)))
-refused_as None host host' out out' err err' a s cause told = tt
-refused_as (Some n) host host' out out' err err' a s cause (inr (e, part)) = λ tells text file r refused held. inr e
-refused_as (Some n) host host' out out' err err' answer.Done s cause (inl (e, told)) =
-    λ tells text file r refused held.
-    absurd (run_not_refused host n text r out out' tells file refused (part_of_run (Some n) host out out' cause.0))
-refused_as (Some n) host host' out out' err err' answer.BadLine s cause (inl (e, told)) = cc
-refused_as (Some n) host host' out out' err err' (answer.Refused q) s cause (inl (e, told)) =
-    λ tells text file r refused held.
-    let k = cause.0 tells in
-    let same = same_refusal text r q refused (rw (same_file host n text k.0 file k.1) at k.2) in
-    inl (e, rw same told)
-refused_as (Some n) host host' out out' err err' answer.ReadFault s cause (inl (e, told)) =
-    λ tells text file r refused held. absurd (held_reads host host' n text tells file held cause.0)
-refused_as (Some n) host host' out out' err err' answer.WriteFault s cause (inl (e, told)) =
-    λ tells text file r refused held. absurd (run_not_refused host n text r out out' tells file refused cause.0)
-refused_as (Some n) host host' out out' err err' answer.NoMemory s cause (inl (e, told)) = λ tells text file r refused held. inr e
+  cut_off : (stuck : Bool) (c : Command) → IsWritten host host' out out' stuck c → IsCutOff host host' out out' c
+  cut_off stuck c w = record { output = part_of_output stuck c w.output; reads = w.reads; elsewhere = w.elsewhere }
 
-held_writes : (old new : SinkState) → WritesHeld old new → Rose old.stops old.count new.count → ⊥
-held_writes old new held rose = omega arith
+  -- whatever the answer, nothing was written or a part of the output
+  any_of : (c : Command) (a : Answer) → IsCauseOf host host' out out' c a → IsCauseOf host host' out out' c answer.NoMemory
+  any_of c answer.Done cause = inr (cut_off false c cause)
+  any_of c answer.Stuck cause = inr (cut_off true c cause)
+  any_of c answer.BadLine cause = absurd cause
+  any_of c (answer.Refused r) cause = inl cause.2
+  any_of c answer.ReadFault cause = inl cause.1
+  any_of c answer.WriteFault cause = inr cause.0
+  any_of c answer.NoMemory cause = cause
 
--- an input that has a schedule gets its printed run, unless a device fails
-pub ran_as : (name : Option (List ℕ)) (host host' : HostState) (out out' err err' : SinkState) (a : Answer) (s : Status)
-    → IsCause name host host' out out' a → IsAnswered err err' a s
-    → IfInput name host
-    (λ text. (sched : List Plan) → HasSchedule text sched → ReadsHeld host host' → WritesHeld out out' → AnswersWith s status.Done (GetsRun out out' text))
-ran_as None host host' out out' err err' a s cause told = tt
-ran_as (Some n) host host' out out' err err' a s cause (inr (e, part)) = λ tells text file sched has reads writes. inr e
-ran_as (Some n) host host' out out' err err' answer.Done s cause (inl (e, told)) =
-    λ tells text file sched has reads writes.
-    let k = cause.0 tells in
-    inl (e, rw (same_file host n text k.0 file k.1) at k.2)
-ran_as (Some n) host host' out out' err err' answer.BadLine s cause (inl (e, told)) = cc
-ran_as (Some n) host host' out out' err err' (answer.Refused q) s cause (inl (e, told)) =
-    λ tells text file sched has reads writes.
-    let k = cause.0 tells in
-    absurd (no_refusal text sched q has (rw (same_file host n text k.0 file k.1) at k.2))
-ran_as (Some n) host host' out out' err err' answer.ReadFault s cause (inl (e, told)) =
-    λ tells text file sched has reads writes. absurd (held_reads host host' n text tells file reads cause.0)
-ran_as (Some n) host host' out out' err err' answer.WriteFault s cause (inl (e, told)) =
-    λ tells text file sched has reads writes. absurd (held_writes out out' writes cause.2)
-ran_as (Some n) host host' out out' err err' answer.NoMemory s cause (inl (e, told)) = λ tells text file sched has reads writes. inr e
+  any_of_none : (a : Answer) → IsCauseOfNone host host' out out' a → IsCauseOfNone host host' out out' answer.NoMemory
+  any_of_none answer.BadLine cause = cause
+  any_of_none answer.NoMemory cause = cause
+  any_of_none answer.Done cause = absurd cause
+  any_of_none answer.Stuck cause = absurd cause
+  any_of_none (answer.Refused r) cause = absurd cause
+  any_of_none answer.ReadFault cause = absurd cause
+  any_of_none answer.WriteFault cause = absurd cause
+
+  any : (command : Option Command) (a : Answer) → IsCause host host' out out' command a → IsCause host host' out out' command answer.NoMemory
+  any None a cause = any_of_none a cause
+  any (Some c) a cause = any_of c a cause
+
+  no_memory_part : (c : Command) → IsCauseOf host host' out out' c answer.NoMemory
+      → IsUntouched host host' out out' ⊎ ForFile host (input_of c) (GetsPartOfOutput host host' out out' c)
+  no_memory_part c (inl untouched) = inl untouched
+  no_memory_part c (inr cut) = inr cut.output
+
+  pub part_or_none : (command : Option Command) (a : Answer) → IsCause host host' out out' command a
+      → IsUntouched host host' out out' ⊎ ForInput command host (GetsPartOfOutput host host' out out')
+  part_or_none None a cause = inl (any_of_none a cause).1
+  part_or_none (Some c) a cause = no_memory_part c (any_of c a cause)
+
+  elsewhere_untouched : (c : Command) → IsUntouched host host' out out' → Elsewhere host host' out out' c
+  elsewhere_untouched (Sim name numbers) u = u.files
+  elsewhere_untouched (Compile name file) u = u.sink
+  elsewhere_untouched (Show name) u = u.files
+
+  no_memory_elsewhere : (c : Command) → IsCauseOf host host' out out' c answer.NoMemory → Elsewhere host host' out out' c
+  no_memory_elsewhere c (inl untouched) = elsewhere_untouched c untouched
+  no_memory_elsewhere c (inr cut) = cut.elsewhere
+
+  -- where the command doesn't write, all is as it was
+  pub kept_elsewhere : (command : Option Command) (a : Answer) → IsCause host host' out out' command a
+      → IfSome command (Elsewhere host host' out out')
+  kept_elsewhere None a cause = tt
+  kept_elsewhere (Some c) a cause = no_memory_elsewhere c (any_of c a cause)
+
+  -- where the status is want of memory, a part of the line of an answer was said: that of want of memory, or of the
+  -- answer that it came in place of
+  pub part_said : (command : Option Command) (err err' : SinkState) (a : Answer) (s : Status) → IsCause host host' out out' command a
+      → IsAnswered err err' a s → s ≡ status.NoMemory
+      → (b : Answer) × IsCause host host' out out' command b × GrowsByPart err err' (line_for b)
+  part_said command err err' a s cause (inr (e, inl part)) none = (a, cause, part)
+  part_said command err err' a s cause (inr (e, inr part)) none = (answer.NoMemory, any command a cause, part)
+  part_said command err err' answer.Done s cause (inl (e, told)) none = cc
+  part_said command err err' answer.Stuck s cause (inl (e, told)) none = cc
+  part_said command err err' answer.BadLine s cause (inl (e, told)) none = cc
+  part_said command err err' (answer.Refused r) s cause (inl (e, told)) none = cc
+  part_said command err err' answer.ReadFault s cause (inl (e, told)) none = cc
+  part_said command err err' answer.WriteFault s cause (inl (e, told)) none = cc
+  part_said command err err' answer.NoMemory s cause (inl (e, told)) none = (answer.NoMemory, cause, told)
+
+  -- what was written, or a part of it, is not refused
+  not_refused : (c : Command) (input : List ℕ) (r : Refusal) → host.tells ≡ true → file_of host (input_of c) ≡ Some input
+      → IsRefused c input r → ForFile host (input_of c) (GetsPartOfOutput host host' out out' c) → ⊥
+  not_refused c input r told file refused got =
+      let g = got told in
+      let had = output_had c g.0 g.2.0 g.2.1.0 g.2.1.1 in
+      no_refusal c g.0 had.0 r had.1 (rw (sym (same_file host (input_of c) input g.0 file g.1)) at refused)
+
+  held_reads : (name input : List ℕ) → host.tells ≡ true → file_of host name ≡ Some input → ReadsHeld host host' → ReadFaulted host host' name → ⊥
+  held_reads name input told file held (inl rose) = omega arith
+  held_reads name input told file held (inr absent) = let none = absent.1 told in cc
+
+  held_writes : (c : Command) → WritesHeld host host' out out' c → WritesRose host host' out out' c → ⊥
+  held_writes (Sim name numbers) held rose = omega arith
+  held_writes (Compile name file) held rose = omega arith
+  held_writes (Show name) held rose = omega arith
+
+  -- an input that is refused gets its refusal's line
+  refused_by : (c : Command) (err err' : SinkState) (a : Answer) (s : Status) → IsCauseOf host host' out out' c a → IsAnswered err err' a s
+      → IfFile host (input_of c)
+      (λ input. (r : Refusal) → IsRefused c input r → ReadsHeld host host' → AnswersWith s status.Refused (Says err err' (refused_line r)))
+  refused_by c err err' a s cause (inr (e, part)) = λ tells input file r refused held. inr e
+  refused_by c err err' answer.Done s cause (inl (e, told)) =
+      λ tells input file r refused held. absurd (not_refused c input r tells file refused (part_of_output false c cause.output))
+  refused_by c err err' answer.Stuck s cause (inl (e, told)) =
+      λ tells input file r refused held. absurd (not_refused c input r tells file refused (part_of_output true c cause.output))
+  refused_by c err err' answer.BadLine s cause (inl (e, told)) = absurd cause
+  refused_by c err err' (answer.Refused q) s cause (inl (e, told)) =
+      λ tells input file r refused held.
+      let k = cause.0 tells in
+      let same = same_refusal c input r q refused (rw (same_file host (input_of c) input k.0 file k.1) at k.2) in
+      inl (e, rw same told)
+  refused_by c err err' answer.ReadFault s cause (inl (e, told)) =
+      λ tells input file r refused held. absurd (held_reads (input_of c) input tells file held cause.0)
+  refused_by c err err' answer.WriteFault s cause (inl (e, told)) =
+      λ tells input file r refused held. absurd (not_refused c input r tells file refused cause.0.output)
+  refused_by c err err' answer.NoMemory s cause (inl (e, told)) = λ tells input file r refused held. inr e
+
+  pub refused_as : (command : Option Command) (err err' : SinkState) (a : Answer) (s : Status) → IsCause host host' out out' command a
+      → IsAnswered err err' a s
+      → IfInput command host
+      (λ c input. (r : Refusal) → IsRefused c input r → ReadsHeld host host' → AnswersWith s status.Refused (Says err err' (refused_line r)))
+  refused_as None err err' a s cause told = tt
+  refused_as (Some c) err err' a s cause told = refused_by c err err' a s cause told
+
+  -- an input of which the command makes something has it written whole
+  written_by : (c : Command) (err err' : SinkState) (a : Answer) (s : Status) → IsCauseOf host host' out out' c a → IsAnswered err err' a s
+      → IfFile host (input_of c)
+      (λ input. (sched : List Plan) → HasOutput c input sched → ReadsHeld host host' → WritesHeld host host' out out' c
+      → AnswersWhole host host' out out' s c input)
+  written_by c err err' a s cause (inr (e, part)) = λ tells input file sched has reads writes. inr e
+  written_by c err err' answer.Done s cause (inl (e, told)) =
+      λ tells input file sched has reads writes.
+      let k = cause.output tells in
+      inl (false, e, rw (same_file host (input_of c) input k.0 file k.1) at k.2)
+  written_by c err err' answer.Stuck s cause (inl (e, told)) =
+      λ tells input file sched has reads writes.
+      let k = cause.output tells in
+      inl (true, e, rw (same_file host (input_of c) input k.0 file k.1) at k.2)
+  written_by c err err' answer.BadLine s cause (inl (e, told)) = absurd cause
+  written_by c err err' (answer.Refused q) s cause (inl (e, told)) =
+      λ tells input file sched has reads writes.
+      let k = cause.0 tells in
+      absurd (no_refusal c input sched q has (rw (same_file host (input_of c) input k.0 file k.1) at k.2))
+  written_by c err err' answer.ReadFault s cause (inl (e, told)) =
+      λ tells input file sched has reads writes. absurd (held_reads (input_of c) input tells file reads cause.0)
+  written_by c err err' answer.WriteFault s cause (inl (e, told)) =
+      λ tells input file sched has reads writes. absurd (held_writes c writes cause.1)
+  written_by c err err' answer.NoMemory s cause (inl (e, told)) = λ tells input file sched has reads writes. inr e
+
+  pub written_whole : (command : Option Command) (err err' : SinkState) (a : Answer) (s : Status) → IsCause host host' out out' command a
+      → IsAnswered err err' a s
+      → IfInput command host
+      (λ c input. (sched : List Plan) → HasOutput c input sched → ReadsHeld host host' → WritesHeld host host' out out' c
+      → AnswersWhole host host' out out' s c input)
+  written_whole None err err' a s cause told = tt
+  written_whole (Some c) err err' a s cause told = written_by c err err' a s cause told
+
+  -- the printed run of what the input says
+  printed_run : (p : Numbers) (name input : List ℕ) (sched : List Plan) (s : Status) → HasRun p input sched
+      → AnswersWhole host host' out out' s (Sim name p) input → PrintsRun s out out' (log_gops p) sched
+  printed_run p name input sched s has (inr e) = inr e
+  printed_run p name input sched s has (inl (stuck, e, (output, simulated, got))) =
+      inl (output, (stuck, rw (same_schedule input _ _ simulated.schedule.read has.read) at simulated.run, e), got)
+
+  pub run_printed : (command : Option Command) (err err' : SinkState) (a : Answer) (s : Status) → IsCause host host' out out' command a
+      → IsAnswered err err' a s
+      → (name : List ℕ) (p : Numbers) → command ≡ Some (Sim name p)
+      → IfFile host name
+      (λ input. (sched : List Plan) → HasRun p input sched → ReadsHeld host host' → Held out.stops out.count out'.count
+      → PrintsRun s out out' (log_gops p) sched)
+  run_printed command err err' a s cause told name p is =
+      λ tells input file sched has reads writes.
+      printed_run p name input sched s has
+      (written_by (Sim name p) err err' a s (rw is at cause) told tells input file sched has reads writes)
+
+  -- the counts of reading rose at a fault of reading alone, those of writing at a fault of writing, but for want of memory
+  reads_kept_by : (c : Command) (a : Answer) → IsCauseOf host host' out out' c a
+      → SameReadCounts host host' ⊎ (a ≡ answer.ReadFault) ⊎ (a ≡ answer.NoMemory)
+  reads_kept_by c answer.Done cause = inl cause.reads
+  reads_kept_by c answer.Stuck cause = inl cause.reads
+  reads_kept_by c answer.BadLine cause = absurd cause
+  reads_kept_by c (answer.Refused r) cause = inl cause.1
+  reads_kept_by c answer.ReadFault cause = inr (inl refl)
+  reads_kept_by c answer.WriteFault cause = inl cause.0.reads
+  reads_kept_by c answer.NoMemory cause = inr (inr refl)
+
+  reads_kept : (command : Option Command) (a : Answer) → IsCause host host' out out' command a
+      → SameReadCounts host host' ⊎ (a ≡ answer.ReadFault) ⊎ (a ≡ answer.NoMemory)
+  reads_kept None a cause = inl (any_of_none a cause).0
+  reads_kept (Some c) a cause = reads_kept_by c a cause
+
+  -- neither count of writing has changed
+  record SameWriteCounts : Type 0 where
+    sink : out'.count ≡ out.count
+    files : host'.write_count ≡ host.write_count
+
+  same_counts : IsUntouched host host' out out' → SameWriteCounts
+  same_counts u = record { sink = ap (λ (s : SinkState). s.count) u.sink; files = u.files.write_count }
+
+  written_counts : (stuck : Bool) (c : Command) → IsWritten host host' out out' stuck c → SameWriteCounts
+  written_counts stuck (Sim name numbers) w = record { sink = w.writes; files = w.elsewhere.write_count }
+  written_counts stuck (Compile name file) w = record { sink = ap (λ (s : SinkState). s.count) w.elsewhere; files = w.writes.0 }
+  written_counts stuck (Show name) w = record { sink = w.writes; files = w.elsewhere.write_count }
+
+  writes_kept_by : (c : Command) (a : Answer) → IsCauseOf host host' out out' c a
+      → SameWriteCounts ⊎ (a ≡ answer.WriteFault) ⊎ (a ≡ answer.NoMemory)
+  writes_kept_by c answer.Done cause = inl (written_counts false c cause)
+  writes_kept_by c answer.Stuck cause = inl (written_counts true c cause)
+  writes_kept_by c answer.BadLine cause = absurd cause
+  writes_kept_by c (answer.Refused r) cause = inl (same_counts cause.2)
+  writes_kept_by c answer.ReadFault cause = inl (same_counts cause.1)
+  writes_kept_by c answer.WriteFault cause = inr (inl refl)
+  writes_kept_by c answer.NoMemory cause = inr (inr refl)
+
+  writes_kept : (command : Option Command) (a : Answer) → IsCause host host' out out' command a
+      → SameWriteCounts ⊎ (a ≡ answer.WriteFault) ⊎ (a ≡ answer.NoMemory)
+  writes_kept None a cause = inl (same_counts (any_of_none a cause).1)
+  writes_kept (Some c) a cause = writes_kept_by c a cause
+
+  -- the status of an answer is its own, or that of want of memory
+  at_status : (err err' : SinkState) (a b : Answer) (s : Status) → IsAnswered err err' a s → (a ≡ b) ⊎ (a ≡ answer.NoMemory) → Answers s (status_of b)
+  at_status err err' a b s (inr (e, part)) is = inr e
+  at_status err err' a b s (inl (e, told)) (inl is) = inl (rw is at e)
+  at_status err err' a b s (inl (e, told)) (inr is) = inr (rw is at e)
+
+  unless_same_reads : (err err' : SinkState) (a : Answer) (s : Status) → IsAnswered err err' a s → (SameReadCounts host host' → ⊥)
+      → SameReadCounts host host' ⊎ (a ≡ answer.ReadFault) ⊎ (a ≡ answer.NoMemory) → Answers s status.ReadFault
+  unless_same_reads err err' a s told differs (inl same) = absurd (differs same)
+  unless_same_reads err err' a s told differs (inr is) = at_status err err' a answer.ReadFault s told is
+
+  pub reads_risen : (command : Option Command) (err err' : SinkState) (a : Answer) (s : Status) → IsCause host host' out out' command a
+      → IsAnswered err err' a s → host.read_count < host'.read_count → Answers s status.ReadFault
+  reads_risen command err err' a s cause told risen =
+      unless_same_reads err err' a s told (λ same. let h = same.read_count in omega arith) (reads_kept command a cause)
+
+  pub absent_risen : (command : Option Command) (err err' : SinkState) (a : Answer) (s : Status) → IsCause host host' out out' command a
+      → IsAnswered err err' a s → host.absent_count < host'.absent_count → Answers s status.ReadFault
+  absent_risen command err err' a s cause told risen =
+      unless_same_reads err err' a s told (λ same. let h = same.absent_count in omega arith) (reads_kept command a cause)
+
+  unless_same_writes : (err err' : SinkState) (a : Answer) (s : Status) → IsAnswered err err' a s → (SameWriteCounts → ⊥)
+      → SameWriteCounts ⊎ (a ≡ answer.WriteFault) ⊎ (a ≡ answer.NoMemory) → Answers s status.WriteFault
+  unless_same_writes err err' a s told differs (inl same) = absurd (differs same)
+  unless_same_writes err err' a s told differs (inr is) = at_status err err' a answer.WriteFault s told is
+
+  pub writes_risen : (command : Option Command) (err err' : SinkState) (a : Answer) (s : Status) → IsCause host host' out out' command a
+      → IsAnswered err err' a s → out.count < out'.count → Answers s status.WriteFault
+  writes_risen command err err' a s cause told risen =
+      unless_same_writes err err' a s told (λ same. let h = same.sink in omega arith) (writes_kept command a cause)
+
+  pub files_risen : (command : Option Command) (err err' : SinkState) (a : Answer) (s : Status) → IsCause host host' out out' command a
+      → IsAnswered err err' a s → host.write_count < host'.write_count → Answers s status.WriteFault
+  files_risen command err err' a s cause told risen =
+      unless_same_writes err err' a s told (λ same. let h = same.files in omega arith) (writes_kept command a cause)
+
+  -- a name that is absent is a fault of reading
+  absent_by : (c : Command) (a : Answer) → IsCauseOf host host' out out' c a → host.tells ≡ true → file_of host (input_of c) ≡ None
+      → (a ≡ answer.ReadFault) ⊎ (a ≡ answer.NoMemory)
+  absent_by c answer.Done cause tells none = let k = (cause.output tells).1 in cc
+  absent_by c answer.Stuck cause tells none = let k = (cause.output tells).1 in cc
+  absent_by c answer.BadLine cause tells none = absurd cause
+  absent_by c (answer.Refused r) cause tells none = let k = (cause.0 tells).1 in cc
+  absent_by c answer.ReadFault cause tells none = inl refl
+  absent_by c answer.WriteFault cause tells none = let k = (cause.0.output tells).1 in cc
+  absent_by c answer.NoMemory cause tells none = inr refl
+
+  pub absent_named : (command : Option Command) (err err' : SinkState) (a : Answer) (s : Status) → IsCause host host' out out' command a
+      → IsAnswered err err' a s
+      → IfSome command (λ c. host.tells ≡ true → file_of host (input_of c) ≡ None → Answers s status.ReadFault)
+  absent_named None err err' a s cause told = tt
+  absent_named (Some c) err err' a s cause told =
+      λ tells none. at_status err err' a answer.ReadFault s told (absent_by c a cause tells none)
+
+  -- the refusal that was told
+  pub told_refusal : (command : Option Command) (err err' : SinkState) (a : Answer) (s : Status) → IsCause host host' out out' command a
+      → IsAnswered err err' a s → s ≡ status.Refused
+      → (r : Refusal) × ForInput command host (λ c input. IsRefused c input r) × Says err err' (refused_line r)
+  told_refusal command err err' a s cause (inr (e, part)) is = cc
+  told_refusal command err err' answer.Done s cause (inl (e, told)) is = cc
+  told_refusal command err err' answer.Stuck s cause (inl (e, told)) is = cc
+  told_refusal command err err' answer.BadLine s cause (inl (e, told)) is = cc
+  told_refusal None err err' (answer.Refused r) s cause (inl (e, told)) is = absurd cause
+  told_refusal (Some c) err err' (answer.Refused r) s cause (inl (e, told)) is = (r, cause.0, told)
+  told_refusal command err err' answer.ReadFault s cause (inl (e, told)) is = cc
+  told_refusal command err err' answer.WriteFault s cause (inl (e, told)) is = cc
+  told_refusal command err err' answer.NoMemory s cause (inl (e, told)) is = cc
+
+  -- writing failed after a part of the output
+  pub cut_off_told : (command : Option Command) (err err' : SinkState) (a : Answer) (s : Status) → IsCause host host' out out' command a
+      → IsAnswered err err' a s → s ≡ status.WriteFault
+      → IsSomeAnd command
+      (λ c. WritesRose host host' out out' c × ForFile host (input_of c) (GetsPartOfOutput host host' out out' c))
+  cut_off_told command err err' a s cause (inr (e, part)) is = cc
+  cut_off_told command err err' answer.Done s cause (inl (e, told)) is = cc
+  cut_off_told command err err' answer.Stuck s cause (inl (e, told)) is = cc
+  cut_off_told command err err' answer.BadLine s cause (inl (e, told)) is = cc
+  cut_off_told command err err' (answer.Refused r) s cause (inl (e, told)) is = cc
+  cut_off_told command err err' answer.ReadFault s cause (inl (e, told)) is = cc
+  cut_off_told None err err' answer.WriteFault s cause (inl (e, told)) is = absurd cause
+  cut_off_told (Some c) err err' answer.WriteFault s cause (inl (e, told)) is = (cause.1, cause.0.output)
+  cut_off_told command err err' answer.NoMemory s cause (inl (e, told)) is = cc
+
+  -- nothing was written
+  silent_at : (s t : Status) → s ≡ t → IsSilent s → IsSilent t
+  silent_at s t e silent = rw e at silent
+
+  untouched_none : (a : Answer) → IsCauseOfNone host host' out out' a → IsUntouched host host' out out'
+  untouched_none a cause = (any_of_none a cause).1
+
+  not_silent : (t : Status) → (t ≢ status.BadLine) → (t ≢ status.ReadFault) → (t ≢ status.Refused) → IsSilent t → ⊥
+  not_silent t b r f (inl e) = b e
+  not_silent t b r f (inr (inl e)) = r e
+  not_silent t b r f (inr (inr e)) = f e
+
+  untouched_by : (c : Command) (a : Answer) → IsCauseOf host host' out out' c a → IsSilent (status_of a) → IsUntouched host host' out out'
+  untouched_by c answer.Done cause silent = absurd (not_silent status.Done (λ e. cc) (λ e. cc) (λ e. cc) silent)
+  untouched_by c answer.Stuck cause silent = absurd (not_silent status.Stuck (λ e. cc) (λ e. cc) (λ e. cc) silent)
+  untouched_by c answer.BadLine cause silent = absurd cause
+  untouched_by c (answer.Refused r) cause silent = cause.2
+  untouched_by c answer.ReadFault cause silent = cause.1
+  untouched_by c answer.WriteFault cause silent = absurd (not_silent status.WriteFault (λ e. cc) (λ e. cc) (λ e. cc) silent)
+  untouched_by c answer.NoMemory cause silent = absurd (not_silent status.NoMemory (λ e. cc) (λ e. cc) (λ e. cc) silent)
+
+  pub untouched : (command : Option Command) (err err' : SinkState) (a : Answer) (s : Status) → IsCause host host' out out' command a
+      → IsAnswered err err' a s → IsSilent s → IsUntouched host host' out out'
+  untouched None err err' a s cause told silent = untouched_none a cause
+  untouched (Some c) err err' a s cause (inr (e, part)) silent =
+      absurd (not_silent status.NoMemory (λ e. cc) (λ e. cc) (λ e. cc) (silent_at s status.NoMemory e silent))
+  untouched (Some c) err err' a s cause (inl (e, told)) silent = untouched_by c a cause (silent_at s (status_of a) e silent)

@@ -1,66 +1,149 @@
 -- What each answer of `goal` says of the call, and what `err` gets.
-use Rattle.std.specs.Prelude.{ℕ, ◌≡◌, ◌⊎◌, true, List, [], ◌++◌, take, Option, Some, None, IsSomeAnd, IfSome, codes}
-use Rattle.goal_base.specs.Device.{HostState, SinkState, Rose, Held, SameReadCounts, Grows, file_of, ReadFaulted}
+use Rattle.std.specs.Prelude.{ℕ, ◌≡◌, ◌⊎◌, Bool, true, false, List, [], ◌++◌, take, Option, Some, None, IsSomeAnd, IfSome, codes}
+use Rattle.goal_base.specs.Device.{HostState, SinkState, Rose, Held, SameFiles, SameReadCounts, Holds, HoldsPart, Grows, file_of, ReadFaulted}
+use Rattle.goal_graph.specs.Schedule.{Plan}
+use Rattle.sim_params.specs.Costs.{CostModel}
+use Rattle.goal_words.specs.Words.{Command, Sim, Compile, Show}
 use Rattle.goal_cli.specs.declared.answer.Answer.{Answer}
 use Rattle.goal_cli.specs.declared.answer.Answer.TheVariants as answer
 use Rattle.goal_cli.specs.declared.answer.Status.{Status}
 use Rattle.goal_cli.specs.declared.answer.Status.TheVariants as status
-use Rattle.goal_cli.specs.Simulated.{IsSimulated, IsRefused}
+use Rattle.goal_cli.specs.Output.{IsPrintedRun, IsOutput, IsRefused}
 use Rattle.goal_cli.specs.Refusal.{refused_line}
 use Rattle.goal_cli.specs.Timeline.{line_feed}
 
+-- the name of the input of a command
+abbrev pub input_of : Command → List ℕ
+input_of (Sim name numbers) = name
+input_of (Compile name out) = name
+input_of (Show name) = name
+
 -- where the host tells its files, the file of that name is there, and P holds of its bytes
 abbrev pub ForFile : HostState → List ℕ → (List ℕ → Type 0) → Type 0
-ForFile host name P = host.tells ≡ true → (text : List ℕ) × (file_of host name ≡ Some text) × P text
+ForFile host name P = host.tells ≡ true → (input : List ℕ) × (file_of host name ≡ Some input) × P input
 
 -- where the host tells its files and the file of that name is there, P holds of its bytes
 abbrev pub IfFile : HostState → List ℕ → (List ℕ → Type 0) → Type 0
-IfFile host name P = host.tells ≡ true → (text : List ℕ) → file_of host name ≡ Some text → P text
+IfFile host name P = host.tells ≡ true → (input : List ℕ) → file_of host name ≡ Some input → P input
+
+-- the same of the input of the command that the words are
+abbrev pub ForInput : Option Command → HostState → (Command → List ℕ → Type 0) → Type 0
+ForInput command host P = IsSomeAnd command (λ c. ForFile host (input_of c) (P c))
+
+abbrev pub IfInput : Option Command → HostState → (Command → List ℕ → Type 0) → Type 0
+IfInput command host P = IfSome command (λ c. IfFile host (input_of c) (P c))
+
+-- no file changes, and none is written
+pub record KeepsFiles (old new : HostState) : Type 0 where
+  pub files : SameFiles old new
+  pub writing : new.writing ≡ old.writing
+  pub write_count : new.write_count ≡ old.write_count
 
 -- the sink got a prefix of these bytes
 abbrev pub GrowsByPart : SinkState → SinkState → List ℕ → Type 0
 GrowsByPart old new bytes = (n : ℕ) × Grows old new (take n bytes)
 
--- the sink got the printed run of the text, or a prefix of it
-abbrev pub GetsRun : SinkState → SinkState → List ℕ → Type 0
-GetsRun old new text = (output : List ℕ) × IsSimulated text output × Grows old new output
-
-abbrev pub GetsPartOfRun : SinkState → SinkState → List ℕ → Type 0
-GetsPartOfRun old new text = (output : List ℕ) × IsSimulated text output × GrowsByPart old new output
-
--- NAME is there, and P holds of its bytes, where the host tells its files
-abbrev pub ForInput : Option (List ℕ) → HostState → (List ℕ → Type 0) → Type 0
-ForInput name host P = IsSomeAnd name (λ n. ForFile host n P)
-
--- where NAME is there and the host tells its files, P holds of its bytes
-abbrev pub IfInput : Option (List ℕ) → HostState → (List ℕ → Type 0) → Type 0
-IfInput name host P = IfSome name (λ n. IfFile host n P)
-
 -- the count of faults of reading didn't rise, and doesn't stand where it stops
 abbrev pub ReadsHeld : HostState → HostState → Type 0
 ReadsHeld old new = Held old.stops old.read_count new.read_count
 
--- the same of a sink's count
-abbrev pub WritesHeld : SinkState → SinkState → Type 0
-WritesHeld old new = Held old.stops old.count new.count
+-- the status of an output that was written whole
+abbrev pub status_if : Bool → Status
+status_if true = status.Stuck
+status_if false = status.Done
 
--- The table of causes: what is so where the words, the host and `out` lead to an answer. The host and `out` are
--- given before and after the call.
-module _ (name : Option (List ℕ)) (host host' : HostState) (out out' : SinkState) where
-  abbrev pub IsCause : Answer → Type 0
-  IsCause answer.Done =
-      ForInput name host (GetsRun out out') × SameReadCounts host host' × (out'.count ≡ out.count)
-  IsCause answer.BadLine = (name ≡ None) × SameReadCounts host host' × (out' ≡ out)
-  IsCause (answer.Refused r) =
-      ForInput name host (λ text. IsRefused text r) × SameReadCounts host host' × (out' ≡ out)
-  IsCause answer.ReadFault = IsSomeAnd name (ReadFaulted host host') × (out' ≡ out)
-  IsCause answer.WriteFault =
-      ForInput name host (GetsPartOfRun out out') × SameReadCounts host host' × Rose out.stops out.count out'.count
-  IsCause answer.NoMemory = (out' ≡ out) ⊎ ForInput name host (GetsPartOfRun out out')
+-- The host and `out` are given before and after the call. `compile` writes to its file OUT, the others to `out`.
+module _ (host host' : HostState) (out out' : SinkState) where
+  -- these bytes were written whole
+  abbrev pub Gets : Command → List ℕ → Type 0
+  Gets (Sim name numbers) bytes = Grows out out' bytes
+  Gets (Compile name file) bytes = Holds host host' file bytes
+  Gets (Show name) bytes = Grows out out' bytes
 
--- the lines to `err` of the answers; none for Done
+  -- nothing of them was written, or a prefix
+  abbrev pub GetsPart : Command → List ℕ → Type 0
+  GetsPart (Sim name numbers) bytes = GrowsByPart out out' bytes
+  GetsPart (Compile name file) bytes = HoldsPart host host' file bytes
+  GetsPart (Show name) bytes = GrowsByPart out out' bytes
+
+  -- where the command doesn't write, all is as it was
+  abbrev pub Elsewhere : Command → Type 0
+  Elsewhere (Sim name numbers) = KeepsFiles host host'
+  Elsewhere (Compile name file) = out' ≡ out
+  Elsewhere (Show name) = KeepsFiles host host'
+
+  -- the count of faults of writing rose; it didn't, and doesn't stand where it stops
+  abbrev pub WritesRose : Command → Type 0
+  WritesRose (Sim name numbers) = Rose out.stops out.count out'.count
+  WritesRose (Compile name file) = Rose host.stops host.write_count host'.write_count
+  WritesRose (Show name) = Rose out.stops out.count out'.count
+
+  abbrev pub WritesHeld : Command → Type 0
+  WritesHeld (Sim name numbers) = Held out.stops out.count out'.count
+  WritesHeld (Compile name file) = Held host.stops host.write_count host'.write_count
+  WritesHeld (Show name) = Held out.stops out.count out'.count
+
+  -- the count is as it was, and no file is left open to be written
+  abbrev pub WritesSame : Command → Type 0
+  WritesSame (Sim name numbers) = out'.count ≡ out.count
+  WritesSame (Compile name file) = (host'.write_count ≡ host.write_count) × (host'.writing ≡ false)
+  WritesSame (Show name) = out'.count ≡ out.count
+
+  -- what the command makes of the input was written, whole or in part
+  abbrev pub GetsOutput : Bool → Command → List ℕ → Type 0
+  GetsOutput stuck c input = (output : List ℕ) × IsOutput c input output stuck × Gets c output
+
+  abbrev pub GetsPartOfOutput : Command → List ℕ → Type 0
+  GetsPartOfOutput c input = (output : List ℕ) × ((stuck : Bool) × IsOutput c input output stuck) × GetsPart c output
+
+  -- what the command makes of the input was written whole, at its status, or want of memory is answered
+  abbrev pub AnswersWhole : Status → Command → List ℕ → Type 0
+  AnswersWhole result c input =
+      ((stuck : Bool) × (result ≡ status_if stuck) × GetsOutput stuck c input) ⊎ (result ≡ status.NoMemory)
+
+  -- nothing was written
+  pub record IsUntouched : Type 0 where
+    pub files : KeepsFiles host host'
+    pub sink : out' ≡ out
+
+  -- what is so after an output was written whole
+  pub record IsWritten (stuck : Bool) (c : Command) : Type 0 where
+    pub output : ForFile host (input_of c) (GetsOutput stuck c)
+    pub reads : SameReadCounts host host'
+    pub writes : WritesSame c
+    pub elsewhere : Elsewhere c
+
+  -- what is so after it was cut off
+  pub record IsCutOff (c : Command) : Type 0 where
+    pub output : ForFile host (input_of c) (GetsPartOfOutput c)
+    pub reads : SameReadCounts host host'
+    pub elsewhere : Elsewhere c
+
+  -- The table of causes: what is so where a command leads to an answer.
+  abbrev pub IsCauseOf : Command → Answer → Type 0
+  IsCauseOf c answer.Done = IsWritten false c
+  IsCauseOf c answer.Stuck = IsWritten true c
+  IsCauseOf c answer.BadLine = ⊥
+  IsCauseOf c (answer.Refused r) =
+      ForFile host (input_of c) (λ input. IsRefused c input r) × SameReadCounts host host' × IsUntouched
+  IsCauseOf c answer.ReadFault = ReadFaulted host host' (input_of c) × IsUntouched
+  IsCauseOf c answer.WriteFault = IsCutOff c × WritesRose c
+  IsCauseOf c answer.NoMemory = IsUntouched ⊎ IsCutOff c
+
+  -- and where words do that are no command
+  abbrev pub IsCauseOfNone : Answer → Type 0
+  IsCauseOfNone answer.BadLine = SameReadCounts host host' × IsUntouched
+  IsCauseOfNone answer.NoMemory = SameReadCounts host host' × IsUntouched
+  IsCauseOfNone _ = ⊥
+
+  abbrev pub IsCause : Option Command → Answer → Type 0
+  IsCause None a = IsCauseOfNone a
+  IsCause (Some c) a = IsCauseOf c a
+
+-- the lines to `err` of the answers; none for Done and Stuck
 abbrev pub line_for : Answer → List ℕ
 line_for answer.Done = []
+line_for answer.Stuck = []
 line_for answer.BadLine = codes "goal: the words are not a command line of goal" ++ line_feed
 line_for (answer.Refused r) = refused_line r
 line_for answer.ReadFault = codes "goal: reading failed" ++ line_feed
@@ -69,6 +152,7 @@ line_for answer.NoMemory = codes "goal: out of memory" ++ line_feed
 
 abbrev pub status_of : Answer → Status
 status_of answer.Done = status.Done
+status_of answer.Stuck = status.Stuck
 status_of answer.BadLine = status.BadLine
 status_of (answer.Refused r) = status.Refused
 status_of answer.ReadFault = status.ReadFault
@@ -83,7 +167,14 @@ Answers result s = (result ≡ s) ⊎ (result ≡ status.NoMemory)
 abbrev pub AnswersWith : Status → Status → Type 0 → Type 0
 AnswersWith result s P = ((result ≡ s) × P) ⊎ (result ≡ status.NoMemory)
 
--- the statuses at which `out` gets nothing
+-- `out` got the printed run of the schedule, and the status is Stuck where an operation has no end in it and Done
+-- otherwise; or want of memory is answered
+abbrev pub PrintsRun : Status → SinkState → SinkState → CostModel → List Plan → Type 0
+PrintsRun result out out' costs sched =
+    ((output : List ℕ) × ((stuck : Bool) × IsPrintedRun costs sched output stuck × (result ≡ status_if stuck)) × Grows out out' output)
+    ⊎ (result ≡ status.NoMemory)
+
+-- the statuses at which nothing is written
 abbrev pub IsSilent : Status → Type 0
 IsSilent s = (s ≡ status.BadLine) ⊎ (s ≡ status.ReadFault) ⊎ (s ≡ status.Refused)
 
@@ -99,9 +190,10 @@ pub record Says (old new : SinkState) (line : List ℕ) : Type 0 where
   pub prefix : GrowsByPart old new line
   pub whole : Held old.stops old.count new.count → Grows old new line
 
--- a sink got the line of an answer; nothing for Done
+-- a sink got the line of an answer; nothing for Done and Stuck
 abbrev pub IsTold : SinkState → SinkState → Answer → Type 0
 IsTold old new answer.Done = new ≡ old
+IsTold old new answer.Stuck = new ≡ old
 IsTold old new answer.NoMemory = GrowsByPart old new (line_for answer.NoMemory)
 IsTold old new a = Says old new (line_for a)
 

@@ -1,5 +1,5 @@
 pub mod Answer
-pub mod Line
+pub mod Input
+pub mod Output
 pub mod Refusal
-pub mod Simulated
 pub mod Timeline

@@ -4,6 +4,8 @@ use Rattle.goal_graph.specs.declared.fault.PlanFault.{PlanFault}
 use Rattle.goal_graph.specs.declared.fault.PlanFault.TheVariants as plan
 use Rattle.goal_parser.specs.declared.faults.TextFault.{TextFault}
 use Rattle.goal_parser.specs.declared.faults.TextFault.TheVariants as text
+use Rattle.goal_binary.specs.declared.fault.FileFault.{FileFault}
+use Rattle.goal_binary.specs.declared.fault.FileFault.TheVariants as file
 use Rattle.goal_cli.specs.declared.answer.Refusal.{Refusal}
 use Rattle.goal_cli.specs.declared.answer.Refusal.TheVariants as refusal
 use Rattle.goal_cli.specs.Timeline.{line_feed, id_text}
@@ -39,11 +41,21 @@ text_words (text.UnknownLabel at) = at_text (codes "text: label at ") at
 text_words (text.Plan fault) = plan_words fault
 text_words text.NoMemory = []
 
+-- the first fault of a compiled file
+abbrev pub file_words : FileFault → List ℕ
+file_words (file.Short at) = at_text (codes "file: short at ") at
+file_words file.Magic = codes "file: magic"
+file_words (file.Version found) = at_text (codes "file: version ") found
+file_words (file.Field at) = at_text (codes "file: field at ") at
+file_words (file.Extra at) = at_text (codes "file: extra at ") at
+file_words (file.Plan fault) = plan_words fault
+file_words file.NoMemory = []
+
 abbrev pub refusal_words : Refusal → List ℕ
 refusal_words refusal.TooLong = codes "input longer than 134217728 bytes"
 refusal_words (refusal.Text fault) = text_words fault
-refusal_words refusal.NotBuilt = codes "not built"
-refusal_words (refusal.Budget sum) = codes "budget " ++ decimal sum
+refusal_words (refusal.File fault) = file_words fault
+refusal_words (refusal.Budget sum) = at_text (codes "budget ") sum
 
 -- the line of a refusal
 abbrev pub refused_line : Refusal → List ℕ

@@ -1,6 +1,6 @@
 -- The printed run: a line on the whole, then a line for each operation. Every line ends with a line feed, and numbers
 -- are decimal.
-use Rattle.std.specs.Prelude.{ℕ, ◌≡◌, ◌&&◌, Bool, true, false, not, List, [], ◌∷◌, ◌++◌, Option, Some, None, is_some, if◌then◌else◌, length, codes, decimal, count_by}
+use Rattle.std.specs.Prelude.{ℕ, ◌≡◌, ◌&&◌, Bool, true, false, not, List, [], ◌∷◌, ◌++◌, Option, Some, None, is_some, if◌then◌else◌, length, codes, decimal, count_by, nat_lt}
 use Rattle.std.specs.List.{flat_map}
 use Rattle.goal_graph.specs.declared.action.OpId.{OpId}
 use Rattle.goal_graph.specs.declared.action.Timed.{Timed}
@@ -76,6 +76,10 @@ module _ (plans : List Plan) (costs : CostModel) (h : List Timed) where
   -- the end of x, 0 where it has none
   abbrev pub end_or_zero : OpId → ℕ
   end_or_zero x = if has_ended plans (is_eager plans costs) x (plain h) then end plans costs h x else 0
+
+  -- an operation has no end
+  abbrev pub is_stuck : Bool
+  is_stuck = nat_lt 0 (count_by lacks_end (operations plans))
 
   -- what the first line tells of these operations
   pub record IsSummary (ops : List OpId) (stuck unread finish : ℕ) : Type 0 where

@@ -1,17 +1,18 @@
 // How a command line is answered.
 
+use goal_binary::FileFault;
 use goal_parser::TextFault;
 
 /// How a call of `goal` ends. The numbers of the statuses are 0 to 7 in this order.
 #[derive(Clone, Copy, Debug, PartialEq, Eq)]
 pub enum Status {
-    /// The printed run was written.
+    /// What the command makes of its input was written.
     Done,
     /// The printed run was written, and has an operation without an end.
     Stuck,
     /// The words are no command line.
     BadLine,
-    /// The input has no run.
+    /// The command makes nothing of its input.
     Refused,
     /// The input was not read.
     ReadFault,
@@ -27,6 +28,7 @@ pub enum Status {
 #[derive(Clone, Copy)]
 pub enum Answer {
     Done,
+    Stuck,
     BadLine,
     Refused(Refusal),
     ReadFault,
@@ -41,8 +43,8 @@ pub enum Refusal {
     TooLong,
     /// As a text it has this first fault.
     Text(TextFault),
-    /// The schedule has a send or a receive, which are not run yet.
-    NotBuilt,
-    /// The time budget, this sum in nanoseconds, exceeds 2^63-1.
+    /// As a compiled file it has this first fault.
+    File(FileFault),
+    /// The time budget of its run, this sum in nanoseconds, exceeds 2^63-1.
     Budget { sum: u128 },
 }

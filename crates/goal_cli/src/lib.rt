@@ -1,12 +1,13 @@
-//! The command line of `goal`: what each line of words reads, computes and writes.
+//! The top call of `goal`: what each command line reads, makes and writes.
 //!
-//! `sim NAME` reads a schedule from the file NAME, runs it, and prints when each operation starts and ends.
+//! Each command reads a schedule from the file NAME, a text or a compiled file. `sim NAME` runs it and prints when each
+//! operation starts and ends, `compile NAME OUT` writes its compiled file, `show NAME` its canonical text.
 #![tactic(auto)]
 
 mod answer;
 mod command;
+mod output;
 mod refusal;
-mod simulate;
 #[cfg(test)]
 mod tests;
 mod timeline;

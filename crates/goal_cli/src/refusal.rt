@@ -1,10 +1,11 @@
 // The words of refusals.
 ghost use Rattle.std.specs.Prelude.{◌≡◌, ◌++◌, List, IfOk, OnOk, codes};
-ghost use Rattle.goal_cli.specs.Refusal.{at_text, pair_text, plan_words, text_words, refusal_words, refused_line};
+ghost use Rattle.goal_cli.specs.Refusal.{at_text, pair_text, plan_words, text_words, file_words, refusal_words, refused_line};
 
 use crate::answer::Refusal;
 use crate::timeline::put_id;
 use goal_base::{NoMemory, TextOut};
+use goal_binary::FileFault;
 use goal_graph::{OpId, PlanFault};
 use goal_parser::TextFault;
 use std::alloc::Global;
@@ -27,7 +28,7 @@ fn put_refusal(out: &mut TextOut, refusal: Refusal) -> Result<(), NoMemory>
     match refusal {
         Refusal::TooLong => out.word("input longer than 134217728 bytes"),
         Refusal::Text(fault) => put_text_fault(out, fault),
-        Refusal::NotBuilt => out.word("not built"),
+        Refusal::File(fault) => put_file_fault(out, fault),
         Refusal::Budget { sum } => {
             out.word("budget ")?;
             out.number(sum)
@@ -49,6 +50,21 @@ fn put_text_fault(out: &mut TextOut, fault: TextFault) -> Result<(), NoMemory>
         TextFault::UnknownLabel { at } => put_at(out, "text: label at ", at),
         TextFault::Plan(fault) => put_plan_fault(out, fault),
         TextFault::NoMemory => Ok(()),
+    }
+}
+
+// Appends the words of the fault of a compiled file.
+fn put_file_fault(out: &mut TextOut, fault: FileFault) -> Result<(), NoMemory>
+    ensures { OnOk result (out.new ≡ out.old ++ file_words fault) }
+{
+    match fault {
+        FileFault::Short { at } => put_at(out, "file: short at ", at),
+        FileFault::Magic => out.word("file: magic"),
+        FileFault::Version { found } => put_at(out, "file: version ", u64::from(found)),
+        FileFault::Field { at } => put_at(out, "file: field at ", at),
+        FileFault::Extra { at } => put_at(out, "file: extra at ", at),
+        FileFault::Plan(fault) => put_plan_fault(out, fault),
+        FileFault::NoMemory => Ok(()),
     }
 }
 

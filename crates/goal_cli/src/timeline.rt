@@ -1,30 +1,37 @@
 // The printed run.
 ghost use Rattle.std.specs.Prelude.{◌≡◌, ◌+◌, ◌-◌, ◌++◌, ◌<◌, ◌^◌, length, OnOk, IfOk, Some, is_some, unwrap_or, max, if◌then◌else◌};
 ghost use Rattle.goal_graph.specs.Schedule.{operations};
-ghost use Rattle.goal_cli.specs.Timeline.{operation_line, summary_line, time_text, id_text, kind_text, partner_text, match_text, timeline, IsSummary, is_unread_send};
+ghost use Rattle.goal_cli.specs.Timeline.{operation_line, summary_line, time_text, id_text, kind_text, partner_text, match_text, timeline, is_stuck, IsSummary, is_unread_send};
 
+use crate::output::Output;
 use goal_base::{NoMemory, TextOut};
 use goal_graph::{Kind, OpId, Sched};
 use sim_events::{Engine, Record};
 use sim_params::Costs;
 use std::alloc::Global;
 
-/// The first line and the lines of all operations, of an engine whose run is over.
+/// The first line and the lines of all operations, of an engine whose run is over, and whether an operation has no end.
 pub fn timeline<C: Costs + Drop>(
     alloc: Global,
     sched: &Sched,
     engine: &Engine<'_, C>,
-) -> Result<Vec<u8>, NoMemory>
+) -> Result<Output, NoMemory>
     requires same { engine.now.plans ≡ sched.now }
-    ensures { IfOk result (λ text.
-        text.items ≡ timeline sched.now (C.model engine.now.costs) engine.now.history) }
+    ensures printed { IfOk result (λ output.
+        output.bytes.items ≡ timeline sched.now (C.model engine.now.costs) engine.now.history) }
+    ensures stuck { IfOk result (λ output.
+        output.stuck ≡ is_stuck sched.now (C.model engine.now.costs) engine.now.history) }
 {
     let mut out = TextOut::new(alloc);
-    put_summary(&mut out, sched, &sum_up(sched, engine))?;
+    let summary = sum_up(sched, engine);
+    put_summary(&mut out, sched, &summary)?;
     for id in sched.operations() {
         put_operation(&mut out, *id, sched.op(*id).kind, engine.record(*id))?;
     }
-    Ok(out.into_bytes())
+    Ok(Output {
+        bytes: out.into_bytes(),
+        stuck: summary.stuck > 0,
+    })
 }
 
 // What the first line tells of operations: how many have no end, how many are unread messages, the last end.

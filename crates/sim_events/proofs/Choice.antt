@@ -1,70 +1,110 @@
--- The possible action of one operation.
-use Rattle.std.proofs.Common.{◌≡◌, ℕ, max, Bool, true, false, List, Option, Some, None, is_some, if◌then◌else◌, refl, sym, ap, ◌∙◌, subst}
-use Rattle.std.proofs.lemmas.Bool.{both_ways}
-use Rattle.std.proofs.lemmas.Option.{same_Some}
+-- The possible action of one operation is the least of its possible actions.
+use Rattle.std.proofs.Common.{◌≡◌, ◌⊎◌, true, false, List, Option, Some, None, is_some, inl, inr, refl, sym, ap, ◌∙◌, subst}
+use Rattle.std.specs.Option.{option_or}
+use Rattle.std.proofs.lemmas.Bool.{cond-true, cond-false, cases_Bool, both_ways}
 use Rattle.goal_graph.specs.declared.action.OpId.{OpId}
 use Rattle.goal_graph.specs.declared.action.Timed.{Timed}
-use Rattle.goal_graph.specs.declared.action.Class.TheVariants.{Begin}
-use Rattle.goal_graph.specs.Schedule.{Plan, kind_at}
-use Rattle.goal_graph.specs.Fault.{IsOp}
-use Rattle.goal_graph.specs.Action.{happened, plain}
-use Rattle.goal_graph.specs.Allowed.{has_started, may, is_ready}
-use Rattle.goal_graph.specs.Laws.{IsCalc}
-use Rattle.goal_graph.proofs.Rules.{allowed_fresh, allowed_from}
-use Rattle.goal_graph.proofs.Stages.{started_calc}
+use Rattle.goal_graph.specs.declared.action.Class.{Class}
+use Rattle.goal_graph.specs.declared.action.Class.TheVariants.{Arrive, Serve, Data, Post, Begin}
+use Rattle.goal_graph.specs.Schedule.{Plan}
+use Rattle.goal_graph.specs.Action.{plain}
+use Rattle.goal_graph.specs.Allowed.{allowed}
+use Rattle.goal_graph.specs.Laws.{IsCalc, IsSend, IsReceive}
+use Rattle.goal_graph.proofs.OneEach.{one_allowed}
+use Rattle.goal_graph.proofs.Rules.{not_send_receive, not_receive_calc, not_send_calc, allowed_arrive, allowed_data, allowed_serve, allowed_post, allowed_begin}
 use Rattle.sim_params.specs.Costs.{CostModel, is_eager}
-use Rattle.sim_params.specs.Times.{cpu, ready, time, time_of, Possible}
-use Rattle.sim_params.specs.Run.{IsBefore, key}
+use Rattle.sim_params.specs.Times.{time, Possible}
+use Rattle.sim_params.specs.Run.{IsBefore, key, IsRun}
+use Rattle.sim_params.specs.Laws.{at_its_time}
+use Rattle.sim_params.proofs.Interleavings.{possible_at, run_interleaving}
 use Rattle.sim_params.proofs.Order.{before_irreflexive}
-use Rattle.sim_events.specs.Engine.{IsAllCalcs, start_told}
 use Rattle.sim_events.specs.Least.{IsLeastAmong}
-use Rattle.sim_events.specs.Mirrors.{ready_told}
-use Rattle.sim_events.proofs.Calcs.{exists_calc, allowed_is_begin}
+use Rattle.sim_events.specs.Turns.{turn_told}
 
--- a number that is told, or not
-pub told_some : (b : Bool) (n m : ℕ) → (if b then Some n else None) ≡ Some m → (b ≡ true) × (n ≡ m)
-told_some true n m e = (refl, same_Some n m e)
-told_some false n m e = absurd (cc)
+module _ (plans : List Plan) (costs : CostModel) (h : List Timed) (x : OpId) where
+  abbrev pub Can : Class → Type 0
+  Can c = allowed plans (is_eager plans costs) (plain h) c x ≡ true
 
-pub is_told : (b : Bool) (n : ℕ) → is_some (if b then Some n else None) ≡ b
-is_told true n = refl
-is_told false n = refl
+  abbrev pub IsLeastOf : Option Timed → Type 0
+  IsLeastOf r = IsLeastAmong plans costs (λ (y : OpId). y ≡ x) h r
 
-module _ (plans : List Plan) (costs : CostModel) (calcs : IsAllCalcs plans) (h : List Timed) (x : OpId) where
-  -- nothing of it is possible once it has started
-  pub started_nothing : (o : Option ℕ) → o ≡ start_told plans costs h x → is_some o ≡ true → IsLeastAmong plans costs (λ (y : OpId). y ≡ x) h None
-  started_nothing o e t b p same =
-      let q = allowed_is_begin plans calcs (is_eager plans costs) (plain h) b.class b.op p.allowed in
-      let fresh : happened b.class b.op (plain h) ≡ false = allowed_fresh plans (is_eager plans costs) (plain h) b.class b.op p.allowed in
-      let has : has_started plans x (plain h) ≡ true = sym (is_told _ _) ∙ sym (ap is_some e) ∙ t in
-      let started : happened Begin b.op (plain h) ≡ true = sym (started_calc plans (plain h) b.op q.1) ∙ subst (λ (y : OpId). has_started plans y (plain h) ≡ true) (sym same) has in
-      both_ways _ fresh (subst (λ c. happened c b.op (plain h) ≡ true) (sym q.0) started)
+  can_of : (b : Timed) → Possible plans costs h b → b.op ≡ x → Can b.class
+  can_of b p e = subst (λ (y : OpId). allowed plans (is_eager plans costs) (plain h) b.class y ≡ true) e p.allowed
 
-  -- nor while something that it needs is not there
-  pub unready_nothing : (o : Option ℕ) → o ≡ ready_told plans costs h x → o ≡ None → IsLeastAmong plans costs (λ (y : OpId). y ≡ x) h None
-  unready_nothing o e n b p same =
-      let q = allowed_is_begin plans calcs (is_eager plans costs) (plain h) b.class b.op p.allowed in
-      let unready : is_ready plans (is_eager plans costs) (plain h) x ≡ false = sym (is_told _ _) ∙ ap is_some (sym e ∙ n) in
-      both_ways _ unready (subst (λ (y : OpId). is_ready plans (is_eager plans costs) (plain h) y ≡ true) same q.2)
-
-  begin_time : (q : IsCalc plans x) → time plans costs h Begin x ≡ max (ready plans costs h x) (cpu plans costs h x)
-  unfolding time
-  begin_time q = ap (time_of plans costs h Begin x) q.kind
-
-  -- else it begins once its cpu is free
-  pub begin_is : IsOp plans x → (o p : Option ℕ) (r t : ℕ) → o ≡ start_told plans costs h x → is_some o ≡ false → p ≡ ready_told plans costs h x → p ≡ Some r → t ≡ max r (cpu plans costs h x) → IsLeastAmong plans costs (λ (y : OpId). y ≡ x) h (Some (record { time = t; class = Begin; op = x }))
-  begin_is exists o p r t e f e' f' n =
-      let q = exists_calc plans calcs x exists in
-      let g = told_some _ _ r (sym e' ∙ f') in
-      let fresh : happened Begin x (plain h) ≡ false = sym (started_calc plans (plain h) x q) ∙ sym (is_told _ _) ∙ sym (ap is_some e) ∙ f in
-      let may_begin : may plans (is_eager plans costs) (plain h) Begin x (kind_at plans x) ≡ true = ap (may plans (is_eager plans costs) (plain h) Begin x) q.kind ∙ g.0 in
-      let at : t ≡ time plans costs h Begin x = n ∙ ap (λ k. max k (cpu plans costs h x)) (sym g.1) ∙ sym (begin_time q) in
-      (record { allowed = allowed_from plans (is_eager plans costs) (plain h) Begin x fresh may_begin; time = at }, λ b s same. only b s same at)
+  -- where no other class is allowed, the turn of that class is the least
+  pub least_of_class : (c : Class) → ((d : Class) → Can d → d ≡ c) → IsLeastOf (turn_told plans costs h c x)
+  least_of_class c only = go (cases_Bool (allowed plans (is_eager plans costs) (plain h) c x))
     where
-      only : (b : Timed) → Possible plans costs h b → b.op ≡ x → t ≡ time plans costs h Begin x → ¬ (IsBefore (key b) (key (record { time = t; class = Begin; op = x })))
-      only b s same at =
-          let begin = (allowed_is_begin plans calcs (is_eager plans costs) (plain h) b.class b.op s.allowed).0 in
-          let when : b.time ≡ t = s.time ∙ (λ i. time plans costs h (begin i) (same i)) ∙ sym at in
-          let this : Timed = record { time = t; class = Begin; op = x } in
-          let equal : b ≡ this = λ i. record { time = when i; class = begin i; op = same i } in
-          λ before. before_irreflexive (key this) (subst (λ (a : Timed). IsBefore (key a) (key this)) equal before)
+      go : (Can c) ⊎ (allowed plans (is_eager plans costs) (plain h) c x ≡ false) → IsLeastOf (turn_told plans costs h c x)
+      go (inl t) =
+          subst IsLeastOf (sym (cond-true _ (Some (at_its_time plans costs h c x)) None t)) (possible_at plans costs h c x t, λ b p e. same b p e)
+        where
+          same : (b : Timed) → Possible plans costs h b → b.op ≡ x → ¬ (IsBefore (key b) (key (at_its_time plans costs h c x)))
+          same b p e =
+              let class : b.class ≡ c = only b.class (can_of b p e) in
+              let when : b.time ≡ time plans costs h c x = p.time ∙ (λ i. time plans costs h (class i) (e i)) in
+              let this : Timed = at_its_time plans costs h c x in
+              let equal : b ≡ this = λ i. record { time = when i; class = class i; op = e i } in
+              λ l. before_irreflexive (key this) (subst (λ (a : Timed). IsBefore (key a) (key this)) equal l)
+      go (inr f) =
+          subst IsLeastOf (sym (cond-false _ (Some (at_its_time plans costs h c x)) None f)) (λ b p e. both_ways _ f (subst (λ (d : Class). Can d) (only b.class (can_of b p e)) (can_of b p e)))
+
+  -- the first of two, where the first comes alone
+  first_of : (c : Class) (rest : Option Timed) → (Can c → (d : Class) → Can d → d ≡ c) → ((Can c → ⊥) → IsLeastOf rest) → IsLeastOf (option_or (turn_told plans costs h c x) rest)
+  first_of c rest alone other = go (cases_Bool (allowed plans (is_eager plans costs) (plain h) c x))
+    where
+      keep : (o : Option Timed) → is_some o ≡ true → IsLeastOf o → IsLeastOf (option_or o rest)
+      keep None e l = absurd (cc)
+      keep (Some v) e l = l
+
+      go : (Can c) ⊎ (allowed plans (is_eager plans costs) (plain h) c x ≡ false) → IsLeastOf (option_or (turn_told plans costs h c x) rest)
+      go (inl t) =
+          keep (turn_told plans costs h c x) (ap is_some (cond-true _ (Some (at_its_time plans costs h c x)) None t)) (least_of_class c (alone t))
+      go (inr f) =
+          subst (λ (o : Option Timed). IsLeastOf (option_or o rest)) (sym (cond-false _ (Some (at_its_time plans costs h c x)) None f)) (other (λ t. both_ways _ f t))
+
+  -- the classes of each kind
+  calc_class : IsCalc plans x → (c : Class) → Can c → c ≡ Begin
+  calc_class k Begin e = refl
+  calc_class k Arrive e = absurd (not_send_calc plans x (allowed_arrive plans (is_eager plans costs) (plain h) x e).0 k)
+  calc_class k Data e = absurd (not_send_calc plans x (allowed_data plans (is_eager plans costs) (plain h) x e).0 k)
+  calc_class k Post e = absurd (not_receive_calc plans x (allowed_post plans (is_eager plans costs) (plain h) x e).0 k)
+  calc_class k Serve e = absurd (not_receive_calc plans x (allowed_serve plans (is_eager plans costs) (plain h) x e).0 k)
+
+  send_class : IsSend plans x → (Can Begin → ⊥) → (Can Arrive → ⊥) → (c : Class) → Can c → c ≡ Data
+  send_class k b a Begin e = absurd (b e)
+  send_class k b a Arrive e = absurd (a e)
+  send_class k b a Data e = refl
+  send_class k b a Post e = absurd (not_send_receive plans x k (allowed_post plans (is_eager plans costs) (plain h) x e).0)
+  send_class k b a Serve e = absurd (not_send_receive plans x k (allowed_serve plans (is_eager plans costs) (plain h) x e).0)
+
+  receive_class : IsReceive plans x → (Can Post → ⊥) → (c : Class) → Can c → c ≡ Serve
+  receive_class k p Begin e = absurd (elim (allowed_begin plans (is_eager plans costs) (plain h) x e).0 [ inl calc ↦ not_receive_calc plans x k calc | inr send ↦ not_send_receive plans x send k ])
+  receive_class k p Arrive e = absurd (not_send_receive plans x (allowed_arrive plans (is_eager plans costs) (plain h) x e).0 k)
+  receive_class k p Data e = absurd (not_send_receive plans x (allowed_data plans (is_eager plans costs) (plain h) x e).0 k)
+  receive_class k p Post e = absurd (p e)
+  receive_class k p Serve e = refl
+
+  pub calc_choice : IsCalc plans x → (r : Option Timed) → r ≡ turn_told plans costs h Begin x → IsLeastOf r
+  calc_choice k r e = subst IsLeastOf (sym e) (least_of_class Begin (calc_class k))
+
+  module _ (run : IsRun plans costs h) where
+    alone : (c : Class) → Can c → (d : Class) → Can d → d ≡ c
+    alone c p d q =
+        one_allowed plans (is_eager plans costs) (plain h) d c x (run_interleaving plans costs h run) q p
+
+    or_assoc : (a b c : Option Timed) → option_or (option_or a b) c ≡ option_or a (option_or b c)
+    or_assoc None b c = refl
+    or_assoc (Some a) b c = refl
+
+    pub send_choice : IsSend plans x → (a b d r s : Option Timed) → a ≡ turn_told plans costs h Begin x → b ≡ turn_told plans costs h Arrive x → d ≡ turn_told plans costs h Data x → s ≡ option_or a b → r ≡ option_or s d → IsLeastOf r
+    send_choice k a b d r s ae be de se re =
+        let least = first_of Begin (option_or (turn_told plans costs h Arrive x) (turn_told plans costs h Data x)) (alone Begin) (λ nb. first_of Arrive (turn_told plans costs h Data x) (alone Arrive) (λ na. least_of_class Data (send_class k nb na))) in
+        let parts : r ≡ option_or (turn_told plans costs h Begin x) (option_or (turn_told plans costs h Arrive x) (turn_told plans costs h Data x)) = re ∙ ap (λ (o : Option Timed). option_or o d) se ∙ or_assoc a b d ∙ (λ i. option_or (ae i) (option_or (be i) (de i))) in
+        subst IsLeastOf (sym parts) least
+
+    pub receive_choice : IsReceive plans x → (a b r : Option Timed) → a ≡ turn_told plans costs h Post x → b ≡ turn_told plans costs h Serve x → r ≡ option_or a b → IsLeastOf r
+    receive_choice k a b r ae be re =
+        let least = first_of Post (turn_told plans costs h Serve x) (alone Post) (λ np. least_of_class Serve (receive_class k np)) in
+        let parts : r ≡ option_or (turn_told plans costs h Post x) (turn_told plans costs h Serve x) = re ∙ (λ i. option_or (ae i) (be i)) in
+        subst IsLeastOf (sym parts) least

@@ -14,7 +14,7 @@ use Rattle.sim_params.specs.Laws.{before}
 use Rattle.sim_params.specs.Shares.{ops_at}
 use Rattle.sim_params.proofs.Order.{before_transitive, before_true, false_before, key_cases}
 use Rattle.sim_events.specs.Least.{IsLeastAmong, lesser}
-use Rattle.sim_events.proofs.HoldsLemmas.{rank_below, number_below}
+use Rattle.sim_events.proofs.Places.{rank_below, number_below}
 
 -- what is before the lesser of two is before the other
 before_through : (a n b : Timed) → ¬ (IsBefore (key n) (key a)) → IsBefore (key b) (key a) → IsBefore (key b) (key n)

@@ -13,7 +13,7 @@ use Rattle.goal_graph.specs.Action.{plain}
 use Rattle.goal_graph.specs.Allowed.{is_met, is_ready}
 use Rattle.sim_params.specs.Costs.{CostModel, is_eager}
 use Rattle.sim_params.specs.Times.{greatest, met_at, ready}
-use Rattle.sim_events.specs.Mirrors.{moment_told, ready_told}
+use Rattle.sim_events.specs.Turns.{moment_told, ready_told}
 
 module _ (plans : List Plan) (costs : CostModel) (h : List Timed) (x : OpId) where
   -- the moment of a need, whether it is there, and both

@@ -1,11 +1,15 @@
 -- Tables that have an entry for each item of a list.
-use Rattle.std.proofs.Common.{◌≡◌, ◌≢◌, ℕ, zero, suc, ◌<◌, List, [], ◌∷◌, length, map, set, replicate, get_or, Some, slice_get, refl, sym, ap, ap₂, ◌∙◌, inl, inr, arith}
+use Rattle.std.proofs.Common.{◌≡◌, ◌≢◌, false, ℕ, zero, suc, ◌<◌, List, [], ◌∷◌, length, map, set, replicate, get_or, Some, slice_get, refl, sym, ap, ap₂, ◌∙◌, inl, inr, arith}
 use Rattle.std.specs.Option.{option_map}
-use Rattle.std.proofs.lemmas.Bool.{cases_order}
+use Rattle.std.proofs.lemmas.Bool.{cases_order, cond-true, cond-false, false_from_ne_true}
 use Rattle.std.proofs.lemmas.Option.{same_Some, slice_get-map, slice_get_within, get_or_from_slice_get}
 use Rattle.goal_graph.specs.declared.action.OpId.{OpId}
 use Rattle.goal_graph.specs.Schedule.{Plan, operations}
+use Rattle.goal_graph.specs.Action.{same_op}
+use Rattle.goal_graph.proofs.Actions.{same_op_true, same_op_itself}
 use Rattle.goal_graph.proofs.Exists.{operations_differ}
+use Rattle.sim_events.specs.declared.entry.Entry.{Entry}
+use Rattle.sim_events.specs.Tables.{with_entry}
 
 -- the entry of an item
 pub entry_at : {X Y : Type 0} (f : X → Y) (xs : List X) (i : ℕ) (x : X) → slice_get xs i ≡ Some x → slice_get (map f xs) i ≡ Some (f x)
@@ -54,3 +58,11 @@ replicated_table f v (x ∷ xs) same = ap₂ (λ y ys. y ∷ ys) (sym (same x)) 
 -- the operations, and as many entries as were asked for
 pub fresh_table : {Y : Type 0} (f : OpId → Y) (v : Y) (xs : List OpId) (n : ℕ) (ys : List Y) → n ≡ length xs → ys ≡ replicate n v → ((x : OpId) → f x ≡ v) → ys ≡ map f xs
 fresh_table f v xs n ys e made same = made ∙ ap (λ k. replicate k v) e ∙ replicated_table f v xs same
+
+-- the entry of an operation is written
+pub written_entry : (plans : List Plan) (j : ℕ) (y : OpId) (v : Entry) (f : OpId → Entry) → slice_get (operations plans) j ≡ Some y → set (map f (operations plans)) j v ≡ map (with_entry y v f) (operations plans)
+written_entry plans j y v f e =
+    ap (set (map f (operations plans)) j) (sym (cond-true (same_op y y) v (f y) (same_op_itself y))) ∙ written_table f (with_entry y v f) (operations plans) j y e (λ i x s d. sym (cond-false (same_op x y) v (f x) (not_same x (other_place plans i j x y s e d))))
+  where
+    not_same : (x : OpId) → x ≢ y → same_op x y ≡ false
+    not_same x d = false_from_ne_true (same_op x y) (λ t. d (same_op_true x y t))

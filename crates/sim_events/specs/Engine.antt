@@ -1,11 +1,8 @@
 -- What an engine is seen as, and what it tells.
-use Rattle.std.specs.Prelude.{ℕ, ◌≡◌, ◌<◌, ◌≤◌, ◌^◌, Bool, true, List, Option, Some, None, if◌then◌else◌}
-use Rattle.std.specs.List.{list_all}
+use Rattle.std.specs.Prelude.{ℕ, ◌≡◌, ◌<◌, ◌≤◌, ◌^◌, List, Option, Some, None, if◌then◌else◌}
 use Rattle.goal_graph.specs.declared.action.OpId.{OpId}
 use Rattle.goal_graph.specs.declared.action.Timed.{Timed}
-use Rattle.goal_graph.specs.declared.plan.Op.{Op}
 use Rattle.goal_graph.specs.Schedule.{Plan}
-use Rattle.goal_graph.specs.Fault.{is_calc}
 use Rattle.goal_graph.specs.Action.{plain}
 use Rattle.goal_graph.specs.Allowed.{has_started, has_ended}
 use Rattle.sim_params.specs.Costs.{CostModel, is_eager}
@@ -18,14 +15,6 @@ pub record View (C : Type 0) : Type 0 where
   pub plans : List Plan
   pub costs : C
   pub history : List Timed
-
--- every operation of a rank is a calc
-abbrev pub is_rank_of_calcs : Plan → Bool
-is_rank_of_calcs p = list_all (λ (o : Op). is_calc o.kind) p.ops
-
--- every operation is a calc
-abbrev pub IsAllCalcs : List Plan → Type 0
-IsAllCalcs plans = list_all is_rank_of_calcs plans ≡ true
 
 -- the schedule's time budget is over 2^63-1, which comes before want of memory
 abbrev pub IsBudgetFault : ℕ → EngineFault → Type 0

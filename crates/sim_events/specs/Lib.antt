@@ -1,4 +1,5 @@
 pub mod Engine
 pub mod Least
-pub mod Holds
+pub mod Tables
+pub mod Turns
 pub mod Mirrors

@@ -1,37 +1,64 @@
 -- What an engine keeps of its history.
-use Rattle.std.specs.Prelude.{ℕ, ◌≡◌, ◌≤◌, ◌<◌, ◌*◌, ◌^◌, List, map, length, Option, Some, None, if◌then◌else◌}
+use Rattle.std.specs.Prelude.{ℕ, ◌+◌, ◌≡◌, ◌≤◌, ◌<◌, ◌*◌, ◌^◌, List, filter, map, length, Option, Some, None, if◌then◌else◌}
+use Rattle.std.specs.Option.{option_map}
 use Rattle.goal_graph.specs.declared.action.OpId.{OpId}
 use Rattle.goal_graph.specs.declared.action.Timed.{Timed}
-use Rattle.goal_graph.specs.declared.plan.When.{When}
-use Rattle.goal_graph.specs.declared.plan.When.TheVariants.{AfterEnd, AfterStart}
+use Rattle.goal_graph.specs.declared.action.Class.TheVariants.{Arrive, Data}
 use Rattle.goal_graph.specs.Schedule.{Plan, operations}
-use Rattle.goal_graph.specs.Action.{plain}
-use Rattle.goal_graph.specs.Allowed.{is_ready}
+use Rattle.goal_graph.specs.Action.{happened, plain}
 use Rattle.goal_graph.specs.Fault.{IsAccepted}
-use Rattle.sim_params.specs.Costs.{CostModel, is_eager}
-use Rattle.sim_params.specs.Times.{cpu, ready}
+use Rattle.sim_params.specs.Costs.{CostModel, flight, is_eager}
+use Rattle.sim_params.specs.Times.{since, mate, paired_at, cpu, tx, rx}
 use Rattle.sim_params.specs.Run.{IsRun}
 use Rattle.sim_params.specs.Budget.{budget}
-use Rattle.sim_events.specs.Engine.{IsAllCalcs, start_told, end_told}
+use Rattle.sim_match.specs.Heard.{Heard, is_heard}
+use Rattle.sim_resources.specs.Holds.{Holds, cpu_free, tx_free, rx_free}
+use Rattle.sim_events.specs.declared.entry.Entry.{Entry}
+use Rattle.sim_events.specs.declared.entry.Pairing.{Pairing}
+use Rattle.sim_events.specs.Engine.{start_told, end_told}
+use Rattle.sim_events.specs.Turns.{time_told}
 
--- the moment of x that a dependency waits for, once it is there
-abbrev pub moment_told : List Plan → CostModel → List Timed → When → OpId → Option ℕ
-moment_told plans costs h AfterEnd x = end_told plans costs h x
-moment_told plans costs h AfterStart x = start_told plans costs h x
+module _ (plans : List Plan) (costs : CostModel) (h : List Timed) where
+  -- the operation that x is paired with, and since when, once it is
+  abbrev pub paired_told : OpId → Option Pairing
+  paired_told x = option_map (λ (y : OpId). record { with = y; at = paired_at plans costs h x }) (mate plans costs h x)
 
--- when all that x needs is there, once it is
-abbrev pub ready_told : List Plan → CostModel → List Timed → OpId → Option ℕ
-ready_told plans costs h x =
-    if is_ready plans (is_eager plans costs) (plain h) x then Some (ready plans costs h x) else None
+  -- when the bytes that x hands over are at its receive, once it has handed them over
+  abbrev pub there_told : OpId → Option ℕ
+  there_told x = if happened Data x (plain h) then Some (since (happened Data x) h + flight plans costs x) else None
 
--- Each table has an entry for each operation, in their order: when it started, when it ends, and when its cpu is free.
--- There is room for every action of a run.
-pub record Mirrors (plans : List Plan) (costs : CostModel) (h : List Timed) (started ended : List (Option ℕ)) (free : List ℕ) (room : ℕ) : Type 0 where
-  pub accepted : IsAccepted plans
-  pub calcs : IsAllCalcs plans
-  pub within : budget plans costs < 2 ^ 63
-  pub run : IsRun plans costs h
-  pub starts : started ≡ map (start_told plans costs h) (operations plans)
-  pub ends : ended ≡ map (end_told plans costs h) (operations plans)
-  pub frees : free ≡ map (cpu plans costs h) (operations plans)
-  pub roomy : 3 * length (operations plans) ≤ room
+  -- when the message of its partner is there for a receive, once it is
+  abbrev pub message_told : Pairing → Option ℕ
+  message_told p = if is_eager plans costs p.with then Some p.at else there_told p.with
+
+  -- what is kept of x
+  abbrev pub entry_told : OpId → Entry
+  entry_told x = record {
+    start = start_told plans costs h x;
+    end = end_told plans costs h x;
+    arriving = time_told plans costs h Arrive x;
+    paired = paired_told x;
+    there = there_told x;
+  }
+
+  -- the cpus and interfaces of the schedule are free when the history says so
+  pub record AreFreeTimes (res : Holds) : Type 0 where
+    pub same_plans : res.plans ≡ plans
+    pub cpus : (x : OpId) → cpu_free res x ≡ cpu plans costs h x
+    pub senders : (x : OpId) → tx_free res x ≡ tx plans costs h x
+    pub receivers : (x : OpId) → rx_free res x ≡ rx plans costs h x
+
+  -- the posts and arrivals of the history are heard
+  pub record IsAllHeard (matcher : Heard) : Type 0 where
+    pub same_plans : matcher.plans ≡ plans
+    pub events : matcher.heard ≡ filter is_heard (plain h)
+
+  -- There is an entry for each operation, in their order, and room for every action of a run.
+  pub record Mirrors (entries : List Entry) (matcher : Heard) (res : Holds) (room : ℕ) : Type 0 where
+    pub accepted : IsAccepted plans
+    pub within : budget plans costs < 2 ^ 63
+    pub run : IsRun plans costs h
+    pub told : entries ≡ map entry_told (operations plans)
+    pub heard : IsAllHeard matcher
+    pub free : AreFreeTimes res
+    pub roomy : 3 * length (operations plans) ≤ room

@@ -2,26 +2,30 @@
 ghost use Rattle.std.specs.Prelude.{◌≡◌, ◌+◌, ◌<◌, ◌≤◌, ◌^◌, ◌↔◌, List, [], ◌∷◌, IsTrue, IfSome, IfNone, IfOk, IfErr, OnOk, count_by, length, reverse};
 ghost use Rattle.goal_graph.specs.declared.action.OpId.{OpId};
 ghost use Rattle.goal_graph.specs.declared.action.Timed.{Timed};
-ghost use Rattle.goal_graph.specs.Schedule.{kind_at};
 ghost use Rattle.goal_graph.specs.Fault.{IsOp, IsAccepted};
 ghost use Rattle.goal_graph.specs.Action.{plain, same_op};
 ghost use Rattle.goal_graph.specs.Interleaving.{IsCompleteInterleaving};
 ghost use Rattle.sim_params.specs.Costs.{is_eager};
 ghost use Rattle.sim_params.specs.Budget.{budget};
-ghost use Rattle.sim_params.specs.Times.{mate, cpu, cpu_hold};
+ghost use Rattle.sim_params.specs.Times.{mate};
 ghost use Rattle.sim_params.specs.Run.{IsNext, IsRun, IsFinished, IsCompleteRun};
 ghost use Rattle.sim_params.specs.Laws.{IsWithin};
-ghost use Rattle.sim_events.specs.Engine.{IsAllCalcs, IsBudgetFault, start_told, end_told};
+ghost use Rattle.sim_events.specs.Engine.{IsBudgetFault, start_told, end_told};
 ghost use Rattle.sim_events.specs.Least.{IsLeastAmong};
-ghost use Rattle.sim_events.specs.Mirrors.{moment_told, ready_told};
+ghost use Rattle.sim_events.specs.Mirrors.{entry_told};
 
+use crate::entry::{Entry, read};
 use crate::least::lesser;
-use crate::resource::hold_cpu;
-use goal_base::MAX_BUDGET;
-use goal_graph::{Class, Kind, OpId, Sched, Timed, When};
+use goal_base::{MAX_BUDGET, NoMemory};
+use goal_graph::{OpId, Sched, Timed};
+use sim_match::Matcher;
 use sim_params::{Costs, budget, op_count};
+use sim_resources::Resources;
 use std::alloc::{AllocError, Global};
 use std::marker::Model;
+
+mod perform;
+mod turns;
 
 /// Why an engine is not made.
 #[derive(Clone, Copy, Debug, PartialEq, Eq)]
@@ -38,6 +42,16 @@ impl From<AllocError> for EngineFault {
     ghost from_gives = { λ _ fault. fault ≡ NoMemory };
 
     fn from(_error: AllocError) -> EngineFault {
+        EngineFault::NoMemory
+    }
+}
+
+impl From<NoMemory> for EngineFault {
+    ghost use Rattle.sim_events.specs.declared.engine.EngineFault.TheVariants.{NoMemory};
+
+    ghost from_gives = { λ _ fault. fault ≡ NoMemory };
+
+    fn from(_error: NoMemory) -> EngineFault {
         EngineFault::NoMemory
     }
 }
@@ -59,10 +73,12 @@ pub struct Engine<'a, C: Costs> {
     costs: C,
     // what has happened, oldest first
     history: Vec<Timed>,
-    // for each operation, in the order of all, when it started, when it ends, and when its cpu is free
-    started: Vec<Option<u64>>,
-    ended: Vec<Option<u64>>,
-    free: Vec<u64>,
+    // what is known of each operation, in the order of all
+    entries: Vec<Entry>,
+    // who is paired with whom
+    matcher: Matcher<'a>,
+    // when cpus and interfaces are free
+    resources: Resources<'a>,
 }
 
 impl<'a, C: Costs> Model for Engine<'a, C> {
@@ -74,14 +90,13 @@ impl<'a, C: Costs> Model for Engine<'a, C> {
 
     ghost view = { λ e. record { plans = e.sched.now; costs = e.costs; history = reverse e.history.items } };
 
-    ghost invariant = { λ e. Mirrors e.sched.now (C.model e.costs) (reverse e.history.items) e.started.items e.ended.items e.free.items (vec_capacity e.history) };
+    ghost invariant = { λ e. Mirrors e.sched.now (C.model e.costs) (reverse e.history.items) e.entries.items e.matcher e.resources (vec_capacity e.history) };
 }
 
 impl<'a, C: Costs + Drop> Engine<'a, C> {
     /// An engine before its first step. It takes all memory of the run; no later call takes any. Where the time budget
     /// is over 2^63-1 the fault carries it, whether memory is there or not.
     pub fn new(alloc: Global, sched: &'a Sched, costs: C) -> Result<Engine<'a, C>, EngineFault>
-        requires calcs { IsAllCalcs sched.now }
         ensures plans { IfOk result (λ e. e.plans ≡ sched.now) }
         ensures costs { IfOk result (λ e. e.costs ≡ costs) }
         ensures empty { IfOk result (λ e. e.history ≡ []) }
@@ -96,16 +111,16 @@ impl<'a, C: Costs + Drop> Engine<'a, C> {
         let _plans = sched.plans();
         let count = sched.count() as usize;
         let history = Vec::with_capacity(alloc, 3 * count)?;
-        let started = vec![in alloc; None; count]?;
-        let ended = vec![in alloc; None; count]?;
-        let free = vec![in alloc; 0; count]?;
+        let entries = vec![in alloc; Entry::BLANK; count]?;
+        let matcher = Matcher::new(alloc, sched)?;
+        let resources = Resources::new(alloc, sched)?;
         Ok(Engine {
             sched,
             costs,
             history,
-            started,
-            ended,
-            free,
+            entries,
+            matcher,
+            resources,
         })
     }
 }
@@ -166,11 +181,15 @@ impl<'a, C: Costs> Engine<'a, C> {
         ensures end { result.end ≡ end_told self.now.plans (C.model self.now.costs) self.now.history id }
         ensures partner { result.partner ≡ mate self.now.plans (C.model self.now.costs) self.now.history id }
     {
-        let at = self.sched.index(id) as usize;
+        let entry = self.entry(id);
+        let partner = match entry.paired {
+            Some(pairing) => Some(pairing.with),
+            None => None,
+        };
         Record {
-            start: self.started[at],
-            end: self.ended[at],
-            partner: None,
+            start: entry.start,
+            end: entry.end,
+            partner,
         }
     }
 
@@ -188,11 +207,10 @@ impl<'a, C: Costs> Engine<'a, C> {
         &self.costs
     }
 
-    /// What holds of every engine: its schedule is accepted and has calcs only, its time budget is at most 2^63-1, what
+    /// What holds of every engine: its schedule is accepted, its time budget is at most 2^63-1, what
     /// has happened is the run so far, and no time of it is later than the budget.
     pub fn known(&self)
         ensures accepted { IsAccepted self.now.plans }
-        ensures calcs { IsAllCalcs self.now.plans }
         ensures fits { budget self.now.plans (C.model self.now.costs) < 2 ^ 63 }
         ensures run { IsRun self.now.plans (C.model self.now.costs) self.now.history }
         ensures times { IsWithin self.now.plans (C.model self.now.costs) self.now.history (budget self.now.plans (C.model self.now.costs)) }
@@ -226,87 +244,11 @@ impl<'a, C: Costs> Engine<'a, C> {
         best
     }
 
-    // The possible action of an operation, if it has one.
-    fn choice(&self, id: OpId) -> Option<Timed>
+    // What is known of an operation.
+    fn entry(&self, id: OpId) -> Entry
         requires { IsOp self.now.plans id }
-        ensures { IsLeastAmong self.now.plans (C.model self.now.costs) (λ y. y ≡ id) self.now.history result }
+        ensures { result ≡ entry_told self.now.plans (C.model self.now.costs) self.now.history id }
     {
-        self.known();
-        if self.moment(When::AfterStart, id).is_some() {
-            return None;
-        }
-        let ready = self.ready(id)?;
-        let free = self.cpu_free(id);
-        Some(Timed {
-            time: ready.max(free),
-            class: Class::Begin,
-            op: id,
-        })
-    }
-
-    // When all that an operation needs is there, once it is.
-    fn ready(&self, id: OpId) -> Option<u64>
-        requires { IsOp self.now.plans id }
-        ensures { result ≡ ready_told self.now.plans (C.model self.now.costs) self.now.history id }
-    {
-        let mut ready: u64 = 0;
-        for need in self.sched.needs(id) {
-            let needed = OpId {
-                rank: id.rank,
-                op: need.op,
-            };
-            match self.moment(need.when, needed) {
-                Some(at) => ready = ready.max(at),
-                None => return None,
-            }
-        }
-        Some(ready)
-    }
-
-    // The moment of an operation that a dependency waits for, once it is there.
-    fn moment(&self, when: When, id: OpId) -> Option<u64>
-        requires { IsOp self.now.plans id }
-        ensures { result ≡ moment_told self.now.plans (C.model self.now.costs) self.now.history when id }
-    {
-        let at = self.sched.index(id) as usize;
-        match when {
-            When::AfterEnd => self.ended[at],
-            When::AfterStart => self.started[at],
-        }
-    }
-
-    // When the cpu that an operation uses is free.
-    fn cpu_free(&self, id: OpId) -> u64
-        requires { IsOp self.now.plans id }
-        ensures { result ≡ cpu self.now.plans (C.model self.now.costs) self.now.history id }
-    {
-        let at = self.sched.index(id) as usize;
-        self.free[at]
-    }
-
-    // Lets the next action happen.
-    fn perform(&mut self, action: Timed)
-        requires { IsNext self.old.plans (C.model self.old.costs) self.old.history action }
-        ensures { self.new ≡ record self.old { history = action ∷ self.old.history } }
-    {
-        let until = self.release(action);
-        let sched = self.sched;
-        let at = sched.index(action.op) as usize;
-        self.started[at] = Some(action.time);
-        self.ended[at] = Some(until);
-        hold_cpu(sched, self.free.as_mut_slice(), action.op, until);
-        self.history.push_reserved(action);
-    }
-
-    // When an action lets go of the cpu that it holds.
-    fn release(&self, action: Timed) -> u64
-        requires { IsNext self.now.plans (C.model self.now.costs) self.now.history action }
-        ensures { result ≡ action.time + cpu_hold self.now.plans (C.model self.now.costs) self.now.history action.class action.op (kind_at self.now.plans action.op) }
-    {
-        self.known();
-        let Kind::Calc { nanos } = self.sched().op(action.op).kind else {
-            unreachable!()
-        };
-        action.time + nanos
+        read(self.sched, &self.entries, id)
     }
 }

@@ -2,12 +2,10 @@
 #![tactic(auto)]
 
 mod engine;
-mod kinds;
+mod entry;
 mod least;
-mod resource;
 
 pub use engine::{Engine, EngineFault, Record};
-pub use kinds::is_all_calcs;
 
 #[cfg(test)]
 mod tests;

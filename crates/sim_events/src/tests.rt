@@ -1,19 +1,18 @@
 // Small runs, with times worked by hand.
-use super::{Engine, EngineFault, Record, is_all_calcs};
+use super::{Engine, EngineFault, Record};
 use goal_graph::{Class, Dep, Kind, Op, OpId, RankPlan, Sched, Timed, When};
 use sim_params::{LogGops, Params};
 use std::alloc::{AllocError, Global};
 use std::process::Abort;
 use std::test::Fail;
 
-// A rank with a calc for each duration and cpu.
-fn plan(alloc: Global, calcs: &[(u64, u8)], deps: &[Dep]) -> Result<RankPlan, AllocError> {
+// What a rank does, all of it on one cpu and one interface.
+fn plan(alloc: Global, kinds: &[Kind], deps: &[Dep]) -> Result<RankPlan, AllocError> {
     let mut ops = Vec::new(alloc);
-    for (nanos, cpu) in calcs {
-        let kind = Kind::Calc { nanos: *nanos };
+    for kind in kinds {
         ops.push(Op {
-            kind,
-            cpu: *cpu,
+            kind: *kind,
+            cpu: 0,
             nic: 0,
         })?;
     }
@@ -24,96 +23,176 @@ fn plan(alloc: Global, calcs: &[(u64, u8)], deps: &[Dep]) -> Result<RankPlan, Al
     })
 }
 
+fn send(bytes: u64, to: u32) -> Kind {
+    Kind::Send { bytes, to, tag: 0 }
+}
+
+fn recv(bytes: u64, from: Option<u32>) -> Kind {
+    Kind::Recv {
+        bytes,
+        from,
+        tag: Some(0),
+    }
+}
+
 fn costs() -> Result<LogGops, Fail> {
     Ok(LogGops {
         params: Params::new(2500, 1500, 1000, 6, 0, 65535)?,
     })
 }
 
-// When an operation started and when it ends.
+// When an operation started and when it ends, and its partner.
 fn told(
     rt: &impl Abort,
     engine: &Engine<LogGops>,
     rank: u32,
     op: u32,
-) -> (Option<u64>, Option<u64>) {
+) -> (Option<u64>, Option<u64>, Option<OpId>) {
     let plans = engine.sched().plans();
     assert!(rt; (rank as usize) < plans.len());
     let plan = &plans[rank as usize];
     assert!(rt; (op as usize) < plan.ops.len());
-    let Record { start, end, .. } = engine.record(OpId { rank, op });
-    (start, end)
+    let Record {
+        start,
+        end,
+        partner,
+    } = engine.record(OpId { rank, op });
+    (start, end, partner)
+}
+
+fn id(rank: u32, op: u32) -> Option<OpId> {
+    Some(OpId { rank, op })
+}
+
+fn at(time: u64, class: Class, rank: u32, op: u32) -> Timed {
+    Timed {
+        time,
+        class,
+        op: OpId { rank, op },
+    }
 }
 
 // Two calcs on one cpu: the second waits.
 #[test]
 fn a_busy_cpu(rt: HostRuntime) -> Result<(), Fail> {
-    let calcs = plan(rt.alloc(), &[(100, 0), (100, 0)], &[])?;
+    let calc = Kind::Calc { nanos: 100 };
+    let calcs = plan(rt.alloc(), &[calc, calc], &[])?;
     let sched = Sched::build(rt.alloc(), vec![in rt.alloc(); calcs]?)?;
-    assert!(rt; is_all_calcs(&sched));
     let mut engine = Engine::new(rt.alloc(), &sched, costs()?)?;
     assert_eq!(rt; engine.trace().len(), 0);
     engine.run();
     assert!(rt; engine.is_done());
-    let begin = |time, op| Timed {
-        time,
-        class: Class::Begin,
-        op: OpId { rank: 0, op },
-    };
-    assert_eq!(rt; engine.trace(), [begin(0, 0), begin(100, 1)].as_slice());
-    assert_eq!(rt; told(&rt, &engine, 0, 0), (Some(0), Some(100)));
-    assert_eq!(rt; told(&rt, &engine, 0, 1), (Some(100), Some(200)));
+    let trace = [at(0, Class::Begin, 0, 0), at(100, Class::Begin, 0, 1)];
+    assert_eq!(rt; engine.trace(), trace.as_slice());
+    assert_eq!(rt; told(&rt, &engine, 0, 1), (Some(100), Some(200), None));
     Ok(())
 }
 
-// On cpus of their own: 1 starts with 0, 2 waits for the ends of 0 and 1, and 3 for the end of 1 and the start of 2.
+// A receive that needs a calc takes a smaller message that waits for it.
 #[test]
-fn a_chain(rt: HostRuntime) -> Result<(), Fail> {
-    let dep = |later, earlier, when| Dep {
-        later,
-        earlier,
-        when,
+fn a_message_that_waits(rt: HostRuntime) -> Result<(), Fail> {
+    let sends = plan(rt.alloc(), &[send(4, 1)], &[])?;
+    let kinds = [Kind::Calc { nanos: 100_000 }, recv(10, Some(0))];
+    let need = Dep {
+        later: 1,
+        earlier: 0,
+        when: When::AfterEnd,
     };
-    let deps = [
-        dep(1, 0, When::AfterStart),
-        dep(2, 1, When::AfterEnd),
-        dep(2, 0, When::AfterEnd),
-        dep(3, 1, When::AfterEnd),
-        dep(3, 2, When::AfterStart),
-    ];
-    let calcs = plan(rt.alloc(), &[(100, 0), (30, 1), (10, 2), (5, 3)], &deps)?;
-    let sched = Sched::build(rt.alloc(), vec![in rt.alloc(); calcs]?)?;
-    assert!(rt; is_all_calcs(&sched));
+    let receives = plan(rt.alloc(), &kinds, &[need])?;
+    let sched = Sched::build(rt.alloc(), vec![in rt.alloc(); sends, receives]?)?;
     let mut engine = Engine::new(rt.alloc(), &sched, costs()?)?;
-    assert_eq!(rt; told(&rt, &engine, 0, 0), (None, None));
+    assert_eq!(rt; told(&rt, &engine, 1, 1), (None, None, None));
     engine.run();
-    let times = [(0, 100), (0, 30), (100, 110), (100, 105)];
-    for (op, (start, end)) in times.into_iter().enumerate() {
-        assert_eq!(rt;
-            told(&rt, &engine, 0, op as u32),
-            (Some(start), Some(end)),
-            "at {op}"
-        );
-    }
+    assert_eq!(rt; told(&rt, &engine, 0, 0), (Some(0), Some(1500), id(1, 1)));
+    assert_eq!(rt;
+        told(&rt, &engine, 1, 1),
+        (Some(100_000), Some(101_500), id(0, 0))
+    );
     Ok(())
 }
 
-// 32,768 of the longest calcs leave 32,767 ns of the budget; one more is over it.
+// A message of one byte more than goes out whole: its request, its clearance and its bytes.
 #[test]
-fn a_budget_that_is_over(rt: HostRuntime) -> Result<(), Fail> {
-    let mut calcs = Vec::new(rt.alloc());
-    for _ in 0..32_769 {
-        calcs.push((281_474_976_710_655, 0))?;
-    }
-    let calcs = plan(rt.alloc(), &calcs, &[])?;
-    let sched = Sched::build(rt.alloc(), vec![in rt.alloc(); calcs]?)?;
-    assert!(rt; is_all_calcs(&sched));
-    let fault = Engine::new(rt.alloc(), &sched, costs()?).err();
+fn a_large_message(rt: HostRuntime) -> Result<(), Fail> {
+    let sends = plan(rt.alloc(), &[send(65_536, 1)], &[])?;
+    let receives = plan(rt.alloc(), &[recv(65_536, Some(0))], &[])?;
+    let sched = Sched::build(rt.alloc(), vec![in rt.alloc(); sends, receives]?)?;
+    let mut engine = Engine::new(rt.alloc(), &sched, costs()?)?;
+    engine.run();
+    let trace = [
+        at(0, Class::Post, 1, 0),
+        at(0, Class::Begin, 0, 0),
+        at(4000, Class::Arrive, 0, 0),
+        at(6500, Class::Data, 0, 0),
+        at(403_710, Class::Serve, 1, 0),
+    ];
+    assert_eq!(rt; engine.trace(), trace.as_slice());
+    assert_eq!(rt; told(&rt, &engine, 0, 0), (Some(0), Some(8000), id(1, 0)));
     assert_eq!(rt;
-        fault,
-        Some(EngineFault::Budget {
-            sum: 9_223_653_511_831_453_695
-        })
+        told(&rt, &engine, 1, 0),
+        (Some(0), Some(405_210), id(0, 0))
     );
+    Ok(())
+}
+
+// Two receives from any source, and a send from each of two ranks.
+#[test]
+fn from_any_source(rt: HostRuntime) -> Result<(), Fail> {
+    let receives = plan(rt.alloc(), &[recv(1, None), recv(1, None)], &[])?;
+    let first = plan(rt.alloc(), &[send(1, 0)], &[])?;
+    let second = plan(rt.alloc(), &[send(1, 0)], &[])?;
+    let sched = Sched::build(rt.alloc(), vec![in rt.alloc(); receives, first, second]?)?;
+    let mut engine = Engine::new(rt.alloc(), &sched, costs()?)?;
+    engine.run();
+    assert_eq!(rt; told(&rt, &engine, 0, 0), (Some(0), Some(5500), id(1, 0)));
+    assert_eq!(rt; told(&rt, &engine, 0, 1), (Some(0), Some(7000), id(2, 0)));
+    assert_eq!(rt; told(&rt, &engine, 2, 0), (Some(0), Some(1500), id(0, 1)));
+    Ok(())
+}
+
+// Two large sends that each wait for a receive after the other's send.
+#[test]
+fn a_deadlock(rt: HostRuntime) -> Result<(), Fail> {
+    let need = Dep {
+        later: 1,
+        earlier: 0,
+        when: When::AfterEnd,
+    };
+    let kinds = [send(100_000, 1), recv(100_000, Some(1))];
+    let first = plan(rt.alloc(), &kinds, &[need])?;
+    let kinds = [send(100_000, 0), recv(100_000, Some(0))];
+    let second = plan(rt.alloc(), &kinds, &[need])?;
+    let sched = Sched::build(rt.alloc(), vec![in rt.alloc(); first, second]?)?;
+    let mut engine = Engine::new(rt.alloc(), &sched, costs()?)?;
+    engine.run();
+    assert!(rt; engine.is_done());
+    assert_eq!(rt; told(&rt, &engine, 0, 0), (Some(0), None, None));
+    assert_eq!(rt; told(&rt, &engine, 0, 1), (None, None, None));
+    Ok(())
+}
+
+// One message of the largest size at the greatest costs of a byte runs; two are over the budget.
+#[test]
+fn the_largest_message(rt: HostRuntime) -> Result<(), Fail> {
+    let largest = LogGops {
+        params: Params::new(2500, 1500, 1000, 1_048_575, 1_048_575, 65535)?,
+    };
+    let send = send(1_099_511_627_775, 1);
+    let recv = recv(1_099_511_627_775, Some(0));
+    let sends = plan(rt.alloc(), &[send], &[])?;
+    let receives = plan(rt.alloc(), &[recv], &[])?;
+    let sched = Sched::build(rt.alloc(), vec![in rt.alloc(); sends, receives]?)?;
+    let mut engine = Engine::new(rt.alloc(), &sched, largest)?;
+    engine.run();
+    let sent = Some(1_152_920_405_093_130_050);
+    let taken = Some(2_305_840_810_186_256_100);
+    assert_eq!(rt; told(&rt, &engine, 0, 0), (Some(0), sent, id(1, 0)));
+    assert_eq!(rt; told(&rt, &engine, 1, 0), (Some(0), taken, id(0, 0)));
+    let sends = plan(rt.alloc(), &[send, send], &[])?;
+    let receives = plan(rt.alloc(), &[recv, recv], &[])?;
+    let sched = Sched::build(rt.alloc(), vec![in rt.alloc(); sends, receives]?)?;
+    let fault = Engine::new(rt.alloc(), &sched, largest).err();
+    let sum = 11_529_204_050_931_256_500;
+    assert_eq!(rt; fault, Some(EngineFault::Budget { sum }));
     Ok(())
 }

@@ -1,4 +1,4 @@
-use Rattle.std.proofs.Common.{take, get_or, refl, sym, ◌∙◌}
+use Rattle.std.proofs.Common.{take, get_or, refl, sym, ap, ltb, ◌∙◌}
 use Rattle.std.proofs.lemmas.List.{append-nil, take_more, take_all, flat_map_more}
 use Rattle.goal_cli.specs.Timeline.{first_line, line_of, timeline}
 use Rattle.goal_cli.proofs.TimelineLemmas.{first_line_is, line_is}
@@ -9,7 +9,7 @@ loop-id-init g c =
     let costs = g.C.Costs.model c.args.engine.now.costs in
     let h = c.args.engine.now.history in
     let put = rw c.new-out.ensures at c.in_ok-put_summary.ensures in
-    put ∙ first_line_is c.args.sched.now costs h _ _ _ c.sum_up.ensures ∙ sym (append-nil (first_line c.args.sched.now costs h))
+    put ∙ first_line_is c.args.sched.now costs h _ _ _ c.sum_up-summary.ensures ∙ sym (append-nil (first_line c.args.sched.now costs h))
 
 pub loop-id-preserved : goal.loop-id-preserved
 loop-id-preserved g c =
@@ -26,8 +26,11 @@ loop-id-preserved g c =
     ∙ rw (c.record.ensures.start, c.record.ensures.end, c.record.ensures.partner, c.requires.same, line, c.loop-id.invariant)
     (flat_map_more lines first (take i items) id))
 
-pub returns : goal.returns
+pub returns-clause-printed : goal.returns-clause-printed
 unfolding timeline
-returns g c =
+returns-clause-printed g c =
     let items = c.operations-id-items.result.now in
     rw (c.into_bytes.ensures, c.loop-id.invariant, take_all c.loop-id.id-index items c.loop-id-test.false, c.operations-id-items.ensures.all) refl
+
+pub returns-clause-stuck : goal.returns-clause-stuck
+returns-clause-stuck g c = ap (ltb 0) c.sum_up-summary.ensures.stuck_is

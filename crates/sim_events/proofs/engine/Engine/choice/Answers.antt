@@ -1,17 +1,46 @@
-use Rattle.std.proofs.Common.{◌≡◌, ◌∙◌, max, sym, ap, subst}
-use Rattle.goal_graph.specs.declared.action.OpId.{OpId}
-use Rattle.sim_events.specs.Least.{IsLeastAmong}
-use Rattle.sim_events.proofs.Choice.{started_nothing, unready_nothing, begin_is}
+use Rattle.std.proofs.Common.{List, sym, ap, ◌∙◌}
+use Rattle.goal_graph.specs.declared.plan.Kind.TheVariants.{Calc, Send, Recv}
+use Rattle.goal_graph.specs.Schedule.{Plan, op_at}
+use Rattle.sim_resources.proofs.OfKind.{kind_from_op}
+use Rattle.sim_events.proofs.Choice.{calc_choice, send_choice, receive_choice}
 use Rattle.sim_events.proofs.engine.Engine.choice.Goals as goal
 
-pub returns-then-is_some : goal.returns-then-is_some
-returns-then-is_some g c =
-    started_nothing _ _ c.known.ensures.calcs _ c.args.id c.moment.result c.moment.ensures (sym c.is_some.ensures ∙ c.if-is_some.true)
+pub begin_of_calc-requires : goal.begin_of_calc-requires
+begin_of_calc-requires g c =
+    let is = sym (ap (λ (plans : List Plan). op_at plans c.args.id) c.sched.ensures) ∙ c.op.ensures.op in
+    record { nanos = c.in-Calc.nanos; kind = kind_from_op _ c.args.id c.op.result.now (Calc c.in-Calc.nanos) is c.in-Calc.is }
 
-pub returns-in_err-ready : goal.returns-in_err-ready
-returns-in_err-ready g c =
-    subst (λ r. IsLeastAmong c.args.self.now.plans (g.C.Costs.model c.args.self.now.costs) (λ (y : OpId). y ≡ c.args.id) c.args.self.now.history r) (sym c.from_residual.ensures) (unready_nothing _ _ c.known.ensures.calcs _ c.args.id c.ready.result c.ready.ensures c.in_err-ready.was)
+pub begin_of_send-requires : goal.begin_of_send-requires
+begin_of_send-requires g c =
+    let is = sym (ap (λ (plans : List Plan). op_at plans c.args.id) c.sched.ensures) ∙ c.op.ensures.op in
+    record { bytes = c.in-Send.bytes; to = c.in-Send.to; tag = c.in-Send.tag; kind = kind_from_op _ c.args.id c.op.result.now (Send c.in-Send.bytes c.in-Send.to c.in-Send.tag) is c.in-Send.is }
 
-pub returns : goal.returns
-returns g c =
-    begin_is _ _ c.known.ensures.calcs _ c.args.id c.requires c.moment.result c.ready.result c.in_ok-ready.ready c.max.result c.moment.ensures (sym c.is_some.ensures ∙ c.if-is_some.false) c.ready.ensures c.in_ok-ready.was (c.max.ensures ∙ ap (λ n. max c.in_ok-ready.ready n) c.cpu_free-free.ensures)
+pub hand_over_of-requires : goal.hand_over_of-requires
+hand_over_of-requires g c =
+    let is = sym (ap (λ (plans : List Plan). op_at plans c.args.id) c.sched.ensures) ∙ c.op.ensures.op in
+    record { bytes = c.in-Send.bytes; to = c.in-Send.to; tag = c.in-Send.tag; kind = kind_from_op _ c.args.id c.op.result.now (Send c.in-Send.bytes c.in-Send.to c.in-Send.tag) is c.in-Send.is }
+
+pub post_of-requires : goal.post_of-requires
+post_of-requires g c =
+    let is = sym (ap (λ (plans : List Plan). op_at plans c.args.id) c.sched.ensures) ∙ c.op.ensures.op in
+    record { room = c.in-Recv.bytes; from = c.in-Recv.from; tag = c.in-Recv.tag; kind = kind_from_op _ c.args.id c.op.result.now (Recv c.in-Recv.bytes c.in-Recv.from c.in-Recv.tag) is c.in-Recv.is }
+
+pub serve_of-requires : goal.serve_of-requires
+serve_of-requires g c =
+    let is = sym (ap (λ (plans : List Plan). op_at plans c.args.id) c.sched.ensures) ∙ c.op.ensures.op in
+    record { room = c.in-Recv.bytes; from = c.in-Recv.from; tag = c.in-Recv.tag; kind = kind_from_op _ c.args.id c.op.result.now (Recv c.in-Recv.bytes c.in-Recv.from c.in-Recv.tag) is c.in-Recv.is }
+
+pub returns-in-Calc : goal.returns-in-Calc
+returns-in-Calc g c =
+    let is = sym (ap (λ (plans : List Plan). op_at plans c.args.id) c.sched.ensures) ∙ c.op.ensures.op in
+    calc_choice _ _ _ c.args.id (record { nanos = c.in-Calc.nanos; kind = kind_from_op _ c.args.id c.op.result.now (Calc c.in-Calc.nanos) is c.in-Calc.is }) c.begin_of_calc.result c.begin_of_calc.ensures
+
+pub returns-in-Send : goal.returns-in-Send
+returns-in-Send g c =
+    let is = sym (ap (λ (plans : List Plan). op_at plans c.args.id) c.sched.ensures) ∙ c.op.ensures.op in
+    send_choice _ _ _ c.args.id c.known.ensures.run (record { bytes = c.in-Send.bytes; to = c.in-Send.to; tag = c.in-Send.tag; kind = kind_from_op _ c.args.id c.op.result.now (Send c.in-Send.bytes c.in-Send.to c.in-Send.tag) is c.in-Send.is }) c.begin_of_send.result c.arrival.result c.hand_over_of.result c.or-in-Send.result c.or.result c.begin_of_send.ensures c.arrival.ensures c.hand_over_of.ensures c.or.ensures c.or-in-Send.ensures
+
+pub returns-in-Recv : goal.returns-in-Recv
+returns-in-Recv g c =
+    let is = sym (ap (λ (plans : List Plan). op_at plans c.args.id) c.sched.ensures) ∙ c.op.ensures.op in
+    receive_choice _ _ _ c.args.id c.known.ensures.run (record { room = c.in-Recv.bytes; from = c.in-Recv.from; tag = c.in-Recv.tag; kind = kind_from_op _ c.args.id c.op.result.now (Recv c.in-Recv.bytes c.in-Recv.from c.in-Recv.tag) is c.in-Recv.is }) c.post_of.result c.serve_of.result c.or-in-Recv.result c.post_of.ensures c.serve_of.ensures c.or-in-Recv.ensures

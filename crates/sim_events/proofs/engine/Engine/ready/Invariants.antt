@@ -1,6 +1,6 @@
 use Rattle.std.proofs.Common.{◌≡◌, drop}
 use Rattle.goal_graph.specs.Schedule.{needs}
-use Rattle.sim_events.specs.Mirrors.{ready_told}
+use Rattle.sim_events.specs.Turns.{ready_told}
 use Rattle.sim_events.proofs.Ready.{ready_from}
 use Rattle.sim_events.proofs.engine.Engine.ready.Given as goal
 

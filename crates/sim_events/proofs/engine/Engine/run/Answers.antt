@@ -5,7 +5,7 @@ use Rattle.sim_params.proofs.BudgetBound.{within_budget}
 use Rattle.sim_params.proofs.Interleavings.{run_each, run_interleaving, complete_interleaving}
 use Rattle.sim_params.proofs.Unique.{one_complete}
 use Rattle.sim_events.proofs.Finished.{complete_at}
-use Rattle.sim_events.proofs.Steps.{fewer_left}
+use Rattle.sim_events.proofs.Runs.{fewer_left}
 use Rattle.sim_events.proofs.engine.Engine.run.Goals as goal
 
 pub steps-smaller : goal.steps-smaller

@@ -1,0 +1,11 @@
+pub mod Examples
+pub mod Loop
+pub mod RanksLoop
+pub mod Steps
+pub mod FieldsTaken
+pub mod ItemsTaken
+pub mod RanksTaken
+pub mod FieldsAgain
+pub mod ItemsAgain
+pub mod RanksAgain
+pub mod Round

@@ -1,0 +1,36 @@
+-- What is decoded is the file of the schedule, and the file of a schedule is decoded as the schedule.
+use Rattle.std.proofs.Common.{◌≡◌, ◌≢◌, ℕ, List, Result, Ok, Err, refl, sym, ap, subst, ◌∙◌}
+use Rattle.std.specs.Prelude.{IfOk, IfErr, IsOkUnless}
+use Rattle.goal_graph.specs.Schedule.{Plan}
+use Rattle.goal_graph.specs.Fault.{IsAccepted}
+use Rattle.goal_graph.specs.Widths.{AreInWidth}
+use Rattle.goal_graph.proofs.Faults.{IsAccepted-no_fault}
+use Rattle.goal_binary.specs.declared.fault.FileFault.{FileFault}
+use Rattle.goal_binary.specs.declared.fault.FileFault.TheVariants as fault
+use Rattle.goal_binary.specs.File.{file}
+use Rattle.goal_binary.specs.Meaning.{meaning, IsFaultOf, IsFileFault}
+use Rattle.goal_binary.proofs.Steps.{IsBytes, ok_is}
+use Rattle.goal_binary.proofs.RanksTaken.{meaning_taken}
+use Rattle.goal_binary.proofs.RanksAgain.{meaning_again}
+
+pub is_file : (bytes : List ℕ) (r : Result (List Plan) FileFault) → IsBytes bytes → IfOk r (λ plans. meaning bytes ≡ Ok plans) → IfOk r (λ plans. bytes ≡ file plans)
+is_file bytes (Ok plans) fits said = meaning_taken bytes fits plans said
+is_file bytes (Err f) fits said = tt
+
+-- where plans are accepted, memory ran out
+only_memory : (plans : List Plan) (f : FileFault) → IsAccepted plans → (f ≢ fault.NoMemory → IsFaultOf (Ok plans) f) → f ≡ fault.NoMemory
+only_memory plans fault.NoMemory accepted told = refl
+only_memory plans (fault.Plan f) accepted told = absurd (IsAccepted-no_fault plans f accepted (told (λ e. absurd cc)))
+only_memory plans fault.Magic accepted told = absurd (told (λ e. absurd cc))
+only_memory plans (fault.Short at) accepted told = absurd (told (λ e. absurd cc))
+only_memory plans (fault.Version found) accepted told = absurd (told (λ e. absurd cc))
+only_memory plans (fault.Field at) accepted told = absurd (told (λ e. absurd cc))
+only_memory plans (fault.Extra at) accepted told = absurd (told (λ e. absurd cc))
+
+pub is_again : (bytes : List ℕ) (r : Result (List Plan) FileFault) → IfOk r (λ plans. meaning bytes ≡ Ok plans) → IfErr r (λ f. f ≢ fault.NoMemory → IsFileFault bytes f)
+    → (plans : List Plan) → IsAccepted plans → AreInWidth plans → bytes ≡ file plans → IfOk r (λ found. found ≡ plans) × IsOkUnless r fault.NoMemory
+is_again bytes r said told plans accepted widths same = go r said told (ap meaning same ∙ meaning_again plans accepted widths)
+  where
+    go : (r : Result (List Plan) FileFault) → IfOk r (λ plans. meaning bytes ≡ Ok plans) → IfErr r (λ f. f ≢ fault.NoMemory → IsFileFault bytes f) → meaning bytes ≡ Ok plans → IfOk r (λ found. found ≡ plans) × IsOkUnless r fault.NoMemory
+    go (Ok found) said told means = (ok_is found plans (sym said ∙ means), tt)
+    go (Err f) said told means = (tt, only_memory plans f accepted (λ other. subst (λ m. IsFaultOf m f) means (told other)))

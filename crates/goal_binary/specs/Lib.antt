@@ -1,0 +1,5 @@
+pub mod File
+pub mod Fields
+pub mod Reading
+pub mod Meaning
+pub mod Laws

@@ -1,0 +1,47 @@
+-- What bytes mean: the plans of all ranks, or the first fault.
+use Rattle.std.specs.Prelude.{◌≡◌, ◌≢◌, ℕ, List, [], length, Result, Ok, Err, nat_lt, if◌then◌else◌}
+use Rattle.goal_graph.specs.declared.fault.PlanFault.{PlanFault}
+use Rattle.goal_graph.specs.declared.fault.PlanFault.TheVariants as plan
+use Rattle.goal_graph.specs.Schedule.{Plan}
+use Rattle.goal_graph.specs.Fault.{IsFault}
+use Rattle.goal_binary.specs.declared.fault.FileFault.{FileFault}
+use Rattle.goal_binary.specs.declared.fault.FileFault.TheVariants as fault
+use Rattle.goal_binary.specs.Fields.{Read, ◌>>=◌, header_at}
+use Rattle.goal_binary.specs.Reading.{ranks_at}
+
+-- the header, and a record for each rank
+unfoldable pub plans_at : List ℕ → Read (List Plan)
+plans_at bytes = do
+  ranks ← header_at bytes
+  ranks_at bytes ranks.0 [] ranks.1
+
+-- the same, and nothing behind it
+unfoldable pub meaning : List ℕ → Result (List Plan) FileFault
+meaning bytes = do
+  plans ← plans_at bytes
+  if nat_lt plans.1 (length bytes) then Err (fault.Extra plans.1) else Ok plans.0
+
+-- it is the fault of bytes with this meaning: that of a field, or where there is none that of the plans
+abbrev pub IsFaultOfPlans : List Plan → FileFault → Type 0
+IsFaultOfPlans plans (fault.Plan f) = IsFault plans f
+IsFaultOfPlans plans _ = ⊥
+
+abbrev pub IsFaultOf : Result (List Plan) FileFault → FileFault → Type 0
+IsFaultOf (Err first) found = first ≡ found
+IsFaultOf (Ok plans) found = IsFaultOfPlans plans found
+
+abbrev pub IsFileFault : List ℕ → FileFault → Type 0
+IsFileFault bytes found = IsFaultOf (meaning bytes) found
+
+-- the fault of plans, as that of the file
+abbrev pub fault_of_plans : PlanFault → FileFault
+fault_of_plans plan.NoMemory = fault.NoMemory
+fault_of_plans f = fault.Plan f
+
+-- what a function that takes memory returned, seen by view, is what reading gives, unless memory ran out
+abbrev pub Fails : {Y : Type 0} → FileFault → Result Y FileFault → Type 0
+Fails found read = found ≢ fault.NoMemory → read ≡ Err found
+
+abbrev pub Gives : {X Y : Type 0} → (X → Y) → Result X FileFault → Result Y FileFault → Type 0
+Gives view (Ok x) read = read ≡ Ok (view x)
+Gives view (Err found) read = Fails found read

@@ -1,0 +1,87 @@
+//! From a compiled file to its schedule.
+ghost use Rattle.std.specs.Prelude.{◌≡◌, ◌≢◌, List, Ok, IfOk, IfErr, IsOkUnless};
+ghost use Rattle.goal_graph.specs.Schedule.{Plan};
+ghost use Rattle.goal_graph.specs.Fault.{IsAccepted};
+ghost use Rattle.goal_graph.specs.Widths.{AreInWidth};
+ghost use Rattle.goal_binary.specs.File.{file};
+ghost use Rattle.goal_binary.specs.Meaning.{plans_at, meaning, IsFileFault, fault_of_plans, Gives};
+
+use crate::fault::FileFault;
+use crate::fields::header_at;
+use crate::ranks::ranks_at;
+use goal_graph::{PlanFault, RankPlan, Sched};
+use std::alloc::Global;
+
+/// The plans at the front, and the place behind them.
+#[tactic(auto, unfolding(crate::specs::Meaning::plans_at))]
+fn plans_at(alloc: Global, bytes: &[u8]) -> Result<(Vec<RankPlan>, usize), FileFault>
+    ensures { Gives (λ x. (x.0.items, x.1)) result (plans_at bytes.now) }
+{
+    let (count, ranks) = header_at(bytes)?;
+    ranks_at(alloc, bytes, count, ranks)
+}
+
+/// The plans that all of the bytes mean.
+#[tactic(auto, unfolding(crate::specs::Meaning::meaning))]
+fn read(alloc: Global, bytes: &[u8]) -> Result<Vec<RankPlan>, FileFault>
+    ensures { Gives (λ v. v.items) result (meaning bytes.now) }
+{
+    let (plans, after) = plans_at(alloc, bytes)?;
+    if after < bytes.len() {
+        return Err(FileFault::Extra { at: after as u64 });
+    }
+    Ok(plans)
+}
+
+/// The fault of the plans, as that of the file.
+fn fault_of_plans(fault: PlanFault) -> FileFault
+    ensures { result ≡ fault_of_plans fault }
+{
+    match fault {
+        PlanFault::NoMemory => FileFault::NoMemory,
+        fault => FileFault::Plan(fault),
+    }
+}
+
+/// The schedule of a compiled file, or the first fault.
+fn schedule_of(alloc: Global, bytes: &[u8]) -> Result<Sched, FileFault>
+    ensures ok { IfOk result (λ sched. meaning bytes.now ≡ Ok sched) }
+    ensures accepted { IfOk result (λ sched. IsAccepted sched) }
+    ensures fault { IfErr result (λ fault. fault ≢ FileFault.NoMemory → IsFileFault bytes.now fault) }
+{
+    let plans = match read(alloc, bytes) {
+        Ok(plans) => plans,
+        Err(fault) => return Err(fault),
+    };
+    match Sched::build(alloc, plans) {
+        Ok(sched) => Ok(sched),
+        Err(fault) => Err(fault_of_plans(fault)),
+    }
+}
+
+/// The schedule of a compiled file.
+///
+/// The bytes are read once, from the front. Items are kept as they are read, and never for a count alone: a count in a
+/// damaged file takes no more memory than the bytes behind it can hold.
+///
+/// # Errors
+///
+/// The first fault: that of the first field, in the order of the file, that is not whole or that no file can have
+/// there; else that of bytes behind the last rank; else the first fault of the plans. And want of memory.
+pub fn decode(alloc: Global, bytes: &[u8]) -> Result<Sched, FileFault>
+    // The plans are those that the bytes mean, and they are a schedule.
+    ensures ok { IfOk result (λ sched. meaning bytes.now ≡ Ok sched) }
+    ensures accepted { IfOk result (λ sched. IsAccepted sched) }
+
+    // The fault is that of the bytes, or else that of their plans.
+    ensures fault { IfErr result (λ fault. fault ≢ FileFault.NoMemory → IsFileFault bytes.now fault) }
+
+    // The bytes are the file of the schedule, so no second file is accepted for it.
+    ensures file { IfOk result (λ sched. bytes.now ≡ file sched) }
+
+    // The file of a schedule is read as this schedule, unless memory runs out.
+    ensures again { (plans : List Plan) → IsAccepted plans → AreInWidth plans → bytes.now ≡ file plans
+        → IfOk result (λ sched. sched ≡ plans) × IsOkUnless result FileFault.NoMemory }
+{
+    schedule_of(alloc, bytes)
+}

@@ -1,0 +1,41 @@
+//! Why bytes are no compiled file of a schedule.
+ghost use Rattle.std.specs.Prelude.{◌≡◌};
+ghost use Rattle.goal_binary.specs.declared.fault.FileFault.TheVariants.{NoMemory};
+
+use goal_graph::PlanFault;
+use std::alloc::{AllocError, AllocFailed};
+
+/// The first fault of bytes that should be a compiled file. Offsets are in bytes from 0.
+#[derive(Clone, Copy, Debug, PartialEq, Eq)]
+pub enum FileFault {
+    /// The input ends, after `at` bytes, before a field is whole.
+    Short { at: u64 },
+    /// The file does not begin with the magic.
+    Magic,
+    /// The file is of another version than 1.
+    Version { found: u32 },
+    /// No file can have what the whole field that begins at `at` has.
+    Field { at: u64 },
+    /// Bytes follow the record of the last rank, the first of them at `at`.
+    Extra { at: u64 },
+    /// The plans of the file are no schedule.
+    Plan(PlanFault),
+    /// Memory ran out.
+    NoMemory,
+}
+
+impl From<AllocError> for FileFault {
+    ghost from_gives = { λ _ fault. fault ≡ NoMemory };
+
+    fn from(_error: AllocError) -> FileFault {
+        FileFault::NoMemory
+    }
+}
+
+impl<T: Drop> From<AllocFailed<T>> for FileFault {
+    ghost from_gives = { λ _ fault. fault ≡ NoMemory };
+
+    fn from(_error: AllocFailed<T>) -> FileFault {
+        FileFault::NoMemory
+    }
+}

@@ -1,0 +1,151 @@
+// From the bytes of an input to what a command makes of them.
+ghost use Rattle.std.specs.Prelude.{◌≡◌, ◌<◌, ◌≤◌, ◌^◌, true, false, length, Ok, OnOk, IfOk, IfErr};
+ghost use Rattle.sim_params.specs.Numbers.{numbers};
+ghost use Rattle.sim_params.specs.Costs.{log_gops};
+ghost use Rattle.sim_params.specs.Budget.{budget};
+ghost use Rattle.sim_events.specs.Engine.{IsBudgetFault};
+ghost use Rattle.goal_print.specs.Canonical.{canonical};
+ghost use Rattle.goal_binary.specs.File.{file};
+ghost use Rattle.goal_words.specs.Words.{Command, command};
+ghost use Rattle.goal_cli.specs.Input.{is_compiled, IsReadAs, IsTextFault, IsFaultOfFile};
+ghost use Rattle.goal_cli.specs.Output.{IsPrintedRun, IsOutput, IsStop};
+
+use crate::answer::Refusal;
+use crate::timeline::timeline;
+use goal_base::NoMemory;
+use goal_binary::{FileFault, decode, encode};
+use goal_graph::Sched;
+use goal_parser::{TextFault, read_text};
+use goal_print::print_text;
+use goal_words::Line;
+use sim_events::{Engine, EngineFault};
+use sim_params::{LogGops, Params};
+use std::alloc::Global;
+
+// What a command writes, and whether an operation of the run has no end.
+#[derive(Drop)]
+pub struct Output {
+    pub bytes: Vec<u8>,
+    pub stuck: bool,
+}
+
+// Why a command makes nothing of its input.
+pub enum Stop {
+    Refused(Refusal),
+    NoMemory,
+}
+
+// The first byte of each compiled file.
+const COMPILED: u8 = 0x89;
+
+// Whether an input is a compiled file.
+fn is_compiled(input: &[u8]) -> bool
+    ensures { result ≡ is_compiled input.now }
+{
+    match input.first() {
+        Some(byte) => *byte == COMPILED,
+        None => false,
+    }
+}
+
+// The schedule of a text.
+fn read_as_text(alloc: Global, input: &[u8]) -> Result<Sched, Stop>
+    requires short { length input.now ≤ 2 ^ 27 }
+    requires text { is_compiled input.now ≡ false }
+    ensures read { IfOk result (λ sched. IsReadAs input.now sched) }
+    ensures stop { IfErr result (λ stop. (c : Command) → IsStop c input.now stop) }
+{
+    match read_text(alloc, input) {
+        Ok(sched) => Ok(sched),
+        Err(TextFault::NoMemory) => Err(Stop::NoMemory),
+        Err(fault) => Err(Stop::Refused(Refusal::Text(fault))),
+    }
+}
+
+// The schedule of a compiled file.
+fn read_as_file(alloc: Global, input: &[u8]) -> Result<Sched, Stop>
+    requires short { length input.now ≤ 2 ^ 27 }
+    requires compiled { is_compiled input.now ≡ true }
+    ensures read { IfOk result (λ sched. IsReadAs input.now sched) }
+    ensures stop { IfErr result (λ stop. (c : Command) → IsStop c input.now stop) }
+{
+    match decode(alloc, input) {
+        Ok(sched) => Ok(sched),
+        Err(FileFault::NoMemory) => Err(Stop::NoMemory),
+        Err(fault) => Err(Stop::Refused(Refusal::File(fault))),
+    }
+}
+
+// The schedule that an input says.
+fn read_input(alloc: Global, input: &[u8]) -> Result<Sched, Stop>
+    requires short { length input.now ≤ 2 ^ 27 }
+    ensures read { IfOk result (λ sched. IsReadAs input.now sched) }
+    ensures stop { IfErr result (λ stop. (c : Command) → IsStop c input.now stop) }
+{
+    if is_compiled(input) {
+        read_as_file(alloc, input)
+    } else {
+        read_as_text(alloc, input)
+    }
+}
+
+// The printed run of a schedule.
+fn print_run(alloc: Global, sched: &Sched, params: Params) -> Result<Output, EngineFault>
+    ensures fits { OnOk result (budget sched.now (log_gops (numbers params)) < 2 ^ 63) }
+    ensures run { IfOk result (λ output.
+        IsPrintedRun (log_gops (numbers params)) sched.now output.bytes.items output.stuck) }
+    ensures fault { IfErr result (IsBudgetFault (budget sched.now (log_gops (numbers params)))) }
+{
+    let mut engine = match Engine::new(alloc, sched, LogGops { params }) {
+        Ok(engine) => engine,
+        Err(fault) => return Err(fault),
+    };
+    engine.run();
+    match timeline(alloc, sched, &engine) {
+        Ok(output) => Ok(output),
+        Err(NoMemory) => Err(EngineFault::NoMemory),
+    }
+}
+
+// An output of a command that runs nothing.
+fn whole(bytes: Result<Vec<u8>, NoMemory>) -> Result<Output, Stop>
+    ensures output { IfOk result (λ output. (bytes ≡ Ok output.bytes) × (output.stuck ≡ false)) }
+    ensures stop { IfErr result (λ stop. stop ≡ Stop.NoMemory) }
+{
+    match bytes {
+        Ok(bytes) => Ok(Output {
+            bytes,
+            stuck: false,
+        }),
+        Err(NoMemory) => Err(Stop::NoMemory),
+    }
+}
+
+// What a command makes of a schedule that its input says.
+fn output_of(alloc: Global, line: &Line, input: &[u8], sched: &Sched) -> Result<Output, Stop>
+    requires read { IsReadAs input.now sched.now }
+    ensures output { IfOk result (λ output. IsOutput (command line.now) input.now output.bytes.items output.stuck) }
+    ensures stop { IfErr result (λ stop. IsStop (command line.now) input.now stop) }
+{
+    match line {
+        Line::Sim { params, .. } => match print_run(alloc, sched, *params) {
+            Ok(output) => Ok(output),
+            Err(EngineFault::Budget { sum }) => Err(Stop::Refused(Refusal::Budget { sum })),
+            Err(EngineFault::NoMemory) => Err(Stop::NoMemory),
+        },
+        Line::Compile { .. } => whole(encode(alloc, sched)),
+        Line::Show { .. } => whole(print_text(alloc, sched)),
+    }
+}
+
+// What a command makes of its input.
+pub fn make(alloc: Global, line: &Line, input: &[u8]) -> Result<Output, Stop>
+    requires short { length input.now ≤ 2 ^ 27 }
+    ensures output { IfOk result (λ output. IsOutput (command line.now) input.now output.bytes.items output.stuck) }
+    ensures stop { IfErr result (λ stop. IsStop (command line.now) input.now stop) }
+{
+    match read_input(alloc, input) {
+        Ok(sched) => output_of(alloc, line, input, &sched),
+        Err(stop) => Err(stop),
+    }
+}

@@ -1,0 +1,25 @@
+// A schedule that is printed and read again.
+ghost use Rattle.std.specs.Prelude.{◌≡◌, IfOk, IfErr};
+
+use crate::print::print_text;
+use goal_base::NoMemory;
+use goal_graph::Sched;
+use goal_parser::{TextFault, read_text};
+use std::alloc::Global;
+
+/// The schedule that is read of a schedule's canonical text. It is the same.
+///
+/// # Errors
+///
+/// Want of memory alone: a canonical text has no fault.
+pub fn read_printed(alloc: Global, sched: &Sched) -> Result<Sched, TextFault>
+    ensures same { IfOk result (λ again. again ≡ sched.now) }
+    ensures faultless { IfErr result (λ fault. fault ≡ TextFault.NoMemory) }
+{
+    let text = match print_text(alloc, sched) {
+        Ok(text) => text,
+        Err(NoMemory) => return Err(TextFault::NoMemory),
+    };
+    sched.known();
+    read_text(alloc, &text)
+}

@@ -1,0 +1,12 @@
+//! The canonical text of a schedule: [`print_text`] gives it, and what is read of it is the schedule.
+//!
+//! `specs/Canonical` says what the text is, by lines. [`read_printed`] prints a schedule and reads it again.
+#![tactic(auto)]
+
+mod again;
+mod print;
+#[cfg(test)]
+mod tests;
+
+pub use again::read_printed;
+pub use print::print_text;

@@ -1,0 +1,18 @@
+-- A table with an entry for each operation, after one entry is written.
+use Rattle.std.specs.Prelude.{ℕ, Option, Some, None, if◌then◌else◌}
+use Rattle.goal_graph.specs.declared.action.OpId.{OpId}
+use Rattle.goal_graph.specs.Action.{same_op}
+use Rattle.sim_events.specs.declared.entry.Entry.{Entry}
+
+-- the entry of y is this one, and the others are those of f
+abbrev pub with_entry : OpId → Entry → (OpId → Entry) → OpId → Entry
+with_entry y entry f x = if same_op x y then entry else f x
+
+-- the entry of y says that it is paired with m since that time, and the others are those of f
+abbrev pub with_pairing : OpId → OpId → ℕ → (OpId → Entry) → OpId → Entry
+with_pairing y m at f = with_entry y (record (f y) { paired = Some (record { with = m; at = at }) }) f
+
+-- where y has a partner, the entries of the two say that they are paired since that time
+abbrev pub with_partner : OpId → Option OpId → ℕ → (OpId → Entry) → OpId → Entry
+with_partner y None at f = f
+with_partner y (Some m) at f = with_pairing m y at (with_pairing y m at f)

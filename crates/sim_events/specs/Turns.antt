@@ -1,0 +1,34 @@
+-- What may happen next of one operation, class by class.
+use Rattle.std.specs.Prelude.{ℕ, List, Option, Some, None, if◌then◌else◌}
+use Rattle.goal_graph.specs.declared.action.OpId.{OpId}
+use Rattle.goal_graph.specs.declared.action.Timed.{Timed}
+use Rattle.goal_graph.specs.declared.action.Class.{Class}
+use Rattle.goal_graph.specs.declared.plan.When.{When}
+use Rattle.goal_graph.specs.declared.plan.When.TheVariants.{AfterEnd, AfterStart}
+use Rattle.goal_graph.specs.Schedule.{Plan}
+use Rattle.goal_graph.specs.Action.{plain}
+use Rattle.goal_graph.specs.Allowed.{is_ready, allowed}
+use Rattle.sim_params.specs.Costs.{CostModel, is_eager}
+use Rattle.sim_params.specs.Times.{ready, time}
+use Rattle.sim_params.specs.Laws.{at_its_time}
+use Rattle.sim_events.specs.Engine.{start_told, end_told}
+
+-- the moment of x that a dependency waits for, once it is there
+abbrev pub moment_told : List Plan → CostModel → List Timed → When → OpId → Option ℕ
+moment_told plans costs h AfterEnd x = end_told plans costs h x
+moment_told plans costs h AfterStart x = start_told plans costs h x
+
+-- when all that x needs is there, once it is
+abbrev pub ready_told : List Plan → CostModel → List Timed → OpId → Option ℕ
+ready_told plans costs h x =
+    if is_ready plans (is_eager plans costs) (plain h) x then Some (ready plans costs h x) else None
+
+-- when the action of that class of x happens, while it is allowed
+abbrev pub time_told : List Plan → CostModel → List Timed → Class → OpId → Option ℕ
+time_told plans costs h class x =
+    if allowed plans (is_eager plans costs) (plain h) class x then Some (time plans costs h class x) else None
+
+-- that action at its time, while it is allowed
+abbrev pub turn_told : List Plan → CostModel → List Timed → Class → OpId → Option Timed
+turn_told plans costs h class x =
+    if allowed plans (is_eager plans costs) (plain h) class x then Some (at_its_time plans costs h class x) else None
