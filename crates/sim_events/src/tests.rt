@@ -171,27 +171,38 @@ fn a_deadlock(rt: HostRuntime) -> Result<(), Fail> {
     Ok(())
 }
 
-// One message of the largest size at the greatest costs of a byte runs; two are over the budget.
+// The largest size of a message, and the greatest costs of a byte.
+const LARGEST: u64 = 1_099_511_627_775;
+
+fn greatest_costs() -> Result<LogGops, Fail> {
+    Ok(LogGops {
+        params: Params::new(2500, 1500, 1000, 1_048_575, 1_048_575, 65535)?,
+    })
+}
+
+// One message of the largest size at the greatest costs of a byte.
 #[test]
 fn the_largest_message(rt: HostRuntime) -> Result<(), Fail> {
-    let largest = LogGops {
-        params: Params::new(2500, 1500, 1000, 1_048_575, 1_048_575, 65535)?,
-    };
-    let send = send(1_099_511_627_775, 1);
-    let recv = recv(1_099_511_627_775, Some(0));
-    let sends = plan(rt.alloc(), &[send], &[])?;
-    let receives = plan(rt.alloc(), &[recv], &[])?;
+    let sends = plan(rt.alloc(), &[send(LARGEST, 1)], &[])?;
+    let receives = plan(rt.alloc(), &[recv(LARGEST, Some(0))], &[])?;
     let sched = Sched::build(rt.alloc(), vec![in rt.alloc(); sends, receives]?)?;
-    let mut engine = Engine::new(rt.alloc(), &sched, largest)?;
+    let mut engine = Engine::new(rt.alloc(), &sched, greatest_costs()?)?;
     engine.run();
     let sent = Some(1_152_920_405_093_130_050);
     let taken = Some(2_305_840_810_186_256_100);
     assert_eq!(rt; told(&rt, &engine, 0, 0), (Some(0), sent, id(1, 0)));
     assert_eq!(rt; told(&rt, &engine, 1, 0), (Some(0), taken, id(0, 0)));
-    let sends = plan(rt.alloc(), &[send, send], &[])?;
-    let receives = plan(rt.alloc(), &[recv, recv], &[])?;
+    Ok(())
+}
+
+// Two of them are over the budget.
+#[test]
+fn a_budget_that_is_over(rt: HostRuntime) -> Result<(), Fail> {
+    let kinds = [send(LARGEST, 1), send(LARGEST, 1)];
+    let sends = plan(rt.alloc(), &kinds, &[])?;
+    let receives = plan(rt.alloc(), &[recv(LARGEST, Some(0))], &[])?;
     let sched = Sched::build(rt.alloc(), vec![in rt.alloc(); sends, receives]?)?;
-    let fault = Engine::new(rt.alloc(), &sched, largest).err();
+    let fault = Engine::new(rt.alloc(), &sched, greatest_costs()?).err();
     let sum = 11_529_204_050_931_256_500;
     assert_eq!(rt; fault, Some(EngineFault::Budget { sum }));
     Ok(())
