@@ -1,4 +1,5 @@
 pub mod AnswerLemmas
 pub mod InputLemmas
+pub mod OutputLemmas
 pub mod RefusalLemmas
 pub mod TimelineLemmas

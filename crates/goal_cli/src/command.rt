@@ -182,7 +182,12 @@ fn name_of(line: &Line) -> &str
 }
 
 // Writes the output of a command, to where it goes.
-fn put<H: Host, W: Sink>(line: &Line, host: &mut H, out: &mut W, bytes: &[u8]) -> Result<(), IoFault>
+fn put<H: Host, W: Sink>(
+    line: &Line,
+    host: &mut H,
+    out: &mut W,
+    bytes: &[u8],
+) -> Result<(), IoFault>
     ensures whole { OnOk result (Gets (H.state host.old) (H.state host.new) (W.state out.old) (W.state out.new)
         (command line.now) bytes.now) }
     ensures same { OnOk result (WritesSame (H.state host.old) (H.state host.new) (W.state out.old) (W.state out.new)

@@ -6,6 +6,7 @@
 
 mod answer;
 mod command;
+mod laws;
 mod output;
 mod refusal;
 #[cfg(test)]
@@ -14,3 +15,4 @@ mod timeline;
 
 pub use answer::Status;
 pub use command::goal;
+pub use laws::laws_of_outputs;

@@ -11,18 +11,12 @@ fn strings(alloc: Global, words: &[&str]) -> Result<Vec<String>, AllocError> {
     Ok(all)
 }
 
-// That words are no line.
-fn check_bad(rt: &impl Abort, alloc: Global, words: &[&str]) -> Result<(), Fail> {
-    let words = strings(alloc, words)?;
-    assert!(rt; matches!(read_words(alloc, &words), Err(LineFault::Bad)));
-    Ok(())
-}
-
 #[test]
-fn lines(rt: HostRuntime) -> Result<(), Fail> {
+fn sim_line(rt: HostRuntime) -> Result<(), Fail> {
     let alloc = rt.alloc();
     let words = strings(alloc, &["sim", "a", "--O", "1", "--L", "007"])?;
-    match read_words(alloc, &words) {
+    let line = read_words(alloc, &words);
+    match &line {
         Ok(Line::Sim { name, params }) => {
             assert_eq!(rt; name.as_str(), "a");
             assert_eq!(rt; params.overhead_per_byte, 1);
@@ -31,21 +25,34 @@ fn lines(rt: HostRuntime) -> Result<(), Fail> {
         }
         _ => assert!(rt; false),
     }
-    let words = strings(alloc, &["compile", "a", ""])?;
-    assert!(rt; matches!(read_words(alloc, &words), Ok(Line::Compile { .. })));
-    let words = strings(alloc, &["show", "a"])?;
-    assert!(rt; matches!(read_words(alloc, &words), Ok(Line::Show { .. })));
     Ok(())
 }
 
 #[test]
-fn no_lines(rt: HostRuntime) -> Result<(), Fail> {
+fn other_lines(rt: HostRuntime) -> Result<(), Fail> {
     let alloc = rt.alloc();
-    check_bad(&rt, alloc, &[])?;
-    check_bad(&rt, alloc, &["Sim", "a"])?;
-    check_bad(&rt, alloc, &["show", "-a"])?;
-    check_bad(&rt, alloc, &["sim", "a", "--O"])?;
-    check_bad(&rt, alloc, &["sim", "a", "--O", "1048576"])?;
-    check_bad(&rt, alloc, &["sim", "a", "--S", "000000000000000000001"])?;
+    let words = strings(alloc, &["compile", "a", ""])?;
+    assert!(rt; read_words(alloc, &words).is_ok());
+    let words = strings(alloc, &["show", "a"])?;
+    assert!(rt; read_words(alloc, &words).is_ok());
+    Ok(())
+}
+
+const NO_LINES: [&[&str]; 6] = [
+    &[],
+    &["Sim", "a"],
+    &["show", "-a"],
+    &["sim", "a", "--O"],
+    &["sim", "a", "--O", "1048576"],
+    &["sim", "a", "--S", "000000000000000000001"],
+];
+
+#[test]
+fn no_lines_found(rt: HostRuntime) -> Result<(), Fail> {
+    for words in &NO_LINES {
+        let words = strings(rt.alloc(), words)?;
+        let line = read_words(rt.alloc(), &words);
+        assert!(rt; matches!(&line, Err(LineFault::Bad)));
+    }
     Ok(())
 }

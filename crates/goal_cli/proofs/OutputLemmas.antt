@@ -1,0 +1,28 @@
+-- What is written is a function of the schedule and the parameters.
+use Rattle.std.proofs.Common.{◌≡◌, ℕ, Bool, List, sym, ap, ◌∙◌}
+use Rattle.goal_graph.specs.Schedule.{Plan}
+use Rattle.sim_params.specs.Costs.{CostModel, log_gops}
+use Rattle.goal_print.specs.Canonical.{canonical}
+use Rattle.goal_binary.specs.File.{file}
+use Rattle.goal_words.specs.Words.{Command, Sim, Compile, Show}
+use Rattle.goal_cli.specs.Input.{IsReadAs}
+use Rattle.goal_cli.specs.Output.{IsPrintedRun, IsOutput}
+use Rattle.goal_cli.specs.Timeline.{timeline, is_stuck}
+use Rattle.goal_cli.proofs.InputLemmas.{same_schedule}
+
+pub one_run : (costs : CostModel) (sched : List Plan) (one other : List ℕ) (stuck waits : Bool) → IsPrintedRun costs sched one stuck
+    → IsPrintedRun costs sched other waits → (one ≡ other) × (stuck ≡ waits)
+one_run costs sched one other stuck waits a b =
+    let same = b.only a.history a.complete in
+    (a.printed ∙ ap (timeline sched costs) same ∙ sym b.printed, a.stuck_is ∙ ap (is_stuck sched costs) same ∙ sym b.stuck_is)
+
+pub same_output : (c : Command) (input again : List ℕ) (sched : List Plan) (one other : List ℕ) (stuck waits : Bool) → IsReadAs input sched
+    → IsReadAs again sched → IsOutput c input one stuck → IsOutput c again other waits → (one ≡ other) × (stuck ≡ waits)
+same_output (Sim name numbers) input again sched one other stuck waits r s a b =
+    one_run (log_gops numbers) sched one other stuck waits
+    (rw (same_schedule input _ _ a.schedule.read r) at a.run)
+    (rw (same_schedule again _ _ b.schedule.read s) at b.run)
+same_output (Compile name out) input again sched one other stuck waits r s a b =
+    (a.0.compiled ∙ ap file (same_schedule input _ _ a.0.read r ∙ sym (same_schedule again _ _ b.0.read s)) ∙ sym b.0.compiled, a.1 ∙ sym b.1)
+same_output (Show name) input again sched one other stuck waits r s a b =
+    (a.0.shown ∙ ap canonical (same_schedule input _ _ a.0.read r ∙ sym (same_schedule again _ _ b.0.read s)) ∙ sym b.0.shown, a.1 ∙ sym b.1)

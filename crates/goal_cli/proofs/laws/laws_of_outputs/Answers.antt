@@ -1,0 +1,8 @@
+use Rattle.goal_cli.proofs.OutputLemmas.{one_run, same_output}
+use Rattle.goal_cli.proofs.laws.laws_of_outputs.Goals as goal
+
+pub returns-clause-one_run : goal.returns-clause-one_run
+returns-clause-one_run c = one_run
+
+pub returns-clause-same_output : goal.returns-clause-same_output
+returns-clause-same_output c = same_output
