@@ -17,8 +17,8 @@ use Rattle.goal_graph.specs.Widths.{IsKindInWidth, IsOpInWidth, IsNoteInWidth}
 use Rattle.goal_graph.proofs.Numbers.{and_left, and_right}
 use Rattle.goal_binary.specs.declared.form.Form.{Form}
 use Rattle.goal_binary.specs.File.{spelled_u32, spelled_u64, kind_code, flags_of, peer_of, tag_of, size_of, op_bytes, spelled_op, spelled_dep, spelled_note, when_code}
-use Rattle.goal_binary.specs.Fields.{Read, byte_at, byte_up_to, u32_up_to, u64_up_to}
-use Rattle.goal_binary.specs.Reading.{most_flags, form_of, most_nic, most_peer, most_tag, most_size, kind_of, when_of, list_at, form_at, op_at, dep_at, note_at}
+use Rattle.goal_binary.specs.Fields.{Read, byte_at, u32_at, byte_up_to, u32_up_to, u64_up_to}
+use Rattle.goal_binary.specs.Reading.{most_flags, form_of, most_nic, most_peer, most_tag, most_size, kind_of, when_of, note_of, list_at, form_at, op_at, dep_at, note_at}
 use Rattle.goal_binary.proofs.FieldsTaken.{leb-le}
 use Rattle.goal_binary.proofs.ItemsTaken.{AreFields, made_op}
 use Rattle.goal_binary.proofs.FieldsAgain.{IsReadAs, byte_again, u32_again, byte_up_to_again, u32_up_to_again, u64_up_to_again}
@@ -156,29 +156,43 @@ module _ (bytes : List ℕ) where
       subst (λ (x : Op). IsReadAs bytes (op_at bytes at) x rest) (made_op-again o)
       (made_again at (kind_code o.kind) (flags_of o.kind) o.cpu o.nic (peer_of o.kind) (tag_of o.kind) (size_of o.kind) rest (kind_fits o.kind o.nic fits.width.kind fits.width.nic fits.value) h)
 
+  dep_steps : (at : ℕ) (later earlier when : ℕ × ℕ) → u32_at bytes at ≡ Ok later → u32_at bytes later.1 ≡ Ok earlier → u32_up_to bytes 1 earlier.1 ≡ Ok when
+      → dep_at bytes at ≡ Ok (record { later = later.0; earlier = earlier.0; when = when_of when.0 }, when.1)
+  unfolding dep_at
+  dep_steps at later earlier when a b c = rw (a, b, c) refl
+
   pub dep_again : (d : Dep) (at : ℕ) (rest : List ℕ) → DepFits d → drop at bytes ≡ spelled_dep d ++ rest → IsReadAs bytes (dep_at bytes at) d rest
-  unfolding dep_at spelled_dep
+  unfolding spelled_dep
   dep_again d at rest fits h =
       let a = u32_again bytes at d.later (spelled_u32 d.earlier ++ (spelled_u32 (when_code d.when) ++ rest)) fits.later h in
       let b = u32_again bytes a.place d.earlier (spelled_u32 (when_code d.when) ++ rest) fits.earlier a.rest_is in
       let w = when_code-le d.when in
       let c = u32_up_to_again bytes 1 b.place (when_code d.when) rest (omega (arith, w)) w b.rest_is in
-      record { place = c.place; is = rw (a.is, b.is, c.is, when_again d.when) refl; rest_is = c.rest_is }
+      record {
+        place = c.place;
+        is = dep_steps at (d.later, a.place) (d.earlier, b.place) (when_code d.when, c.place) a.is b.is c.is ∙ ap (λ (w : When). Ok (record { later = d.later; earlier = d.earlier; when = w }, c.place)) (when_again d.when);
+        rest_is = c.rest_is;
+      }
+
+  note_steps : (at : ℕ) (kind op first second : ℕ × ℕ) → u32_up_to bytes 1 at ≡ Ok kind → u32_at bytes kind.1 ≡ Ok op → u32_at bytes op.1 ≡ Ok first → u32_at bytes first.1 ≡ Ok second
+      → note_at bytes at ≡ Ok (note_of kind.0 op.0 first.0 second.0, second.1)
+  unfolding note_at
+  note_steps at kind op first second a b c d = rw (a, b, c, d) refl
 
   pub note_again : (n : Note) (at : ℕ) (rest : List ℕ) → IsNoteInWidth n → drop at bytes ≡ spelled_note n ++ rest → IsReadAs bytes (note_at bytes at) n rest
-  unfolding note_at spelled_note
+  unfolding spelled_note
   note_again (Moves op lo hi) at rest fits h =
       let k = u32_up_to_again bytes 1 at 0 (spelled_u32 op ++ (spelled_u32 lo ++ (spelled_u32 hi ++ rest))) (omega arith) (omega arith) h in
       let a = u32_again bytes k.place op (spelled_u32 lo ++ (spelled_u32 hi ++ rest)) fits.0 k.rest_is in
       let b = u32_again bytes a.place lo (spelled_u32 hi ++ rest) fits.1 a.rest_is in
       let c = u32_again bytes b.place hi rest fits.2 b.rest_is in
-      record { place = c.place; is = rw (k.is, a.is, b.is, c.is) refl; rest_is = c.rest_is }
+      record { place = c.place; is = note_steps at (0, k.place) (op, a.place) (lo, b.place) (hi, c.place) k.is a.is b.is c.is; rest_is = c.rest_is }
   note_again (Adds op from to) at rest fits h =
       let k = u32_up_to_again bytes 1 at 1 (spelled_u32 op ++ (spelled_u32 from ++ (spelled_u32 to ++ rest))) (omega arith) (omega arith) h in
       let a = u32_again bytes k.place op (spelled_u32 from ++ (spelled_u32 to ++ rest)) fits.0 k.rest_is in
       let b = u32_again bytes a.place from (spelled_u32 to ++ rest) fits.1 a.rest_is in
       let c = u32_again bytes b.place to rest fits.2 b.rest_is in
-      record { place = c.place; is = rw (k.is, a.is, b.is, c.is) refl; rest_is = c.rest_is }
+      record { place = c.place; is = note_steps at (1, k.place) (op, a.place) (from, b.place) (to, c.place) k.is a.is b.is c.is; rest_is = c.rest_is }
 
   pub list_again : {A : Type 0} (item_at : ℕ → Read A) (spelled : A → List ℕ) (P : A → Type 0) → ((x : A) (at : ℕ) (rest : List ℕ) → P x → drop at bytes ≡ spelled x ++ rest → IsReadAs bytes (item_at at) x rest)
       → (xs : List A) (at : ℕ) (rest : List ℕ) → AllByRecursion P xs → drop at bytes ≡ flat_map spelled xs ++ rest → IsReadAs bytes (list_at item_at (length xs) at) xs rest

@@ -9,3 +9,5 @@ pub mod FieldsAgain
 pub mod ItemsAgain
 pub mod RanksAgain
 pub mod Round
+pub mod Follows
+pub mod Cuts

@@ -1,11 +1,17 @@
 //! The laws of compiled files. Their function does nothing: a proof cites a law by a call.
-ghost use Rattle.goal_binary.specs.Laws.{OneFile, ReadAgain};
+ghost use Rattle.goal_binary.specs.Laws.{OneFile, ReadAgain, CutIsShort, MoreIsExtra, NoFileBegins};
 
 /// The laws of compiled files, for every schedule and all bytes:
 ///
 /// - `one_file`: bytes that mean plans are the file of these plans, so no schedule has a second file.
 /// - `read_again`: the file of a schedule means the schedule.
+/// - `cut_is_short`: a file that is cut is short where it ends.
+/// - `more_is_extra`: of bytes behind a file the first is extra.
+/// - `no_file_begins`: no file begins with bytes of which a whole field is at fault.
 pub fn laws_of_files()
     ensures one_file { OneFile }
     ensures read_again { ReadAgain }
+    ensures cut_is_short { CutIsShort }
+    ensures more_is_extra { MoreIsExtra }
+    ensures no_file_begins { NoFileBegins }
 {}

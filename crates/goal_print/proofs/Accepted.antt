@@ -21,6 +21,7 @@ use Rattle.goal_graph.specs.Fault.{IsAccepted, AreCountsWithin, op_count, value_
 use Rattle.goal_graph.specs.Widths.{IsKindInWidth, IsOpInWidth, IsNoteInWidth, IsPlanInWidth, AreInWidth}
 use Rattle.goal_graph.proofs.Plain.{option_or-none}
 use Rattle.goal_parser.specs.Plans.{empty_plan}
+use Rattle.goal_print.proofs.Lexes.{within}
 use Rattle.goal_print.proofs.Fits.{WildFits, KindFits, OpFits, DepFits, NoteFits, PlanFits}
 
 -- what holds of each item without a fault
@@ -43,9 +44,6 @@ passed false fault h = cc
 passed_first : (a b : Bool) (first second : PlanFault) → (if a then (if b then None else Some second) else Some first) ≡ None → a ≡ true
 passed_first true b first second h = refl
 passed_first false b first second h = cc
-
-within : (m n : ℕ) → nat_le m n ≡ true → m ≤ n
-within m n h = grind (arith, nat_tests)
 
 below : (m n : ℕ) → nat_lt m n ≡ true → m < n
 below m n h = grind (arith, nat_tests)

@@ -1,5 +1,5 @@
 -- A block, read by its operations, its dependencies and its notes.
-use Rattle.std.proofs.Common.{◌≡◌, ℕ, ◌+◌, ◌^◌, ◌<◌, ◌≤◌, true, false, List, [], ◌∷◌, ◌++◌, length, map, Option, Some, None, unwrap_or, refl, sym, ap, subst, ◌∙◌, arith, append_assoc, length-append}
+use Rattle.std.proofs.Common.{◌≡◌, ℕ, ◌+◌, ◌^◌, ◌<◌, ◌≤◌, true, false, List, [], ◌∷◌, ◌++◌, length, map, Option, None, unwrap_or, is_some, refl, sym, ap, subst, ◌∙◌, arith, append_assoc, length-append}
 use Rattle.std.specs.List.{AllByRecursion}
 use Rattle.std.proofs.lemmas.List.{append-nil, map-append}
 use Rattle.goal_lexer.specs.declared.tokens.TokenKind.{TokenKind}
@@ -58,7 +58,7 @@ pub record InOps (s : Seen) (frame : Frame) (os : List Op) (ops deps notes : ℕ
 module _ (s : Seen) (frame : Frame) (os : List Op) (n ops deps notes : ℕ) (long : length os ≡ n) (few : n < 2 ^ 32)
     (h : InOps s frame os (ops + 1) deps notes) (kinds : List TokenKind) (plans : List Plan) where
   new_label : is_defined s.defined (label n) ≡ false
-  new_label = ap (λ (o : Option ℕ). elim o [ None ↦ false | Some i ↦ true ]) (h.knows.new n (omega arith) few)
+  new_label = ap is_some (h.knows.new n (omega arith) few)
 
   is_room : s.counts.ops < MAX_OPS
   is_room = let fit = h.room.ops_fit in omega arith
@@ -137,7 +137,7 @@ items_begin s frame os ops deps notes h = record {
 
 module _ (s : Seen) (frame : Frame) (os : List Op) (ds : List Dep) (ns : List Note) (ops deps notes : ℕ) (kinds : List TokenKind) (plans : List Plan) where
   label_known : Knows s.defined (length os) → (i : ℕ) → i < length os → is_defined s.defined (label i) ≡ true
-  label_known knows i below = ap (λ (o : Option ℕ). elim o [ None ↦ false | Some i ↦ true ]) (knows.there i below)
+  label_known knows i below = ap is_some (knows.there i below)
 
   label_number : Knows s.defined (length os) → (i : ℕ) → i < length os → op_number s.defined (label i) ≡ i
   label_number knows i below = ap (λ (o : Option ℕ). unwrap_or o 0) (knows.there i below)

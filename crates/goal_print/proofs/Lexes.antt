@@ -99,7 +99,8 @@ each_run : (cs : List ℕ) → all_run cs ≡ true → Each is_run_byte cs
 each_run [] h = tt
 each_run (c ∷ cs) h = let parts = and_parts (is_run_byte c) (all_run cs) h in (parts.0, each_run cs parts.1)
 
-within : (m n : ℕ) → nat_le m n ≡ true → m ≤ n
+-- a test that passed
+pub within : (m n : ℕ) → nat_le m n ≡ true → m ≤ n
 within m n h = grind (arith, nat_tests)
 
 word_of : (w : List ℕ) → is_word w ≡ true → AreWord w × (length w ≤ 64)

@@ -1,4 +1,6 @@
--- What is read of the canonical text of a schedule is the schedule.
+-- What is read of the canonical text of a schedule is the schedule. `Lexes` and `TextKinds` have the text's tokens,
+-- without their places. `Seen` has all that tokens give in one record, and what it is for tokens of these kinds to fail no
+-- test, wherever they stand. `ItemsRead` reads the items of a block, `BlocksRead` their lists, and `TextRead` all blocks.
 use Rattle.std.proofs.Common.{◌≡◌, ℕ, List, [], length, reverse, Option, None, sym, ap, subst, ◌∙◌, arith}
 use Rattle.std.specs.Option.{option_or}
 use Rattle.std.proofs.lemmas.List.{append-nil}

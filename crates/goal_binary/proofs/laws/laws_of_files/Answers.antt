@@ -1,9 +1,19 @@
-use Rattle.goal_binary.proofs.RanksAgain.{meaning_again}
 use Rattle.goal_binary.proofs.RanksTaken.{meaning_taken, IsBytes-All}
+use Rattle.goal_binary.proofs.RanksAgain.{meaning_again}
+use Rattle.goal_binary.proofs.Cuts.{cut_is_short, more_is_extra, no_file_begins}
 use Rattle.goal_binary.proofs.laws.laws_of_files.Goals as goal
 
 pub returns-clause-one_file : goal.returns-clause-one_file
 returns-clause-one_file c bytes plans fits = meaning_taken bytes (IsBytes-All bytes fits) plans
 
 pub returns-clause-read_again : goal.returns-clause-read_again
-returns-clause-read_again c = meaning_again
+returns-clause-read_again c plans schedule = meaning_again plans schedule.accepted schedule.widths
+
+pub returns-clause-cut_is_short : goal.returns-clause-cut_is_short
+returns-clause-cut_is_short c plans n schedule = cut_is_short plans schedule n
+
+pub returns-clause-more_is_extra : goal.returns-clause-more_is_extra
+returns-clause-more_is_extra c plans b more schedule = more_is_extra plans schedule b more
+
+pub returns-clause-no_file_begins : goal.returns-clause-no_file_begins
+returns-clause-no_file_begins c bytes more fault plans schedule = no_file_begins plans schedule bytes more fault

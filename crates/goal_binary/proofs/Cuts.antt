@@ -1,0 +1,89 @@
+-- The file of a schedule, cut or with more behind it; and bytes with which no file begins.
+use Rattle.std.proofs.Common.{◌≡◌, ℕ, ◌<◌, Bool, true, false, cond, ltb, List, ◌∷◌, ◌++◌, length, take, drop, Result, Ok, Err, refl, sym, ap, subst, ◌∙◌, arith, inl, inr}
+use Rattle.std.proofs.lemmas.Bool.{lt-ltb, ltb-false}
+use Rattle.std.proofs.lemmas.List.{take-append-drop, length-append, length-take}
+use Rattle.goal_graph.specs.Schedule.{Plan}
+use Rattle.goal_binary.specs.declared.fault.FileFault.{FileFault}
+use Rattle.goal_binary.specs.declared.fault.FileFault.TheVariants.{Short, Extra}
+use Rattle.goal_binary.specs.File.{file}
+use Rattle.goal_binary.specs.Fields.{Read, ◌>>=◌}
+use Rattle.goal_binary.specs.Meaning.{plans_at, meaning}
+use Rattle.goal_binary.specs.Laws.{IsSchedule, IsOfField}
+use Rattle.goal_binary.proofs.RanksAgain.{meaning_again}
+use Rattle.goal_binary.proofs.Follows.{Agree, IsPlaced, behind, plans_follow}
+
+-- what so many bytes mean where their front is read so
+abbrev ended : (len : ℕ) (x : List Plan × ℕ) (b : Bool) → Result (List Plan) FileFault
+ended len x b = cond b (Err (Extra x.1)) (Ok x.0)
+
+abbrev judged : ℕ → Read (List Plan) → Result (List Plan) FileFault
+judged len read = read >>= λ x. ended len x (ltb x.1 len)
+
+meaning_from : (bytes : List ℕ) (r : Read (List Plan)) → plans_at bytes ≡ r → meaning bytes ≡ judged (length bytes) r
+unfolding meaning
+meaning_from bytes r is = ap (judged (length bytes)) is
+
+-- the plans of all bytes do not end before them
+not_early : (len n : ℕ) (plans : List Plan) (r : Read (List Plan)) → judged len r ≡ Ok plans → IsPlaced n behind r → n < len → ⊥
+not_early len n plans (Ok x) means placed less =
+    let early : ltb x.1 len ≡ true = lt-ltb x.1 len (omega arith) in
+    let e = rw early at means in
+    absurd cc
+not_early len n plans (Err f) means placed less = absurd cc
+
+-- plans behind which more bytes stand
+first_extra : (len longer : ℕ) (plans : List Plan) (r : Read (List Plan)) → judged len r ≡ Ok plans → IsPlaced len behind r → len < longer → judged longer r ≡ Err (Extra len)
+first_extra len longer plans (Ok x) means placed less = go (ltb x.1 len) refl means
+  where
+    go : (b : Bool) → ltb x.1 len ≡ b → ended len x b ≡ Ok plans → ended longer x (ltb x.1 longer) ≡ Err (Extra len)
+    go true is means = absurd cc
+    go false is means =
+        let same : x.1 ≡ len = omega (arith, ltb-false x.1 len is) in
+        let early : ltb x.1 longer ≡ true = lt-ltb x.1 longer (omega arith) in
+        rw (early, same) refl
+first_extra len longer plans (Err f) means placed less = absurd cc
+
+-- the fault of a field is that of reading
+of_field : (len : ℕ) (fault : FileFault) (plans : List Plan) (r : Read (List Plan)) → judged len r ≡ Err fault → IsOfField fault → judged (length (file plans)) r ≡ Ok plans → ⊥
+of_field len fault plans (Ok x) means field whole = go (ltb x.1 len) means
+  where
+    go : (b : Bool) → ended len x b ≡ Err fault → ⊥
+    go true e = let same : Extra x.1 ≡ fault = cc in subst IsOfField (sym same) field
+    go false e = absurd cc
+of_field len fault plans (Err f) means field whole = absurd cc
+
+module _ (plans : List Plan) (schedule : IsSchedule plans) where
+  whole : meaning (file plans) ≡ Ok plans
+  whole = meaning_again plans schedule.accepted schedule.widths
+
+  pub cut_is_short : (n : ℕ) → n < length (file plans) → meaning (take n (file plans)) ≡ Err (Short n)
+  cut_is_short n less =
+      let front = take n (file plans) in
+      let joined : front ++ drop n (file plans) ≡ file plans = take-append-drop n (file plans) in
+      let len : length front ≡ n = omega (arith, length-take n (file plans)) in
+      let agree = subst (λ (bytes : List ℕ). Agree (length front) behind (plans_at front) (plans_at bytes)) joined (plans_follow front (drop n (file plans))) in
+      elim agree.is [
+        | inl e ↦ meaning_from front (Err (Short (length front))) e ∙ ap (λ (k : ℕ). Err (Short k)) len
+        | inr same ↦ absurd (not_early (length (file plans)) n plans (plans_at front) (sym (meaning_from (file plans) (plans_at front) same.0) ∙ whole) (subst (λ (k : ℕ). IsPlaced k behind (plans_at front)) len same.1) less)
+      ]
+
+  pub more_is_extra : (b : ℕ) (more : List ℕ) → meaning (file plans ++ b ∷ more) ≡ Err (Extra (length (file plans)))
+  more_is_extra b more =
+      let agree = plans_follow (file plans) (b ∷ more) in
+      let judged_so : judged (length (file plans)) (plans_at (file plans)) ≡ Ok plans = sym (meaning_from (file plans) (plans_at (file plans)) refl) ∙ whole in
+      elim agree.is [
+        | inl e ↦ let short = sym (meaning_from (file plans) (Err (Short (length (file plans)))) e) ∙ whole in absurd cc
+        | inr same ↦ meaning_from (file plans ++ b ∷ more) (plans_at (file plans)) same.0
+            ∙ first_extra (length (file plans)) (length (file plans ++ b ∷ more)) plans (plans_at (file plans)) judged_so same.1 (omega (arith, length-append (file plans) (b ∷ more)))
+      ]
+
+  pub no_file_begins : (bytes more : List ℕ) (fault : FileFault) → meaning bytes ≡ Err fault → IsOfField fault → bytes ++ more ≡ file plans → ⊥
+  no_file_begins bytes more fault means field joined =
+      let agree = subst (λ (all : List ℕ). Agree (length bytes) behind (plans_at bytes) (plans_at all)) joined (plans_follow bytes more) in
+      elim agree.is [
+        | inl e ↦
+            let said = sym means ∙ meaning_from bytes (Err (Short (length bytes))) e in
+            let same : fault ≡ Short (length bytes) = cc in
+            subst IsOfField same field
+        | inr same ↦ of_field (length bytes) fault plans (plans_at bytes) (sym (meaning_from bytes (plans_at bytes) refl) ∙ means) field (sym (meaning_from (file plans) (plans_at bytes) same.0) ∙ whole)
+      ]
