@@ -1,10 +1,13 @@
-// Small runs, with times worked by hand.
+// A run with times worked by hand, and the engine beside a plain evaluator of the rules.
 use super::{Engine, EngineFault, Record};
 use goal_graph::{Class, Dep, Kind, Op, OpId, RankPlan, Sched, Timed, When};
 use sim_params::{LogGops, Params};
 use std::alloc::{AllocError, Global};
 use std::process::Abort;
 use std::test::Fail;
+
+mod evaluator;
+mod seeded;
 
 // What a rank does, all of it on one cpu and one interface.
 fn plan(alloc: Global, kinds: &[Kind], deps: &[Dep]) -> Result<RankPlan, AllocError> {
@@ -72,46 +75,7 @@ fn at(time: u64, class: Class, rank: u32, op: u32) -> Timed {
     }
 }
 
-// Two calcs on one cpu: the second waits.
-#[test]
-fn a_busy_cpu(rt: HostRuntime) -> Result<(), Fail> {
-    let calc = Kind::Calc { nanos: 100 };
-    let calcs = plan(rt.alloc(), &[calc, calc], &[])?;
-    let sched = Sched::build(rt.alloc(), vec![in rt.alloc(); calcs]?)?;
-    let mut engine = Engine::new(rt.alloc(), &sched, costs()?)?;
-    assert_eq!(rt; engine.trace().len(), 0);
-    engine.run();
-    assert!(rt; engine.is_done());
-    let trace = [at(0, Class::Begin, 0, 0), at(100, Class::Begin, 0, 1)];
-    assert_eq!(rt; engine.trace(), trace.as_slice());
-    assert_eq!(rt; told(&rt, &engine, 0, 1), (Some(100), Some(200), None));
-    Ok(())
-}
-
-// A receive that needs a calc takes a smaller message that waits for it.
-#[test]
-fn a_message_that_waits(rt: HostRuntime) -> Result<(), Fail> {
-    let sends = plan(rt.alloc(), &[send(4, 1)], &[])?;
-    let kinds = [Kind::Calc { nanos: 100_000 }, recv(10, Some(0))];
-    let need = Dep {
-        later: 1,
-        earlier: 0,
-        when: When::AfterEnd,
-    };
-    let receives = plan(rt.alloc(), &kinds, &[need])?;
-    let sched = Sched::build(rt.alloc(), vec![in rt.alloc(); sends, receives]?)?;
-    let mut engine = Engine::new(rt.alloc(), &sched, costs()?)?;
-    assert_eq!(rt; told(&rt, &engine, 1, 1), (None, None, None));
-    engine.run();
-    assert_eq!(rt; told(&rt, &engine, 0, 0), (Some(0), Some(1500), id(1, 1)));
-    assert_eq!(rt;
-        told(&rt, &engine, 1, 1),
-        (Some(100_000), Some(101_500), id(0, 0))
-    );
-    Ok(())
-}
-
-// A message of one byte more than goes out whole: its request, its clearance and its bytes.
+// A message of one byte more than may be sent at once, by its whole trace.
 #[test]
 fn a_large_message(rt: HostRuntime) -> Result<(), Fail> {
     let sends = plan(rt.alloc(), &[send(65_536, 1)], &[])?;
@@ -135,44 +99,8 @@ fn a_large_message(rt: HostRuntime) -> Result<(), Fail> {
     Ok(())
 }
 
-// Two receives from any source, and a send from each of two ranks.
-#[test]
-fn from_any_source(rt: HostRuntime) -> Result<(), Fail> {
-    let receives = plan(rt.alloc(), &[recv(1, None), recv(1, None)], &[])?;
-    let first = plan(rt.alloc(), &[send(1, 0)], &[])?;
-    let second = plan(rt.alloc(), &[send(1, 0)], &[])?;
-    let sched = Sched::build(rt.alloc(), vec![in rt.alloc(); receives, first, second]?)?;
-    let mut engine = Engine::new(rt.alloc(), &sched, costs()?)?;
-    engine.run();
-    assert_eq!(rt; told(&rt, &engine, 0, 0), (Some(0), Some(5500), id(1, 0)));
-    assert_eq!(rt; told(&rt, &engine, 0, 1), (Some(0), Some(7000), id(2, 0)));
-    assert_eq!(rt; told(&rt, &engine, 2, 0), (Some(0), Some(1500), id(0, 1)));
-    Ok(())
-}
-
-// Two large sends that each wait for a receive after the other's send.
-#[test]
-fn a_deadlock(rt: HostRuntime) -> Result<(), Fail> {
-    let need = Dep {
-        later: 1,
-        earlier: 0,
-        when: When::AfterEnd,
-    };
-    let kinds = [send(100_000, 1), recv(100_000, Some(1))];
-    let first = plan(rt.alloc(), &kinds, &[need])?;
-    let kinds = [send(100_000, 0), recv(100_000, Some(0))];
-    let second = plan(rt.alloc(), &kinds, &[need])?;
-    let sched = Sched::build(rt.alloc(), vec![in rt.alloc(); first, second]?)?;
-    let mut engine = Engine::new(rt.alloc(), &sched, costs()?)?;
-    engine.run();
-    assert!(rt; engine.is_done());
-    assert_eq!(rt; told(&rt, &engine, 0, 0), (Some(0), None, None));
-    assert_eq!(rt; told(&rt, &engine, 0, 1), (None, None, None));
-    Ok(())
-}
-
-// The largest size of a message, and the greatest costs of a byte.
-const LARGEST: u64 = 1_099_511_627_775;
+// The most bytes of a message.
+const LARGEST: u64 = (1 << 40) - 1;
 
 fn greatest_costs() -> Result<LogGops, Fail> {
     Ok(LogGops {
@@ -180,22 +108,7 @@ fn greatest_costs() -> Result<LogGops, Fail> {
     })
 }
 
-// One message of the largest size at the greatest costs of a byte.
-#[test]
-fn the_largest_message(rt: HostRuntime) -> Result<(), Fail> {
-    let sends = plan(rt.alloc(), &[send(LARGEST, 1)], &[])?;
-    let receives = plan(rt.alloc(), &[recv(LARGEST, Some(0))], &[])?;
-    let sched = Sched::build(rt.alloc(), vec![in rt.alloc(); sends, receives]?)?;
-    let mut engine = Engine::new(rt.alloc(), &sched, greatest_costs()?)?;
-    engine.run();
-    let sent = Some(1_152_920_405_093_130_050);
-    let taken = Some(2_305_840_810_186_256_100);
-    assert_eq!(rt; told(&rt, &engine, 0, 0), (Some(0), sent, id(1, 0)));
-    assert_eq!(rt; told(&rt, &engine, 1, 0), (Some(0), taken, id(0, 0)));
-    Ok(())
-}
-
-// Two of them are over the budget.
+// Two messages of the largest size at the greatest costs of a byte.
 #[test]
 fn a_budget_that_is_over(rt: HostRuntime) -> Result<(), Fail> {
     let kinds = [send(LARGEST, 1), send(LARGEST, 1)];

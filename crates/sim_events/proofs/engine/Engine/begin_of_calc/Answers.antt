@@ -1,9 +1,9 @@
-use Rattle.std.proofs.Common.{subst, sym, ap₂, ◌∙◌, max}
+use Rattle.std.proofs.Common.{subst, sym, ◌∙◌}
 use Rattle.goal_graph.specs.declared.action.Class.TheVariants.{Begin}
 use Rattle.goal_graph.specs.Fault.{IsOp}
 use Rattle.sim_events.proofs.Places.{calc_is_op}
 use Rattle.sim_events.proofs.Views.{free_at_view}
-use Rattle.sim_events.proofs.TurnLemmas.{calc_begins, begun_turn, unready_turn, ready_turn, calc_time}
+use Rattle.sim_events.proofs.TurnLemmas.{calc_begins, begun_turn, unready_turn, ready_turn, calc_at}
 use Rattle.sim_events.proofs.engine.Engine.begin_of_calc.Goals as goal
 
 pub entry-requires : goal.entry-requires
@@ -28,4 +28,5 @@ cpu-requires g c =
 pub returns : goal.returns
 returns g c =
     let free = free_at_view g.C.Costs.model _ _ _ c.self.view_is c.self.invariant.free in
-    ready_turn _ _ _ c.args.calc Begin (calc_begins _ _ _ c.args.calc c.requires) c.entry.result c.entry.ensures (sym c.is_some.ensures ∙ c.if-is_some.false) c.ready.result c.in_ok-ready.ready c.max.result c.ready.ensures c.in_ok-ready.was (λ e. c.max.ensures ∙ ap₂ max (sym e) (c.cpu.ensures ∙ free.cpus c.args.calc) ∙ sym (calc_time _ _ _ c.args.calc c.requires))
+    let at = calc_at _ _ _ c.args.calc _ free c.requires c.max.result c.in_ok-ready.ready c.cpu.result c.max.ensures c.cpu.ensures in
+    ready_turn _ _ _ c.args.calc Begin (calc_begins _ _ _ c.args.calc c.requires) c.entry.result c.entry.ensures (sym c.is_some.ensures ∙ c.if-is_some.false) c.ready.result c.in_ok-ready.ready c.max.result c.ready.ensures c.in_ok-ready.was at
