@@ -1,0 +1,16 @@
+//! Orders of keys and of events, each with its laws. The comparisons of events are counted.
+#![tactic(auto)]
+
+mod event;
+mod key;
+mod laws;
+mod order;
+mod steps;
+#[cfg(test)]
+mod tests;
+
+pub use event::EventKey;
+pub use key::{Flip, KeyOrder, Lex};
+pub use laws::{laws_of_events, laws_of_keys};
+pub use order::{Counted, EventOrder};
+pub use steps::Steps;

@@ -1,0 +1,71 @@
+-- The best of the slots so far, one slot more, and all.
+use Rattle.std.proofs.Common.{◌≡◌, ℕ, ◌+◌, ◌<◌, ◌≤◌, ◌↔◌, ◌⊎◌, Bool, true, false, List, length, Option, Some, None, IsNone, IfSome, if◌then◌else◌, refl, subst, arith, inl, inr}
+use Rattle.std.proofs.lemmas.List.{get_or_past}
+use Rattle.std.proofs.lemmas.Bool.{cases_order}
+use Rattle.sim_order.specs.Order.{IsOrder}
+use Rattle.sim_queue.specs.Map.{key_at, IsEmptyMap, IsLeast}
+use Rattle.sim_queue.specs.Scan.{lesser, IsBestBelow}
+use Rattle.sim_queue.proofs.Weak.{not_both, through}
+
+module _ {K : Type 0} (before : K → K → Bool) (laws : IsOrder before) (keys : List (Option K)) where
+  -- a slot below n + 1 is below n, or it is n
+  last_or_below : (n slot : ℕ) → slot < n + 1 → (slot < n) ⊎ (slot ≡ n)
+  last_or_below n slot h = go (cases_order slot n)
+    where
+      go : (slot ≡ n) ⊎ ((slot < n) ⊎ (n < slot)) → (slot < n) ⊎ (slot ≡ n)
+      go (inl e) = inr e
+      go (inr (inl p)) = inl p
+      go (inr (inr p)) = absurd (omega (arith, h, p))
+
+  same_key : (k key : K) → Some k ≡ Some key → k ≡ key
+  same_key k key e = cc
+
+  pub none_more : (n : ℕ) (best : Option (ℕ × K)) → IsBestBelow before keys n best → key_at keys n ≡ None → IsBestBelow before keys (n + 1) best
+  none_more n None h e = λ slot p. elim (last_or_below n slot p) [ inl q ↦ h slot q | inr q ↦ rw q e ]
+  none_more n (Some r) h e = record {
+    has = h.has;
+    least = λ other k p f. elim (last_or_below n other p) [ inl q ↦ h.least other k q f | inr q ↦ let g : key_at keys n ≡ Some k = subst (λ i. key_at keys i ≡ Some k) q f in absurd (cc) ];
+  }
+
+  pub some_more : (n : ℕ) (best : Option (ℕ × K)) (key : K) → IsBestBelow before keys n best → key_at keys n ≡ Some key → IsBestBelow before keys (n + 1) (Some (lesser before best n key))
+  some_more n None key h e = record {
+    has = e;
+    least = λ other k p f. elim (last_or_below n other p) [ inl q ↦ let g : key_at keys other ≡ None = h other q in absurd (cc) | inr q ↦ let g : key_at keys n ≡ Some k = subst (λ i. key_at keys i ≡ Some k) q f in let s : k ≡ key = cc in rw s (laws.irreflexive key) ];
+  }
+  some_more n (Some r) key h e = go (before key r.1) refl
+    where
+      go : (b : Bool) → before key r.1 ≡ b → IsBestBelow before keys (n + 1) (Some (if b then (n, key) else r))
+      go true f = record {
+        has = e;
+        least = λ other k p g. elim (last_or_below n other p) [ inl q ↦ through before laws k r.1 key (h.least other k q g) (not_both before laws key r.1 f) | inr q ↦ let t : key_at keys n ≡ Some k = subst (λ i. key_at keys i ≡ Some k) q g in let s : k ≡ key = cc in rw s (laws.irreflexive key) ];
+      }
+      go false f = record {
+        has = h.has;
+        least = λ other k p g. elim (last_or_below n other p) [ inl q ↦ h.least other k q g | inr q ↦ let t : key_at keys n ≡ Some k = subst (λ i. key_at keys i ≡ Some k) q g in let s : k ≡ key = cc in rw s f ];
+      }
+
+  -- past the end no slot has a key
+  pub past_end : (slot : ℕ) → length keys ≤ slot → key_at keys slot ≡ None
+  past_end slot h = get_or_past keys slot None h
+
+  pub all_none : IsBestBelow before keys (length keys) None → IsEmptyMap keys
+  all_none h slot = elim (cases_order slot (length keys)) [ inl e ↦ past_end slot (omega (arith, e)) | inr (inl p) ↦ h slot p | inr (inr p) ↦ past_end slot (omega (arith, p)) ]
+
+  pub all_some : (r : ℕ × K) → IsBestBelow before keys (length keys) (Some r) → IsLeast before keys r.0 r.1
+  all_some r h = record {
+    has = h.has;
+    least = λ other k e. elim (cases_order other (length keys)) [ inl f ↦ let g : key_at keys other ≡ None = past_end other (omega (arith, f)) in absurd (cc) | inr (inl p) ↦ h.least other k p e | inr (inr p) ↦ let g : key_at keys other ≡ None = past_end other (omega (arith, p)) in absurd (cc) ];
+  }
+
+  pub none_where_empty : (best : Option (ℕ × K)) → IsBestBelow before keys (length keys) best → IsNone best ↔ IsEmptyMap keys
+  none_where_empty None h = (λ _. all_none h, λ _. refl)
+  none_where_empty (Some r) h = (λ n. absurd (cc), λ empty. let g : key_at keys r.0 ≡ None = empty r.0 in let has : key_at keys r.0 ≡ Some r.1 = h.has in absurd (cc))
+
+  pub least_where_some : (best : Option (ℕ × K)) → IsBestBelow before keys (length keys) best → IfSome best (λ r. IsLeast before keys r.0 r.1)
+  least_where_some None h = tt
+  least_where_some (Some r) h = all_some r h
+
+-- the scan has come to the end of the same list
+pub scanned : {K : Type 0} (before : K → K → Bool) (keys scanned_keys : List (Option K)) (n : ℕ) (best : Option (ℕ × K)) → scanned_keys ≡ keys → n ≡ length scanned_keys → IsBestBelow before scanned_keys n best → IsBestBelow before keys (length keys) best
+scanned before keys scanned_keys n best e f h =
+    subst (λ xs. IsBestBelow before xs (length xs) best) e (subst (λ i. IsBestBelow before scanned_keys i best) f h)

@@ -1,0 +1,10 @@
+//! Queues of events: each slot has a key or none, and the least key is asked for.
+#![tactic(auto)]
+
+mod queue;
+#[cfg(test)]
+mod tests;
+mod vec_queue;
+
+pub use queue::EventQueue;
+pub use vec_queue::VecQueue;

@@ -1,0 +1,52 @@
+// Twelve slots are put, four of them dropped.
+ghost use Rattle.std.specs.Prelude.{◌≡◌, ◌<◌, length};
+
+use crate::{EventQueue, VecQueue};
+use sim_order::{Counted, Steps};
+use std::marker::Brand;
+use std::sync::ledger::{Blank, Ledger};
+use std::test::Fail;
+
+const KEYS: [u64; 12] = [1, 10, 2, 11, 12, 3, 21, 13, 14, 15, 16, 5];
+
+// The least of a queue of twelve slots, after twelve were put and four dropped.
+fn least_of<Q: EventQueue<Counted<u64>>, L: Ledger>(
+    queue: &mut Q,
+    blank: Blank,
+) -> Option<(u32, Counted<u64>)>
+    requires name { blank.name ≡ L.name }
+    requires parts { blank.parts ≡ L.parts }
+    requires some { 0 < blank.parts }
+    requires slots { length (Q.keys queue.old) ≡ 12 }
+{
+    let mut steps = Steps::<L>::new(blank);
+    'puts: for (slot, key) in KEYS.iter().enumerate() {
+        queue.put(slot as u32, Counted(*key), &mut steps);
+    }
+    for slot in [7, 0, 2, 5] {
+        queue.drop_slot(slot, &mut steps);
+    }
+    queue.least(&mut steps)
+}
+
+fn least_alone<Q: EventQueue<Counted<u64>>, L: Ledger>(
+    queue: &Q,
+    blank: Blank,
+) -> Option<(u32, Counted<u64>)>
+    requires name { blank.name ≡ L.name }
+    requires parts { blank.parts ≡ L.parts }
+    requires some { 0 < blank.parts }
+{
+    let mut steps = Steps::<L>::new(blank);
+    queue.least(&mut steps)
+}
+
+#[test]
+fn the_least_of_a_vec_queue(rt: HostRuntime) -> Result<(), Fail> {
+    let mut queue = VecQueue::new(rt.alloc(), 12)?;
+    let none = least_alone::<VecQueue<Counted<u64>>, Brand>(&queue, Blank::new(1));
+    assert_eq!(rt; none, None);
+    let least = least_of::<VecQueue<Counted<u64>>, Brand>(&mut queue, Blank::new(1));
+    assert_eq!(rt; least, Some((11, Counted(5))));
+    Ok(())
+}

@@ -1,0 +1,44 @@
+-- What a filter keeps, what is found there, and where the elements of a mapped list come from.
+use Rattle.std.proofs.Common.{zero, suc, ◌≡◌, Bool, true, false, ◌&&◌, ◌⊎◌, inl, inr, cond, List, [], ◌∷◌, map, find, filter, Contains, Some, refl, ap, ◌∙◌, subst, arith}
+use Rattle.std.proofs.lemmas.Bool.{both_ways}
+use Rattle.std.proofs.lemmas.List.Elements.{All-contains, All-filter, All-contains_itself, filter_passes}
+use Rattle.goal_graph.proofs.Lists.{contains_first, contains_more}
+
+-- to find among what a filter keeps is to find what passes both tests
+pub find_kept : {X : Type 0} (p q : X → Bool) (xs : List X) → find p (filter q xs) ≡ find (λ (x : X). p x && q x) xs
+find_kept p q [] = refl
+find_kept {X} p q (x ∷ xs) = go (q x) (p x) refl (find_kept p q xs)
+  where
+    go : (b c : Bool) → p x ≡ c → find p (filter q xs) ≡ find (λ (x : X). p x && q x) xs → find p (cond b (x ∷ filter q xs) (filter q xs)) ≡ cond (c && b) (Some x) (find (λ (x : X). p x && q x) xs)
+    go true true e rest = ap (λ (t : Bool). cond t (Some x) (find p (filter q xs))) e
+    go true false e rest = ap (λ (t : Bool). cond t (Some x) (find p (filter q xs))) e ∙ rest
+    go false true e rest = rest
+    go false false e rest = rest
+
+contains_cases : {X : Type 0} (y : X) (xs : List X) (x : X) → Contains (y ∷ xs) x → (y ≡ x) ⊎ Contains xs x
+contains_cases y xs x (zero, b, e) = inl e
+contains_cases y xs x (suc k, b, e) = inr (k, omega (arith, b), e)
+
+-- what passes and is in the list is kept, and nothing else
+pub contains_kept : {X : Type 0} (p : X → Bool) (xs : List X) (x : X) → Contains xs x → p x ≡ true → Contains (filter p xs) x
+contains_kept p [] x (k, b, e) t = absurd (omega (arith, b))
+contains_kept {X} p (y ∷ ys) x c t = go (contains_kept p ys x) (p y) refl (contains_cases y ys x c)
+  where
+    go : (Contains ys x → p x ≡ true → Contains (filter p ys) x) → (b : Bool) → p y ≡ b → ((y ≡ x) ⊎ Contains ys x) → Contains (cond b (y ∷ filter p ys) (filter p ys)) x
+    go rest true e (inl s) = contains_first y (filter p ys) x s
+    go rest true e (inr c) = contains_more y (filter p ys) x (rest c t)
+    go rest false e (inl s) = absurd (both_ways (p x) (subst (λ (z : X). p z ≡ false) s e) t)
+    go rest false e (inr c) = rest c t
+
+pub kept_contained : {X : Type 0} (p : X → Bool) (xs : List X) (x : X) → Contains (filter p xs) x → Contains xs x × (p x ≡ true)
+kept_contained {X} p xs x c =
+    (All-contains (Contains xs) (filter p xs) x (All-filter p (Contains xs) xs (All-contains_itself xs)) c, All-contains (λ (z : X). p z ≡ true) (filter p xs) x (filter_passes p xs) c)
+
+-- what `map` gives comes from an element
+pub contains_source : {X Y : Type 0} (f : X → Y) (xs : List X) (y : Y) → Contains (map f xs) y → (x : X) × Contains xs x × (f x ≡ y)
+contains_source f [] y (k, b, e) = absurd (omega (arith, b))
+contains_source {X} {Y} f (z ∷ zs) y c = go (contains_source f zs y) (contains_cases (f z) (map f zs) y c)
+  where
+    go : (Contains (map f zs) y → (x : X) × Contains zs x × (f x ≡ y)) → ((f z ≡ y) ⊎ Contains (map f zs) y) → (x : X) × Contains (z ∷ zs) x × (f x ≡ y)
+    go rest (inl e) = (z, contains_first z zs z refl, e)
+    go rest (inr c) = let r = rest c in (r.0, contains_more z zs r.0 r.1, r.2)

@@ -1,0 +1,53 @@
+-- The reason of an operation, as it is looked for: first among its needs, then among the operations that have not
+-- started.
+use Rattle.std.proofs.Common.{◌≡◌, ◌||◌, Bool, not, List, All, Option, Some, None, find, filter, refl, sym, ap, ◌∙◌, subst}
+use Rattle.std.specs.Option.{option_map}
+use Rattle.std.proofs.lemmas.Option.{same_Some}
+use Rattle.std.proofs.lemmas.List.Elements.{All-filter}
+use Rattle.goal_graph.specs.declared.action.OpId.{OpId}
+use Rattle.goal_graph.specs.declared.action.Why.TheVariants as why
+use Rattle.goal_graph.specs.declared.plan.Need.{Need}
+use Rattle.goal_graph.specs.Schedule.{Plan, needed, operations}
+use Rattle.goal_graph.specs.Action.{Act}
+use Rattle.goal_graph.specs.Matching.{fits}
+use Rattle.goal_graph.specs.Allowed.{has_started, is_met}
+use Rattle.goal_graph.specs.Fault.{IsOp}
+use Rattle.goal_graph.proofs.ListingLemmas.{listed_exist}
+use Rattle.sim_params.specs.Stuck.{first_unmet, first_absent, partner_or_alone, reason_by, reason}
+use Rattle.sim_stuck.proofs.Kept.{find_kept}
+
+abbrev pub is_unstarted : List Plan → List Act → OpId → Bool
+is_unstarted plans h y = not (has_started plans y h)
+
+module _ (plans : List Plan) (eager : OpId → Bool) (h : List Act) where
+  -- what x needs of d is not there
+  abbrev pub is_unmet : OpId → Need → Bool
+  is_unmet x d = not (is_met plans eager h d.when (needed x d))
+
+  module _ (x : OpId) where
+    -- a need that is not there is the reason
+    pub unmet_reason : (y : OpId) → Some y ≡ option_map (needed x) (first_unmet plans eager h x) → why.Op y ≡ reason plans eager h x
+    unfolding reason
+    unmet_reason y e = go (first_unmet plans eager h x) e
+      where
+        go : (o : Option Need) → Some y ≡ option_map (needed x) o → why.Op y ≡ reason_by plans eager h x o
+        go None e = absurd (cc e)
+        go (Some d) e = ap why.Op (same_Some y (needed x d) e)
+
+    -- where all is there, the first that fits among those that have not started is
+    pub met_reason : (read : List Plan) (ids : List OpId) (r : Option OpId) → read ≡ plans → ids ≡ filter (is_unstarted plans h) (operations plans)
+        → None ≡ option_map (needed x) (first_unmet plans eager h x)
+        → r ≡ find (λ (y : OpId). fits read x y || fits read y x) ids
+        → partner_or_alone plans eager r ≡ reason plans eager h x
+    unfolding reason first_absent
+    met_reason read ids r same is e f =
+        ap (partner_or_alone plans eager) (f ∙ ap (λ (ps : List Plan). find (λ (y : OpId). fits ps x y || fits ps y x) ids) same ∙ ap (find (λ (y : OpId). fits plans x y || fits plans y x)) is ∙ find_kept (λ (y : OpId). fits plans x y || fits plans y x) (is_unstarted plans h) (operations plans)) ∙ go (first_unmet plans eager h x) e
+      where
+        go : (o : Option Need) → None ≡ option_map (needed x) o → partner_or_alone plans eager (first_absent plans eager h x) ≡ reason_by plans eager h x o
+        go None e = refl
+        go (Some d) e = absurd (cc e)
+
+-- the operations that have not started exist
+pub unstarted_exist : (plans read : List Plan) (h : List Act) (ids : List OpId) → read ≡ plans → ids ≡ filter (is_unstarted plans h) (operations plans) → All (IsOp read) ids
+unstarted_exist plans read h ids same is =
+    subst (λ (xs : List OpId). All (IsOp read) xs) (sym is) (subst (λ (ps : List Plan). All (IsOp ps) (filter (is_unstarted plans h) (operations plans))) (sym same) (All-filter (is_unstarted plans h) (IsOp plans) (operations plans) (listed_exist plans plans (operations plans) refl refl)))

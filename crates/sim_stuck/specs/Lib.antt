@@ -1,0 +1,2 @@
+pub mod StuckList
+pub mod StuckText

@@ -1,0 +1,31 @@
+-- The lines of stuck operations. Every line ends with a line feed, and numbers are decimal.
+use Rattle.std.specs.Prelude.{ℕ, List, [], ◌++◌, codes, decimal}
+use Rattle.std.specs.List.{flat_map}
+use Rattle.goal_graph.specs.declared.action.OpId.{OpId}
+use Rattle.goal_graph.specs.declared.action.Stuck.{Stuck}
+use Rattle.goal_graph.specs.declared.action.Why.{Why}
+use Rattle.goal_graph.specs.declared.action.Why.TheVariants.{Op, Partner, Alone}
+
+-- rank and number of an operation
+abbrev pub id_text : OpId → List ℕ
+id_text x = decimal x.rank ++ codes " " ++ decimal x.op
+
+-- the words of a reason
+abbrev pub why_words : Why → List ℕ
+why_words (Op y) = codes " for op "
+why_words (Partner y) = codes " for partner "
+why_words Alone = codes " alone"
+
+-- the operation that a reason names, if it names one
+abbrev pub named_text : Why → List ℕ
+named_text (Op y) = id_text y
+named_text (Partner y) = id_text y
+named_text Alone = []
+
+-- the line of a stuck operation
+abbrev pub stuck_line : Stuck → List ℕ
+stuck_line s = codes "stuck " ++ id_text s.op ++ why_words s.why ++ named_text s.why ++ codes "\n"
+
+-- a line for each
+unfoldable pub stuck_text : List Stuck → List ℕ
+stuck_text list = flat_map stuck_line list

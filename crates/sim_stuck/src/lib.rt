@@ -1,0 +1,13 @@
+//! Why operations are stuck: each operation that has no end when a run is over, with its reason, and the lines that
+//! tell it.
+#![tactic(auto)]
+
+mod lines;
+mod partner;
+mod reasons;
+
+pub use lines::stuck_text;
+pub use reasons::explain;
+
+#[cfg(test)]
+mod tests;

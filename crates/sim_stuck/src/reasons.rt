@@ -1,0 +1,138 @@
+// The reason of each stuck operation.
+ghost use Rattle.std.specs.Prelude.{◌≡◌, IfOk, filter, not};
+ghost use Rattle.std.specs.Option.{option_map};
+ghost use Rattle.goal_graph.specs.Schedule.{operations, needed};
+ghost use Rattle.goal_graph.specs.Action.{plain};
+ghost use Rattle.goal_graph.specs.Fault.{IsOp};
+ghost use Rattle.goal_graph.specs.Allowed.{has_started, has_ended, is_met};
+ghost use Rattle.sim_params.specs.Costs.{is_eager};
+ghost use Rattle.sim_params.specs.Run.{IsFinished};
+ghost use Rattle.sim_params.specs.Stuck.{first_unmet};
+ghost use Rattle.sim_stuck.specs.StuckList.{stuck_list, reason_of, IsInOrder, NamesListed, ListsStuck, AloneAreAlone};
+
+use crate::partner::first_that_fits;
+use goal_base::NoMemory;
+use goal_graph::{OpId, Sched, Stuck, When, Why};
+use sim_events::Engine;
+use sim_params::Costs;
+use std::alloc::{AllocError, Global};
+
+/// The stuck operations of a run that is over, each with its reason, by rank and number.
+///
+/// An operation is stuck where it has no end. Its reason is the first operation, in the order of its dependencies, that
+/// it needs and that never gets so far; else the least operation that fits it and never starts; else it is alone.
+///
+/// - `list`: the list is that of the run.
+/// - `stuck`: an operation is listed exactly where it has no end.
+/// - `order`: the operations are listed by rank and number.
+/// - `named`: an operation that a reason names is listed itself.
+/// - `alone`: each operation that fits one that is alone has started, and is paired with another.
+///
+/// For each stuck operation that has all it needs, it looks through the operations that have not started up to the first
+/// that fits. `NoMemory` where memory ran out.
+pub fn explain<C: Costs>(
+    alloc: Global,
+    sched: &Sched,
+    engine: &Engine<'_, C>,
+) -> Result<Vec<Stuck>, NoMemory>
+    requires same { engine.now.plans ≡ sched.now }
+    requires done { IsFinished engine.now.plans (C.model engine.now.costs) engine.now.history }
+    ensures list { IfOk result (λ list.
+        list.items ≡ stuck_list sched.now (C.model engine.now.costs) engine.now.history) }
+    ensures stuck { IfOk result (λ list.
+        ListsStuck sched.now (C.model engine.now.costs) engine.now.history list.items) }
+    ensures order { IfOk result (λ list. IsInOrder list.items) }
+    ensures named { IfOk result (λ list. NamesListed list.items) }
+    ensures alone { IfOk result (λ list.
+        AloneAreAlone sched.now (C.model engine.now.costs) engine.now.history list.items) }
+{
+    engine.known();
+    let absent = unstarted(alloc, engine)?;
+    let mut list = Vec::new(alloc);
+    for id in sched.operations() {
+        if !has_ended(engine, *id) {
+            list.push(Stuck {
+                op: *id,
+                why: reason(engine, &absent, *id),
+            })?;
+        }
+    }
+    Ok(list)
+}
+
+// The operations that have not started, by rank and number.
+fn unstarted<C: Costs>(alloc: Global, engine: &Engine<'_, C>) -> Result<Vec<OpId>, AllocError>
+    ensures { IfOk result (λ ids. ids.items
+        ≡ filter (λ x. not (has_started engine.now.plans x (plain engine.now.history))) (operations engine.now.plans)) }
+{
+    let mut ids = Vec::new(alloc);
+    for id in engine.sched().operations() {
+        if !has_started(engine, *id) {
+            ids.push(*id)?;
+        }
+    }
+    Ok(ids)
+}
+
+// The reason of an operation that has no end; `absent` are the operations that have not started.
+fn reason<C: Costs>(engine: &Engine<'_, C>, absent: &[OpId], id: OpId) -> Why
+    requires op { IsOp engine.now.plans id }
+    requires absent { absent.now
+        ≡ filter (λ x. not (has_started engine.now.plans x (plain engine.now.history))) (operations engine.now.plans) }
+    ensures { result ≡ reason_of engine.now.plans (C.model engine.now.costs) engine.now.history id }
+{
+    if let Some(unmet) = first_unmet(engine, id) {
+        return Why::Op(unmet);
+    }
+    match first_that_fits(engine.sched(), absent, id) {
+        Some(partner) => Why::Partner(partner),
+        None => Why::Alone,
+    }
+}
+
+// The first operation, in the order of the dependencies, that an operation needs and that is not there.
+fn first_unmet<C: Costs>(engine: &Engine<'_, C>, id: OpId) -> Option<OpId>
+    requires { IsOp engine.now.plans id }
+    ensures { result ≡ option_map (needed id) (first_unmet engine.now.plans
+        (is_eager engine.now.plans (C.model engine.now.costs)) (plain engine.now.history) id) }
+{
+    for need in engine.sched().needs(id) {
+        let earlier = OpId {
+            rank: id.rank,
+            op: need.op,
+        };
+        if !is_met(engine, need.when, earlier) {
+            return Some(earlier);
+        }
+    }
+    None
+}
+
+// Whether the moment of an operation that a dependency waits for is there.
+fn is_met<C: Costs>(engine: &Engine<'_, C>, when: When, id: OpId) -> bool
+    requires { IsOp engine.now.plans id }
+    ensures { result ≡ is_met engine.now.plans (is_eager engine.now.plans (C.model engine.now.costs))
+        (plain engine.now.history) when id }
+{
+    match when {
+        When::AfterEnd => has_ended(engine, id),
+        When::AfterStart => has_started(engine, id),
+    }
+}
+
+// Whether an operation has an end.
+fn has_ended<C: Costs>(engine: &Engine<'_, C>, id: OpId) -> bool
+    requires { IsOp engine.now.plans id }
+    ensures { result ≡ has_ended engine.now.plans (is_eager engine.now.plans (C.model engine.now.costs)) id
+        (plain engine.now.history) }
+{
+    engine.record(id).end.is_some()
+}
+
+// Whether an operation has started.
+fn has_started<C: Costs>(engine: &Engine<'_, C>, id: OpId) -> bool
+    requires { IsOp engine.now.plans id }
+    ensures { result ≡ has_started engine.now.plans id (plain engine.now.history) }
+{
+    engine.record(id).start.is_some()
+}
