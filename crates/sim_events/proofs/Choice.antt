@@ -1,7 +1,7 @@
--- The possible action of one operation is the least of its possible actions.
-use Rattle.std.proofs.Common.{◌≡◌, ◌⊎◌, true, false, List, Option, Some, None, is_some, inl, inr, refl, sym, ap, ◌∙◌, subst}
+-- The possible action of one operation, class by class.
+use Rattle.std.proofs.Common.{◌≡◌, ◌⊎◌, true, false, List, Option, Some, None, inl, inr, refl, sym, ap, ◌∙◌, subst}
 use Rattle.std.specs.Option.{option_or}
-use Rattle.std.proofs.lemmas.Bool.{cond-true, cond-false, cases_Bool, both_ways}
+use Rattle.std.proofs.lemmas.Bool.{cond-true, cond-false, cases_Bool, both_ways, false_from_ne_true}
 use Rattle.goal_graph.specs.declared.action.OpId.{OpId}
 use Rattle.goal_graph.specs.declared.action.Timed.{Timed}
 use Rattle.goal_graph.specs.declared.action.Class.{Class}
@@ -10,58 +10,39 @@ use Rattle.goal_graph.specs.Schedule.{Plan}
 use Rattle.goal_graph.specs.Action.{plain}
 use Rattle.goal_graph.specs.Allowed.{allowed}
 use Rattle.goal_graph.specs.Laws.{IsCalc, IsSend, IsReceive}
-use Rattle.goal_graph.proofs.OneEach.{one_allowed}
 use Rattle.goal_graph.proofs.Rules.{not_send_receive, not_receive_calc, not_send_calc, allowed_arrive, allowed_data, allowed_serve, allowed_post, allowed_begin}
 use Rattle.sim_params.specs.Costs.{CostModel, is_eager}
-use Rattle.sim_params.specs.Times.{time, Possible}
-use Rattle.sim_params.specs.Run.{IsBefore, key, IsRun}
 use Rattle.sim_params.specs.Laws.{at_its_time}
-use Rattle.sim_params.proofs.Interleavings.{possible_at, run_interleaving}
-use Rattle.sim_params.proofs.Order.{before_irreflexive}
-use Rattle.sim_events.specs.Least.{IsLeastAmong}
+use Rattle.sim_params.proofs.Interleavings.{possible_at}
 use Rattle.sim_events.specs.Turns.{turn_told}
+use Rattle.sim_events.specs.Queue.{IsTurnOf}
 
 module _ (plans : List Plan) (costs : CostModel) (h : List Timed) (x : OpId) where
   abbrev pub Can : Class → Type 0
   Can c = allowed plans (is_eager plans costs) (plain h) c x ≡ true
 
-  abbrev pub IsLeastOf : Option Timed → Type 0
-  IsLeastOf r = IsLeastAmong plans costs (λ (y : OpId). y ≡ x) h r
+  abbrev pub IsTurn : Option Timed → Type 0
+  IsTurn r = IsTurnOf plans costs h x r
 
-  can_of : (b : Timed) → Possible plans costs h b → b.op ≡ x → Can b.class
-  can_of b p e = subst (λ (y : OpId). allowed plans (is_eager plans costs) (plain h) b.class y ≡ true) e p.allowed
-
-  -- where no other class is allowed, the turn of that class is the least
-  pub least_of_class : (c : Class) → ((d : Class) → Can d → d ≡ c) → IsLeastOf (turn_told plans costs h c x)
-  least_of_class c only = go (cases_Bool (allowed plans (is_eager plans costs) (plain h) c x))
+  -- where no other class is allowed, the turn of that class is the turn
+  turn_of_class : (c : Class) → ((d : Class) → Can d → d ≡ c) → IsTurn (turn_told plans costs h c x)
+  turn_of_class c only = go (cases_Bool (allowed plans (is_eager plans costs) (plain h) c x))
     where
-      go : (Can c) ⊎ (allowed plans (is_eager plans costs) (plain h) c x ≡ false) → IsLeastOf (turn_told plans costs h c x)
+      go : (Can c) ⊎ (allowed plans (is_eager plans costs) (plain h) c x ≡ false) → IsTurn (turn_told plans costs h c x)
       go (inl t) =
-          subst IsLeastOf (sym (cond-true _ (Some (at_its_time plans costs h c x)) None t)) (possible_at plans costs h c x t, λ b p e. same b p e)
-        where
-          same : (b : Timed) → Possible plans costs h b → b.op ≡ x → ¬ (IsBefore (key b) (key (at_its_time plans costs h c x)))
-          same b p e =
-              let class : b.class ≡ c = only b.class (can_of b p e) in
-              let when : b.time ≡ time plans costs h c x = p.time ∙ (λ i. time plans costs h (class i) (e i)) in
-              let this : Timed = at_its_time plans costs h c x in
-              let equal : b ≡ this = λ i. record { time = when i; class = class i; op = e i } in
-              λ l. before_irreflexive (key this) (subst (λ (a : Timed). IsBefore (key a) (key this)) equal l)
+          subst IsTurn (sym (cond-true _ (Some (at_its_time plans costs h c x)) None t)) (refl, possible_at plans costs h c x t)
       go (inr f) =
-          subst IsLeastOf (sym (cond-false _ (Some (at_its_time plans costs h c x)) None f)) (λ b p e. both_ways _ f (subst (λ (d : Class). Can d) (only b.class (can_of b p e)) (can_of b p e)))
+          subst IsTurn (sym (cond-false _ (Some (at_its_time plans costs h c x)) None f)) (λ d. false_from_ne_true _ (λ t. both_ways _ f (subst Can (only d t) t)))
 
-  -- the first of two, where the first comes alone
-  first_of : (c : Class) (rest : Option Timed) → (Can c → (d : Class) → Can d → d ≡ c) → ((Can c → ⊥) → IsLeastOf rest) → IsLeastOf (option_or (turn_told plans costs h c x) rest)
-  first_of c rest alone other = go (cases_Bool (allowed plans (is_eager plans costs) (plain h) c x))
+  -- where that class is allowed, its turn is the turn
+  first_of : (c : Class) (rest : Option Timed) → ((Can c → ⊥) → IsTurn rest) → IsTurn (option_or (turn_told plans costs h c x) rest)
+  first_of c rest other = go (cases_Bool (allowed plans (is_eager plans costs) (plain h) c x))
     where
-      keep : (o : Option Timed) → is_some o ≡ true → IsLeastOf o → IsLeastOf (option_or o rest)
-      keep None e l = absurd (cc)
-      keep (Some v) e l = l
-
-      go : (Can c) ⊎ (allowed plans (is_eager plans costs) (plain h) c x ≡ false) → IsLeastOf (option_or (turn_told plans costs h c x) rest)
+      go : (Can c) ⊎ (allowed plans (is_eager plans costs) (plain h) c x ≡ false) → IsTurn (option_or (turn_told plans costs h c x) rest)
       go (inl t) =
-          keep (turn_told plans costs h c x) (ap is_some (cond-true _ (Some (at_its_time plans costs h c x)) None t)) (least_of_class c (alone t))
+          subst (λ (o : Option Timed). IsTurn (option_or o rest)) (sym (cond-true _ (Some (at_its_time plans costs h c x)) None t)) (refl, possible_at plans costs h c x t)
       go (inr f) =
-          subst (λ (o : Option Timed). IsLeastOf (option_or o rest)) (sym (cond-false _ (Some (at_its_time plans costs h c x)) None f)) (other (λ t. both_ways _ f t))
+          subst (λ (o : Option Timed). IsTurn (option_or o rest)) (sym (cond-false _ (Some (at_its_time plans costs h c x)) None f)) (other (λ t. both_ways _ f t))
 
   -- the classes of each kind
   calc_class : IsCalc plans x → (c : Class) → Can c → c ≡ Begin
@@ -85,26 +66,21 @@ module _ (plans : List Plan) (costs : CostModel) (h : List Timed) (x : OpId) whe
   receive_class k p Post e = absurd (p e)
   receive_class k p Serve e = refl
 
-  pub calc_choice : IsCalc plans x → (r : Option Timed) → r ≡ turn_told plans costs h Begin x → IsLeastOf r
-  calc_choice k r e = subst IsLeastOf (sym e) (least_of_class Begin (calc_class k))
+  pub calc_choice : IsCalc plans x → (r : Option Timed) → r ≡ turn_told plans costs h Begin x → IsTurn r
+  calc_choice k r e = subst IsTurn (sym e) (turn_of_class Begin (calc_class k))
 
-  module _ (run : IsRun plans costs h) where
-    alone : (c : Class) → Can c → (d : Class) → Can d → d ≡ c
-    alone c p d q =
-        one_allowed plans (is_eager plans costs) (plain h) d c x (run_interleaving plans costs h run) q p
+  or_assoc : (a b c : Option Timed) → option_or (option_or a b) c ≡ option_or a (option_or b c)
+  or_assoc None b c = refl
+  or_assoc (Some a) b c = refl
 
-    or_assoc : (a b c : Option Timed) → option_or (option_or a b) c ≡ option_or a (option_or b c)
-    or_assoc None b c = refl
-    or_assoc (Some a) b c = refl
+  pub send_choice : IsSend plans x → (a b d r s : Option Timed) → a ≡ turn_told plans costs h Begin x → b ≡ turn_told plans costs h Arrive x → d ≡ turn_told plans costs h Data x → s ≡ option_or a b → r ≡ option_or s d → IsTurn r
+  send_choice k a b d r s ae be de se re =
+      let turn = first_of Begin (option_or (turn_told plans costs h Arrive x) (turn_told plans costs h Data x)) (λ nb. first_of Arrive (turn_told plans costs h Data x) (λ na. turn_of_class Data (send_class k nb na))) in
+      let parts : r ≡ option_or (turn_told plans costs h Begin x) (option_or (turn_told plans costs h Arrive x) (turn_told plans costs h Data x)) = re ∙ ap (λ (o : Option Timed). option_or o d) se ∙ or_assoc a b d ∙ (λ i. option_or (ae i) (option_or (be i) (de i))) in
+      subst IsTurn (sym parts) turn
 
-    pub send_choice : IsSend plans x → (a b d r s : Option Timed) → a ≡ turn_told plans costs h Begin x → b ≡ turn_told plans costs h Arrive x → d ≡ turn_told plans costs h Data x → s ≡ option_or a b → r ≡ option_or s d → IsLeastOf r
-    send_choice k a b d r s ae be de se re =
-        let least = first_of Begin (option_or (turn_told plans costs h Arrive x) (turn_told plans costs h Data x)) (alone Begin) (λ nb. first_of Arrive (turn_told plans costs h Data x) (alone Arrive) (λ na. least_of_class Data (send_class k nb na))) in
-        let parts : r ≡ option_or (turn_told plans costs h Begin x) (option_or (turn_told plans costs h Arrive x) (turn_told plans costs h Data x)) = re ∙ ap (λ (o : Option Timed). option_or o d) se ∙ or_assoc a b d ∙ (λ i. option_or (ae i) (option_or (be i) (de i))) in
-        subst IsLeastOf (sym parts) least
-
-    pub receive_choice : IsReceive plans x → (a b r : Option Timed) → a ≡ turn_told plans costs h Post x → b ≡ turn_told plans costs h Serve x → r ≡ option_or a b → IsLeastOf r
-    receive_choice k a b r ae be re =
-        let least = first_of Post (turn_told plans costs h Serve x) (alone Post) (λ np. least_of_class Serve (receive_class k np)) in
-        let parts : r ≡ option_or (turn_told plans costs h Post x) (turn_told plans costs h Serve x) = re ∙ (λ i. option_or (ae i) (be i)) in
-        subst IsLeastOf (sym parts) least
+  pub receive_choice : IsReceive plans x → (a b r : Option Timed) → a ≡ turn_told plans costs h Post x → b ≡ turn_told plans costs h Serve x → r ≡ option_or a b → IsTurn r
+  receive_choice k a b r ae be re =
+      let turn = first_of Post (turn_told plans costs h Serve x) (λ np. turn_of_class Serve (receive_class k np)) in
+      let parts : r ≡ option_or (turn_told plans costs h Post x) (turn_told plans costs h Serve x) = re ∙ (λ i. option_or (ae i) (be i)) in
+      subst IsTurn (sym parts) turn

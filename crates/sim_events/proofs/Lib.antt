@@ -1,8 +1,10 @@
-pub mod Keys
 pub mod Tables
 pub mod Places
 pub mod Ready
-pub mod Leasts
+pub mod Keys
+pub mod Newly
+pub mod Queue
+pub mod Steps
 pub mod Empty
 pub mod Finished
 pub mod Runs

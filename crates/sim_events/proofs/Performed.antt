@@ -13,7 +13,7 @@ use Rattle.sim_resources.specs.Holds.{Holds}
 use Rattle.sim_events.specs.declared.entry.Entry.{Entry}
 use Rattle.sim_events.specs.Engine.{View}
 use Rattle.sim_events.specs.Mirrors.{Mirrors, entry_told, IsAllHeard, AreFreeTimes}
-use Rattle.sim_events.proofs.Leasts.{possible_exists}
+use Rattle.sim_events.proofs.Places.{possible_exists}
 
 -- a slice of a whole list that is written back
 written_back : {A : Type 0} (n : ℕ) (new old : List A) → n ≡ length old → length new ≡ length old → take n (new ++ drop (length new) old) ≡ new

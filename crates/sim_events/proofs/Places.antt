@@ -2,16 +2,17 @@
 use Rattle.std.proofs.Common.{◌≡◌, ℕ, ◌<◌, true, List, length, Option, Some, None, is_some, slice_get, option_and_then, refl, sym, subst}
 use Rattle.std.proofs.lemmas.Option.{slice_get_within, get_or_from_slice_get}
 use Rattle.goal_graph.specs.declared.action.OpId.{OpId}
+use Rattle.goal_graph.specs.declared.action.Timed.{Timed}
+use Rattle.goal_graph.specs.Action.{plain}
 use Rattle.goal_graph.specs.declared.plan.Op.{Op}
-use Rattle.goal_graph.specs.declared.plan.Kind.{Kind}
-use Rattle.goal_graph.specs.declared.plan.Kind.TheVariants.{Calc, Send, Recv}
-use Rattle.goal_graph.specs.Schedule.{Plan, op_at, kind_at, operations}
+use Rattle.goal_graph.specs.Schedule.{Plan, op_at, operations}
 use Rattle.goal_graph.specs.Fault.{IsOp}
-use Rattle.goal_graph.specs.Laws.{IsCalc, IsSend, IsReceive}
-use Rattle.goal_graph.proofs.Exists.{listed_op, kind_listed}
+use Rattle.goal_graph.specs.Laws.{IsCalc}
+use Rattle.goal_graph.proofs.Exists.{listed_op, kind_listed, allowed_listed}
+use Rattle.sim_params.specs.Costs.{CostModel, is_eager}
+use Rattle.sim_params.specs.Times.{Possible}
 use Rattle.sim_params.specs.Shares.{ops_at}
 use Rattle.sim_params.proofs.SharesLemmas.{ops_at_some}
-use Rattle.sim_resources.proofs.OfKind.{kind_from_op}
 
 -- the plan of the rank of an operation, and the operation in it
 pub record IsIn (plans : List Plan) (x : OpId) (o : Op) : Type 0 where
@@ -58,27 +59,8 @@ pub calc_is_op : (plans : List Plan) (x : OpId) → IsCalc plans x → IsOp plan
 calc_is_op plans x k =
     let a = listed_op plans x (kind_listed plans x _ k.kind) in subst (λ o. is_some o ≡ true) (sym a.is) refl
 
--- what was read of the schedule is what the operation is
-pub kind_read : (ps plans : List Plan) (x : OpId) (o : Op) (k : Kind) → ps ≡ plans → op_at ps x ≡ Some o → o.kind ≡ k → kind_at plans x ≡ Some k
-kind_read ps plans x o k same e f =
-    subst (λ (ps : List Plan). kind_at ps x ≡ Some k) same (kind_from_op ps x o k e f)
-
-pub calc_read : (ps plans : List Plan) (x : OpId) (o : Op) (nanos : ℕ) → ps ≡ plans → op_at ps x ≡ Some o → o.kind ≡ Calc nanos → IsCalc plans x
-calc_read ps plans x o nanos same e f =
-    record { nanos = nanos; kind = kind_read ps plans x o (Calc nanos) same e f }
-
-pub send_read : (ps plans : List Plan) (x : OpId) (o : Op) (bytes to tag : ℕ) → ps ≡ plans → op_at ps x ≡ Some o → o.kind ≡ Send bytes to tag → IsSend plans x
-send_read ps plans x o bytes to tag same e f = record {
-  bytes = bytes;
-  to = to;
-  tag = tag;
-  kind = kind_read ps plans x o (Send bytes to tag) same e f;
-}
-
-pub receive_read : (ps plans : List Plan) (x : OpId) (o : Op) (room : ℕ) (from tag : Option ℕ) → ps ≡ plans → op_at ps x ≡ Some o → o.kind ≡ Recv room from tag → IsReceive plans x
-receive_read ps plans x o room from tag same e f = record {
-  room = room;
-  from = from;
-  tag = tag;
-  kind = kind_read ps plans x o (Recv room from tag) same e f;
-}
+-- what is possible is an action of an operation
+pub possible_exists : (plans : List Plan) (costs : CostModel) (h : List Timed) (b : Timed) → Possible plans costs h b → IsOp plans b.op
+possible_exists plans costs h b p =
+    let a = listed_op plans b.op (allowed_listed plans (is_eager plans costs) (plain h) b.class b.op p.allowed) in
+    subst (λ o. is_some o ≡ true) (sym a.is) refl

@@ -1,5 +1,5 @@
 -- What may happen next of one operation, class by class.
-use Rattle.std.proofs.Common.{◌≡◌, ◌+◌, ◌≤◌, ℕ, max, Bool, true, false, not, ◌||◌, List, Option, Some, None, is_some, if◌then◌else◌, refl, sym, ap, ap₂, ◌∙◌, subst, arith}
+use Rattle.std.proofs.Common.{◌≡◌, ◌+◌, ◌≤◌, ℕ, max, Bool, true, false, not, ◌||◌, List, Option, Some, None, is_some, if◌then◌else◌, refl, sym, ap, ◌∙◌, arith}
 use Rattle.std.specs.Option.{option_map}
 use Rattle.std.proofs.lemmas.Bool.{cond-true, cond-false, both_ways, false_from_ne_true, and_from, not_from_false}
 use Rattle.std.proofs.lemmas.Option.{same_Some}
@@ -23,10 +23,9 @@ use Rattle.sim_params.specs.Laws.{at_its_time}
 use Rattle.sim_params.specs.Budget.{budget}
 use Rattle.sim_params.proofs.BudgetBound.{possible_budget}
 use Rattle.sim_params.proofs.Interleavings.{possible_at, run_each}
-use Rattle.sim_resources.specs.Holds.{Holds, cpu_free, tx_free, rx_free}
 use Rattle.sim_events.specs.declared.entry.Entry.{Entry}
 use Rattle.sim_events.specs.declared.entry.Pairing.{Pairing}
-use Rattle.sim_events.specs.Mirrors.{AreFreeTimes, message_told, entry_told}
+use Rattle.sim_events.specs.Mirrors.{message_told, entry_told}
 use Rattle.sim_events.specs.Turns.{ready_told, turn_told}
 
 -- a number that is told, or not
@@ -101,11 +100,11 @@ module _ (plans : List Plan) (costs : CostModel) (h : List Timed) (x : OpId) whe
       turn_comes c t (first_happened c b e told ∙ s) (b.once_ready ∙ q.0) (at q.1)
 
   -- the times of each class
-  calc_time : IsCalc plans x → time plans costs h Begin x ≡ max (ready plans costs h x) (cpu plans costs h x)
+  pub calc_time : IsCalc plans x → time plans costs h Begin x ≡ max (ready plans costs h x) (cpu plans costs h x)
   unfolding time
   calc_time k = ap (time_of plans costs h Begin x) k.kind
 
-  send_time : IsSend plans x → time plans costs h Begin x ≡ max (ready plans costs h x) (max (cpu plans costs h x) (tx plans costs h x))
+  pub send_time : IsSend plans x → time plans costs h Begin x ≡ max (ready plans costs h x) (max (cpu plans costs h x) (tx plans costs h x))
   unfolding time
   send_time k = ap (time_of plans costs h Begin x) k.kind
 
@@ -113,31 +112,13 @@ module _ (plans : List Plan) (costs : CostModel) (h : List Timed) (x : OpId) whe
   unfolding time
   post_time k = ap (time_of plans costs h Post x) k.kind
 
-  data_time : IsSend plans x → time plans costs h Data x ≡ max (paired_at plans costs h x + latency plans costs x) (max (cpu plans costs h x) (tx plans costs h x))
+  pub data_time : IsSend plans x → time plans costs h Data x ≡ max (paired_at plans costs h x + latency plans costs x) (max (cpu plans costs h x) (tx plans costs h x))
   unfolding time
   data_time k = ap (time_of plans costs h Data x) k.kind
 
-  serve_time : IsReceive plans x → time plans costs h Serve x ≡ max (there_at plans costs h x (mate plans costs h x)) (max (cpu plans costs h x) (rx plans costs h x))
+  pub serve_time : IsReceive plans x → time plans costs h Serve x ≡ max (there_at plans costs h x (mate plans costs h x)) (max (cpu plans costs h x) (rx plans costs h x))
   unfolding time
   serve_time k = ap (time_of plans costs h Serve x) k.kind
-
-  -- the same, by what is kept of the free times
-  module _ (res : Holds) (free : AreFreeTimes plans costs h res) where
-    pub calc_at : IsCalc plans x → (t n m : ℕ) → t ≡ max n m → m ≡ cpu_free res x → ready plans costs h x ≡ n → t ≡ time plans costs h Begin x
-    calc_at k t n m e f r = e ∙ ap₂ max (sym r) (f ∙ free.cpus x) ∙ sym (calc_time k)
-
-    send_at : (t n m : ℕ) → t ≡ max n (max (cpu_free res x) (tx_free res x)) → n ≡ m → t ≡ max m (max (cpu plans costs h x) (tx plans costs h x))
-    send_at t n m e f = e ∙ ap₂ max f (ap₂ max (free.cpus x) (free.senders x))
-
-    pub begins_at : IsSend plans x → (t n : ℕ) → t ≡ max n (max (cpu_free res x) (tx_free res x)) → ready plans costs h x ≡ n → t ≡ time plans costs h Begin x
-    begins_at k t n e f = send_at t n _ e (sym f) ∙ sym (send_time k)
-
-    pub hands_over_at : IsSend plans x → (t n : ℕ) → t ≡ max n (max (cpu_free res x) (tx_free res x)) → n ≡ paired_at plans costs h x + latency plans costs x → t ≡ time plans costs h Data x
-    hands_over_at k t n e f = send_at t n _ e f ∙ sym (data_time k)
-
-    pub serves_at : IsReceive plans x → (t n : ℕ) → t ≡ max n (max (cpu_free res x) (rx_free res x)) → there_at plans costs h x (mate plans costs h x) ≡ n → t ≡ time plans costs h Serve x
-    serves_at k t n e f =
-        e ∙ ap₂ max (sym f) (ap₂ max (free.cpus x) (free.receivers x)) ∙ sym (serve_time k)
 
   -- the partner, as the entry tells it
   pub record IsPairing (p : Pairing) : Type 0 where
@@ -250,12 +231,7 @@ module _ (plans : List Plan) (costs : CostModel) (h : List Timed) (x : OpId) whe
   serve_turn k e told s n t there at =
       turn_comes Serve t (ended k e told ∙ s) (ap (may plans (is_eager plans costs) (plain h) Serve x) k.kind ∙ there.served) at
 
--- whether a send is eager, as it is read of the costs and the schedule
-eager_of_send : (plans : List Plan) (costs : CostModel) (m : OpId) (bytes to tag : ℕ) → kind_at plans m ≡ Some (Send bytes to tag) → costs.eager m.rank to bytes ≡ is_eager plans costs m
+-- whether a send is eager, as it is read
+pub eager_read : (plans : List Plan) (costs : CostModel) (m : OpId) (bytes to tag : ℕ) → kind_at plans m ≡ Some (Send bytes to tag) → costs.eager m.rank to bytes ≡ is_eager plans costs m
 unfolding is_eager
-eager_of_send plans costs m bytes to tag k = sym (ap (eager_of costs.eager m.rank) k)
-
-pub eager_read : {C : Type 0} (model : C → CostModel) (read costs : C) (ps plans : List Plan) (m : OpId) (bytes to tag : ℕ) (r : Bool) → r ≡ (model read).eager m.rank to bytes → read ≡ costs → kind_at ps m ≡ Some (Send bytes to tag) → ps ≡ plans → r ≡ is_eager plans (model costs) m
-eager_read {C} model read costs ps plans m bytes to tag r e same k at =
-    let here : r ≡ is_eager ps (model read) m = e ∙ eager_of_send ps (model read) m bytes to tag k in
-    subst (λ (c : C). r ≡ is_eager plans (model c) m) same (subst (λ (ps : List Plan). r ≡ is_eager ps (model read) m) at here)
+eager_read plans costs m bytes to tag k = sym (ap (eager_of costs.eager m.rank) k)

@@ -1,7 +1,6 @@
 -- What the fields of an engine say of its view.
-use Rattle.std.proofs.Common.{◌≡◌, ℕ, ◌+◌, ◌<◌, ◌≤◌, ◌^◌, sym, ap, ◌∙◌, subst, arith}
-use Rattle.goal_graph.specs.declared.action.OpId.{OpId}
-use Rattle.sim_params.specs.Costs.{CostModel, latency}
+use Rattle.std.proofs.Common.{◌≡◌, ◌<◌, ◌^◌, subst}
+use Rattle.sim_params.specs.Costs.{CostModel}
 use Rattle.sim_params.specs.Run.{IsRun}
 use Rattle.sim_params.specs.Budget.{budget}
 use Rattle.sim_resources.specs.Holds.{Holds}
@@ -18,15 +17,5 @@ module _ {C : Type 0} (model : C → CostModel) (v w : View C) where
   run_at_view e = subst (λ (u : View C). IsRun u.plans (model u.costs) u.history) e
 
   -- and its budget fits
-  within_at_view : v ≡ w → budget v.plans (model v.costs) < 2 ^ 63 → budget w.plans (model w.costs) < 2 ^ 63
+  pub within_at_view : v ≡ w → budget v.plans (model v.costs) < 2 ^ 63 → budget w.plans (model w.costs) < 2 ^ 63
   within_at_view e = subst (λ (u : View C). budget u.plans (model u.costs) < 2 ^ 63) e
-
-  -- when its clearance is back
-  pub cleared_at_view : (m : OpId) (t at paired : ℕ) → v ≡ w → t ≡ at + latency v.plans (model v.costs) m → paired ≡ at → t ≡ paired + latency w.plans (model w.costs) m
-  cleared_at_view m t at paired e f p =
-      subst (λ (u : View C). t ≡ paired + latency u.plans (model u.costs) m) e (f ∙ ap (λ (n : ℕ). n + latency v.plans (model v.costs) m) (sym p))
-
-  pub clears_at_view : (m : OpId) (at : ℕ) → v ≡ w → at + latency w.plans (model w.costs) m ≤ budget w.plans (model w.costs) → budget v.plans (model v.costs) < 2 ^ 63 → at + latency v.plans (model v.costs) m < 2 ^ 63
-  clears_at_view m at e back within =
-      let there = within_at_view e within in
-      subst (λ (u : View C). at + latency u.plans (model u.costs) m < 2 ^ 63) (sym e) (omega (arith, back, there))

@@ -1,5 +1,5 @@
 pub mod Engine
-pub mod Least
+pub mod Queue
 pub mod Tables
 pub mod Turns
 pub mod Mirrors

@@ -1,5 +1,5 @@
 // The engine: what has happened so far, and what happens next.
-ghost use Rattle.std.specs.Prelude.{◌≡◌, ◌+◌, ◌<◌, ◌≤◌, ◌^◌, ◌↔◌, List, [], ◌∷◌, IsTrue, IfSome, IfNone, IfOk, IfErr, OnOk, count_by, length, reverse};
+ghost use Rattle.std.specs.Prelude.{◌≡◌, ◌<◌, ◌≤◌, ◌^◌, ◌↔◌, List, [], ◌∷◌, IsTrue, IfSome, IfNone, IfOk, IfErr, OnOk, count_by, reverse};
 ghost use Rattle.goal_graph.specs.declared.action.OpId.{OpId};
 ghost use Rattle.goal_graph.specs.declared.action.Timed.{Timed};
 ghost use Rattle.goal_graph.specs.Fault.{IsOp, IsAccepted};
@@ -11,21 +11,16 @@ ghost use Rattle.sim_params.specs.Times.{mate};
 ghost use Rattle.sim_params.specs.Run.{IsNext, IsRun, IsFinished, IsCompleteRun};
 ghost use Rattle.sim_params.specs.Laws.{IsWithin};
 ghost use Rattle.sim_events.specs.Engine.{IsBudgetFault, start_told, end_told};
-ghost use Rattle.sim_events.specs.Least.{IsLeastAmong};
-ghost use Rattle.sim_events.specs.Mirrors.{entry_told};
 
-use crate::entry::{Entry, read};
-use crate::least::lesser;
-use goal_base::{MAX_BUDGET, NoMemory};
+use crate::follow::{Queue, fill, follow, is_empty, next};
+use crate::state::State;
+use goal_base::NoMemory;
 use goal_graph::{OpId, Sched, Timed};
-use sim_match::Matcher;
-use sim_params::{Costs, budget, op_count};
-use sim_resources::Resources;
+use sim_order::Steps;
+use sim_params::Costs;
 use std::alloc::{AllocError, Global};
-use std::marker::Model;
-
-mod perform;
-mod turns;
+use std::marker::{Brand, Model};
+use std::sync::ledger::{Blank, Ledger};
 
 /// Why an engine is not made.
 #[derive(Clone, Copy, Debug, PartialEq, Eq)]
@@ -69,28 +64,21 @@ pub struct Record {
 /// first.
 #[derive(Drop)]
 pub struct Engine<'a, C: Costs> {
-    sched: &'a Sched,
-    costs: C,
-    // what has happened, oldest first
-    history: Vec<Timed>,
-    // what is known of each operation, in the order of all
-    entries: Vec<Entry>,
-    // who is paired with whom
-    matcher: Matcher<'a>,
-    // when cpus and interfaces are free
-    resources: Resources<'a>,
+    // what has happened, and what is known of each operation
+    state: State<'a, C>,
+    // the possible actions, each at a time that is never too late
+    queue: Queue,
 }
 
 impl<'a, C: Costs> Model for Engine<'a, C> {
-    ghost use Rattle.std.specs.Prelude.{reverse, vec_capacity};
     ghost use Rattle.sim_events.specs.Engine.{View};
-    ghost use Rattle.sim_events.specs.Mirrors.{Mirrors};
+    ghost use Rattle.sim_events.specs.Queue.{IsQueue};
 
     ghost Value = { View C };
 
-    ghost view = { λ e. record { plans = e.sched.now; costs = e.costs; history = reverse e.history.items } };
+    ghost view = { λ e. e.state };
 
-    ghost invariant = { λ e. Mirrors e.sched.now (C.model e.costs) (reverse e.history.items) e.entries.items e.matcher e.resources (vec_capacity e.history) };
+    ghost invariant = { λ e. IsQueue e.state.plans (C.model e.state.costs) e.state.history e.queue };
 }
 
 impl<'a, C: Costs + Drop> Engine<'a, C> {
@@ -103,25 +91,10 @@ impl<'a, C: Costs + Drop> Engine<'a, C> {
         ensures fits { OnOk result (budget sched.now (C.model costs) < 2 ^ 63) }
         ensures fault { IfErr result (IsBudgetFault (budget sched.now (C.model costs))) }
     {
-        let sum = budget(sched, &costs);
-        let most = u128::from(MAX_BUDGET);
-        if sum > most {
-            return Err(EngineFault::Budget { sum });
-        }
-        let _plans = sched.plans();
-        let count = sched.count() as usize;
-        let history = Vec::with_capacity(alloc, 3 * count)?;
-        let entries = vec![in alloc; Entry::BLANK; count]?;
-        let matcher = Matcher::new(alloc, sched)?;
-        let resources = Resources::new(alloc, sched)?;
-        Ok(Engine {
-            sched,
-            costs,
-            history,
-            entries,
-            matcher,
-            resources,
-        })
+        let state = State::new(alloc, sched, costs)?;
+        let mut queue = Queue::new(alloc, sched.count())?;
+        fill::<C, Brand>(Blank::new(1), &state, &mut queue);
+        Ok(Engine { state, queue })
     }
 }
 
@@ -135,10 +108,7 @@ impl<'a, C: Costs> Engine<'a, C> {
         ensures same { IfNone result (self.new ≡ self.old) }
         ensures run { IsRun self.new.plans (C.model self.new.costs) self.new.history }
     {
-        self.known();
-        let action = self.least()?;
-        self.perform(action);
-        Some(action)
+        self.step_counted::<Brand>(Blank::new(1))
     }
 
     /// Lets all that is possible happen, until nothing is.
@@ -164,14 +134,15 @@ impl<'a, C: Costs> Engine<'a, C> {
     pub fn is_done(&self) -> bool
         ensures { IsTrue result ↔ IsFinished self.now.plans (C.model self.now.costs) self.now.history }
     {
-        self.least().is_none()
+        self.known();
+        is_empty::<Brand>(Blank::new(1), &self.queue)
     }
 
     /// What has happened, oldest first.
     pub fn trace(&self) -> &[Timed]
         ensures { result.now ≡ reverse self.now.history }
     {
-        self.history.as_slice()
+        self.state.trace()
     }
 
     /// What is known of an operation.
@@ -181,30 +152,21 @@ impl<'a, C: Costs> Engine<'a, C> {
         ensures end { result.end ≡ end_told self.now.plans (C.model self.now.costs) self.now.history id }
         ensures partner { result.partner ≡ mate self.now.plans (C.model self.now.costs) self.now.history id }
     {
-        let entry = self.entry(id);
-        let partner = match entry.paired {
-            Some(pairing) => Some(pairing.with),
-            None => None,
-        };
-        Record {
-            start: entry.start,
-            end: entry.end,
-            partner,
-        }
+        self.state.record(id)
     }
 
     /// The schedule that runs.
     pub fn sched(&self) -> &'a Sched
         ensures { result.now ≡ self.now.plans }
     {
-        self.sched
+        self.state.sched()
     }
 
     /// The costs of its messages.
     pub fn costs(&self) -> &C
         ensures { result.now ≡ self.now.costs }
     {
-        &self.costs
+        self.state.costs()
     }
 
     /// What holds of every engine: its schedule is accepted, its time budget is at most 2^63-1, what
@@ -215,40 +177,25 @@ impl<'a, C: Costs> Engine<'a, C> {
         ensures run { IsRun self.now.plans (C.model self.now.costs) self.now.history }
         ensures times { IsWithin self.now.plans (C.model self.now.costs) self.now.history (budget self.now.plans (C.model self.now.costs)) }
     {
-        let _sched = &self.sched;
+        self.state.known();
     }
 
-    // The possible action of the least key.
-    fn least(&self) -> Option<Timed>
-        ensures next { IfSome result (IsNext self.now.plans (C.model self.now.costs) self.now.history) }
-        ensures none { IfNone result (IsFinished self.now.plans (C.model self.now.costs) self.now.history) }
+    // A step whose comparisons are counted.
+    fn step_counted<L: Ledger>(&mut self, blank: Blank) -> Option<Timed>
+        requires name { blank.name ≡ L.name }
+        requires parts { blank.parts ≡ L.parts }
+        requires some { 0 < blank.parts }
+        ensures next { IfSome result (IsNext self.old.plans (C.model self.old.costs) self.old.history) }
+        ensures after { IfSome result (λ a. self.new ≡ record self.old { history = a ∷ self.old.history }) }
+        ensures finished { IfNone result (IsFinished self.old.plans (C.model self.old.costs) self.old.history) }
+        ensures same { IfNone result (self.new ≡ self.old) }
+        ensures run { IsRun self.new.plans (C.model self.new.costs) self.new.history }
     {
+        let mut steps = Steps::<L>::new(blank);
         self.known();
-        let ranks = self.sched().plans().len() as u32;
-        let mut best = None;
-        for rank in 0..ranks {
-            best = lesser(best, self.least_of_rank(rank));
-        }
-        best
-    }
-
-    // The possible action of the least key among the operations of a rank.
-    fn least_of_rank(&self, rank: u32) -> Option<Timed>
-        requires { rank < length self.now.plans }
-        ensures { IsLeastAmong self.now.plans (C.model self.now.costs) (λ y. y.rank ≡ rank) self.now.history result }
-    {
-        let mut best = None;
-        for op in 0..op_count(self.sched(), rank) {
-            best = lesser(best, self.choice(OpId { rank, op }));
-        }
-        best
-    }
-
-    // What is known of an operation.
-    fn entry(&self, id: OpId) -> Entry
-        requires { IsOp self.now.plans id }
-        ensures { result ≡ entry_told self.now.plans (C.model self.now.costs) self.now.history id }
-    {
-        read(self.sched, &self.entries, id)
+        let action = next(&self.state, &mut self.queue, &mut steps)?;
+        self.state.perform(action);
+        follow(&self.state, &mut self.queue, action.op, &mut steps);
+        Some(action)
     }
 }

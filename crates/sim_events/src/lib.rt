@@ -3,7 +3,8 @@
 
 mod engine;
 mod entry;
-mod least;
+mod follow;
+mod state;
 
 pub use engine::{Engine, EngineFault, Record};
 

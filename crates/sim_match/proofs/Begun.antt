@@ -1,17 +1,27 @@
--- A matcher that has heard nothing.
-use Rattle.std.proofs.Common.{ℕ, zero, suc, ◌+◌, ◌<◌, ◌≤◌, ◌≡◌, List, [], ◌∷◌, ◌++◌, length, Some, take, get_or, slice_get, count_by, refl, arith, sym, ap, ◌∙◌, subst}
+-- A ledger that has heard nothing.
+use Rattle.std.proofs.Common.{ℕ, zero, suc, ◌+◌, ◌<◌, ◌≤◌, ◌≡◌, Bool, true, false, List, [], ◌∷◌, ◌++◌, length, Some, take, replicate, filter, get_or, slice_get, count_by, vec_capacity, All, refl, arith, sym, ap, ◌∙◌, subst}
 use Rattle.std.specs.List.{AllZip}
 use Rattle.std.proofs.lemmas.Option.{same_Some, none-some}
+use Rattle.std.proofs.lemmas.List.{length-replicate}
+use Rattle.std.proofs.lemmas.List.Elements.{All-nil}
+use Rattle.goal_graph.specs.declared.action.OpId.{OpId}
 use Rattle.goal_graph.specs.declared.action.Class.TheVariants.{Arrive, Post}
 use Rattle.goal_graph.specs.Schedule.{Plan, operations}
 use Rattle.goal_graph.specs.Fault.{IsAccepted}
+use Rattle.goal_graph.specs.Matching.{is_paired, pairs, partner}
+use Rattle.sim_match.specs.declared.lists.Lists.{Lists}
+use Rattle.sim_match.specs.declared.pattern.Pattern.{Pattern}
+use Rattle.sim_match.specs.declared.rolls.Entry.{Entry}
+use Rattle.sim_match.specs.declared.rolls.Roll.{Roll}
 use Rattle.sim_match.specs.declared.rooms.Room.{Room}
-use Rattle.sim_match.specs.declared.waiting.Waiting.{Waiting}
-use Rattle.sim_match.specs.Waiting.{is_receive_at, is_send_to, is_message}
+use Rattle.sim_match.specs.Waiting.{is_message}
+use Rattle.sim_match.specs.Patterns.{in_list, for_list, AreListed}
+use Rattle.sim_match.specs.Rolls.{is_marked}
 use Rattle.sim_match.specs.Rooms.{IsRoom, AreRooms}
 use Rattle.sim_match.specs.Lists.{IsEmptyList}
-use Rattle.sim_match.specs.Matcher.{IsListsOf, Mirrors}
-use Rattle.sim_match.proofs.WaitingLemmas.{waiting_none}
+use Rattle.sim_match.specs.Matcher.{IsRoll, receives_of, sends_of, AreLists, Mirrors}
+use Rattle.sim_match.proofs.Entries.{entries_none}
+use Rattle.sim_match.proofs.Marks.{no_marks}
 
 -- one more element of each of two lists
 pub zip_more : {X Y : Type 0} (R : X → Y → Type 0) (xs : List X) (ys : List Y) (i : ℕ) (d : X) (y : Y) → i < length xs → AllZip R (take i xs) ys → R (get_or xs i d) y → AllZip R (take (i + 1) xs) (ys ++ y ∷ [])
@@ -39,20 +49,37 @@ zip_at R (x ∷ xs) [] k y z e = absurd z
 zip_at R (x ∷ xs) (v ∷ ys) zero y z e = (x, refl, subst (R x) (same_Some v y e) z.0)
 zip_at R (x ∷ xs) (v ∷ ys) (suc k) y z e = zip_at R xs ys k y z.1 e
 
--- what a new matcher keeps
-pub begins : (plans : List Plan) (rooms : List Room) (lists : List Waiting) (room : ℕ) → IsAccepted plans → AreRooms plans (operations plans) rooms → AllZip IsEmptyList rooms lists → count_by (is_message plans) (operations plans) ≤ room → Mirrors plans [] lists room
-begins plans rooms lists room accepted counted empty roomy = record {
+empty_skips : {X : Type 0} (P : X → Type 0) (n : ℕ) → All P (take n [])
+empty_skips P zero = All-nil P
+empty_skips P (suc n) = All-nil P
+
+none_paired : (plans : List Plan) (x : OpId) → is_paired (pairs plans []) x ≡ false
+unfolding pairs partner
+none_paired plans x = refl
+
+begun_roll : (es : List Entry) (paired : OpId → Bool) (room : ℕ) (roll : Roll) → es ≡ [] → roll.entries.items ≡ [] → roll.head ≡ 0 → room ≤ vec_capacity roll.entries → IsRoll es paired room roll
+begun_roll es paired room roll none empty head roomy = record {
+  entries = empty ∙ sym none;
+  within = omega (arith, head);
+  skipped = subst (λ (xs : List Entry). All (λ (e : Entry). paired e.op ≡ true) (take roll.head xs)) (sym none) (empty_skips (λ (e : Entry). paired e.op ≡ true) roll.head);
+  room = roomy;
+}
+
+-- what a new ledger keeps
+pub begins : (plans : List Plan) (keys : List Pattern) (rooms : List Room) (lists : List Lists) (marks : List Bool) (room : ℕ) → IsAccepted plans → AreListed plans keys → AreRooms plans keys (operations plans) rooms → AllZip IsEmptyList rooms lists → marks ≡ replicate (length (operations plans)) false → count_by (is_message plans) (operations plans) ≤ room → Mirrors plans keys lists marks [] room
+begins plans keys rooms lists marks room accepted listed counted empty unmarked roomy = record {
   accepted = accepted;
   hearing = tt;
+  listed = listed;
   one_each = zip_length IsEmptyList rooms lists empty ∙ counted.one_each;
-  lists = λ rank w e. let at = zip_at IsEmptyList rooms lists rank w empty e in begun rank at.0 w (counted.each rank at.0 at.1) at.2;
+  each = λ list w e. let at = zip_at IsEmptyList rooms lists list w empty e in begun list at.0 w (counted.each list at.0 at.1) at.2;
+  marked = λ x. ap (λ (bs : List Bool). is_marked (operations plans) bs x) unmarked ∙ no_marks (operations plans) (length (operations plans)) x ∙ sym (none_paired plans x);
+  all_marks = let long = ap length unmarked ∙ length-replicate (length (operations plans)) false in omega (arith, long);
   roomy = roomy;
 }
   where
-    begun : (rank : ℕ) (r : Room) (w : Waiting) → IsRoom plans (operations plans) rank r → IsEmptyList r w → IsListsOf plans [] rank w
-    begun rank r w is none = record {
-      receives = none.receives ∙ sym (waiting_none plans (is_receive_at plans rank) Post);
-      sends = none.sends ∙ sym (waiting_none plans (is_send_to plans rank) Arrive);
-      receive_room = omega (arith, is.receives, none.receive_room);
-      send_room = omega (arith, is.sends, none.send_room);
+    begun : (list : ℕ) (r : Room) (w : Lists) → IsRoom plans keys (operations plans) list r → IsEmptyList r w → AreLists plans keys (is_paired (pairs plans [])) list (receives_of plans keys [] list) (sends_of plans keys [] list) w
+    begun list r w is none = record {
+      receives = begun_roll _ _ _ w.receives (ap (filter (λ (e : Entry). in_list plans keys list e.op)) (entries_none Post)) none.receives none.receive_head (omega (arith, is.receives, none.receive_room));
+      sends = begun_roll _ _ _ w.sends (ap (filter (λ (e : Entry). for_list plans keys list e.op)) (entries_none Arrive)) none.sends none.send_head (omega (arith, is.sends, none.send_room));
     }

@@ -1,29 +1,37 @@
--- What a matcher keeps, after one more post or arrival.
-use Rattle.std.proofs.Common.{ℕ, ◌<◌, ◌≤◌, ◌≡◌, true, false, if◌then◌else◌, inl, inr, List, [], ◌∷◌, ◌++◌, length, Option, Some, IsNone, is_some, ◌↔◌, All, find, map, reverse, get_or, slice_get, slice_set, count_by, vec_capacity, refl, arith, sym, ap, ◌∙◌, subst}
-use Rattle.std.proofs.lemmas.Bool.{cases_eq}
-use Rattle.std.proofs.lemmas.Option.{slice_get_read}
-use Rattle.std.proofs.lemmas.List.{length-set, length-map, length-reverse, map_push, reverse-append}
-use Rattle.std.proofs.lemmas.List.Elements.{All-weaker}
+-- What a ledger keeps, after one more post or arrival.
+use Rattle.std.proofs.Common.{ℕ, zero, suc, ◌+◌, ◌<◌, ◌≡◌, ◌&&◌, ◌||◌, Bool, true, false, not, if◌then◌else◌, inl, inr, List, [], ◌∷◌, ◌++◌, length, Option, Some, None, All, filter, find, map, reverse, take, drop, get_or, slice_get, slice_set, count_by, vec_capacity, refl, arith, sym, ap, ◌∙◌, subst, eq-eqb, append-nil}
+use Rattle.std.specs.Option.{IfSome, option_map}
+use Rattle.std.specs.List.{list_any}
+use Rattle.std.proofs.lemmas.Bool.{cases_eq, ne_eqb}
+use Rattle.std.proofs.lemmas.Option.{slice_get_read, same_Some}
+use Rattle.std.proofs.lemmas.List.{length-set, length-map, length-reverse, map_push, reverse-append, take_all, drop_all}
+use Rattle.std.proofs.lemmas.List.Elements.{All-weaker, All-filter, filter-append}
+use Rattle.std.proofs.lemmas.List.Folds.{list_any_more, list_any_at}
 use Rattle.goal_graph.specs.declared.action.OpId.{OpId}
 use Rattle.goal_graph.specs.declared.action.Class.TheVariants.{Arrive, Post}
 use Rattle.goal_graph.specs.Schedule.{Plan, operations}
 use Rattle.goal_graph.specs.Fault.{IsOp}
-use Rattle.goal_graph.specs.Action.{Act, happened}
-use Rattle.goal_graph.specs.Matching.{pair_of, fits, pairs, partner}
+use Rattle.goal_graph.specs.Action.{Act, same_op, happened}
+use Rattle.goal_graph.specs.Matching.{Pair, pair_of, fits, is_paired, new_pair, pairs}
 use Rattle.goal_graph.specs.Laws.{IsSend, IsReceive}
-use Rattle.sim_match.specs.declared.matcher.Event.{Event}
-use Rattle.sim_match.specs.declared.waiting.Waiting.{Waiting}
-use Rattle.sim_match.specs.Heard.{Heard, send_for, receive_for, NoSendFits, NoReceiveFits}
-use Rattle.sim_match.specs.Waiting.{is_receive_at, is_send_to, waiting, without_first}
-use Rattle.sim_match.specs.Lists.{IsPosted, IsArrived}
-use Rattle.sim_match.specs.Matcher.{act_of, heard_of, IsNew, IsListsOf, Mirrors}
-use Rattle.sim_match.proofs.Ops.{post_suits, arrival_suits, ops_fewer, heard_fewer}
+use Rattle.goal_graph.proofs.Partners.{pairs_same}
+use Rattle.goal_graph.proofs.Persist.{paired_stays}
+use Rattle.sim_match.specs.declared.ledger.Event.{Event}
+use Rattle.sim_match.specs.declared.lists.Lists.{Lists}
+use Rattle.sim_match.specs.declared.pattern.Pattern.{Pattern}
+use Rattle.sim_match.specs.declared.rolls.Entry.{Entry}
+use Rattle.sim_match.specs.Heard.{send_for, receive_for}
+use Rattle.sim_match.specs.Patterns.{same_number, list_of, lists_for, in_list, for_list, IsListed}
+use Rattle.sim_match.specs.Rolls.{is_marked, entries_of, earlier, IsReady, IsFirst, IsPushed}
+use Rattle.sim_match.specs.Matcher.{act_of, heard_of, IsNew, ArePaired, IsRoll, receives_of, sends_of, AreLists, Mirrors, IsJoined}
+use Rattle.sim_match.proofs.Ops.{post_suits, arrival_suits, heard_fewer}
+use Rattle.sim_match.proofs.Pairs.{in_pair, paired_more, pairs_with}
 use Rattle.sim_match.proofs.Written.{slice_get_written, slice_get_elsewhere}
-use Rattle.sim_match.proofs.Targets.{exists_kind, rank_within, target_within}
-use Rattle.sim_match.proofs.WaitingLemmas.{waiting_passes, waiting_length}
-use Rattle.sim_match.proofs.Turns.{IsTurn, other_here, other_elsewhere, own_here, own_elsewhere}
-use Rattle.sim_match.proofs.Fitting.{post_turn, arrival_turn, is_receive_here, is_receive_there, is_receive_apart, is_send_apart, receive_exists, send_exists, post_makes, arrival_makes, send_found, receive_found}
-use Rattle.sim_match.proofs.Partnered.{post_partner, arrival_partner, post_none, arrival_none}
+use Rattle.sim_match.proofs.Targets.{exists_kind}
+use Rattle.sim_match.proofs.Finding.{find_alike, find_agree, find_filter, find_none, find_all, find_either, filter_last, filter_last_passes}
+use Rattle.sim_match.proofs.PatternLemmas.{fits_list, fits_any, lists_once, lists_within}
+use Rattle.sim_match.proofs.Entries.{entries_same, entries_other, entries_order, oldest_entry, posted_receives, posted_exist, arrived_exist, entries_fewer}
+use Rattle.sim_match.proofs.RollLemmas.{roll_ready, roll_kept, roll_found, roll_pushed, roll_later}
 
 pub length-heard_of : (events : List Event) → length (heard_of events) ≡ length events
 length-heard_of events = length-reverse (map act_of events) ∙ length-map events act_of
@@ -33,182 +41,344 @@ pub heard_of-push : (events : List Event) (e : Event) → heard_of (events ++ e 
 heard_of-push events e =
     ap reverse (map_push act_of events e) ∙ reverse-append (map act_of events) (act_of e ∷ [])
 
-module _ (plans : List Plan) (h : List Act) (rank : ℕ) (w : Waiting) (lists : IsListsOf plans h rank w) where
-  -- what waits are operations
-  waiting_receives_exist : All (IsOp plans) w.receives.items
-  waiting_receives_exist =
-      subst (All (IsOp plans)) (sym lists.receives) (All-weaker (λ (x : OpId). is_receive_at plans rank x ≡ true) (IsOp plans) (receive_exists plans rank) (waiting plans (is_receive_at plans rank) Post h) (waiting_passes plans (is_receive_at plans rank) Post h))
+or_assoc : (s t u : Bool) → ((s || t) || u) ≡ (s || (t || u))
+or_assoc true t u = refl
+or_assoc false t u = refl
 
-  waiting_sends_exist : All (IsOp plans) w.sends.items
-  waiting_sends_exist =
-      subst (All (IsOp plans)) (sym lists.sends) (All-weaker (λ (m : OpId). is_send_to plans rank m ≡ true) (IsOp plans) (send_exists plans rank) (waiting plans (is_send_to plans rank) Arrive h) (waiting_passes plans (is_send_to plans rank) Arrive h))
+or_comm : (s t : Bool) → (s || t) ≡ (t || s)
+or_comm true true = refl
+or_comm true false = refl
+or_comm false true = refl
+or_comm false false = refl
 
--- a matcher that is seen as s
-module _ (plans : List Plan) (h : List Act) (ranks : List Waiting) (room : ℕ) (m : Mirrors plans h ranks room) (s : Heard) (seen : record { plans = plans; heard = h } ≡ s) where
-  -- the lists of one rank change, and those of the others stay
-  lists_after : (a : Act) (at : ℕ) (v : Waiting) → IsListsOf plans (a ∷ h) at v → ((rank : ℕ) (u : Waiting) → (rank ≡ at → ⊥) → IsListsOf plans h rank u → IsListsOf plans (a ∷ h) rank u) → (rank : ℕ) (u : Waiting) → slice_get (slice_set ranks at v) rank ≡ Some u → IsListsOf plans (a ∷ h) rank u
-  lists_after a at v here elsewhere rank u e =
-      elim (cases_eq rank at) [ inl same ↦ subst (λ (k : ℕ). IsListsOf plans (a ∷ h) k u) (sym same) (subst (IsListsOf plans (a ∷ h) at) (slice_get_written ranks at v u (subst (λ (k : ℕ). slice_get (slice_set ranks at v) k ≡ Some u) same e)) here) | inr n ↦ elsewhere rank u n (m.lists rank u (sym (slice_get_elsewhere ranks at rank v n) ∙ e)) ]
+or_none : (s : Bool) → (s || false) ≡ s
+or_none true = refl
+or_none false = refl
 
-  -- a receive of it that is still to be posted
-  module _ (x : OpId) (its : IsReceive s.plans x) (unposted : happened Post x s.heard ≡ false) where
-    receive : IsReceive plans x
-    receive = subst (λ (v : Heard). IsReceive v.plans x) (sym seen) its
+and_none : (s : Bool) → (s && false) ≡ false
+and_none true = refl
+and_none false = refl
 
-    fresh : happened Post x h ≡ false
-    fresh = subst (λ (v : Heard). happened Post x v.heard ≡ false) (sym seen) unposted
+and_or : (s t u : Bool) → (s && (t || u)) ≡ ((s && t) || (s && u))
+and_or true t u = refl
+and_or false t u = refl
 
-    new : IsNew plans h (record { class = Post; op = x })
-    new = record { heard = refl; suited = post_suits plans x receive; fresh = fresh }
+no_number : (o : Option ℕ) → same_number o None ≡ false
+no_number None = refl
+no_number (Some i) = refl
+
+-- a list that was lent whole and comes back
+pub whole_back : {X : Type 0} (n : ℕ) (xs ys : List X) → length xs ≡ length ys → n ≡ length ys → take n (xs ++ drop (length xs) ys) ≡ xs
+whole_back {X} n xs ys long all =
+    let rest : drop (length xs) ys ≡ [] = drop_all (length xs) ys (omega (arith, long)) in
+    ap (λ (zs : List X). take n (xs ++ zs)) rest ∙ ap (take n) (append-nil xs) ∙ take_all n xs (omega (arith, long, all))
+
+-- what is found exists
+pub met_exists : (plans : List Plan) (es : List Entry) (test : Entry → Bool) (met : Option Entry) → met ≡ find test es → All (λ (e : Entry). IsOp plans e.op) es → IfSome met (λ (e : Entry). IsOp plans e.op)
+met_exists plans es test None e all = tt
+met_exists plans es test (Some f) e all = find_all (λ (e : Entry). IsOp plans e.op) test es f all (sym e)
+
+-- who is paired after the newest action, by what it has met
+paired_after : (plans : List Plan) (a : Act) (h : List Act) (old new : List Bool) (met : Option Entry) (pairing : OpId → Pair) → ((z y : OpId) → in_pair (pairing z) y ≡ (same_op a.op y || same_op z y)) → new_pair plans (pairs plans h) h a.class a.op ≡ option_map pairing (option_map (λ (e : Entry). e.op) met) → ((x : OpId) → is_marked (operations plans) old x ≡ is_paired (pairs plans h) x) → ArePaired (operations plans) a.op met old new → (y : OpId) → is_marked (operations plans) new y ≡ is_paired (pairs plans (a ∷ h)) y
+paired_after plans a h old new None pairing both makes marked changes y =
+    changes y ∙ marked y ∙ ap (λ (ps : List Pair). is_paired ps y) (sym (pairs_same plans a h makes))
+paired_after plans a h old new (Some f) pairing both makes marked changes y =
+    changes y ∙ ap (λ (b : Bool). (b || same_op a.op y) || same_op f.op y) (marked y) ∙ or_assoc (is_paired (pairs plans h) y) (same_op a.op y) (same_op f.op y) ∙ ap (λ (b : Bool). is_paired (pairs plans h) y || b) (sym (both f.op y)) ∙ sym (paired_more (pairing f.op) (pairs plans h) y) ∙ ap (λ (ps : List Pair). is_paired ps y) (sym (pairs_with plans a h (pairing f.op) makes))
+
+its_send : (x : OpId) (o : Option OpId) → option_map (λ (p : Pair). p.send) (option_map (λ (m : OpId). pair_of m x) o) ≡ o
+its_send x None = refl
+its_send x (Some m) = refl
+
+its_receive : (m : OpId) (o : Option OpId) → option_map (λ (p : Pair). p.recv) (option_map (λ (x : OpId). pair_of m x) o) ≡ o
+its_receive m None = refl
+its_receive m (Some x) = refl
+
+module _ (plans : List Plan) (keys : List Pattern) (h : List Act) where
+  -- the receives and the sends of a list after a post
+  abbrev post_of : OpId → Act
+  post_of x = record { class = Post; op = x }
+
+  abbrev arrival_of : OpId → Act
+  arrival_of m = record { class = Arrive; op = m }
+
+  abbrev entry : OpId → Entry
+  entry x = record { op = x; at = length h }
+
+  receives_more : (x : OpId) (l : ℕ) → in_list plans keys l x ≡ true → receives_of plans keys (post_of x ∷ h) l ≡ receives_of plans keys h l ++ entry x ∷ []
+  receives_more x l pass =
+      ap (filter (λ (e : Entry). in_list plans keys l e.op)) (entries_same Post (post_of x) h refl) ∙ filter_last_passes (λ (e : Entry). in_list plans keys l e.op) (entries_of Post h) (entry x) pass
+
+  receives_same : (x : OpId) (l : ℕ) → in_list plans keys l x ≡ false → receives_of plans keys (post_of x ∷ h) l ≡ receives_of plans keys h l
+  receives_same x l fails =
+      ap (filter (λ (e : Entry). in_list plans keys l e.op)) (entries_same Post (post_of x) h refl) ∙ filter_last (λ (e : Entry). in_list plans keys l e.op) (entries_of Post h) (entry x) fails
+
+  sends_same : (x : OpId) (l : ℕ) → sends_of plans keys (post_of x ∷ h) l ≡ sends_of plans keys h l
+  sends_same x l = ap (filter (λ (e : Entry). for_list plans keys l e.op)) (entries_other Arrive (post_of x) h refl)
+
+  -- and after an arrival
+  receives_stay : (m : OpId) (l : ℕ) → receives_of plans keys (arrival_of m ∷ h) l ≡ receives_of plans keys h l
+  receives_stay m l = ap (filter (λ (e : Entry). in_list plans keys l e.op)) (entries_other Post (arrival_of m) h refl)
+
+  sends_after : (m : OpId) (l : ℕ) → sends_of plans keys (arrival_of m ∷ h) l ≡ sends_of plans keys h l ++ (if list_any (same_number (Some l)) (lists_for plans keys m) then entry m ∷ [] else [])
+  unfolding for_list
+  sends_after m l =
+      ap (filter (λ (e : Entry). for_list plans keys l e.op)) (entries_same Arrive (arrival_of m) h refl) ∙ filter-append (λ (e : Entry). for_list plans keys l e.op) (entries_of Arrive h) (entry m ∷ [])
+
+module _ (plans : List Plan) (keys : List Pattern) (lists : List Lists) (marks : List Bool) (h : List Act) (room : ℕ) (m : Mirrors plans keys lists marks h room) where
+  abbrev paired : OpId → Bool
+  paired = is_paired (pairs plans h)
+
+  lists_read : (list : ℕ) (w : Lists) → list < length keys → w ≡ get_or lists list w → AreLists plans keys paired list (receives_of plans keys h list) (sends_of plans keys h list) w
+  lists_read list w within read =
+      m.each list w (slice_get_read lists (length lists) list w refl (omega (arith, within, m.one_each)) read)
+
+  receives_exist : (list : ℕ) → All (λ (e : Entry). IsOp plans e.op) (receives_of plans keys h list)
+  receives_exist list = All-filter (λ (e : Entry). in_list plans keys list e.op) (λ (e : Entry). IsOp plans e.op) (entries_of Post h) (posted_exist plans h m.hearing)
+
+  sends_exist : (list : ℕ) → All (λ (e : Entry). IsOp plans e.op) (sends_of plans keys h list)
+  sends_exist list = All-filter (λ (e : Entry). for_list plans keys list e.op) (λ (e : Entry). IsOp plans e.op) (entries_of Arrive h) (arrived_exist plans h m.hearing)
+
+  -- a receive that is still to be posted
+  module _ (x : OpId) (r : IsReceive plans x) (fresh : happened Post x h ≡ false) where
+    new : IsNew plans h (post_of plans keys h x)
+    new = record { heard = refl; suited = post_suits plans x r; fresh = fresh }
 
     pub post_heard_room : length h < room
     post_heard_room =
-        let fewer = heard_fewer plans (record { class = Post; op = x }) h m.hearing new in
+        let fewer = heard_fewer plans (post_of plans keys h x) h m.hearing new in
         omega (arith, fewer, m.roomy)
 
-    pub post_within : x.rank < length ranks
-    post_within =
-        let within = rank_within plans x _ receive.kind in
-        omega (arith, within, m.one_each)
-
     pub post_exists : IsOp plans x
-    post_exists = exists_kind plans x _ receive.kind
+    post_exists = exists_kind plans x _ r.kind
 
-    module _ (w : Waiting) (read : w ≡ get_or ranks x.rank w) where
-      old : IsListsOf plans h x.rank w
-      old =
-          m.lists x.rank w (slice_get_read ranks (length ranks) x.rank w refl post_within read)
+    pub post_listed : IsListed plans keys x
+    post_listed = m.listed x r
 
-      pub post_sends_exist : All (IsOp plans) w.sends.items
-      post_sends_exist = waiting_sends_exist plans h x.rank w old
+    module _ (list : ℕ) (is : list_of plans keys x ≡ Some list) where
+      post_in : list < length keys
+      post_in =
+          subst (λ (n : ℕ). n < length keys) (same_Some (post_listed).list list (sym (post_listed).is ∙ is)) (post_listed).within
 
-      pub post_room : length w.receives.items < vec_capacity w.receives
-      post_room =
-          let long = waiting_length plans (is_receive_at plans x.rank) Post h in
-          let fewer = ops_fewer plans (is_receive_at plans x.rank) Post h x m.hearing (post_suits plans x receive) fresh (is_receive_here plans x receive) in
-          omega (arith, long, fewer, ap length old.receives, old.receive_room)
+      pub post_within : list < length lists
+      post_within = let within = post_in in omega (arith, within, m.one_each)
 
-      module _ (v : Waiting) (taken : Option OpId) (p : IsPosted plans x w v taken) where
-        turn : IsTurn plans h Post Arrive x (λ (m : OpId). pair_of m x)
-        turn = post_turn plans h x m.hearing receive fresh
+      here : in_list plans keys list x ≡ true
+      unfolding in_list
+      here = ap (λ (o : Option ℕ). same_number o (Some list)) is ∙ eq-eqb list list refl
 
-        found : taken ≡ find (λ (m : OpId). fits plans x m) (waiting plans (is_send_to plans x.rank) Arrive h)
-        found = p.found ∙ ap (find (λ (m : OpId). fits plans x m)) old.sends
+      elsewhere : (l : ℕ) → (l ≡ list → ⊥) → in_list plans keys l x ≡ false
+      unfolding in_list
+      elsewhere l n = ap (λ (o : Option ℕ). same_number o (Some l)) is ∙ ne_eqb list l (λ e. n (sym e))
 
-        post_here : IsListsOf plans (record { class = Post; op = x } ∷ h) x.rank v
-        post_here = record {
-          receives = p.receives ∙ ap (λ (l : List OpId). if is_some taken then l else l ++ x ∷ []) old.receives ∙ ap (λ (o : Option OpId). if is_some o then waiting plans (is_receive_at plans x.rank) Post h else waiting plans (is_receive_at plans x.rank) Post h ++ x ∷ []) found ∙ sym (own_here plans h Post Arrive x (λ (m : OpId). pair_of m x) turn (is_send_to plans x.rank) (λ (m : OpId). fits plans x m) (post_makes plans h x) (is_receive_at plans x.rank) (is_receive_here plans x receive));
-          sends = p.sends ∙ ap (without_first (λ (m : OpId). fits plans x m)) old.sends ∙ sym (other_here plans h Post Arrive x (λ (m : OpId). pair_of m x) turn (is_send_to plans x.rank) (λ (m : OpId). fits plans x m) (post_makes plans h x));
-          receive_room = subst (λ (n : ℕ). count_by (is_receive_at plans x.rank) (operations plans) ≤ n) (sym p.receive_room) old.receive_room;
-          send_room = subst (λ (n : ℕ). count_by (is_send_to plans x.rank) (operations plans) ≤ n) (sym p.send_room) old.send_room;
-        }
+      module _ (w : Lists) (read : w ≡ get_or lists list w) where
+        old : AreLists plans keys paired list (receives_of plans keys h list) (sends_of plans keys h list) w
+        old = lists_read list w post_in read
 
-        post_elsewhere : (rank : ℕ) (u : Waiting) → (rank ≡ x.rank → ⊥) → IsListsOf plans h rank u → IsListsOf plans (record { class = Post; op = x } ∷ h) rank u
-        post_elsewhere rank u n lists = record {
-          receives = lists.receives ∙ sym (own_elsewhere plans h Post Arrive x (λ (m : OpId). pair_of m x) turn (is_send_to plans x.rank) (λ (m : OpId). fits plans x m) (post_makes plans h x) (is_receive_at plans rank) (is_receive_there plans rank x.rank x refl n));
-          sends = lists.sends ∙ sym (other_elsewhere plans h Post Arrive x (λ (m : OpId). pair_of m x) turn (is_send_to plans x.rank) (λ (m : OpId). fits plans x m) (post_makes plans h x) (is_send_to plans rank) (λ z here. is_send_apart plans rank x.rank z here n));
-          receive_room = lists.receive_room;
-          send_room = lists.send_room;
-        }
+        pub post_ready : IsReady plans marks w.sends
+        post_ready = roll_ready _ _ _ w.sends (old).sends plans marks m.marked (sends_exist list) m.all_marks
 
-        -- what it keeps after the post, and its answer
-        pub post_keeps : Mirrors plans (record { class = Post; op = x } ∷ h) (slice_set ranks x.rank v) room
-        post_keeps = record {
-          accepted = m.accepted;
-          hearing = (m.hearing, new);
-          one_each = length-set ranks x.rank v ∙ m.one_each;
-          lists = lists_after (record { class = Post; op = x }) x.rank v post_here post_elsewhere;
-          roomy = m.roomy;
-        }
+        pub post_room : length w.receives.entries.items < vec_capacity w.receives.entries
+        post_room =
+            let fewer = entries_fewer plans h m.hearing (in_list plans keys list) Post x (post_suits plans x r) fresh here in
+            omega (arith, fewer, ap length (old).receives.entries, (old).receives.room)
 
-        pub post_answers : taken ≡ send_for s.plans s.heard x
-        post_answers =
-            found ∙ sym (send_found plans h x) ∙ ap (λ (v : Heard). send_for v.plans v.heard x) seen
+        module _ (v : Lists) (met : Option Entry) (first : IsFirst (is_marked (operations plans) marks) w.sends v.sends met) (pushed : IsPushed (entry plans keys h x) w.receives v.receives) where
+          post_met : met ≡ find (λ (e : Entry). not (paired e.op) && fits plans x e.op) (entries_of Arrive h)
+          post_met =
+              roll_found _ _ _ w.sends (old).sends plans marks m.marked v.sends met first ∙ find_filter (λ (e : Entry). for_list plans keys list e.op) (λ (e : Entry). not (paired e.op)) (entries_of Arrive h) ∙ find_agree (λ (e : Entry). not (paired e.op) && for_list plans keys list e.op) (λ (e : Entry). not (paired e.op) && fits plans x e.op) (λ e. ap (λ (b : Bool). not (paired e.op) && b) (sym (fits_list plans keys x e.op list r is))) (entries_of Arrive h)
 
-        pub post_partners : taken ≡ partner (pairs plans (record { class = Post; op = x } ∷ h)) x
-        post_partners = found ∙ sym (send_found plans h x) ∙ post_partner plans h x receive fresh
+          post_makes : new_pair plans (pairs plans h) h Post x ≡ option_map (λ (z : OpId). pair_of z x) (option_map (λ (e : Entry). e.op) met)
+          post_makes =
+              ap (option_map (λ (z : OpId). pair_of z x)) (oldest_entry Arrive (λ (z : OpId). not (paired z)) (fits plans x) h ∙ ap (option_map (λ (e : Entry). e.op)) (sym post_met))
 
-        pub post_answers_none : IsNone taken ↔ NoSendFits s.plans s.heard x
-        post_answers_none =
-            subst (λ (o : Option OpId). IsNone o ↔ NoSendFits s.plans s.heard x) (sym post_answers) (post_none s.plans s.heard x)
+          pub post_answers : option_map (λ (e : Entry). e.op) met ≡ send_for plans h x
+          post_answers = sym (ap (option_map (λ (p : Pair). p.send)) post_makes ∙ its_send x _)
 
-  -- a send of it that is still to arrive, and the rank to which it goes
-  module _ (y : OpId) (its : IsSend s.plans y) (to : ℕ) (here : is_send_to plans to y ≡ true) (unheard : happened Arrive y s.heard ≡ false) where
-    send : IsSend plans y
-    send = subst (λ (v : Heard). IsSend v.plans y) (sym seen) its
+          pub post_met_exists : IfSome met (λ (e : Entry). IsOp plans e.op)
+          post_met_exists = met_exists plans (entries_of Arrive h) _ met post_met (arrived_exist plans h m.hearing)
 
-    not_yet : happened Arrive y h ≡ false
-    not_yet = subst (λ (v : Heard). happened Arrive y v.heard ≡ false) (sym seen) unheard
+          later : (y : OpId) → paired y ≡ true → is_paired (pairs plans (post_of plans keys h x ∷ h)) y ≡ true
+          later y = paired_stays plans (post_of plans keys h x) h y
 
-    coming : IsNew plans h (record { class = Arrive; op = y })
-    coming = record { heard = refl; suited = arrival_suits plans y send; fresh = not_yet }
+          post_here : AreLists plans keys (is_paired (pairs plans (post_of plans keys h x ∷ h))) list (receives_of plans keys (post_of plans keys h x ∷ h) list) (sends_of plans keys (post_of plans keys h x ∷ h) list) v
+          post_here = record {
+            receives = subst (λ (es : List Entry). IsRoll es (is_paired (pairs plans (post_of plans keys h x ∷ h))) (count_by (in_list plans keys list) (operations plans)) v.receives) (sym (receives_more plans keys h x list here)) (roll_later _ _ _ v.receives (roll_pushed _ _ _ w.receives (old).receives (entry plans keys h x) v.receives pushed) _ later);
+            sends = subst (λ (es : List Entry). IsRoll es (is_paired (pairs plans (post_of plans keys h x ∷ h))) (count_by (for_list plans keys list) (operations plans)) v.sends) (sym (sends_same plans keys h x list)) (roll_later _ _ _ v.sends (roll_kept _ _ _ w.sends (old).sends plans marks m.marked v.sends met first) _ later);
+          }
+
+          post_elsewhere : (l : ℕ) (u : Lists) → (l ≡ list → ⊥) → AreLists plans keys paired l (receives_of plans keys h l) (sends_of plans keys h l) u → AreLists plans keys (is_paired (pairs plans (post_of plans keys h x ∷ h))) l (receives_of plans keys (post_of plans keys h x ∷ h) l) (sends_of plans keys (post_of plans keys h x ∷ h) l) u
+          post_elsewhere l u n before = record {
+            receives = subst (λ (es : List Entry). IsRoll es (is_paired (pairs plans (post_of plans keys h x ∷ h))) (count_by (in_list plans keys l) (operations plans)) u.receives) (sym (receives_same plans keys h x l (elsewhere l n))) (roll_later _ _ _ u.receives before.receives _ later);
+            sends = subst (λ (es : List Entry). IsRoll es (is_paired (pairs plans (post_of plans keys h x ∷ h))) (count_by (for_list plans keys l) (operations plans)) u.sends) (sym (sends_same plans keys h x l)) (roll_later _ _ _ u.sends before.sends _ later);
+          }
+
+          post_each : (l : ℕ) (u : Lists) → slice_get (slice_set lists list v) l ≡ Some u → AreLists plans keys (is_paired (pairs plans (post_of plans keys h x ∷ h))) l (receives_of plans keys (post_of plans keys h x ∷ h) l) (sends_of plans keys (post_of plans keys h x ∷ h) l) u
+          post_each l u e = elim (cases_eq l list) [
+            | inl same ↦ subst (λ (k : ℕ). AreLists plans keys (is_paired (pairs plans (post_of plans keys h x ∷ h))) k (receives_of plans keys (post_of plans keys h x ∷ h) k) (sends_of plans keys (post_of plans keys h x ∷ h) k) u) (sym same) (subst (AreLists plans keys (is_paired (pairs plans (post_of plans keys h x ∷ h))) list (receives_of plans keys (post_of plans keys h x ∷ h) list) (sends_of plans keys (post_of plans keys h x ∷ h) list)) (slice_get_written lists list v u (subst (λ (k : ℕ). slice_get (slice_set lists list v) k ≡ Some u) same e)) post_here)
+            | inr n ↦ post_elsewhere l u n (m.each l u (sym (slice_get_elsewhere lists list l v n) ∙ e))
+          ]
+
+          pub post_keeps : (after : List Bool) → ArePaired (operations plans) x met marks after → length after ≡ length marks → Mirrors plans keys (slice_set lists list v) after (post_of plans keys h x ∷ h) room
+          post_keeps after changes long = record {
+            accepted = m.accepted;
+            hearing = (m.hearing, new);
+            listed = m.listed;
+            one_each = length-set lists list v ∙ m.one_each;
+            each = post_each;
+            marked = paired_after plans (post_of plans keys h x) h marks after met (λ (z : OpId). pair_of z x) (λ z y. or_comm (same_op z y) (same_op x y)) post_makes m.marked changes;
+            all_marks = omega (arith, m.all_marks, long);
+            roomy = m.roomy;
+          }
+
+  -- a send that is still to arrive
+  module _ (y : OpId) (s : IsSend plans y) (fresh : happened Arrive y h ≡ false) where
+    coming : IsNew plans h (arrival_of plans keys h y)
+    coming = record { heard = refl; suited = arrival_suits plans y s; fresh = fresh }
 
     pub arrival_heard_room : length h < room
     arrival_heard_room =
-        let fewer = heard_fewer plans (record { class = Arrive; op = y }) h m.hearing coming in
+        let fewer = heard_fewer plans (arrival_of plans keys h y) h m.hearing coming in
         omega (arith, fewer, m.roomy)
 
-    pub arrival_within : to < length ranks
-    arrival_within =
-        let within = target_within plans m.accepted to y here in
-        omega (arith, within, m.one_each)
-
     pub arrival_exists : IsOp plans y
-    arrival_exists = exists_kind plans y _ send.kind
+    arrival_exists = exists_kind plans y _ s.kind
 
-    module _ (w : Waiting) (read : w ≡ get_or ranks to w) where
-      before : IsListsOf plans h to w
-      before = m.lists to w (slice_get_read ranks (length ranks) to w refl arrival_within read)
+    abbrev joins : List (Option ℕ) → ℕ → List Entry
+    joins numbers l = sends_of plans keys h l ++ (if list_any (same_number (Some l)) numbers then entry plans keys h y ∷ [] else [])
 
-      pub arrival_receives_exist : All (IsOp plans) w.receives.items
-      arrival_receives_exist = waiting_receives_exist plans h to w before
+    abbrev meets : List (Option ℕ) → Entry → Bool
+    meets numbers e = not (paired e.op) && list_any (same_number (list_of plans keys e.op)) numbers
 
-      pub arrival_room : length w.sends.items < vec_capacity w.sends
-      arrival_room =
-          let long = waiting_length plans (is_send_to plans to) Arrive h in
-          let fewer = ops_fewer plans (is_send_to plans to) Arrive h y m.hearing (arrival_suits plans y send) not_yet here in
-          omega (arith, long, fewer, ap length before.sends, before.send_room)
+    -- before any of its lists
+    pub joined_none : IsJoined plans keys h y [] lists None
+    joined_none = record {
+      one_each = m.one_each;
+      each = λ l w e. let before = m.each l w e in record { receives = before.receives; sends = subst (λ (es : List Entry). IsRoll es paired (count_by (for_list plans keys l) (operations plans)) w.sends) (sym (append-nil (sends_of plans keys h l))) before.sends };
+      found = sym (find_none (meets []) (entries_of Post h) (λ k d b. and_none (not (paired (get_or (entries_of Post h) k d).op))));
+    }
 
-      module _ (v : Waiting) (taken : Option OpId) (p : IsArrived plans y w v taken) where
-        arrival : IsTurn plans h Arrive Post y (λ (x : OpId). pair_of y x)
-        arrival = arrival_turn plans h y m.hearing send not_yet
+    -- after some of them
+    module _ (k : ℕ) (d : Option ℕ) (inside : k < length (lists_for plans keys y)) (now : List Lists) (met : Option Entry) (j : IsJoined plans keys h y (take k (lists_for plans keys y)) now met) where
+      abbrev numbers : List (Option ℕ)
+      numbers = lists_for plans keys y
 
-        met : taken ≡ find (λ (x : OpId). fits plans x y) (waiting plans (is_receive_at plans to) Post h)
-        met = p.found ∙ ap (find (λ (x : OpId). fits plans x y)) before.receives
+      more : (test : Option ℕ → Bool) → list_any test (take (k + 1) numbers) ≡ (list_any test (take k numbers) || test (get_or numbers k d))
+      more test = list_any_more test numbers k d inside
 
-        arrival_here : IsListsOf plans (record { class = Arrive; op = y } ∷ h) to v
-        arrival_here = record {
-          receives = p.receives ∙ ap (without_first (λ (x : OpId). fits plans x y)) before.receives ∙ sym (other_here plans h Arrive Post y (λ (x : OpId). pair_of y x) arrival (is_receive_at plans to) (λ (x : OpId). fits plans x y) (arrival_makes plans h to y here));
-          sends = p.sends ∙ ap (λ (l : List OpId). if is_some taken then l else l ++ y ∷ []) before.sends ∙ ap (λ (o : Option OpId). if is_some o then waiting plans (is_send_to plans to) Arrive h else waiting plans (is_send_to plans to) Arrive h ++ y ∷ []) met ∙ sym (own_here plans h Arrive Post y (λ (x : OpId). pair_of y x) arrival (is_receive_at plans to) (λ (x : OpId). fits plans x y) (arrival_makes plans h to y here) (is_send_to plans to) here);
-          receive_room = subst (λ (n : ℕ). count_by (is_receive_at plans to) (operations plans) ≤ n) (sym p.receive_room) before.receive_room;
-          send_room = subst (λ (n : ℕ). count_by (is_send_to plans to) (operations plans) ≤ n) (sym p.send_room) before.send_room;
-        }
+      -- a pattern that the schedule doesn't have
+      pub joined_without : get_or (lists_for plans keys y) k d ≡ None → IsJoined plans keys h y (take (k + 1) (lists_for plans keys y)) now met
+      joined_without absent = record {
+        one_each = j.one_each;
+        each = λ l w e. let before = j.each l w e in record { receives = before.receives; sends = subst (λ (b : Bool). IsRoll (sends_of plans keys h l ++ (if b then entry plans keys h y ∷ [] else [])) paired (count_by (for_list plans keys l) (operations plans)) w.sends) (sym (same (Some l))) before.sends };
+        found = j.found ∙ find_agree (meets (take k numbers)) (meets (take (k + 1) numbers)) (λ e. ap (λ (b : Bool). not (paired e.op) && b) (sym (same (list_of plans keys e.op)))) (entries_of Post h);
+      }
+        where
+          same : (o : Option ℕ) → list_any (same_number o) (take (k + 1) numbers) ≡ list_any (same_number o) (take k numbers)
+          same o = more (same_number o) ∙ ap (λ (b : Bool). list_any (same_number o) (take k numbers) || b) (ap (same_number o) absent ∙ no_number o) ∙ or_none (list_any (same_number o) (take k numbers))
 
-        arrival_elsewhere : (rank : ℕ) (u : Waiting) → (rank ≡ to → ⊥) → IsListsOf plans h rank u → IsListsOf plans (record { class = Arrive; op = y } ∷ h) rank u
-        arrival_elsewhere rank u n lists = record {
-          receives = lists.receives ∙ sym (other_elsewhere plans h Arrive Post y (λ (x : OpId). pair_of y x) arrival (is_receive_at plans to) (λ (x : OpId). fits plans x y) (arrival_makes plans h to y here) (is_receive_at plans rank) (λ z there. is_receive_apart plans rank to z there n));
-          sends = lists.sends ∙ sym (own_elsewhere plans h Arrive Post y (λ (x : OpId). pair_of y x) arrival (is_receive_at plans to) (λ (x : OpId). fits plans x y) (arrival_makes plans h to y here) (is_send_to plans rank) (is_send_apart plans rank to y here n));
-          receive_room = lists.receive_room;
-          send_room = lists.send_room;
-        }
+      -- a pattern that it has
+      module _ (i : ℕ) (is : get_or (lists_for plans keys y) k d ≡ Some i) where
+        at : slice_get numbers k ≡ Some (Some i)
+        at = slice_get_read numbers (length numbers) k (Some i) refl inside (sym (get_or_from numbers k d (Some i) inside is))
+          where
+            get_or_from : (xs : List (Option ℕ)) (k : ℕ) (d o : Option ℕ) → k < length xs → get_or xs k d ≡ o → get_or xs k o ≡ o
+            get_or_from [] k d o b e = absurd (omega arith)
+            get_or_from (z ∷ zs) zero d o b e = e
+            get_or_from (z ∷ zs) (suc k) d o b e = get_or_from zs k d o (omega arith) e
 
-        -- what it keeps after the arrival, and its answer
-        pub arrival_keeps : Mirrors plans (record { class = Arrive; op = y } ∷ h) (slice_set ranks to v) room
-        arrival_keeps = record {
-          accepted = m.accepted;
-          hearing = (m.hearing, coming);
-          one_each = length-set ranks to v ∙ m.one_each;
-          lists = lists_after (record { class = Arrive; op = y }) to v arrival_here arrival_elsewhere;
-          roomy = m.roomy;
-        }
+        unseen : list_any (same_number (Some i)) (take k numbers) ≡ false
+        unseen = lists_once plans keys y s k i at
 
-        pub arrival_answers : taken ≡ receive_for s.plans s.heard y
-        arrival_answers =
-            met ∙ sym (receive_found plans h to y here) ∙ ap (λ (v : Heard). receive_for v.plans v.heard y) seen
+        pub join_within : i < length now
+        join_within = let within = lists_within plans keys y s k i at in omega (arith, within, j.one_each)
 
-        pub arrival_partners : taken ≡ partner (pairs plans (record { class = Arrive; op = y } ∷ h)) y
-        arrival_partners = met ∙ sym (receive_found plans h to y here) ∙ arrival_partner plans h y send not_yet
+        module _ (w : Lists) (read : w ≡ get_or now i w) where
+          was : AreLists plans keys paired i (receives_of plans keys h i) (joins (take k (lists_for plans keys y)) i) w
+          was = j.each i w (slice_get_read now (length now) i w refl join_within read)
 
-        pub arrival_answers_none : IsNone taken ↔ NoReceiveFits s.plans s.heard y
-        arrival_answers_none =
-            subst (λ (o : Option OpId). IsNone o ↔ NoReceiveFits s.plans s.heard y) (sym arrival_answers) (arrival_none s.plans s.heard y)
+          sends_were : IsRoll (sends_of plans keys h i) paired (count_by (for_list plans keys i) (operations plans)) w.sends
+          sends_were =
+              subst (λ (es : List Entry). IsRoll es paired (count_by (for_list plans keys i) (operations plans)) w.sends) (ap (λ (b : Bool). sends_of plans keys h i ++ (if b then entry plans keys h y ∷ [] else [])) unseen ∙ append-nil (sends_of plans keys h i)) (was).sends
+
+          pub join_ready : IsReady plans marks w.receives
+          join_ready = roll_ready _ _ _ w.receives (was).receives plans marks m.marked (receives_exist i) m.all_marks
+
+          for_it : for_list plans keys i y ≡ true
+          unfolding for_list
+          for_it = list_any_at (same_number (Some i)) numbers k d inside (ap (same_number (Some i)) is ∙ eq-eqb i i refl)
+
+          pub join_room : length w.sends.entries.items < vec_capacity w.sends.entries
+          join_room =
+              let fewer = entries_fewer plans h m.hearing (for_list plans keys i) Arrive y (arrival_suits plans y s) fresh for_it in
+              let roll = sends_were in
+              omega (arith, fewer, ap length roll.entries, roll.room)
+
+          module _ (v : Lists) (first : Option Entry) (f : IsFirst (is_marked (operations plans) marks) w.receives v.receives first) (pushed : IsPushed (entry plans keys h y) w.sends v.sends) where
+            join_here : AreLists plans keys paired i (receives_of plans keys h i) (joins (take (k + 1) (lists_for plans keys y)) i) v
+            join_here = record {
+              receives = roll_kept _ _ _ w.receives (was).receives plans marks m.marked v.receives first f;
+              sends = subst (λ (b : Bool). IsRoll (sends_of plans keys h i ++ (if b then entry plans keys h y ∷ [] else [])) paired (count_by (for_list plans keys i) (operations plans)) v.sends) (sym seen) (roll_pushed _ _ _ w.sends sends_were (entry plans keys h y) v.sends pushed);
+            }
+              where
+                seen : list_any (same_number (Some i)) (take (k + 1) numbers) ≡ true
+                seen = more (same_number (Some i)) ∙ ap (λ (b : Bool). b || same_number (Some i) (get_or numbers k d)) unseen ∙ ap (same_number (Some i)) is ∙ eq-eqb i i refl
+
+            join_elsewhere : (l : ℕ) (u : Lists) → (l ≡ i → ⊥) → AreLists plans keys paired l (receives_of plans keys h l) (joins (take k (lists_for plans keys y)) l) u → AreLists plans keys paired l (receives_of plans keys h l) (joins (take (k + 1) (lists_for plans keys y)) l) u
+            join_elsewhere l u n before = record {
+              receives = before.receives;
+              sends = subst (λ (b : Bool). IsRoll (sends_of plans keys h l ++ (if b then entry plans keys h y ∷ [] else [])) paired (count_by (for_list plans keys l) (operations plans)) u.sends) (sym same) before.sends;
+            }
+              where
+                same : list_any (same_number (Some l)) (take (k + 1) numbers) ≡ list_any (same_number (Some l)) (take k numbers)
+                same = more (same_number (Some l)) ∙ ap (λ (b : Bool). list_any (same_number (Some l)) (take k numbers) || b) (ap (same_number (Some l)) is ∙ ne_eqb l i n) ∙ or_none (list_any (same_number (Some l)) (take k numbers))
+
+            first_here : first ≡ find (λ (e : Entry). not (paired e.op) && same_number (list_of plans keys e.op) (Some i)) (entries_of Post h)
+            unfolding in_list
+            first_here =
+                roll_found _ _ _ w.receives (was).receives plans marks m.marked v.receives first f ∙ find_filter (λ (e : Entry). in_list plans keys i e.op) (λ (e : Entry). not (paired e.op)) (entries_of Post h)
+
+            either : (e : Entry) → meets (take (k + 1) (lists_for plans keys y)) e ≡ (meets (take k (lists_for plans keys y)) e || (not (paired e.op) && same_number (list_of plans keys e.op) (Some i)))
+            either e =
+                ap (λ (b : Bool). not (paired e.op) && b) (more (same_number (list_of plans keys e.op)) ∙ ap (λ (o : Option ℕ). list_any (same_number (list_of plans keys e.op)) (take k numbers) || same_number (list_of plans keys e.op) o) is) ∙ and_or (not (paired e.op)) (list_any (same_number (list_of plans keys e.op)) (take k numbers)) (same_number (list_of plans keys e.op) (Some i))
+
+            pub joined_with : IsJoined plans keys h y (take (k + 1) (lists_for plans keys y)) (slice_set now i v) (earlier met first)
+            joined_with = record {
+              one_each = length-set now i v ∙ j.one_each;
+              each = λ l u e. elim (cases_eq l i) [
+                | inl same ↦ subst (λ (n : ℕ). AreLists plans keys paired n (receives_of plans keys h n) (joins (take (k + 1) numbers) n) u) (sym same) (subst (AreLists plans keys paired i (receives_of plans keys h i) (joins (take (k + 1) numbers) i)) (slice_get_written now i v u (subst (λ (n : ℕ). slice_get (slice_set now i v) n ≡ Some u) same e)) join_here)
+                | inr n ↦ join_elsewhere l u n (j.each l u (sym (slice_get_elsewhere now i l v n) ∙ e))
+              ];
+              found =
+                  ap (λ (o : Option Entry). earlier o first) j.found ∙ ap (earlier (find (meets (take k numbers)) (entries_of Post h))) first_here ∙ sym (find_agree (meets (take (k + 1) numbers)) (λ (e : Entry). meets (take k numbers) e || (not (paired e.op) && same_number (list_of plans keys e.op) (Some i))) either (entries_of Post h) ∙ find_either (meets (take k numbers)) (λ (e : Entry). not (paired e.op) && same_number (list_of plans keys e.op) (Some i)) (entries_of Post h) (entries_order Post h));
+            }
+
+    -- after all of them
+    module _ (after : List Lists) (met : Option Entry) (j : IsJoined plans keys h y (lists_for plans keys y) after met) where
+      arrival_met : met ≡ find (λ (e : Entry). not (paired e.op) && fits plans e.op y) (entries_of Post h)
+      arrival_met =
+          j.found ∙ find_alike (meets (lists_for plans keys y)) (λ (e : Entry). not (paired e.op) && fits plans e.op y) (entries_of Post h) (All-weaker (λ (e : Entry). IsReceive plans e.op) (λ (e : Entry). meets (lists_for plans keys y) e ≡ (not (paired e.op) && fits plans e.op y)) (λ e r. ap (λ (b : Bool). not (paired e.op) && b) (fits_any plans keys e.op y r (m.listed e.op r))) (entries_of Post h) (posted_receives plans h m.hearing))
+
+      arrival_makes : new_pair plans (pairs plans h) h Arrive y ≡ option_map (λ (z : OpId). pair_of y z) (option_map (λ (e : Entry). e.op) met)
+      arrival_makes =
+          ap (option_map (λ (z : OpId). pair_of y z)) (oldest_entry Post (λ (z : OpId). not (paired z)) (λ (z : OpId). fits plans z y) h ∙ ap (option_map (λ (e : Entry). e.op)) (sym arrival_met))
+
+      pub arrival_answers : option_map (λ (e : Entry). e.op) met ≡ receive_for plans h y
+      arrival_answers = sym (ap (option_map (λ (p : Pair). p.recv)) arrival_makes ∙ its_receive y _)
+
+      pub arrival_met_exists : IfSome met (λ (e : Entry). IsOp plans e.op)
+      arrival_met_exists = met_exists plans (entries_of Post h) _ met arrival_met (posted_exist plans h m.hearing)
+
+      pub arrival_keeps : (marks' : List Bool) → ArePaired (operations plans) y met marks marks' → length marks' ≡ length marks → Mirrors plans keys after marks' (arrival_of plans keys h y ∷ h) room
+      arrival_keeps marks' changes long = record {
+        accepted = m.accepted;
+        hearing = (m.hearing, coming);
+        listed = m.listed;
+        one_each = j.one_each;
+        each = λ l u e. let before = j.each l u e in record {
+          receives = subst (λ (es : List Entry). IsRoll es (is_paired (pairs plans (arrival_of plans keys h y ∷ h))) (count_by (in_list plans keys l) (operations plans)) u.receives) (sym (receives_stay plans keys h y l)) (roll_later _ _ _ u.receives before.receives _ (paired_stays plans (arrival_of plans keys h y) h));
+          sends = subst (λ (es : List Entry). IsRoll es (is_paired (pairs plans (arrival_of plans keys h y ∷ h))) (count_by (for_list plans keys l) (operations plans)) u.sends) (sym (sends_after plans keys h y l)) (roll_later _ _ _ u.sends before.sends _ (paired_stays plans (arrival_of plans keys h y) h));
+        };
+        marked = paired_after plans (arrival_of plans keys h y) h marks marks' met (λ (z : OpId). pair_of y z) (λ z x. refl) arrival_makes m.marked changes;
+        all_marks = omega (arith, m.all_marks, long);
+        roomy = m.roomy;
+      }

@@ -13,7 +13,7 @@ use Rattle.goal_graph.proofs.Actions.{act_of, place_same, same_op_true, same_op_
 use Rattle.goal_graph.proofs.Rules.{not_send_receive, fits_send}
 use Rattle.goal_graph.proofs.Partners.{IsFound, oldest_some, oldest_none, pairs_same, not_arrived, not_posted}
 use Rattle.sim_match.specs.Heard.{send_for, receive_for, NoSendFits, NoReceiveFits}
-use Rattle.sim_match.proofs.WaitingLemmas.{pairs_with}
+use Rattle.sim_match.proofs.Pairs.{pairs_with}
 
 -- an action that was found open
 record IsOpen (plans : List Plan) (h : List Act) (class : Class) (y : OpId) (fit : OpId → Bool) : Type 0 where

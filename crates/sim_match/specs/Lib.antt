@@ -1,5 +1,7 @@
 pub mod Heard
 pub mod Waiting
+pub mod Patterns
+pub mod Rolls
 pub mod Rooms
 pub mod Lists
 pub mod Matcher

@@ -1,15 +1,25 @@
 -- What a matcher keeps of what it has heard.
-use Rattle.std.specs.Prelude.{ℕ, ◌≡◌, ◌≤◌, true, false, List, [], ◌∷◌, length, reverse, map, Some, slice_get, count_by, vec_capacity}
+use Rattle.std.specs.Prelude.{ℕ, ◌≡◌, ◌≤◌, ◌&&◌, ◌||◌, not, Bool, true, false, List, [], ◌∷◌, ◌++◌, length, reverse, map, filter, find, take, Option, Some, All, slice_get, count_by, vec_capacity, if◌then◌else◌}
+use Rattle.std.specs.Option.{MatchOption}
+use Rattle.std.specs.List.{list_any}
+use Rattle.goal_graph.specs.declared.action.OpId.{OpId}
 use Rattle.goal_graph.specs.declared.action.Class.TheVariants.{Arrive, Post}
 use Rattle.goal_graph.specs.Schedule.{Plan, kind_at, operations}
 use Rattle.goal_graph.specs.Fault.{IsAccepted}
-use Rattle.goal_graph.specs.Action.{Act, happened}
+use Rattle.goal_graph.specs.Action.{Act, same_op, happened}
+use Rattle.goal_graph.specs.Matching.{is_paired, pairs}
 use Rattle.goal_graph.specs.Laws.{has_class}
-use Rattle.sim_match.specs.declared.matcher.Event.{Event}
-use Rattle.sim_match.specs.declared.matcher.Event.TheVariants as event
-use Rattle.sim_match.specs.declared.waiting.Waiting.{Waiting}
+use Rattle.sim_match.specs.declared.ledger.Event.{Event}
+use Rattle.sim_match.specs.declared.ledger.Event.TheVariants as event
+use Rattle.sim_match.specs.declared.ledger.Ledger.{Ledger}
+use Rattle.sim_match.specs.declared.lists.Lists.{Lists}
+use Rattle.sim_match.specs.declared.pattern.Pattern.{Pattern}
+use Rattle.sim_match.specs.declared.rolls.Entry.{Entry}
+use Rattle.sim_match.specs.declared.rolls.Roll.{Roll}
 use Rattle.sim_match.specs.Heard.{is_heard}
-use Rattle.sim_match.specs.Waiting.{is_receive_at, is_send_to, is_message, waiting}
+use Rattle.sim_match.specs.Waiting.{is_message}
+use Rattle.sim_match.specs.Patterns.{same_number, list_of, in_list, for_list, AreListed}
+use Rattle.sim_match.specs.Rolls.{is_marked, entries_of}
 
 -- what is kept of a post, of an arrival
 abbrev pub act_of : Event → Act
@@ -31,18 +41,51 @@ abbrev pub IsHearing : List Plan → List Act → Type 0
 IsHearing plans [] = Unit {0}
 IsHearing plans (a ∷ h) = IsHearing plans h × IsNew plans h a
 
--- the lists of a rank are those of its waiting receives and of the waiting sends to it, with room for each receive of
--- the rank and for each send to it
-pub record IsListsOf (plans : List Plan) (h : List Act) (rank : ℕ) (w : Waiting) : Type 0 where
-  pub receives : w.receives.items ≡ waiting plans (is_receive_at plans rank) Post h
-  pub sends : w.sends.items ≡ waiting plans (is_send_to plans rank) Arrive h
-  pub receive_room : count_by (is_receive_at plans rank) (operations plans) ≤ vec_capacity w.receives
-  pub send_room : count_by (is_send_to plans rank) (operations plans) ≤ vec_capacity w.sends
+-- x and what it has met are marked too, and all else is as it was
+abbrev pub ArePaired : List OpId → OpId → Option Entry → List Bool → List Bool → Type 0
+ArePaired ops x met old new =
+    (y : OpId) → MatchOption met (is_marked ops new y ≡ is_marked ops old y) (λ (e : Entry). is_marked ops new y ≡ ((is_marked ops old y || same_op x y) || same_op e.op y))
 
--- each rank has its lists, and what was heard has room for each receive and each send
-pub record Mirrors (plans : List Plan) (h : List Act) (ranks : List Waiting) (room : ℕ) : Type 0 where
-  pub accepted : IsAccepted plans
-  pub hearing : IsHearing plans h
-  pub one_each : length ranks ≡ length plans
-  pub lists : (rank : ℕ) (w : Waiting) → slice_get ranks rank ≡ Some w → IsListsOf plans h rank w
-  pub roomy : count_by (is_message plans) (operations plans) ≤ room
+-- a roll has these entries, skips none that waits, and has room for so many
+pub record IsRoll (es : List Entry) (paired : OpId → Bool) (count : ℕ) (roll : Roll) : Type 0 where
+  pub entries : roll.entries.items ≡ es
+  pub within : roll.head ≤ length es
+  pub skipped : All (λ (e : Entry). paired e.op ≡ true) (take roll.head es)
+  pub room : count ≤ vec_capacity roll.entries
+
+module _ (plans : List Plan) (keys : List Pattern) where
+  -- the receives of a list that were posted, the sends for it that have arrived
+  abbrev pub receives_of : List Act → ℕ → List Entry
+  receives_of h list = filter (λ (e : Entry). in_list plans keys list e.op) (entries_of Post h)
+
+  abbrev pub sends_of : List Act → ℕ → List Entry
+  sends_of h list = filter (λ (e : Entry). for_list plans keys list e.op) (entries_of Arrive h)
+
+  -- the rolls of a list have these receives and sends, and room for each receive of it and for each send for it
+  pub record AreLists (paired : OpId → Bool) (list : ℕ) (posted arrived : List Entry) (w : Lists) : Type 0 where
+    pub receives : IsRoll posted paired (count_by (in_list plans keys list) (operations plans)) w.receives
+    pub sends : IsRoll arrived paired (count_by (for_list plans keys list) (operations plans)) w.sends
+
+  -- what is kept after h: each pattern has its lists, what is paired is marked, and what was heard has room for each
+  -- receive and each send
+  pub record Mirrors (lists : List Lists) (marks : List Bool) (h : List Act) (room : ℕ) : Type 0 where
+    pub accepted : IsAccepted plans
+    pub hearing : IsHearing plans h
+    pub listed : AreListed plans keys
+    pub one_each : length lists ≡ length keys
+    pub each : (list : ℕ) (w : Lists) → slice_get lists list ≡ Some w → AreLists (is_paired (pairs plans h)) list (receives_of h list) (sends_of h list) w
+    pub marked : (x : OpId) → is_marked (operations plans) marks x ≡ is_paired (pairs plans h) x
+    pub all_marks : length (operations plans) ≤ length marks
+    pub roomy : count_by (is_message plans) (operations plans) ≤ room
+
+  -- After h the send m stands last in the lists of these numbers too. It has met the first receive of these lists that
+  -- waits.
+  pub record IsJoined (h : List Act) (m : OpId) (numbers : List (Option ℕ)) (lists : List Lists) (met : Option Entry) : Type 0 where
+    pub one_each : length lists ≡ length keys
+    pub each : (list : ℕ) (w : Lists) → slice_get lists list ≡ Some w → AreLists (is_paired (pairs plans h)) list (receives_of h list) (sends_of h list ++ (if list_any (same_number (Some list)) numbers then record { op = m; at = length h } ∷ [] else [])) w
+    pub found : met ≡ find (λ (e : Entry). not (is_paired (pairs plans h) e.op) && list_any (same_number (list_of plans keys e.op)) numbers) (entries_of Post h)
+
+-- what a ledger keeps
+abbrev pub IsKept : List Plan → Ledger → Type 0
+IsKept plans ledger =
+    Mirrors plans ledger.patterns.keys ledger.lists.items ledger.marks.items (heard_of ledger.heard.items) (vec_capacity ledger.heard)

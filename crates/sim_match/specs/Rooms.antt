@@ -1,16 +1,38 @@
--- How much room the lists of each rank need.
-use Rattle.std.specs.Prelude.{ℕ, ◌≡◌, List, length, Some, slice_get, count_by}
+-- How much room each list needs.
+use Rattle.std.specs.Prelude.{ℕ, ◌≡◌, ◌<◌, ◌+◌, false, List, length, Option, Some, take, slice_get, count_by, if◌then◌else◌}
+use Rattle.std.specs.List.{list_any}
 use Rattle.goal_graph.specs.declared.action.OpId.{OpId}
 use Rattle.goal_graph.specs.Schedule.{Plan}
+use Rattle.sim_match.specs.declared.pattern.Pattern.{Pattern}
 use Rattle.sim_match.specs.declared.rooms.Room.{Room}
-use Rattle.sim_match.specs.Waiting.{is_receive_at, is_send_to}
+use Rattle.sim_match.specs.Patterns.{same_number, in_list, for_list}
 
--- of these operations, so many are receives of the rank, and so many are sends to it
-pub record IsRoom (plans : List Plan) (ops : List OpId) (rank : ℕ) (room : Room) : Type 0 where
-  pub receives : room.receives ≡ count_by (is_receive_at plans rank) ops
-  pub sends : room.sends ≡ count_by (is_send_to plans rank) ops
+-- no number stands twice
+abbrev pub AreOnce : List (Option ℕ) → Type 0
+AreOnce numbers = (k i : ℕ) → slice_get numbers k ≡ Some (Some i) → list_any (same_number (Some i)) (take k numbers) ≡ false
 
--- the room of each rank
-pub record AreRooms (plans : List Plan) (ops : List OpId) (rooms : List Room) : Type 0 where
-  pub one_each : length rooms ≡ length plans
-  pub each : (rank : ℕ) (room : Room) → slice_get rooms rank ≡ Some room → IsRoom plans ops rank room
+-- each number is below the bound
+abbrev pub AreWithin : List (Option ℕ) → ℕ → Type 0
+AreWithin numbers bound = (k i : ℕ) → slice_get numbers k ≡ Some (Some i) → i < bound
+
+-- a send more for each of the lists of these numbers, from the room before
+pub record IsCounted (numbers : List (Option ℕ)) (rooms : List Room) (list : ℕ) (room : Room) : Type 0 where
+  pub before : Room
+  pub was : slice_get rooms list ≡ Some before
+  pub receives : room.receives ≡ before.receives
+  pub sends : room.sends ≡ before.sends + (if list_any (same_number (Some list)) numbers then 1 else 0)
+
+pub record AreCounted (numbers : List (Option ℕ)) (old new : List Room) : Type 0 where
+  pub one_each : length new ≡ length old
+  pub each : (list : ℕ) (room : Room) → slice_get new list ≡ Some room → IsCounted numbers old list room
+
+module _ (plans : List Plan) (keys : List Pattern) where
+  -- of these operations, so many are receives of the list, and so many are sends for it
+  pub record IsRoom (ops : List OpId) (list : ℕ) (room : Room) : Type 0 where
+    pub receives : room.receives ≡ count_by (in_list plans keys list) ops
+    pub sends : room.sends ≡ count_by (for_list plans keys list) ops
+
+  -- the room of each list
+  pub record AreRooms (ops : List OpId) (rooms : List Room) : Type 0 where
+    pub one_each : length rooms ≡ length keys
+    pub each : (list : ℕ) (room : Room) → slice_get rooms list ≡ Some room → IsRoom ops list room

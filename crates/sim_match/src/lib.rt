@@ -2,11 +2,14 @@
 #![tactic(auto)]
 
 mod laws;
+mod ledger;
+mod lists;
 mod matcher;
+mod pattern;
+mod rolls;
 mod rooms;
 #[cfg(test)]
 mod tests;
-mod waiting;
 
 pub use laws::laws_of_hearing;
 pub use matcher::Matcher;

@@ -5,21 +5,12 @@ ghost use Rattle.goal_graph.specs.Action.{happened};
 ghost use Rattle.goal_graph.specs.Laws.{IsSend, IsReceive};
 ghost use Rattle.goal_graph.specs.Matching.{pairs, partner};
 ghost use Rattle.sim_match.specs.Heard.{with_post, with_arrival, send_for, receive_for, NoSendFits, NoReceiveFits};
-ghost use Rattle.sim_match.specs.Waiting.{is_send_to};
 
-use crate::rooms::{message_count, rooms};
-use crate::waiting::{Waiting, empty_lists};
+use crate::ledger::Ledger;
 use goal_base::NoMemory;
-use goal_graph::{Kind, OpId, Sched};
+use goal_graph::{OpId, Sched};
 use std::alloc::Global;
 use std::marker::Model;
-
-// A receive is posted, or a message or the request of a large one arrives.
-#[derive(Clone, Copy, Debug, PartialEq, Eq)]
-enum Event {
-    Post(OpId),
-    Arrive(OpId),
-}
 
 /// Pairs sends with receives, as receives are posted and messages arrive. Contracts see it as the plans of the schedule
 /// and the posts and arrivals so far, newest first.
@@ -30,32 +21,19 @@ enum Event {
 #[derive(Drop)]
 pub struct Matcher<'a> {
     sched: &'a Sched,
-    ranks: Vec<Waiting>,
-    heard: Vec<Event>,
+    ledger: Ledger,
 }
 
 impl<'a> Model for Matcher<'a> {
-    ghost use Rattle.std.specs.Prelude.{vec_capacity};
     ghost use Rattle.sim_match.specs.Heard.{Heard};
 
     ghost Value = { Heard };
 
-    ghost use Rattle.sim_match.specs.Matcher.{heard_of, Mirrors};
+    ghost use Rattle.sim_match.specs.Matcher.{heard_of, IsKept};
 
-    ghost view = { λ m. record { plans = m.sched.now; heard = heard_of m.heard.items } };
+    ghost view = { λ m. record { plans = m.sched.now; heard = heard_of m.ledger.heard.items } };
 
-    ghost invariant = { λ m. Mirrors m.sched.now (heard_of m.heard.items) m.ranks.items (vec_capacity m.heard) };
-}
-
-// The rank to which a send goes.
-fn target(sched: &Sched, send: OpId) -> u32
-    requires { IsSend sched.now send }
-    ensures { is_send_to sched.now result send ≡ true }
-{
-    match sched.op(send).kind {
-        Kind::Send { to, .. } => to,
-        Kind::Calc { .. } | Kind::Recv { .. } => unreachable!(),
-    }
+    ghost invariant = { λ m. IsKept m.sched.now m.ledger };
 }
 
 impl<'a> Matcher<'a> {
@@ -65,15 +43,8 @@ impl<'a> Matcher<'a> {
     pub fn new(alloc: Global, sched: &'a Sched) -> Result<Matcher<'a>, NoMemory>
         ensures { IfOk result (λ m. m ≡ record { plans = sched.now; heard = [] }) }
     {
-        sched.known();
-        let rooms = rooms(alloc, sched)?;
-        let ranks = empty_lists(alloc, &rooms)?;
-        let heard = Vec::with_capacity(alloc, message_count(sched))?;
-        Ok(Matcher {
-            sched,
-            ranks,
-            heard,
-        })
+        let ledger = Ledger::new(alloc, sched)?;
+        Ok(Matcher { sched, ledger })
     }
 
     /// A receive is posted, which was not posted before. Answers the send that it takes: none exactly where every
@@ -86,9 +57,7 @@ impl<'a> Matcher<'a> {
         ensures partner { result ≡ partner (pairs self.new.plans self.new.heard) recv }
         ensures none { IsNone result ↔ NoSendFits self.old.plans self.old.heard recv }
     {
-        self.heard.push_reserved(Event::Post(recv));
-        let waiting = &mut self.ranks[recv.rank as usize];
-        waiting.post(self.sched, recv)
+        self.ledger.post(self.sched, recv)
     }
 
     /// A message arrives, or the request of a large one, which did not arrive before. Answers the receive that takes it:
@@ -101,9 +70,6 @@ impl<'a> Matcher<'a> {
         ensures partner { result ≡ partner (pairs self.new.plans self.new.heard) send }
         ensures none { IsNone result ↔ NoReceiveFits self.old.plans self.old.heard send }
     {
-        let to = target(self.sched, send);
-        self.heard.push_reserved(Event::Arrive(send));
-        let waiting = &mut self.ranks[to as usize];
-        waiting.arrive(self.sched, send)
+        self.ledger.arrive(self.sched, send)
     }
 }

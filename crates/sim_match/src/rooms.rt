@@ -1,39 +1,65 @@
 // How much room the lists of a matcher need.
-ghost use Rattle.std.specs.Prelude.{◌≡◌, ◌<◌, length, count_by, Some, IfOk};
+ghost use Rattle.std.specs.Prelude.{ℕ, ◌≡◌, ◌+◌, ◌<◌, ◌^◌, length, count_by, slice_get, Some, IfOk};
 ghost use Rattle.goal_graph.specs.Schedule.{operations};
 ghost use Rattle.goal_graph.specs.Fault.{IsOp};
+ghost use Rattle.sim_match.specs.declared.rooms.Room.{Room};
 ghost use Rattle.sim_match.specs.Waiting.{is_message, is_message_kind};
-ghost use Rattle.sim_match.specs.Rooms.{AreRooms};
+ghost use Rattle.sim_match.specs.Patterns.{AreListed};
+ghost use Rattle.sim_match.specs.Rooms.{AreRooms, AreCounted, AreOnce, AreWithin};
 
+use crate::pattern::{Pattern, list_of_receive, lists_for};
 use goal_graph::{Kind, OpId, Sched};
+use indexmap::IndexSet;
 use std::alloc::{AllocError, Global};
 
-/// How many receives a rank has, and how many sends go to it.
+/// How many receives a list has, and how many sends are for it.
 #[derive(Clone, Copy, Debug, PartialEq, Eq)]
 pub struct Room {
     pub receives: usize,
     pub sends: usize,
 }
 
-/// The room of each rank.
-pub fn rooms(alloc: Global, sched: &Sched) -> Result<Vec<Room>, AllocError>
-    ensures { IfOk result (λ rooms. AreRooms sched.now (operations sched.now) rooms.items) }
+// Counts a send in each of these lists.
+fn count_send(rooms: &mut [Room], numbers: [Option<usize>; 4])
+    requires once { AreOnce numbers }
+    requires within { AreWithin numbers (length rooms.old) }
+    requires small { (list : ℕ) (room : Room) → slice_get rooms.old list ≡ Some room → room.sends + 1 < 2 ^ 64 }
+    ensures { AreCounted numbers rooms.old rooms.new }
 {
-    sched.known();
+    for number in numbers {
+        match number {
+            Some(list) => {
+                let room = &mut rooms[list];
+                room.sends += 1;
+            }
+            None => {}
+        }
+    }
+}
+
+/// The room of each list.
+pub fn rooms(
+    alloc: Global,
+    sched: &Sched,
+    patterns: &IndexSet<Pattern>,
+) -> Result<Vec<Room>, AllocError>
+    requires { AreListed sched.now patterns.now.keys }
+    ensures { IfOk result (λ rooms. AreRooms sched.now patterns.now.keys (operations sched.now) rooms.items) }
+{
     let none = Room {
         receives: 0,
         sends: 0,
     };
-    let mut rooms = vec![in alloc; none; sched.plans().len()]?;
+    let mut rooms = vec![in alloc; none; patterns.len()]?;
     for id in sched.operations() {
         match sched.op(*id).kind {
             Kind::Recv { .. } => {
-                let room = &mut rooms[id.rank as usize];
+                let list = list_of_receive(patterns, sched, *id);
+                let room = &mut rooms[list];
                 room.receives += 1;
             }
-            Kind::Send { to, .. } => {
-                let room = &mut rooms[to as usize];
-                room.sends += 1;
+            Kind::Send { to, tag, .. } => {
+                count_send(&mut rooms, lists_for(patterns, id.rank, to, tag));
             }
             Kind::Calc { .. } => {}
         }

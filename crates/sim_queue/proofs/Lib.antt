@@ -1,2 +1,9 @@
 pub mod Weak
 pub mod Scanning
+pub mod Swapping
+pub mod Children
+pub mod Sifting
+pub mod Stepping
+pub mod Top
+pub mod Changing
+pub mod Bounds

@@ -2,9 +2,12 @@
 #![tactic(auto)]
 
 mod queue;
+mod sift;
+mod slot_heap;
 #[cfg(test)]
 mod tests;
 mod vec_queue;
 
 pub use queue::EventQueue;
+pub use slot_heap::SlotHeap;
 pub use vec_queue::VecQueue;

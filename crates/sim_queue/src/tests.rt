@@ -1,7 +1,7 @@
 // Twelve slots are put, four of them dropped.
 ghost use Rattle.std.specs.Prelude.{◌≡◌, ◌<◌, length};
 
-use crate::{EventQueue, VecQueue};
+use crate::{EventQueue, SlotHeap, VecQueue};
 use sim_order::{Counted, Steps};
 use std::marker::Brand;
 use std::sync::ledger::{Blank, Ledger};
@@ -47,6 +47,16 @@ fn the_least_of_a_vec_queue(rt: HostRuntime) -> Result<(), Fail> {
     let none = least_alone::<VecQueue<Counted<u64>>, Brand>(&queue, Blank::new(1));
     assert_eq!(rt; none, None);
     let least = least_of::<VecQueue<Counted<u64>>, Brand>(&mut queue, Blank::new(1));
+    assert_eq!(rt; least, Some((11, Counted(5))));
+    Ok(())
+}
+
+#[test]
+fn the_least_of_a_heap(rt: HostRuntime) -> Result<(), Fail> {
+    let mut queue = SlotHeap::new(rt.alloc(), 12)?;
+    let none = least_alone::<SlotHeap<Counted<u64>>, Brand>(&queue, Blank::new(1));
+    assert_eq!(rt; none, None);
+    let least = least_of::<SlotHeap<Counted<u64>>, Brand>(&mut queue, Blank::new(1));
     assert_eq!(rt; least, Some((11, Counted(5))));
     Ok(())
 }

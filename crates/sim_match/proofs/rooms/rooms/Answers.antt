@@ -1,30 +1,46 @@
-use Rattle.std.proofs.Common.{◌<◌, ◌^◌, length, arith}
-use Rattle.sim_match.proofs.RoomLemmas.{receive_within, send_within, receives_fit, sends_fit, receive_more, send_more, calc_more}
+use Rattle.std.proofs.Common.{◌<◌, ◌^◌, Some, length, get_or, arith, ap, ◌∙◌}
+use Rattle.goal_graph.specs.declared.plan.Kind.{Kind}
+use Rattle.sim_match.proofs.Kept.{whole_back}
+use Rattle.sim_match.proofs.PatternLemmas.{four_once, four_within}
+use Rattle.sim_match.proofs.RoomLemmas.{receives_fit, receive_more, sends_fit, send_more, calc_more}
+use Rattle.sim_match.proofs.Targets.{kind_read}
 use Rattle.sim_match.proofs.rooms.rooms.Goals as goal
 use Rattle.sim_match.proofs.rooms.rooms.Goals.{in-Recv, in-Send, in-Calc}
 
-pub index_mut-room-requires : goal.index_mut-room-requires
-index_mut-room-requires c =
-    let within = receive_within _ c.known.ensures.accepted c.operations-id-items.result.now c.loop-id.id-index (record { rank = 0; op = 0 }) (omega arith) _ c.loop-id.invariant _ c.op.ensures.op _ _ _ c.in-Recv.is in
-    omega (arith, within, c.loop-id.rooms.ok.0)
+pub list_of_receive-list-requires-clause-receive :
+    goal.list_of_receive-list-requires-clause-receive
+list_of_receive-list-requires-clause-receive c = record {
+  room = c.in-Recv.bytes;
+  from = c.in-Recv.from;
+  tag = c.in-Recv.tag;
+  kind = kind_read _ _ _ c.op.ensures.op ∙ ap (λ (k : Kind). Some k) c.in-Recv.is;
+}
 
 pub overflow_add-room : goal.overflow_add-room
 overflow_add-room c =
     let short : length c.operations-id-items.result.now < 2 ^ 64 = omega arith in
-    let fits = receives_fit _ c.known.ensures.accepted c.operations-id-items.result.now c.loop-id.id-index (record { rank = 0; op = 0 }) (omega arith) _ c.loop-id.invariant _ c.op.ensures.op _ _ _ c.in-Recv.is _ c.index_mut-room.ensures.value short in
+    let fits = receives_fit _ _ c.operations-id-items.result.now c.loop-id.id-index (record { rank = 0; op = 0 }) (omega arith) _ c.loop-id.invariant _ c.op.ensures.op _ _ _ c.in-Recv.is _ c.list_of_receive-list.ensures.list c.list_of_receive-list.ensures.within _ c.index_mut-room.ensures.value short in
     omega (arith, fits)
 
-pub index_mut-room-requires-in-Send : goal.index_mut-room-requires-in-Send
-index_mut-room-requires-in-Send c =
-    let within = send_within _ c.known.ensures.accepted c.operations-id-items.result.now c.loop-id.id-index (record { rank = 0; op = 0 }) (omega arith) _ c.loop-id.invariant _ c.op.ensures.op _ _ _ c.in-Send.is in
-    omega (arith, within, c.loop-id.rooms.ok.0)
+pub count_send-requires-clause-once : goal.count_send-requires-clause-once
+count_send-requires-clause-once c = rw c.lists_for.ensures (four_once c.args.patterns.now.keys (get_or c.operations-id-items.result.now c.loop-id.id-index (record { rank = 0; op = 0 })).rank c.in-Send.to c.in-Send.tag)
 
-pub overflow_add-room-in-Send : goal.overflow_add-room-in-Send
-overflow_add-room-in-Send c =
+pub count_send-requires-clause-within : goal.count_send-requires-clause-within
+count_send-requires-clause-within c = λ k i e.
+    let low = four_within c.args.patterns.now.keys (get_or c.operations-id-items.result.now c.loop-id.id-index (record { rank = 0; op = 0 })).rank c.in-Send.to c.in-Send.tag k i (rw c.lists_for.ensures at e) in
+    omega (arith, low, c.deref_mut.ensures.len, c.loop-id.invariant.one_each, c.loop-id.rooms.ok.0)
+
+pub count_send-requires-clause-small : goal.count_send-requires-clause-small
+count_send-requires-clause-small c = λ l r e.
     let short : length c.operations-id-items.result.now < 2 ^ 64 = omega arith in
-    let fits = sends_fit _ c.known.ensures.accepted c.operations-id-items.result.now c.loop-id.id-index (record { rank = 0; op = 0 }) (omega arith) _ c.loop-id.invariant _ c.op.ensures.op _ _ _ c.in-Send.is _ c.index_mut-room-in-Send.ensures.value short in
-    omega (arith, fits)
+    sends_fit _ _ c.operations-id-items.result.now c.loop-id.id-index (record { rank = 0; op = 0 }) (omega arith) _ c.loop-id.invariant _ c.op.ensures.op _ _ _ c.in-Send.is short l r (rw c.deref_mut.ensures.value at e)
 
 pub loop-id-preserved : goal.loop-id-preserved
-loop-id-preserved c =
-    elim c.match-op.branch [ in-Recv w ↦ rw w.rooms-is (receive_more _ c.known.ensures.accepted c.operations-id-items.result.now c.loop-id.id-index (record { rank = 0; op = 0 }) (omega arith) _ c.loop-id.invariant _ c.op.ensures.op _ _ _ w.in-Recv.is _ w.index_mut-room.ensures.value) | in-Send w ↦ rw w.rooms-is (send_more _ c.known.ensures.accepted c.operations-id-items.result.now c.loop-id.id-index (record { rank = 0; op = 0 }) (omega arith) _ c.loop-id.invariant _ c.op.ensures.op _ _ _ w.in-Send.is _ w.index_mut-room-in-Send.ensures.value) | in-Calc w ↦ rw w.rooms-is (calc_more _ c.known.ensures.accepted c.operations-id-items.result.now c.loop-id.id-index (record { rank = 0; op = 0 }) (omega arith) _ c.loop-id.invariant _ c.op.ensures.op _ w.in-Calc.is) ]
+loop-id-preserved c = elim c.match-op.branch [
+  | in-Recv w ↦ rw w.rooms-is (receive_more _ _ c.operations-id-items.result.now c.loop-id.id-index (record { rank = 0; op = 0 }) (omega arith) _ c.loop-id.invariant _ c.op.ensures.op _ _ _ w.in-Recv.is _ w.list_of_receive-list.ensures.list w.list_of_receive-list.ensures.within _ w.index_mut-room.ensures.value)
+  | in-Send w ↦
+      let counted = rw (w.lists_for.ensures, w.deref_mut.ensures.value) at w.count_send.ensures in
+      let back = whole_back c.loop-id.rooms.len w.count_send.new.rooms c.loop-id.rooms.items counted.one_each (omega (arith, c.loop-id.rooms.ok.0)) in
+      rw (w.rooms-is, back) (send_more _ _ c.operations-id-items.result.now c.loop-id.id-index (record { rank = 0; op = 0 }) (omega arith) _ c.loop-id.invariant _ c.op.ensures.op _ _ _ w.in-Send.is w.count_send.new.rooms counted)
+  | in-Calc w ↦ rw w.rooms-is (calc_more _ _ c.operations-id-items.result.now c.loop-id.id-index (record { rank = 0; op = 0 }) (omega arith) _ c.loop-id.invariant _ c.op.ensures.op _ w.in-Calc.is)
+]

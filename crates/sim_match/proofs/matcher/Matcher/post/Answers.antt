@@ -1,44 +1,41 @@
-use Rattle.std.proofs.Common.{arith}
-use Rattle.sim_match.proofs.Kept.{length-heard_of, heard_of-push, post_heard_room, post_within, post_exists, post_sends_exist, post_room, post_keeps, post_answers, post_partners, post_answers_none}
+use Rattle.std.proofs.Common.{◌≡◌, ◌↔◌, false, Option, IsNone, sym, ap, ◌∙◌, subst}
+use Rattle.goal_graph.specs.declared.action.OpId.{OpId}
+use Rattle.goal_graph.specs.declared.action.Class.TheVariants.{Post}
+use Rattle.goal_graph.specs.Action.{happened}
+use Rattle.goal_graph.specs.Laws.{IsReceive}
+use Rattle.sim_match.specs.Heard.{Heard, with_post, send_for, NoSendFits}
+use Rattle.sim_match.proofs.Kept.{heard_of-push}
+use Rattle.sim_match.proofs.Partnered.{post_partner, post_none}
 use Rattle.sim_match.proofs.matcher.Matcher.post.Goals as goal
 
-pub push_reserved-requires : goal.push_reserved-requires
-push_reserved-requires c =
-    let room = post_heard_room _ _ _ _ c.self.invariant _ c.self.view_is c.args.recv c.requires.receive c.requires.fresh in
-    omega (arith, room, length-heard_of c.self.inside.heard.items, c.self.inside.heard.ok.0)
-
-pub index_mut-waiting-requires : goal.index_mut-waiting-requires
-index_mut-waiting-requires c =
-    let within = post_within _ _ _ _ c.self.invariant _ c.self.view_is c.args.recv c.requires.receive c.requires.fresh in
-    omega (arith, within, c.self.inside.ranks.ok.0)
+pub post-requires-clause-kept : goal.post-requires-clause-kept
+post-requires-clause-kept c = c.self.invariant
 
 pub post-requires-clause-receive : goal.post-requires-clause-receive
-post-requires-clause-receive c =
-    post_exists _ _ _ _ c.self.invariant _ c.self.view_is c.args.recv c.requires.receive c.requires.fresh
+post-requires-clause-receive c = subst (λ (v : Heard). IsReceive v.plans c.args.recv) (sym c.self.view_is) c.requires.receive
 
-pub post-requires-clause-sends : goal.post-requires-clause-sends
-post-requires-clause-sends c =
-    post_sends_exist _ _ _ _ c.self.invariant _ c.self.view_is c.args.recv c.requires.receive c.requires.fresh _ c.index_mut-waiting.ensures.value
-
-pub post-requires-clause-room : goal.post-requires-clause-room
-post-requires-clause-room c =
-    let room = post_room _ _ _ _ c.self.invariant _ c.self.view_is c.args.recv c.requires.receive c.requires.fresh _ c.index_mut-waiting.ensures.value in
-    omega (arith, room, c.index_mut-waiting.result.now.receives.ok.0)
+pub post-requires-clause-fresh : goal.post-requires-clause-fresh
+post-requires-clause-fresh c =
+    subst (λ (v : Heard). happened Post c.args.recv v.heard ≡ false) (sym c.self.view_is) c.requires.fresh
 
 pub invariant_of-self : goal.invariant_of-self
-invariant_of-self c =
-    let kept = post_keeps _ _ _ _ c.self.invariant _ c.self.view_is c.args.recv c.requires.receive c.requires.fresh _ c.index_mut-waiting.ensures.value c.post.new.self c.post.result c.post.ensures in
-    rw (c.push_reserved.ensures.items, heard_of-push, c.push_reserved.ensures.capacity) kept
+invariant_of-self c = c.post.ensures.kept
+
+pub returns-clause-heard : goal.returns-clause-heard
+returns-clause-heard c =
+    rw (c.post.ensures.heard, heard_of-push) (ap (λ (v : Heard). with_post v c.args.recv) c.self.view_is)
 
 pub returns-clause-taken : goal.returns-clause-taken
 returns-clause-taken c =
-    post_answers _ _ _ _ c.self.invariant _ c.self.view_is c.args.recv c.requires.receive c.requires.fresh _ c.index_mut-waiting.ensures.value c.post.new.self c.post.result c.post.ensures
+    c.post.ensures.taken ∙ ap (λ (v : Heard). send_for v.plans v.heard c.args.recv) c.self.view_is
 
 pub returns-clause-partner : goal.returns-clause-partner
 returns-clause-partner c =
-    let partner = post_partners _ _ _ _ c.self.invariant _ c.self.view_is c.args.recv c.requires.receive c.requires.fresh _ c.index_mut-waiting.ensures.value c.post.new.self c.post.result c.post.ensures in
-    rw (c.push_reserved.ensures.items, heard_of-push) partner
+    let its = subst (λ (v : Heard). IsReceive v.plans c.args.recv) (sym c.self.view_is) c.requires.receive in
+    let fresh = subst (λ (v : Heard). happened Post c.args.recv v.heard ≡ false) (sym c.self.view_is) c.requires.fresh in
+    rw (c.post.ensures.heard, heard_of-push) (c.post.ensures.taken ∙ post_partner _ _ c.args.recv its fresh)
 
 pub returns-clause-none : goal.returns-clause-none
 returns-clause-none c =
-    post_answers_none _ _ _ _ c.self.invariant _ c.self.view_is c.args.recv c.requires.receive c.requires.fresh _ c.index_mut-waiting.ensures.value c.post.new.self c.post.result c.post.ensures
+    let taken = c.post.ensures.taken ∙ ap (λ (v : Heard). send_for v.plans v.heard c.args.recv) c.self.view_is in
+    subst (λ (o : Option OpId). IsNone o ↔ NoSendFits c.args.self.now.plans c.args.self.now.heard c.args.recv) (sym taken) (post_none c.args.self.now.plans c.args.self.now.heard c.args.recv)

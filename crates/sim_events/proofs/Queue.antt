@@ -1,0 +1,326 @@
+-- The queue of an engine: its bounds stay, are put anew, and lead to the action that is next.
+use Rattle.std.proofs.Common.{◌≡◌, ◌≢◌, ◌+◌, ◌<◌, ◌≤◌, ◌⊎◌, ◌==◌, ℕ, zero, suc, Bool, true, false, not, cond, List, [], ◌∷◌, Contains, length, drop, set, get_or, slice_get, slice_set, count_by, Option, Some, None, IfSome, inl, inr, refl, sym, ap, ◌∙◌, subst, arith, eq-eqb}
+use Rattle.std.proofs.lemmas.Bool.{cases_eq, cases_Bool, cases_lt, both_ways, ne_eqb}
+use Rattle.std.proofs.lemmas.List.{get_or-set_same, get_or-set_other, get_or_past, length-set, drop_more, drop_all}
+use Rattle.std.proofs.lemmas.List.Sums.{sum_by-set}
+use Rattle.std.proofs.lemmas.Option.{slice_get-get_or, slice_get_within, same_Some}
+use Rattle.goal_graph.specs.declared.action.OpId.{OpId}
+use Rattle.goal_graph.specs.declared.action.Timed.{Timed}
+use Rattle.goal_graph.specs.declared.action.Class.{Class}
+use Rattle.goal_graph.specs.declared.action.Class.TheVariants.{Arrive, Serve, Data, Post, Begin}
+use Rattle.goal_graph.specs.declared.plan.Need.{Need}
+use Rattle.goal_graph.specs.Schedule.{Plan, operations, needed}
+use Rattle.goal_graph.specs.Action.{plain, plain_act, same_op}
+use Rattle.goal_graph.specs.Allowed.{allowed}
+use Rattle.goal_graph.specs.Fault.{IsOp}
+use Rattle.goal_graph.specs.Interleaving.{IsInterleaving}
+use Rattle.goal_graph.proofs.Actions.{cases_op, same_op_false}
+use Rattle.goal_graph.proofs.Exists.{allowed_listed}
+use Rattle.goal_graph.proofs.OneEach.{one_allowed}
+use Rattle.goal_graph.proofs.Partners.{partners_met}
+use Rattle.goal_graph.proofs.Persist.{allowed_stays}
+use Rattle.goal_graph.proofs.Rules.{fits_receive, fits_send}
+use Rattle.sim_params.specs.Costs.{CostModel, is_eager}
+use Rattle.sim_params.specs.Shares.{ops_at}
+use Rattle.sim_params.specs.Times.{time, mate, Possible}
+use Rattle.sim_params.specs.Run.{IsNext, IsRun, IsFinished}
+use Rattle.sim_params.specs.Laws.{at_its_time, HasBound}
+use Rattle.sim_params.proofs.Grow.{time_grows}
+use Rattle.sim_params.proofs.Interleavings.{run_interleaving, possible_at}
+use Rattle.sim_params.proofs.Queue.{least_is_next}
+use Rattle.sim_order.specs.Events.{event_before}
+use Rattle.sim_resources.proofs.OfKind.{send_is_op, receive_is_op}
+use Rattle.sim_queue.specs.Map.{key_at, IsEmptyMap, IsLeast}
+use Rattle.sim_events.specs.Queue.{IsNamedIn, IsIdle, IsTurnOf, IsEarly, IsBoundOf, IsQueueBut, IsQueue, IsRefreshed, IsConcerned}
+use Rattle.sim_events.proofs.After.{other_op}
+use Rattle.sim_events.proofs.Keys.{before_event}
+use Rattle.sim_events.proofs.Newly.{newly_allowed}
+use Rattle.sim_events.proofs.Places.{listed_exists, number_below, possible_exists}
+use Rattle.sim_events.proofs.Tables.{other_place}
+
+abbrev one_if : Bool → ℕ
+one_if b = cond b 1 0
+
+-- the operations of a rank from that number on, and those of later ranks
+abbrev pub IsFrom : ℕ → ℕ → OpId → Type 0
+IsFrom rank op y = (rank ≤ y.rank) × (y.rank ≡ rank → op ≤ y.op)
+
+pub from_more : (rank op : ℕ) (y : OpId) → IsFrom rank op y → ¬ (y ≡ record { rank = rank; op = op }) → IsFrom rank (op + 1) y
+from_more rank op y f d = (f.0, λ e. go e (f.1 e) (cases_eq y.op op))
+  where
+    go : y.rank ≡ rank → op ≤ y.op → (y.op ≡ op) ⊎ (y.op ≢ op) → op + 1 ≤ y.op
+    go e l (inl s) = absurd (d (λ i. record { rank = e i; op = s i }))
+    go e l (inr n) = omega (arith, l, n)
+
+-- those of later ranks, once the numbers of the rank are through
+pub later_ranks : (plans : List Plan) (rank op : ℕ) (y : OpId) → IsOp plans y → IsFrom rank op y → length (ops_at plans rank) ≤ op → rank + 1 ≤ y.rank
+later_ranks plans rank op y is f l = go (cases_eq y.rank rank)
+  where
+    go : (y.rank ≡ rank) ⊎ (y.rank ≢ rank) → rank + 1 ≤ y.rank
+    go (inl e) = omega (arith, f.1 e, number_below plans y is, ap (λ r. length (ops_at plans r)) e)
+    go (inr n) = omega (arith, f.0, n)
+
+-- what a partner is
+pub partner_exists : (plans : List Plan) (costs : CostModel) (h : List Timed) (x y : OpId) → mate plans costs h x ≡ Some y → IsOp plans y
+partner_exists plans costs h x y e =
+    elim (partners_met plans (plain h) x y e) [ inl met ↦ receive_is_op plans y (fits_receive plans y x met.fit) | inr met ↦ send_is_op plans y (fits_send plans x y met.fit) ]
+
+abbrev IsKnown : (Class → Bool) → Class → Type 0
+IsKnown test c = (test c ≡ true) ⊎ (test c ≡ false)
+
+no_class : (test : Class → Bool) → test Arrive ≡ false → test Serve ≡ false → test Data ≡ false → test Post ≡ false → test Begin ≡ false → (c : Class) → test c ≡ false
+no_class test a s d p b Arrive = a
+no_class test a s d p b Serve = s
+no_class test a s d p b Data = d
+no_class test a s d p b Post = p
+no_class test a s d p b Begin = b
+
+-- a test fails at each class, or passes at one
+some_class : (test : Class → Bool) → ((c : Class) → test c ≡ false) ⊎ ((c : Class) × (test c ≡ true))
+some_class test = go (cases_Bool (test Arrive)) (cases_Bool (test Serve)) (cases_Bool (test Data)) (cases_Bool (test Post)) (cases_Bool (test Begin))
+  where
+    go : IsKnown test Arrive → IsKnown test Serve → IsKnown test Data → IsKnown test Post → IsKnown test Begin → ((c : Class) → test c ≡ false) ⊎ ((c : Class) × (test c ≡ true))
+    go (inl t) s d p b = inr (Arrive, t)
+    go (inr a) (inl t) d p b = inr (Serve, t)
+    go (inr a) (inr s) (inl t) p b = inr (Data, t)
+    go (inr a) (inr s) (inr d) (inl t) b = inr (Post, t)
+    go (inr a) (inr s) (inr d) (inr p) (inl t) = inr (Begin, t)
+    go (inr a) (inr s) (inr d) (inr p) (inr b) = inl (no_class test a s d p b)
+
+module _ (plans : List Plan) (costs : CostModel) where
+  -- the possible action is a bound of itself
+  pub turn_bound : (h : List Timed) (x : OpId) (r : Option Timed) → IsTurnOf plans costs h x r → IsBoundOf plans costs h x r
+  turn_bound h x None t = t
+  turn_bound h x (Some a) t = record { op = t.0; allowed = t.1.allowed; not_later = omega (arith, t.1.time) }
+
+  -- where some action of an operation is allowed it has a turn
+  pub turn_present : (h : List Timed) (x : OpId) (c : Class) (r : Option Timed) → IsTurnOf plans costs h x r → allowed plans (is_eager plans costs) (plain h) c x ≡ true → (a : Timed) × (r ≡ Some a)
+  turn_present h x c None t p = absurd (both_ways _ (t c) p)
+  turn_present h x c (Some a) t p = (a, refl)
+
+  pub turn_some : (h : List Timed) (x : OpId) (a : Timed) (r : Option Timed) → IsTurnOf plans costs h x r → r ≡ Some a → (a.op ≡ x) × Possible plans costs h a
+  turn_some h x a r t e = subst (λ (o : Option Timed). IsTurnOf plans costs h x o) e t
+
+  -- it is of the class that its key names
+  pub turn_class : (h : List Timed) (e a : Timed) → IsRun plans costs h → IsEarly plans costs h e.op e → a.op ≡ e.op → Possible plans costs h a → a.class ≡ e.class
+  turn_class h e a run early o p =
+      one_allowed plans (is_eager plans costs) (plain h) a.class e.class e.op (run_interleaving plans costs h run) (subst (λ (x : OpId). allowed plans (is_eager plans costs) (plain h) a.class x ≡ true) o p.allowed) early.allowed
+
+  pub early_exists : (h : List Timed) (x : OpId) (e : Timed) → IsEarly plans costs h x e → IsOp plans e.op
+  early_exists h x e early =
+      possible_exists plans costs h (at_its_time plans costs h e.class e.op) (possible_at plans costs h e.class e.op early.allowed)
+
+  -- one more action
+  module _ (h : List Timed) (a : Timed) (run : IsRun plans costs h) (possible : Possible plans costs h a) where
+    interleaving : IsInterleaving plans (is_eager plans costs) (plain (a ∷ h))
+    unfolding plain
+    interleaving = (run_interleaving plans costs h run, possible.allowed)
+
+    newly : (c : Class) (x : OpId) → allowed plans (is_eager plans costs) (plain (a ∷ h)) c x ≡ true → (allowed plans (is_eager plans costs) (plain h) c x ≡ true) ⊎ IsConcerned plans costs (a ∷ h) a.op x
+    unfolding plain
+    newly c x e = newly_allowed plans (is_eager plans costs) (plain_act a) (plain h) interleaving c x e
+
+    stays : (c : Class) (x : OpId) → ¬ (x ≡ a.op) → allowed plans (is_eager plans costs) (plain h) c x ≡ true → allowed plans (is_eager plans costs) (plain (a ∷ h)) c x ≡ true
+    unfolding plain
+    stays c x d e =
+        elim (cases_op a.op x) [ inl s ↦ absurd (d (sym s)) | inr o ↦ allowed_stays plans (is_eager plans costs) (plain_act a) (plain h) c x (other_op plans costs h a c x o) e ]
+
+    -- the bound of an operation stays, or the action concerns it
+    bound_stays : (x : OpId) (k : Option Timed) → IsBoundOf plans costs h x k → IsBoundOf plans costs (a ∷ h) x k ⊎ IsConcerned plans costs (a ∷ h) a.op x
+    bound_stays x None idle = go (some_class (λ c. allowed plans (is_eager plans costs) (plain (a ∷ h)) c x))
+      where
+        go : ((c : Class) → allowed plans (is_eager plans costs) (plain (a ∷ h)) c x ≡ false) ⊎ ((c : Class) × (allowed plans (is_eager plans costs) (plain (a ∷ h)) c x ≡ true)) → IsIdle plans costs (a ∷ h) x ⊎ IsConcerned plans costs (a ∷ h) a.op x
+        go (inl none) = inl none
+        go (inr (c, t)) = elim (newly c x t) [ inl was ↦ absurd (both_ways _ (idle c) was) | inr new ↦ inr new ]
+    bound_stays x (Some e) b = go (cases_op a.op x)
+      where
+        go : (a.op ≡ x) ⊎ (same_op a.op x ≡ false) → IsEarly plans costs (a ∷ h) x e ⊎ IsConcerned plans costs (a ∷ h) a.op x
+        go (inl s) = inr (inl (sym s))
+        go (inr o) = inl (record {
+          op = b.op;
+          allowed = stays e.class e.op (λ s. same_op_false a.op x o (sym s ∙ b.op)) b.allowed;
+          not_later = omega (arith, b.not_later, time_grows plans costs a h e.class e.op);
+        })
+
+    -- so after an action those are due that it concerns
+    pub queue_after : (keys : List (Option Timed)) → IsQueue plans costs h keys → IsQueueBut plans costs (a ∷ h) (IsConcerned plans costs (a ∷ h) a.op) keys
+    queue_after keys q = record {
+      each = q.each;
+      bounds = λ i x e. elim (q.bounds i x e) [ inl b ↦ bound_stays x (key_at keys i) b | inr none ↦ absurd none ];
+    }
+
+  module _ (h : List Timed) where
+    -- where an operation has got its key it is no longer due
+    pub refreshed : (Due Later : OpId → Type 0) (old new : List (Option Timed)) (x : OpId) → IsQueueBut plans costs h Due old → IsRefreshed plans costs h x old new → ((y : OpId) → IsOp plans y → Due y → ¬ (y ≡ x) → Later y) → IsQueueBut plans costs h Later new
+    refreshed Due Later old new x q r still = record {
+      each = ap length r.put ∙ length-set old r.slot r.key ∙ q.each;
+      bounds = λ i y e. subst (λ (ks : List (Option Timed)). IsBoundOf plans costs h y (key_at ks i) ⊎ Later y) (sym r.put) (go i y e (cases_eq i r.slot));
+    }
+      where
+        within : r.slot < length old
+        within = omega (arith, q.each, slice_get_within (operations plans) r.slot x r.is_slot)
+
+        go : (i : ℕ) (y : OpId) → slice_get (operations plans) i ≡ Some y → (i ≡ r.slot) ⊎ (i ≢ r.slot) → IsBoundOf plans costs h y (key_at (set old r.slot r.key) i) ⊎ Later y
+        go i y e (inl s) =
+            let same : x ≡ y = same_Some x y (sym r.is_slot ∙ ap (slice_get (operations plans)) (sym s) ∙ e) in
+            let here : key_at (set old r.slot r.key) i ≡ r.key = ap (key_at (set old r.slot r.key)) s ∙ get_or-set_same old r.slot r.key None within in
+            inl (subst (λ (k : Option Timed). IsBoundOf plans costs h y k) (sym here) (subst (λ (z : OpId). IsBoundOf plans costs h z r.key) same r.bound))
+        go i y e (inr d) =
+            let there : key_at (set old r.slot r.key) i ≡ key_at old i = get_or-set_other old r.slot i r.key None d in
+            elim (q.bounds i y e) [ inl b ↦ inl (subst (λ (k : Option Timed). IsBoundOf plans costs h y k) (sym there) b) | inr due ↦ inr (still y (listed_exists plans i y e) due (other_place plans i r.slot y x e r.is_slot d)) ]
+
+    -- fewer are due
+    pub fewer_due : (Due Later : OpId → Type 0) (keys : List (Option Timed)) → IsQueueBut plans costs h Due keys → ((y : OpId) → IsOp plans y → Due y → Later y) → IsQueueBut plans costs h Later keys
+    fewer_due Due Later keys q still = record {
+      each = q.each;
+      bounds = λ i y e. elim (q.bounds i y e) [ inl b ↦ inl b | inr due ↦ inr (still y (listed_exists plans i y e) due) ];
+    }
+
+    -- where all are due nothing is asked
+    pub all_due : (Due : OpId → Type 0) (keys : List (Option Timed)) → length keys ≡ length (operations plans) → ((y : OpId) → Due y) → IsQueueBut plans costs h Due keys
+    all_due Due keys e every = record { each = e; bounds = λ i y f. inr (every y) }
+
+    -- a key of the queue is early, and stands in the slot of its operation
+    pub record IsFound (keys : List (Option Timed)) (slot : ℕ) (e : Timed) : Type 0 where
+      pub within : slot < length keys
+      pub is_slot : slice_get (operations plans) slot ≡ Some e.op
+      pub early : IsEarly plans costs h e.op e
+
+    pub key_found : (keys : List (Option Timed)) (slot : ℕ) (e : Timed) → IsQueue plans costs h keys → key_at keys slot ≡ Some e → IsFound keys slot e
+    key_found keys slot e q has = go (cases_lt slot (length keys))
+      where
+        found : slot < length keys → (x : OpId) → slice_get (operations plans) slot ≡ Some x → IsEarly plans costs h x e → IsFound keys slot e
+        found l x at early = record {
+          within = l;
+          is_slot = at ∙ ap Some (sym early.op);
+          early = record { op = refl; allowed = early.allowed; not_later = early.not_later };
+        }
+
+        bound : (x : OpId) → IsBoundOf plans costs h x (key_at keys slot) ⊎ ⊥ → IsEarly plans costs h x e
+        bound x (inl b) = subst (λ (k : Option Timed). IsBoundOf plans costs h x k) has b
+        bound x (inr none) = absurd none
+
+        go : (slot < length keys) ⊎ (length keys ≤ slot) → IsFound keys slot e
+        go (inr l) = let none : key_at keys slot ≡ None = get_or_past keys slot None l in absurd (cc)
+        go (inl l) =
+            let at : slice_get (operations plans) slot ≡ Some (get_or (operations plans) slot e.op) = slice_get-get_or (operations plans) slot e.op (omega (arith, l, q.each)) in
+            found l _ at (bound _ (q.bounds slot _ at))
+
+    -- a key that is raised to the time of its action
+    pub raised : (keys new : List (Option Timed)) (slot : ℕ) (e a : Timed) → IsQueue plans costs h keys → key_at keys slot ≡ Some e → Possible plans costs h a → a.op ≡ e.op → new ≡ slice_set keys slot (Some a) → IsQueue plans costs h new
+    raised keys new slot e a q has p o put =
+        let early : IsEarly plans costs h e.op a = record { op = o; allowed = p.allowed; not_later = omega (arith, p.time) } in
+        let put_anew : IsRefreshed plans costs h e.op keys new = record { slot = slot; is_slot = (key_found keys slot e q has).is_slot; key = Some a; bound = early; put = put } in
+        refreshed (λ (y : OpId). ⊥) (λ (y : OpId). ⊥) keys new e.op q put_anew (λ y o none d. none)
+
+    module _ (run : IsRun plans costs h) (keys : List (Option Timed)) (q : IsQueue plans costs h keys) where
+      abbrev InQueue : Timed → Type 0
+      InQueue e = (slot : ℕ) × (key_at keys slot ≡ Some e)
+
+      -- each possible action has an early key
+      each_bound : (b : Timed) → Possible plans costs h b → HasBound InQueue b
+      each_bound b p = go (key_at keys slot) refl (bound (q.bounds slot b.op at))
+        where
+          listed : Contains (operations plans) b.op
+          listed = allowed_listed plans (is_eager plans costs) (plain h) b.class b.op p.allowed
+
+          slot : ℕ
+          slot = listed.0
+
+          at : slice_get (operations plans) slot ≡ Some b.op
+          at = slice_get-get_or (operations plans) slot b.op listed.1 ∙ ap Some listed.2
+
+          bound : IsBoundOf plans costs h b.op (key_at keys slot) ⊎ ⊥ → IsBoundOf plans costs h b.op (key_at keys slot)
+          bound (inl x) = x
+          bound (inr none) = absurd none
+
+          go : (k : Option Timed) → key_at keys slot ≡ k → IsBoundOf plans costs h b.op k → HasBound InQueue b
+          go None e idle = absurd (both_ways _ (idle b.class) p.allowed)
+          go (Some e) has early =
+              let class : e.class ≡ b.class = one_allowed plans (is_eager plans costs) (plain h) e.class b.class b.op (run_interleaving plans costs h run) (subst (λ (x : OpId). allowed plans (is_eager plans costs) (plain h) e.class x ≡ true) early.op early.allowed) p.allowed in
+              let times : time plans costs h e.class e.op ≡ time plans costs h b.class b.op = λ i. time plans costs h (class i) (early.op i) in
+              record {
+                entry = e;
+                queued = (slot, has);
+                class = class;
+                op = early.op;
+                time = omega (arith, early.not_later, times, p.time);
+              }
+
+      -- an empty queue: nothing is possible
+      pub finished : IsEmptyMap keys → IsFinished plans costs h
+      finished empty b p =
+          let e = each_bound b p in
+          let none : key_at keys e.queued.0 ≡ None = empty e.queued.0 in
+          let some : key_at keys e.queued.0 ≡ Some e.entry = e.queued.1 in
+          absurd (cc)
+
+      -- the least key at its right time is next
+      pub least_next : (slot : ℕ) (e : Timed) → IsLeast event_before keys slot e → Possible plans costs h e → IsNext plans costs h e
+      least_next slot e least p =
+          least_is_next plans costs InQueue h e each_bound (λ k queued l. both_ways _ (least.least queued.0 k queued.1) (before_event k e l)) p
+
+      -- and so is the action of its class and operation at that time
+      pub found_next : (slot : ℕ) (e a : Timed) → IsLeast event_before keys slot e → Possible plans costs h a → a.class ≡ e.class → a.op ≡ e.op → a.time ≡ e.time → IsNext plans costs h a
+      found_next slot e a least p c o t =
+          let same : e ≡ a = λ i. record { time = sym t i; class = sym c i; op = sym o i } in
+          least_next slot a (subst (IsLeast event_before keys slot) same least) p
+
+    -- where nothing is possible the queue is empty
+    pub empty_from : (keys : List (Option Timed)) → IsQueue plans costs h keys → IsFinished plans costs h → IsEmptyMap keys
+    empty_from keys q none slot = go (key_at keys slot) refl
+      where
+        go : (k : Option Timed) → key_at keys slot ≡ k → k ≡ None
+        go None e = refl
+        go (Some k) e = absurd (none (at_its_time plans costs h k.class k.op) (possible_at plans costs h k.class k.op (key_found keys slot k q e).early.allowed))
+
+    -- the keys that are too early
+    unfoldable pub is_low : Option Timed → Bool
+    is_low None = false
+    is_low (Some e) = not (e.time == time plans costs h e.class e.op)
+
+    not_low : (a : Timed) → a.time ≡ time plans costs h a.class a.op → is_low (Some a) ≡ false
+    unfolding is_low
+    not_low a e = ap not (eq-eqb a.time (time plans costs h a.class a.op) e)
+
+    low : (a : Timed) → ¬ (a.time ≡ time plans costs h a.class a.op) → is_low (Some a) ≡ true
+    unfolding is_low
+    low a d = ap not (ne_eqb a.time (time plans costs h a.class a.op) d)
+
+    -- fewer are once one is raised
+    pub fewer_low : (keys new : List (Option Timed)) (slot : ℕ) (e a : Timed) → slot < length keys → key_at keys slot ≡ Some e → Possible plans costs h a → a.class ≡ e.class → a.op ≡ e.op → ¬ (a.time ≡ e.time) → new ≡ slice_set keys slot (Some a) → count_by is_low new < count_by is_low keys
+    fewer_low keys new slot e a l has p c o differ put =
+        let times : time plans costs h a.class a.op ≡ time plans costs h e.class e.op = λ i. time plans costs h (c i) (o i) in
+        let wrong : is_low (Some e) ≡ true = low e (λ s. differ (p.time ∙ times ∙ sym s)) in
+        let sums : count_by is_low (set keys slot (Some a)) + one_if (is_low (key_at keys slot)) ≡ count_by is_low keys + one_if (is_low (Some a)) = sum_by-set (λ (k : Option Timed). one_if (is_low k)) keys slot (Some a) None l in
+        let one : one_if (is_low (key_at keys slot)) ≡ 1 = ap (λ (k : Option Timed). one_if (is_low k)) has ∙ ap one_if wrong in
+        let nothing : one_if (is_low (Some a)) ≡ 0 = ap one_if (not_low a p.time) in
+        let after : count_by is_low new ≡ count_by is_low (set keys slot (Some a)) = ap (count_by is_low) put in
+        omega (arith, sums, one, nothing, after)
+
+  -- the key of an operation is that of its possible action
+  pub put_turn : (h : List Timed) (x : OpId) (known : List Plan) (slot : ℕ) (turn put : Option Timed) (old new : List (Option Timed)) → known ≡ plans → slice_get (operations known) slot ≡ Some x → IsTurnOf plans costs h x turn → turn ≡ put → new ≡ slice_set old slot put → IsRefreshed plans costs h x old new
+  put_turn h x known slot turn put old new same at is e set_there = record {
+    slot = slot;
+    is_slot = ap (λ (ps : List Plan). slice_get (operations ps) slot) (sym same) ∙ at;
+    key = put;
+    bound = subst (λ (k : Option Timed). IsBoundOf plans costs h x k) e (turn_bound h x turn is);
+    put = set_there;
+  }
+
+-- the needs that are not yet read
+pub named_rest : (items : List Need) (k : ℕ) (d : Need) (x y : OpId) → k < length items → IsNamedIn (drop k items) x y → ¬ (y ≡ needed x (get_or items k d)) → IsNamedIn (drop (k + 1) items) x y
+named_rest items k d x y l n differ = go (subst (λ ds. Contains ds n.need) (drop_more items k d l) n.listed)
+  where
+    go : Contains (get_or items k d ∷ drop (k + 1) items) n.need → IsNamedIn (drop (k + 1) items) x y
+    go (zero, b, e) = absurd (differ (n.named ∙ ap (needed x) (sym e)))
+    go (suc i, b, e) = record { need = n.need; listed = (i, omega (arith, b), e); named = n.named }
+
+pub none_named : (items : List Need) (k : ℕ) (x y : OpId) → length items ≤ k → IsNamedIn (drop k items) x y → ⊥
+none_named items k x y l n =
+    let none : Contains [] n.need = subst (λ ds. Contains ds n.need) (drop_all k items l) n.listed in
+    omega (arith, none.1)
+
+-- the slot and the key that are answered as the least
+pub least_at : (keys : List (Option Timed)) (r : Option (ℕ × Timed)) (slot : ℕ) (e : Timed) → r ≡ Some (slot, e) → IfSome r (λ (p : ℕ × Timed). IsLeast event_before keys p.0 p.1) → IsLeast event_before keys slot e
+least_at keys r slot e is least = subst (λ (o : Option (ℕ × Timed)). IfSome o (λ (p : ℕ × Timed). IsLeast event_before keys p.0 p.1)) is least

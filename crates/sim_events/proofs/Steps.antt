@@ -1,0 +1,52 @@
+-- The queue of an engine over one step, said of views.
+use Rattle.std.proofs.Common.{◌≡◌, ◌↔◌, List, ◌∷◌, Option, Some, None, IfSome, IfNone, sym, ap, subst}
+use Rattle.goal_graph.specs.declared.action.Timed.{Timed}
+use Rattle.goal_graph.specs.Schedule.{Plan}
+use Rattle.goal_graph.specs.Fault.{IsOp}
+use Rattle.sim_params.specs.Costs.{CostModel}
+use Rattle.sim_params.specs.Run.{IsNext, IsRun, IsFinished}
+use Rattle.sim_queue.specs.Map.{IsEmptyMap}
+use Rattle.sim_events.specs.Engine.{View}
+use Rattle.sim_events.specs.Queue.{IsQueue, IsQueueBut, IsConcerned}
+use Rattle.sim_events.proofs.Places.{possible_exists}
+use Rattle.sim_events.proofs.Queue.{queue_after, finished, empty_from}
+
+module _ {C : Type 0} (model : C → CostModel) where
+  abbrev pub QueueAt : View C → List (Option Timed) → Type 0
+  QueueAt v keys = IsQueue v.plans (model v.costs) v.history keys
+
+  abbrev pub RunAt : View C → Type 0
+  RunAt v = IsRun v.plans (model v.costs) v.history
+
+  abbrev pub NextAt : View C → Timed → Type 0
+  NextAt v a = IsNext v.plans (model v.costs) v.history a
+
+  -- after an action those are due that it concerns
+  pub due_after : (old new : View C) (a : Timed) (keys : List (Option Timed)) → new ≡ record { plans = old.plans; costs = old.costs; history = a ∷ old.history } → RunAt old → NextAt old a → QueueAt old keys → IsQueueBut new.plans (model new.costs) new.history (IsConcerned new.plans (model new.costs) new.history a.op) keys
+  due_after old new a keys e run next q =
+      subst (λ (v : View C). IsQueueBut v.plans (model v.costs) v.history (IsConcerned v.plans (model v.costs) v.history a.op) keys) (sym e) (queue_after old.plans (model old.costs) old.history a run next.possible keys q)
+
+  pub op_after : (old new : View C) (a : Timed) → new ≡ record { plans = old.plans; costs = old.costs; history = a ∷ old.history } → NextAt old a → IsOp new.plans a.op
+  op_after old new a e next =
+      subst (λ (ps : List Plan). IsOp ps a.op) (sym (ap (λ (v : View C). v.plans) e)) (possible_exists old.plans (model old.costs) old.history a next.possible)
+
+  -- nothing is possible exactly where no operation has a key
+  pub done_at : (v w : View C) (keys : List (Option Timed)) (T : Type 0) → v ≡ w → RunAt w → QueueAt v keys → (T ↔ IsEmptyMap keys) → T ↔ IsFinished w.plans (model w.costs) w.history
+  done_at v w keys T e run q empty =
+      let queue : QueueAt w keys = subst (λ (u : View C). QueueAt u keys) e q in
+      (λ t. finished w.plans (model w.costs) w.history run keys queue (empty.0 t), λ f. empty.1 (empty_from w.plans (model w.costs) w.history keys queue f))
+
+  -- what is next after one of two views that are equal is next after the other, and so on
+  pub next_of : (v w : View C) (r : Option Timed) (a : Timed) → v ≡ w → r ≡ Some a → IfSome r (IsNext v.plans (model v.costs) v.history) → NextAt w a
+  next_of v w r a e is next =
+      let at_v : NextAt v a = subst (λ (o : Option Timed). IfSome o (IsNext v.plans (model v.costs) v.history)) is next in
+      subst (λ (u : View C). NextAt u a) e at_v
+
+  pub finished_of : (v w : View C) (r : Option Timed) → v ≡ w → r ≡ None → IfNone r (IsFinished v.plans (model v.costs) v.history) → IsFinished w.plans (model w.costs) w.history
+  finished_of v w r e is none =
+      let at_v : IsFinished v.plans (model v.costs) v.history = subst (λ (o : Option Timed). IfNone o (IsFinished v.plans (model v.costs) v.history)) is none in
+      subst (λ (u : View C). IsFinished u.plans (model u.costs) u.history) e at_v
+
+  -- one action more is a run
+  pub run_after : (old new : View C) (a : Timed) → new ≡ record { plans = old.plans; costs = old.costs; history = a ∷ old.history } → RunAt old → NextAt old a → RunAt new
+  run_after old new a e run next = subst (λ (v : View C). RunAt v) (sym e) (run, next)

@@ -1,0 +1,20 @@
+use Rattle.std.proofs.Common.{refl, sym, subst}
+use Rattle.sim_params.specs.Run.{IsRun}
+use Rattle.sim_events.specs.Engine.{View}
+use Rattle.sim_events.proofs.Steps.{next_of, op_after, due_after}
+use Rattle.sim_events.proofs.engine.Engine.step_counted.Goals as goal
+
+pub follow-requires-clause-exists : goal.follow-requires-clause-exists
+follow-requires-clause-exists g c =
+    let model = g.C.Costs.model in
+    let state = c.self.inside.state in
+    let next = next_of model state state c.next.result c.in_ok-action.action refl c.in_ok-action.was c.next.ensures.next in
+    op_after model state c.perform.new.self c.in_ok-action.action c.perform.ensures next
+
+pub follow-requires-clause-rest : goal.follow-requires-clause-rest
+follow-requires-clause-rest g c =
+    let model = g.C.Costs.model in
+    let state = c.self.inside.state in
+    let next = next_of model state state c.next.result c.in_ok-action.action refl c.in_ok-action.was c.next.ensures.next in
+    let run = subst (λ (v : View _). IsRun v.plans (model v.costs) v.history) (sym c.self.view_is) c.known.ensures.run in
+    due_after model state c.perform.new.self c.in_ok-action.action c.next.new.queue c.perform.ensures run next c.next.ensures.queue

@@ -1,0 +1,19 @@
+use Rattle.std.proofs.Common.{◌≡◌, Some, inl, inr, sym, ◌∙◌}
+use Rattle.std.proofs.lemmas.Option.{same_Some}
+use Rattle.sim_params.specs.Times.{mate}
+use Rattle.sim_events.proofs.Queue.{refreshed, fewer_due, partner_exists}
+use Rattle.sim_events.proofs.follow.follow_partner.Goals as goal
+
+pub refresh-requires : goal.refresh-requires
+refresh-requires g c =
+    let is : mate c.args.state.now.plans (g.C.Costs.model c.args.state.now.costs) c.args.state.now.history c.args.id ≡ Some c.in-Some.partner = sym c.partner.ensures ∙ c.in-Some.is in
+    record { exists = partner_exists c.args.state.now.plans (g.C.Costs.model c.args.state.now.costs) c.args.state.now.history c.args.id c.in-Some.partner is; each = c.requires.rest.each }
+
+pub returns : goal.returns
+returns g c =
+    let is : Some c.in-Some.partner ≡ mate c.args.state.now.plans (g.C.Costs.model c.args.state.now.costs) c.args.state.now.history c.args.id = sym c.in-Some.is ∙ c.partner.ensures in
+    refreshed _ _ _ _ _ _ _ _ c.requires.rest c.refresh.ensures (λ y o due differ. elim due [ inl e ↦ absurd (differ (sym (same_Some c.in-Some.partner y (is ∙ e)))) | inr w ↦ w ])
+
+pub returns-in_default : goal.returns-in_default
+returns-in_default g c =
+    fewer_due _ _ _ _ _ _ c.requires.rest (λ y o due. elim due [ inl e ↦ absurd (c.in_default.not-Some y (c.partner.ensures ∙ e)) | inr w ↦ w ])

@@ -1,0 +1,17 @@
+use Rattle.std.proofs.Common.{List, Some, length, ap, ◌∙◌, sym, arith}
+use Rattle.goal_graph.specs.declared.action.Timed.{Timed}
+use Rattle.goal_graph.specs.Schedule.{Plan, operations}
+use Rattle.sim_events.proofs.Queue.{put_turn}
+use Rattle.sim_events.proofs.follow.refresh.Goals as goal
+
+pub put-requires : goal.put-requires
+put-requires g c =
+    omega (arith, c.index-slot.ensures.below, c.requires.each, ap (λ (ps : List Plan). length (operations ps)) c.sched.ensures)
+
+pub returns-in-Some : goal.returns-in-Some
+returns-in-Some g c =
+    put_turn _ _ _ c.args.id _ c.index-slot.result _ _ _ _ c.sched.ensures c.index-slot.ensures.index c.choice.ensures (c.in-Some.is ∙ ap (λ (a : Timed). Some a) (sym c.key_of.ensures)) c.put.ensures.put
+
+pub returns-in-None : goal.returns-in-None
+returns-in-None g c =
+    put_turn _ _ _ c.args.id _ c.index-slot.result _ _ _ _ c.sched.ensures c.index-slot.ensures.index c.choice.ensures c.in-None.is c.drop_slot.ensures.dropped

@@ -1,0 +1,70 @@
+use Rattle.std.proofs.Common.{◌≡◌, ◌∙◌, ◌<◌, List, length, reverse, vec_capacity, refl, sym, ap, subst, arith, filter}
+use Rattle.goal_graph.specs.declared.action.Class.{Class}
+use Rattle.goal_graph.specs.declared.action.Class.TheVariants.{Arrive}
+use Rattle.goal_graph.specs.Schedule.{Plan, kind_at}
+use Rattle.goal_graph.specs.Action.{plain}
+use Rattle.goal_graph.specs.Laws.{IsSend}
+use Rattle.sim_params.specs.Times.{holds_cpu, holds_tx, holds_rx}
+use Rattle.sim_match.specs.Heard.{is_heard, receive_for}
+use Rattle.sim_events.specs.Mirrors.{entry_told}
+use Rattle.sim_events.proofs.Entries.{arrived, receiver_exists}
+use Rattle.sim_events.proofs.Fits.{arrives}
+use Rattle.sim_events.proofs.FreeTimes.{free_same}
+use Rattle.sim_events.proofs.Hearing.{arrival_heard, unheard}
+use Rattle.sim_events.proofs.Places.{possible_exists}
+use Rattle.sim_events.proofs.Performed.{next_at, entry_is, each_entry, room_left, performed, is_op}
+use Rattle.sim_events.proofs.state.State.arrive.Goals as goal
+
+pub entry-entry-requires : goal.entry-entry-requires
+entry-entry-requires g c =
+    possible_exists _ _ _ c.args.action c.requires.next.possible
+
+pub arrive-partner-requires : goal.arrive-partner-requires
+arrive-partner-requires g c =
+    let plans = c.self.inside.sched.now in
+    let costs = g.C.Costs.model c.self.inside.costs in
+    let h = reverse c.self.inside.history.items in
+    let a = c.args.action in
+    let m = c.self.invariant in
+    let next = next_at g.C.Costs.model _ _ a c.self.view_is c.requires.next in
+    record {
+      send = subst (λ (ps : List Plan). IsSend ps a.op) (sym m.heard.same_plans) (arrives plans costs h a m.run next.possible c.requires.class);
+      fresh = unheard plans costs h a c.self.inside.matcher m.heard Arrive next.possible c.requires.class refl;
+    }
+
+pub write_met-requires : goal.write_met-requires
+write_met-requires g c =
+    let plans = c.self.inside.sched.now in
+    let costs = g.C.Costs.model c.self.inside.costs in
+    let h = reverse c.self.inside.history.items in
+    let a = c.args.action in
+    let m = c.self.invariant in
+    let next = next_at g.C.Costs.model _ _ a c.self.view_is c.requires.next in
+    let taken : c.arrive-partner.result ≡ receive_for plans (filter is_heard (plain h)) a.op = c.arrive-partner.ensures.taken ∙ (λ i. receive_for (m.heard.same_plans i) (m.heard.events i) a.op) in
+    record {
+      exists = is_op _ _ _ _ _ _ _ m a next;
+      other = receiver_exists plans costs h a m.run next.possible c.arrive-partner.result c.requires.class taken;
+      each = each_entry _ _ _ _ _ _ _ m _ c.deref_mut.ensures.value;
+    }
+
+pub push_reserved-requires : goal.push_reserved-requires
+push_reserved-requires g c =
+    let next = next_at g.C.Costs.model _ _ c.args.action c.self.view_is c.requires.next in
+    let room : length c.self.inside.history.items < vec_capacity c.self.inside.history = room_left _ _ c.self.inside.history.items _ _ _ _ c.self.invariant c.args.action next in
+    omega (arith, c.self.inside.history.ok.0, room)
+
+pub invariant_of-self : goal.invariant_of-self
+invariant_of-self g c =
+    let plans = c.self.inside.sched.now in
+    let costs = g.C.Costs.model c.self.inside.costs in
+    let h = reverse c.self.inside.history.items in
+    let a = c.args.action in
+    let m = c.self.invariant in
+    let next = next_at g.C.Costs.model _ _ a c.self.view_is c.requires.next in
+    let was = entry_is g.C.Costs.model _ _ a.op c.entry-entry.result c.self.view_is c.entry-entry.ensures in
+    let kind = arrives plans costs h a m.run next.possible c.requires.class in
+    let taken : c.arrive-partner.result ≡ receive_for plans (filter is_heard (plain h)) a.op = c.arrive-partner.ensures.taken ∙ (λ i. receive_for (m.heard.same_plans i) (m.heard.events i) a.op) in
+    let told = c.write_met.ensures (entry_told plans costs h) (c.deref_mut.ensures.value ∙ m.told) ∙ arrived plans costs h a m.run next.possible c.entry-entry.result was c.arrive-partner.result c.requires.class kind taken in
+    let heard = arrival_heard plans costs h a c.self.inside.matcher m.heard c.arrive-partner.new.self c.requires.class c.arrive-partner.ensures.heard in
+    let free = free_same plans costs h a c.self.inside.resources m.free (ap holds_cpu c.requires.class) (ap (λ (k : Class). holds_tx k (kind_at plans a.op)) c.requires.class) (ap holds_rx c.requires.class) in
+    performed plans costs c.self.inside.history.items c.self.inside.entries.items c.self.inside.matcher c.self.inside.resources (vec_capacity c.self.inside.history) m a next c.push_reserved.new.self.items c.deref_mut.result.now c.write_met.new.entries c.arrive-partner.new.self c.self.inside.resources (vec_capacity c.push_reserved.new.self) c.self.inside.entries.len c.push_reserved.ensures.items c.push_reserved.ensures.capacity c.self.inside.entries.ok.0 c.deref_mut.ensures.value c.write_met.auto.entries told heard free

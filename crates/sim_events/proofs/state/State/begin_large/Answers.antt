@@ -1,0 +1,69 @@
+use Rattle.std.proofs.Common.{◌≡◌, ◌+◌, ◌∙◌, ◌<◌, ℕ, false, length, reverse, vec_capacity, sym, ap, subst, arith}
+use Rattle.goal_graph.specs.Laws.{IsSend}
+use Rattle.sim_params.specs.Costs.{is_eager}
+use Rattle.sim_params.specs.Times.{holds_cpu, holds_rx}
+use Rattle.sim_match.specs.Heard.{is_heard_class}
+use Rattle.sim_events.specs.Engine.{View}
+use Rattle.sim_events.specs.Mirrors.{entry_told}
+use Rattle.sim_events.proofs.Entries.{request_begun}
+use Rattle.sim_events.proofs.Fits.{cpu_fits, tx_fits, flight_of_request}
+use Rattle.sim_events.proofs.FreeTimes.{free_send}
+use Rattle.sim_events.proofs.Hearing.{not_heard}
+use Rattle.sim_events.proofs.HoldTimes.{cpu_of_request, tx_of_request, sends_at_begin}
+use Rattle.sim_events.proofs.Places.{possible_exists}
+use Rattle.sim_events.proofs.Performed.{next_at, entry_is, each_entry, room_left, performed, is_op}
+use Rattle.sim_events.proofs.state.State.begin_large.Goals as goal
+
+pub entry-entry-requires : goal.entry-entry-requires
+entry-entry-requires g c =
+    possible_exists _ _ _ c.args.action c.requires.next.possible
+
+pub request-arrive-requires : goal.request-arrive-requires
+request-arrive-requires g c =
+    let plans = c.self.inside.sched.now in
+    let costs = g.C.Costs.model c.self.inside.costs in
+    let h = reverse c.self.inside.history.items in
+    let a = c.args.action in
+    let m = c.self.invariant in
+    let next = next_at g.C.Costs.model _ _ a c.self.view_is c.requires.next in
+    let send = subst (λ (v : View _). IsSend v.plans a.op) (sym c.self.view_is) c.requires.send in
+    let large = subst (λ (v : View _). is_eager v.plans (g.C.Costs.model v.costs) a.op ≡ false) (sym c.self.view_is) c.requires.large in
+    record {
+      same_schedule = m.free.same_plans;
+      sends = send;
+      over_fits = omega (arith, cpu_fits plans costs h a m.run next.possible, cpu_of_request plans costs h a.class a.op send c.requires.class large, m.within);
+      gap_fits = omega (arith, tx_fits plans costs h a m.run next.possible, tx_of_request plans costs h a.class a.op send c.requires.class large, m.within);
+      flight_fits = omega (arith, flight_of_request plans costs h a m.run next.possible c.requires.class send large, m.within);
+    }
+
+pub write-requires : goal.write-requires
+write-requires g c =
+    let next = next_at g.C.Costs.model _ _ c.args.action c.self.view_is c.requires.next in
+    record {
+      exists = is_op _ _ _ _ _ _ _ c.self.invariant c.args.action next;
+      each = each_entry _ _ _ _ _ _ _ c.self.invariant _ c.deref_mut.ensures.value;
+    }
+
+pub push_reserved-requires : goal.push_reserved-requires
+push_reserved-requires g c =
+    let next = next_at g.C.Costs.model _ _ c.args.action c.self.view_is c.requires.next in
+    let room : length c.self.inside.history.items < vec_capacity c.self.inside.history = room_left _ _ c.self.inside.history.items _ _ _ _ c.self.invariant c.args.action next in
+    omega (arith, c.self.inside.history.ok.0, room)
+
+pub invariant_of-self : goal.invariant_of-self
+invariant_of-self g c =
+    let plans = c.self.inside.sched.now in
+    let costs = g.C.Costs.model c.self.inside.costs in
+    let h = reverse c.self.inside.history.items in
+    let a = c.args.action in
+    let m = c.self.invariant in
+    let next = next_at g.C.Costs.model _ _ a c.self.view_is c.requires.next in
+    let was = entry_is g.C.Costs.model _ _ a.op c.entry-entry.result c.self.view_is c.entry-entry.ensures in
+    let send = subst (λ (v : View _). IsSend v.plans a.op) (sym c.self.view_is) c.requires.send in
+    let large = subst (λ (v : View _). is_eager v.plans (g.C.Costs.model v.costs) a.op ≡ false) (sym c.self.view_is) c.requires.large in
+    let until = ap (λ (n : ℕ). a.time + n) (sym (cpu_of_request plans costs h a.class a.op send c.requires.class large)) in
+    let sent = ap (λ (n : ℕ). a.time + n) (sym (tx_of_request plans costs h a.class a.op send c.requires.class large)) in
+    let told = c.write.ensures (entry_told plans costs h) (c.deref_mut.ensures.value ∙ m.told) ∙ request_begun plans costs h a m.run next.possible c.entry-entry.result was c.request-arrive.result c.requires.class send large c.request-arrive.ensures.arrive in
+    let heard = not_heard plans costs h a c.self.inside.matcher m.heard (ap is_heard_class c.requires.class) in
+    let free = free_send plans costs h a c.self.inside.resources m.free c.request-arrive.new.res _ (ap holds_cpu c.requires.class) until _ c.request-arrive.ensures.holds (sends_at_begin plans costs h a.class a.op send c.requires.class) sent (ap holds_rx c.requires.class) in
+    performed plans costs c.self.inside.history.items c.self.inside.entries.items c.self.inside.matcher c.self.inside.resources (vec_capacity c.self.inside.history) m a next c.push_reserved.new.self.items c.deref_mut.result.now c.write.new.entries c.self.inside.matcher c.request-arrive.new.res (vec_capacity c.push_reserved.new.self) c.self.inside.entries.len c.push_reserved.ensures.items c.push_reserved.ensures.capacity c.self.inside.entries.ok.0 c.deref_mut.ensures.value c.write.auto.entries told heard free

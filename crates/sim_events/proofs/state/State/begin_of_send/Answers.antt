@@ -1,0 +1,31 @@
+use Rattle.std.proofs.Common.{subst, sym, ap₂, ◌∙◌, max}
+use Rattle.goal_graph.specs.declared.action.Class.TheVariants.{Begin}
+use Rattle.goal_graph.specs.Laws.{IsSend}
+use Rattle.sim_resources.proofs.OfKind.{send_is_op}
+use Rattle.sim_events.proofs.Views.{free_at_view}
+use Rattle.sim_events.proofs.TurnLemmas.{send_begins, begun_turn, unready_turn, ready_turn, send_time}
+use Rattle.sim_events.proofs.state.State.begin_of_send.Goals as goal
+
+pub entry-requires : goal.entry-requires
+entry-requires g c = send_is_op _ c.args.send c.requires
+
+pub returns-then-is_some : goal.returns-then-is_some
+returns-then-is_some g c =
+    begun_turn _ _ _ c.args.send Begin (send_begins _ _ _ c.args.send c.requires) c.entry.result c.entry.ensures (sym c.is_some.ensures ∙ c.if-is_some.true)
+
+pub ready-requires : goal.ready-requires
+ready-requires g c = send_is_op _ c.args.send c.requires
+
+pub returns-in_err-ready : goal.returns-in_err-ready
+returns-in_err-ready g c =
+    c.from_residual.ensures ∙ unready_turn _ _ _ c.args.send Begin (send_begins _ _ _ c.args.send c.requires) c.ready.result c.ready.ensures c.in_err-ready.was
+
+pub begin_at-requires : goal.begin_at-requires
+begin_at-requires g c =
+    let free = free_at_view g.C.Costs.model _ _ _ c.self.view_is c.self.invariant.free in
+    subst (λ plans. IsSend plans c.args.send) (sym free.same_plans) c.requires
+
+pub returns : goal.returns
+returns g c =
+    let free = free_at_view g.C.Costs.model _ _ _ c.self.view_is c.self.invariant.free in
+    ready_turn _ _ _ c.args.send Begin (send_begins _ _ _ c.args.send c.requires) c.entry.result c.entry.ensures (sym c.is_some.ensures ∙ c.if-is_some.false) c.ready.result c.in_ok-ready.ready c.begin_at.result c.ready.ensures c.in_ok-ready.was (λ e. c.begin_at.ensures ∙ ap₂ max (sym e) (ap₂ max (free.cpus c.args.send) (free.senders c.args.send)) ∙ sym (send_time _ _ _ c.args.send c.requires))

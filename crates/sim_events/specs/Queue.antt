@@ -1,0 +1,65 @@
+-- What the queue of an engine holds: for each operation that has a possible action a time that is never too late.
+use Rattle.std.specs.Prelude.{ℕ, ◌≡◌, ◌≤◌, ◌⊎◌, true, false, List, length, Option, Some, None, Contains, slice_get, slice_set}
+use Rattle.goal_graph.specs.declared.action.OpId.{OpId}
+use Rattle.goal_graph.specs.declared.action.Timed.{Timed}
+use Rattle.goal_graph.specs.declared.action.Class.{Class}
+use Rattle.goal_graph.specs.declared.plan.Need.{Need}
+use Rattle.goal_graph.specs.Schedule.{Plan, needed, waiting_on, operations}
+use Rattle.goal_graph.specs.Action.{plain}
+use Rattle.goal_graph.specs.Allowed.{allowed}
+use Rattle.sim_params.specs.Costs.{CostModel, is_eager}
+use Rattle.sim_params.specs.Times.{time, mate, Possible}
+use Rattle.sim_queue.specs.Map.{key_at}
+
+-- y is named in a list of needs of x's rank
+pub record IsNamedIn (needs : List Need) (x y : OpId) : Type 0 where
+  pub need : Need
+  pub listed : Contains needs need
+  pub named : y ≡ needed x need
+
+module _ (plans : List Plan) where
+  -- y needs x
+  abbrev pub Waits : OpId → OpId → Type 0
+  Waits x y = IsNamedIn (waiting_on plans x) x y
+
+  module _ (costs : CostModel) (h : List Timed) where
+    -- no action of x may happen
+    abbrev pub IsIdle : OpId → Type 0
+    IsIdle x = (class : Class) → allowed plans (is_eager plans costs) (plain h) class x ≡ false
+
+    -- the possible action of x, none where it has none
+    abbrev pub IsTurnOf : OpId → Option Timed → Type 0
+    IsTurnOf x None = IsIdle x
+    IsTurnOf x (Some a) = (a.op ≡ x) × Possible plans costs h a
+
+    -- the possible action of x, at a time that is not later than its own
+    pub record IsEarly (x : OpId) (e : Timed) : Type 0 where
+      pub op : e.op ≡ x
+      pub allowed : allowed plans (is_eager plans costs) (plain h) e.class e.op ≡ true
+      pub not_later : e.time ≤ time plans costs h e.class e.op
+
+    -- that, or none where x has no possible action
+    abbrev pub IsBoundOf : OpId → Option Timed → Type 0
+    IsBoundOf x None = IsIdle x
+    IsBoundOf x (Some e) = IsEarly x e
+
+    -- each operation has its bound in its slot, but those that are due
+    pub record IsQueueBut (Due : OpId → Type 0) (keys : List (Option Timed)) : Type 0 where
+      pub each : length keys ≡ length (operations plans)
+      pub bounds : (slot : ℕ) (x : OpId) → slice_get (operations plans) slot ≡ Some x → IsBoundOf x (key_at keys slot) ⊎ Due x
+
+    -- each operation has its bound in its slot
+    abbrev pub IsQueue : List (Option Timed) → Type 0
+    IsQueue keys = IsQueueBut (λ x. ⊥) keys
+
+    -- the slot of x has got a bound of x, and the others are as they were
+    pub record IsRefreshed (x : OpId) (old new : List (Option Timed)) : Type 0 where
+      pub slot : ℕ
+      pub is_slot : slice_get (operations plans) slot ≡ Some x
+      pub key : Option Timed
+      pub bound : IsBoundOf x key
+      pub put : new ≡ slice_set old slot key
+
+    -- an action of x may let one of y happen: y is x, or its partner, or needs it
+    abbrev pub IsConcerned : OpId → OpId → Type 0
+    IsConcerned x y = (y ≡ x) ⊎ ((mate plans costs h x ≡ Some y) ⊎ Waits x y)

@@ -1,0 +1,187 @@
+// The queue of an engine: what it holds, and how it follows what happens.
+ghost use Rattle.std.specs.Prelude.{◌≡◌, ◌<◌, ◌≤◌, ◌+◌, ◌↔◌, ◌⊎◌, IsTrue, IfSome, IfNone, IsNone, Some, length};
+ghost use Rattle.goal_graph.specs.Schedule.{operations};
+ghost use Rattle.goal_graph.specs.Fault.{IsOp};
+ghost use Rattle.sim_params.specs.Times.{Possible, mate};
+ghost use Rattle.sim_params.specs.Run.{IsNext, IsFinished};
+ghost use Rattle.sim_order.specs.Events.{event_before};
+ghost use Rattle.sim_queue.specs.Map.{IsEmptyMap, IsLeast};
+ghost use Rattle.sim_events.specs.Queue.{IsEarly, IsQueue, IsQueueBut, IsRefreshed, IsConcerned, Waits};
+
+use crate::state::State;
+use goal_graph::{OpId, Timed};
+use sim_order::{EventKey, Steps};
+use sim_params::{Costs, op_count};
+use sim_queue::{EventQueue, SlotHeap};
+use std::sync::ledger::{Blank, Ledger};
+
+/// For each operation that has a possible action, the key of that action at a time that is never too late.
+pub type Queue = SlotHeap<EventKey>;
+
+/// Gives each operation its key.
+pub fn fill<C: Costs, L: Ledger>(blank: Blank, state: &State<C>, queue: &mut Queue)
+    requires name { blank.name ≡ L.name }
+    requires parts { blank.parts ≡ L.parts }
+    requires some { 0 < blank.parts }
+    requires each { length queue.old ≡ length (operations state.now.plans) }
+    ensures { IsQueue state.now.plans (C.model state.now.costs) state.now.history queue.new }
+{
+    let mut steps = Steps::<L>::new(blank);
+    state.known();
+    let ranks = state.sched().plans().len() as u32;
+    for rank in 0..ranks {
+        fill_rank(state, queue, rank, &mut steps);
+    }
+}
+
+// Gives each operation of a rank its key.
+fn fill_rank<C: Costs, L: Ledger>(
+    state: &State<C>,
+    queue: &mut Queue,
+    rank: u32,
+    steps: &mut Steps<L>,
+)
+    requires exists { rank < length state.now.plans }
+    requires rest { IsQueueBut state.now.plans (C.model state.now.costs) state.now.history (λ y. rank ≤ y.rank) queue.old }
+    ensures { IsQueueBut state.now.plans (C.model state.now.costs) state.now.history (λ y. rank + 1 ≤ y.rank) queue.new }
+{
+    for op in 0..op_count(state.sched(), rank) {
+        refresh(state, queue, OpId { rank, op }, steps);
+    }
+}
+
+/// The action that happens next, none where nothing is possible. Keys that are too early are raised on the way, each to
+/// the time of its action.
+pub fn next<C: Costs, L: Ledger>(
+    state: &State<C>,
+    queue: &mut Queue,
+    steps: &mut Steps<L>,
+) -> Option<Timed>
+    requires { IsQueue state.now.plans (C.model state.now.costs) state.now.history queue.old }
+    ensures queue { IsQueue state.now.plans (C.model state.now.costs) state.now.history queue.new }
+    ensures next { IfSome result (IsNext state.now.plans (C.model state.now.costs) state.now.history) }
+    ensures none { IfNone result (IsFinished state.now.plans (C.model state.now.costs) state.now.history) }
+{
+    state.known();
+    'looks: while let Some((slot, early)) = least(queue, steps) {
+        let action = action_of(state, early);
+        if action.time == early.time {
+            return Some(action);
+        }
+        queue.put(slot, key_of(action), steps);
+    }
+    None
+}
+
+// The least key of the queue, and its slot.
+fn least<L: Ledger>(queue: &Queue, steps: &mut Steps<L>) -> Option<(u32, Timed)>
+    ensures none { IsNone result ↔ IsEmptyMap queue.now }
+    ensures least { IfSome result (λ r. IsLeast event_before queue.now r.0 r.1) }
+{
+    let (slot, key) = queue.least(steps)?;
+    let event = Timed {
+        time: key.time(),
+        class: key.class(),
+        op: key.id(),
+    };
+    Some((slot, event))
+}
+
+// The possible action of an operation of which the queue has an early key.
+fn action_of<C: Costs>(state: &State<C>, early: Timed) -> Timed
+    requires { IsEarly state.now.plans (C.model state.now.costs) state.now.history early.op early }
+    ensures possible { Possible state.now.plans (C.model state.now.costs) state.now.history result }
+    ensures class { result.class ≡ early.class }
+    ensures op { result.op ≡ early.op }
+{
+    state.known();
+    let Some(action) = state.choice(early.op) else {
+        unreachable!()
+    };
+    action
+}
+
+// The key of an action.
+fn key_of(action: Timed) -> EventKey
+    ensures { result ≡ action }
+{
+    EventKey::new(action.time, action.class, action.op)
+}
+
+/// Gives their keys to those whose next action may be another after an action of this operation: it, its partner, and
+/// the operations that need it.
+pub fn follow<C: Costs, L: Ledger>(
+    state: &State<C>,
+    queue: &mut Queue,
+    id: OpId,
+    steps: &mut Steps<L>,
+)
+    requires exists { IsOp state.now.plans id }
+    requires rest { IsQueueBut state.now.plans (C.model state.now.costs) state.now.history (IsConcerned state.now.plans (C.model state.now.costs) state.now.history id) queue.old }
+    ensures { IsQueue state.now.plans (C.model state.now.costs) state.now.history queue.new }
+{
+    refresh(state, queue, id, steps);
+    follow_partner(state, queue, id, steps);
+    follow_waiting(state, queue, id, steps);
+}
+
+// Gives its key to the partner of an operation, if it has one.
+fn follow_partner<C: Costs, L: Ledger>(
+    state: &State<C>,
+    queue: &mut Queue,
+    id: OpId,
+    steps: &mut Steps<L>,
+)
+    requires exists { IsOp state.now.plans id }
+    requires rest { IsQueueBut state.now.plans (C.model state.now.costs) state.now.history (λ y. (mate state.now.plans (C.model state.now.costs) state.now.history id ≡ Some y) ⊎ Waits state.now.plans id y) queue.old }
+    ensures { IsQueueBut state.now.plans (C.model state.now.costs) state.now.history (Waits state.now.plans id) queue.new }
+{
+    let Some(partner) = state.partner(id) else {
+        return;
+    };
+    refresh(state, queue, partner, steps);
+}
+
+// Gives their keys to the operations that need this one.
+fn follow_waiting<C: Costs, L: Ledger>(
+    state: &State<C>,
+    queue: &mut Queue,
+    id: OpId,
+    steps: &mut Steps<L>,
+)
+    requires exists { IsOp state.now.plans id }
+    requires rest { IsQueueBut state.now.plans (C.model state.now.costs) state.now.history (Waits state.now.plans id) queue.old }
+    ensures { IsQueue state.now.plans (C.model state.now.costs) state.now.history queue.new }
+{
+    for need in state.sched().waiting_on(id) {
+        let waiting = OpId {
+            rank: id.rank,
+            op: need.op,
+        };
+        refresh(state, queue, waiting, steps);
+    }
+}
+
+// Gives an operation its key: that of its possible action, none where it has none.
+fn refresh<C: Costs, L: Ledger>(state: &State<C>, queue: &mut Queue, id: OpId, steps: &mut Steps<L>)
+    requires exists { IsOp state.now.plans id }
+    requires each { length queue.old ≡ length (operations state.now.plans) }
+    ensures { IsRefreshed state.now.plans (C.model state.now.costs) state.now.history id queue.old queue.new }
+{
+    let slot = state.sched().index(id);
+    match state.choice(id) {
+        Some(action) => queue.put(slot, key_of(action), steps),
+        None => queue.drop_slot(slot, steps),
+    }
+}
+
+/// Whether no operation has a key.
+pub fn is_empty<L: Ledger>(blank: Blank, queue: &Queue) -> bool
+    requires name { blank.name ≡ L.name }
+    requires parts { blank.parts ≡ L.parts }
+    requires some { 0 < blank.parts }
+    ensures { IsTrue result ↔ IsEmptyMap queue.now }
+{
+    let mut steps = Steps::<L>::new(blank);
+    queue.least(&mut steps).is_none()
+}

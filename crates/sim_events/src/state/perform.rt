@@ -1,0 +1,210 @@
+// What each action changes.
+ghost use Rattle.std.specs.Prelude.{◌≡◌, ◌∷◌, Some, true, false};
+ghost use Rattle.goal_graph.specs.declared.action.Class.TheVariants.{Arrive, Serve, Data, Post, Begin};
+ghost use Rattle.goal_graph.specs.declared.plan.Kind.TheVariants.{Calc};
+ghost use Rattle.goal_graph.specs.Schedule.{kind_at};
+ghost use Rattle.goal_graph.specs.Laws.{IsSend};
+ghost use Rattle.sim_params.specs.Costs.{is_eager};
+ghost use Rattle.sim_params.specs.Run.{IsNext};
+
+use super::State;
+use crate::entry::{Entry, write, write_met};
+use goal_graph::{Class, Kind, Timed};
+use sim_eager::{eager_begin, serve};
+use sim_params::Costs;
+use sim_rendezvous::{data, request};
+
+impl<'a, C: Costs> State<'a, C> {
+    /// Lets the next action happen.
+    pub fn perform(&mut self, action: Timed)
+        requires { IsNext self.old.plans (C.model self.old.costs) self.old.history action }
+        ensures { self.new ≡ record self.old { history = action ∷ self.old.history } }
+    {
+        match action.class {
+            Class::Begin => self.begin(action),
+            Class::Post => self.post(action),
+            Class::Arrive => self.arrive(action),
+            Class::Data => self.hand_over(action),
+            Class::Serve => self.serve(action),
+        }
+    }
+
+    // A calc or a send begins.
+    fn begin(&mut self, action: Timed)
+        requires next { IsNext self.old.plans (C.model self.old.costs) self.old.history action }
+        requires class { action.class ≡ Begin }
+        ensures { self.new ≡ record self.old { history = action ∷ self.old.history } }
+    {
+        match self.sched().op(action.op).kind {
+            Kind::Calc { nanos } => self.begin_calc(action, nanos),
+            Kind::Send { .. } => {
+                if self.is_eager(action.op) {
+                    self.begin_eager(action);
+                } else {
+                    self.begin_large(action);
+                }
+            }
+            Kind::Recv { .. } => unreachable!(),
+        }
+    }
+
+    // A calc begins.
+    fn begin_calc(&mut self, action: Timed, nanos: u64)
+        requires next { IsNext self.old.plans (C.model self.old.costs) self.old.history action }
+        requires class { action.class ≡ Begin }
+        requires calc { kind_at self.old.plans action.op ≡ Some (Calc nanos) }
+        ensures { self.new ≡ record self.old { history = action ∷ self.old.history } }
+    {
+        let sched = self.sched;
+        let entry = self.entry(action.op);
+        let end = action.time + nanos;
+        self.resources.hold_cpu(action.op, end);
+        let begun = Entry {
+            start: Some(action.time),
+            end: Some(end),
+            ..entry
+        };
+        write(sched, &mut self.entries, action.op, begun);
+        self.history.push_reserved(action);
+    }
+
+    // An eager send begins.
+    fn begin_eager(&mut self, action: Timed)
+        requires next { IsNext self.old.plans (C.model self.old.costs) self.old.history action }
+        requires class { action.class ≡ Begin }
+        requires send { IsSend self.old.plans action.op }
+        requires eager { is_eager self.old.plans (C.model self.old.costs) action.op ≡ true }
+        ensures { self.new ≡ record self.old { history = action ∷ self.old.history } }
+    {
+        let sched = self.sched;
+        let entry = self.entry(action.op);
+        let begun = eager_begin(
+            sched,
+            &self.costs,
+            &mut self.resources,
+            action.op,
+            action.time,
+        );
+        let entry = Entry {
+            start: Some(action.time),
+            end: Some(begun.end),
+            arriving: Some(begun.arrive),
+            ..entry
+        };
+        write(sched, &mut self.entries, action.op, entry);
+        self.history.push_reserved(action);
+    }
+
+    // A large send begins: its request goes out.
+    fn begin_large(&mut self, action: Timed)
+        requires next { IsNext self.old.plans (C.model self.old.costs) self.old.history action }
+        requires class { action.class ≡ Begin }
+        requires send { IsSend self.old.plans action.op }
+        requires large { is_eager self.old.plans (C.model self.old.costs) action.op ≡ false }
+        ensures { self.new ≡ record self.old { history = action ∷ self.old.history } }
+    {
+        let sched = self.sched;
+        let entry = self.entry(action.op);
+        let arrive = request(
+            sched,
+            &self.costs,
+            &mut self.resources,
+            action.op,
+            action.time,
+        );
+        let entry = Entry {
+            start: Some(action.time),
+            arriving: Some(arrive),
+            ..entry
+        };
+        write(sched, &mut self.entries, action.op, entry);
+        self.history.push_reserved(action);
+    }
+
+    // A receive is posted, and takes the first message that it fits.
+    fn post(&mut self, action: Timed)
+        requires next { IsNext self.old.plans (C.model self.old.costs) self.old.history action }
+        requires class { action.class ≡ Post }
+        ensures { self.new ≡ record self.old { history = action ∷ self.old.history } }
+    {
+        let sched = self.sched;
+        let entry = self.entry(action.op);
+        let posted = Entry {
+            start: Some(action.time),
+            ..entry
+        };
+        let partner = self.matcher.post(action.op);
+        let entries = &mut self.entries;
+        write_met(sched, entries, action.op, posted, partner, action.time);
+        self.history.push_reserved(action);
+    }
+
+    // A message or a request arrives, and is taken by the first receive that fits it.
+    fn arrive(&mut self, action: Timed)
+        requires next { IsNext self.old.plans (C.model self.old.costs) self.old.history action }
+        requires class { action.class ≡ Arrive }
+        ensures { self.new ≡ record self.old { history = action ∷ self.old.history } }
+    {
+        let sched = self.sched;
+        let entry = self.entry(action.op);
+        let arrived = Entry {
+            arriving: None,
+            ..entry
+        };
+        let partner = self.matcher.arrive(action.op);
+        let entries = &mut self.entries;
+        write_met(sched, entries, action.op, arrived, partner, action.time);
+        self.history.push_reserved(action);
+    }
+
+    // A large send hands over its bytes.
+    fn hand_over(&mut self, action: Timed)
+        requires next { IsNext self.old.plans (C.model self.old.costs) self.old.history action }
+        requires class { action.class ≡ Data }
+        ensures { self.new ≡ record self.old { history = action ∷ self.old.history } }
+    {
+        let sched = self.sched;
+        let entry = self.entry(action.op);
+        let sent = data(
+            sched,
+            &self.costs,
+            &mut self.resources,
+            action.op,
+            action.time,
+        );
+        let entry = Entry {
+            end: Some(sent.end),
+            there: Some(sent.available),
+            ..entry
+        };
+        write(sched, &mut self.entries, action.op, entry);
+        self.history.push_reserved(action);
+    }
+
+    // A receive takes the message of its partner.
+    fn serve(&mut self, action: Timed)
+        requires next { IsNext self.old.plans (C.model self.old.costs) self.old.history action }
+        requires class { action.class ≡ Serve }
+        ensures { self.new ≡ record self.old { history = action ∷ self.old.history } }
+    {
+        let sched = self.sched;
+        let entry = self.entry(action.op);
+        let Some(pairing) = entry.paired else {
+            unreachable!()
+        };
+        let end = serve(
+            sched,
+            &self.costs,
+            &mut self.resources,
+            action.op,
+            pairing.with,
+            action.time,
+        );
+        let entry = Entry {
+            end: Some(end),
+            ..entry
+        };
+        write(sched, &mut self.entries, action.op, entry);
+        self.history.push_reserved(action);
+    }
+}

@@ -1,0 +1,261 @@
+-- Patterns and their numbers.
+use Rattle.std.proofs.Common.{ℕ, zero, suc, ◌<◌, ◌≤◌, ◌+◌, ◌≡◌, ◌==◌, ◌&&◌, ◌||◌, Bool, true, false, List, [], ◌∷◌, ◌++◌, length, get_or, map, Option, Some, None, inl, inr, slice_get, take, position, refl, arith, sym, ap, ap₂, ◌∙◌, subst, eq-eqb, append-nil, if◌then◌else◌, Contains}
+use Rattle.std.specs.List.{list_any, position_or_len}
+use Rattle.std.proofs.lemmas.Bool.{cond-true, both_ways, and_parts, and_from, eqb-true, ne_eqb, lt-ltb, cases_lt, false_from_ne_true}
+use Rattle.std.proofs.lemmas.Option.{none-some, same_Some, get_or_from_slice_get, slice_get_within, slice_get_read}
+use Rattle.std.proofs.lemmas.List.{get_or_append_left, length-append}
+use Rattle.std.proofs.lemmas.List.Quantifiers.{position-Some}
+use Rattle.std.proofs.lemmas.List.Sums.{position_or_len_is, fails_before_first}
+use Rattle.goal_graph.specs.declared.action.OpId.{OpId}
+use Rattle.goal_graph.specs.declared.plan.Kind.{Kind}
+use Rattle.goal_graph.specs.declared.plan.Kind.TheVariants.{Calc, Send, Recv}
+use Rattle.goal_graph.specs.Schedule.{Plan, kind_at, operations}
+use Rattle.goal_graph.specs.Matching.{accepts, fits, fits_kinds}
+use Rattle.goal_graph.specs.Laws.{IsSend, IsReceive}
+use Rattle.goal_graph.proofs.Exists.{kind_listed}
+use Rattle.sim_match.specs.declared.pattern.Pattern.{Pattern}
+use Rattle.sim_match.specs.Patterns.{same_choice, same_pattern, pattern_of, patterns_for, same_number, number, number_of, numbers_for, list_of, lists_for, for_list, IsListed, AreListed}
+use Rattle.sim_match.specs.Rooms.{AreOnce, AreWithin}
+
+same_choice_true : (a b : Option ℕ) → same_choice a b ≡ true → a ≡ b
+same_choice_true None None e = refl
+same_choice_true None (Some n) e = absurd (both_ways false refl e)
+same_choice_true (Some k) None e = absurd (both_ways false refl e)
+same_choice_true (Some k) (Some n) e = ap (λ (i : ℕ). Some i) (eqb-true k n e)
+
+same_choice_itself : (a : Option ℕ) → same_choice a a ≡ true
+same_choice_itself None = refl
+same_choice_itself (Some k) = eq-eqb k k refl
+
+pub same_pattern_true : (p q : Pattern) → same_pattern p q ≡ true → p ≡ q
+same_pattern_true p q e =
+    let outer = and_parts (p.rank == q.rank) (same_choice p.from q.from && same_choice p.tag q.tag) e in
+    let inner = and_parts (same_choice p.from q.from) (same_choice p.tag q.tag) outer.1 in
+    let rank = eqb-true p.rank q.rank outer.0 in
+    let from = same_choice_true p.from q.from inner.0 in
+    let tag = same_choice_true p.tag q.tag inner.1 in
+    λ i. record { rank = rank i; from = from i; tag = tag i }
+
+pub same_pattern_itself : (p : Pattern) → same_pattern p p ≡ true
+same_pattern_itself p =
+    and_from _ _ (eq-eqb p.rank p.rank refl) (and_from _ _ (same_choice_itself p.from) (same_choice_itself p.tag))
+
+-- the first place that passes
+position_at : {X : Type 0} (p : X → Bool) (xs : List X) (i : ℕ) (d : X) → i < length xs → p (get_or xs i d) ≡ true → ((k : ℕ) → k < i → p (get_or xs k d) ≡ false) → position p xs ≡ Some i
+position_at p xs i d inside passes before =
+    let at = position_or_len_is p xs i d (omega arith) before (λ l. passes) in
+    cond-true _ (Some (position_or_len p xs)) None (lt-ltb (position_or_len p xs) (length xs) (omega (arith, at))) ∙ ap (λ (n : ℕ). Some n) at
+
+position_none : {X : Type 0} (p : X → Bool) (xs : List X) → position p xs ≡ None → length xs ≤ position_or_len p xs
+position_none p xs e =
+    elim (cases_lt (position_or_len p xs) (length xs)) [ inl l ↦ absurd (none-some (position_or_len p xs) (sym e ∙ cond-true _ (Some (position_or_len p xs)) None (lt-ltb _ _ l))) | inr l ↦ l ]
+
+-- a pattern keeps its number where more come after it
+pub number_kept : (keys more : List Pattern) (p : Pattern) (i : ℕ) → number keys p ≡ Some i → number (keys ++ more) p ≡ Some i
+number_kept keys more p i e =
+    let at = position-Some (same_pattern p) keys i p e in
+    let longer = length-append keys more in
+    position_at (same_pattern p) (keys ++ more) i p (omega (arith, at.0, longer)) (ap (same_pattern p) (get_or_append_left keys more p i at.0) ∙ at.1) (λ k b. ap (same_pattern p) (get_or_append_left keys more p k (omega (arith, b, at.0))) ∙ at.2 k b)
+
+pub number_within : (keys : List Pattern) (p : Pattern) (i : ℕ) → number keys p ≡ Some i → i < length keys
+number_within keys p i e = (position-Some (same_pattern p) keys i p e).0
+
+-- a pattern that is there has a number
+pub number_there : (keys : List Pattern) (p : Pattern) (k : ℕ) (q : Pattern) → slice_get keys k ≡ Some q → same_pattern p q ≡ true → (i : ℕ) × (number keys p ≡ Some i)
+number_there keys p k q there same = go (position (same_pattern p) keys) refl
+  where
+    go : (o : Option ℕ) → position (same_pattern p) keys ≡ o → (i : ℕ) × (number keys p ≡ Some i)
+    go (Some i) e = (i, e)
+    go None e =
+        let far = position_none (same_pattern p) keys e in
+        let inside = slice_get_within keys k q there in
+        let fails = fails_before_first (same_pattern p) keys k q (omega (arith, far, inside)) in
+        absurd (both_ways (same_pattern p q) (ap (same_pattern p) (sym (get_or_from_slice_get keys k q q there)) ∙ fails) same)
+
+module _ (keys : List Pattern) (p : Pattern) (i : ℕ) (its : number keys p ≡ Some i) where
+  number_alike : (q : Pattern) → same_number (Some i) (number keys q) ≡ same_pattern p q
+  number_alike q = go (same_pattern p q) refl (number keys q) refl
+    where
+      go : (b : Bool) → same_pattern p q ≡ b → (o : Option ℕ) → number keys q ≡ o → same_number (Some i) o ≡ b
+      go true e o f =
+          ap (same_number (Some i)) (sym f ∙ ap (number keys) (sym (same_pattern_true p q e)) ∙ its) ∙ eq-eqb i i refl
+      go false e None f = refl
+      go false e (Some j) f = ne_eqb i j (λ same. both_ways (same_pattern p q) e (subst (λ (r : Pattern). same_pattern p r ≡ true) (first same ∙ sym second) (same_pattern_itself p)))
+        where
+          mine : Pattern
+          mine = get_or keys j p
+
+          second : q ≡ get_or keys j q
+          second = same_pattern_true q (get_or keys j q) (position-Some (same_pattern q) keys j q f).1
+
+          first : i ≡ j → p ≡ get_or keys j q
+          first same = same_pattern_true p (get_or keys j q) (position-Some (same_pattern p) keys j q (its ∙ ap (λ (n : ℕ). Some n) same)).1
+
+  -- it is among the numbers of patterns where it is among them
+  pub any_number : (qs : List Pattern) → list_any (same_number (Some i)) (map (number keys) qs) ≡ list_any (same_pattern p) qs
+  any_number [] = refl
+  any_number (q ∷ qs) = ap₂ (λ (s t : Bool). s || t) (number_alike q) (any_number qs)
+
+-- a pattern fits a message exactly where it is one of the message's four
+flip : (m n : ℕ) → (m == n) ≡ (n == m)
+flip m n = go (n == m) refl
+  where
+    go : (b : Bool) → (n == m) ≡ b → (m == n) ≡ b
+    go true e = eq-eqb m n (sym (eqb-true n m e))
+    go false e = false_from_ne_true (m == n) (λ t. both_ways (n == m) e (eq-eqb n m (sym (eqb-true m n t))))
+
+four : (rank : ℕ) (from tag : Option ℕ) (source to with_tag : ℕ) → ((to == rank) && accepts from source && accepts tag with_tag) ≡ list_any (same_pattern (record { rank = rank; from = from; tag = tag })) (patterns_for source to with_tag)
+four rank from tag source to with_tag = ap (λ (s : Bool). s && accepts from source && accepts tag with_tag) (flip to rank) ∙ go (rank == to) from tag
+  where
+    none_none : (s : Bool) → (s && true && true) ≡ ((s && (false && false)) || ((s && (false && true)) || ((s && (true && false)) || ((s && (true && true)) || false))))
+    none_none true = refl
+    none_none false = refl
+
+    none_some : (s t : Bool) → (s && true && t) ≡ ((s && (false && t)) || ((s && (false && false)) || ((s && (true && t)) || ((s && (true && false)) || false))))
+    none_some true true = refl
+    none_some true false = refl
+    none_some false t = refl
+
+    some_none : (s t : Bool) → (s && t && true) ≡ ((s && (t && false)) || ((s && (t && true)) || ((s && (false && false)) || ((s && (false && true)) || false))))
+    some_none true true = refl
+    some_none true false = refl
+    some_none false t = refl
+
+    some_some : (s t u : Bool) → (s && t && u) ≡ ((s && (t && u)) || ((s && (t && false)) || ((s && (false && u)) || ((s && (false && false)) || false))))
+    some_some true true true = refl
+    some_some true true false = refl
+    some_some true false u = refl
+    some_some false t u = refl
+
+    go : (s : Bool) (from tag : Option ℕ) → (s && accepts from source && accepts tag with_tag) ≡ ((s && (same_choice from (Some source) && same_choice tag (Some with_tag))) || ((s && (same_choice from (Some source) && same_choice tag None)) || ((s && (same_choice from None && same_choice tag (Some with_tag))) || ((s && (same_choice from None && same_choice tag None)) || false))))
+    go s None None = none_none s
+    go s None (Some t) = none_some s (t == with_tag)
+    go s (Some f) None = some_none s (f == source)
+    go s (Some f) (Some t) = some_some s (f == source) (t == with_tag)
+
+-- a receive of a list fits exactly the sends for it
+pub fits_list : (plans : List Plan) (keys : List Pattern) (x m : OpId) (i : ℕ) → IsReceive plans x → list_of plans keys x ≡ Some i → fits plans x m ≡ for_list plans keys i m
+unfolding fits for_list
+fits_list plans keys x m i r e =
+    ap (λ (k : Option Kind). fits_kinds x k m (kind_at plans m)) r.kind ∙ at (kind_at plans m)
+  where
+    its : number keys (record { rank = x.rank; from = r.from; tag = r.tag }) ≡ Some i
+    its = sym (ap (λ (k : Option Kind). number_of keys (pattern_of x k)) r.kind) ∙ e
+
+    at : (k : Option Kind) → fits_kinds x (Some (Recv r.room r.from r.tag)) m k ≡ list_any (same_number (Some i)) (numbers_for keys m k)
+    at (Some (Send bytes to tag)) =
+        four x.rank r.from r.tag m.rank to tag ∙ sym (any_number keys (record { rank = x.rank; from = r.from; tag = r.tag }) i its (patterns_for m.rank to tag))
+    at (Some (Calc nanos)) = refl
+    at (Some (Recv room from tag)) = refl
+    at None = refl
+
+pub fits_any : (plans : List Plan) (keys : List Pattern) (x m : OpId) → IsReceive plans x → (its : IsListed plans keys x) → list_any (same_number (list_of plans keys x)) (lists_for plans keys m) ≡ fits plans x m
+unfolding for_list
+fits_any plans keys x m r its =
+    ap (λ (o : Option ℕ). list_any (same_number o) (lists_for plans keys m)) its.is ∙ sym (fits_list plans keys x m its.list r its.is)
+
+-- the numbers of a message's lists: none twice, and each that of a list
+pub four_once : (keys : List Pattern) (source to tag : ℕ) → AreOnce (map (number keys) (patterns_for source to tag))
+four_once keys source to tag k i e = go k e
+  where
+    go : (k : ℕ) → slice_get (map (number keys) (patterns_for source to tag)) k ≡ Some (Some i) → list_any (same_number (Some i)) (take k (map (number keys) (patterns_for source to tag))) ≡ false
+    go zero e = refl
+    go (suc zero) e = any_number keys (record { rank = to; from = Some source; tag = None }) i (same_Some (number keys (record { rank = to; from = Some source; tag = None })) (Some i) e) (take 1 (patterns_for source to tag)) ∙ second (to == to) (source == source)
+      where
+        second : (s t : Bool) → ((s && (t && false)) || false) ≡ false
+        second true true = refl
+        second true false = refl
+        second false t = refl
+    go (suc (suc zero)) e = any_number keys (record { rank = to; from = None; tag = Some tag }) i (same_Some (number keys (record { rank = to; from = None; tag = Some tag })) (Some i) e) (take 2 (patterns_for source to tag)) ∙ third (to == to) (tag == tag)
+      where
+        third : (s t : Bool) → ((s && (false && t)) || ((s && (false && false)) || false)) ≡ false
+        third true t = refl
+        third false t = refl
+    go (suc (suc (suc zero))) e = any_number keys (record { rank = to; from = None; tag = None }) i (same_Some (number keys (record { rank = to; from = None; tag = None })) (Some i) e) (take 3 (patterns_for source to tag)) ∙ fourth (to == to)
+      where
+        fourth : (s : Bool) → ((s && (false && false)) || ((s && (false && true)) || ((s && (true && false)) || false))) ≡ false
+        fourth true = refl
+        fourth false = refl
+    go (suc (suc (suc (suc k)))) e = absurd (none-some (Some i) e)
+
+pub four_within : (keys : List Pattern) (source to tag : ℕ) → AreWithin (map (number keys) (patterns_for source to tag)) (length keys)
+four_within keys source to tag k i e = go k e
+  where
+    go : (k : ℕ) → slice_get (map (number keys) (patterns_for source to tag)) k ≡ Some (Some i) → i < length keys
+    go zero e = number_within keys (record { rank = to; from = Some source; tag = Some tag }) i (same_Some (number keys (record { rank = to; from = Some source; tag = Some tag })) (Some i) e)
+    go (suc zero) e = number_within keys (record { rank = to; from = Some source; tag = None }) i (same_Some (number keys (record { rank = to; from = Some source; tag = None })) (Some i) e)
+    go (suc (suc zero)) e = number_within keys (record { rank = to; from = None; tag = Some tag }) i (same_Some (number keys (record { rank = to; from = None; tag = Some tag })) (Some i) e)
+    go (suc (suc (suc zero))) e = number_within keys (record { rank = to; from = None; tag = None }) i (same_Some (number keys (record { rank = to; from = None; tag = None })) (Some i) e)
+    go (suc (suc (suc (suc k)))) e = absurd (none-some (Some i) e)
+
+-- the same of a send
+pub send_lists : (plans : List Plan) (keys : List Pattern) (m : OpId) (s : IsSend plans m) → lists_for plans keys m ≡ map (number keys) (patterns_for m.rank s.to s.tag)
+send_lists plans keys m s = ap (numbers_for keys m) s.kind
+
+pub lists_once : (plans : List Plan) (keys : List Pattern) (m : OpId) → IsSend plans m → AreOnce (lists_for plans keys m)
+lists_once plans keys m s = subst AreOnce (sym (send_lists plans keys m s)) (four_once keys m.rank s.to s.tag)
+
+pub lists_within : (plans : List Plan) (keys : List Pattern) (m : OpId) → IsSend plans m → AreWithin (lists_for plans keys m) (length keys)
+lists_within plans keys m s = subst (λ (ns : List (Option ℕ)). AreWithin ns (length keys)) (sym (send_lists plans keys m s)) (four_within keys m.rank s.to s.tag)
+
+-- each receive among the first n operations has a list
+abbrev pub AreListedTo : List Plan → List OpId → ℕ → List Pattern → Type 0
+AreListedTo plans ops n keys = (k : ℕ) (x : OpId) → k < n → slice_get ops k ≡ Some x → IsReceive plans x → IsListed plans keys x
+
+pub listed_none : (plans : List Plan) (ops : List OpId) (keys : List Pattern) → AreListedTo plans ops 0 keys
+listed_none plans ops keys k x below at r = absurd (omega arith)
+
+module _ (plans : List Plan) (ops : List OpId) (n : ℕ) (keys : List Pattern) (before : AreListedTo plans ops n keys) (x : OpId) (at : slice_get ops n ≡ Some x) where
+  -- an operation that is no receive
+  pub listed_same : (IsReceive plans x → ⊥) → AreListedTo plans ops (n + 1) keys
+  listed_same none k y below read r =
+      elim (cases_lt k n) [
+        | inl less ↦ before k y less read r
+        | inr no_less ↦
+            let same : n ≡ k = omega arith in
+            absurd (none (subst (IsReceive plans) (same_Some y x (sym read ∙ ap (slice_get ops) (sym same) ∙ at)) r))
+      ]
+
+  -- a receive, whose pattern goes last where it is new
+  listed_kept : (more : List Pattern) (y : OpId) → IsListed plans keys y → IsListed plans (keys ++ more) y
+  listed_kept more y its = record {
+    list = its.list;
+    is = go (pattern_of y (kind_at plans y)) its.is;
+    within = let longer = length-append keys more in omega (arith, its.within, longer);
+  }
+    where
+      go : (o : Option Pattern) → number_of keys o ≡ Some its.list → number_of (keys ++ more) o ≡ Some its.list
+      go None e = absurd (none-some its.list e)
+      go (Some p) e = number_kept keys more p its.list e
+
+  listed_by : (more : List Pattern) → IsListed plans (keys ++ more) x → AreListedTo plans ops (n + 1) (keys ++ more)
+  listed_by more its k y below read r =
+      elim (cases_lt k n) [
+        | inl less ↦ listed_kept more y (before k y less read r)
+        | inr no_less ↦
+            let same : n ≡ k = omega arith in
+            subst (IsListed plans (keys ++ more)) (same_Some x y (sym at ∙ ap (slice_get ops) same ∙ read)) its
+      ]
+
+  pub listed_more : (p q : Pattern) (j : ℕ) (after : List Pattern) → pattern_of x (kind_at plans x) ≡ Some p → after ≡ (if list_any (same_pattern p) keys then keys else keys ++ p ∷ []) → slice_get after j ≡ Some q → same_pattern p q ≡ true → AreListedTo plans ops (n + 1) after
+  listed_more p q j after its grown there same = go (list_any (same_pattern p) keys) grown
+    where
+      has : IsListed plans after x
+      has =
+          let place = number_there after p j q there same in
+          record { list = place.0; is = ap (number_of after) its ∙ place.1; within = number_within after p place.0 place.1 }
+
+      by : (more : List Pattern) → after ≡ keys ++ more → AreListedTo plans ops (n + 1) after
+      by more e = subst (AreListedTo plans ops (n + 1)) (sym e) (listed_by more (subst (λ (ks : List Pattern). IsListed plans ks x) e has))
+
+      go : (b : Bool) → after ≡ (if b then keys else keys ++ p ∷ []) → AreListedTo plans ops (n + 1) after
+      go true e = by [] (e ∙ sym (append-nil keys))
+      go false e = by (p ∷ []) e
+
+pub listed_all : (plans : List Plan) (n : ℕ) (keys : List Pattern) → AreListedTo plans (operations plans) n keys → length (operations plans) ≤ n → AreListed plans keys
+listed_all plans n keys to all x r =
+    let place = at_place (operations plans) x (kind_listed plans x _ r.kind) in
+    to place.0 x (omega (arith, all, slice_get_within (operations plans) place.0 x place.1)) place.1 r
+  where
+    at_place : (xs : List OpId) (x : OpId) → Contains xs x → (k : ℕ) × (slice_get xs k ≡ Some x)
+    at_place xs x c = (c.0, slice_get_read xs (length xs) c.0 x refl c.1 (sym c.2))

@@ -1,0 +1,82 @@
+-- The patterns of receives, and the lists in which an operation stands.
+use Rattle.std.specs.Prelude.{ℕ, ◌≡◌, ◌<◌, ◌==◌, ◌&&◌, Bool, true, false, List, [], ◌∷◌, length, map, Option, Some, None, position}
+use Rattle.std.specs.List.{list_any}
+use Rattle.goal_graph.specs.declared.action.OpId.{OpId}
+use Rattle.goal_graph.specs.declared.plan.Kind.{Kind}
+use Rattle.goal_graph.specs.declared.plan.Kind.TheVariants.{Calc, Send, Recv}
+use Rattle.goal_graph.specs.Schedule.{Plan, kind_at}
+use Rattle.goal_graph.specs.Laws.{IsReceive}
+use Rattle.sim_match.specs.declared.pattern.Pattern.{Pattern}
+
+-- the same number, or any both times
+abbrev pub same_choice : Option ℕ → Option ℕ → Bool
+same_choice None None = true
+same_choice None (Some n) = false
+same_choice (Some k) None = false
+same_choice (Some k) (Some n) = k == n
+
+abbrev pub same_pattern : Pattern → Pattern → Bool
+same_pattern p q = (p.rank == q.rank) && (same_choice p.from q.from && same_choice p.tag q.tag)
+
+-- the pattern of a receive
+abbrev pub pattern_of : OpId → Option Kind → Option Pattern
+pattern_of x (Some (Calc nanos)) = None
+pattern_of x (Some (Send bytes to tag)) = None
+pattern_of x (Some (Recv room from tag)) = Some (record { rank = x.rank; from = from; tag = tag })
+pattern_of x None = None
+
+-- the patterns of the receives that a message fits
+abbrev pub patterns_for : ℕ → ℕ → ℕ → List Pattern
+patterns_for source to tag =
+    record { rank = to; from = Some source; tag = Some tag }
+    ∷ record { rank = to; from = Some source; tag = None }
+    ∷ record { rank = to; from = None; tag = Some tag }
+    ∷ record { rank = to; from = None; tag = None }
+    ∷ []
+
+-- two numbers, and the same
+abbrev pub same_number : Option ℕ → Option ℕ → Bool
+same_number None j = false
+same_number (Some i) None = false
+same_number (Some i) (Some j) = i == j
+
+-- the place of a pattern among the patterns of the schedule
+abbrev pub number : List Pattern → Pattern → Option ℕ
+number keys p = position (same_pattern p) keys
+
+abbrev pub number_of : List Pattern → Option Pattern → Option ℕ
+number_of keys None = None
+number_of keys (Some p) = number keys p
+
+abbrev pub numbers_for : List Pattern → OpId → Option Kind → List (Option ℕ)
+numbers_for keys m (Some (Calc nanos)) = []
+numbers_for keys m (Some (Send bytes to tag)) = map (number keys) (patterns_for m.rank to tag)
+numbers_for keys m (Some (Recv room from tag)) = []
+numbers_for keys m None = []
+
+module _ (plans : List Plan) (keys : List Pattern) where
+  -- the list of a receive, by its pattern
+  abbrev pub list_of : OpId → Option ℕ
+  list_of x = number_of keys (pattern_of x (kind_at plans x))
+
+  -- the lists of a send, where the schedule has the patterns that it takes
+  abbrev pub lists_for : OpId → List (Option ℕ)
+  lists_for m = numbers_for keys m (kind_at plans m)
+
+  -- x is a receive of that list
+  unfoldable pub in_list : ℕ → OpId → Bool
+  in_list i x = same_number (list_of x) (Some i)
+
+  -- m is a send for that list
+  unfoldable pub for_list : ℕ → OpId → Bool
+  for_list i m = list_any (same_number (Some i)) (lists_for m)
+
+  -- the receive x has a list
+  pub record IsListed (x : OpId) : Type 0 where
+    pub list : ℕ
+    pub is : list_of x ≡ Some list
+    pub within : list < length keys
+
+  -- each receive of the schedule has a list
+  abbrev pub AreListed : Type 0
+  AreListed = (x : OpId) → IsReceive plans x → IsListed x
