@@ -3,6 +3,7 @@
 
 mod real;
 
+use goal_base::write_all;
 use goal_cli::{Status, goal};
 use real::{RealHost, RealSink};
 use std::io::ErrorKind;
@@ -11,6 +12,9 @@ use std::{env, io};
 
 // The status of a program whose words the system does not hand over.
 const NO_WORDS: u8 = 8;
+
+// The line for words that the system does not hand over: one of them is no text.
+const NO_TEXT: &[u8] = b"goal: a word of the command line is not UTF-8\n";
 
 // The words after the program's name.
 fn command_words(rt: &HostRuntime) -> io::Result<Vec<String>> {
@@ -23,7 +27,11 @@ fn main(rt: HostRuntime) -> ExitCode {
         Err(error) => {
             return match error.kind() {
                 ErrorKind::OutOfMemory => ExitCode::from(Status::NoMemory as u8),
-                _ => ExitCode::from(NO_WORDS),
+                _ => {
+                    // The exit status is the same whether or not the line can be written.
+                    let _written = write_all(&mut RealSink::new(rt.stderr()), NO_TEXT);
+                    ExitCode::from(NO_WORDS)
+                }
             };
         }
     };

@@ -1,8 +1,9 @@
 // The real outside: files and streams of the system. They tell nothing of what they hold.
-ghost use Rattle.std.specs.Prelude.{◌≡◌, ◌≤◌, true, is_some};
+ghost use Rattle.std.specs.Prelude.{◌≡◌, ◌≤◌, ◌<◌, true, is_some, length, IfOk, OnOk, IsErrOf};
 ghost use Rattle.goal_base.specs.Device.{Rose};
 
 use goal_base::{Host, IoFault, OpenFault, Sink};
+use std::fs::OpenFile;
 use std::io::{ErrorKind, Read, Write};
 use std::rt::Files;
 use std::{fs, io};
@@ -47,6 +48,60 @@ fn fault_of(count: &mut u64, error: io::Error) -> IoFault
     }
 }
 
+// Reads into a buffer, again where a signal interrupts it.
+fn read_again<T: Read>(input: &mut T, buf: &mut [u8]) -> io::Result<usize>
+    ensures { IfOk result (λ n. n ≤ length buf.new) }
+{
+    for _ in 0..u64::MAX {
+        match input.read(buf) {
+            Ok(moved) => return Ok(moved),
+            Err(error) => match error.kind() {
+                ErrorKind::Interrupted => {}
+                _ => return Err(error),
+            },
+        }
+    }
+    Err(io::Error::from(ErrorKind::Interrupted))
+}
+
+// Writes the front of a piece, again where a signal interrupts it. To write nothing of a piece that is not empty is an
+// error.
+fn write_again<T: Write>(output: &mut T, piece: &[u8]) -> io::Result<usize>
+    ensures bound { IfOk result (λ n. n ≤ length piece.now) }
+    ensures moves { IfOk result (λ n. 0 < length piece.now → 0 < n) }
+{
+    for _ in 0..u64::MAX {
+        match output.write(piece) {
+            Ok(0) if !piece.is_empty() => return Err(io::Error::from(ErrorKind::WriteZero)),
+            Ok(moved) => return Ok(moved),
+            Err(error) => match error.kind() {
+                ErrorKind::Interrupted => {}
+                _ => return Err(error),
+            },
+        }
+    }
+    Err(io::Error::from(ErrorKind::Interrupted))
+}
+
+// Asks the system to keep what was written. A file that it keeps nowhere, as a terminal, says so and is no fault.
+fn close<F: Write + OpenFile>(output: &mut F, count: &mut u64) -> Result<(), IoFault>
+    ensures failed { IsErrOf result IoFault.Failed → Rose true count.old count.new }
+    ensures memory { IsErrOf result IoFault.NoMemory → count.new ≡ count.old }
+    ensures ok { OnOk result (count.new ≡ count.old) }
+    ensures later { count.old ≤ count.new }
+{
+    if let Err(error) = output.flush() {
+        return Err(fault_of(count, error));
+    }
+    match output.sync_data() {
+        Ok(()) => Ok(()),
+        Err(error) => match error.kind() {
+            ErrorKind::InvalidInput | ErrorKind::Unsupported => Ok(()),
+            _ => Err(fault_of(count, error)),
+        },
+    }
+}
+
 impl<R: Files + Drop> Host for RealHost<R> {
     ghost use Rattle.std.specs.Prelude.{is_some};
     ghost use Rattle.goal_prog.specs.Real.{untold_host};
@@ -75,7 +130,7 @@ impl<R: Files + Drop> Host for RealHost<R> {
 
     fn read(&mut self, buf: &mut [u8]) -> Result<usize, IoFault> {
         match &mut self.input {
-            Some(file) => match file.read(buf) {
+            Some(file) => match read_again(file, buf) {
                 Ok(count) => Ok(count),
                 Err(error) => Err(fault_of(&mut self.reads, error)),
             },
@@ -95,11 +150,7 @@ impl<R: Files + Drop> Host for RealHost<R> {
 
     fn write(&mut self, piece: &[u8]) -> Result<usize, IoFault> {
         match &mut self.output {
-            Some(file) => match file.write(piece) {
-                Ok(0) if !piece.is_empty() => {
-                    self.writes = self.writes.saturating_add(1);
-                    Err(IoFault::Failed)
-                }
+            Some(file) => match write_again(file, piece) {
                 Ok(count) => Ok(count),
                 Err(error) => Err(fault_of(&mut self.writes, error)),
             },
@@ -109,10 +160,7 @@ impl<R: Files + Drop> Host for RealHost<R> {
 
     fn finish(&mut self) -> Result<(), IoFault> {
         match self.output.take() {
-            Some(mut file) => match file.flush() {
-                Ok(()) => Ok(()),
-                Err(error) => Err(fault_of(&mut self.writes, error)),
-            },
+            Some(mut file) => close(&mut file, &mut self.writes),
             None => unreachable!(),
         }
     }
@@ -139,11 +187,7 @@ impl<W: Write> Sink for RealSink<W> {
     ghost state = { λ s. untold_sink s.faults };
 
     fn write(&mut self, piece: &[u8]) -> Result<usize, IoFault> {
-        let written = match self.stream.write(piece) {
-            Ok(0) if !piece.is_empty() => {
-                self.faults = self.faults.saturating_add(1);
-                return Err(IoFault::Failed);
-            }
+        let written = match write_again(&mut self.stream, piece) {
             Ok(count) => count,
             Err(error) => return Err(fault_of(&mut self.faults, error)),
         };
