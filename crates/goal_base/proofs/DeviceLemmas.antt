@@ -1,8 +1,9 @@
 -- One call of a device after another.
-use Rattle.std.proofs.Common.{◌≡◌, ℕ, ◌+◌, true, List, ◌++◌, take, drop, Option, Some, sym, ap, ◌∙◌, append_assoc}
+use Rattle.std.proofs.Common.{◌≡◌, ◌<◌, ℕ, ◌+◌, true, List, ◌++◌, length, take, drop, Option, Some, inl, inr, sym, ap, ◌∙◌, append_assoc, arith}
 use Rattle.std.specs.FinMap.{get, insert}
 use Rattle.std.proofs.Math.Seq.{take-add}
-use Rattle.goal_base.specs.Device.{HostState, SinkState, Files, file_of, Takes, Writes, Grows, SameRest, Holds, appended_to}
+use Rattle.goal_base.specs.declared.limits.TheConstants.{MAX_INPUT}
+use Rattle.goal_base.specs.Device.{HostState, SinkState, Files, file_of, Held, Takes, Writes, Grows, SameRest, Holds, ReadFaulted, IsTooLong, appended_to}
 use Rattle.goal_base.proofs.FilesLemmas.{get_inserted, appended_to_inserted}
 
 -- taken from the rest, and then more of it
@@ -43,3 +44,17 @@ holds_more a b c name bytes left n k first output same is more = record {
       ∙ ap (λ (l : List ℕ). insert a.files name (take n bytes ++ take k l)) is
       ∙ ap (λ (l : List ℕ). insert a.files name l) (sym (take-add n k bytes));
 }
+
+-- where the file is there and the host didn't fail, nothing of reading was counted as a fault
+pub no_fault : (old new : HostState) (name text : List ℕ) → old.tells ≡ true → file_of old name ≡ Some text
+    → Held old.stops old.read_count new.read_count → ReadFaulted old new name → ⊥
+no_fault old new name text told file held (inl rose) = omega arith
+no_fault old new name text told file held (inr absent) = let none = absent.1 told in cc
+
+-- a file that is too long has more bytes than an input may have
+pub no_short : (old : HostState) (name text : List ℕ) → old.tells ≡ true → file_of old name ≡ Some text
+    → IsTooLong old name → MAX_INPUT < length text
+no_short old name text told file long =
+    let l = long.told told in
+    let same : l.0 ≡ text = cc (l.1, file) in
+    rw same at l.2

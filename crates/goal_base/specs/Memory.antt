@@ -91,7 +91,7 @@ with_write_fault s = record s { write_count = risen_from true s.write_count }
 abbrev pub with_input : HostState → List ℕ → HostState
 with_input s bytes = record s { rest = bytes; reading = true }
 
--- n bytes were with_taken from the input
+-- n bytes were taken from the input
 abbrev pub with_taken : HostState → ℕ → HostState
 with_taken s n = record s { rest = drop n s.rest }
 
@@ -103,7 +103,7 @@ with_created s name = record s { files = insert s.files name []; output = Some n
 abbrev pub with_appended : HostState → List ℕ → HostState
 with_appended s bytes = record s { files = appended_to s.output s.files bytes }
 
--- the output is with_no_output
+-- no output is open
 abbrev pub with_no_output : HostState → HostState
 with_no_output s = record s { output = None; writing = false }
 

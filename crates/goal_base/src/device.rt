@@ -1,6 +1,6 @@
 //! The traits of the outside: a host with files, and a sink that takes bytes.
-ghost use Rattle.std.specs.Prelude.{◌≡◌, ◌↔◌, ℕ, ◌<◌, ◌≤◌, true, false, List, [], ◌++◌, length, take, Some, OnOk, OnErr, IfOk, IsErrOf};
-ghost use Rattle.goal_base.specs.Device.{HostState, SinkState, Rose, Later, SinkLater, SameReadCounts, SameFiles, SameRest, SameBytes, file_of, IsAbsent, Creates, Writes, Grows};
+ghost use Rattle.std.specs.Prelude.{◌≡◌, ◌↔◌, ◌<◌, ◌≤◌, true, false, [], ◌++◌, length, take, Some, None, OnOk, OnErr, IfOk};
+ghost use Rattle.goal_base.specs.Device.{HostState, SinkState, SameFiles, SameRest, SameBytes, file_of, CallsOpen, CallsRead, CallsWrite, CallsSink, Creates, Writes, Grows};
 
 use std::alloc::{AllocError, AllocFailed};
 
@@ -46,36 +46,25 @@ impl<T: Drop> From<AllocFailed<T>> for NoMemory {
 /// what is open, and three counts that never fall: of the faults of `open` and `read`, of the names that `open`
 /// didn't find, and of the faults of `create`, `write` and `finish`. A count may stop at 2^64-1.
 ///
-/// Whatever a call refuses, the contents are as they were, and what is open stays so, but for `finish`.
+/// A call answers `Failed` only where the count of its faults rose, and nothing else where it rose. Whatever a call
+/// refuses, the contents are as they were, and what is open stays so, but for `finish`.
 pub trait Host {
     /// What is known of the host.
     ghost state: { Self → HostState };
 
     /// Opens a file as the input, from its beginning. The input that was open is forgotten.
     ///
-    /// `Failed` comes only where the read count rose, and `Absent` only where the absent count rose and the name
-    /// isn't among the files that are told.
+    /// `Absent` comes only where the absent count rose and the name isn't among the files that are told.
     fn open(&mut self, name: &str) -> Result<(), OpenFault>
         ensures opened { OnOk result ((state self.old).tells ≡ true
             → file_of (state self.old) name.now ≡ Some (state self.new).rest) }
         ensures reading { OnOk result ((state self.new).reading ≡ true) }
         ensures err { OnErr result (SameRest (state self.old) (state self.new)) }
         ensures reading_err { OnErr result ((state self.new).reading ≡ (state self.old).reading) }
-        ensures files { SameFiles (state self.old) (state self.new) }
-        ensures writing { (state self.new).writing ≡ (state self.old).writing }
-
-        ensures failed { IsErrOf result OpenFault.Failed
-            → Rose (state self.old).stops (state self.old).read_count (state self.new).read_count }
-        ensures absent { IsErrOf result OpenFault.Absent
-            → Rose (state self.old).stops (state self.old).absent_count (state self.new).absent_count }
-        ensures absent_name { IsErrOf result OpenFault.Absent → IsAbsent (state self.old) name.now }
-        ensures later { Later (state self.old) (state self.new) }
-        ensures ok_counts { OnOk result (SameReadCounts (state self.old) (state self.new)) }
-        ensures memory_counts { IsErrOf result OpenFault.NoMemory → SameReadCounts (state self.old) (state self.new) }
-        ensures write_count { (state self.new).write_count ≡ (state self.old).write_count };
+        ensures call { CallsOpen result (state self.old) (state self.new) name.now };
 
     /// Takes bytes from the front of the rest of the input into the front of `buf`, and says how many: none only
-    /// at the end. `Failed` comes only where the read count rose.
+    /// at the end.
     fn read(&mut self, buf: &mut [u8]) -> Result<usize, IoFault>
         requires room { 0 < length buf.old }
         requires open { (state self.old).reading ≡ true }
@@ -85,39 +74,19 @@ pub trait Host {
             → (state self.old).rest ≡ take n buf.new ++ (state self.new).rest) }
         ensures end { IfOk result (λ n. (state self.old).tells ≡ true → ((n ≡ 0) ↔ ((state self.old).rest ≡ []))) }
         ensures err { OnErr result (SameRest (state self.old) (state self.new)) }
-        ensures files { SameFiles (state self.old) (state self.new) }
         ensures reading { (state self.new).reading ≡ true }
-        ensures writing { (state self.new).writing ≡ (state self.old).writing }
-
-        ensures failed { IsErrOf result IoFault.Failed
-            → Rose (state self.old).stops (state self.old).read_count (state self.new).read_count }
-        ensures later { Later (state self.old) (state self.new) }
-        ensures ok_count { OnOk result ((state self.new).read_count ≡ (state self.old).read_count) }
-        ensures memory_count { IsErrOf result IoFault.NoMemory
-            → (state self.new).read_count ≡ (state self.old).read_count }
-        ensures absent_count { (state self.new).absent_count ≡ (state self.old).absent_count }
-        ensures write_count { (state self.new).write_count ≡ (state self.old).write_count };
+        ensures call { CallsRead result (state self.old) (state self.new) };
 
     /// Makes the file of that name empty and opens it as the output, in place of the output that was open.
-    /// `Failed` comes only where the write count rose.
     fn create(&mut self, name: &str) -> Result<(), IoFault>
         ensures created { OnOk result (Creates (state self.old) (state self.new) name.now) }
         ensures writing { OnOk result ((state self.new).writing ≡ true) }
         ensures err { OnErr result (SameFiles (state self.old) (state self.new)) }
         ensures writing_err { OnErr result ((state self.new).writing ≡ (state self.old).writing) }
-        ensures rest { SameRest (state self.old) (state self.new) }
-        ensures reading { (state self.new).reading ≡ (state self.old).reading }
-
-        ensures failed { IsErrOf result IoFault.Failed
-            → Rose (state self.old).stops (state self.old).write_count (state self.new).write_count }
-        ensures later { Later (state self.old) (state self.new) }
-        ensures ok_count { OnOk result ((state self.new).write_count ≡ (state self.old).write_count) }
-        ensures memory_count { IsErrOf result IoFault.NoMemory
-            → (state self.new).write_count ≡ (state self.old).write_count }
-        ensures read_counts { SameReadCounts (state self.old) (state self.new) };
+        ensures call { CallsWrite result (state self.old) (state self.new) };
 
     /// Appends bytes from the front of `piece` to the output, and says how many: at least one of a piece that
-    /// isn't empty. `Failed` comes only where the write count rose.
+    /// isn't empty.
     fn write(&mut self, piece: &[u8]) -> Result<usize, IoFault>
         requires open { (state self.old).writing ≡ true }
 
@@ -125,34 +94,17 @@ pub trait Host {
         ensures moves { IfOk result (λ n. 0 < length piece.now → 0 < n) }
         ensures written { IfOk result (λ n. Writes (state self.old) (state self.new) (take n piece.now)) }
         ensures err { OnErr result (SameFiles (state self.old) (state self.new)) }
-        ensures rest { SameRest (state self.old) (state self.new) }
-        ensures reading { (state self.new).reading ≡ (state self.old).reading }
         ensures writing { (state self.new).writing ≡ true }
+        ensures call { CallsWrite result (state self.old) (state self.new) };
 
-        ensures failed { IsErrOf result IoFault.Failed
-            → Rose (state self.old).stops (state self.old).write_count (state self.new).write_count }
-        ensures later { Later (state self.old) (state self.new) }
-        ensures ok_count { OnOk result ((state self.new).write_count ≡ (state self.old).write_count) }
-        ensures memory_count { IsErrOf result IoFault.NoMemory
-            → (state self.new).write_count ≡ (state self.old).write_count }
-        ensures read_counts { SameReadCounts (state self.old) (state self.new) };
-
-    /// Closes the output, whatever it answers. `Failed` comes only where the write count rose.
+    /// Closes the output, whatever it answers: there is none then.
     fn finish(&mut self) -> Result<(), IoFault>
         requires open { (state self.old).writing ≡ true }
 
         ensures files { (state self.old).tells ≡ true → (state self.new).files ≡ (state self.old).files }
+        ensures output { (state self.old).tells ≡ true → (state self.new).output ≡ None }
         ensures writing { (state self.new).writing ≡ false }
-        ensures rest { SameRest (state self.old) (state self.new) }
-        ensures reading { (state self.new).reading ≡ (state self.old).reading }
-
-        ensures failed { IsErrOf result IoFault.Failed
-            → Rose (state self.old).stops (state self.old).write_count (state self.new).write_count }
-        ensures later { Later (state self.old) (state self.new) }
-        ensures ok_count { OnOk result ((state self.new).write_count ≡ (state self.old).write_count) }
-        ensures memory_count { IsErrOf result IoFault.NoMemory
-            → (state self.new).write_count ≡ (state self.old).write_count }
-        ensures read_counts { SameReadCounts (state self.old) (state self.new) };
+        ensures call { CallsWrite result (state self.old) (state self.new) };
 }
 
 /// A sink of bytes, as a standard output. It may tell its bytes. It always tells its count of faults, which never
@@ -162,16 +114,13 @@ pub trait Sink {
     ghost state: { Self → SinkState };
 
     /// Appends bytes from the front of `piece`, and says how many: at least one of a piece that isn't empty.
-    /// `Failed` comes only where the count rose. A refusal leaves the bytes as they were.
+    ///
+    /// `Failed` comes only where the count rose, and nothing else where it rose. A refusal leaves the bytes as they
+    /// were.
     fn write(&mut self, piece: &[u8]) -> Result<usize, IoFault>
         ensures bound { IfOk result (λ n. n ≤ length piece.now) }
         ensures moves { IfOk result (λ n. 0 < length piece.now → 0 < n) }
         ensures written { IfOk result (λ n. Grows (state self.old) (state self.new) (take n piece.now)) }
         ensures err { OnErr result (SameBytes (state self.old) (state self.new)) }
-
-        ensures failed { IsErrOf result IoFault.Failed
-            → Rose (state self.old).stops (state self.old).count (state self.new).count }
-        ensures later { SinkLater (state self.old) (state self.new) }
-        ensures ok_count { OnOk result ((state self.new).count ≡ (state self.old).count) }
-        ensures memory_count { IsErrOf result IoFault.NoMemory → (state self.new).count ≡ (state self.old).count };
+        ensures call { CallsSink result (state self.old) (state self.new) };
 }

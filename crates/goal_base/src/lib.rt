@@ -5,6 +5,7 @@
 mod calls;
 mod device;
 mod files;
+mod laws;
 mod limits;
 mod mem_host;
 mod mem_sink;
@@ -14,6 +15,7 @@ mod text;
 mod write;
 
 pub use device::{Host, IoFault, NoMemory, OpenFault, Sink};
+pub use laws::laws_of_reading;
 pub use limits::{
     MAX_BUDGET, MAX_BYTES, MAX_DEPS, MAX_INPUT, MAX_NANOS, MAX_NOTES, MAX_OPS, MAX_PARAM,
     MAX_PER_BYTE, MAX_RANKS,

@@ -152,6 +152,7 @@ impl Host for MemHost {
         ensures memory { IsErrOf result IoFault.NoMemory → ⊥ }
         ensures moved { IfOk result (λ n. n ≡ min (min self.old.most (length buf.old)) (length self.old.state.rest)) }
         ensures bytes { IfOk result (λ n. buf.new ≡ take n self.old.state.rest ++ drop n buf.old) }
+        ensures err_bytes { OnErr result (buf.new ≡ buf.old) }
         ensures ok_state { IfOk result (λ n. self.new ≡ after_call self.old (with_taken self.old.state n)) }
     {
         if self.calls.count() {

@@ -1,6 +1,6 @@
 //! Writing a file whole.
-ghost use Rattle.std.specs.Prelude.{◌≡◌, false, OnOk, OnErr, IsErrOf};
-ghost use Rattle.goal_base.specs.Device.{Rose, Later, SameReadCounts, SameRest, Holds, HoldsPart};
+ghost use Rattle.std.specs.Prelude.{◌≡◌, false, OnOk, OnErr};
+ghost use Rattle.goal_base.specs.Device.{CallsWrite, Holds, HoldsPart};
 
 use crate::device::{Host, IoFault};
 
@@ -11,18 +11,8 @@ use crate::device::{Host, IoFault};
 pub fn write_file<H: Host>(host: &mut H, name: &str, bytes: &[u8]) -> Result<(), IoFault>
     ensures ok { OnOk result (Holds (H.state host.old) (H.state host.new) name.now bytes.now) }
     ensures ok_writing { OnOk result ((H.state host.new).writing ≡ false) }
-    ensures ok_count { OnOk result ((H.state host.new).write_count ≡ (H.state host.old).write_count) }
     ensures part { OnErr result (HoldsPart (H.state host.old) (H.state host.new) name.now bytes.now) }
-    ensures failed { IsErrOf result IoFault.Failed
-        → Rose (H.state host.old).stops (H.state host.old).write_count (H.state host.new).write_count }
-    ensures memory_count { IsErrOf result IoFault.NoMemory
-        → (H.state host.new).write_count ≡ (H.state host.old).write_count }
-
-    // Reading is as it was.
-    ensures rest { SameRest (H.state host.old) (H.state host.new) }
-    ensures reading { (H.state host.new).reading ≡ (H.state host.old).reading }
-    ensures read_counts { SameReadCounts (H.state host.old) (H.state host.new) }
-    ensures later { Later (H.state host.old) (H.state host.new) }
+    ensures call { CallsWrite result (H.state host.old) (H.state host.new) }
 {
     host.create(name)?;
     let mut done = 0;

@@ -1,6 +1,6 @@
 //! Reading a file whole.
-ghost use Rattle.std.specs.Prelude.{◌≡◌, ◌⊎◌, ℕ, ◌+◌, ◌^◌, ◌<◌, ◌≤◌, true, List, [], ◌++◌, length, Some, OnOk, IfOk, IsErrOf, IsOk};
-ghost use Rattle.goal_base.specs.Device.{Rose, Held, Later, SameReadCounts, SameFiles, SameRest, Takes, ReadsAtMost, IsTooLong, file_of, ReadFaulted};
+ghost use Rattle.std.specs.Prelude.{◌≡◌, ◌⊎◌, ℕ, ◌+◌, ◌<◌, ◌≤◌, true, List, [], length, Some, OnOk, IfOk, IsErrOf};
+ghost use Rattle.goal_base.specs.Device.{Rose, SameRest, Takes, ReadsAtMost, IsTooLong, file_of, ReadFaulted, ReadsFile};
 ghost use Rattle.goal_base.specs.declared.read.ReadAll.TheVariants.{NoMemory};
 
 use crate::device::{Host, IoFault, OpenFault};
@@ -36,37 +36,17 @@ impl From<AllocError> for ReadAll {
 pub fn read_all<H: Host>(alloc: Global, host: &mut H, name: &str) -> Result<Vec<u8>, ReadAll>
     ensures ok { IfOk result (λ bytes. (H.state host.old).tells ≡ true
         → file_of (H.state host.old) name.now ≡ Some bytes.items) }
-    ensures ok_length { IfOk result (λ bytes. length bytes.items ≤ 2 ^ 27) }
+    ensures ok_length { IfOk result (λ bytes. length bytes.items ≤ MAX_INPUT) }
     ensures ok_rest { OnOk result ((H.state host.old).tells ≡ true → (H.state host.new).rest ≡ []) }
     ensures too_long { IsErrOf result ReadAll.TooLong → IsTooLong (H.state host.old) name.now }
-    ensures fault { IsErrOf result ReadAll.Fault → ReadFaulted (H.state host.old) (H.state host.new) name.now }
-
-    // No answer but a fault comes where the host counted one.
-    ensures ok_counts { OnOk result (SameReadCounts (H.state host.old) (H.state host.new)) }
-    ensures too_long_counts { IsErrOf result ReadAll.TooLong
-        → SameReadCounts (H.state host.old) (H.state host.new) }
-    ensures memory_counts { IsErrOf result ReadAll.NoMemory
-        → SameReadCounts (H.state host.old) (H.state host.new) }
-
-    // A file that is there is read, or is too long, unless the host failed.
-    ensures complete { (H.state host.old).tells ≡ true → (text : List ℕ)
-        → file_of (H.state host.old) name.now ≡ Some text → length text ≤ 2 ^ 27
-        → Held (H.state host.old).stops (H.state host.old).read_count (H.state host.new).read_count
-        → IsOk result ⊎ IsErrOf result ReadAll.NoMemory }
-    ensures complete_long { (H.state host.old).tells ≡ true → (text : List ℕ)
-        → file_of (H.state host.old) name.now ≡ Some text → 2 ^ 27 < length text
-        → Held (H.state host.old).stops (H.state host.old).read_count (H.state host.new).read_count
-        → IsErrOf result ReadAll.TooLong ⊎ IsErrOf result ReadAll.NoMemory }
+    ensures call { ReadsFile result (H.state host.old) (H.state host.new)
+        (ReadFaulted (H.state host.old) (H.state host.new) name.now) }
 
     // Nothing was taken from the input, or at most 2^27+1 bytes from the file.
     ensures taken { SameRest (H.state host.old) (H.state host.new)
-        ⊎ ReadsAtMost (H.state host.old) (H.state host.new) name.now (2 ^ 27 + 1) }
+        ⊎ ReadsAtMost (H.state host.old) (H.state host.new) name.now (MAX_INPUT + 1) }
     ensures reading { OnOk result ((H.state host.new).reading ≡ true) }
     ensures reading_stays { (H.state host.old).reading ≡ true → (H.state host.new).reading ≡ true }
-    ensures files { SameFiles (H.state host.old) (H.state host.new) }
-    ensures writing { (H.state host.new).writing ≡ (H.state host.old).writing }
-    ensures write_count { (H.state host.new).write_count ≡ (H.state host.old).write_count }
-    ensures later { Later (H.state host.old) (H.state host.new) }
 {
     match host.open(name) {
         Ok(()) => read_rest(alloc, host),
@@ -81,24 +61,15 @@ fn read_rest<H: Host>(alloc: Global, host: &mut H) -> Result<Vec<u8>, ReadAll>
     requires open { (H.state host.old).reading ≡ true }
 
     ensures ok { IfOk result (λ bytes. Takes (H.state host.old) (H.state host.new) bytes.items) }
-    ensures ok_length { IfOk result (λ bytes. length bytes.items ≤ 2 ^ 27) }
+    ensures ok_length { IfOk result (λ bytes. length bytes.items ≤ MAX_INPUT) }
     ensures ok_rest { OnOk result ((H.state host.old).tells ≡ true → (H.state host.new).rest ≡ []) }
     ensures too_long { IsErrOf result ReadAll.TooLong
-        → (H.state host.old).tells ≡ true → 2 ^ 27 < length (H.state host.old).rest }
-    ensures fault { IsErrOf result ReadAll.Fault
-        → Rose (H.state host.old).stops (H.state host.old).read_count (H.state host.new).read_count }
-    ensures ok_counts { OnOk result (SameReadCounts (H.state host.old) (H.state host.new)) }
-    ensures too_long_counts { IsErrOf result ReadAll.TooLong
-        → SameReadCounts (H.state host.old) (H.state host.new) }
-    ensures memory_counts { IsErrOf result ReadAll.NoMemory
-        → SameReadCounts (H.state host.old) (H.state host.new) }
-    ensures taken { (bytes : List ℕ) × (length bytes ≤ 2 ^ 27 + 1)
+        → (H.state host.old).tells ≡ true → MAX_INPUT < length (H.state host.old).rest }
+    ensures call { ReadsFile result (H.state host.old) (H.state host.new)
+        (Rose (H.state host.old).stops (H.state host.old).read_count (H.state host.new).read_count) }
+    ensures taken { (bytes : List ℕ) × (length bytes ≤ MAX_INPUT + 1)
         × Takes (H.state host.old) (H.state host.new) bytes }
     ensures reading { (H.state host.new).reading ≡ true }
-    ensures files { SameFiles (H.state host.old) (H.state host.new) }
-    ensures writing { (H.state host.new).writing ≡ (H.state host.old).writing }
-    ensures write_count { (H.state host.new).write_count ≡ (H.state host.old).write_count }
-    ensures later { Later (H.state host.old) (H.state host.new) }
 {
     let mut bytes = Vec::new(alloc);
     let mut buffer = [0u8; PIECE];

@@ -21,6 +21,8 @@ impl Model for TextOut {
 }
 
 impl TextOut {
+    ghost use Rattle.goal_base.specs.Text.{pair_text, time_text};
+
     /// An empty text. It takes no memory.
     pub fn new(alloc: Global) -> TextOut
         ensures { result ≡ [] }
@@ -46,6 +48,28 @@ impl TextOut {
     {
         let mut buffer = Buffer::new();
         self.word(buffer.format(n))
+    }
+
+    /// Appends two numbers with a blank between, as the rank and the number of an operation. At `Err` the text may
+    /// hold a part of them.
+    pub fn pair(&mut self, first: u32, second: u32) -> Result<(), NoMemory>
+        ensures { OnOk result (self.new ≡ self.old ++ pair_text first second) }
+    {
+        self.number(u128::from(first))?;
+        self.word(" ")?;
+        self.number(u128::from(second))
+    }
+
+    /// Appends a time in nanoseconds, or a dash where there is none. The text is as it was where there was no memory
+    /// left.
+    pub fn time(&mut self, time: Option<u64>) -> Result<(), NoMemory>
+        ensures ok { OnOk result (self.new ≡ self.old ++ time_text time) }
+        ensures err { OnErr result (self.new ≡ self.old) }
+    {
+        match time {
+            Some(nanos) => self.number(u128::from(nanos)),
+            None => self.word("-"),
+        }
     }
 
     /// The bytes of the text.

@@ -1,6 +1,6 @@
 //! Writing a piece whole.
 ghost use Rattle.std.specs.Prelude.{◌≡◌, ◌<◌, length, take, OnOk, IfErr};
-ghost use Rattle.goal_base.specs.Device.{Rose, SinkLater, Grows};
+ghost use Rattle.goal_base.specs.Device.{CallsSink, Grows, stop_reason};
 
 use crate::device::{IoFault, Sink};
 
@@ -17,15 +17,10 @@ pub struct WriteStop {
 /// where the sink's count rose.
 pub fn write_all<S: Sink>(sink: &mut S, piece: &[u8]) -> Result<(), WriteStop>
     ensures ok { OnOk result (Grows (S.state sink.old) (S.state sink.new) piece.now) }
-    ensures ok_count { OnOk result ((S.state sink.new).count ≡ (S.state sink.old).count) }
     ensures short { IfErr result (λ stop. stop.done < length piece.now) }
     ensures part { IfErr result (λ stop.
         Grows (S.state sink.old) (S.state sink.new) (take stop.done piece.now)) }
-    ensures failed { IfErr result (λ stop. stop.why ≡ IoFault.Failed
-        → Rose (S.state sink.old).stops (S.state sink.old).count (S.state sink.new).count) }
-    ensures memory_count { IfErr result (λ stop. stop.why ≡ IoFault.NoMemory
-        → (S.state sink.new).count ≡ (S.state sink.old).count) }
-    ensures later { SinkLater (S.state sink.old) (S.state sink.new) }
+    ensures call { CallsSink (stop_reason result) (S.state sink.old) (S.state sink.new) }
 {
     let mut done = 0;
     'pieces: while done < piece.len() {

@@ -1,7 +1,8 @@
 -- What follows from the table of causes.
-use Rattle.std.proofs.Common.{◌≡◌, ◌≢◌, ℕ, ◌<◌, ◌⊎◌, Bool, true, false, List, length, Option, Some, None, IfSome, IsSomeAnd, inl, inr, refl, sym, ap, arith}
+use Rattle.std.proofs.Common.{◌≡◌, ◌≢◌, ℕ, ◌<◌, ◌⊎◌, Bool, true, false, List, length, Option, Some, None, IfSome, IsSomeAnd, inl, inr, refl, sym, ap, ◌∙◌, arith}
 use Rattle.std.proofs.Math.Seq.{take-length}
-use Rattle.goal_base.specs.Device.{HostState, SinkState, Held, Grows, file_of, ReadFaulted, SameReadCounts}
+use Rattle.std.specs.FinMap.{insert}
+use Rattle.goal_base.specs.Device.{HostState, SinkState, Files, Later, KeepsFiles, SameFiles, Holds, HoldsPart, Held, Grows, file_of, ReadFaulted, SameReadCounts}
 use Rattle.goal_graph.specs.Schedule.{Plan}
 use Rattle.sim_params.specs.Costs.{Numbers, log_gops}
 use Rattle.goal_words.specs.Words.{Command, Sim, Compile, Show}
@@ -10,7 +11,7 @@ use Rattle.goal_cli.specs.declared.answer.Answer.TheVariants as answer
 use Rattle.goal_cli.specs.declared.answer.Refusal.{Refusal}
 use Rattle.goal_cli.specs.declared.answer.Status.{Status}
 use Rattle.goal_cli.specs.declared.answer.Status.TheVariants as status
-use Rattle.goal_cli.specs.Output.{IsRefused, HasRun, HasOutput}
+use Rattle.goal_cli.specs.Output.{IsOutput, IsRefused, HasRun, HasOutput}
 use Rattle.goal_cli.specs.Refusal.{refused_line}
 use Rattle.goal_cli.specs.Answer.{input_of, ForFile, IfFile, ForInput, IfInput, GrowsByPart, ReadsHeld, Gets, GetsPart, Elsewhere, WritesRose, WritesHeld, GetsOutput, GetsPartOfOutput, AnswersWhole, PrintsRun, IsUntouched, IsWritten, IsCutOff, IsCauseOf, IsCauseOfNone, IsCause, line_for, status_of, Answers, AnswersWith, IsSilent, Says, IsAnswered}
 use Rattle.goal_cli.proofs.InputLemmas.{same_schedule}
@@ -31,6 +32,57 @@ pub answered : (old new : SinkState) (s t : Status) (line : List ℕ)
     ⊎ ((s ≡ status.NoMemory) × (GrowsByPart old new line ⊎ GrowsByPart old new (line_for answer.NoMemory)))
 answered old new s t line (inl said) = inl said
 answered old new s t line (inr none) = inr (none.0, inl none.1)
+
+-- what was written to a host whose files are those of another
+module _ (a b d : HostState) (kept : KeepsFiles a b) (later : Later a b) where
+  holds_from : (name bytes : List ℕ) → Holds b d name bytes → Holds a d name bytes
+  holds_from name bytes held = record {
+    told = λ t. held.told (later.tells ∙ t) ∙ ap (λ (f : Files). insert f name bytes) (kept.files.files t);
+  }
+
+  same_from : SameFiles b d → SameFiles a d
+  same_from same = record {
+    files = λ t. same.files (later.tells ∙ t) ∙ kept.files.files t;
+    output = λ t. same.output (later.tells ∙ t) ∙ kept.files.output t;
+  }
+
+  holds_part_from : (name bytes : List ℕ) → HoldsPart b d name bytes → HoldsPart a d name bytes
+  holds_part_from name bytes (inl same) = inl (same_from same)
+  holds_part_from name bytes (inr part) = inr (part.0, part.1, holds_from name _ part.2)
+
+  keeps_from : KeepsFiles b d → KeepsFiles a d
+  keeps_from same = record {
+    files = same_from same.files;
+    writing = same.writing ∙ kept.writing;
+    write_count = same.write_count ∙ kept.write_count;
+  }
+
+-- the same of a part of an output, and of where the command doesn't write
+pub part_from : (a b d : HostState) (out out' : SinkState) (c : Command) (bytes : List ℕ) → KeepsFiles a b → Later a b
+    → GetsPart b d out out' c bytes → GetsPart a d out out' c bytes
+part_from a b d out out' (Sim name numbers) bytes kept later part = part
+part_from a b d out out' (Compile name file) bytes kept later part = holds_part_from a b d kept later file bytes part
+part_from a b d out out' (Show name) bytes kept later part = part
+
+pub elsewhere_from : (a b d : HostState) (out out' : SinkState) (c : Command) → KeepsFiles a b → Later a b
+    → Elsewhere b d out out' c → Elsewhere a d out out' c
+elsewhere_from a b d out out' (Sim name numbers) kept later same = keeps_from a b d kept later same
+elsewhere_from a b d out out' (Compile name file) kept later same = same
+elsewhere_from a b d out out' (Show name) kept later same = keeps_from a b d kept later same
+
+-- what is so after an output was cut off, of an input that was read before
+pub cut_off_from : (a b d : HostState) (out out' : SinkState) (c : Command) (input output : List ℕ) (stuck : Bool)
+    → (a.tells ≡ true → file_of a (input_of c) ≡ Some input) → SameReadCounts a b → KeepsFiles a b → Later a b
+    → IsOutput c input output stuck → GetsPart b d out out' c output → SameReadCounts b d → Elsewhere b d out out' c
+    → IsCutOff a d out out' c
+cut_off_from a b d out out' c input output stuck read counts kept later is part reads elsewhere = record {
+  output = λ told. (input, read told, (output, (stuck, is), part_from a b d out out' c output kept later part));
+  reads = record {
+    read_count = reads.read_count ∙ counts.read_count;
+    absent_count = reads.absent_count ∙ counts.absent_count;
+  };
+  elsewhere = elsewhere_from a b d out out' c kept later elsewhere;
+}
 
 -- a name has one file
 same_file : (host : HostState) (name input other : List ℕ) → file_of host name ≡ Some input → file_of host name ≡ Some other → other ≡ input

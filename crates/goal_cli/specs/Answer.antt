@@ -1,6 +1,7 @@
 -- What each answer of `goal` says of the call, and what `err` gets.
 use Rattle.std.specs.Prelude.{ℕ, ◌≡◌, ◌⊎◌, Bool, true, false, List, [], ◌++◌, take, Option, Some, None, IsSomeAnd, IfSome, codes}
-use Rattle.goal_base.specs.Device.{HostState, SinkState, Rose, Held, SameFiles, SameReadCounts, Holds, HoldsPart, Grows, file_of, ReadFaulted}
+use Rattle.goal_base.specs.Text.{line_feed}
+use Rattle.goal_base.specs.Device.{HostState, SinkState, Rose, Held, KeepsFiles, SameReadCounts, Holds, HoldsPart, Grows, file_of, ReadFaulted}
 use Rattle.goal_graph.specs.Schedule.{Plan}
 use Rattle.sim_params.specs.Costs.{CostModel}
 use Rattle.goal_words.specs.Words.{Command, Sim, Compile, Show}
@@ -10,7 +11,6 @@ use Rattle.goal_cli.specs.declared.answer.Status.{Status}
 use Rattle.goal_cli.specs.declared.answer.Status.TheVariants as status
 use Rattle.goal_cli.specs.Output.{IsPrintedRun, IsOutput, IsRefused}
 use Rattle.goal_cli.specs.Refusal.{refused_line}
-use Rattle.goal_cli.specs.Timeline.{line_feed}
 
 -- the name of the input of a command
 abbrev pub input_of : Command → List ℕ
@@ -32,12 +32,6 @@ ForInput command host P = IsSomeAnd command (λ c. ForFile host (input_of c) (P 
 
 abbrev pub IfInput : Option Command → HostState → (Command → List ℕ → Type 0) → Type 0
 IfInput command host P = IfSome command (λ c. IfFile host (input_of c) (P c))
-
--- no file changes, and none is written
-pub record KeepsFiles (old new : HostState) : Type 0 where
-  pub files : SameFiles old new
-  pub writing : new.writing ≡ old.writing
-  pub write_count : new.write_count ≡ old.write_count
 
 -- the sink got a prefix of these bytes
 abbrev pub GrowsByPart : SinkState → SinkState → List ℕ → Type 0

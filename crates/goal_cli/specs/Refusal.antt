@@ -1,5 +1,6 @@
 -- The words of refusals.
 use Rattle.std.specs.Prelude.{ℕ, List, [], ◌++◌, codes, decimal}
+use Rattle.goal_base.specs.Text.{line_feed, pair_text}
 use Rattle.goal_graph.specs.declared.fault.PlanFault.{PlanFault}
 use Rattle.goal_graph.specs.declared.fault.PlanFault.TheVariants as plan
 use Rattle.goal_parser.specs.declared.faults.TextFault.{TextFault}
@@ -8,25 +9,20 @@ use Rattle.goal_binary.specs.declared.fault.FileFault.{FileFault}
 use Rattle.goal_binary.specs.declared.fault.FileFault.TheVariants as file
 use Rattle.goal_cli.specs.declared.answer.Refusal.{Refusal}
 use Rattle.goal_cli.specs.declared.answer.Refusal.TheVariants as refusal
-use Rattle.goal_cli.specs.Timeline.{line_feed, id_text}
 
 -- words and a place
 abbrev pub at_text : List ℕ → ℕ → List ℕ
 at_text words at = words ++ decimal at
 
--- words, a rank, and the number of an operation, a dependency or a note of it
-abbrev pub pair_text : List ℕ → ℕ → ℕ → List ℕ
-pair_text words rank number = words ++ id_text (record { rank = rank; op = number })
-
 -- The first rule that plans break. What is read, as a text or as a compiled file, keeps the limits of counts and values,
 -- so their words are never met.
 abbrev pub plan_words : PlanFault → List ℕ
 plan_words (plan.Count found limit) = codes "plan: count"
-plan_words (plan.Value rank op) = pair_text (codes "plan: value ") rank op
-plan_words (plan.Peer rank op) = pair_text (codes "plan: peer ") rank op
-plan_words (plan.DepRange rank dep) = pair_text (codes "plan: dependency ") rank dep
-plan_words (plan.NoteMisfit rank note) = pair_text (codes "plan: note ") rank note
-plan_words (plan.Cycle rank op) = pair_text (codes "plan: cycle ") rank op
+plan_words (plan.Value rank op) = codes "plan: value " ++ pair_text rank op
+plan_words (plan.Peer rank op) = codes "plan: peer " ++ pair_text rank op
+plan_words (plan.DepRange rank dep) = codes "plan: dependency " ++ pair_text rank dep
+plan_words (plan.NoteMisfit rank note) = codes "plan: note " ++ pair_text rank note
+plan_words (plan.Cycle rank op) = codes "plan: cycle " ++ pair_text rank op
 plan_words plan.NoMemory = []
 
 -- the first fault of a text

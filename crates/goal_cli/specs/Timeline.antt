@@ -1,11 +1,13 @@
 -- The printed run: a line on the whole, then a line for each operation. Every line ends with a line feed, and numbers
 -- are decimal.
-use Rattle.std.specs.Prelude.{ℕ, ◌≡◌, ◌&&◌, Bool, true, false, not, List, [], ◌∷◌, ◌++◌, Option, Some, None, is_some, if◌then◌else◌, length, codes, decimal, count_by, nat_lt}
+use Rattle.std.specs.Prelude.{ℕ, ◌≡◌, ◌&&◌, Bool, true, false, not, List, [], ◌++◌, Option, Some, None, is_some, if◌then◌else◌, length, codes, decimal, count_by, nat_lt}
 use Rattle.std.specs.List.{flat_map}
+use Rattle.goal_base.specs.Text.{line_feed, time_text}
 use Rattle.goal_graph.specs.declared.action.OpId.{OpId}
 use Rattle.goal_graph.specs.declared.action.Timed.{Timed}
 use Rattle.goal_graph.specs.declared.plan.Kind.{Kind}
 use Rattle.goal_graph.specs.declared.plan.Kind.TheVariants.{Calc, Send, Recv}
+use Rattle.goal_graph.specs.IdText.{id_text}
 use Rattle.goal_graph.specs.Schedule.{Plan, kind_at, operations}
 use Rattle.goal_graph.specs.Action.{plain}
 use Rattle.goal_graph.specs.Matching.{pairs, partner, is_paired}
@@ -13,18 +15,6 @@ use Rattle.goal_graph.specs.Allowed.{has_started, has_ended}
 use Rattle.sim_params.specs.Costs.{CostModel, is_eager}
 use Rattle.sim_params.specs.Times.{end, greatest}
 use Rattle.sim_events.specs.Engine.{start_told, end_told}
-
-abbrev pub line_feed : List ℕ
-line_feed = 10 ∷ []
-
--- a time, or a dash where there is none
-abbrev pub time_text : Option ℕ → List ℕ
-time_text None = codes "-"
-time_text (Some nanos) = decimal nanos
-
--- rank and number of an operation
-abbrev pub id_text : OpId → List ℕ
-id_text x = decimal x.rank ++ codes " " ++ decimal x.op
 
 abbrev pub match_text : Option OpId → List ℕ
 match_text None = codes " match -"

@@ -1,12 +1,12 @@
 // The words of refusals.
 ghost use Rattle.std.specs.Prelude.{◌≡◌, ◌++◌, List, IfOk, OnOk, codes};
-ghost use Rattle.goal_cli.specs.Refusal.{at_text, pair_text, plan_words, text_words, file_words, refusal_words, refused_line};
+ghost use Rattle.goal_base.specs.Text.{pair_text};
+ghost use Rattle.goal_cli.specs.Refusal.{at_text, plan_words, text_words, file_words, refusal_words, refused_line};
 
 use crate::answer::Refusal;
-use crate::timeline::put_id;
 use goal_base::{NoMemory, TextOut};
 use goal_binary::FileFault;
-use goal_graph::{OpId, PlanFault};
+use goal_graph::PlanFault;
 use goal_parser::TextFault;
 use std::alloc::Global;
 
@@ -93,8 +93,8 @@ fn put_at(out: &mut TextOut, words: &str, at: u64) -> Result<(), NoMemory>
 
 // Appends words, a rank, and the number of an operation, a dependency or a note of it.
 fn put_pair(out: &mut TextOut, words: &str, rank: u32, number: u32) -> Result<(), NoMemory>
-    ensures { OnOk result (out.new ≡ out.old ++ pair_text words.now rank number) }
+    ensures { OnOk result (out.new ≡ out.old ++ (words.now ++ pair_text rank number)) }
 {
     out.word(words)?;
-    put_id(out, OpId { rank, op: number })
+    out.pair(rank, number)
 }

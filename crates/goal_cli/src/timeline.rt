@@ -1,7 +1,7 @@
 // The printed run.
 ghost use Rattle.std.specs.Prelude.{◌≡◌, ◌+◌, ◌-◌, ◌++◌, ◌<◌, ◌^◌, length, OnOk, IfOk, Some, is_some, unwrap_or, max, if◌then◌else◌};
 ghost use Rattle.goal_graph.specs.Schedule.{operations};
-ghost use Rattle.goal_cli.specs.Timeline.{operation_line, summary_line, time_text, id_text, kind_text, partner_text, match_text, timeline, is_stuck, IsSummary, is_unread_send};
+ghost use Rattle.goal_cli.specs.Timeline.{operation_line, summary_line, kind_text, partner_text, match_text, timeline, is_stuck, IsSummary, is_unread_send};
 
 use crate::output::Output;
 use goal_base::{NoMemory, TextOut};
@@ -112,11 +112,11 @@ fn put_operation(out: &mut TextOut, id: OpId, kind: Kind, times: Record) -> Resu
         ≡ out.old ++ operation_line id kind times.start times.end times.partner) }
 {
     out.word("op ")?;
-    put_id(out, id)?;
+    out.pair(id.rank, id.op)?;
     out.word(kind_word(kind))?;
-    put_time(out, times.start)?;
+    out.time(times.start)?;
     out.word(" end ")?;
-    put_time(out, times.end)?;
+    out.time(times.end)?;
     put_partner(out, kind, times.partner)?;
     out.word("\n")
 }
@@ -132,25 +132,6 @@ fn kind_word(kind: Kind) -> &'static str
     }
 }
 
-// Appends a time, or a dash where there is none.
-fn put_time(out: &mut TextOut, time: Option<u64>) -> Result<(), NoMemory>
-    ensures { OnOk result (out.new ≡ out.old ++ time_text time) }
-{
-    match time {
-        Some(nanos) => out.number(u128::from(nanos)),
-        None => out.word("-"),
-    }
-}
-
-// Appends the rank and the number of an operation.
-pub fn put_id(out: &mut TextOut, id: OpId) -> Result<(), NoMemory>
-    ensures { OnOk result (out.new ≡ out.old ++ id_text id) }
-{
-    out.number(u128::from(id.rank))?;
-    out.word(" ")?;
-    out.number(u128::from(id.op))
-}
-
 // Appends the partner of a send or a receive.
 fn put_match(out: &mut TextOut, partner: Option<OpId>) -> Result<(), NoMemory>
     ensures { OnOk result (out.new ≡ out.old ++ match_text partner) }
@@ -159,7 +140,7 @@ fn put_match(out: &mut TextOut, partner: Option<OpId>) -> Result<(), NoMemory>
         None => out.word(" match -"),
         Some(id) => {
             out.word(" match ")?;
-            put_id(out, id)
+            out.pair(id.rank, id.op)
         }
     }
 }

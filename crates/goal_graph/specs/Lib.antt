@@ -1,4 +1,5 @@
 pub mod Schedule
+pub mod IdText
 pub mod Fault
 pub mod Widths
 pub mod Rows

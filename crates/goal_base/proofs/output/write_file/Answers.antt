@@ -11,9 +11,7 @@ pieces-preserved g c = record {
       c.in_ok-done.ensures.written;
   output = search rules;
   writing = search rules;
-  count = c.in_ok-done.ensures.ok_count ∙ c.pieces.invariant.count;
-  rest = search rules;
-  reading = search rules;
-  read_counts = search rules;
+  count = c.in_ok-done.ensures.call.count ∙ c.pieces.invariant.count;
+  kept = search rules;
   later = search rules;
 }

@@ -1,5 +1,5 @@
 use Rattle.std.proofs.Common.{◌≡◌, ◌-◌, ◌≤◌, true, length, take, Some}
-use Rattle.goal_base.specs.Device.{Later, SameReadCounts, SameRest, Holds}
+use Rattle.goal_base.specs.Device.{Later, KeepsReading, Holds}
 use Rattle.goal_base.proofs.output.write_file.Given as goal
 
 abbrev pub invariant-pieces : goal.invariant-pieces
@@ -12,9 +12,7 @@ invariant-pieces g l =
       output : old.tells ≡ true → now.output ≡ Some l.name;
       writing : now.writing ≡ true;
       count : now.write_count ≡ old.write_count;
-      rest : SameRest old now;
-      reading : now.reading ≡ old.reading;
-      read_counts : SameReadCounts old now;
+      kept : KeepsReading old now;
       later : Later old now;
     }
 

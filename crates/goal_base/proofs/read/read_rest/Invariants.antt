@@ -1,5 +1,5 @@
 use Rattle.std.proofs.Common.{◌≡◌, ◌+◌, ◌-◌, ◌^◌, ◌≤◌, true, length}
-use Rattle.goal_base.specs.Device.{Later, SameReadCounts, SameFiles, Takes}
+use Rattle.goal_base.specs.Device.{Later, SameReadCounts, KeepsFiles, Takes}
 use Rattle.goal_base.proofs.read.read_rest.Given as goal
 
 abbrev pub invariant-pieces : goal.invariant-pieces
@@ -12,9 +12,7 @@ invariant-pieces g l =
       taken : Takes old now l.bytes.items;
       counts : SameReadCounts old now;
       reading : now.reading ≡ true;
-      files : SameFiles old now;
-      writing : now.writing ≡ old.writing;
-      write_count : now.write_count ≡ old.write_count;
+      kept : KeepsFiles old now;
       later : Later old now;
     }
 

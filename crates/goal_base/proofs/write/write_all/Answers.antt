@@ -8,6 +8,6 @@ pieces-preserved g c = record {
   within = omega (arith, c.in-Ok.ensures.bound, length-drop c.pieces.done c.args.piece.now);
   grown = grows_more _ _ _ c.args.piece.now _ c.pieces.done c.in-Ok.count c.pieces.invariant.grown c.pieces.invariant.later.tells
       (take_rest c.args.piece.now c.pieces.done) c.in-Ok.ensures.written;
-  count = c.in-Ok.ensures.ok_count ∙ c.pieces.invariant.count;
+  count = c.in-Ok.ensures.call.count ∙ c.pieces.invariant.count;
   later = search rules;
 }
