@@ -1,0 +1,5 @@
+pub mod WaitLemmas
+pub mod RankLemmas
+pub mod FillLemmas
+pub mod WaitOrder
+pub mod KeyLemmas
