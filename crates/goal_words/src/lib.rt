@@ -1,6 +1,6 @@
 //! The command line of `goal`: what its words ask for.
 //!
-//!     sim NAME [--L N] [--o N] [--g N] [--G N] [--O N] [--S N]
+//!     sim NAME [--L N] [--o N] [--g N] [--G N] [--Gp N] [--O N] [--Op N] [--S N]
 //!     compile NAME OUT
 //!     show NAME
 //!

@@ -5,7 +5,10 @@ ghost use Rattle.std.specs.Char.{is_ascii_digit};
 ghost use Rattle.sim_params.specs.Numbers.{numbers};
 ghost use Rattle.goal_words.specs.Options.{option_of, number_of, none_given, given_for, set, with_option, with_words, with_all, numbers_given, within_limits, numbers_of};
 
-use sim_params::{Param, Params};
+use sim_params::{
+    DEFAULT_GAP, DEFAULT_GAP_PER_BYTE, DEFAULT_LATENCY, DEFAULT_OVERHEAD,
+    DEFAULT_OVERHEAD_PER_BYTE, DEFAULT_SYNC, Param, Params,
+};
 
 // The values of the option words so far, each for its parameter.
 #[derive(Clone, Copy)]
@@ -14,7 +17,9 @@ pub struct Given {
     overhead: Option<u64>,
     gap: Option<u64>,
     gap_per_byte: Option<u64>,
+    gap_picos: Option<u64>,
     overhead_per_byte: Option<u64>,
+    overhead_picos: Option<u64>,
     sync: Option<u64>,
 }
 
@@ -23,11 +28,14 @@ const NONE_GIVEN: Given = Given {
     overhead: None,
     gap: None,
     gap_per_byte: None,
+    gap_picos: None,
     overhead_per_byte: None,
+    overhead_picos: None,
     sync: None,
 };
 
 // The parameters that option words give; those not given have their usual values.
+#[tactic(auto, unfolding(crate::specs::Options::numbers_of))]
 pub fn read_options(words: &[String]) -> Option<Params>
     ensures { MatchOption result (numbers_of (map string_bytes words.now) ≡ None)
         (λ params. numbers_of (map string_bytes words.now) ≡ Some (numbers params)) }
@@ -64,7 +72,9 @@ fn option_of(word: &str) -> Option<Param>
         "--o" => Some(Param::Overhead),
         "--g" => Some(Param::Gap),
         "--G" => Some(Param::GapPerByte),
+        "--Gp" => Some(Param::GapPicos),
         "--O" => Some(Param::OverheadPerByte),
+        "--Op" => Some(Param::OverheadPicos),
         "--S" => Some(Param::Sync),
         _ => None,
     }
@@ -117,7 +127,9 @@ impl Given {
             Param::Overhead => self.overhead,
             Param::Gap => self.gap,
             Param::GapPerByte => self.gap_per_byte,
+            Param::GapPicos => self.gap_picos,
             Param::OverheadPerByte => self.overhead_per_byte,
+            Param::OverheadPicos => self.overhead_picos,
             Param::Sync => self.sync,
         };
         if place.is_some() {
@@ -148,8 +160,16 @@ impl Given {
                 gap_per_byte: number,
                 ..self
             },
+            Param::GapPicos => Given {
+                gap_picos: number,
+                ..self
+            },
             Param::OverheadPerByte => Given {
                 overhead_per_byte: number,
+                ..self
+            },
+            Param::OverheadPicos => Given {
+                overhead_picos: number,
                 ..self
             },
             Param::Sync => Given {
@@ -164,13 +184,15 @@ impl Given {
         ensures { MatchOption result (within_limits (numbers_given self) ≡ None)
             (λ params. within_limits (numbers_given self) ≡ Some (numbers params)) }
     {
-        Params::new(
-            self.latency.unwrap_or(2_500),
-            self.overhead.unwrap_or(1_500),
-            self.gap.unwrap_or(1_000),
-            self.gap_per_byte.unwrap_or(6),
-            self.overhead_per_byte.unwrap_or(0),
-            self.sync.unwrap_or(65_535),
+        Params::fine(
+            self.latency.unwrap_or(DEFAULT_LATENCY),
+            self.overhead.unwrap_or(DEFAULT_OVERHEAD),
+            self.gap.unwrap_or(DEFAULT_GAP),
+            self.gap_per_byte.unwrap_or(DEFAULT_GAP_PER_BYTE),
+            self.gap_picos.unwrap_or(0),
+            self.overhead_per_byte.unwrap_or(DEFAULT_OVERHEAD_PER_BYTE),
+            self.overhead_picos.unwrap_or(0),
+            self.sync.unwrap_or(DEFAULT_SYNC),
         )
         .ok()
     }

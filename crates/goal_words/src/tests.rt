@@ -14,13 +14,18 @@ fn strings(alloc: Global, words: &[&str]) -> Result<Vec<String>, AllocError> {
 #[test]
 fn sim_line(rt: HostRuntime) -> Result<(), Fail> {
     let alloc = rt.alloc();
-    let words = strings(alloc, &["sim", "a", "--O", "1", "--L", "007"])?;
+    let words = strings(
+        alloc,
+        &["sim", "a", "--O", "1", "--L", "007", "--Gp", "999"],
+    )?;
     let line = read_words(alloc, &words);
     match &line {
         Ok(Line::Sim { name, params }) => {
             assert_eq!(rt; name.as_str(), "a");
             assert_eq!(rt; params.overhead_per_byte, 1);
             assert_eq!(rt; params.latency, 7);
+            assert_eq!(rt; params.gap_picos, 999);
+            assert_eq!(rt; params.overhead_picos, 0);
             assert_eq!(rt; params.sync, 65_535);
         }
         _ => assert!(rt; false),
@@ -32,18 +37,28 @@ fn sim_line(rt: HostRuntime) -> Result<(), Fail> {
 fn other_lines(rt: HostRuntime) -> Result<(), Fail> {
     let alloc = rt.alloc();
     let words = strings(alloc, &["compile", "a", ""])?;
-    assert!(rt; read_words(alloc, &words).is_ok());
-    let words = strings(alloc, &["show", "a"])?;
-    assert!(rt; read_words(alloc, &words).is_ok());
+    match &read_words(alloc, &words) {
+        Ok(Line::Compile { name, out }) => {
+            assert_eq!(rt; name.as_str(), "a");
+            assert_eq!(rt; out.as_str(), "");
+        }
+        _ => assert!(rt; false),
+    }
+    let words = strings(alloc, &["show", "b"])?;
+    match &read_words(alloc, &words) {
+        Ok(Line::Show { name }) => assert_eq!(rt; name.as_str(), "b"),
+        _ => assert!(rt; false),
+    }
     Ok(())
 }
 
-const NO_LINES: [&[&str]; 6] = [
+const NO_LINES: [&[&str]; 7] = [
     &[],
     &["Sim", "a"],
     &["show", "-a"],
     &["sim", "a", "--O"],
     &["sim", "a", "--O", "1048576"],
+    &["sim", "a", "--Gp", "1000"],
     &["sim", "a", "--S", "000000000000000000001"],
 ];
 

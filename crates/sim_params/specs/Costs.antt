@@ -1,5 +1,5 @@
 -- What messages cost. Times are in nanoseconds, sizes in bytes.
-use Rattle.std.specs.Prelude.{ℕ, ◌+◌, ◌-◌, ◌*◌, ◌≤◌, ◌<◌, ◌^◌, max, Bool, true, nat_le, Option, Some, None, List}
+use Rattle.std.specs.Prelude.{ℕ, zero, suc, ◌+◌, ◌-◌, ◌*◌, ◌≤◌, ◌<◌, ◌^◌, max, Bool, true, nat_le, Option, Some, None, List, if◌then◌else◌}
 use Rattle.goal_graph.specs.declared.action.OpId.{OpId}
 use Rattle.goal_graph.specs.declared.plan.Kind.{Kind}
 use Rattle.goal_graph.specs.declared.plan.Kind.TheVariants.{Calc, Send, Recv}
@@ -22,25 +22,43 @@ pub record IsBounded (costs : CostModel) : Type 0 where
   pub flight : (from to bytes : ℕ) → bytes < 2 ^ 40 → costs.flight from to bytes ≤ 2 ^ 61
   pub latency : (from to : ℕ) → costs.latency from to ≤ 2 ^ 61
 
--- the LogGOPS parameters: latency L, overhead o, gap g, gap per byte G, overhead per byte O, eager up to S bytes
+-- the LogGOPS parameters: latency L, overhead o, gap g, gap per byte G and Gp, overhead per byte O and Op, eager up to
+-- S bytes. L, o and g are in nanoseconds, G and O in nanoseconds per byte, Gp and Op in picoseconds per byte besides.
 pub record Numbers : Type 0 where
   pub latency : ℕ
   pub overhead : ℕ
   pub gap : ℕ
   pub gap_per_byte : ℕ
+  pub gap_picos : ℕ
   pub overhead_per_byte : ℕ
+  pub overhead_picos : ℕ
   pub sync : ℕ
 
 -- the bytes of a message but its first
 abbrev pub body : ℕ → ℕ
 body bytes = bytes - 1
 
+-- the least number up to n that passes a test; n where none before it does
+unfoldable pub least_up_to : ℕ → (ℕ → Bool) → ℕ
+least_up_to zero test = 0
+least_up_to (suc n) test = if test 0 then 0 else suc (least_up_to n (λ k. test (suc k)))
+
+-- picoseconds rounded up to nanoseconds: the least whole number q such that 1000 * q is not less
+unfoldable pub rounded_up : ℕ → ℕ
+rounded_up picos = least_up_to picos (λ q. nat_le picos (1000 * q))
+
+-- what the bytes of a message cost at so many nanoseconds and so many picoseconds per byte, rounded up once
+abbrev pub up : ℕ → ℕ → ℕ → ℕ
+up nanos picos bytes = nanos * body bytes + rounded_up (picos * body bytes)
+
 -- the costs of LogGOPS, for every source and target
 abbrev pub log_gops : Numbers → CostModel
 log_gops p = record {
-  over = λ from to bytes. p.overhead + p.overhead_per_byte * body bytes;
-  gap = λ from to bytes. p.gap + p.gap_per_byte * body bytes;
-  flight = λ from to bytes. p.overhead + max p.overhead_per_byte p.gap_per_byte * body bytes + p.latency;
+  over = λ from to bytes. p.overhead + up p.overhead_per_byte p.overhead_picos bytes;
+  gap = λ from to bytes. p.gap + up p.gap_per_byte p.gap_picos bytes;
+  flight =
+      λ from to bytes.
+      p.overhead + max (up p.overhead_per_byte p.overhead_picos bytes) (up p.gap_per_byte p.gap_picos bytes) + p.latency;
   latency = λ from to. p.latency;
   eager = λ from to bytes. nat_le bytes p.sync;
 }

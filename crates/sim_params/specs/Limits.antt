@@ -1,17 +1,33 @@
--- The limits of the parameters: 2^40-1 for L, o, g and S, 2^20-1 for G and O.
-use Rattle.std.specs.Prelude.{ℕ, ◌<◌, ◌^◌, nat_lt, Option, Some, None, if◌then◌else◌}
+-- The limits of the parameters: 2^40-1 for L, o, g and S, 2^20-1 for G and O, 999 for Gp and Op.
+use Rattle.std.specs.Prelude.{ℕ, ◌≤◌, nat_lt, Option, Some, None, if◌then◌else◌}
+use Rattle.goal_base.specs.declared.limits.TheConstants.{MAX_PARAM, MAX_PER_BYTE}
+use Rattle.sim_params.specs.declared.params.TheConstants.{MAX_PICOS}
 use Rattle.sim_params.specs.declared.params.Param.{Param}
-use Rattle.sim_params.specs.declared.params.Param.TheVariants.{Latency, Overhead, Gap, GapPerByte, OverheadPerByte, Sync}
+use Rattle.sim_params.specs.declared.params.Param.TheVariants.{Latency, Overhead, Gap, GapPerByte, GapPicos, OverheadPerByte, OverheadPicos, Sync}
+use Rattle.sim_params.specs.Costs.{Numbers}
 
-pub record IsWithinLimits (l o g gb ob s : ℕ) : Type 0 where
-  pub latency : l < 2 ^ 40
-  pub overhead : o < 2 ^ 40
-  pub gap : g < 2 ^ 40
-  pub gap_per_byte : gb < 2 ^ 20
-  pub overhead_per_byte : ob < 2 ^ 20
-  pub sync : s < 2 ^ 40
+pub record IsWithinLimits (n : Numbers) : Type 0 where
+  pub latency : n.latency ≤ MAX_PARAM
+  pub overhead : n.overhead ≤ MAX_PARAM
+  pub gap : n.gap ≤ MAX_PARAM
+  pub gap_per_byte : n.gap_per_byte ≤ MAX_PER_BYTE
+  pub gap_picos : n.gap_picos ≤ MAX_PICOS
+  pub overhead_per_byte : n.overhead_per_byte ≤ MAX_PER_BYTE
+  pub overhead_picos : n.overhead_picos ≤ MAX_PICOS
+  pub sync : n.sync ≤ MAX_PARAM
 
--- the first parameter over its limit, in the order L, o, g, G, O, S
-abbrev pub first_over : ℕ → ℕ → ℕ → ℕ → ℕ → ℕ → Option Param
-first_over l o g gb ob s =
-    if nat_lt 1099511627775 l then Some Latency else (if nat_lt 1099511627775 o then Some Overhead else (if nat_lt 1099511627775 g then Some Gap else (if nat_lt 1048575 gb then Some GapPerByte else (if nat_lt 1048575 ob then Some OverheadPerByte else (if nat_lt 1099511627775 s then Some Sync else None)))))
+-- this parameter where its value is over the limit, and else what is found of the others
+abbrev pub over_or : ℕ → ℕ → Param → Option Param → Option Param
+over_or limit value which others = if nat_lt limit value then Some which else others
+
+-- the first parameter over its limit, in the order L, o, g, G, Gp, O, Op, S
+abbrev pub first_over : Numbers → Option Param
+first_over n =
+    over_or MAX_PARAM n.latency Latency
+    (over_or MAX_PARAM n.overhead Overhead
+    (over_or MAX_PARAM n.gap Gap
+    (over_or MAX_PER_BYTE n.gap_per_byte GapPerByte
+    (over_or MAX_PICOS n.gap_picos GapPicos
+    (over_or MAX_PER_BYTE n.overhead_per_byte OverheadPerByte
+    (over_or MAX_PICOS n.overhead_picos OverheadPicos
+    (over_or MAX_PARAM n.sync Sync None)))))))

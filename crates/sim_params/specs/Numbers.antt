@@ -1,8 +1,9 @@
 -- The numbers of the parameters, and the bound on the costs of LogGOPS.
-use Rattle.std.specs.Prelude.{ℕ, ◌≡◌, ◌-◌, ◌*◌, ◌<◌, ◌≤◌, ◌^◌, max}
-use Rattle.std.proofs.Common.{arith}
+use Rattle.std.specs.Prelude.{ℕ, zero, suc, ◌≡◌, ◌+◌, ◌-◌, ◌*◌, ◌/◌, ◌<◌, ◌≤◌, ◌^◌, max, Bool, true, false, nat_le}
+use Rattle.std.proofs.Common.{arith, refl, ap}
+use Rattle.std.proofs.lemmas.Bool.{le-leb, lt-leb}
 use Rattle.sim_params.specs.declared.params.Params.{Params}
-use Rattle.sim_params.specs.Costs.{Numbers, IsBounded, log_gops}
+use Rattle.sim_params.specs.Costs.{Numbers, IsBounded, log_gops, up, least_up_to, rounded_up}
 
 -- the numbers that the parameters are seen as
 abbrev pub numbers : Params → Numbers
@@ -11,25 +12,60 @@ numbers p = record {
   overhead = p.overhead;
   gap = p.gap;
   gap_per_byte = p.gap_per_byte;
+  gap_picos = p.gap_picos;
   overhead_per_byte = p.overhead_per_byte;
+  overhead_picos = p.overhead_picos;
   sync = p.sync;
 }
+
+-- the numbers that are asked for: L, o, g, G, Gp, O, Op, S
+abbrev pub asked : (l o g gb gp ob op s : ℕ) → Numbers
+asked l o g gb gp ob op s = record {
+  latency = l;
+  overhead = o;
+  gap = g;
+  gap_per_byte = gb;
+  gap_picos = gp;
+  overhead_per_byte = ob;
+  overhead_picos = op;
+  sync = s;
+}
+
+-- the least number that passes is the one that passes while none below it does
+least_is : (n : ℕ) (test : ℕ → Bool) (k : ℕ) → k ≤ n → test k ≡ true → ((j : ℕ) → j < k → test j ≡ false) → least_up_to n test ≡ k
+unfolding least_up_to
+least_is zero test k within passes none = omega arith
+least_is (suc n) test zero within passes none = rw passes refl
+least_is (suc n) test (suc k) within passes none =
+    rw (none 0 (omega arith)) (ap suc (least_is n (λ j. test (suc j)) k (omega arith) passes (λ j h. none (suc j) (omega arith))))
+
+-- rounding up is a division
+pub rounded_is : (picos : ℕ) → rounded_up picos ≡ (picos + 999) / 1000
+unfolding rounded_up
+rounded_is picos =
+    least_is picos (λ q. nat_le picos (1000 * q)) ((picos + 999) / 1000) (omega arith) (le-leb picos (1000 * ((picos + 999) / 1000)) (omega arith)) (λ j h. lt-leb picos (1000 * j) (omega arith))
 
 -- a cost per byte below 2^20 and a size below 2^40 make at most 2^60
 pub product_bound : (c b : ℕ) → c < 2 ^ 20 → b < 2 ^ 40 → c * (b - 1) ≤ 2 ^ 60
 product_bound c b hc hb = grind arith
 
-pub product_bound_by : (c b p : ℕ) → c < 2 ^ 20 → b < 2 ^ 40 → p ≡ b - 1 → c * p ≤ 2 ^ 60
-product_bound_by c b p hc hb e = rw e (product_bound c b hc hb)
+picos_bound : (c b : ℕ) → c < 2 ^ 10 → b < 2 ^ 40 → c * (b - 1) ≤ 2 ^ 50
+picos_bound c b hc hb = grind arith
+
+-- what the bytes of a message cost is at most 2^60 + 2^41
+pub up_bound : (nanos picos bytes : ℕ) → nanos < 2 ^ 20 → picos < 2 ^ 10 → bytes < 2 ^ 40 → up nanos picos bytes ≤ 2 ^ 60 + 2 ^ 41
+up_bound nanos picos bytes few fine small =
+    omega (arith, product_bound nanos bytes few small, picos_bound picos bytes fine small, rounded_is (picos * (bytes - 1)))
 
 -- with parameters within their limits each cost is at most 2^61
 pub log_gops_bounded : (p : Params) → IsBounded (log_gops (numbers p))
-log_gops_bounded p = record {
-  over = λ from to bytes h. omega (arith, product_bound p.overhead_per_byte bytes p.within_limits.overhead_per_byte h, p.within_limits.overhead);
-  gap = λ from to bytes h. omega (arith, product_bound p.gap_per_byte bytes p.within_limits.gap_per_byte h, p.within_limits.gap);
-  flight =
-      λ from to bytes h.
-      let per_byte : max p.overhead_per_byte p.gap_per_byte < 2 ^ 20 = omega (arith, p.within_limits.overhead_per_byte, p.within_limits.gap_per_byte) in
-      omega (arith, product_bound (max p.overhead_per_byte p.gap_per_byte) bytes per_byte h, p.within_limits.overhead, p.within_limits.latency);
-  latency = λ from to. omega (arith, p.within_limits.latency);
-}
+log_gops_bounded p =
+    let w = p.within_limits in
+    let gap = λ (bytes : ℕ) (h : bytes < 2 ^ 40). up_bound p.gap_per_byte p.gap_picos bytes (omega (arith, w.gap_per_byte)) (omega (arith, w.gap_picos)) h in
+    let over = λ (bytes : ℕ) (h : bytes < 2 ^ 40). up_bound p.overhead_per_byte p.overhead_picos bytes (omega (arith, w.overhead_per_byte)) (omega (arith, w.overhead_picos)) h in
+    record {
+      over = λ from to bytes h. omega (arith, over bytes h, w.overhead);
+      gap = λ from to bytes h. omega (arith, gap bytes h, w.gap);
+      flight = λ from to bytes h. omega (arith, over bytes h, gap bytes h, w.overhead, w.latency);
+      latency = λ from to. omega (arith, w.latency);
+    }

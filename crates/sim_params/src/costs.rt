@@ -1,8 +1,10 @@
 // What messages cost.
-ghost use Rattle.std.specs.Prelude.{◌≡◌, ◌<◌, ◌^◌};
-ghost use Rattle.sim_params.specs.Costs.{CostModel, IsBounded};
+ghost use Rattle.std.specs.Prelude.{◌≡◌, ◌<◌, ◌≤◌, ◌+◌, ◌^◌};
+ghost use Rattle.sim_params.specs.Costs.{CostModel, IsBounded, up};
 
 use crate::Params;
+use crate::params::MAX_PICOS;
+use goal_base::MAX_PER_BYTE;
 
 /// The costs of messages between ranks. Every number is at most 2^61, for sizes of at most 2^40-1 bytes.
 pub trait Costs {
@@ -43,6 +45,44 @@ pub struct LogGops {
     pub params: Params,
 }
 
+// What the bytes of a message cost at so many nanoseconds and so many picoseconds for each but the first, in nanoseconds,
+// rounded up once.
+fn up(nanos: u64, picos: u64, bytes: u64) -> u64
+    requires nanos { nanos ≤ MAX_PER_BYTE }
+    requires picos { picos ≤ MAX_PICOS }
+    requires bytes { bytes < 2 ^ 40 }
+    ensures is { result ≡ up nanos picos bytes }
+    ensures bound { result ≤ 2 ^ 60 + 2 ^ 41 }
+{
+    let body = bytes.saturating_sub(1);
+    nanos * body + (picos * body).div_ceil(1_000)
+}
+
+impl LogGops {
+    ghost use Rattle.std.specs.Prelude.{◌≡◌, ◌<◌, ◌≤◌, ◌+◌, ◌^◌};
+    ghost use Rattle.sim_params.specs.Costs.{up};
+
+    // What the bytes of a message cost a cpu.
+    fn overhead_up(&self, bytes: u64) -> u64
+        requires { bytes < 2 ^ 40 }
+        ensures is { result ≡ up self.now.params.overhead_per_byte self.now.params.overhead_picos bytes }
+        ensures bound { result ≤ 2 ^ 60 + 2 ^ 41 }
+    {
+        let params = self.params;
+        up(params.overhead_per_byte, params.overhead_picos, bytes)
+    }
+
+    // What they cost an interface.
+    fn gap_up(&self, bytes: u64) -> u64
+        requires { bytes < 2 ^ 40 }
+        ensures is { result ≡ up self.now.params.gap_per_byte self.now.params.gap_picos bytes }
+        ensures bound { result ≤ 2 ^ 60 + 2 ^ 41 }
+    {
+        let params = self.params;
+        up(params.gap_per_byte, params.gap_picos, bytes)
+    }
+}
+
 impl Costs for LogGops {
     ghost use Rattle.std.specs.Prelude.{◌≡◌, ◌<◌, ◌^◌};
     ghost use Rattle.sim_params.specs.Costs.{CostModel, log_gops};
@@ -53,16 +93,15 @@ impl Costs for LogGops {
     ghost bounded = { λ c. log_gops_bounded c.params };
 
     fn over(&self, _from: u32, _to: u32, bytes: u64) -> u64 {
-        self.params.overhead + self.params.overhead_per_byte * bytes.saturating_sub(1)
+        self.params.overhead + self.overhead_up(bytes)
     }
 
     fn gap(&self, _from: u32, _to: u32, bytes: u64) -> u64 {
-        self.params.gap + self.params.gap_per_byte * bytes.saturating_sub(1)
+        self.params.gap + self.gap_up(bytes)
     }
 
     fn flight(&self, _from: u32, _to: u32, bytes: u64) -> u64 {
-        let per_byte = self.params.overhead_per_byte.max(self.params.gap_per_byte);
-        self.params.overhead + per_byte * bytes.saturating_sub(1) + self.params.latency
+        self.params.overhead + self.overhead_up(bytes).max(self.gap_up(bytes)) + self.params.latency
     }
 
     fn latency(&self, _from: u32, _to: u32) -> u64 {

@@ -2,6 +2,29 @@
 ghost use Rattle.std.specs.Prelude.{◌≡◌, None, Some, IfOk, IfErr, OnOk};
 ghost use Rattle.sim_params.specs.Limits.{IsWithinLimits, first_over};
 
+use goal_base::{MAX_PARAM, MAX_PER_BYTE};
+
+/// The largest gap and overhead for each byte in picoseconds, besides those in nanoseconds.
+pub const MAX_PICOS: u64 = 999;
+
+/// The latency L of a run where none is given, in nanoseconds.
+pub const DEFAULT_LATENCY: u64 = 2_500;
+
+/// The overhead o, in nanoseconds.
+pub const DEFAULT_OVERHEAD: u64 = 1_500;
+
+/// The gap g, in nanoseconds.
+pub const DEFAULT_GAP: u64 = 1_000;
+
+/// The gap per byte G, in nanoseconds per byte. Gp is 0 where it is not given.
+pub const DEFAULT_GAP_PER_BYTE: u64 = 6;
+
+/// The overhead per byte O, in nanoseconds per byte. Op is 0 where it is not given.
+pub const DEFAULT_OVERHEAD_PER_BYTE: u64 = 0;
+
+/// The greatest eager size S, in bytes.
+pub const DEFAULT_SYNC: u64 = 65_535;
+
 /// A parameter of the costs, in the order in which they are checked.
 #[derive(Clone, Copy, Debug, PartialEq, Eq)]
 pub enum Param {
@@ -13,8 +36,12 @@ pub enum Param {
     Gap,
     /// G, in nanoseconds per byte.
     GapPerByte,
+    /// Gp, in picoseconds per byte.
+    GapPicos,
     /// O, in nanoseconds per byte.
     OverheadPerByte,
+    /// Op, in picoseconds per byte.
+    OverheadPicos,
     /// S, in bytes.
     Sync,
 }
@@ -22,12 +49,12 @@ pub enum Param {
 /// A parameter that is over its limit.
 #[derive(Clone, Copy, Debug, PartialEq, Eq)]
 pub struct ParamFault {
-    /// The first that is, in the order L, o, g, G, O, S.
+    /// The first that is, in the order L, o, g, G, Gp, O, Op, S.
     pub which: Param,
 }
 
 /// The parameters of LogGOPS. Each keeps its limit: 2^40-1 for the latency, the overhead, the gap and the greatest
-/// eager size, 2^20-1 for the two costs per byte.
+/// eager size, 2^20-1 for the two costs per byte in nanoseconds, 999 for those in picoseconds.
 #[derive(Clone, Copy, Debug, PartialEq, Eq)]
 pub struct Params {
     /// L: nanoseconds from one rank to another.
@@ -38,51 +65,90 @@ pub struct Params {
     pub gap: u64,
     /// G: nanoseconds of an interface for each byte but the first.
     pub gap_per_byte: u64,
+    /// Gp: picoseconds of an interface for each byte but the first, besides G.
+    pub gap_picos: u64,
     /// O: nanoseconds of a cpu for each byte but the first.
     pub overhead_per_byte: u64,
+    /// Op: picoseconds of a cpu for each byte but the first, besides O.
+    pub overhead_picos: u64,
     /// S: the greatest size, in bytes, that is sent eagerly.
     pub sync: u64,
-    pub ghost within_limits: { IsWithinLimits latency overhead gap gap_per_byte overhead_per_byte sync },
+    pub ghost within_limits: { IsWithinLimits (record {
+      latency = latency;
+      overhead = overhead;
+      gap = gap;
+      gap_per_byte = gap_per_byte;
+      gap_picos = gap_picos;
+      overhead_per_byte = overhead_per_byte;
+      overhead_picos = overhead_picos;
+      sync = sync;
+    }) },
 }
 
-const LIMIT: u64 = (1 << 40) - 1;
-
-const LIMIT_PER_BYTE: u64 = (1 << 20) - 1;
-
 impl Params {
-    ghost use Rattle.sim_params.specs.Numbers.{numbers};
+    ghost use Rattle.sim_params.specs.Costs.{Numbers};
+    ghost use Rattle.sim_params.specs.Numbers.{numbers, asked};
 
-    /// The parameters with these numbers: L, o and g in nanoseconds, `gb` for G and `ob` for O in nanoseconds per
-    /// byte, S in bytes. Where one is over its limit, the first that is.
+    /// The parameters with these numbers, and no picoseconds: L, o and g in nanoseconds, `gb` for G and `ob` for O in
+    /// nanoseconds per byte, S in bytes. Where one is over its limit, the first that is.
     pub fn new(l: u64, o: u64, g: u64, gb: u64, ob: u64, s: u64) -> Result<Params, ParamFault>
-        ensures numbers { IfOk result (λ p. numbers p ≡ record { latency = l; overhead = o; gap = g; gap_per_byte = gb; overhead_per_byte = ob; sync = s }) }
-        ensures within { OnOk result (first_over l o g gb ob s ≡ None) }
-        ensures fault { IfErr result (λ f. first_over l o g gb ob s ≡ Some f.which) }
+        ensures numbers { IfOk result (λ p. numbers p ≡ asked l o g gb 0 ob 0 s) }
+        ensures within { OnOk result (first_over (asked l o g gb 0 ob 0 s) ≡ None) }
+        ensures fault { IfErr result (λ f. first_over (asked l o g gb 0 ob 0 s) ≡ Some f.which) }
     {
-        if l > LIMIT {
+        Params::fine(l, o, g, gb, 0, ob, 0, s)
+    }
+
+    /// The parameters with these numbers: L, o and g in nanoseconds, `gb` for G and `ob` for O in nanoseconds per byte,
+    /// `gp` for Gp and `op` for Op in picoseconds per byte, S in bytes. Where one is over its limit, the first that is.
+    pub fn fine(
+        l: u64,
+        o: u64,
+        g: u64,
+        gb: u64,
+        gp: u64,
+        ob: u64,
+        op: u64,
+        s: u64,
+    ) -> Result<Params, ParamFault>
+        ensures numbers { IfOk result (λ p. numbers p ≡ asked l o g gb gp ob op s) }
+        ensures within { OnOk result (first_over (asked l o g gb gp ob op s) ≡ None) }
+        ensures fault { IfErr result (λ f. first_over (asked l o g gb gp ob op s) ≡ Some f.which) }
+    {
+        if l > MAX_PARAM {
             return Err(ParamFault {
                 which: Param::Latency,
             });
         }
-        if o > LIMIT {
+        if o > MAX_PARAM {
             return Err(ParamFault {
                 which: Param::Overhead,
             });
         }
-        if g > LIMIT {
+        if g > MAX_PARAM {
             return Err(ParamFault { which: Param::Gap });
         }
-        if gb > LIMIT_PER_BYTE {
+        if gb > MAX_PER_BYTE {
             return Err(ParamFault {
                 which: Param::GapPerByte,
             });
         }
-        if ob > LIMIT_PER_BYTE {
+        if gp > MAX_PICOS {
+            return Err(ParamFault {
+                which: Param::GapPicos,
+            });
+        }
+        if ob > MAX_PER_BYTE {
             return Err(ParamFault {
                 which: Param::OverheadPerByte,
             });
         }
-        if s > LIMIT {
+        if op > MAX_PICOS {
+            return Err(ParamFault {
+                which: Param::OverheadPicos,
+            });
+        }
+        if s > MAX_PARAM {
             return Err(ParamFault { which: Param::Sync });
         }
         Ok(Params {
@@ -90,7 +156,9 @@ impl Params {
             overhead: o,
             gap: g,
             gap_per_byte: gb,
+            gap_picos: gp,
             overhead_per_byte: ob,
+            overhead_picos: op,
             sync: s,
         })
     }
