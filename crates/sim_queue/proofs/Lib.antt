@@ -7,3 +7,5 @@ pub mod Stepping
 pub mod Top
 pub mod Changing
 pub mod Bounds
+pub mod Grouping
+pub mod Homes

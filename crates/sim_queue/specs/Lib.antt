@@ -1,3 +1,4 @@
 pub mod Map
 pub mod Scan
 pub mod Heap
+pub mod Groups

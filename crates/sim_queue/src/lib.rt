@@ -1,6 +1,7 @@
 //! Queues of events: each slot has a key or none, and the least key is asked for.
 #![tactic(auto)]
 
+mod groups;
 mod queue;
 mod sift;
 mod slot_heap;
@@ -8,6 +9,7 @@ mod slot_heap;
 mod tests;
 mod vec_queue;
 
+pub use groups::{Groups, Home};
 pub use queue::EventQueue;
 pub use slot_heap::SlotHeap;
 pub use vec_queue::VecQueue;

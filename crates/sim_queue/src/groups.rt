@@ -1,0 +1,126 @@
+// Slots in groups.
+ghost use Rattle.std.specs.Prelude.{◌≡◌, ◌<◌, ◌^◌, All, IfOk, IfSome, IsNone, Some, None, length, map, replicate, slice_get, slice_set};
+ghost use Rattle.sim_queue.specs.Map.{key_at};
+ghost use Rattle.sim_queue.specs.Groups.{IsEmptyGroup, IsLeastOf, AreHomes, no_keys};
+
+use crate::{EventQueue, SlotHeap};
+use goal_base::NoMemory;
+use sim_order::{EventOrder, Steps};
+use std::alloc::Global;
+use std::marker::Model;
+use std::sync::ledger::Ledger;
+
+/// Where a slot has its key: in the heap of its group, at a place there.
+#[derive(Clone, Copy, Debug, PartialEq, Eq)]
+pub struct Home {
+    pub group: u32,
+    pub place: u32,
+}
+
+/// A finite map from slots to keys, whose slots are in groups. The least key of a group is asked for.
+#[derive(Drop)]
+pub struct Groups<K: EventOrder> {
+    homes: Vec<Home>,
+    heaps: Vec<SlotHeap<K>>,
+}
+
+impl<K: EventOrder> Model for Groups<K> {
+    ghost use Rattle.sim_queue.specs.Groups.{Grouped, IsHoused, grouped};
+
+    ghost Value = { Grouped K };
+
+    ghost view = { λ q. grouped q.homes.items q.heaps.items };
+
+    ghost invariant = { λ q. IsHoused q.homes.items q.heaps.items };
+}
+
+// Homes for slots whose groups have these numbers: the slots of a group get its places in their order. Counts the slots
+// of each group.
+fn homes(alloc: Global, numbers: &[u32], counts: &mut [u32]) -> Result<Vec<Home>, NoMemory>
+    requires within { All (λ group. group < length counts.old) numbers.now }
+    requires zero { All (λ count. count ≡ 0) counts.old }
+    requires few { length numbers.now < 2 ^ 32 }
+    ensures { IfOk result (λ homes. AreHomes numbers.now homes.items counts.new) }
+{
+    let mut homes = Vec::with_capacity(alloc, numbers.len())?;
+    'slots: for number in numbers {
+        let group = *number;
+        let place = counts[group as usize];
+        homes.push(Home { group, place })?;
+        counts[group as usize] = place + 1;
+    }
+    Ok(homes)
+}
+
+// Heaps with so many slots each, none of which has a key.
+fn heaps<K: EventOrder + Copy>(alloc: Global, counts: &[u32]) -> Result<Vec<SlotHeap<K>>, NoMemory>
+    ensures { IfOk result (λ heaps. heaps.items ≡ map no_keys counts.now) }
+{
+    let mut heaps = Vec::with_capacity(alloc, counts.len())?;
+    'groups: for count in counts {
+        heaps.push(SlotHeap::new(alloc, *count)?)?;
+    }
+    Ok(heaps)
+}
+
+impl<K: EventOrder + Copy> Groups<K> {
+    /// The slots whose groups have these numbers, the numbers below `groups`. None of them has a key. It takes all its
+    /// memory here.
+    pub fn new(alloc: Global, numbers: &[u32], groups: u32) -> Result<Groups<K>, NoMemory>
+        requires within { All (λ group. group < groups) numbers.now }
+        requires few { length numbers.now < 2 ^ 32 }
+        ensures { IfOk result (λ q. q ≡ record { keys = replicate (length numbers.now) None; groups = numbers.now }) }
+    {
+        let mut counts = vec![in alloc; 0; groups as usize]?;
+        let homes = homes(alloc, numbers, &mut counts)?;
+        let heaps = heaps(alloc, &counts)?;
+        Ok(Groups { homes, heaps })
+    }
+
+    /// The key of a slot, if it has one.
+    pub fn key(&self, slot: u32) -> Option<K>
+        requires { slot < length self.now.keys }
+        ensures { result ≡ key_at self.now.keys slot }
+    {
+        let home = self.homes[slot as usize];
+        self.heaps[home.group as usize].key(home.place)
+    }
+
+    /// The group of a slot.
+    pub fn group(&self, slot: u32) -> u32
+        requires { slot < length self.now.groups }
+        ensures { slice_get self.now.groups slot ≡ Some result }
+    {
+        self.homes[slot as usize].group
+    }
+
+    /// Gives a slot a key, in place of the one that it had if it had one.
+    pub fn put<L: Ledger>(&mut self, slot: u32, key: K, steps: &mut Steps<L>)
+        requires { slot < length self.old.keys }
+        ensures { self.new ≡ record self.old { keys = slice_set self.old.keys slot (Some key) } }
+    {
+        let home = self.homes[slot as usize];
+        self.heaps[home.group as usize].put(home.place, key, steps);
+    }
+
+    /// Takes a slot's key out. Where it has none nothing changes.
+    pub fn drop_slot<L: Ledger>(&mut self, slot: u32, steps: &mut Steps<L>)
+        requires { slot < length self.old.keys }
+        ensures { self.new ≡ record self.old { keys = slice_set self.old.keys slot None } }
+    {
+        let home = self.homes[slot as usize];
+        self.heaps[home.group as usize].drop_slot(home.place, steps);
+    }
+
+    /// The least key of a group. None where no slot of the group has a key, or there is no such group.
+    pub fn least_of<L: Ledger>(&self, group: u32, steps: &mut Steps<L>) -> Option<K>
+        ensures none { IsNone result → IsEmptyGroup self.now group }
+        ensures least { IfSome result (IsLeastOf K.before self.now group) }
+    {
+        if group as usize >= self.heaps.len() {
+            return None;
+        }
+        let (_, key) = self.heaps[group as usize].least(steps)?;
+        Some(key)
+    }
+}
