@@ -43,6 +43,13 @@ impl EventKey {
         }
     }
 
+    /// The key of the same action at another time, in nanoseconds.
+    pub fn at(&self, time: u64) -> EventKey
+        ensures { result ≡ record { time = time; class = self.now.class; op = self.now.op } }
+    {
+        EventKey::new(time, self.class(), self.id())
+    }
+
     /// The time, in nanoseconds.
     pub fn time(&self) -> u64
         ensures { result ≡ self.now.time }

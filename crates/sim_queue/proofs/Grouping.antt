@@ -1,13 +1,13 @@
 -- Slots in groups, of which the key of one slot is changed, and the least of a group.
-use Rattle.std.proofs.Common.{◌≡◌, ◌≢◌, ◌⊎◌, ◌<◌, ◌≤◌, ◌^◌, ℕ, Bool, false, List, [], length, map, set, get_or, slice_get, Option, Some, None, refl, sym, ap, ◌∙◌, subst, arith, inl, inr}
+use Rattle.std.proofs.Common.{◌≡◌, ◌≢◌, ◌⊎◌, ◌<◌, ◌≤◌, ℕ, Bool, false, List, [], length, map, set, get_or, slice_get, Option, Some, None, sym, ap, ◌∙◌, arith, inl, inr}
 use Rattle.std.proofs.lemmas.Bool.{cases_eq, cases_lt}
-use Rattle.std.proofs.lemmas.List.{get_or-set_same, get_or-set_other, length-set, get_or-map, get_or_past, get_or_read, same_lists}
+use Rattle.std.proofs.lemmas.List.{get_or-set_same, get_or-set_other, length-set, get_or-map, get_or_read, same_lists}
 use Rattle.std.proofs.lemmas.Option.{slice_get-get_or, slice_get_within, slice_get_past, get_or_from_slice_get, slice_get-map, same_Some}
 use Rattle.std.proofs.lemmas.List.{length-map}
 use Rattle.std.specs.Option.{option_map}
 use Rattle.sim_queue.specs.declared.groups.Home.{Home}
 use Rattle.sim_queue.specs.Map.{key_at, IsLeast, IsEmptyMap}
-use Rattle.sim_queue.specs.Groups.{Grouped, IsHoused, IsEmptyGroup, IsLeastOf, heap_at, key_of_home, group_of_home, grouped}
+use Rattle.sim_queue.specs.Groups.{IsHoused, IsEmptyGroup, IsLeastOf, heap_at, key_of_home, group_of_home, grouped}
 
 pub same_home : (a b : Home) → a.group ≡ b.group → a.place ≡ b.place → a ≡ b
 same_home a b e f i = record { group = e i; place = f i }

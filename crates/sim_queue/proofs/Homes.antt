@@ -1,12 +1,12 @@
 -- How homes are given out, and groups in which no slot has a key.
-use Rattle.std.proofs.Common.{◌≡◌, ◌≢◌, ◌⊎◌, ◌+◌, ◌<◌, ◌≤◌, ◌^◌, ℕ, List, [], ◌∷◌, ◌++◌, length, map, set, get_or, slice_get, slice_index, replicate, Option, Some, None, refl, sym, ap, ◌∙◌, subst, arith, inl, inr}
+use Rattle.std.proofs.Common.{◌≡◌, ◌≢◌, ◌⊎◌, ◌+◌, ◌<◌, ◌≤◌, ◌^◌, ℕ, List, [], ◌∷◌, ◌++◌, length, map, set, get_or, slice_get, slice_index, replicate, Option, Some, None, refl, sym, ap, ◌∙◌, arith, inl, inr}
 use Rattle.std.proofs.lemmas.Bool.{cases_eq, cases_lt}
 use Rattle.std.proofs.lemmas.List.{get_or-set_same, get_or-set_other, length-set, length-append, length-map, map-append, get_or-map, get_or_past, get_or_append_left, get_or-replicate, length-replicate}
 use Rattle.std.proofs.lemmas.Option.{slice_get-get_or, slice_get_within, get_or_from_slice_get}
 use Rattle.std.proofs.Math.Seq.{get_or-append_seam}
 use Rattle.sim_queue.specs.declared.groups.Home.{Home}
 use Rattle.sim_queue.specs.Map.{key_at}
-use Rattle.sim_queue.specs.Groups.{Grouped, IsHoused, AreHomes, no_keys, heap_at, key_of_home, group_of_home, grouped}
+use Rattle.sim_queue.specs.Groups.{IsHoused, AreHomes, no_keys, heap_at, key_of_home, group_of_home, grouped}
 
 -- an element of a list with one more is one of the list, or the last
 at_end : {X : Type 0} (xs : List X) (y z : X) (i : ℕ) → slice_get (xs ++ y ∷ []) i ≡ Some z → (slice_get xs i ≡ Some z) ⊎ ((i ≡ length xs) × (z ≡ y))
@@ -93,7 +93,7 @@ homes_length numbers homes counts given = sym (length-map homes group_of_home) �
 
 -- no key in any group
 module _ {K : Type 0} where
-  none_of : (count place : ℕ) → key_at (no_keys {K = K} count) place ≡ None
+  pub none_of : (count place : ℕ) → key_at (no_keys {K = K} count) place ≡ None
   none_of count place = go (cases_lt place count)
     where
       go : (place < count) ⊎ (count ≤ place) → key_at (no_keys {K = K} count) place ≡ None

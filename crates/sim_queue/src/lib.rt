@@ -1,6 +1,7 @@
 //! Queues of events: each slot has a key or none, and the least key is asked for.
 #![tactic(auto)]
 
+mod floor_queue;
 mod groups;
 mod queue;
 mod sift;
@@ -9,6 +10,7 @@ mod slot_heap;
 mod tests;
 mod vec_queue;
 
+pub use floor_queue::FloorQueue;
 pub use groups::{Groups, Home};
 pub use queue::EventQueue;
 pub use slot_heap::SlotHeap;

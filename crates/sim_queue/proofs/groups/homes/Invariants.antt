@@ -1,4 +1,4 @@
-use Rattle.std.proofs.Common.{◌≤◌, ◌≡◌, ℕ, take, length, slice_index}
+use Rattle.std.proofs.Common.{◌≤◌, ℕ, take, slice_index}
 use Rattle.sim_queue.specs.Groups.{AreHomes}
 use Rattle.sim_queue.proofs.groups.homes.Given as goal
 

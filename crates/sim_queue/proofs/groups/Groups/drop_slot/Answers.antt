@@ -1,4 +1,4 @@
-use Rattle.std.proofs.Common.{◌≡◌, ◌<◌, Some, None, length, set, ◌∙◌, ap, subst, arith}
+use Rattle.std.proofs.Common.{◌<◌, None, length, set, ◌∙◌, ap, arith}
 use Rattle.std.proofs.lemmas.List.{length-map}
 use Rattle.sim_queue.specs.Groups.{Grouped, key_of_home}
 use Rattle.sim_queue.proofs.Grouping.{home_read, heap_read, changed, still_housed}

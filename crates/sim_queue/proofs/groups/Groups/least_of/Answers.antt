@@ -1,4 +1,4 @@
-use Rattle.std.proofs.Common.{◌≡◌, ◌<◌, Some, length, subst, arith, ap, is_some}
+use Rattle.std.proofs.Common.{subst, arith, ap, is_some}
 use Rattle.sim_queue.specs.Map.{IsEmptyMap, IsLeast}
 use Rattle.sim_queue.specs.Groups.{Grouped, IsEmptyGroup, IsLeastOf}
 use Rattle.sim_queue.proofs.Grouping.{heap_read, no_group, empty_group, least_of_group}

@@ -1,0 +1,32 @@
+use Rattle.std.proofs.Common.{◌≡◌, ℕ, set, Some, ap, sym, ◌∙◌, arith}
+use Rattle.std.proofs.lemmas.Option.{same_Some}
+use Rattle.goal_graph.specs.declared.action.Timed.{Timed}
+use Rattle.sim_queue.specs.Groups.{Grouped}
+use Rattle.sim_queue.specs.Floors.{at_time}
+use Rattle.sim_queue.proofs.Floors.{key_within}
+use Rattle.sim_queue.proofs.FloorSteps.{zeros, step_in, up_floored, up_lifted, parked}
+use Rattle.sim_queue.proofs.floor_queue.park.Goals as goal
+
+-- what waits, with the key of the slot at 0
+with_key : (waiting new : Grouped Timed) (slot : ℕ) (key put : Timed) → new ≡ record { keys = set waiting.keys slot (Some put); groups = waiting.groups } → put ≡ at_time 0 key → new ≡ record { keys = set waiting.keys slot (Some (at_time 0 key)); groups = waiting.groups }
+with_key waiting new slot key put e f = e ∙ ap (λ (k : Timed). record { keys = set waiting.keys slot (Some k); groups = waiting.groups }) f
+
+pub put-requires : goal.put-requires
+put-requires g c =
+    omega (arith, c.requires.floored.each, key_within c.args.ahead.now c.args.slot c.args.key c.requires.key)
+
+pub renew-requires-clause-at_zero : goal.renew-requires-clause-at_zero
+renew-requires-clause-at_zero g c =
+    zeros c.args.ahead.now c.args.waiting.now c.args.heads.now c.requires.floored c.args.slot (Some (at_time 0 c.args.key)) c.put.new.self (with_key c.args.waiting.now c.put.new.self c.args.slot c.args.key c.at.result c.put.ensures c.at.ensures) (omega (arith, c.requires.floored.each, key_within c.args.ahead.now c.args.slot c.args.key c.requires.key)) (λ k e. ap (λ (t : Timed). t.time) (sym (same_Some (at_time 0 c.args.key) k e)))
+
+pub returns-clause-floored : goal.returns-clause-floored
+returns-clause-floored g c =
+    let is = with_key c.args.waiting.now c.put.new.self c.args.slot c.args.key c.at.result c.put.ensures c.at.ensures in
+    let step = step_in c.args.ahead.now c.args.waiting.now c.args.heads.now c.requires.floored c.args.slot c.args.key c.requires.key c.requires.waits c.drop_slot.new.self c.drop_slot.ensures.dropped c.put.new.self is in
+    up_floored c.args.ahead.now c.args.waiting.now c.args.heads.now c.requires.floored c.args.slot c.group-group.result c.group-group.ensures c.args.time (c.requires.not_later c.group-group.result c.group-group.ensures) c.drop_slot.new.self c.put.new.self c.renew.new.heads step c.renew.ensures
+
+pub returns-clause-lifted : goal.returns-clause-lifted
+returns-clause-lifted g c =
+    let is = with_key c.args.waiting.now c.put.new.self c.args.slot c.args.key c.at.result c.put.ensures c.at.ensures in
+    let step = step_in c.args.ahead.now c.args.waiting.now c.args.heads.now c.requires.floored c.args.slot c.args.key c.requires.key c.requires.waits c.drop_slot.new.self c.drop_slot.ensures.dropped c.put.new.self is in
+    up_lifted c.args.ahead.now c.args.waiting.now c.args.heads.now c.requires.floored c.args.slot c.group-group.result c.group-group.ensures c.args.time (c.requires.not_later c.group-group.result c.group-group.ensures) c.drop_slot.new.self c.put.new.self c.renew.new.heads step c.renew.ensures (parked c.args.ahead.now c.args.waiting.now c.args.heads.now c.requires.floored c.args.slot c.args.time c.args.key c.requires.key c.drop_slot.new.self c.drop_slot.ensures.dropped c.put.new.self is)

@@ -1,0 +1,89 @@
+-- A queue with floors. The slots of a group wait for the same thing, so that none of their events is before the moment at
+-- which it is free. Such a moment is the floor of the group: keys that are at the floor are raised together with it.
+use Rattle.std.specs.Prelude.{◌≡◌, ◌⊎◌, ◌<◌, ◌≤◌, ℕ, Bool, true, false, List, [], ◌∷◌, Option, Some, None, length, slice_get, slice_set}
+use Rattle.std.specs.Option.{option_map}
+use Rattle.goal_graph.specs.declared.action.Timed.{Timed}
+use Rattle.goal_graph.specs.declared.action.Class.{Class}
+use Rattle.goal_graph.specs.declared.action.Class.TheVariants.{Arrive, Serve, Data, Post, Begin}
+use Rattle.sim_order.specs.Events.{event_before}
+use Rattle.sim_queue.specs.Map.{key_at}
+use Rattle.sim_queue.specs.Groups.{Grouped, IsEmptyGroup, IsLeastOf}
+
+-- actions of this class wait for a cpu or an interface
+abbrev pub waits_for_room : Class → Bool
+waits_for_room Arrive = false
+waits_for_room Serve = true
+waits_for_room Data = true
+waits_for_room Post = false
+waits_for_room Begin = true
+
+-- the event at another time
+abbrev pub at_time : ℕ → Timed → Timed
+at_time time k = record { time = time; class = k.class; op = k.op }
+
+-- a slot has a key, of an action that waits, before a time
+pub record IsLate (keys : List (Option Timed)) (slot time : ℕ) : Type 0 where
+  pub key : Timed
+  pub has : key_at keys slot ≡ Some key
+  pub waits : waits_for_room key.class ≡ true
+  pub before : key.time < time
+
+-- The key of another slot is raised to a time, with that of a slot of its group.
+pub record IsRaised (groups : List ℕ) (old new : List (Option Timed)) (slot time other : ℕ) : Type 0 where
+  pub key : Timed
+  pub had : key_at old other ≡ Some key
+  pub has : key_at new other ≡ Some (at_time time key)
+  pub not_later : key.time ≤ time
+  pub waits : waits_for_room key.class ≡ true
+  pub group : slice_get groups other ≡ slice_get groups slot
+
+-- The key of a slot is raised to a time. Each other stays, or is raised with it.
+pub record IsLifted (groups : List ℕ) (old new : List (Option Timed)) (slot time : ℕ) : Type 0 where
+  pub each : length new ≡ length old
+  pub here : (k : Timed) → key_at old slot ≡ Some k → key_at new slot ≡ Some (at_time time k)
+  pub others : (other : ℕ) → other ≡ slot ⊎ (key_at new other ≡ key_at old other) ⊎ IsRaised groups old new slot time other
+
+-- What the code keeps: keys that stand for themselves, `ahead`; keys at the floor of their group, `waiting`, whose own
+-- times are 0; and for each group the least of the latter at the time of the floor, `heads`.
+abbrev pub floor_of : Option Timed → ℕ
+floor_of None = 0
+floor_of (Some k) = k.time
+
+-- the key of a slot, by the head of its group, what it has ahead and what it has waiting
+abbrev pub effective : Option Timed → Option Timed → Option Timed → Option Timed
+effective head (Some k) waiting = Some k
+effective head None waiting = option_map (at_time (floor_of head)) waiting
+
+unfoldable pub seen_keys : List (Option Timed) → List (Option Timed) → List (Option Timed) → List ℕ → List (Option Timed)
+seen_keys heads (a ∷ ahead) (w ∷ waiting) (g ∷ groups) =
+    effective (key_at heads g) a w ∷ seen_keys heads ahead waiting groups
+seen_keys heads _ _ _ = []
+
+abbrev pub IsHead : Grouped Timed → ℕ → Option Timed → Type 0
+IsHead waiting group None = IsEmptyGroup waiting group
+IsHead waiting group (Some k) = IsLeastOf event_before waiting group (at_time 0 k)
+
+pub record IsFloored (ahead : List (Option Timed)) (waiting : Grouped Timed) (heads : List (Option Timed)) : Type 0 where
+  pub each : length ahead ≡ length waiting.keys
+  pub grouped : length waiting.groups ≡ length waiting.keys
+  pub within : (slot group : ℕ) → slice_get waiting.groups slot ≡ Some group → group < length heads
+  pub apart : (slot : ℕ) (k : Timed) → key_at ahead slot ≡ Some k → key_at waiting.keys slot ≡ None
+  pub waits : (slot : ℕ) (k : Timed) → key_at waiting.keys slot ≡ Some k → (k.time ≡ 0) × (waits_for_room k.class ≡ true)
+  pub headed : (group : ℕ) → IsHead waiting group (key_at heads group)
+
+-- the head of a group is told anew, at this floor
+pub record IsRenewed (waiting : Grouped Timed) (old new : List (Option Timed)) (group floor : ℕ) : Type 0 where
+  pub head : Option Timed
+  pub put : new ≡ slice_set old group head
+  pub is_head : IsHead waiting group head
+  pub at_floor : (k : Timed) → head ≡ Some k → k.time ≡ floor
+
+-- what one slot has ahead or waiting is changed
+pub record IsStep (slot : ℕ) (ahead new_ahead : List (Option Timed)) (waiting new_waiting : Grouped Timed) : Type 0 where
+  pub each_ahead : length new_ahead ≡ length ahead
+  pub each_waiting : length new_waiting.keys ≡ length waiting.keys
+  pub groups : new_waiting.groups ≡ waiting.groups
+  pub ahead_stays : (other : ℕ) → ¬ (other ≡ slot) → key_at new_ahead other ≡ key_at ahead other
+  pub waiting_stays : (other : ℕ) → ¬ (other ≡ slot) → key_at new_waiting.keys other ≡ key_at waiting.keys other
+  pub apart : (k : Timed) → key_at new_ahead slot ≡ Some k → key_at new_waiting.keys slot ≡ None
+  pub waits : (k : Timed) → key_at new_waiting.keys slot ≡ Some k → (k.time ≡ 0) × (waits_for_room k.class ≡ true)
