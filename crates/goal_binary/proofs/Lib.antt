@@ -11,3 +11,4 @@ pub mod RanksAgain
 pub mod Round
 pub mod Follows
 pub mod Cuts
+pub mod Lengths

@@ -1,5 +1,5 @@
 -- The one compiled file of a schedule: a header, and then a record for each rank.
-use Rattle.std.specs.Prelude.{ℕ, ◌+◌, List, [], ◌∷◌, ◌++◌, length, Option, Some, None, unwrap_or}
+use Rattle.std.specs.Prelude.{ℕ, ◌+◌, ◌*◌, List, [], ◌∷◌, ◌++◌, length, Option, Some, None, unwrap_or}
 use Rattle.std.specs.List.{flat_map}
 use Rattle.std.specs.Int.{w32, w64, to_le_bytes}
 use Rattle.goal_graph.specs.declared.plan.Op.{Op}
@@ -11,6 +11,7 @@ use Rattle.goal_graph.specs.declared.plan.When.TheVariants.{AfterEnd, AfterStart
 use Rattle.goal_graph.specs.declared.plan.Note.{Note}
 use Rattle.goal_graph.specs.declared.plan.Note.TheVariants.{Moves, Adds}
 use Rattle.goal_graph.specs.Schedule.{Plan}
+use Rattle.goal_graph.specs.Fault.{op_count, dep_count, note_count}
 use Rattle.goal_binary.specs.declared.layout.TheConstants.{MAGIC, VERSION}
 
 -- a number in four or in eight bytes, the lowest byte first
@@ -95,3 +96,7 @@ header plans = MAGIC ++ spelled_u32 VERSION ++ spelled_u32 (length plans)
 -- the whole file
 unfoldable pub file : List Plan → List ℕ
 file plans = header plans ++ flat_map spelled_rank plans
+
+-- how many bytes it has
+abbrev pub file_length : List Plan → ℕ
+file_length plans = 16 + 12 * length plans + 24 * op_count plans + 12 * dep_count plans + 16 * note_count plans

@@ -1,12 +1,21 @@
 -- The laws that join a schedule and its file.
-use Rattle.std.specs.Prelude.{◌≡◌, ◌≢◌, ◌<◌, ℕ, List, ◌∷◌, ◌++◌, length, take, Ok, Err, All}
+use Rattle.std.specs.Prelude.{◌≡◌, ◌≢◌, ◌<◌, ◌≤◌, ℕ, List, ◌∷◌, ◌++◌, length, take, Ok, Err, All}
+use Rattle.goal_base.specs.declared.limits.TheConstants.{MAX_INPUT}
 use Rattle.goal_graph.specs.Schedule.{Plan}
-use Rattle.goal_graph.specs.Fault.{IsAccepted}
+use Rattle.goal_graph.specs.Fault.{IsAccepted, AreCountsWithin}
 use Rattle.goal_graph.specs.Widths.{AreInWidth}
 use Rattle.goal_binary.specs.declared.fault.FileFault.{FileFault}
 use Rattle.goal_binary.specs.declared.fault.FileFault.TheVariants.{Short, Magic, Version, Field, Extra}
-use Rattle.goal_binary.specs.File.{file}
+use Rattle.goal_binary.specs.File.{file, file_length}
 use Rattle.goal_binary.specs.Meaning.{meaning}
+
+-- the file has so many bytes as the plans call for
+abbrev pub LengthIsTold : Type 0
+LengthIsTold = (plans : List Plan) → length (file plans) ≡ file_length plans
+
+-- plans whose counts are within the limits have a file that is read whole, of 93,061,136 bytes at most
+abbrev pub WithinInput : Type 0
+WithinInput = (plans : List Plan) → AreCountsWithin plans → (length (file plans) ≤ 93061136) × (length (file plans) ≤ MAX_INPUT)
 
 -- bytes that mean plans are the file of these plans, so no schedule has a second file
 abbrev pub OneFile : Type 0

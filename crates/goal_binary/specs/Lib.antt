@@ -3,3 +3,4 @@ pub mod Fields
 pub mod Reading
 pub mod Meaning
 pub mod Laws
+pub mod FaultWords

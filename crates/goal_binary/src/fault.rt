@@ -1,9 +1,12 @@
 //! Why bytes are no compiled file of a schedule.
-ghost use Rattle.std.specs.Prelude.{◌≡◌};
+ghost use Rattle.std.specs.Prelude.{◌≡◌, Some};
 ghost use Rattle.goal_binary.specs.declared.fault.FileFault.TheVariants.{NoMemory};
+ghost use Rattle.goal_binary.specs.FaultWords.{fault_words};
 
 use goal_graph::PlanFault;
 use std::alloc::{AllocError, AllocFailed};
+use std::error::Error;
+use std::fmt;
 
 /// The first fault of bytes that should be a compiled file. Offsets are in bytes from 0.
 #[derive(Clone, Copy, Debug, PartialEq, Eq)]
@@ -39,3 +42,24 @@ impl<T: Drop> From<AllocFailed<T>> for FileFault {
         FileFault::NoMemory
     }
 }
+
+impl fmt::Display for FileFault {
+    ghost output = { λ fault. Some (fault_words fault) };
+
+    fn fmt<W: fmt::Write>(&self, f: &mut fmt::Formatter<W>) -> fmt::Result {
+        match self {
+            FileFault::Short { at } => write!(f, "the file ends inside a field after {at} bytes"),
+            FileFault::Magic => write!(
+                f,
+                "the bytes do not begin with the magic of a compiled file"
+            ),
+            FileFault::Version { found } => write!(f, "the file is of version {found}"),
+            FileFault::Field { at } => write!(f, "no file has what stands at byte {at}"),
+            FileFault::Extra { at } => write!(f, "bytes follow the last rank at byte {at}"),
+            FileFault::Plan(_) => write!(f, "the plans of the file are no schedule"),
+            FileFault::NoMemory => write!(f, "out of memory"),
+        }
+    }
+}
+
+impl Error for FileFault {}

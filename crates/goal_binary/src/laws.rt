@@ -1,14 +1,18 @@
 //! The laws of compiled files. Their function does nothing: a proof cites a law by a call.
-ghost use Rattle.goal_binary.specs.Laws.{OneFile, ReadAgain, CutIsShort, MoreIsExtra, NoFileBegins};
+ghost use Rattle.goal_binary.specs.Laws.{LengthIsTold, WithinInput, OneFile, ReadAgain, CutIsShort, MoreIsExtra, NoFileBegins};
 
 /// The laws of compiled files, for every schedule and all bytes:
 ///
+/// - `length_is_told`: the file has so many bytes as the numbers of its ranks, operations, dependencies and notes say.
+/// - `within_input`: where these are within their limits, it is short enough to be an input.
 /// - `one_file`: bytes that mean plans are the file of these plans, so no schedule has a second file.
 /// - `read_again`: the file of a schedule means the schedule.
 /// - `cut_is_short`: a file that is cut is short where it ends.
 /// - `more_is_extra`: of bytes behind a file the first is extra.
 /// - `no_file_begins`: no file begins with bytes of which a whole field is at fault.
 pub fn laws_of_files()
+    ensures length_is_told { LengthIsTold }
+    ensures within_input { WithinInput }
     ensures one_file { OneFile }
     ensures read_again { ReadAgain }
     ensures cut_is_short { CutIsShort }

@@ -1,7 +1,14 @@
 use Rattle.goal_binary.proofs.RanksTaken.{meaning_taken, IsBytes-All}
 use Rattle.goal_binary.proofs.RanksAgain.{meaning_again}
 use Rattle.goal_binary.proofs.Cuts.{cut_is_short, more_is_extra, no_file_begins}
+use Rattle.goal_binary.proofs.Lengths.{length-file, file-within}
 use Rattle.goal_binary.proofs.laws.laws_of_files.Goals as goal
+
+pub returns-clause-length_is_told : goal.returns-clause-length_is_told
+returns-clause-length_is_told c = length-file
+
+pub returns-clause-within_input : goal.returns-clause-within_input
+returns-clause-within_input c = file-within
 
 pub returns-clause-one_file : goal.returns-clause-one_file
 returns-clause-one_file c bytes plans fits = meaning_taken bytes (IsBytes-All bytes fits) plans
