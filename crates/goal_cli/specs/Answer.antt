@@ -1,7 +1,8 @@
 -- What each answer of `goal` says of the call, and what `err` gets.
-use Rattle.std.specs.Prelude.{ℕ, ◌≡◌, ◌⊎◌, Bool, true, false, List, [], ◌++◌, take, Option, Some, None, IsSomeAnd, IfSome, codes}
+use Rattle.std.specs.Prelude.{ℕ, ◌+◌, ◌≡◌, ◌⊎◌, Bool, true, false, List, [], ◌++◌, take, Option, Some, None, IsSomeAnd, IfSome, codes}
 use Rattle.goal_base.specs.Text.{line_feed}
-use Rattle.goal_base.specs.Device.{HostState, SinkState, Rose, Held, KeepsFiles, SameReadCounts, Holds, HoldsPart, Grows, file_of, ReadFaulted}
+use Rattle.goal_base.specs.declared.limits.TheConstants.{MAX_INPUT}
+use Rattle.goal_base.specs.Device.{HostState, SinkState, Rose, Held, KeepsFiles, SameRest, ReadsAtMost, SameReadCounts, Holds, HoldsPart, Grows, file_of, ReadFaulted}
 use Rattle.goal_graph.specs.Schedule.{Plan}
 use Rattle.sim_params.specs.Costs.{CostModel}
 use Rattle.goal_words.specs.Words.{Command, Sim, Compile, Show}
@@ -11,6 +12,7 @@ use Rattle.goal_cli.specs.declared.answer.Status.{Status}
 use Rattle.goal_cli.specs.declared.answer.Status.TheVariants as status
 use Rattle.goal_cli.specs.Output.{IsPrintedRun, IsOutput, IsRefused}
 use Rattle.goal_cli.specs.Refusal.{refused_line}
+use Rattle.goal_cli.specs.World.{Devices, World, but_err}
 
 -- the name of the input of a command
 abbrev pub input_of : Command → List ℕ
@@ -46,42 +48,42 @@ abbrev pub status_if : Bool → Status
 status_if true = status.Stuck
 status_if false = status.Done
 
--- The host and `out` are given before and after the call. `compile` writes to its file OUT, the others to `out`.
-module _ (host host' : HostState) (out out' : SinkState) where
+-- The devices are given before and after the call. `compile` writes to its file OUT, the others to `out`.
+module _ (old new : Devices) where
   -- these bytes were written whole
   abbrev pub Gets : Command → List ℕ → Type 0
-  Gets (Sim name numbers) bytes = Grows out out' bytes
-  Gets (Compile name file) bytes = Holds host host' file bytes
-  Gets (Show name) bytes = Grows out out' bytes
+  Gets (Sim name numbers) bytes = Grows old.out new.out bytes
+  Gets (Compile name file) bytes = Holds old.host new.host file bytes
+  Gets (Show name) bytes = Grows old.out new.out bytes
 
   -- nothing of them was written, or a prefix
   abbrev pub GetsPart : Command → List ℕ → Type 0
-  GetsPart (Sim name numbers) bytes = GrowsByPart out out' bytes
-  GetsPart (Compile name file) bytes = HoldsPart host host' file bytes
-  GetsPart (Show name) bytes = GrowsByPart out out' bytes
+  GetsPart (Sim name numbers) bytes = GrowsByPart old.out new.out bytes
+  GetsPart (Compile name file) bytes = HoldsPart old.host new.host file bytes
+  GetsPart (Show name) bytes = GrowsByPart old.out new.out bytes
 
   -- where the command doesn't write, all is as it was
   abbrev pub Elsewhere : Command → Type 0
-  Elsewhere (Sim name numbers) = KeepsFiles host host'
-  Elsewhere (Compile name file) = out' ≡ out
-  Elsewhere (Show name) = KeepsFiles host host'
+  Elsewhere (Sim name numbers) = KeepsFiles old.host new.host
+  Elsewhere (Compile name file) = new.out ≡ old.out
+  Elsewhere (Show name) = KeepsFiles old.host new.host
 
   -- the count of faults of writing rose; it didn't, and doesn't stand where it stops
   abbrev pub WritesRose : Command → Type 0
-  WritesRose (Sim name numbers) = Rose out.stops out.count out'.count
-  WritesRose (Compile name file) = Rose host.stops host.write_count host'.write_count
-  WritesRose (Show name) = Rose out.stops out.count out'.count
+  WritesRose (Sim name numbers) = Rose old.out.stops old.out.count new.out.count
+  WritesRose (Compile name file) = Rose old.host.stops old.host.write_count new.host.write_count
+  WritesRose (Show name) = Rose old.out.stops old.out.count new.out.count
 
   abbrev pub WritesHeld : Command → Type 0
-  WritesHeld (Sim name numbers) = Held out.stops out.count out'.count
-  WritesHeld (Compile name file) = Held host.stops host.write_count host'.write_count
-  WritesHeld (Show name) = Held out.stops out.count out'.count
+  WritesHeld (Sim name numbers) = Held old.out.stops old.out.count new.out.count
+  WritesHeld (Compile name file) = Held old.host.stops old.host.write_count new.host.write_count
+  WritesHeld (Show name) = Held old.out.stops old.out.count new.out.count
 
   -- the count is as it was, and no file is left open to be written
   abbrev pub WritesSame : Command → Type 0
-  WritesSame (Sim name numbers) = out'.count ≡ out.count
-  WritesSame (Compile name file) = (host'.write_count ≡ host.write_count) × (host'.writing ≡ false)
-  WritesSame (Show name) = out'.count ≡ out.count
+  WritesSame (Sim name numbers) = new.out.count ≡ old.out.count
+  WritesSame (Compile name file) = (new.host.write_count ≡ old.host.write_count) × (new.host.writing ≡ false)
+  WritesSame (Show name) = new.out.count ≡ old.out.count
 
   -- what the command makes of the input was written, whole or in part
   abbrev pub GetsOutput : Bool → Command → List ℕ → Type 0
@@ -97,20 +99,20 @@ module _ (host host' : HostState) (out out' : SinkState) where
 
   -- nothing was written
   pub record IsUntouched : Type 0 where
-    pub files : KeepsFiles host host'
-    pub sink : out' ≡ out
+    pub files : KeepsFiles old.host new.host
+    pub sink : new.out ≡ old.out
 
   -- what is so after an output was written whole
   pub record IsWritten (stuck : Bool) (c : Command) : Type 0 where
-    pub output : ForFile host (input_of c) (GetsOutput stuck c)
-    pub reads : SameReadCounts host host'
+    pub output : ForFile old.host (input_of c) (GetsOutput stuck c)
+    pub reads : SameReadCounts old.host new.host
     pub writes : WritesSame c
     pub elsewhere : Elsewhere c
 
   -- what is so after it was cut off
   pub record IsCutOff (c : Command) : Type 0 where
-    pub output : ForFile host (input_of c) (GetsPartOfOutput c)
-    pub reads : SameReadCounts host host'
+    pub output : ForFile old.host (input_of c) (GetsPartOfOutput c)
+    pub reads : SameReadCounts old.host new.host
     pub elsewhere : Elsewhere c
 
   -- The table of causes: what is so where a command leads to an answer.
@@ -119,15 +121,15 @@ module _ (host host' : HostState) (out out' : SinkState) where
   IsCauseOf c answer.Stuck = IsWritten true c
   IsCauseOf c answer.BadLine = ⊥
   IsCauseOf c (answer.Refused r) =
-      ForFile host (input_of c) (λ input. IsRefused c input r) × SameReadCounts host host' × IsUntouched
-  IsCauseOf c answer.ReadFault = ReadFaulted host host' (input_of c) × IsUntouched
+      ForFile old.host (input_of c) (λ input. IsRefused c input r) × SameReadCounts old.host new.host × IsUntouched
+  IsCauseOf c answer.ReadFault = ReadFaulted old.host new.host (input_of c) × IsUntouched
   IsCauseOf c answer.WriteFault = IsCutOff c × WritesRose c
   IsCauseOf c answer.NoMemory = IsUntouched ⊎ IsCutOff c
 
   -- and where words do that are no command
   abbrev pub IsCauseOfNone : Answer → Type 0
-  IsCauseOfNone answer.BadLine = SameReadCounts host host' × IsUntouched
-  IsCauseOfNone answer.NoMemory = SameReadCounts host host' × IsUntouched
+  IsCauseOfNone answer.BadLine = SameReadCounts old.host new.host × IsUntouched
+  IsCauseOfNone answer.NoMemory = SameReadCounts old.host new.host × IsUntouched
   IsCauseOfNone _ = ⊥
 
   abbrev pub IsCause : Option Command → Answer → Type 0
@@ -191,9 +193,24 @@ IsTold old new answer.Stuck = new ≡ old
 IsTold old new answer.NoMemory = GrowsByPart old new (line_for answer.NoMemory)
 IsTold old new a = Says old new (line_for a)
 
--- The status is that of the answer, and the sink got its line. Or it is want of memory, and the sink got a prefix of
--- that line, or of the line of want of memory.
+-- want of memory cut the line off: the sink got a prefix of it, and counted no fault
+abbrev pub IsCutShort : SinkState → SinkState → List ℕ → Type 0
+IsCutShort old new line = GrowsByPart old new line × (new.count ≡ old.count)
+
+-- The status is that of the answer, and the sink got its line. Or it is want of memory, which cut that line off, or came
+-- before it, and then the sink got a prefix of the line of want of memory.
 abbrev pub IsAnswered : SinkState → SinkState → Answer → Status → Type 0
 IsAnswered old new a s =
     ((s ≡ status_of a) × IsTold old new a)
-    ⊎ ((s ≡ status.NoMemory) × (GrowsByPart old new (line_for a) ⊎ GrowsByPart old new (line_for answer.NoMemory)))
+    ⊎ ((s ≡ status.NoMemory) × (IsCutShort old new (line_for a) ⊎ GrowsByPart old new (line_for answer.NoMemory)))
+
+-- There is an answer whose cause holds, and the status and what `err` got are that answer's.
+pub record Answered (command : Option Command) (old new : World) (result : Status) : Type 0 where
+  pub answer : Answer
+  pub cause : IsCause (but_err old) (but_err new) command answer
+  pub told : IsAnswered old.err new.err answer result
+
+-- of the input of the command at most a byte more than an input may have is taken
+abbrev pub IsTaken : Option Command → HostState → HostState → Type 0
+IsTaken command old new =
+    SameRest old new ⊎ IsSomeAnd command (λ c. ReadsAtMost old new (input_of c) (MAX_INPUT + 1))

@@ -1,5 +1,7 @@
-pub mod Answer
+-- what a reader of the contract of `goal` believes
+pub mod World
 pub mod Input
+pub mod Timeline
 pub mod Output
 pub mod Refusal
-pub mod Timeline
+pub mod Answer

@@ -1,13 +1,13 @@
 // The top call: from the words of a command line to what is written, and a status.
-ghost use Rattle.std.specs.Prelude.{ℕ, ◌≡◌, ◌≢◌, ◌⊎◌, ◌+◌, ◌^◌, ◌<◌, true, false, Bool, List, ◌++◌, Some, None, IsSomeAnd, IfSome, IfOk, IfErr, OnOk, OnErr, IsErrOf};
-ghost use Rattle.goal_base.specs.Device.{Rose, Held, Later, SinkLater, SameRest, SameReadCounts, Grows, ReadsAtMost, file_of, ReadFaulted};
+ghost use Rattle.std.specs.Prelude.{ℕ, ◌≡◌, ◌⊎◌, ◌<◌, true, List, Some, OnOk, OnErr, IsErrOf};
+ghost use Rattle.goal_base.specs.Device.{Rose, Held, Later, SinkLater, KeepsReading, Grows};
 ghost use Rattle.goal_graph.specs.Schedule.{Plan};
 ghost use Rattle.sim_params.specs.Costs.{Numbers, log_gops};
 ghost use Rattle.goal_words.specs.Words.{Sim, command, command_in};
-ghost use Rattle.goal_cli.specs.Answer.{input_of, ForFile, IfFile, ForInput, IfInput, GrowsByPart, ReadsHeld, Gets, GetsPart, Elsewhere, WritesRose, WritesHeld, WritesSame, GetsPartOfOutput, AnswersWhole, PrintsRun, IsUntouched, IsWritten, IsCauseOf, IsCause, line_for, Answers, AnswersWith, IsSilent, line_at, Says, IsAnswered};
+ghost use Rattle.goal_cli.specs.Answer.{input_of, IfFile, IfInput, GrowsByPart, ReadsHeld, Gets, GetsPart, Elsewhere, WritesRose, WritesHeld, WritesSame, AnswersWhole, PrintsRun, IsCauseOf, IsCause, AnswersWith, Says, IsCutShort, IsAnswered, Answered, IsTaken};
+ghost use Rattle.goal_cli.specs.World.{devices, world, DevicesLater, WorldLater};
 ghost use Rattle.goal_cli.specs.Output.{HasOutput, HasRun, IsRefused};
 ghost use Rattle.goal_cli.specs.Refusal.{refused_line};
-ghost use Rattle.goal_cli.specs.declared.answer.Answer.{Answer};
 ghost use Rattle.goal_cli.specs.declared.answer.Refusal.{Refusal};
 
 use crate::answer::{Answer, Refusal, Status};
@@ -30,7 +30,8 @@ const OUT_OF_MEMORY: &[u8] = b"goal: out of memory\n";
 /// `out`; `compile NAME OUT` writes its compiled file to the file OUT; `show NAME` writes its canonical text to `out`.
 /// What went wrong is said in a line to `err`.
 ///
-/// Any status may give way to `NoMemory`. A failure of `err` changes no status.
+/// Any status may give way to `NoMemory`. A failure of `err` changes no status. `laws_of_answers` lists what follows from
+/// `answered`, answer by answer.
 pub fn goal<H: Host, W: Sink, E: Sink>(
     alloc: Global,
     words: &[String],
@@ -38,50 +39,6 @@ pub fn goal<H: Host, W: Sink, E: Sink>(
     out: &mut W,
     err: &mut E,
 ) -> Status
-    // The words are no line.
-    ensures bad_line { result ≡ Status.BadLine → command_in words.now ≡ None }
-    ensures bad_line_exact { command_in words.now ≡ None → Answers result Status.BadLine }
-
-    // The host failed, or has no file NAME.
-    ensures read_fault { result ≡ Status.ReadFault
-        → IsSomeAnd (command_in words.now) (λ c. ReadFaulted (H.state host.old) (H.state host.new) (input_of c)) }
-    ensures read_risen { (H.state host.old).read_count < (H.state host.new).read_count
-        → Answers result Status.ReadFault }
-    ensures absent_risen { (H.state host.old).absent_count < (H.state host.new).absent_count
-        → Answers result Status.ReadFault }
-    ensures absent_name { IfSome (command_in words.now) (λ c. (H.state host.old).tells ≡ true
-        → file_of (H.state host.old) (input_of c) ≡ None → Answers result Status.ReadFault) }
-
-    // The command makes nothing of the input.
-    ensures refused { result ≡ Status.Refused → (refusal : Refusal)
-        × ForInput (command_in words.now) (H.state host.old) (λ c input. IsRefused c input refusal)
-        × Says (E.state err.old) (E.state err.new) (refused_line refusal) }
-    ensures refused_exact { IfInput (command_in words.now) (H.state host.old) (λ c input. (refusal : Refusal)
-        → IsRefused c input refusal → ReadsHeld (H.state host.old) (H.state host.new)
-        → AnswersWith result Status.Refused (Says (E.state err.old) (E.state err.new) (refused_line refusal))) }
-
-    // Writing failed, after a part of the output.
-    ensures write_fault { result ≡ Status.WriteFault → IsSomeAnd (command_in words.now) (λ c.
-        WritesRose (H.state host.old) (H.state host.new) (W.state out.old) (W.state out.new) c
-        × ForFile (H.state host.old) (input_of c)
-        (GetsPartOfOutput (H.state host.old) (H.state host.new) (W.state out.old) (W.state out.new) c)) }
-    ensures write_risen { (W.state out.old).count < (W.state out.new).count → Answers result Status.WriteFault }
-    ensures file_risen { (H.state host.old).write_count < (H.state host.new).write_count
-        → Answers result Status.WriteFault }
-
-    // The output was written whole: Stuck exactly for a run with an operation that has no end. No output is left open.
-    ensures done { result ≡ Status.Done → IsSomeAnd (command_in words.now)
-        (IsWritten (H.state host.old) (H.state host.new) (W.state out.old) (W.state out.new) false) }
-    ensures stuck { result ≡ Status.Stuck → IsSomeAnd (command_in words.now)
-        (IsWritten (H.state host.old) (H.state host.new) (W.state out.old) (W.state out.new) true) }
-    ensures never_not_certified { result ≢ Status.NotCertified }
-
-    // Every input of which the command makes something has it written whole, unless a device fails.
-    ensures complete { IfInput (command_in words.now) (H.state host.old) (λ c input. (sched : List Plan)
-        → HasOutput c input sched → ReadsHeld (H.state host.old) (H.state host.new)
-        → WritesHeld (H.state host.old) (H.state host.new) (W.state out.old) (W.state out.new) c
-        → AnswersWhole (H.state host.old) (H.state host.new) (W.state out.old) (W.state out.new) result c input) }
-
     // For every file that is read as a schedule, in text or compiled, and all parameters whose time budget fits 63 bits,
     // unless want of memory is answered or a device fails, `out` gets the start, the end and the match of each operation
     // in the one run where the least possible action by time and tie rule happens next.
@@ -91,30 +48,27 @@ pub fn goal<H: Host, W: Sink, E: Sink>(
         → Held (W.state out.old).stops (W.state out.old).count (W.state out.new).count
         → PrintsRun result (W.state out.old) (W.state out.new) (log_gops p) sched) }
 
-    // At most a part of the output is written, and nothing where there is none. Where the command doesn't write, nothing
-    // changes: no command but `compile` changes a file, and it changes none but OUT.
-    ensures part { IsUntouched (H.state host.old) (H.state host.new) (W.state out.old) (W.state out.new)
-        ⊎ ForInput (command_in words.now) (H.state host.old)
-        (GetsPartOfOutput (H.state host.old) (H.state host.new) (W.state out.old) (W.state out.new)) }
-    ensures silent { IsSilent result
-        → IsUntouched (H.state host.old) (H.state host.new) (W.state out.old) (W.state out.new) }
-    ensures elsewhere { IfSome (command_in words.now)
-        (Elsewhere (H.state host.old) (H.state host.new) (W.state out.old) (W.state out.new)) }
+    // The words lead to an answer whose cause holds, and the status and what `err` got are that answer's.
+    ensures answered { Answered (command_in words.now)
+        (world (H.state host.old) (W.state out.old) (E.state err.old))
+        (world (H.state host.new) (W.state out.new) (E.state err.new)) result }
 
-    // `err` gets the line of the status.
-    ensures says { IfSome (line_at result) (λ line. Says (E.state err.old) (E.state err.new) line) }
-    ensures says_nothing { (result ≡ Status.Done) ⊎ (result ≡ Status.Stuck) → E.state err.new ≡ E.state err.old }
-    ensures says_part { result ≡ Status.NoMemory → (answer : Answer)
-        × IsCause (H.state host.old) (H.state host.new) (W.state out.old) (W.state out.new) (command_in words.now) answer
-        × GrowsByPart (E.state err.old) (E.state err.new) (line_for answer) }
+    // Every input of which the command makes something has it written whole, unless a device fails.
+    ensures complete { let old = devices (H.state host.old) (W.state out.old) in
+        let new = devices (H.state host.new) (W.state out.new) in
+        IfInput (command_in words.now) (H.state host.old) (λ c input. (sched : List Plan)
+        → HasOutput c input sched → ReadsHeld (H.state host.old) (H.state host.new)
+        → WritesHeld old new c → AnswersWhole old new result c input) }
+
+    // Every input that the command refuses gets the line of its refusal, unless the host fails.
+    ensures refused_exact { IfInput (command_in words.now) (H.state host.old) (λ c input. (refusal : Refusal)
+        → IsRefused c input refusal → ReadsHeld (H.state host.old) (H.state host.new)
+        → AnswersWith result Status.Refused (Says (E.state err.old) (E.state err.new) (refused_line refusal))) }
 
     // Of the input at most 2^27+1 bytes are taken.
-    ensures taken { SameRest (H.state host.old) (H.state host.new)
-        ⊎ IsSomeAnd (command_in words.now) (λ c.
-        ReadsAtMost (H.state host.old) (H.state host.new) (input_of c) (2 ^ 27 + 1)) }
-    ensures later { Later (H.state host.old) (H.state host.new) }
-    ensures later_out { SinkLater (W.state out.old) (W.state out.new) }
-    ensures later_err { SinkLater (E.state err.old) (E.state err.new) }
+    ensures taken { IsTaken (command_in words.now) (H.state host.old) (H.state host.new) }
+    ensures later { WorldLater (world (H.state host.old) (W.state out.old) (E.state err.old))
+        (world (H.state host.new) (W.state out.new) (E.state err.new)) }
 {
     let answer = carry_out(alloc, words, host, out);
     tell(alloc, err, answer)
@@ -122,13 +76,11 @@ pub fn goal<H: Host, W: Sink, E: Sink>(
 
 // The answer to the words. It writes the output of their command, and says nothing.
 fn carry_out<H: Host, W: Sink>(alloc: Global, words: &[String], host: &mut H, out: &mut W) -> Answer
-    ensures cause { IsCause (H.state host.old) (H.state host.new) (W.state out.old) (W.state out.new)
-        (command_in words.now) result }
-    ensures taken { SameRest (H.state host.old) (H.state host.new)
-        ⊎ IsSomeAnd (command_in words.now) (λ c.
-        ReadsAtMost (H.state host.old) (H.state host.new) (input_of c) (2 ^ 27 + 1)) }
-    ensures later { Later (H.state host.old) (H.state host.new) }
-    ensures later_out { SinkLater (W.state out.old) (W.state out.new) }
+    ensures cause { IsCause (devices (H.state host.old) (W.state out.old))
+        (devices (H.state host.new) (W.state out.new)) (command_in words.now) result }
+    ensures taken { IsTaken (command_in words.now) (H.state host.old) (H.state host.new) }
+    ensures later { DevicesLater (devices (H.state host.old) (W.state out.old))
+        (devices (H.state host.new) (W.state out.new)) }
 {
     match read_words(alloc, words) {
         Ok(line) => carry_out_line(alloc, &line, host, out),
@@ -139,12 +91,11 @@ fn carry_out<H: Host, W: Sink>(alloc: Global, words: &[String], host: &mut H, ou
 
 // The answer to a command line.
 fn carry_out_line<H: Host, W: Sink>(alloc: Global, line: &Line, host: &mut H, out: &mut W) -> Answer
-    ensures cause { IsCauseOf (H.state host.old) (H.state host.new) (W.state out.old) (W.state out.new)
-        (command line.now) result }
-    ensures taken { SameRest (H.state host.old) (H.state host.new)
-        ⊎ ReadsAtMost (H.state host.old) (H.state host.new) (input_of (command line.now)) (2 ^ 27 + 1) }
-    ensures later { Later (H.state host.old) (H.state host.new) }
-    ensures later_out { SinkLater (W.state out.old) (W.state out.new) }
+    ensures cause { IsCauseOf (devices (H.state host.old) (W.state out.old))
+        (devices (H.state host.new) (W.state out.new)) (command line.now) result }
+    ensures taken { IsTaken (Some (command line.now)) (H.state host.old) (H.state host.new) }
+    ensures later { DevicesLater (devices (H.state host.old) (W.state out.old))
+        (devices (H.state host.new) (W.state out.new)) }
 {
     let input = match read_all(alloc, host, name_of(line)) {
         Ok(input) => input,
@@ -188,20 +139,18 @@ fn put<H: Host, W: Sink>(
     out: &mut W,
     bytes: &[u8],
 ) -> Result<(), IoFault>
-    ensures whole { OnOk result (Gets (H.state host.old) (H.state host.new) (W.state out.old) (W.state out.new)
-        (command line.now) bytes.now) }
-    ensures same { OnOk result (WritesSame (H.state host.old) (H.state host.new) (W.state out.old) (W.state out.new)
-        (command line.now)) }
-    ensures part { OnErr result (GetsPart (H.state host.old) (H.state host.new) (W.state out.old) (W.state out.new)
-        (command line.now) bytes.now) }
-    ensures rose { IsErrOf result IoFault.Failed
-        → WritesRose (H.state host.old) (H.state host.new) (W.state out.old) (W.state out.new) (command line.now) }
-    ensures elsewhere { Elsewhere (H.state host.old) (H.state host.new) (W.state out.old) (W.state out.new)
-        (command line.now) }
-    ensures rest { SameRest (H.state host.old) (H.state host.new) }
-    ensures reads { SameReadCounts (H.state host.old) (H.state host.new) }
-    ensures later { Later (H.state host.old) (H.state host.new) }
-    ensures later_out { SinkLater (W.state out.old) (W.state out.new) }
+    ensures whole { let old = devices (H.state host.old) (W.state out.old) in
+        let new = devices (H.state host.new) (W.state out.new) in
+        OnOk result (Gets old new (command line.now) bytes.now × WritesSame old new (command line.now)) }
+    ensures part { OnErr result (GetsPart (devices (H.state host.old) (W.state out.old))
+        (devices (H.state host.new) (W.state out.new)) (command line.now) bytes.now) }
+    ensures rose { IsErrOf result IoFault.Failed → WritesRose (devices (H.state host.old) (W.state out.old))
+        (devices (H.state host.new) (W.state out.new)) (command line.now) }
+    ensures elsewhere { Elsewhere (devices (H.state host.old) (W.state out.old))
+        (devices (H.state host.new) (W.state out.new)) (command line.now) }
+    ensures kept { KeepsReading (H.state host.old) (H.state host.new) }
+    ensures later { DevicesLater (devices (H.state host.old) (W.state out.old))
+        (devices (H.state host.new) (W.state out.new)) }
 {
     match line {
         Line::Sim { .. } => print(out, bytes),
@@ -228,7 +177,7 @@ fn print<W: Sink>(out: &mut W, bytes: &[u8]) -> Result<(), IoFault>
 // Hands a line to a sink. A fault of the sink changes no status; want of memory does.
 fn say<E: Sink>(err: &mut E, line: &[u8], status: Status) -> Status
     ensures said { (result ≡ status × Says (E.state err.old) (E.state err.new) line.now)
-        ⊎ (result ≡ Status.NoMemory × GrowsByPart (E.state err.old) (E.state err.new) line.now) }
+        ⊎ (result ≡ Status.NoMemory × IsCutShort (E.state err.old) (E.state err.new) line.now) }
     ensures later { SinkLater (E.state err.old) (E.state err.new) }
 {
     match write_all(err, line) {

@@ -1,10 +1,19 @@
-// The laws of outputs. Their function does nothing: a proof cites a law by a call.
-ghost use Rattle.std.specs.Prelude.{◌≡◌, ℕ, Bool, List};
+// Laws. Their functions do nothing: a proof cites a law by a call.
+ghost use Rattle.std.specs.Prelude.{◌≡◌, ◌≢◌, ◌⊎◌, ◌<◌, ℕ, Bool, true, false, List, Option, None, IsSomeAnd, IfSome};
+ghost use Rattle.goal_base.specs.Device.{file_of, ReadFaulted};
 ghost use Rattle.goal_graph.specs.Schedule.{Plan};
 ghost use Rattle.sim_params.specs.Costs.{CostModel};
 ghost use Rattle.goal_words.specs.Words.{Command};
 ghost use Rattle.goal_cli.specs.Input.{IsReadAs};
-ghost use Rattle.goal_cli.specs.Output.{IsPrintedRun, IsOutput};
+ghost use Rattle.goal_cli.specs.Output.{IsPrintedRun, IsOutput, IsRefused};
+ghost use Rattle.goal_cli.specs.Refusal.{refused_line};
+ghost use Rattle.goal_cli.specs.World.{World, but_err};
+ghost use Rattle.goal_cli.specs.Answer.{input_of, ForFile, ForInput, GrowsByPart, Elsewhere, WritesRose, GetsPartOfOutput, IsUntouched, IsWritten, IsCause, line_for, Answers, IsSilent, line_at, Says, Answered};
+ghost use Rattle.goal_cli.specs.declared.answer.Answer.{Answer};
+ghost use Rattle.goal_cli.specs.declared.answer.Refusal.{Refusal};
+ghost use Rattle.goal_cli.specs.declared.answer.Status.{Status};
+
+use crate::answer::Status;
 
 /// What is written is a function of the schedule and the parameters.
 ///
@@ -18,4 +27,63 @@ pub fn laws_of_outputs()
     ensures same_output { (c : Command) (input again : List ℕ) (sched : List Plan) (one other : List ℕ) (stuck waits : Bool)
         → IsReadAs input sched → IsReadAs again sched
         → IsOutput c input one stuck → IsOutput c again other waits → (one ≡ other) × (stuck ≡ waits) }
+{}
+
+/// What each status of an answered command line means, and what leads to it.
+///
+/// - `bad_line`, `bad_line_exact`: the words are no command line.
+/// - `read_fault`, `read_risen`, `absent_risen`, `absent_name`: the host failed, or has no file NAME.
+/// - `refused`: the command refuses the input, and `err` gets the words of the refusal.
+/// - `write_fault`, `write_risen`, `file_risen`: writing failed, after a part of the output.
+/// - `done`, `stuck`: the output was written whole, `stuck` for a run with an operation that has no end, and no output is
+///   left open. `never_not_certified`: no command of today certifies.
+/// - `part`, `silent`, `elsewhere`: at most a part of the output is written, and nothing where there is none. Where the
+///   command doesn't write, nothing changes: no command but `compile` changes a file, and it changes none but OUT.
+/// - `says`, `says_nothing`, `says_part`: `err` gets the line of the status.
+pub fn laws_of_answers()
+    ensures bad_line { (command : Option Command) (old new : World) (result : Status) → Answered command old new result
+        → result ≡ Status.BadLine → command ≡ None }
+    ensures bad_line_exact { (command : Option Command) (old new : World) (result : Status) → Answered command old new result
+        → command ≡ None → Answers result Status.BadLine }
+    ensures read_fault { (command : Option Command) (old new : World) (result : Status) → Answered command old new result
+        → result ≡ Status.ReadFault
+        → IsSomeAnd command (λ c. ReadFaulted old.host new.host (input_of c)) }
+    ensures read_risen { (command : Option Command) (old new : World) (result : Status) → Answered command old new result
+        → old.host.read_count < new.host.read_count → Answers result Status.ReadFault }
+    ensures absent_risen { (command : Option Command) (old new : World) (result : Status) → Answered command old new result
+        → old.host.absent_count < new.host.absent_count → Answers result Status.ReadFault }
+    ensures absent_name { (command : Option Command) (old new : World) (result : Status) → Answered command old new result
+        → IfSome command (λ c. old.host.tells ≡ true → file_of old.host (input_of c) ≡ None
+        → Answers result Status.ReadFault) }
+    ensures refused { (command : Option Command) (old new : World) (result : Status) → Answered command old new result
+        → result ≡ Status.Refused → (refusal : Refusal)
+        × ForInput command old.host (λ c input. IsRefused c input refusal)
+        × Says old.err new.err (refused_line refusal) }
+    ensures write_fault { (command : Option Command) (old new : World) (result : Status) → Answered command old new result
+        → result ≡ Status.WriteFault → IsSomeAnd command (λ c. WritesRose (but_err old) (but_err new) c
+        × ForFile old.host (input_of c) (GetsPartOfOutput (but_err old) (but_err new) c)) }
+    ensures write_risen { (command : Option Command) (old new : World) (result : Status) → Answered command old new result
+        → old.out.count < new.out.count → Answers result Status.WriteFault }
+    ensures file_risen { (command : Option Command) (old new : World) (result : Status) → Answered command old new result
+        → old.host.write_count < new.host.write_count → Answers result Status.WriteFault }
+    ensures done { (command : Option Command) (old new : World) (result : Status) → Answered command old new result
+        → result ≡ Status.Done → IsSomeAnd command (IsWritten (but_err old) (but_err new) false) }
+    ensures stuck { (command : Option Command) (old new : World) (result : Status) → Answered command old new result
+        → result ≡ Status.Stuck → IsSomeAnd command (IsWritten (but_err old) (but_err new) true) }
+    ensures never_not_certified { (command : Option Command) (old new : World) (result : Status) → Answered command old new result
+        → result ≢ Status.NotCertified }
+    ensures part { (command : Option Command) (old new : World) (result : Status) → Answered command old new result
+        → IsUntouched (but_err old) (but_err new)
+        ⊎ ForInput command old.host (GetsPartOfOutput (but_err old) (but_err new)) }
+    ensures silent { (command : Option Command) (old new : World) (result : Status) → Answered command old new result
+        → IsSilent result → IsUntouched (but_err old) (but_err new) }
+    ensures elsewhere { (command : Option Command) (old new : World) (result : Status) → Answered command old new result
+        → IfSome command (Elsewhere (but_err old) (but_err new)) }
+    ensures says { (command : Option Command) (old new : World) (result : Status) → Answered command old new result
+        → IfSome (line_at result) (λ line. Says old.err new.err line) }
+    ensures says_nothing { (command : Option Command) (old new : World) (result : Status) → Answered command old new result
+        → (result ≡ Status.Done) ⊎ (result ≡ Status.Stuck) → new.err ≡ old.err }
+    ensures says_part { (command : Option Command) (old new : World) (result : Status) → Answered command old new result
+        → result ≡ Status.NoMemory → (answer : Answer)
+        × IsCause (but_err old) (but_err new) command answer × GrowsByPart old.err new.err (line_for answer) }
 {}

@@ -15,4 +15,4 @@ mod timeline;
 
 pub use answer::Status;
 pub use command::goal;
-pub use laws::laws_of_outputs;
+pub use laws::{laws_of_answers, laws_of_outputs};

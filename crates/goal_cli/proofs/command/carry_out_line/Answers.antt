@@ -1,9 +1,12 @@
 use Rattle.std.proofs.Common.{rules, inr}
 use Rattle.goal_words.specs.Words.{command}
+use Rattle.goal_cli.specs.World.{devices}
 use Rattle.goal_cli.proofs.AnswerLemmas.{cut_off_from}
 use Rattle.goal_cli.proofs.command.carry_out_line.Goals as goal
 
 pub returns-clause-cause : goal.returns-clause-cause
 returns-clause-cause g c =
-    inr (cut_off_from (g.H.Host.state c.args.host.now) (g.H.Host.state c.read_all.new.host) (g.H.Host.state c.put.new.host) (g.W.Sink.state c.args.out.now) (g.W.Sink.state c.put.new.out) (command c.args.line.now) c.in-Ok.input.items c.in-Ok-make.output.bytes.items c.in-Ok-make.output.stuck
-    (search rules) (search rules) (search rules) (search rules) (search rules) (search rules) (search rules) (search rules))
+    inr (cut_off_from (g.H.Host.state c.args.host.now) (g.H.Host.state c.read_all.new.host) (g.W.Sink.state c.args.out.now)
+    (devices (g.H.Host.state c.put.new.host) (g.W.Sink.state c.put.new.out)) (command c.args.line.now)
+    c.in-Ok.input.items c.in-Ok-make.output.bytes.items c.in-Ok-make.output.stuck (search rules) (search rules)
+    (search rules) (search rules) (search rules) (search rules) (search rules) (search rules))

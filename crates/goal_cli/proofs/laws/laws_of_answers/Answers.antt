@@ -1,0 +1,70 @@
+use Rattle.std.proofs.Common.{◌≡◌, Option, None}
+use Rattle.goal_words.specs.Words.{Command}
+use Rattle.goal_cli.specs.declared.answer.Status.{Status}
+use Rattle.goal_cli.specs.declared.answer.Status.TheVariants as status
+use Rattle.goal_cli.specs.World.{World, but_err}
+use Rattle.goal_cli.specs.Answer.{Answers, Answered}
+use Rattle.goal_cli.proofs.AnswerLemmas.{no_line, no_line_told, read_fault, reads_risen, absent_risen, absent_named, told_refusal, cut_off_told, writes_risen, files_risen, done, stuck, certifies_none, part_or_none, untouched, kept_elsewhere, line_said, nothing_at, part_said}
+use Rattle.goal_cli.proofs.laws.laws_of_answers.Goals as goal
+
+line_missed : (command : Option Command) (old new : World) (result : Status) → Answered command old new result → command ≡ None
+    → Answers result status.BadLine
+line_missed command old new result w is =
+    no_line_told (but_err old) (but_err new) old.err new.err w.answer result (rw is at w.cause) w.told
+
+pub returns-clause-bad_line : goal.returns-clause-bad_line
+returns-clause-bad_line c = λ command old new result w. no_line (but_err old) (but_err new) command old.err new.err w.answer result w.cause w.told
+
+pub returns-clause-bad_line_exact : goal.returns-clause-bad_line_exact
+returns-clause-bad_line_exact c = line_missed
+
+pub returns-clause-read_fault : goal.returns-clause-read_fault
+returns-clause-read_fault c = λ command old new result w. read_fault (but_err old) (but_err new) command old.err new.err w.answer result w.cause w.told
+
+pub returns-clause-read_risen : goal.returns-clause-read_risen
+returns-clause-read_risen c = λ command old new result w. reads_risen (but_err old) (but_err new) command old.err new.err w.answer result w.cause w.told
+
+pub returns-clause-absent_risen : goal.returns-clause-absent_risen
+returns-clause-absent_risen c = λ command old new result w. absent_risen (but_err old) (but_err new) command old.err new.err w.answer result w.cause w.told
+
+pub returns-clause-absent_name : goal.returns-clause-absent_name
+returns-clause-absent_name c = λ command old new result w. absent_named (but_err old) (but_err new) command old.err new.err w.answer result w.cause w.told
+
+pub returns-clause-refused : goal.returns-clause-refused
+returns-clause-refused c = λ command old new result w. told_refusal (but_err old) (but_err new) command old.err new.err w.answer result w.cause w.told
+
+pub returns-clause-write_fault : goal.returns-clause-write_fault
+returns-clause-write_fault c = λ command old new result w. cut_off_told (but_err old) (but_err new) command old.err new.err w.answer result w.cause w.told
+
+pub returns-clause-write_risen : goal.returns-clause-write_risen
+returns-clause-write_risen c = λ command old new result w. writes_risen (but_err old) (but_err new) command old.err new.err w.answer result w.cause w.told
+
+pub returns-clause-file_risen : goal.returns-clause-file_risen
+returns-clause-file_risen c = λ command old new result w. files_risen (but_err old) (but_err new) command old.err new.err w.answer result w.cause w.told
+
+pub returns-clause-done : goal.returns-clause-done
+returns-clause-done c = λ command old new result w. done (but_err old) (but_err new) command old.err new.err w.answer result w.cause w.told
+
+pub returns-clause-stuck : goal.returns-clause-stuck
+returns-clause-stuck c = λ command old new result w. stuck (but_err old) (but_err new) command old.err new.err w.answer result w.cause w.told
+
+pub returns-clause-never_not_certified : goal.returns-clause-never_not_certified
+returns-clause-never_not_certified c = λ command old new result w. certifies_none (but_err old) (but_err new) old.err new.err w.answer result w.told
+
+pub returns-clause-part : goal.returns-clause-part
+returns-clause-part c = λ command old new result w. part_or_none (but_err old) (but_err new) command w.answer w.cause
+
+pub returns-clause-silent : goal.returns-clause-silent
+returns-clause-silent c = λ command old new result w. untouched (but_err old) (but_err new) command old.err new.err w.answer result w.cause w.told
+
+pub returns-clause-elsewhere : goal.returns-clause-elsewhere
+returns-clause-elsewhere c = λ command old new result w. kept_elsewhere (but_err old) (but_err new) command w.answer w.cause
+
+pub returns-clause-says : goal.returns-clause-says
+returns-clause-says c = λ command old new result w. line_said old.err new.err w.answer result w.told
+
+pub returns-clause-says_nothing : goal.returns-clause-says_nothing
+returns-clause-says_nothing c = λ command old new result w. nothing_at w.answer result old.err new.err w.told
+
+pub returns-clause-says_part : goal.returns-clause-says_part
+returns-clause-says_part c = λ command old new result w. part_said (but_err old) (but_err new) command old.err new.err w.answer result w.cause w.told
