@@ -1,14 +1,11 @@
 -- The lines of stuck operations. Every line ends with a line feed, and numbers are decimal.
-use Rattle.std.specs.Prelude.{ℕ, List, [], ◌++◌, codes, decimal}
+use Rattle.std.specs.Prelude.{ℕ, List, [], ◌++◌, codes}
 use Rattle.std.specs.List.{flat_map}
-use Rattle.goal_graph.specs.declared.action.OpId.{OpId}
+use Rattle.goal_base.specs.Text.{line_feed}
 use Rattle.goal_graph.specs.declared.action.Stuck.{Stuck}
 use Rattle.goal_graph.specs.declared.action.Why.{Why}
 use Rattle.goal_graph.specs.declared.action.Why.TheVariants.{Op, Partner, Alone}
-
--- rank and number of an operation
-abbrev pub id_text : OpId → List ℕ
-id_text x = decimal x.rank ++ codes " " ++ decimal x.op
+use Rattle.goal_graph.specs.IdText.{id_text}
 
 -- the words of a reason
 abbrev pub why_words : Why → List ℕ
@@ -24,7 +21,7 @@ named_text Alone = []
 
 -- the line of a stuck operation
 abbrev pub stuck_line : Stuck → List ℕ
-stuck_line s = codes "stuck " ++ id_text s.op ++ why_words s.why ++ named_text s.why ++ codes "\n"
+stuck_line s = codes "stuck " ++ id_text s.op ++ why_words s.why ++ named_text s.why ++ line_feed
 
 -- a line for each
 unfoldable pub stuck_text : List Stuck → List ℕ

@@ -1,9 +1,9 @@
 // The lines of stuck operations.
 ghost use Rattle.std.specs.Prelude.{◌≡◌, ◌++◌, OnOk, IfOk};
-ghost use Rattle.sim_stuck.specs.StuckText.{id_text, why_words, named_text, stuck_line, stuck_text};
+ghost use Rattle.sim_stuck.specs.StuckText.{why_words, named_text, stuck_line, stuck_text};
 
 use goal_base::{NoMemory, TextOut};
-use goal_graph::{OpId, Stuck, Why};
+use goal_graph::{Stuck, Why};
 use std::alloc::Global;
 
 /// A line for each stuck operation, in the order of the list: `stuck R I for op R J`, `stuck R I for partner Q J` or
@@ -23,7 +23,7 @@ fn put_line(out: &mut TextOut, stuck: Stuck) -> Result<(), NoMemory>
     ensures { OnOk result (out.new ≡ out.old ++ stuck_line stuck) }
 {
     out.word("stuck ")?;
-    put_id(out, stuck.op)?;
+    out.pair(stuck.op.rank, stuck.op.op)?;
     out.word(why_words(stuck.why))?;
     put_named(out, stuck.why)?;
     out.word("\n")
@@ -45,17 +45,8 @@ fn put_named(out: &mut TextOut, why: Why) -> Result<(), NoMemory>
     ensures { OnOk result (out.new ≡ out.old ++ named_text why) }
 {
     match why {
-        Why::Op(id) => put_id(out, id),
-        Why::Partner(id) => put_id(out, id),
+        Why::Op(id) => out.pair(id.rank, id.op),
+        Why::Partner(id) => out.pair(id.rank, id.op),
         Why::Alone => Ok(()),
     }
-}
-
-// Appends the rank and the number of an operation.
-fn put_id(out: &mut TextOut, id: OpId) -> Result<(), NoMemory>
-    ensures { OnOk result (out.new ≡ out.old ++ id_text id) }
-{
-    out.number(u128::from(id.rank))?;
-    out.word(" ")?;
-    out.number(u128::from(id.op))
 }

@@ -1,32 +1,30 @@
 -- The report on waits. Every line ends with a line feed, and numbers are decimal.
 use Rattle.std.specs.Prelude.{ℕ, ◌+◌, ◌≡◌, List, [], ◌∷◌, ◌++◌, Option, Some, None, codes, decimal, count_by, nat_lt, if◌then◌else◌}
 use Rattle.std.specs.List.{flat_map, sum_by}
+use Rattle.goal_base.specs.Text.{line_feed}
 use Rattle.goal_graph.specs.declared.action.OpId.{OpId}
 use Rattle.goal_graph.specs.declared.action.Timed.{Timed}
 use Rattle.goal_graph.specs.declared.plan.Kind.{Kind}
 use Rattle.goal_graph.specs.declared.plan.Kind.TheVariants.{Send, Recv}
+use Rattle.goal_graph.specs.IdText.{id_text}
 use Rattle.goal_graph.specs.Schedule.{Plan, kind_at, places_of_rank, operations}
 use Rattle.sim_params.specs.Costs.{CostModel}
 use Rattle.sim_params.specs.Times.{mate}
 use Rattle.sim_waits.specs.Waits.{ended, wait, wait_or_zero, AreGreatest}
 
--- rank and number of an operation
-abbrev pub id_text : OpId → List ℕ
-id_text x = decimal x.rank ++ codes " " ++ decimal x.op
-
 -- how many operations of a rank have ended, and the sum of their waits
 abbrev pub rank_line : ℕ → ℕ → ℕ → List ℕ
 rank_line rank count total =
-    codes "rank " ++ decimal rank ++ codes " ended " ++ decimal count ++ codes " wait " ++ decimal total ++ codes "\n"
+    codes "rank " ++ decimal rank ++ codes " ended " ++ decimal count ++ codes " wait " ++ decimal total ++ line_feed
 
 -- an operation and its wait
 abbrev pub wait_line : OpId → ℕ → List ℕ
-wait_line x nanos = codes "wait " ++ id_text x ++ codes " " ++ decimal nanos ++ codes "\n"
+wait_line x nanos = codes "wait " ++ id_text x ++ codes " " ++ decimal nanos ++ line_feed
 
 -- a receive, its bytes and those of its message
 abbrev pub oversize_line : OpId → ℕ → ℕ → List ℕ
 oversize_line x room message =
-    codes "oversize " ++ id_text x ++ codes " room " ++ decimal room ++ codes " message " ++ decimal message ++ codes "\n"
+    codes "oversize " ++ id_text x ++ codes " room " ++ decimal room ++ codes " message " ++ decimal message ++ line_feed
 
 -- the line of a receive that takes a message with more bytes than it has; nothing of what else an operation is
 abbrev pub oversize_by : OpId → Option Kind → Option Kind → List ℕ

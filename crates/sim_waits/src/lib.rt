@@ -2,7 +2,6 @@
 //! have less room than their messages.
 #![tactic(auto)]
 
-mod id;
 mod longest;
 mod oversize;
 mod ranks;

@@ -6,7 +6,6 @@ ghost use Rattle.goal_graph.specs.Fault.{IsOp};
 ghost use Rattle.sim_params.specs.Times.{mate};
 ghost use Rattle.sim_waits.specs.WaitsText.{oversize_by, oversize_line, oversize_of, kind_of_partner};
 
-use crate::id::put_id;
 use goal_base::{NoMemory, TextOut};
 use goal_graph::{Kind, OpId};
 use sim_events::Engine;
@@ -58,7 +57,7 @@ fn put_line(out: &mut TextOut, id: OpId, room: u64, message: u64) -> Result<(), 
     ensures { OnOk result (out.new ≡ out.old ++ oversize_line id room message) }
 {
     out.word("oversize ")?;
-    put_id(out, id)?;
+    out.pair(id.rank, id.op)?;
     out.word(" room ")?;
     out.number(u128::from(room))?;
     out.word(" message ")?;
