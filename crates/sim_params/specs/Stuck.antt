@@ -1,14 +1,16 @@
 -- Stuck operations, and the reason of each.
-use Rattle.std.specs.Prelude.{◌≡◌, ◌||◌, ◌&&◌, Bool, false, not, List, Option, Some, None}
+use Rattle.std.specs.Prelude.{◌≡◌, ◌||◌, ◌&&◌, Bool, false, not, nat_lt, count_by, List, Option, Some, None}
 use Rattle.std.specs.List.{find}
 use Rattle.goal_graph.specs.declared.action.OpId.{OpId}
+use Rattle.goal_graph.specs.declared.action.Timed.{Timed}
 use Rattle.goal_graph.specs.declared.action.Why.{Why}
 use Rattle.goal_graph.specs.declared.action.Why.TheVariants as why
 use Rattle.goal_graph.specs.declared.plan.Need.{Need}
 use Rattle.goal_graph.specs.Schedule.{Plan, needs, needed, operations}
-use Rattle.goal_graph.specs.Action.{Act}
+use Rattle.goal_graph.specs.Action.{Act, plain}
 use Rattle.goal_graph.specs.Matching.{fits}
 use Rattle.goal_graph.specs.Allowed.{has_started, has_ended, is_met}
+use Rattle.sim_params.specs.Costs.{CostModel, is_eager}
 
 module _ (plans : List Plan) (eager : OpId → Bool) where
   -- x has no end
@@ -39,3 +41,13 @@ module _ (plans : List Plan) (eager : OpId → Bool) where
   -- else it is alone
   unfoldable pub reason : List Act → OpId → Why
   reason h x = reason_by h x (first_unmet h x)
+
+-- The same of a run: which operations have no end.
+module _ (plans : List Plan) (costs : CostModel) (h : List Timed) where
+  -- x has no end
+  abbrev pub lacks_end : OpId → Bool
+  lacks_end x = not (has_ended plans (is_eager plans costs) x (plain h))
+
+  -- an operation has none
+  abbrev pub is_stuck : Bool
+  is_stuck = nat_lt 0 (count_by lacks_end (operations plans))

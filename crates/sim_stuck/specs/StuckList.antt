@@ -1,5 +1,5 @@
 -- The stuck operations of a run, each with its reason.
-use Rattle.std.specs.Prelude.{◌≡◌, ◌⊎◌, ◌↔◌, true, not, Bool, List, map, filter, Contains, AllPairs}
+use Rattle.std.specs.Prelude.{◌≡◌, ◌⊎◌, ◌↔◌, true, List, map, filter, Contains, AllPairs}
 use Rattle.goal_graph.specs.declared.action.OpId.{OpId}
 use Rattle.goal_graph.specs.declared.action.Timed.{Timed}
 use Rattle.goal_graph.specs.declared.action.Stuck.{Stuck}
@@ -8,10 +8,10 @@ use Rattle.goal_graph.specs.declared.action.Why.TheVariants.{Op, Partner, Alone}
 use Rattle.goal_graph.specs.Schedule.{Plan, operations}
 use Rattle.goal_graph.specs.Action.{plain}
 use Rattle.goal_graph.specs.Fault.{IsOp}
-use Rattle.goal_graph.specs.Allowed.{has_started, has_ended}
+use Rattle.goal_graph.specs.Allowed.{has_started}
 use Rattle.goal_graph.specs.Laws.{IsEarlier, IsTaken}
 use Rattle.sim_params.specs.Costs.{CostModel, is_eager}
-use Rattle.sim_params.specs.Stuck.{IsStuck, are_fit, reason}
+use Rattle.sim_params.specs.Stuck.{IsStuck, are_fit, lacks_end, reason}
 
 -- the operations of a list
 abbrev pub ops_of : List Stuck → List OpId
@@ -27,10 +27,6 @@ NamesListed list =
     (s : Stuck) (y : OpId) → Contains list s → ((s.why ≡ Op y) ⊎ (s.why ≡ Partner y)) → Contains (ops_of list) y
 
 module _ (plans : List Plan) (costs : CostModel) (h : List Timed) where
-  -- x has no end
-  abbrev pub lacks_end : OpId → Bool
-  lacks_end x = not (has_ended plans (is_eager plans costs) x (plain h))
-
   -- the reason of x
   abbrev pub reason_of : OpId → Why
   reason_of x = reason plans (is_eager plans costs) (plain h) x
@@ -41,7 +37,7 @@ module _ (plans : List Plan) (costs : CostModel) (h : List Timed) where
 
   -- each operation that has no end, with its reason, by rank and number
   unfoldable pub stuck_list : List Stuck
-  stuck_list = map with_reason (filter lacks_end (operations plans))
+  stuck_list = map with_reason (filter (lacks_end plans costs h) (operations plans))
 
   -- the operations without an end are listed, and no others
   abbrev pub ListsStuck : List Stuck → Type 0

@@ -1,5 +1,6 @@
 use Rattle.std.proofs.Common.{◌≡◌, filter, map, take}
-use Rattle.sim_stuck.specs.StuckList.{lacks_end, with_reason}
+use Rattle.sim_stuck.specs.StuckList.{with_reason}
+use Rattle.sim_params.specs.Stuck.{lacks_end}
 use Rattle.sim_stuck.proofs.reasons.explain.Given as goal
 
 -- the stuck operations so far

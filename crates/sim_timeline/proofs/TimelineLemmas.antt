@@ -1,0 +1,74 @@
+-- The summary of operations, one operation after another.
+use Rattle.std.proofs.Common.{◌≡◌, ℕ, ◌+◌, max, Bool, true, false, not, List, [], ◌∷◌, ◌++◌, length, Option, Some, None, is_some, unwrap_or, cond, count_by, refl, sym, ap, ◌∙◌, arith}
+use Rattle.std.proofs.lemmas.List.Sums.{fold-append}
+use Rattle.goal_graph.specs.declared.action.OpId.{OpId}
+use Rattle.goal_graph.specs.declared.action.Timed.{Timed}
+use Rattle.goal_graph.specs.declared.plan.Op.{Op}
+use Rattle.goal_graph.specs.declared.plan.Kind.{Kind}
+use Rattle.goal_graph.specs.Schedule.{Plan, op_at, kind_at, operations}
+use Rattle.goal_graph.specs.Action.{plain}
+use Rattle.goal_graph.specs.Matching.{pairs, partner}
+use Rattle.goal_graph.specs.Allowed.{has_started, has_ended}
+use Rattle.sim_params.specs.Costs.{CostModel, is_eager}
+use Rattle.sim_params.specs.Times.{greatest, end, start}
+use Rattle.sim_params.specs.Stuck.{lacks_end}
+use Rattle.sim_events.specs.Engine.{start_told, end_told}
+use Rattle.sim_timeline.specs.Timeline.{IsSummary, is_unread_send, is_unread, end_or_zero, operation_line, summary_line, first_line, line_by, line_of}
+
+-- the greatest of a list and one more
+pub greatest-append : {A : Type 0} (f : A → ℕ) (xs : List A) (x : A) → greatest f (xs ++ x ∷ []) ≡ max (greatest f xs) (f x)
+unfolding greatest
+greatest-append f [] x = omega arith
+greatest-append f (y ∷ ys) x = rw (greatest-append f ys x) (omega arith)
+
+count_by-append_one : {A : Type 0} (p : A → Bool) (xs : List A) (x : A) → count_by p (xs ++ x ∷ []) ≡ count_by p xs + cond (p x) 1 0
+count_by-append_one p xs x = simp fold-append
+
+-- the kind of an operation that is there
+pub kind_found : (plans : List Plan) (x : OpId) (o : Op) → op_at plans x ≡ Some o → kind_at plans x ≡ Some o.kind
+unfolding kind_at
+kind_found plans x o h = rw h refl
+
+no_end : (b : Bool) (n : ℕ) → ◌≡◌ {A = ℕ} (cond (is_some (cond b (Some n) None)) 0 1) (cond (not b) 1 0)
+no_end true n = refl
+no_end false n = refl
+
+end_there : (b : Bool) (n : ℕ) → unwrap_or (cond b (Some n) None) 0 ≡ cond b n 0
+end_there true n = refl
+end_there false n = refl
+
+started : (b : Bool) (n : ℕ) → is_some (cond b (Some n) None) ≡ b
+started true n = refl
+started false n = refl
+
+module _ (plans : List Plan) (costs : CostModel) (h : List Timed) where
+  unread_found : (x : OpId) (o : Op) → op_at plans x ≡ Some o
+      → is_unread_send (Some o.kind) (start_told plans costs h x) (partner (pairs plans (plain h)) x) ≡ is_unread plans costs h x
+  unread_found x o found =
+      ap (λ (k : Option Kind). is_unread_send k (start_told plans costs h x) (partner (pairs plans (plain h)) x)) (sym (kind_found plans x o found))
+      ∙ rw (started (has_started plans x (plain h)) (start plans costs h x)) refl
+
+  -- the summary of operations and one more
+  pub summary_more : (xs : List OpId) (x : OpId) (o : Op) (stuck unread finish : ℕ) → IsSummary plans costs h xs stuck unread finish
+      → op_at plans x ≡ Some o
+      → IsSummary plans costs h (xs ++ x ∷ [])
+      (stuck + cond (is_some (end_told plans costs h x)) 0 1)
+      (unread + cond (is_unread_send (Some o.kind) (start_told plans costs h x) (partner (pairs plans (plain h)) x)) 1 0)
+      (max finish (unwrap_or (end_told plans costs h x) 0))
+  summary_more xs x o stuck unread finish s found = record {
+    stuck_is = rw (s.stuck_is, no_end (has_ended plans (is_eager plans costs) x (plain h)) (end plans costs h x)) (sym (count_by-append_one (lacks_end plans costs h) xs x));
+    unread_is = rw (s.unread_is, unread_found x o found) (sym (count_by-append_one (is_unread plans costs h) xs x));
+    finish_is = rw (s.finish_is, end_there (has_ended plans (is_eager plans costs) x (plain h)) (end plans costs h x)) (sym (greatest-append (end_or_zero plans costs h) xs x));
+  }
+
+  -- the first line, by the summary of all operations
+  pub first_line_is : (stuck unread finish : ℕ) → IsSummary plans costs h (operations plans) stuck unread finish
+      → summary_line (length plans) (length (operations plans)) stuck unread finish ≡ first_line plans costs h
+  unfolding first_line
+  first_line_is stuck unread finish s = rw (s.stuck_is, s.unread_is, s.finish_is) refl
+
+  -- the line of an operation that is there
+  pub line_is : (x : OpId) (o : Op) → op_at plans x ≡ Some o
+      → operation_line x o.kind (start_told plans costs h x) (end_told plans costs h x) (partner (pairs plans (plain h)) x) ≡ line_of plans costs h x
+  unfolding line_of
+  line_is x o found = ap (line_by plans costs h x) (sym (kind_found plans x o found))

@@ -1,0 +1,169 @@
+// The lines of the timeline.
+ghost use Rattle.std.specs.Prelude.{◌≡◌, ◌+◌, ◌-◌, ◌++◌, ◌<◌, ◌^◌, length, OnOk, IfOk, Some, is_some, unwrap_or, max, if◌then◌else◌};
+ghost use Rattle.goal_graph.specs.Schedule.{operations};
+ghost use Rattle.sim_timeline.specs.Timeline.{operation_line, summary_line, kind_text, partner_text, match_text, first_line, timeline, IsSummary, is_unread_send};
+
+use goal_base::{NoMemory, TextOut};
+use goal_graph::{Kind, OpId, Sched};
+use sim_events::{Engine, Record};
+use sim_params::Costs;
+use std::alloc::Global;
+
+/// The first line and the lines of all operations, by rank and number, of an engine whose run is over. The first line is
+/// `ranks P ops N stuck K unread U finish T`: how many operations there are, how many of them have no end, how many
+/// messages have begun and are taken by no receive, and the last end, in nanoseconds. The line of an operation is
+/// `op R I calc start A end B`, `op R I send start A end B match Q J`, or the same with `recv`; what is absent is a dash.
+/// `NoMemory` where memory ran out.
+pub fn timeline<C: Costs>(
+    alloc: Global,
+    sched: &Sched,
+    engine: &Engine<'_, C>,
+) -> Result<Vec<u8>, NoMemory>
+    requires same { engine.now.plans ≡ sched.now }
+    ensures { IfOk result (λ text.
+        text.items ≡ timeline sched.now (C.model engine.now.costs) engine.now.history) }
+{
+    let mut out = TextOut::new(alloc);
+    put_summary(&mut out, sched, &sum_up(sched, engine))?;
+    for id in sched.operations() {
+        put_operation(&mut out, *id, sched.op(*id).kind, engine.record(*id))?;
+    }
+    Ok(out.into_bytes())
+}
+
+/// The first line of the timeline alone. `NoMemory` where memory ran out.
+pub fn first_line<C: Costs>(
+    alloc: Global,
+    sched: &Sched,
+    engine: &Engine<'_, C>,
+) -> Result<Vec<u8>, NoMemory>
+    requires same { engine.now.plans ≡ sched.now }
+    ensures { IfOk result (λ text.
+        text.items ≡ first_line sched.now (C.model engine.now.costs) engine.now.history) }
+{
+    let mut out = TextOut::new(alloc);
+    put_summary(&mut out, sched, &sum_up(sched, engine))?;
+    Ok(out.into_bytes())
+}
+
+// What the first line tells of operations: how many have no end, how many are unread messages, the last end.
+#[derive(Clone, Copy)]
+struct Summary {
+    stuck: u64,
+    unread: u64,
+    finish: u64,
+}
+
+impl Summary {
+    // The same of these operations and one more, which is of that kind.
+    fn with(self, kind: Kind, times: Record) -> Summary
+        requires stuck_fits { self.stuck < 2 ^ 64 - 1 }
+        requires unread_fits { self.unread < 2 ^ 64 - 1 }
+        ensures stuck { result.stuck ≡ self.stuck + (if is_some times.end then 0 else 1) }
+        ensures unread { result.unread ≡ self.unread
+            + (if is_unread_send (Some kind) times.start times.partner then 1 else 0) }
+        ensures finish { result.finish ≡ max self.finish (unwrap_or times.end 0) }
+    {
+        Summary {
+            stuck: self.stuck + u64::from(times.end.is_none()),
+            unread: self.unread + u64::from(is_unread(kind, times)),
+            finish: self.finish.max(times.end.unwrap_or(0)),
+        }
+    }
+}
+
+// The summary of all operations, of an engine whose run is over.
+fn sum_up<C: Costs>(sched: &Sched, engine: &Engine<'_, C>) -> Summary
+    requires same { engine.now.plans ≡ sched.now }
+    ensures { IsSummary sched.now (C.model engine.now.costs) engine.now.history (operations sched.now)
+        result.stuck result.unread result.finish }
+{
+    let mut summary = Summary {
+        stuck: 0,
+        unread: 0,
+        finish: 0,
+    };
+    for id in sched.operations() {
+        summary = summary.with(sched.op(*id).kind, engine.record(*id));
+    }
+    summary
+}
+
+// A message that has begun and that no receive takes.
+fn is_unread(kind: Kind, times: Record) -> bool
+    ensures { result ≡ is_unread_send (Some kind) times.start times.partner }
+{
+    match kind {
+        Kind::Send { .. } => times.start.is_some() && times.partner.is_none(),
+        Kind::Calc { .. } => false,
+        Kind::Recv { .. } => false,
+    }
+}
+
+// Appends the first line.
+fn put_summary(out: &mut TextOut, sched: &Sched, summary: &Summary) -> Result<(), NoMemory>
+    ensures { OnOk result (out.new ≡ out.old ++ summary_line (length sched.now) (length (operations sched.now))
+        summary.now.stuck summary.now.unread summary.now.finish) }
+{
+    out.word("ranks ")?;
+    out.number(sched.plans().len() as u128)?;
+    out.word(" ops ")?;
+    out.number(u128::from(sched.count()))?;
+    out.word(" stuck ")?;
+    out.number(u128::from(summary.stuck))?;
+    out.word(" unread ")?;
+    out.number(u128::from(summary.unread))?;
+    out.word(" finish ")?;
+    out.number(u128::from(summary.finish))?;
+    out.word("\n")
+}
+
+// Appends the line of an operation of that kind.
+fn put_operation(out: &mut TextOut, id: OpId, kind: Kind, times: Record) -> Result<(), NoMemory>
+    ensures { OnOk result (out.new
+        ≡ out.old ++ operation_line id kind times.start times.end times.partner) }
+{
+    out.word("op ")?;
+    out.pair(id.rank, id.op)?;
+    out.word(kind_word(kind))?;
+    out.time(times.start)?;
+    out.word(" end ")?;
+    out.time(times.end)?;
+    put_partner(out, kind, times.partner)?;
+    out.word("\n")
+}
+
+// The word of a kind in the line of an operation, and what stands before its start.
+fn kind_word(kind: Kind) -> &'static str
+    ensures { result.now ≡ kind_text kind }
+{
+    match kind {
+        Kind::Calc { .. } => " calc start ",
+        Kind::Send { .. } => " send start ",
+        Kind::Recv { .. } => " recv start ",
+    }
+}
+
+// Appends the partner of a send or a receive.
+fn put_match(out: &mut TextOut, partner: Option<OpId>) -> Result<(), NoMemory>
+    ensures { OnOk result (out.new ≡ out.old ++ match_text partner) }
+{
+    match partner {
+        None => out.word(" match -"),
+        Some(id) => {
+            out.word(" match ")?;
+            out.pair(id.rank, id.op)
+        }
+    }
+}
+
+// Appends what the line of a kind tells of a partner: that of a calc nothing.
+fn put_partner(out: &mut TextOut, kind: Kind, partner: Option<OpId>) -> Result<(), NoMemory>
+    ensures { OnOk result (out.new ≡ out.old ++ partner_text kind partner) }
+{
+    match kind {
+        Kind::Calc { .. } => Ok(()),
+        Kind::Send { .. } => put_match(out, partner),
+        Kind::Recv { .. } => put_match(out, partner),
+    }
+}
