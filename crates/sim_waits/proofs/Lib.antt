@@ -1,4 +1,5 @@
 pub mod WaitLemmas
+pub mod OneReport
 pub mod RankLemmas
 pub mod FillLemmas
 pub mod WaitOrder

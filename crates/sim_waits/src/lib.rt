@@ -2,10 +2,12 @@
 //! have less room than their messages.
 #![tactic(auto)]
 
+mod laws;
 mod longest;
 mod oversize;
 mod ranks;
 mod report;
 mod wait;
 
+pub use laws::laws_of_waits;
 pub use report::waits;
