@@ -10,4 +10,5 @@ pub mod NothingLaws
 pub mod ReadingLaws
 pub mod OnlyLaws
 pub mod StretchLaws
+pub mod WholeLaws
 pub mod GoesOnLaws

@@ -173,3 +173,9 @@ only_reading text pieces rest cut nothing =
           (subst (λ (ps : List Piece). EndsWith (lexed text).1 (length (spelled ps)) reading.rest) known.0
           (subst (λ (p : ℕ). EndsWith (lexed text).1 p reading.rest) place reading.end)),
     )
+
+-- two cuts of one text are one
+pub one_cut_only : (text : List ℕ) (pieces others : List Piece) (rest left : List ℕ) → IsCutInto text pieces rest → NothingBegins rest →
+    IsCutInto text others left → NothingBegins left → (pieces ≡ others) × (rest ≡ left)
+one_cut_only text pieces others rest left cut nothing other_cut nothing_left =
+    one_cut pieces others rest left (sym cut.whole ∙ other_cut.whole) cut.right other_cut.right nothing nothing_left

@@ -9,3 +9,4 @@ pub mod Stands
 pub mod State
 pub mod Steps
 pub mod Words
+pub mod Whole

@@ -15,8 +15,9 @@ use Rattle.goal_lexer.specs.Stands.{begins_run}
 abbrev pub StepsTo : Step → Mode → ℕ → ℕ → Mode → Type 0
 StepsTo step.Nothing old place byte new = (next old place byte ≡ (new, [])) × IsSound new
 StepsTo (step.Run token) old place byte new =
-    (is_run_byte byte ≡ false) × (closing place old ≡ token ∷ []) × (new ≡ Between)
-StepsTo (step.Sign token) old place byte new = (next old place byte ≡ (new, token ∷ [])) × (new ≡ Between)
+    (is_run_byte byte ≡ false) × (closing place old ≡ token ∷ []) × (new ≡ Between) × (token.end ≡ place)
+StepsTo (step.Sign token) old place byte new =
+    (next old place byte ≡ (new, token ∷ [])) × (new ≡ Between) × (token.end ≡ place + 1)
 StepsTo (step.Fault at) old place byte new = (next old place byte ≡ (Failed at, [])) × (new ≡ Failed at)
 
 -- what a stop says of what was open, the piece's place, the piece, and what is open then
@@ -25,7 +26,8 @@ StopsAt stop.Piece old place piece new = (scan old place piece ≡ (new, [])) ×
 StopsAt (stop.Run taken token) old place piece new =
     (taken < length piece) × (begins_run (drop taken piece) ≡ false) × (new ≡ Between)
     × ((run : Mode) × (scan old place (take taken piece) ≡ (run, [])) × (closing (place + taken) run ≡ token ∷ []))
+    × (token.end ≡ place + taken)
 StopsAt (stop.Sign taken token) old place piece new =
     (0 < taken) × (taken ≤ length piece) × (new ≡ Between)
-    × (scan old place (take taken piece) ≡ (Between, token ∷ []))
+    × (scan old place (take taken piece) ≡ (Between, token ∷ [])) × (token.end ≡ place + taken)
 StopsAt (stop.Fault at) old place piece new = (scan old place piece ≡ (Failed at, [])) × (new ≡ Failed at)

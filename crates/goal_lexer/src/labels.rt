@@ -44,6 +44,20 @@ impl Label {
         Label { bytes, len: 1 }
     }
 
+    /// The label of these bytes.
+    pub(crate) fn of(text: &[u8]) -> Label
+        requires some { 0 < length text.now }
+        requires most { length text.now ≤ 64 }
+        ensures { result ≡ text.now }
+    {
+        let mut bytes = [0; MOST_RUN_BYTES];
+        bytes[..text.len()].copy_from_slice(text);
+        Label {
+            bytes,
+            len: text.len() as u8,
+        }
+    }
+
     /// Adds a byte at the end.
     pub(crate) fn push(&mut self, byte: u8)
         requires { length self.old < 64 }

@@ -18,6 +18,10 @@ pub fn laws_of_tokens()
     ensures only { (text : List ℕ) (pieces : List Piece) (rest : List ℕ) → IsCutInto text pieces rest → NothingBegins rest →
         ((lexed text).0 ≡ tokens_of 0 pieces) × EndsWith (lexed text).1 (length (spelled pieces)) rest }
 
+    // One such cut only: two have the same pieces and the same rest.
+    ensures one { (text : List ℕ) (pieces others : List Piece) (rest left : List ℕ) → IsCutInto text pieces rest → NothingBegins rest →
+        IsCutInto text others left → NothingBegins left → (pieces ≡ others) × (rest ≡ left) }
+
     // The tokens that a lexer handed out are the first of each text that goes on with no more of a run handed out.
     ensures first { (lexer : LexState) (text more : List ℕ) → Stands lexer text → (lexer.ends_run ≡ true → begins_run more ≡ false) →
         (later : List Token) × ((lexed (text ++ more)).0 ≡ handed lexer text ++ later) }

@@ -1,5 +1,5 @@
 //! The lexer.
-ghost use Rattle.std.specs.Prelude.{◌≡◌, ℕ, ◌+◌, ◌<◌, ◌≤◌, ◌⊎◌, ◌^◌, Bool, true, false, List, [], ◌∷◌, ◌++◌, length, take, drop, Some, None, IfOk, IfErr, IsSome, Ok, Err, option_to_list};
+ghost use Rattle.std.specs.Prelude.{◌≡◌, ℕ, ◌+◌, ◌<◌, ◌≤◌, ◌⊎◌, ◌^◌, Bool, true, false, List, [], ◌∷◌, ◌++◌, length, take, drop, Some, None, IfOk, IfErr, IfSome, IsSome, Ok, Err, option_to_list};
 ghost use Rattle.goal_lexer.specs.Sound.{IsSound};
 ghost use Rattle.goal_lexer.specs.Scan.{scanned, lexed};
 ghost use Rattle.goal_lexer.specs.Stands.{Stands, handed, begins_run};
@@ -74,6 +74,7 @@ impl Lexer {
         ensures all { IfOk result (λ l. l.token ≡ None → l.taken ≡ length rest.now) }
         ensures some { IfOk result (λ l. IsSome l.token → 0 < length rest.now) }
         ensures place { IfOk result (λ l. self.new.place ≡ self.old.place + l.taken) }
+        ensures end { IfOk result (λ l. IfSome l.token (λ token. token.end ≡ self.new.place)) }
         ensures apart_next { IfOk result (λ l. self.new.ends_run ≡ true → begins_run (drop l.taken rest.now) ≡ false) }
         ensures left { IfOk result (λ l. 0 < length rest.now → self.new.ends_run ≡ true → l.taken < length rest.now) }
 
@@ -147,7 +148,7 @@ impl Lexer {
         match mode {
             Mode::Between | Mode::LineComment { .. } => Ok(None),
             Mode::Run { start, bytes, form } => Ok(Some(Token {
-                kind: run_kind(&bytes, form),
+                kind: run_kind(bytes.as_bytes(), form),
                 start,
                 end: place,
             })),

@@ -17,6 +17,7 @@ mod stretches;
 #[cfg(test)]
 mod tests;
 mod tokens;
+mod whole;
 mod words;
 
 pub use labels::{Label, MOST_RUN_BYTES};

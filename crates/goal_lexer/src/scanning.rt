@@ -9,6 +9,7 @@ use crate::labels::{Label, MOST_RUN_BYTES};
 use crate::mode::{Form, Mode};
 use crate::stretches::take_stretch;
 use crate::tokens::{Token, TokenKind};
+use crate::whole::whole_run;
 use crate::words::run_kind;
 
 /// What one byte ended.
@@ -107,7 +108,7 @@ fn take_byte(mode: &mut Mode, place: u64, byte: u8) -> Step
         Mode::Run { start, bytes, form } => {
             let start = *start;
             if !is_run_byte(byte) {
-                let kind = run_kind(bytes, *form);
+                let kind = run_kind(bytes.as_bytes(), *form);
                 *mode = Mode::Between;
                 return Step::Run(Token {
                     kind,
@@ -172,6 +173,11 @@ pub(crate) fn take_piece(mode: &mut Mode, place: u64, piece: &[u8]) -> Stop
         taken += take_stretch(mode, &piece[taken..]);
         if taken == piece.len() {
             return Stop::Piece;
+        }
+        if let Mode::Between = mode {
+            if let Some((count, token)) = whole_run(place + taken as u64, &piece[taken..]) {
+                return Stop::Run(taken + count, token);
+            }
         }
         match take_byte(mode, place + taken as u64, piece[taken]) {
             Step::Nothing => taken += 1,

@@ -1,5 +1,6 @@
 //! Bytes in a row that end nothing.
 ghost use Rattle.std.specs.Prelude.{◌≡◌, ℕ, ◌+◌, ◌<◌, ◌≤◌, ◌++◌, [], true, false, length, take, slice_index, ◌==◌};
+ghost use Rattle.std.specs.List.{list_all};
 ghost use Rattle.goal_lexer.specs.Bytes.{is_blank, is_digit, is_run_byte, star, line_feed};
 ghost use Rattle.goal_lexer.specs.Scan.{scan};
 ghost use Rattle.goal_lexer.specs.Sound.{IsSound};
@@ -107,4 +108,25 @@ pub(crate) fn take_stretch(mode: &mut Mode, bytes: &[u8]) -> usize
         Mode::BlockComment { closes, .. } => { if *closes { 0 } else { count_before_star(bytes) } }
         Mode::Slash { .. } | Mode::Failed { .. } => 0,
     }
+}
+
+/// How many bytes of a run stand in front.
+pub(crate) fn count_run(bytes: &[u8]) -> usize
+    ensures within { result ≤ length bytes.now }
+    ensures each { (k : ℕ) → k < result → is_run_byte (slice_index bytes.now k) ≡ true }
+    ensures ends { result < length bytes.now → is_run_byte (slice_index bytes.now result) ≡ false }
+{
+    for (n, byte) in bytes.iter().enumerate() {
+        if !is_run_byte(*byte) {
+            return n;
+        }
+    }
+    bytes.len()
+}
+
+/// Whether all bytes are digits.
+pub(crate) fn are_digits(bytes: &[u8]) -> bool
+    ensures { result ≡ list_all is_digit bytes.now }
+{
+    bytes.iter().all(|byte| is_digit(*byte))
 }

@@ -1,5 +1,5 @@
 //! Which token a run is.
-ghost use Rattle.std.specs.Prelude.{◌≡◌, bytes_eq};
+ghost use Rattle.std.specs.Prelude.{◌≡◌, ◌<◌, ◌≤◌, length, bytes_eq};
 ghost use Rattle.goal_lexer.specs.Words.{word_kind, kind_among, words_of_length, reserved_words};
 ghost use Rattle.goal_lexer.specs.Runs.{run_kind};
 
@@ -16,91 +16,105 @@ fn spells(bytes: &[u8], word: &str) -> bool
 }
 
 /// The token of a word of two bytes.
-fn kind_of_two(word: &Label) -> TokenKind
+fn kind_of_two(word: &[u8]) -> TokenKind
+    requires some { 0 < length word.now }
+    requires most { length word.now ≤ 64 }
     ensures { result ≡ kind_among (words_of_length 2 reserved_words) word.now }
 {
-    if spells(word.as_bytes(), "to") {
+    if spells(word, "to") {
         TokenKind::To
     } else {
-        TokenKind::Label(*word)
+        TokenKind::Label(Label::of(word))
     }
 }
 
 /// The token of a word of three bytes.
-fn kind_of_three(word: &Label) -> TokenKind
+fn kind_of_three(word: &[u8]) -> TokenKind
+    requires some { 0 < length word.now }
+    requires most { length word.now ≤ 64 }
     ensures { result ≡ kind_among (words_of_length 3 reserved_words) word.now }
 {
-    if spells(word.as_bytes(), "tag") {
+    if spells(word, "tag") {
         TokenKind::Tag
-    } else if spells(word.as_bytes(), "cpu") {
+    } else if spells(word, "cpu") {
         TokenKind::Cpu
-    } else if spells(word.as_bytes(), "nic") {
+    } else if spells(word, "nic") {
         TokenKind::Nic
-    } else if spells(word.as_bytes(), "any") {
+    } else if spells(word, "any") {
         TokenKind::Any
     } else {
-        TokenKind::Label(*word)
+        TokenKind::Label(Label::of(word))
     }
 }
 
 /// The token of a word of four bytes.
-fn kind_of_four(word: &Label) -> TokenKind
+fn kind_of_four(word: &[u8]) -> TokenKind
+    requires some { 0 < length word.now }
+    requires most { length word.now ≤ 64 }
     ensures { result ≡ kind_among (words_of_length 4 reserved_words) word.now }
 {
-    if spells(word.as_bytes(), "rank") {
+    if spells(word, "rank") {
         TokenKind::Rank
-    } else if spells(word.as_bytes(), "calc") {
+    } else if spells(word, "calc") {
         TokenKind::Calc
-    } else if spells(word.as_bytes(), "send") {
+    } else if spells(word, "send") {
         TokenKind::Send
-    } else if spells(word.as_bytes(), "recv") {
+    } else if spells(word, "recv") {
         TokenKind::Recv
-    } else if spells(word.as_bytes(), "from") {
+    } else if spells(word, "from") {
         TokenKind::From
-    } else if spells(word.as_bytes(), "adds") {
+    } else if spells(word, "adds") {
         TokenKind::Adds
     } else {
-        TokenKind::Label(*word)
+        TokenKind::Label(Label::of(word))
     }
 }
 
 /// The token of a word of five bytes.
-fn kind_of_five(word: &Label) -> TokenKind
+fn kind_of_five(word: &[u8]) -> TokenKind
+    requires some { 0 < length word.now }
+    requires most { length word.now ≤ 64 }
     ensures { result ≡ kind_among (words_of_length 5 reserved_words) word.now }
 {
-    if spells(word.as_bytes(), "moves") {
+    if spells(word, "moves") {
         TokenKind::Moves
     } else {
-        TokenKind::Label(*word)
+        TokenKind::Label(Label::of(word))
     }
 }
 
 /// The token of a word of eight bytes.
-fn kind_of_eight(word: &Label) -> TokenKind
+fn kind_of_eight(word: &[u8]) -> TokenKind
+    requires some { 0 < length word.now }
+    requires most { length word.now ≤ 64 }
     ensures { result ≡ kind_among (words_of_length 8 reserved_words) word.now }
 {
-    if spells(word.as_bytes(), "requires") {
+    if spells(word, "requires") {
         TokenKind::Requires
     } else {
-        TokenKind::Label(*word)
+        TokenKind::Label(Label::of(word))
     }
 }
 
 /// The token of a word of nine bytes.
-fn kind_of_nine(word: &Label) -> TokenKind
+fn kind_of_nine(word: &[u8]) -> TokenKind
+    requires some { 0 < length word.now }
+    requires most { length word.now ≤ 64 }
     ensures { result ≡ kind_among (words_of_length 9 reserved_words) word.now }
 {
-    if spells(word.as_bytes(), "num_ranks") {
+    if spells(word, "num_ranks") {
         TokenKind::NumRanks
-    } else if spells(word.as_bytes(), "irequires") {
+    } else if spells(word, "irequires") {
         TokenKind::Irequires
     } else {
-        TokenKind::Label(*word)
+        TokenKind::Label(Label::of(word))
     }
 }
 
 /// The reserved word that these bytes spell, or else a label.
-fn word_kind(word: &Label) -> TokenKind
+fn word_kind(word: &[u8]) -> TokenKind
+    requires some { 0 < length word.now }
+    requires most { length word.now ≤ 64 }
     ensures { result ≡ word_kind word.now }
 {
     match word.len() {
@@ -110,22 +124,23 @@ fn word_kind(word: &Label) -> TokenKind
         5 => kind_of_five(word),
         8 => kind_of_eight(word),
         9 => kind_of_nine(word),
-        _ => TokenKind::Label(*word),
+        _ => TokenKind::Label(Label::of(word)),
     }
 }
 
 /// The token that a whole run of this form is.
-pub(crate) fn run_kind(run: &Label, form: Form) -> TokenKind
+pub(crate) fn run_kind(run: &[u8], form: Form) -> TokenKind
+    requires some { 0 < length run.now }
+    requires most { length run.now ≤ 64 }
     ensures { result ≡ run_kind form run.now }
 {
-    let bytes = run.as_bytes();
     match form {
         Form::Word => word_kind(run),
         Form::Digits => TokenKind::Number {
-            value: number_value(bytes),
+            value: number_value(run),
         },
         Form::Sized => TokenKind::Size {
-            value: number_value(&bytes[..bytes.len() - 1]),
+            value: number_value(&run[..run.len() - 1]),
         },
     }
 }

@@ -1,9 +1,10 @@
-use Rattle.std.proofs.Common.{◌≡◌, ◌+◌, ◌<◌, ◌∷◌, [], length, take, get_or, ◌∙◌, ap, refl, sym, arith}
+use Rattle.std.proofs.Common.{◌≡◌, ◌+◌, ◌<◌, ◌≤◌, ◌∷◌, [], length, take, get_or, ◌∙◌, ap, refl, sym, arith}
 use Rattle.std.proofs.lemmas.List.{take_all, drop_more}
 use Rattle.goal_lexer.specs.declared.mode.Mode.{Mode}
 use Rattle.goal_lexer.specs.Scan.{scan, next}
 use Rattle.goal_lexer.specs.Stands.{begins_run}
 use Rattle.goal_lexer.proofs.ScanLaws.{scan_more, scan_fault, scan_sliced, sliced_within}
+use Rattle.goal_lexer.proofs.WholeLaws.{run_in_piece}
 use Rattle.goal_lexer.proofs.scanning.take_piece.Goals as goal
 use Rattle.goal_lexer.proofs.scanning.take_piece.Goals.{After-take_byte}
 
@@ -63,6 +64,7 @@ returns-in-Run c =
       ap begins_run (drop_more piece taken 0 (below k)) ∙ said.0,
       said.2,
       (c.take_stretch-taken.new.mode, stretched k, said.1),
+      said.3,
     )
 
 pub returns-in-Sign : goal.returns-in-Sign
@@ -74,9 +76,24 @@ returns-in-Sign c =
       omega arith,
       between,
       after_byte k ∙ c.in-Sign.ensures.0 ∙ ap (λ (m : Mode). (m, c.in-Sign.token ∷ [])) between,
+      omega (arith, c.in-Sign.ensures.2),
     )
 
 pub returns-in-Fault : goal.returns-in-Fault
 returns-in-Fault c =
     let k = (goal.at.returns-in-Fault c).After-take_byte in
     (scan_fault _ _ _ _ _ (after_byte k ∙ c.in-Fault.ensures.0), c.in-Fault.ensures.1)
+
+pub returns-in-Some : goal.returns-in-Some
+returns-in-Some c =
+    let n = c.loop-taken.taken + c.take_stretch-taken.result in
+    let piece = c.args.piece.now in
+    let was = c.loop-taken.invariant in
+    let fits : n ≤ length piece = sliced_within piece c.loop-taken.taken c.take_stretch-taken.result was.within c.take_stretch-taken.ensures.within in
+    let quiet =
+    scan_sliced c.args.mode.now c.loop-taken.mode c.take_stretch-taken.new.mode c.args.place piece c.loop-taken.taken c.take_stretch-taken.result
+    was.within was.quiet c.take_stretch-taken.ensures.quiet in
+    let found =
+    run_in_piece c.args.mode.now c.args.place n c.in-Some.count piece c.in-Some.token fits
+    (quiet ∙ ap (λ (m : Mode). (m, [])) c.in-Between.is) c.in-Some.ensures in
+    (found.0, found.1, c.in-Between.is, found.2, found.3)

@@ -6,7 +6,7 @@ use Rattle.goal_lexer.proofs.words.word_kind.Goals as goal
 pub returns-in-8 : goal.returns-in-8
 returns-in-8 c =
     let word = c.args.word.now in
-    let eight : length word ≡ 8 = sym c.len.ensures.value ∙ c.in-8.is in
+    let eight : length word ≡ 8 = c.in-8.is in
     c.kind_of_eight.ensures
     ∙ ap (λ (n : ℕ). kind_among (words_of_length n reserved_words) word) (sym eight)
     ∙ kind_among_length reserved_words word

@@ -2,6 +2,7 @@ use Rattle.std.proofs.Common.{◌≡◌, ℕ, List, ◌∷◌, [], ◌++◌, Non
 use Rattle.goal_lexer.specs.declared.tokens.TokenKind.{TokenKind}
 use Rattle.goal_lexer.specs.declared.mode.Mode.{Mode}
 use Rattle.goal_lexer.specs.Scan.{closing, fault_at_end, lexed}
+use Rattle.goal_lexer.specs.Runs.{run_kind}
 use Rattle.goal_lexer.specs.State.{LexState}
 use Rattle.goal_lexer.specs.Stands.{Stands, handed}
 use Rattle.goal_lexer.proofs.StandsLaws.{finishes}
@@ -10,7 +11,7 @@ use Rattle.goal_lexer.proofs.lexing.Lexer.finish.Goals as goal
 pub returns-in-Run-clause-ok : goal.returns-in-Run-clause-ok
 returns-in-Run-clause-ok c =
     let fields = c.self.inside in
-    let kind = c.run_kind.ensures in
+    let kind = c.run_kind.ensures ∙ ap (run_kind c.in-Run.form) c.as_bytes.ensures.bytes in
     subst (λ (s : LexState). (text : List ℕ) → Stands s text →
     lexed text ≡ (handed s text ++ record { kind = c.run_kind.result; start = c.in-Run.start; end = fields.place } ∷ [], None))
     c.self.view_is
