@@ -71,6 +71,13 @@ elsewhere_from a b out new (Sim name numbers) kept later same = keeps_from a b n
 elsewhere_from a b out new (Compile name file) kept later same = same
 elsewhere_from a b out new (Show name) kept later same = keeps_from a b new.host kept later same
 
+-- the same of a count of faults that rose
+pub rose_from : (a b : HostState) (out : SinkState) (new : Devices) (c : Command) → KeepsFiles a b → Later a b
+    → WritesRose (devices b out) new c → WritesRose (devices a out) new c
+rose_from a b out new (Sim name numbers) kept later rose = rose
+rose_from a b out new (Compile name file) kept later rose = rw (later.stops, kept.write_count) at rose
+rose_from a b out new (Show name) kept later rose = rose
+
 -- what is so after an output was cut off, of an input that was read before
 pub cut_off_from : (a b : HostState) (out : SinkState) (new : Devices) (c : Command) (input output : List ℕ) (stuck : Bool)
     → (a.tells ≡ true → file_of a (input_of c) ≡ Some input) → SameReadCounts a b → KeepsFiles a b → Later a b

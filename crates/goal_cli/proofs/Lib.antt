@@ -1,5 +1,6 @@
 pub mod AnswerLemmas
 pub mod InputLemmas
+pub mod FileLemmas
 pub mod OutputLemmas
 pub mod RefusalLemmas
 pub mod TimelineLemmas

@@ -26,3 +26,8 @@ same_output (Compile name out) input again sched one other stuck waits r s a b =
     (a.0.compiled ∙ ap file (same_schedule input _ _ a.0.read r ∙ sym (same_schedule again _ _ b.0.read s)) ∙ sym b.0.compiled, a.1 ∙ sym b.1)
 same_output (Show name) input again sched one other stuck waits r s a b =
     (a.0.shown ∙ ap canonical (same_schedule input _ _ a.0.read r ∙ sym (same_schedule again _ _ b.0.read s)) ∙ sym b.0.shown, a.1 ∙ sym b.1)
+
+-- what is written of a schedule as a compiled file says the schedule
+pub compiled_again : (name out input output : List ℕ) (stuck : Bool) (sched : List Plan) → IsReadAs input sched
+    → IsOutput (Compile name out) input output stuck → IsReadAs output sched
+compiled_again name out input output stuck sched read is = rw (same_schedule input _ _ is.0.read read) at is.0.again

@@ -1,5 +1,6 @@
 -- What a command makes of its input: what it writes, or why it refuses the input.
 use Rattle.std.specs.Prelude.{ℕ, ◌≡◌, ◌<◌, ◌≤◌, ◌^◌, Bool, false, List, length}
+use Rattle.goal_base.specs.declared.limits.TheConstants.{MAX_INPUT}
 use Rattle.goal_graph.specs.declared.action.Timed.{Timed}
 use Rattle.goal_graph.specs.Schedule.{Plan}
 use Rattle.sim_params.specs.Costs.{Numbers, CostModel, log_gops}
@@ -35,11 +36,12 @@ pub record IsSimulated (numbers : Numbers) (input output : List ℕ) (stuck : Bo
   pub schedule : HasRun numbers input sched
   pub run : IsPrintedRun (log_gops numbers) sched output stuck
 
--- the output is the compiled file of the schedule that the input says
+-- the output is the compiled file of the schedule that the input says, and says the same schedule
 pub record IsCompiled (input output : List ℕ) : Type 0 where
   pub sched : List Plan
   pub read : IsReadAs input sched
   pub compiled : output ≡ file sched
+  pub again : IsReadAs output sched
 
 -- the output is its canonical text
 pub record IsShown (input output : List ℕ) : Type 0 where
@@ -74,7 +76,7 @@ IsRefusedBudget (Show name) input sum = ⊥
 
 -- the command refuses the input: the first of these that applies
 abbrev pub IsRefused : Command → List ℕ → Refusal → Type 0
-IsRefused c input refusal.TooLong = 2 ^ 27 < length input
+IsRefused c input refusal.TooLong = MAX_INPUT < length input
 IsRefused c input (refusal.Text fault) = IsTextFault input fault
 IsRefused c input (refusal.File fault) = IsFaultOfFile input fault
 IsRefused c input (refusal.Budget sum) = IsRefusedBudget c input sum

@@ -3,7 +3,7 @@ ghost use Rattle.std.specs.Prelude.{◌≡◌, ◌≢◌, ◌⊎◌, ◌<◌, �
 ghost use Rattle.goal_base.specs.Device.{file_of, ReadFaulted};
 ghost use Rattle.goal_graph.specs.Schedule.{Plan};
 ghost use Rattle.sim_params.specs.Costs.{CostModel};
-ghost use Rattle.goal_words.specs.Words.{Command};
+ghost use Rattle.goal_words.specs.Words.{Command, Compile};
 ghost use Rattle.goal_cli.specs.Input.{IsReadAs};
 ghost use Rattle.goal_cli.specs.Output.{IsPrintedRun, IsOutput, IsRefused};
 ghost use Rattle.goal_cli.specs.Refusal.{refused_line};
@@ -18,8 +18,8 @@ use crate::answer::Status;
 /// What is written is a function of the schedule and the parameters.
 ///
 /// - `one_run`: a schedule has one printed run with given costs, and one status.
-/// - `same_output`: two inputs that say the same schedule, such as a text and its compiled file, give the same bytes and
-///   the same status.
+/// - `same_output`: two inputs that say the same schedule give the same bytes and the same status.
+/// - `compiled_again`: what `compile` writes for an input says the same schedule, so a command makes the same of both.
 pub fn laws_of_outputs()
     ensures one_run { (costs : CostModel) (sched : List Plan) (one other : List ℕ) (stuck waits : Bool)
         → IsPrintedRun costs sched one stuck → IsPrintedRun costs sched other waits
@@ -27,6 +27,8 @@ pub fn laws_of_outputs()
     ensures same_output { (c : Command) (input again : List ℕ) (sched : List Plan) (one other : List ℕ) (stuck waits : Bool)
         → IsReadAs input sched → IsReadAs again sched
         → IsOutput c input one stuck → IsOutput c again other waits → (one ≡ other) × (stuck ≡ waits) }
+    ensures compiled_again { (name out input output : List ℕ) (stuck : Bool) (sched : List Plan)
+        → IsReadAs input sched → IsOutput (Compile name out) input output stuck → IsReadAs output sched }
 {}
 
 /// What each status of an answered command line means, and what leads to it.

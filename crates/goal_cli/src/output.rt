@@ -1,5 +1,6 @@
 // From the bytes of an input to what a command makes of them.
 ghost use Rattle.std.specs.Prelude.{◌≡◌, ◌<◌, ◌≤◌, ◌^◌, true, false, length, Ok, OnOk, IfOk, IfErr};
+ghost use Rattle.goal_base.specs.declared.limits.TheConstants.{MAX_INPUT};
 ghost use Rattle.sim_params.specs.Numbers.{numbers};
 ghost use Rattle.sim_params.specs.Costs.{log_gops};
 ghost use Rattle.sim_params.specs.Budget.{budget};
@@ -13,7 +14,7 @@ ghost use Rattle.goal_cli.specs.Output.{IsPrintedRun, IsOutput, IsStop};
 use crate::answer::Refusal;
 use crate::timeline::timeline;
 use goal_base::NoMemory;
-use goal_binary::{FileFault, decode, encode};
+use goal_binary::{FileFault, decode, encode, laws_of_files};
 use goal_graph::Sched;
 use goal_parser::{TextFault, read_text};
 use goal_print::print_text;
@@ -50,7 +51,7 @@ fn is_compiled(input: &[u8]) -> bool
 
 // The schedule of a text.
 fn read_as_text(alloc: Global, input: &[u8]) -> Result<Sched, Stop>
-    requires short { length input.now ≤ 2 ^ 27 }
+    requires short { length input.now ≤ MAX_INPUT }
     requires text { is_compiled input.now ≡ false }
     ensures read { IfOk result (λ sched. IsReadAs input.now sched) }
     ensures stop { IfErr result (λ stop. (c : Command) → IsStop c input.now stop) }
@@ -64,7 +65,7 @@ fn read_as_text(alloc: Global, input: &[u8]) -> Result<Sched, Stop>
 
 // The schedule of a compiled file.
 fn read_as_file(alloc: Global, input: &[u8]) -> Result<Sched, Stop>
-    requires short { length input.now ≤ 2 ^ 27 }
+    requires short { length input.now ≤ MAX_INPUT }
     requires compiled { is_compiled input.now ≡ true }
     ensures read { IfOk result (λ sched. IsReadAs input.now sched) }
     ensures stop { IfErr result (λ stop. (c : Command) → IsStop c input.now stop) }
@@ -78,7 +79,7 @@ fn read_as_file(alloc: Global, input: &[u8]) -> Result<Sched, Stop>
 
 // The schedule that an input says.
 fn read_input(alloc: Global, input: &[u8]) -> Result<Sched, Stop>
-    requires short { length input.now ≤ 2 ^ 27 }
+    requires short { length input.now ≤ MAX_INPUT }
     ensures read { IfOk result (λ sched. IsReadAs input.now sched) }
     ensures stop { IfErr result (λ stop. (c : Command) → IsStop c input.now stop) }
 {
@@ -121,6 +122,16 @@ fn whole(bytes: Result<Vec<u8>, NoMemory>) -> Result<Output, Stop>
     }
 }
 
+// The compiled file of a schedule.
+fn compile(alloc: Global, sched: &Sched) -> Result<Vec<u8>, NoMemory>
+    ensures file { IfOk result (λ bytes. bytes.items ≡ file sched.now) }
+    ensures again { IfOk result (λ bytes. IsReadAs bytes.items sched.now) }
+{
+    let _plans = sched.plans();
+    laws_of_files();
+    encode(alloc, sched)
+}
+
 // What a command makes of a schedule that its input says.
 fn output_of(alloc: Global, line: &Line, input: &[u8], sched: &Sched) -> Result<Output, Stop>
     requires read { IsReadAs input.now sched.now }
@@ -133,14 +144,14 @@ fn output_of(alloc: Global, line: &Line, input: &[u8], sched: &Sched) -> Result<
             Err(EngineFault::Budget { sum }) => Err(Stop::Refused(Refusal::Budget { sum })),
             Err(EngineFault::NoMemory) => Err(Stop::NoMemory),
         },
-        Line::Compile { .. } => whole(encode(alloc, sched)),
+        Line::Compile { .. } => whole(compile(alloc, sched)),
         Line::Show { .. } => whole(print_text(alloc, sched)),
     }
 }
 
 // What a command makes of its input.
 pub fn make(alloc: Global, line: &Line, input: &[u8]) -> Result<Output, Stop>
-    requires short { length input.now ≤ 2 ^ 27 }
+    requires short { length input.now ≤ MAX_INPUT }
     ensures output { IfOk result (λ output. IsOutput (command line.now) input.now output.bytes.items output.stuck) }
     ensures stop { IfErr result (λ stop. IsStop (command line.now) input.now stop) }
 {

@@ -1,4 +1,4 @@
-use Rattle.goal_cli.proofs.OutputLemmas.{one_run, same_output}
+use Rattle.goal_cli.proofs.OutputLemmas.{one_run, same_output, compiled_again}
 use Rattle.goal_cli.proofs.laws.laws_of_outputs.Goals as goal
 
 pub returns-clause-one_run : goal.returns-clause-one_run
@@ -6,3 +6,6 @@ returns-clause-one_run c = one_run
 
 pub returns-clause-same_output : goal.returns-clause-same_output
 returns-clause-same_output c = same_output
+
+pub returns-clause-compiled_again : goal.returns-clause-compiled_again
+returns-clause-compiled_again c = compiled_again
