@@ -10,3 +10,4 @@ pub mod Reads
 pub mod Sentence
 pub mod Slots
 pub mod Taken
+pub mod FaultWords

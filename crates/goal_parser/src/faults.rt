@@ -1,6 +1,7 @@
 //! Why a text is no schedule.
-ghost use Rattle.std.specs.Prelude.{◌≡◌};
+ghost use Rattle.std.specs.Prelude.{◌≡◌, Some};
 ghost use Rattle.goal_parser.specs.declared.faults.TextFault.TheVariants.{NoMemory};
+ghost use Rattle.goal_parser.specs.FaultWords.{fault_words};
 
 use goal_graph::PlanFault;
 use std::alloc::{AllocError, AllocFailed};
@@ -48,6 +49,8 @@ impl<T: Drop> From<AllocFailed<T>> for TextFault {
 }
 
 impl fmt::Display for TextFault {
+    ghost output = { λ fault. Some (fault_words fault) };
+
     fn fmt<W: fmt::Write>(&self, f: &mut fmt::Formatter<W>) -> fmt::Result {
         match self {
             TextFault::Lex { at } => write!(f, "no token begins at byte {at}"),
@@ -60,7 +63,7 @@ impl fmt::Display for TextFault {
                 "the word at byte {at} begins one item too many"
             ),
             TextFault::UnknownLabel { at } => write!(f, "the label at byte {at} is not defined"),
-            TextFault::Plan(fault) => write!(f, "the plans are no schedule: {fault:?}"),
+            TextFault::Plan(_) => write!(f, "the plans of the text are no schedule"),
             TextFault::NoMemory => write!(f, "out of memory"),
         }
     }

@@ -4,9 +4,11 @@
 #![tactic(auto)]
 
 mod again;
+mod laws;
 mod print;
 #[cfg(test)]
 mod tests;
 
 pub use again::read_printed;
+pub use laws::laws_of_canonical_texts;
 pub use print::print_text;
