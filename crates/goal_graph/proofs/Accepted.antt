@@ -5,7 +5,6 @@ use Rattle.goal_graph.specs.declared.action.OpId.{OpId}
 use Rattle.goal_graph.specs.declared.plan.Op.{Op}
 use Rattle.goal_graph.specs.Schedule.{Plan, op_at}
 use Rattle.goal_graph.specs.Fault.{IsOp, plain_fault, value_fits, has_peer}
-use Rattle.goal_graph.specs.Widths.{IsOpInWidth, AreInWidth}
 use Rattle.goal_graph.proofs.Plain.{plain-op}
 use Rattle.goal_graph.proofs.Places.{no_plan, IsOp-located, op_at-located}
 
@@ -24,9 +23,3 @@ plain-op_at plans plain x o found =
     let located = IsOp-located plans x (IsOp-from_op_at plans x o found) in
     let fits = plain-op plans plain x.rank no_plan located.rank_in x.op o (located.op_in no_plan) in
     subst (λ (q : Op). (value_fits q.kind q.nic ≡ true) × (has_peer (length plans) q.kind ≡ true)) (sym (op_at-read plans x o found)) fits
-
--- its numbers fit their types
-pub op_at-width : (plans : List Plan) → AreInWidth plans → (x : OpId) (o : Op) → op_at plans x ≡ Some o → IsOpInWidth o
-op_at-width plans widths x o found =
-    let located = IsOp-located plans x (IsOp-from_op_at plans x o found) in
-    subst IsOpInWidth (sym (op_at-read plans x o found)) ((widths.ranks x.rank no_plan located.rank_in).ops x.op o (located.op_in no_plan))

@@ -105,11 +105,6 @@ module _ (plans : List Plan) (eager : OpId → Bool) where
         go (receive k) =
             inr (record { is_receive = k; posted = ready_receive_posted x k r; unpaired = free })
 
-    -- an operation that has no end is not ready, or waits for a partner
-    pub unended_cases : (x : OpId) → (kind_at plans x ≢ None) → has_ended plans eager x h ≡ false → (is_ready plans eager h x ≡ false) ⊎ (IsWaitingSend plans eager h x ⊎ IsWaitingReceive plans h x)
-    unended_cases x present e =
-        elim (cases_Bool (is_ready plans eager h x)) [ inl r ↦ inr (ready_waits x present r e) | inr f ↦ inl f ]
-
     -- whoever is paired with y is not x, where x is not paired
     taken_from : (x y : OpId) → is_paired (pairs plans h) x ≡ false → is_paired (pairs plans h) y ≡ true → IsTaken plans h y x
     taken_from x y free p =

@@ -1,5 +1,5 @@
 -- What held when an action was allowed, and stays, holds ever after.
-use Rattle.std.proofs.Common.{◌≡◌, Bool, true, false, List, [], ◌∷◌, ◌⊎◌, inl, inr, subst}
+use Rattle.std.proofs.Common.{◌≡◌, Bool, true, List, [], ◌∷◌, inl, inr, subst}
 use Rattle.std.proofs.lemmas.Bool.{both_ways}
 use Rattle.goal_graph.specs.declared.action.OpId.{OpId}
 use Rattle.goal_graph.specs.declared.action.Class.{Class}
@@ -9,7 +9,7 @@ use Rattle.goal_graph.specs.Action.{Act, is_act, happened}
 use Rattle.goal_graph.specs.Matching.{partner, is_paired, pairs}
 use Rattle.goal_graph.specs.Allowed.{is_ready, is_served, allowed}
 use Rattle.goal_graph.specs.Interleaving.{IsInterleaving}
-use Rattle.goal_graph.specs.Laws.{IsCalc, IsSend, IsReceive}
+use Rattle.goal_graph.specs.Laws.{IsSend, IsReceive}
 use Rattle.goal_graph.proofs.Actions.{happened_none, happened_cases, happened_stays, is_act_class, is_act_op}
 use Rattle.goal_graph.proofs.Persist.{paired_stays, ready_stays, served_stays}
 use Rattle.goal_graph.proofs.Rules.{allowed_arrive, allowed_data, allowed_serve, allowed_post, allowed_begin}
@@ -37,10 +37,6 @@ module _ (plans : List Plan) (eager : OpId → Bool) where
   data_send h m =
       ever Data m (λ h. IsSend plans m) (λ a h p. p) (λ h i e. (allowed_data plans eager h m e).0) h
 
-  pub data_large : (h : List Act) (m : OpId) → IsInterleaving plans eager h → happened Data m h ≡ true → eager m ≡ false
-  data_large h m =
-      ever Data m (λ h. eager m ≡ false) (λ a h p. p) (λ h i e. (allowed_data plans eager h m e).1) h
-
   pub data_paired : (h : List Act) (m : OpId) → IsInterleaving plans eager h → happened Data m h ≡ true → is_paired (pairs plans h) m ≡ true
   data_paired h m =
       ever Data m (λ h. is_paired (pairs plans h) m ≡ true) (λ a h p. paired_stays plans a h m p) (λ h i e. (allowed_data plans eager h m e).2) h
@@ -61,10 +57,6 @@ module _ (plans : List Plan) (eager : OpId → Bool) where
   pub posted_ready : (h : List Act) (x : OpId) → IsInterleaving plans eager h → happened Post x h ≡ true → is_ready plans eager h x ≡ true
   posted_ready h x =
       ever Post x (λ h. is_ready plans eager h x ≡ true) (λ a h p. ready_stays plans eager a h x p) (λ h i e. (allowed_post plans eager h x e).1) h
-
-  pub begun_kind : (h : List Act) (x : OpId) → IsInterleaving plans eager h → happened Begin x h ≡ true → IsCalc plans x ⊎ IsSend plans x
-  begun_kind h x =
-      ever Begin x (λ h. IsCalc plans x ⊎ IsSend plans x) (λ a h p. p) (λ h i e. (allowed_begin plans eager h x e).0) h
 
   pub begun_ready : (h : List Act) (x : OpId) → IsInterleaving plans eager h → happened Begin x h ≡ true → is_ready plans eager h x ≡ true
   begun_ready h x =

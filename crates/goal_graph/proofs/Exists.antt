@@ -14,7 +14,7 @@ use Rattle.goal_graph.specs.declared.plan.Kind.{Kind}
 use Rattle.goal_graph.specs.Schedule.{Plan, op_at, kind_at, places_of_rank, places_from, operations}
 use Rattle.goal_graph.specs.Action.{Act}
 use Rattle.goal_graph.specs.Allowed.{may, allowed}
-use Rattle.goal_graph.specs.Laws.{IsEarlier}
+use Rattle.goal_graph.specs.Order.{IsBefore}
 use Rattle.goal_graph.proofs.Persist.{is_some_from, cases_some}
 use Rattle.goal_graph.proofs.Lists.{contains_first, contains_more}
 use Rattle.goal_graph.proofs.Rules.{allowed_may}
@@ -149,23 +149,23 @@ pub listed_places : (plans : List Plan) (x : OpId) → Contains (operations plan
 listed_places plans x =
     (λ c. let a = listed_op plans x c in is_some_from (op_at plans x) a.op a.is, λ e. let o = cases_some (op_at plans x) e in op_listed plans x (record { op = o.0; is = o.1 }))
 
-rank_in_order : (rank first : ℕ) (os : List Op) (rest : List OpId) → All (λ (y : OpId). rank < y.rank) rest → AllPairs IsEarlier rest → AllPairs IsEarlier (places_of_rank rank first os ++ rest)
+rank_in_order : (rank first : ℕ) (os : List Op) (rest : List OpId) → All (λ (y : OpId). rank < y.rank) rest → AllPairs IsBefore rest → AllPairs IsBefore (places_of_rank rank first os ++ rest)
 unfolding places_of_rank
 rank_in_order rank first [] rest later ordered = ordered
 rank_in_order rank first (o ∷ os) rest later ordered =
-    AllPairs-cons IsEarlier (at rank first) (places_of_rank rank (first + 1) os ++ rest) (All-append (IsEarlier (at rank first)) (places_of_rank rank (first + 1) os) rest (All-weaker (IsPlaceOfRank rank (first + 1) os) (IsEarlier (at rank first)) (λ y a. inr (sym a.of_rank, omega (arith, a.place))) (places_of_rank rank (first + 1) os) (rank_places rank (first + 1) os)) (All-weaker (λ (y : OpId). rank < y.rank) (IsEarlier (at rank first)) (λ y l. inl l) rest later)) (rank_in_order rank (first + 1) os rest later ordered)
+    AllPairs-cons IsBefore (at rank first) (places_of_rank rank (first + 1) os ++ rest) (All-append (IsBefore (at rank first)) (places_of_rank rank (first + 1) os) rest (All-weaker (IsPlaceOfRank rank (first + 1) os) (IsBefore (at rank first)) (λ y a. inr (sym a.of_rank, omega (arith, a.place))) (places_of_rank rank (first + 1) os) (rank_places rank (first + 1) os)) (All-weaker (λ (y : OpId). rank < y.rank) (IsBefore (at rank first)) (λ y l. inl l) rest later)) (rank_in_order rank (first + 1) os rest later ordered)
 
-places_in_order : (base : ℕ) (plans : List Plan) → AllPairs IsEarlier (places_from base plans)
+places_in_order : (base : ℕ) (plans : List Plan) → AllPairs IsBefore (places_from base plans)
 unfolding places_from
 places_in_order base [] = λ i j d l b. absurd (omega arith)
 places_in_order base (p ∷ ps) =
     rank_in_order base 0 p.ops (places_from (base + 1) ps) (All-weaker (IsPlaceFrom (base + 1) ps) (λ (y : OpId). base < y.rank) (λ y a. omega (arith, a.rank)) (places_from (base + 1) ps) (places (base + 1) ps)) (places_in_order (base + 1) ps)
 
 -- the operations stand by rank, then by number
-pub operations_in_order : (plans : List Plan) → AllPairs IsEarlier (operations plans)
+pub operations_in_order : (plans : List Plan) → AllPairs IsBefore (operations plans)
 operations_in_order plans = places_in_order 0 plans
 
-earlier_differ : (x y : OpId) → IsEarlier x y → x ≢ y
+earlier_differ : (x y : OpId) → IsBefore x y → x ≢ y
 earlier_differ x y (inl l) e = omega (arith, l, ap (λ (z : OpId). z.rank) e)
 earlier_differ x y (inr l) e = omega (arith, l.1, ap (λ (z : OpId). z.op) e)
 

@@ -1,6 +1,5 @@
 -- There is at most one first fault, and none where the plans are accepted.
-use Rattle.std.proofs.Common.{◌≡◌, ◌⊎◌, ltb, List, length, get_or, None, All, sym, ap, ◌∙◌, inl, inr, arith}
-use Rattle.std.proofs.lemmas.Bool.{cases_lt}
+use Rattle.std.proofs.Common.{◌≡◌, ltb, List, length, get_or, None, All, sym, ap, ◌∙◌, inl, inr}
 use Rattle.std.proofs.lemmas.Option.{none-some, same_Some}
 use Rattle.std.proofs.lemmas.List.Sums.{AllPass-from_list_all}
 use Rattle.goal_graph.specs.declared.action.OpId.{OpId}
@@ -8,33 +7,15 @@ use Rattle.goal_graph.specs.declared.fault.PlanFault.{PlanFault}
 use Rattle.goal_graph.specs.declared.fault.PlanFault.TheVariants.{Cycle}
 use Rattle.goal_graph.specs.declared.plan.Need.{Need}
 use Rattle.goal_graph.specs.Schedule.{Plan, needs, waiting_on, needed}
-use Rattle.goal_graph.specs.Fault.{plain_fault, IsOp, IsBefore, IsFirstCycle, IsFault, IsAccepted}
+use Rattle.goal_graph.specs.Fault.{plain_fault, IsOp, IsFirstCycle, IsFault, IsAccepted}
 use Rattle.goal_graph.proofs.Numbers.{below_from_test}
+use Rattle.goal_graph.proofs.Order.{before_cases}
 use Rattle.goal_graph.proofs.Places.{no_plan, IsOp-located, IsOp-below}
 use Rattle.goal_graph.proofs.Ranges.{needs-in_range, waiting_on-in_range}
 
-same_op_id : (x y : OpId) → x.rank ≡ y.rank → x.op ≡ y.op → x ≡ y
-same_op_id x y r o = λ i. record { rank = r i; op = o i }
-
--- of two operations one is before the other, or they are the same
-pub IsBefore-total : (x y : OpId) → IsBefore x y ⊎ (IsBefore y x ⊎ (x ≡ y))
-IsBefore-total x y = elim (cases_lt x.rank y.rank) [
-  | inl below ↦ inl (inl below)
-  | inr above ↦ elim (cases_lt y.rank x.rank) [
-    | inl below ↦ inr (inl (inl below))
-    | inr level ↦ elim (cases_lt x.op y.op) [
-      | inl less ↦ inl (inr (omega arith, less))
-      | inr more ↦ elim (cases_lt y.op x.op) [
-        | inl less ↦ inr (inl (inr (omega arith, less)))
-        | inr same ↦ inr (inr (same_op_id x y (omega arith) (omega arith)))
-      ]
-    ]
-  ]
-]
-
 -- there is one first operation without a depth
 pub IsFirstCycle-unique : (plans : List Plan) (x y : OpId) → IsFirstCycle plans x → IsFirstCycle plans y → x ≡ y
-IsFirstCycle-unique plans x y a b = elim (IsBefore-total x y) [
+IsFirstCycle-unique plans x y a b = elim (before_cases x y) [
   | inl earlier ↦ absurd (a.cyclic (b.first x a.exists earlier))
   | inr rest ↦ elim rest [
     | inl later ↦ absurd (b.cyclic (a.first y b.exists later))

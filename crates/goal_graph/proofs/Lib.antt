@@ -14,6 +14,7 @@ pub mod Oldest
 pub mod Complete
 pub mod Members
 pub mod Apart
+pub mod Eager
 pub mod Numbers
 pub mod Flat
 pub mod Links
@@ -26,5 +27,6 @@ pub mod Searching
 pub mod Faults
 pub mod ListingLemmas
 pub mod FirstFault
-pub mod Operations
 pub mod Accepted
+pub mod Order
+pub mod OfKind

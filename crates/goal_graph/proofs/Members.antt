@@ -6,7 +6,7 @@ use Rattle.std.proofs.lemmas.List.Elements.{All-contains}
 use Rattle.goal_graph.specs.declared.action.OpId.{OpId}
 use Rattle.goal_graph.specs.declared.action.Class.{Class}
 use Rattle.goal_graph.specs.declared.plan.Need.{Need}
-use Rattle.goal_graph.specs.Schedule.{Plan, needs, needed, operations}
+use Rattle.goal_graph.specs.Schedule.{Plan, needs, needed}
 use Rattle.goal_graph.specs.Action.{Act, happened}
 use Rattle.goal_graph.specs.Matching.{Pair, pair_of, partner, pairs}
 use Rattle.goal_graph.specs.Allowed.{is_met, is_ready}
@@ -14,8 +14,6 @@ use Rattle.goal_graph.specs.Interleaving.{IsInterleaving}
 use Rattle.goal_graph.proofs.Lists.{contains_first, contains_more, some_fails}
 use Rattle.goal_graph.proofs.Actions.{act_of, is_act_true, is_act_from, happened_none, happened_cases, happened_stays, happened_new}
 use Rattle.goal_graph.proofs.Partners.{IsListed, partner_listed, one_send, one_receive}
-use Rattle.goal_graph.proofs.Ever.{ever}
-use Rattle.goal_graph.proofs.Exists.{allowed_listed}
 
 pub happened_member : (c : Class) (x : OpId) (h : List Act) → happened c x h ≡ true → Contains h (act_of c x)
 happened_member c x [] e = absurd (both_ways _ (happened_none c x) e)
@@ -60,11 +58,6 @@ module _ (plans : List Plan) (eager : OpId → Bool) where
   pub unready_need : (h : List Act) (x : OpId) → is_ready plans eager h x ≡ false → (d : Need) × Contains (needs plans x) d × (is_met plans eager h d.when (needed x d) ≡ false)
   unfolding is_ready
   unready_need h x r = some_fails (λ (d : Need). is_met plans eager h d.when (needed x d)) (needs plans x) r
-
-  -- only operations of the schedule act
-  pub happened_listed : (h : List Act) (c : Class) (x : OpId) → IsInterleaving plans eager h → happened c x h ≡ true → Contains (operations plans) x
-  happened_listed h c x =
-      ever plans eager c x (λ h. Contains (operations plans) x) (λ a h p. p) (λ h i e. allowed_listed plans eager h c x e) h
 
   -- two pairs that share the send or the receive are one pair
   pub one_pair : (h : List Act) (p q : Pair) → IsInterleaving plans eager h → Contains (pairs plans h) p → Contains (pairs plans h) q → ((p.send ≡ q.send) ⊎ (p.recv ≡ q.recv)) → p ≡ q

@@ -1,19 +1,20 @@
 -- Where each operation stands in the order of all.
-use Rattle.std.proofs.Common.{◌≡◌, ◌⊎◌, ℕ, zero, suc, ◌+◌, ◌<◌, ◌≤◌, List, [], ◌∷◌, ◌++◌, length, get_or, take, Some, is_some, slice_get, refl, sym, ap, ◌∙◌, arith, inl, inr, add-zero, zero-add, length-append}
+use Rattle.std.proofs.Common.{◌≡◌, ◌⊎◌, ℕ, zero, suc, ◌+◌, ◌<◌, ◌≤◌, List, [], ◌∷◌, ◌++◌, length, get_or, take, Some, is_some, slice_get, refl, sym, ap, ◌∙◌, subst, arith, inl, inr, add-zero, zero-add, length-append}
 use Rattle.std.specs.List.{sum_by}
 use Rattle.std.proofs.lemmas.Bool.{cases_lt, false≢true}
 use Rattle.std.proofs.lemmas.List.{take-take, take_all, length-take-le, length_push, get_or_append_left, get_or_push, get_or-append-add, get_or_default}
 use Rattle.std.proofs.lemmas.List.Sums.{sum_by-cons, sum_by_more, sum_by_more_le, get_or-le-sum_by}
 use Rattle.std.proofs.lemmas.List.Concat.{get_or-flat_map, length-flat_map}
 use Rattle.std.proofs.lemmas.List.FromFn.{length-map-range_with_len, get_or-map-range_with_len}
-use Rattle.std.proofs.lemmas.Option.{slice_get-get_or, slice_get_cases}
+use Rattle.std.proofs.lemmas.Option.{slice_get-get_or, slice_get_cases, slice_get_within, get_or_from_slice_get}
 use Rattle.goal_graph.specs.declared.action.OpId.{OpId}
 use Rattle.goal_graph.specs.declared.plan.Op.{Op}
 use Rattle.goal_graph.specs.declared.plan.Kind.TheVariants.{Calc}
 use Rattle.goal_graph.specs.declared.plan.Need.{Need}
 use Rattle.goal_graph.specs.declared.rows.Listing.{Listing}
 use Rattle.goal_graph.specs.declared.rows.Listing.TheVariants.{Needs, WaitingOn}
-use Rattle.goal_graph.specs.Schedule.{Plan, needs, waiting_on, op_at, deps_at, places_of_rank, places_from, operations}
+use Rattle.goal_graph.specs.Schedule.{Plan, needs, waiting_on, op_at, ops_at, deps_at, places_of_rank, places_from, operations}
+use Rattle.goal_base.specs.declared.limits.TheConstants.{MAX_OPS}
 use Rattle.goal_graph.specs.Fault.{IsOp, op_count, dep_count, note_count}
 use Rattle.goal_graph.specs.Rows.{row, rank_rows, all_rows}
 use Rattle.goal_graph.specs.Tables.{index_of, AreStarts}
@@ -31,6 +32,17 @@ op_count-more plans i p inside = sum_by_more (λ (q : Plan). length q.ops) plans
 pub op_count-more_le : (plans : List Plan) (i : ℕ) (p : Plan) → i < length plans → op_count (take i plans) + length (get_or plans i p).ops ≤ op_count plans
 unfolding op_count
 op_count-more_le plans i p inside = sum_by_more_le (λ (q : Plan). length q.ops) plans i p inside
+
+-- the operations of a rank
+pub ops_at_some : (plans : List Plan) (rank : ℕ) (p : Plan) → slice_get plans rank ≡ Some p → ops_at plans rank ≡ p.ops
+unfolding ops_at
+ops_at_some plans rank p e = rw e refl
+
+pub few_ops_at : (plans : List Plan) → op_count plans ≤ MAX_OPS → (rank : ℕ) (p : Plan) → slice_get plans rank ≡ Some p → length p.ops ≤ MAX_OPS
+unfolding op_count
+few_ops_at plans few rank p e =
+    let le = get_or-le-sum_by (λ (q : Plan). length q.ops) plans rank p (slice_get_within plans rank p e) in
+    subst (λ (q : Plan). length q.ops ≤ MAX_OPS) (get_or_from_slice_get plans rank p p e) (omega (arith, le, few))
 
 pub op_count-nil : op_count [] ≡ 0
 unfolding op_count

@@ -9,12 +9,11 @@ use Rattle.goal_graph.specs.declared.fault.PlanFault.TheVariants.{Count}
 use Rattle.goal_base.specs.declared.limits.TheConstants.{MAX_RANKS, MAX_OPS, MAX_DEPS, MAX_NOTES}
 use Rattle.goal_graph.specs.declared.plan.Op.{Op}
 use Rattle.goal_graph.specs.declared.plan.Dep.{Dep}
-use Rattle.goal_graph.specs.declared.plan.Note.{Note}
 use Rattle.goal_graph.specs.declared.rows.Listing.{Listing}
 use Rattle.goal_graph.specs.declared.rows.Listing.TheVariants.{Needs, WaitingOn}
 use Rattle.goal_graph.specs.Schedule.{Plan}
 use Rattle.goal_graph.specs.Rows.{owner}
-use Rattle.goal_graph.specs.Fault.{AreCountsWithin, op_count, dep_count, note_count, over, count_fault, op_fault, dep_fault, note_fault, value_fits, has_peer, dep_in_range, note_fits, first_fault, rank_fault, plain_fault}
+use Rattle.goal_graph.specs.Fault.{AreCountsWithin, op_count, dep_count, note_count, over, count_fault, op_fault, dep_fault, value_fits, has_peer, dep_in_range, first_fault, rank_fault, plain_fault}
 
 -- neither of two is there
 pub option_or-none : {T : Type 0} (a b : Option T) → option_or a b ≡ None → (a ≡ None) × (b ≡ None)
@@ -92,11 +91,6 @@ module _ (plans : List Plan) (plain : plain_fault plans ≡ None) where
     pub plain-dep : (k : ℕ) (d : Dep) → k < length (get_or plans rank p).deps → dep_in_range (length (get_or plans rank p).ops) (get_or (get_or plans rank p).deps k d) ≡ true
     unfolding rank_fault
     plain-dep k d below = passed _ _ (first_fault-none (dep_fault (length (get_or plans rank p).ops) rank) 0 (get_or plans rank p).deps (option_or-none _ _ (option_or-none _ _ plain-rank).1).0 k d below)
-
-    -- its notes name operations of the rank that can do them
-    pub plain-note : (k : ℕ) (n : Note) → k < length (get_or plans rank p).notes → note_fits (get_or plans rank p).ops (get_or (get_or plans rank p).notes k n) ≡ true
-    unfolding rank_fault
-    plain-note k n below = passed _ _ (first_fault-none (note_fault (get_or plans rank p).ops rank) 0 (get_or plans rank p).notes (option_or-none _ _ (option_or-none _ _ plain-rank).1).1 k n below)
 
   -- each dependency stands in the row of an operation of its rank
   pub plain-owner : (listing : Listing) → All (λ (p : Plan). All (λ (d : Dep). owner listing d < length p.ops) p.deps) plans

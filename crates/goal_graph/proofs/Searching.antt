@@ -50,16 +50,6 @@ module _ (plans : List Plan) (rank : ℕ) where
     | inr here ↦ rw (get_or_push order x 0 k (sym here)) depth
   ]
 
-  -- before any operation was looked at
-  pub IsSearch-nil : IsSearch plans rank [] [] 0 []
-  IsSearch-nil = record {
-    counted = λ op inside. absurd (omega arith);
-    listed = λ op inside. absurd (omega arith);
-    in_rank = λ k inside. absurd (omega arith);
-    once = λ k inside. absurd (omega arith);
-    deep = λ k inside. absurd (omega arith);
-  }
-
   module _ (missing order : List ℕ) (count : ℕ) (s : IsSearch plans rank missing order 0 []) (counts : count ≡ length (needs plans (op_id rank (length missing)))) where
     begin-counted : (op : ℕ) → op < length (missing ++ count ∷ []) → get_or (missing ++ count ∷ []) op 0 + count_of [] op ≡ unfinished [] (needs plans (op_id rank op))
     begin-counted op inside = elim (old_or_new missing count op inside) [

@@ -14,6 +14,7 @@ use Rattle.goal_graph.specs.declared.plan.Need.{Need}
 use Rattle.goal_graph.specs.declared.plan.Note.{Note}
 use Rattle.goal_graph.specs.declared.plan.Note.TheVariants.{Moves, Adds}
 use Rattle.goal_graph.specs.Schedule.{Plan, op_at, needs, needed}
+use Rattle.goal_graph.specs.Order.{IsBefore}
 
 -- how many operations, dependencies and notes all ranks have together
 unfoldable pub op_count : List Plan → ℕ
@@ -121,10 +122,6 @@ is_below plans (suc n) x = list_all (λ (d : Need). is_below plans n (needed x d
 pub record HasDepth (plans : List Plan) (x : OpId) : Type 0 where
   pub bound : ℕ
   pub below : is_below plans bound x ≡ true
-
--- x stands before y: its rank is less, or its number at the same rank
-abbrev pub IsBefore : OpId → OpId → Type 0
-IsBefore x y = (x.rank < y.rank) ⊎ ((x.rank ≡ y.rank) × (x.op < y.op))
 
 -- x is the first operation without a depth
 pub record IsFirstCycle (plans : List Plan) (x : OpId) : Type 0 where

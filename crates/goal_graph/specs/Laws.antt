@@ -1,13 +1,17 @@
 -- The laws of interleavings, as one reads them, and the words that they use.
-use Rattle.std.specs.Prelude.{ℕ, ◌+◌, ◌*◌, ◌≡◌, ◌≢◌, ◌<◌, ◌≤◌, ◌⊎◌, ◌↔◌, ◌&&◌, not, Bool, true, false, List, [], ◌∷◌, length, reverse, find, Contains, AllPairs, Option, Some, is_some, count_by, sum_by}
+use Rattle.std.specs.Prelude.{ℕ, ◌+◌, ◌*◌, ◌≡◌, ◌≢◌, ◌≤◌, ◌⊎◌, ◌↔◌, ◌&&◌, not, Bool, true, false, List, [], ◌∷◌, length, reverse, find, Contains, AllPairs, Option, Some, is_some, count_by, sum_by}
 use Rattle.std.specs.Option.{option_map}
 use Rattle.goal_graph.specs.declared.action.OpId.{OpId}
+use Rattle.goal_graph.specs.declared.action.Timed.{Timed}
+use Rattle.goal_graph.specs.declared.plan.Op.{Op}
 use Rattle.goal_graph.specs.declared.action.Class.{Class}
 use Rattle.goal_graph.specs.declared.action.Class.TheVariants.{Arrive, Serve, Data, Post, Begin}
 use Rattle.goal_graph.specs.declared.plan.Kind.{Kind}
 use Rattle.goal_graph.specs.declared.plan.Kind.TheVariants.{Calc, Send, Recv}
 use Rattle.goal_graph.specs.Schedule.{Plan, op_at, kind_at, operations}
 use Rattle.goal_graph.specs.Action.{Act, same_op, is_act, happened, oldest}
+use Rattle.goal_graph.specs.Order.{IsBefore, IsLess, less, key}
+use Rattle.goal_graph.specs.Fault.{IsAccepted, AreCountsWithin, value_fits, has_peer}
 use Rattle.goal_graph.specs.Matching.{Pair, pair_of, fits, pairs, partner, is_paired}
 use Rattle.goal_graph.specs.Allowed.{has_started, has_ended, is_ready, is_served, allowed}
 use Rattle.goal_graph.specs.Interleaving.{IsInterleaving, IsCompleteInterleaving}
@@ -78,10 +82,6 @@ pub record IsTaken (plans : List Plan) (h : List Act) (y x : OpId) : Type 0 wher
   pub taker : OpId
   pub pair : partner (pairs plans h) y ≡ Some taker
   pub other : taker ≢ x
-
--- by rank, then by number
-abbrev pub IsEarlier : OpId → OpId → Type 0
-IsEarlier x y = (x.rank < y.rank) ⊎ ((x.rank ≡ y.rank) × (x.op < y.op))
 
 -- The laws, for all schedules and whatever is eager. The functions `laws_of_..` ensure each.
 
@@ -191,7 +191,7 @@ OperationsAreListed = (plans : List Plan) (x : OpId) → Contains (operations pl
 
 -- the operations are listed by rank and number, and so none twice
 abbrev pub OperationsInOrder : Type 0
-OperationsInOrder = (plans : List Plan) → AllPairs IsEarlier (operations plans) × AllPairs (λ (x y : OpId). x ≢ y) (operations plans)
+OperationsInOrder = (plans : List Plan) → AllPairs IsBefore (operations plans) × AllPairs (λ (x y : OpId). x ≢ y) (operations plans)
 
 -- the oldest that passes is the first that passes in the list read oldest first
 abbrev pub ReadOldestFirst : Type 0
@@ -222,3 +222,53 @@ ApartArePartners = (plans : List Plan) (eager : OpId → Bool) (h : List Act) (m
 -- there what starts and ends in one interleaving does so in each complete one in which no fewer sends are eager
 abbrev pub ApartCompletesAlike : Type 0
 ApartCompletesAlike = (plans : List Plan) (eager fewer : OpId → Bool) (h w : List Act) → IsApart plans → IsCompleteInterleaving plans eager h → IsInterleaving plans fewer w → ((m : OpId) → fewer m ≡ true → eager m ≡ true) → (x : OpId) → (has_started plans x w ≡ true → has_started plans x h ≡ true) × (has_ended plans fewer x w ≡ true → has_ended plans eager x h ≡ true)
+
+-- The laws of orders.
+
+-- no operation is before itself
+abbrev pub OperationNotBeforeItself : Type 0
+OperationNotBeforeItself = (x : OpId) → ¬ (IsBefore x x)
+
+-- what is before an operation that is before a third is before the third
+abbrev pub OperationsBeforeIsTransitive : Type 0
+OperationsBeforeIsTransitive = (x y z : OpId) → IsBefore x y → IsBefore y z → IsBefore x z
+
+-- of two operations one is before the other, or they are the same
+abbrev pub OneOperationIsBefore : Type 0
+OneOperationIsBefore = (x y : OpId) → IsBefore x y ⊎ (IsBefore y x ⊎ (x ≡ y))
+
+-- no key is less than itself
+abbrev pub NotLessThanItself : Type 0
+NotLessThanItself = (k : List ℕ) → ¬ (IsLess k k)
+
+-- what is less than a key that is less than a third is less than the third
+abbrev pub LessIsTransitive : Type 0
+LessIsTransitive = (j k l : List ℕ) → IsLess j k → IsLess k l → IsLess j l
+
+-- of two actions that differ, the key of one is less
+abbrev pub OneIsLess : Type 0
+OneIsLess = (a b : Timed) → (a ≡ b) ⊎ (IsLess (key a) (key b) ⊎ IsLess (key b) (key a))
+
+-- a key determines its action
+abbrev pub KeyTellsAction : Type 0
+KeyTellsAction = (a b : Timed) → key a ≡ key b → a ≡ b
+
+-- the test tells the order
+abbrev pub LessIsTested : Type 0
+LessIsTested = (j k : List ℕ) → (less j k ≡ true) ↔ IsLess j k
+
+-- The laws of accepted schedules.
+
+-- the ranks, operations, dependencies and notes are within their limits
+abbrev pub CountsAreWithin : Type 0
+CountsAreWithin = (plans : List Plan) → IsAccepted plans → AreCountsWithin plans
+
+-- the size or duration of each operation is within its limit, and its target or source is a rank
+abbrev pub ValuesAreWithin : Type 0
+ValuesAreWithin = (plans : List Plan) (x : OpId) (o : Op) → IsAccepted plans → op_at plans x ≡ Some o → (value_fits o.kind o.nic ≡ true) × (has_peer (length plans) o.kind ≡ true)
+
+-- The law of what is eager.
+
+-- tests of what is eager that agree on the sends of a schedule allow the same interleavings
+abbrev pub EagerSendsAlone : Type 0
+EagerSendsAlone = (plans : List Plan) (eager other : OpId → Bool) (h : List Act) → ((m : OpId) → IsSend plans m → eager m ≡ other m) → IsInterleaving plans eager h ↔ IsInterleaving plans other h

@@ -6,6 +6,7 @@ pub mod Rows
 pub mod Tables
 pub mod Search
 pub mod Action
+pub mod Order
 pub mod Matching
 pub mod Allowed
 pub mod Interleaving

@@ -22,6 +22,10 @@ op_at plans x = option_and_then (λ (p : Plan). slice_get p.ops x.op) (slice_get
 unfoldable pub kind_at : List Plan → OpId → Option Kind
 kind_at plans x = option_map (λ (o : Op). o.kind) (op_at plans x)
 
+-- the operations of a rank, none where there is no such rank
+unfoldable pub ops_at : List Plan → ℕ → List Op
+ops_at plans rank = unwrap_or (option_map (λ (p : Plan). p.ops) (slice_get plans rank)) []
+
 -- the dependencies of a rank, none where there is no such rank
 unfoldable pub deps_at : List Plan → ℕ → List Dep
 deps_at plans rank = unwrap_or (option_map (λ (p : Plan). p.deps) (slice_get plans rank)) []

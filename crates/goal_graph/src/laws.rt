@@ -1,5 +1,36 @@
-// The laws of the rules without times. Their functions do nothing: a proof cites a law by a call.
-ghost use Rattle.goal_graph.specs.Laws.{HappenedIsListed, HappenedCases, HappenedStays, PartnerStays, ReadyStays, MessageStays, AllowedStays, PartnersAreMutual, PartnersHaveMet, FitsAreReceiveAndSend, PairsArePartners, PartnersArePaired, OnePair, ArrivesAfterBegin, DataAfterPairing, ServesAfterPost, EndsAfterStart, StartsWhenReady, HappensOnce, AtMostThree, AtMostThreeEach, LeftFalls, OneAllowed, NeverBothWait, AllowedIsListed, OperationsAreListed, OperationsInOrder, ReadOldestFirst, PairedHasEnded, ReadyWaits, FittingIsTaken, ApartArePartners, ApartCompletesAlike};
+// The laws of schedules and of the rules without times. Their functions do nothing: a proof cites a law by a call.
+ghost use Rattle.goal_graph.specs.Laws.{OperationNotBeforeItself, OperationsBeforeIsTransitive, OneOperationIsBefore, NotLessThanItself, LessIsTransitive, OneIsLess, KeyTellsAction, LessIsTested, CountsAreWithin, ValuesAreWithin, EagerSendsAlone, HappenedIsListed, HappenedCases, HappenedStays, PartnerStays, ReadyStays, MessageStays, AllowedStays, PartnersAreMutual, PartnersHaveMet, FitsAreReceiveAndSend, PairsArePartners, PartnersArePaired, OnePair, ArrivesAfterBegin, DataAfterPairing, ServesAfterPost, EndsAfterStart, StartsWhenReady, HappensOnce, AtMostThree, AtMostThreeEach, LeftFalls, OneAllowed, NeverBothWait, AllowedIsListed, OperationsAreListed, OperationsInOrder, ReadOldestFirst, PairedHasEnded, ReadyWaits, FittingIsTaken, ApartArePartners, ApartCompletesAlike};
+
+/// The laws of the orders of operations, by rank and number, and of actions, by the keys of their times, classes,
+/// ranks and numbers:
+///
+/// - `operation_not_before_itself`, `operations_transitive`, `one_operation_is_before`: operations are in a strict
+///   total order.
+/// - `not_less_than_itself`, `transitive`, `one_is_less`: and so are the keys of actions.
+/// - `key_tells_action`: a key determines its action.
+/// - `tested`: the test `less` tells the order.
+pub fn laws_of_orders()
+    ensures operation_not_before_itself { OperationNotBeforeItself }
+    ensures operations_transitive { OperationsBeforeIsTransitive }
+    ensures one_operation_is_before { OneOperationIsBefore }
+    ensures not_less_than_itself { NotLessThanItself }
+    ensures transitive { LessIsTransitive }
+    ensures one_is_less { OneIsLess }
+    ensures key_tells_action { KeyTellsAction }
+    ensures tested { LessIsTested }
+{}
+
+/// The laws of accepted schedules:
+///
+/// - `counts_are_within`: ranks, operations, dependencies and notes are within their limits.
+/// - `values_are_within`: so is the size or duration of each operation, and its target or source is a rank.
+/// - `operations_are_listed`, `operations_in_order`: `operations` lists each operation once, by rank and number.
+pub fn laws_of_schedules()
+    ensures counts_are_within { CountsAreWithin }
+    ensures values_are_within { ValuesAreWithin }
+    ensures operations_are_listed { OperationsAreListed }
+    ensures operations_in_order { OperationsInOrder }
+{}
 
 /// The laws of interleavings, for every schedule and whatever is eager:
 ///
@@ -14,7 +45,7 @@ ghost use Rattle.goal_graph.specs.Laws.{HappenedIsListed, HappenedCases, Happene
 /// - `arrives_after_begin`: a message arrives after its send has begun.
 /// - `ends_after_start`, `starts_when_ready`: what has ended has started, and what has started was ready.
 /// - `allowed_is_listed`: an allowed action is one of an operation of the schedule.
-/// - `operations_are_listed`, `operations_in_order`: `operations` lists each operation once, by rank and number.
+/// - `eager_sends_alone`: tests of what is eager that agree on the sends allow the same interleavings.
 pub fn laws_of_interleavings()
     ensures happened_is_listed { HappenedIsListed }
     ensures happened_cases { HappenedCases }
@@ -31,8 +62,7 @@ pub fn laws_of_interleavings()
     ensures ends_after_start { EndsAfterStart }
     ensures starts_when_ready { StartsWhenReady }
     ensures allowed_is_listed { AllowedIsListed }
-    ensures operations_are_listed { OperationsAreListed }
-    ensures operations_in_order { OperationsInOrder }
+    ensures eager_sends_alone { EagerSendsAlone }
 {}
 
 /// The laws of partners, for every schedule and whatever is eager:

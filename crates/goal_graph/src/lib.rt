@@ -15,8 +15,8 @@ mod tables;
 pub use action::{Class, OpId, Stuck, Timed, Why};
 pub use fault::PlanFault;
 pub use laws::{
-    laws_of_apart_schedules, laws_of_complete_interleavings, laws_of_interleavings,
-    laws_of_partners,
+    laws_of_apart_schedules, laws_of_complete_interleavings, laws_of_interleavings, laws_of_orders,
+    laws_of_partners, laws_of_schedules,
 };
-pub use plan::{Dep, Kind, Need, Note, Op, RankPlan, When};
+pub use plan::{Dep, Kind, Message, Need, Note, Op, RankPlan, When};
 pub use sched::Sched;

@@ -39,6 +39,14 @@ pub enum When {
     AfterStart,
 }
 
+/// What a send hands over: the rank that it is for, its size in bytes, and its tag.
+#[derive(Clone, Copy, Debug, PartialEq, Eq)]
+pub struct Message {
+    pub to: u32,
+    pub bytes: u64,
+    pub tag: u32,
+}
+
 /// The operation `later` needs the operation `earlier`, both of one rank.
 #[derive(Clone, Copy, Debug, PartialEq, Eq)]
 pub struct Dep {

@@ -1,7 +1,9 @@
 // Schedules: lists of plans that break no rule.
 ghost use Rattle.std.specs.Prelude.{◌≡◌, ◌≢◌, ◌<◌, ◌≤◌, ◌⊎◌, List, length, Some, All, IfOk, IfErr, OnOk, IsTrue, IsOkUnless, IsErrOf, slice_get};
 ghost use Rattle.goal_graph.specs.declared.fault.PlanFault.{PlanFault};
-ghost use Rattle.goal_graph.specs.Schedule.{Plan, op_at, needs, waiting_on, needed, operations};
+ghost use Rattle.goal_graph.specs.Schedule.{Plan, op_at, kind_at, ops_at, needs, waiting_on, needed, operations};
+ghost use Rattle.goal_graph.specs.Laws.{IsSend};
+ghost use Rattle.goal_graph.specs.declared.plan.Kind.TheVariants as kind;
 ghost use Rattle.goal_graph.specs.Fault.{IsOp, IsFault, IsAccepted, AreCountsWithin, value_fits, has_peer};
 ghost use Rattle.goal_graph.specs.Widths.{AreInWidth};
 
@@ -10,9 +12,9 @@ use crate::check::first_plain_fault;
 use crate::cycle::first_cycle;
 use crate::fault::PlanFault;
 use crate::listing::list_operations;
-use crate::plan::{Need, Op, RankPlan};
+use crate::plan::{Kind, Message, Need, Op, RankPlan};
 use crate::tables::Tables;
-use goal_base::MAX_OPS;
+use goal_base::{MAX_BYTES, MAX_OPS};
 use std::alloc::Global;
 use std::marker::Model;
 
@@ -91,6 +93,28 @@ impl Sched {
         ensures peer { IsTrue (has_peer (length self.now) result.now.kind) }
     {
         self.tables.op(id)
+    }
+
+    /// The message of a send.
+    pub fn message(&self, send: OpId) -> Message
+        requires { IsSend self.now send }
+        ensures kind { kind_at self.now send ≡ Some (kind.Send result.bytes result.to result.tag) }
+        ensures within { result.bytes ≤ MAX_BYTES }
+    {
+        match self.op(send).kind {
+            Kind::Send { bytes, to, tag } => Message { to, bytes, tag },
+            _ => unreachable!(),
+        }
+    }
+
+    /// How many operations a rank has.
+    pub fn op_count(&self, rank: u32) -> u32
+        requires { rank < length self.now }
+        ensures count { result ≡ length (ops_at self.now rank) }
+        ensures few { result ≤ MAX_OPS }
+    {
+        let plan = &self.plans()[rank as usize];
+        plan.ops.len() as u32
     }
 
     /// What the operation needs, in the order of the rank's dependencies.

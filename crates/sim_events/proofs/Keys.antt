@@ -3,7 +3,7 @@ use Rattle.std.proofs.Common.{ℕ, ◌≡◌, ◌<◌, Bool, true, false, nat_lt
 use Rattle.std.proofs.lemmas.Bool.{le-ltb}
 use Rattle.goal_graph.specs.declared.action.Timed.{Timed}
 use Rattle.goal_graph.specs.Action.{place}
-use Rattle.sim_params.specs.Run.{IsBefore, key}
+use Rattle.goal_graph.specs.Order.{IsLess, key}
 use Rattle.sim_order.specs.Order.{lexical}
 use Rattle.sim_order.specs.Events.{class_less, event_before}
 
@@ -17,15 +17,15 @@ lexical_same m n rest e =
     rw (one, other) refl
 
 -- one part, and then the rest
-lexical_before : (m n : ℕ) (ms ns : List ℕ) (rest : Bool) → (IsBefore ms ns → rest ≡ true) → IsBefore (m ∷ ms) (n ∷ ns) → lexical (nat_lt m n) (nat_lt n m) rest ≡ true
+lexical_before : (m n : ℕ) (ms ns : List ℕ) (rest : Bool) → (IsLess ms ns → rest ≡ true) → IsLess (m ∷ ms) (n ∷ ns) → lexical (nat_lt m n) (nat_lt n m) rest ≡ true
 lexical_before m n ms ns rest more (inl l) = lexical_less m n rest l
 lexical_before m n ms ns rest more (inr (e, b)) = lexical_same m n rest e ∙ more b
 
-last_before : (m n : ℕ) → IsBefore (m ∷ []) (n ∷ []) → nat_lt m n ≡ true
+last_before : (m n : ℕ) → IsLess (m ∷ []) (n ∷ []) → nat_lt m n ≡ true
 last_before m n (inl l) = lt-ltb m n l
 last_before m n (inr (e, none)) = absurd none
 
-pub before_event : (a b : Timed) → IsBefore (key a) (key b) → event_before a b ≡ true
+pub before_event : (a b : Timed) → IsLess (key a) (key b) → event_before a b ≡ true
 before_event a b =
     let numbers : Bool = nat_lt a.op.op b.op.op in
     let ranks : Bool = lexical (nat_lt a.op.rank b.op.rank) (nat_lt b.op.rank a.op.rank) numbers in

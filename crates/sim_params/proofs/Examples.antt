@@ -17,7 +17,7 @@ use Rattle.goal_graph.specs.Matching.{fits, pairs, partner}
 use Rattle.goal_graph.specs.Allowed.{has_started, has_ended, is_ready, allowed}
 use Rattle.sim_params.specs.Costs.{CostModel, Numbers, least_up_to, rounded_up, log_gops, is_eager}
 use Rattle.sim_params.specs.Times.{since, greatest, cpu, tx, rx, start, end, ready, time}
-use Rattle.sim_params.specs.Run.{key}
+use Rattle.goal_graph.specs.Order.{less, key}
 use Rattle.sim_params.specs.Stuck.{first_unmet, first_absent, reason}
 use Rattle.sim_params.specs.Budget.{share, budget}
 
@@ -28,14 +28,9 @@ usual = record { latency = 2500; overhead = 1500; gap = 1000; gap_per_byte = 6; 
 abbrev usual_costs : CostModel
 usual_costs = log_gops usual
 
--- the first list of numbers is before the second
-unfoldable before : List ℕ → List ℕ → Bool
-before (m ∷ ms) (n ∷ ns) = nat_lt m n || ((m == n) && before ms ns)
-before _ _ = false
-
 abbrev lesser : Timed → Option Timed → Option Timed
 lesser a None = Some a
-lesser a (Some b) = if before (key b) (key a) then Some b else Some a
+lesser a (Some b) = if less (key b) (key a) then Some b else Some a
 
 unfoldable least : List Timed → Option Timed
 least [] = None
@@ -81,7 +76,7 @@ ordered kinds deps = record { ops = map (λ k. record { kind = k; cpu = 0; nic =
 
 -- a calc on a busy cpu waits
 two_calcs : outcome (plan (Calc 100 ∷ Calc 100 ∷ []) ∷ []) usual_costs ≡ (Some 0, Some 100, None) ∷ (Some 100, Some 200, None) ∷ []
-unfolding before least run_of op_at kind_at deps_at needs places_of_rank places_from happened oldest plain partner fits pairs is_ready allowed is_eager since greatest cpu tx rx ready time rounded_up least_up_to
+unfolding less least run_of op_at kind_at deps_at needs places_of_rank places_from happened oldest plain partner fits pairs is_ready allowed is_eager since greatest cpu tx rx ready time rounded_up least_up_to
 two_calcs = refl
 
 -- one message of so many bytes
@@ -92,15 +87,15 @@ abbrev ends_at : ℕ → ℕ → List (Option ℕ × Option ℕ × Option OpId)
 ends_at m n = (Some 0, Some m, Some (at 1 0)) ∷ (Some 0, Some n, Some (at 0 0)) ∷ []
 
 ten_bytes : outcome (one_message 10) usual_costs ≡ ends_at 1500 5554
-unfolding before least run_of op_at kind_at deps_at needs places_of_rank places_from happened oldest plain partner fits pairs is_ready allowed is_eager since greatest cpu tx rx ready time rounded_up least_up_to
+unfolding less least run_of op_at kind_at deps_at needs places_of_rank places_from happened oldest plain partner fits pairs is_ready allowed is_eager since greatest cpu tx rx ready time rounded_up least_up_to
 ten_bytes = refl
 
 no_bytes : outcome (one_message 0) usual_costs ≡ ends_at 1500 5500
-unfolding before least run_of op_at kind_at deps_at needs places_of_rank places_from happened oldest plain partner fits pairs is_ready allowed is_eager since greatest cpu tx rx ready time rounded_up least_up_to
+unfolding less least run_of op_at kind_at deps_at needs places_of_rank places_from happened oldest plain partner fits pairs is_ready allowed is_eager since greatest cpu tx rx ready time rounded_up least_up_to
 no_bytes = refl
 
 largest_eager : outcome (one_message 65535) usual_costs ≡ ends_at 1500 398704
-unfolding before least run_of op_at kind_at deps_at needs places_of_rank places_from happened oldest plain partner fits pairs is_ready allowed is_eager since greatest cpu tx rx ready time rounded_up least_up_to
+unfolding less least run_of op_at kind_at deps_at needs places_of_rank places_from happened oldest plain partner fits pairs is_ready allowed is_eager since greatest cpu tx rx ready time rounded_up least_up_to
 largest_eager = refl
 
 -- half a nanosecond a byte: of ten bytes nine cost 4.5, rounded up once
@@ -108,14 +103,14 @@ abbrev half_gap : CostModel
 half_gap = log_gops (record usual { gap_per_byte = 0; gap_picos = 500 })
 
 half_gap_ends : outcome (one_message 10) half_gap ≡ ends_at 1500 5505
-unfolding before least run_of op_at kind_at deps_at needs places_of_rank places_from happened oldest plain partner fits pairs is_ready allowed is_eager since greatest cpu tx rx ready time rounded_up least_up_to
+unfolding less least run_of op_at kind_at deps_at needs places_of_rank places_from happened oldest plain partner fits pairs is_ready allowed is_eager since greatest cpu tx rx ready time rounded_up least_up_to
 half_gap_ends = refl
 
 abbrev half_overhead : CostModel
 half_overhead = log_gops (record usual { gap_per_byte = 0; overhead_picos = 500 })
 
 half_overhead_ends : outcome (one_message 10) half_overhead ≡ ends_at 1505 5510
-unfolding before least run_of op_at kind_at deps_at needs places_of_rank places_from happened oldest plain partner fits pairs is_ready allowed is_eager since greatest cpu tx rx ready time rounded_up least_up_to
+unfolding less least run_of op_at kind_at deps_at needs places_of_rank places_from happened oldest plain partner fits pairs is_ready allowed is_eager since greatest cpu tx rx ready time rounded_up least_up_to
 half_overhead_ends = refl
 
 -- a picosecond a byte: 1000 bytes cost a nanosecond, and one byte more costs two
@@ -123,23 +118,23 @@ abbrev finest_gap : CostModel
 finest_gap = log_gops (record usual { gap_per_byte = 0; gap_picos = 1 })
 
 finest_gap_ends : outcome (one_message 1001) finest_gap ≡ ends_at 1500 5501
-unfolding before least run_of op_at kind_at deps_at needs places_of_rank places_from happened oldest plain partner fits pairs is_ready allowed is_eager since greatest cpu tx rx ready time rounded_up least_up_to
+unfolding less least run_of op_at kind_at deps_at needs places_of_rank places_from happened oldest plain partner fits pairs is_ready allowed is_eager since greatest cpu tx rx ready time rounded_up least_up_to
 finest_gap_ends = refl
 
 finest_gap_ends_later : outcome (one_message 1002) finest_gap ≡ ends_at 1500 5502
-unfolding before least run_of op_at kind_at deps_at needs places_of_rank places_from happened oldest plain partner fits pairs is_ready allowed is_eager since greatest cpu tx rx ready time rounded_up least_up_to
+unfolding less least run_of op_at kind_at deps_at needs places_of_rank places_from happened oldest plain partner fits pairs is_ready allowed is_eager since greatest cpu tx rx ready time rounded_up least_up_to
 finest_gap_ends_later = refl
 
 -- one byte more goes by a handshake
 least_large : outcome (one_message 65536) usual_costs ≡ ends_at 8000 405210
-unfolding before least run_of op_at kind_at deps_at needs places_of_rank places_from happened oldest plain partner fits pairs is_ready allowed is_eager since greatest cpu tx rx ready time rounded_up least_up_to
+unfolding less least run_of op_at kind_at deps_at needs places_of_rank places_from happened oldest plain partner fits pairs is_ready allowed is_eager since greatest cpu tx rx ready time rounded_up least_up_to
 least_large = refl
 
 abbrev acts : List Timed → List (ℕ × Class × OpId)
 acts h = map (λ (a : Timed). (a.time, a.class, a.op)) h
 
 handshake : acts (run_of (one_message 65536) usual_costs 20 []) ≡ (403710, Serve, at 1 0) ∷ (6500, Data, at 0 0) ∷ (4000, Arrive, at 0 0) ∷ (0, Begin, at 0 0) ∷ (0, Post, at 1 0) ∷ []
-unfolding before least run_of op_at kind_at deps_at needs places_of_rank places_from happened oldest plain partner fits pairs is_ready allowed is_eager since greatest cpu tx rx ready time rounded_up least_up_to
+unfolding less least run_of op_at kind_at deps_at needs places_of_rank places_from happened oldest plain partner fits pairs is_ready allowed is_eager since greatest cpu tx rx ready time rounded_up least_up_to
 handshake = refl
 
 -- the interface binds: a second send waits for the first one's gap
@@ -147,12 +142,12 @@ abbrev small_overhead : CostModel
 small_overhead = log_gops (record usual { overhead = 100 })
 
 two_sends : outcome (plan (Send 1 1 0 ∷ Send 1 1 0 ∷ []) ∷ plan (Recv 1 (Some 0) (Some 0) ∷ Recv 1 (Some 0) (Some 0) ∷ []) ∷ []) small_overhead ≡ (Some 0, Some 100, Some (at 1 0)) ∷ (Some 1000, Some 1100, Some (at 1 1)) ∷ (Some 0, Some 2700, Some (at 0 0)) ∷ (Some 0, Some 3700, Some (at 0 1)) ∷ []
-unfolding before least run_of op_at kind_at deps_at needs places_of_rank places_from happened oldest plain partner fits pairs is_ready allowed is_eager since greatest cpu tx rx ready time rounded_up least_up_to
+unfolding less least run_of op_at kind_at deps_at needs places_of_rank places_from happened oldest plain partner fits pairs is_ready allowed is_eager since greatest cpu tx rx ready time rounded_up least_up_to
 two_sends = refl
 
 -- both arrive at 4000, and the lesser rank's is matched first
 equal_arrivals : outcome (plan (Recv 1 None (Some 0) ∷ Recv 1 None (Some 0) ∷ []) ∷ plan (Send 1 0 0 ∷ []) ∷ plan (Send 1 0 0 ∷ []) ∷ []) usual_costs ≡ (Some 0, Some 5500, Some (at 1 0)) ∷ (Some 0, Some 7000, Some (at 2 0)) ∷ (Some 0, Some 1500, Some (at 0 0)) ∷ (Some 0, Some 1500, Some (at 0 1)) ∷ []
-unfolding before least run_of op_at kind_at deps_at needs places_of_rank places_from happened oldest plain partner fits pairs is_ready allowed is_eager since greatest cpu tx rx ready time rounded_up least_up_to
+unfolding less least run_of op_at kind_at deps_at needs places_of_rank places_from happened oldest plain partner fits pairs is_ready allowed is_eager since greatest cpu tx rx ready time rounded_up least_up_to
 equal_arrivals = refl
 
 -- a wildcard that was posted first takes the message
@@ -160,11 +155,11 @@ abbrev wildcard_first : List Plan
 wildcard_first = plan (Send 10 1 7 ∷ []) ∷ plan (Recv 10 None None ∷ Recv 10 (Some 0) (Some 7) ∷ []) ∷ []
 
 wildcard_takes : outcome wildcard_first usual_costs ≡ (Some 0, Some 1500, Some (at 1 0)) ∷ (Some 0, Some 5554, Some (at 0 0)) ∷ (Some 0, None, None) ∷ []
-unfolding before least run_of op_at kind_at deps_at needs places_of_rank places_from happened oldest plain partner fits pairs is_ready allowed is_eager since greatest cpu tx rx ready time rounded_up least_up_to
+unfolding less least run_of op_at kind_at deps_at needs places_of_rank places_from happened oldest plain partner fits pairs is_ready allowed is_eager since greatest cpu tx rx ready time rounded_up least_up_to
 wildcard_takes = refl
 
 second_is_alone : reason wildcard_first (is_eager wildcard_first usual_costs) (plain (run_of wildcard_first usual_costs 20 [])) (at 1 1) ≡ why.Alone
-unfolding before least run_of op_at kind_at deps_at needs places_of_rank places_from happened oldest plain partner fits pairs is_ready allowed is_eager since greatest cpu tx rx ready time first_unmet first_absent reason rounded_up least_up_to
+unfolding less least run_of op_at kind_at deps_at needs places_of_rank places_from happened oldest plain partner fits pairs is_ready allowed is_eager since greatest cpu tx rx ready time first_unmet first_absent reason rounded_up least_up_to
 second_is_alone = refl
 
 -- two large sends face to face: each is stuck for the other rank's receive, which needs its own rank's send
@@ -176,19 +171,19 @@ abbrev face_to_face : ℕ → List Plan
 face_to_face bytes = exchange bytes 1 ∷ exchange bytes 0 ∷ []
 
 face_to_face_stuck : outcome (face_to_face 100000) usual_costs ≡ (Some 0, None, None) ∷ (None, None, None) ∷ (Some 0, None, None) ∷ (None, None, None) ∷ []
-unfolding before least run_of op_at kind_at deps_at needs places_of_rank places_from happened oldest plain partner fits pairs is_ready allowed is_eager since greatest cpu tx rx ready time rounded_up least_up_to
+unfolding less least run_of op_at kind_at deps_at needs places_of_rank places_from happened oldest plain partner fits pairs is_ready allowed is_eager since greatest cpu tx rx ready time rounded_up least_up_to
 face_to_face_stuck = refl
 
 abbrev reasons : List Plan → List Why
 reasons plans = map (reason plans (is_eager plans usual_costs) (plain (run_of plans usual_costs 20 []))) (operations plans)
 
 face_to_face_reasons : reasons (face_to_face 100000) ≡ why.Partner (at 1 1) ∷ why.Op (at 0 0) ∷ why.Partner (at 0 1) ∷ why.Op (at 1 0) ∷ []
-unfolding before least run_of op_at kind_at deps_at needs places_of_rank places_from happened oldest plain partner fits pairs is_ready allowed is_eager since greatest cpu tx rx ready time first_unmet first_absent reason rounded_up least_up_to
+unfolding less least run_of op_at kind_at deps_at needs places_of_rank places_from happened oldest plain partner fits pairs is_ready allowed is_eager since greatest cpu tx rx ready time first_unmet first_absent reason rounded_up least_up_to
 face_to_face_reasons = refl
 
 -- the same with small messages goes through
 face_to_face_eager : outcome (face_to_face 10) usual_costs ≡ (Some 0, Some 1500, Some (at 1 1)) ∷ (Some 1500, Some 5554, Some (at 1 0)) ∷ (Some 0, Some 1500, Some (at 0 1)) ∷ (Some 1500, Some 5554, Some (at 0 0)) ∷ []
-unfolding before least run_of op_at kind_at deps_at needs places_of_rank places_from happened oldest plain partner fits pairs is_ready allowed is_eager since greatest cpu tx rx ready time rounded_up least_up_to
+unfolding less least run_of op_at kind_at deps_at needs places_of_rank places_from happened oldest plain partner fits pairs is_ready allowed is_eager since greatest cpu tx rx ready time rounded_up least_up_to
 face_to_face_eager = refl
 
 -- the two words for a dependency differ: l2 starts with l1, l3 after it
@@ -201,7 +196,7 @@ two_words =
     } ∷ []
 
 two_words_run : outcome two_words usual_costs ≡ (Some 0, Some 100, None) ∷ (Some 0, Some 50, None) ∷ (Some 100, Some 110, None) ∷ []
-unfolding before least run_of op_at kind_at deps_at needs places_of_rank places_from happened oldest plain partner fits pairs is_ready allowed is_eager since greatest cpu tx rx ready time rounded_up least_up_to
+unfolding less least run_of op_at kind_at deps_at needs places_of_rank places_from happened oldest plain partner fits pairs is_ready allowed is_eager since greatest cpu tx rx ready time rounded_up least_up_to
 two_words_run = refl
 
 -- the budget of one message of the largest size at the largest costs per byte
@@ -213,5 +208,5 @@ unfolding budget share op_at kind_at places_of_rank places_from is_eager rounded
 largest_budget = refl
 
 largest_message : outcome (one_message 1099511627775) largest_costs ≡ ends_at 1152920405093130050 2305840810186256100
-unfolding before least run_of op_at kind_at deps_at needs places_of_rank places_from happened oldest plain partner fits pairs is_ready allowed is_eager since greatest cpu tx rx ready time rounded_up least_up_to
+unfolding less least run_of op_at kind_at deps_at needs places_of_rank places_from happened oldest plain partner fits pairs is_ready allowed is_eager since greatest cpu tx rx ready time rounded_up least_up_to
 largest_message = refl

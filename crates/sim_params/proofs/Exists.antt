@@ -16,9 +16,10 @@ use Rattle.goal_graph.proofs.OneEach.{one_allowed}
 use Rattle.goal_graph.proofs.Once.{left_falls}
 use Rattle.sim_params.specs.Costs.{CostModel, is_eager}
 use Rattle.sim_params.specs.Times.{time, Possible}
-use Rattle.sim_params.specs.Run.{IsBefore, key, IsNext, IsRun, IsFinished, IsCompleteRun}
+use Rattle.goal_graph.specs.Order.{IsLess, key}
+use Rattle.sim_params.specs.Run.{IsNext, IsRun, IsFinished, IsCompleteRun}
 use Rattle.sim_params.specs.Laws.{at_its_time}
-use Rattle.sim_params.proofs.Order.{before_irreflexive, before_transitive, key_cases, same_timed}
+use Rattle.goal_graph.proofs.Order.{less_irreflexive, less_transitive, key_cases, same_timed}
 use Rattle.sim_params.proofs.Interleavings.{possible_at, run_interleaving}
 
 -- a class that passes a test, or none
@@ -36,7 +37,7 @@ find_class test =
 module _ (plans : List Plan) (costs : CostModel) where
   -- no possible action of x is before a
   abbrev NoneBefore : List Timed → Timed → OpId → Type 0
-  NoneBefore h a x = (b : Timed) → b.op ≡ x → Possible plans costs h b → ¬ (IsBefore (key b) (key a))
+  NoneBefore h a x = (b : Timed) → b.op ≡ x → Possible plans costs h b → ¬ (IsLess (key b) (key a))
 
   -- x has no possible action
   abbrev HasNone : List Timed → OpId → Type 0
@@ -52,16 +53,16 @@ module _ (plans : List Plan) (costs : CostModel) where
   only_one h c x i e b p q before =
       let class : b.class ≡ c = one_allowed plans (is_eager plans costs) (plain h) b.class c b.op i q.allowed (subst (λ y. allowed plans (is_eager plans costs) (plain h) c y ≡ true) (sym p) e) in
       let same : b ≡ at_its_time plans costs h c x = same_timed b (at_its_time plans costs h c x) (q.time ∙ ap₂ (time plans costs h) class p) class (ap (λ (y : OpId). y.rank) p) (ap (λ (y : OpId). y.op) p) in
-      before_irreflexive (key b) (subst (λ a. IsBefore (key b) (key a)) (sym same) before)
+      less_irreflexive (key b) (subst (λ a. IsLess (key b) (key a)) (sym same) before)
 
   of_one : (h : List Timed) (x : OpId) → IsInterleaving plans (is_eager plans costs) (plain h) → ((a : Timed) × Possible plans costs h a × NoneBefore h a x) ⊎ HasNone h x
   of_one h x i =
       elim (find_class (λ c. allowed plans (is_eager plans costs) (plain h) c x)) [ inl t ↦ inl (at_its_time plans costs h t.0 x, possible_at plans costs h t.0 x t.1, only_one h t.0 x i t.1) | inr none ↦ inr (λ b p q. both_ways _ (none b.class) (subst (λ y. allowed plans (is_eager plans costs) (plain h) b.class y ≡ true) p q.allowed)) ]
 
   -- a lesser action has none before it either
-  none_before_lesser : (h : List Timed) (a b : Timed) → (a ≡ b) ⊎ IsBefore (key a) (key b) → (x : OpId) → NoneBefore h b x → NoneBefore h a x
-  none_before_lesser h a b (inl e) x none c p q before = none c p q (subst (λ d. IsBefore (key c) (key d)) e before)
-  none_before_lesser h a b (inr lt) x none c p q before = none c p q (before_transitive (key c) (key a) (key b) before lt)
+  none_before_lesser : (h : List Timed) (a b : Timed) → (a ≡ b) ⊎ IsLess (key a) (key b) → (x : OpId) → NoneBefore h b x → NoneBefore h a x
+  none_before_lesser h a b (inl e) x none c p q before = none c p q (subst (λ d. IsLess (key c) (key d)) e before)
+  none_before_lesser h a b (inr lt) x none c p q before = none c p q (less_transitive (key c) (key a) (key b) before lt)
 
   none_of_none : (h : List Timed) (a : Timed) (x : OpId) → HasNone h x → NoneBefore h a x
   none_of_none h a x none b p q before = none b p q
@@ -78,11 +79,11 @@ module _ (plans : List Plan) (costs : CostModel) where
           inl (s.0, record { possible = s.1; least = All-cons (NoneBefore h s.0) x xs s.2 (All-weaker (HasNone h) (NoneBefore h s.0) (none_of_none h s.0) xs rest) })
       go (inl s) (inl t) = pick (key_cases s.0 t.0)
         where
-          first : (s.0 ≡ t.0) ⊎ IsBefore (key s.0) (key t.0) → ((a : Timed) × IsLeastOf h (x ∷ xs) a) ⊎ All (HasNone h) (x ∷ xs)
+          first : (s.0 ≡ t.0) ⊎ IsLess (key s.0) (key t.0) → ((a : Timed) × IsLeastOf h (x ∷ xs) a) ⊎ All (HasNone h) (x ∷ xs)
           first le =
               inl (s.0, record { possible = s.1; least = All-cons (NoneBefore h s.0) x xs s.2 (All-weaker (NoneBefore h t.0) (NoneBefore h s.0) (none_before_lesser h s.0 t.0 le) xs t.1.least) })
 
-          pick : (s.0 ≡ t.0) ⊎ (IsBefore (key s.0) (key t.0) ⊎ IsBefore (key t.0) (key s.0)) → ((a : Timed) × IsLeastOf h (x ∷ xs) a) ⊎ All (HasNone h) (x ∷ xs)
+          pick : (s.0 ≡ t.0) ⊎ (IsLess (key s.0) (key t.0) ⊎ IsLess (key t.0) (key s.0)) → ((a : Timed) × IsLeastOf h (x ∷ xs) a) ⊎ All (HasNone h) (x ∷ xs)
           pick (inl e) = first (inl e)
           pick (inr (inl lt)) = first (inr lt)
           pick (inr (inr gt)) =

@@ -1,5 +1,4 @@
 pub mod Examples
-pub mod Order
 pub mod Grow
 pub mod Interleavings
 pub mod Accepted

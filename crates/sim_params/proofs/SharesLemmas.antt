@@ -16,6 +16,7 @@ use Rattle.sim_params.specs.Costs.{CostModel, IsBounded, is_eager}
 use Rattle.sim_params.specs.Budget.{share}
 use Rattle.sim_params.specs.Shares.{message_share, request_share, ops_at, places_at}
 use Rattle.sim_params.proofs.Accepted.{value_within}
+pub use Rattle.goal_graph.proofs.Places.{ops_at_some}
 
 -- a place within a list has an item
 pub slice_get_within_some : {A : Type 0} (xs : List A) (i : ℕ) → i < length xs → (x : A) × (slice_get xs i ≡ Some x)
@@ -93,10 +94,6 @@ places_more rank i (o ∷ os) h = at_drop_more (places_of_rank rank i) (o ∷ os
 pub places_none : (rank i : ℕ) (ops : List Op) → length ops ≤ i → places_of_rank rank i (drop i ops) ≡ []
 unfolding places_of_rank
 places_none rank i ops h = at_drop_all (places_of_rank rank i) ops i h
-
-pub ops_at_some : (plans : List Plan) (rank : ℕ) (p : Plan) → slice_get plans rank ≡ Some p → ops_at plans rank ≡ p.ops
-unfolding ops_at
-ops_at_some plans rank p e = rw e refl
 
 -- the places of all ranks from one on
 pub ranks_more : (plans : List Plan) (rank : ℕ) → rank < length plans → places_from rank (drop rank plans) ≡ places_at plans rank ++ places_from (rank + 1) (drop (rank + 1) plans)

@@ -1,5 +1,5 @@
 -- The laws of the timed run, as one reads them, and the words that they use.
-use Rattle.std.specs.Prelude.{ℕ, ◌+◌, ◌*◌, ◌<◌, ◌≤◌, ◌≡◌, ◌≢◌, ◌⊎◌, ◌↔◌, ◌==◌, ◌&&◌, ◌||◌, max, Bool, true, false, nat_lt, List, [], ◌∷◌, ◌++◌, length, reverse, take, slice_get, All, Contains, Option, Some, if◌then◌else◌}
+use Rattle.std.specs.Prelude.{ℕ, ◌+◌, ◌*◌, ◌<◌, ◌≤◌, ◌≡◌, ◌≢◌, ◌⊎◌, ◌↔◌, max, Bool, true, false, List, [], ◌∷◌, ◌++◌, length, reverse, take, slice_get, All, Contains, Option, Some, if◌then◌else◌}
 use Rattle.goal_graph.specs.declared.action.OpId.{OpId}
 use Rattle.goal_graph.specs.declared.action.Timed.{Timed}
 use Rattle.goal_graph.specs.declared.action.Why.TheVariants as why
@@ -10,20 +10,16 @@ use Rattle.goal_graph.specs.declared.plan.Kind.TheVariants.{Calc, Send}
 use Rattle.goal_graph.specs.declared.plan.Need.{Need}
 use Rattle.goal_graph.specs.Schedule.{Plan, kind_at, needs, needed, operations}
 use Rattle.goal_graph.specs.Action.{Act, plain}
+use Rattle.goal_graph.specs.Order.{IsLess, key}
 use Rattle.goal_graph.specs.Matching.{pairs, is_paired}
 use Rattle.goal_graph.specs.Allowed.{first_class, last_class, has_started, has_ended, is_met, is_ready}
 use Rattle.goal_graph.specs.Interleaving.{IsInterleaving, IsCompleteInterleaving}
 use Rattle.goal_graph.specs.Laws.{IsCalc, IsTaken, left}
 use Rattle.sim_params.specs.Costs.{CostModel, over, over_one, gap, gap_one, flight, flight_one, latency, is_eager}
 use Rattle.sim_params.specs.Times.{at_partner, mate, cpu_hold, tx_hold, rx_hold, cpu, tx, rx, start, end, ready, paired_at, time, Possible}
-use Rattle.sim_params.specs.Run.{IsBefore, key, IsNext, IsRun, IsFinished, IsCompleteRun}
+use Rattle.sim_params.specs.Run.{IsNext, IsRun, IsFinished, IsCompleteRun}
 use Rattle.sim_params.specs.Stuck.{IsStuck, are_fit, reason}
 use Rattle.sim_params.specs.Budget.{share, budget}
-
--- the first key is before the second, as a test
-unfoldable pub before : List ℕ → List ℕ → Bool
-before (m ∷ ms) (n ∷ ns) = nat_lt m n || ((m == n) && before ms ns)
-before _ _ = false
 
 -- a queue has an entry for b whose time is not later
 pub record HasBound (InQueue : Timed → Type 0) (b : Timed) : Type 0 where
@@ -35,7 +31,7 @@ pub record HasBound (InQueue : Timed → Type 0) (b : Timed) : Type 0 where
 
 -- no entry of the queue is before a
 abbrev pub IsLeastIn : (Timed → Type 0) → Timed → Type 0
-IsLeastIn InQueue a = (e : Timed) → InQueue e → ¬ (IsBefore (key e) (key a))
+IsLeastIn InQueue a = (e : Timed) → InQueue e → ¬ (IsLess (key e) (key a))
 
 module _ (plans : List Plan) (costs : CostModel) where
   -- the action of that class and operation, at its time after h
@@ -118,28 +114,6 @@ module _ (plans : List Plan) (eager : OpId → Bool) where
     pub listed : Contains (operations plans) y
     pub fit : are_fit plans eager x y ≡ true
     pub unstarted : has_started plans y h ≡ false
-
--- The laws of keys: `laws_of_keys` ensures each.
-
--- no key is before itself
-abbrev pub NotBeforeItself : Type 0
-NotBeforeItself = (k : List ℕ) → ¬ (IsBefore k k)
-
--- what is before a key that is before a third is before the third
-abbrev pub BeforeIsTransitive : Type 0
-BeforeIsTransitive = (j k l : List ℕ) → IsBefore j k → IsBefore k l → IsBefore j l
-
--- of two actions that differ, one is before the other
-abbrev pub OneIsBefore : Type 0
-OneIsBefore = (a b : Timed) → (a ≡ b) ⊎ (IsBefore (key a) (key b) ⊎ IsBefore (key b) (key a))
-
--- a key determines its action
-abbrev pub KeyTellsAction : Type 0
-KeyTellsAction = (a b : Timed) → key a ≡ key b → a ≡ b
-
--- the test tells the order
-abbrev pub BeforeIsTested : Type 0
-BeforeIsTested = (j k : List ℕ) → (before j k ≡ true) ↔ IsBefore j k
 
 -- The laws of times, for every schedule, all costs and every history, be it a run or not: `laws_of_times` ensures each.
 

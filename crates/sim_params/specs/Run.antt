@@ -1,25 +1,16 @@
 -- The run: at each step the possible action with the least key happens.
-use Rattle.std.specs.Prelude.{ℕ, ◌≡◌, ◌<◌, ◌⊎◌, List, [], ◌∷◌}
+use Rattle.std.specs.Prelude.{List, [], ◌∷◌}
 use Rattle.goal_graph.specs.declared.action.Timed.{Timed}
 use Rattle.goal_graph.specs.Schedule.{Plan}
-use Rattle.goal_graph.specs.Action.{place}
+use Rattle.goal_graph.specs.Order.{IsLess, key}
 use Rattle.sim_params.specs.Costs.{CostModel}
 use Rattle.sim_params.specs.Times.{Possible}
-
--- the lexical order of keys
-abbrev pub IsBefore : List ℕ → List ℕ → Type 0
-IsBefore (m ∷ ms) (n ∷ ns) = (m < n) ⊎ ((m ≡ n) × IsBefore ms ns)
-IsBefore _ _ = ⊥
-
--- the key of an action: time, class, rank, number
-abbrev pub key : Timed → List ℕ
-key a = a.time ∷ place a.class ∷ a.op.rank ∷ a.op.op ∷ []
 
 module _ (plans : List Plan) (costs : CostModel) where
   -- a is possible after h, and no possible action has a lesser key
   pub record IsNext (h : List Timed) (a : Timed) : Type 0 where
     pub possible : Possible plans costs h a
-    pub least : (b : Timed) → Possible plans costs h b → ¬ (IsBefore (key b) (key a))
+    pub least : (b : Timed) → Possible plans costs h b → ¬ (IsLess (key b) (key a))
 
   -- each action of the history was next after those before it
   abbrev pub IsRun : List Timed → Type 0

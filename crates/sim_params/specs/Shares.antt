@@ -1,8 +1,7 @@
 -- The shares of one send and of one rank.
-use Rattle.std.specs.Prelude.{ℕ, ◌+◌, ◌*◌, List, [], slice_get, unwrap_or}
-use Rattle.std.specs.Option.{option_map}
+use Rattle.std.specs.Prelude.{ℕ, ◌+◌, ◌*◌, List}
 use Rattle.goal_graph.specs.declared.action.OpId.{OpId}
-use Rattle.goal_graph.specs.declared.plan.Op.{Op}
+pub use Rattle.goal_graph.specs.Schedule.{ops_at}
 use Rattle.goal_graph.specs.Schedule.{Plan, places_of_rank}
 use Rattle.sim_params.specs.Costs.{CostModel}
 
@@ -15,9 +14,6 @@ message_share costs from to bytes =
 abbrev pub request_share : CostModel → ℕ → ℕ → ℕ
 request_share costs from to =
     costs.over from to 1 + costs.gap from to 1 + costs.flight from to 1 + costs.latency from to
-
-unfoldable pub ops_at : List Plan → ℕ → List Op
-ops_at plans rank = unwrap_or (option_map (λ (p : Plan). p.ops) (slice_get plans rank)) []
 
 -- the places of one rank's operations
 unfoldable pub places_at : List Plan → ℕ → List OpId

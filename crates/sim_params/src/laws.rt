@@ -1,20 +1,5 @@
 // The laws of the timed run. Their functions do nothing: a proof cites a law by a call.
-ghost use Rattle.sim_params.specs.Laws.{NotBeforeItself, BeforeIsTransitive, OneIsBefore, KeyTellsAction, BeforeIsTested, TimesNeverFall, PossibleStays, StartStays, PairTimeStays, StartsWithFirst, EndsWithLast, IsAnInterleaving, IsACompleteInterleaving, AtMostThreeEach, RoomForPossible, EndStays, TimesRise, NewestIsLast, PossibleIsNotPast, OneIsNext, NextOrFinished, OneRunOfEachLength, OneBeginsAsTheOther, CompleteRunBeginsAsEach, OneCompleteRun, SomeCompleteRun, ReadOldestFirst, LeastEntryIsNext, WithinReach, WithinBudget, PossibleWithinBudget, ReachRisesByPart, PartsAreTheShare, ReasonsAreStuck, OpIsNeeded, PartnerIsAbsent, AloneIsAlone, CalcIsNotAlone};
-
-/// The laws of the keys by which actions are ordered:
-///
-/// - `not_before_itself`: no key is before itself.
-/// - `transitive`: what is before a key that is before a third is before the third.
-/// - `one_is_before`: of two actions that differ, one is before the other.
-/// - `key_tells_action`: a key determines its action.
-/// - `tested`: the test `before` tells the order.
-pub fn laws_of_keys()
-    ensures not_before_itself { NotBeforeItself }
-    ensures transitive { BeforeIsTransitive }
-    ensures one_is_before { OneIsBefore }
-    ensures key_tells_action { KeyTellsAction }
-    ensures tested { BeforeIsTested }
-{}
+ghost use Rattle.sim_params.specs.Laws.{TimesNeverFall, PossibleStays, StartStays, PairTimeStays, StartsWithFirst, EndsWithLast, IsAnInterleaving, IsACompleteInterleaving, AtMostThreeEach, RoomForPossible, EndStays, TimesRise, NewestIsLast, PossibleIsNotPast, OneIsNext, NextOrFinished, OneRunOfEachLength, OneBeginsAsTheOther, CompleteRunBeginsAsEach, OneCompleteRun, SomeCompleteRun, ReadOldestFirst, LeastEntryIsNext, WithinReach, WithinBudget, PossibleWithinBudget, ReachRisesByPart, PartsAreTheShare, ReasonsAreStuck, OpIsNeeded, PartnerIsAbsent, AloneIsAlone, CalcIsNotAlone};
 
 /// The laws of times, for every schedule, all costs and every history, be it a run or not:
 ///

@@ -40,8 +40,7 @@ pub fn op_count(sched: &Sched, rank: u32) -> u32
     ensures count { result ≡ length (ops_at sched.now rank) }
     ensures few { result ≤ 2 ^ 20 }
 {
-    let plan = &sched.plans()[rank as usize];
-    plan.ops.len() as u32
+    sched.op_count(rank)
 }
 
 // What an operation may add to the times.

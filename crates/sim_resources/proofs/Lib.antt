@@ -3,6 +3,5 @@ pub mod Shares
 pub mod Numbered
 pub mod FreeTimes
 pub mod OfKind
-pub mod Accepted
 pub mod Worth
 pub mod HoldLemmas

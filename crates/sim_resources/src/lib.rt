@@ -7,7 +7,8 @@ mod message;
 mod resources;
 mod slots;
 
+pub use goal_graph::Message;
 pub use holds::Hold;
 pub use laws::laws_of_free_times;
-pub use message::{Message, message_of};
+pub use message::message_of;
 pub use resources::Resources;

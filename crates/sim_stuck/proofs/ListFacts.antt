@@ -14,7 +14,8 @@ use Rattle.goal_graph.specs.Action.{plain}
 use Rattle.goal_graph.specs.Fault.{IsOp, IsAccepted}
 use Rattle.goal_graph.specs.Allowed.{has_started}
 use Rattle.goal_graph.specs.Interleaving.{IsInterleaving, IsCompleteInterleaving}
-use Rattle.goal_graph.specs.Laws.{IsEarlier, IsTaken}
+use Rattle.goal_graph.specs.Order.{IsBefore}
+use Rattle.goal_graph.specs.Laws.{IsTaken}
 use Rattle.goal_graph.proofs.Exists.{listed_places, operations_in_order}
 use Rattle.goal_graph.proofs.Faults.{needs-exist}
 use Rattle.sim_params.specs.Costs.{CostModel, is_eager}
@@ -57,7 +58,7 @@ module _ (plans : List Plan) (costs : CostModel) (h : List Timed) where
 
   pub in_order : IsInOrder (stuck_list plans costs h)
   in_order =
-      subst (AllPairs IsEarlier) (sym ops_listed) (AllPairs-filter IsEarlier (lacks_end plans costs h) (operations plans) (operations_in_order plans))
+      subst (AllPairs IsBefore) (sym ops_listed) (AllPairs-filter IsBefore (lacks_end plans costs h) (operations plans) (operations_in_order plans))
 
   pub names_listed : IsAccepted plans → IsInterleaving plans (is_eager plans costs) (plain h) → NamesListed (stuck_list plans costs h)
   names_listed accepted each s y c e = (lists_stuck y).1 (go e)

@@ -9,7 +9,8 @@ use Rattle.goal_graph.specs.Schedule.{Plan, operations}
 use Rattle.goal_graph.specs.Action.{plain}
 use Rattle.goal_graph.specs.Fault.{IsOp}
 use Rattle.goal_graph.specs.Allowed.{has_started}
-use Rattle.goal_graph.specs.Laws.{IsEarlier, IsTaken}
+use Rattle.goal_graph.specs.Order.{IsBefore}
+use Rattle.goal_graph.specs.Laws.{IsTaken}
 use Rattle.sim_params.specs.Costs.{CostModel, is_eager}
 use Rattle.sim_params.specs.Stuck.{IsStuck, are_fit, lacks_end, reason}
 
@@ -19,7 +20,7 @@ ops_of list = map (λ (s : Stuck). s.op) list
 
 -- they stand by rank and number, each once
 abbrev pub IsInOrder : List Stuck → Type 0
-IsInOrder list = AllPairs IsEarlier (ops_of list)
+IsInOrder list = AllPairs IsBefore (ops_of list)
 
 -- an operation that a reason names is one of them
 abbrev pub NamesListed : List Stuck → Type 0

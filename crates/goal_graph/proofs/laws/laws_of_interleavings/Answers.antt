@@ -5,7 +5,8 @@ use Rattle.goal_graph.proofs.Ever.{arrived_begun}
 use Rattle.goal_graph.proofs.Stages.{ended_started, started_ready}
 use Rattle.goal_graph.proofs.OneEach.{one_allowed}
 use Rattle.goal_graph.proofs.Once.{happens_once, at_most_three, happened_and_left, left_falls}
-use Rattle.goal_graph.proofs.Exists.{allowed_listed, listed_places, operations_in_order, operations_differ}
+use Rattle.goal_graph.proofs.Exists.{allowed_listed}
+use Rattle.goal_graph.proofs.Eager.{same_interleavings}
 use Rattle.goal_graph.proofs.Members.{happened_member, member_happened, happened_one_more}
 use Rattle.goal_graph.proofs.laws.laws_of_interleavings.Goals as goal
 
@@ -54,8 +55,5 @@ returns-clause-starts_when_ready c = started_ready
 pub returns-clause-allowed_is_listed : goal.returns-clause-allowed_is_listed
 returns-clause-allowed_is_listed c = allowed_listed
 
-pub returns-clause-operations_are_listed : goal.returns-clause-operations_are_listed
-returns-clause-operations_are_listed c = listed_places
-
-pub returns-clause-operations_in_order : goal.returns-clause-operations_in_order
-returns-clause-operations_in_order c = λ plans. (operations_in_order plans, operations_differ plans)
+pub returns-clause-eager_sends_alone : goal.returns-clause-eager_sends_alone
+returns-clause-eager_sends_alone c = λ plans eager other h agree. same_interleavings plans eager other agree h

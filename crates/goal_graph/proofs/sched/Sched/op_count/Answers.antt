@@ -1,0 +1,27 @@
+-- A rank has at most as many operations as all ranks have.
+use Rattle.std.proofs.Common.{◌≡◌, ◌≤◌, Some, length, slice_get, sym, ap, ◌∙◌, refl, arith}
+use Rattle.std.proofs.lemmas.Option.{slice_get_read}
+use Rattle.goal_graph.specs.Schedule.{Plan}
+use Rattle.goal_base.specs.declared.limits.TheConstants.{MAX_OPS}
+use Rattle.goal_graph.proofs.Places.{ops_at_some, few_ops_at}
+use Rattle.goal_graph.proofs.sched.Sched.op_count.Goals as goal
+use Rattle.goal_graph.proofs.sched.Sched.op_count.Goals.{After-len}
+
+here : (c : After-len) → slice_get c.args.self.now c.args.rank ≡ Some c.index-plans-rank.result
+here c = slice_get_read c.args.self.now _ c.args.rank c.index-plans-rank.result refl c.requires (rw c.plans.ensures.plans at c.index-plans-rank.is)
+
+counted : (c : After-len) → c.len.result ≡ length c.index-plans-rank.result.ops
+counted c = omega (arith, c.plan.inside.ops.ok.0, c.len.ensures, ap (λ (p : Plan). length p.ops) c.plan.view_is)
+
+few : (c : After-len) → c.len.result ≤ MAX_OPS
+few c = omega (arith, counted c, few_ops_at c.args.self.now c.plans.ensures.counts.ops c.args.rank c.index-plans-rank.result (here c))
+
+pub overflow_cast-result : goal.overflow_cast-result
+overflow_cast-result c = omega (arith, few c)
+
+pub returns-clause-count : goal.returns-clause-count
+returns-clause-count c =
+    counted c ∙ ap length (sym (ops_at_some c.args.self.now c.args.rank c.index-plans-rank.result (here c)))
+
+pub returns-clause-few : goal.returns-clause-few
+returns-clause-few c = few c

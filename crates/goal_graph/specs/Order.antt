@@ -1,0 +1,23 @@
+-- The orders of operations and of actions.
+use Rattle.std.specs.Prelude.{ℕ, ◌≡◌, ◌<◌, ◌⊎◌, ◌==◌, ◌&&◌, ◌||◌, Bool, false, nat_lt, List, [], ◌∷◌}
+use Rattle.goal_graph.specs.declared.action.OpId.{OpId}
+use Rattle.goal_graph.specs.declared.action.Timed.{Timed}
+use Rattle.goal_graph.specs.Action.{place}
+
+-- the operation x stands before y: its rank is less, or its number at the same rank
+abbrev pub IsBefore : OpId → OpId → Type 0
+IsBefore x y = (x.rank < y.rank) ⊎ ((x.rank ≡ y.rank) × (x.op < y.op))
+
+-- the lexical order of keys
+abbrev pub IsLess : List ℕ → List ℕ → Type 0
+IsLess (m ∷ ms) (n ∷ ns) = (m < n) ⊎ ((m ≡ n) × IsLess ms ns)
+IsLess _ _ = ⊥
+
+-- the same as a test
+unfoldable pub less : List ℕ → List ℕ → Bool
+less (m ∷ ms) (n ∷ ns) = nat_lt m n || ((m == n) && less ms ns)
+less _ _ = false
+
+-- the key of an action at its time: the time, its class, its rank, its number in the rank
+abbrev pub key : Timed → List ℕ
+key a = a.time ∷ place a.class ∷ a.op.rank ∷ a.op.op ∷ []
