@@ -4,7 +4,7 @@ use Rattle.std.proofs.lemmas.List.Elements.{All-contains}
 use Rattle.goal_graph.specs.declared.action.OpId.{OpId}
 use Rattle.goal_graph.specs.declared.action.Timed.{Timed}
 use Rattle.goal_graph.specs.Schedule.{Plan}
-use Rattle.goal_graph.specs.Laws.{IsEarlier}
+use Rattle.goal_graph.specs.Order.{IsBefore}
 use Rattle.sim_params.specs.Costs.{CostModel}
 use Rattle.sim_waits.specs.Waits.{wait, HasWaited, GoesFirst, AreGreatest}
 use Rattle.sim_waits.specs.WaitsText.{waits_text, IsWaitsText}
@@ -67,7 +67,7 @@ module _ (plans : List Plan) (costs : CostModel) (h : List Timed) where
   not_both x y (inr a) (inl b) = omega (arith, a.0, b)
   not_both x y (inr a) (inr b) = never a.1 b.1
     where
-      never : IsEarlier x y → IsEarlier y x → ⊥
+      never : IsBefore x y → IsBefore y x → ⊥
       never (inl l) (inl m) = omega (arith, l, m)
       never (inl l) (inr m) = omega (arith, l, m.0)
       never (inr l) (inl m) = omega (arith, l.0, m)

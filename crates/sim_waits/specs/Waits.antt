@@ -6,7 +6,7 @@ use Rattle.goal_graph.specs.Schedule.{Plan}
 use Rattle.goal_graph.specs.Action.{plain}
 use Rattle.goal_graph.specs.Allowed.{has_ended}
 use Rattle.goal_graph.specs.Fault.{IsOp}
-use Rattle.goal_graph.specs.Laws.{IsEarlier}
+use Rattle.goal_graph.specs.Order.{IsBefore}
 use Rattle.sim_params.specs.Costs.{CostModel, is_eager}
 use Rattle.sim_params.specs.Times.{since, ready}
 
@@ -35,7 +35,7 @@ module _ (plans : List Plan) (costs : CostModel) (h : List Timed) where
 
   -- x has the greater wait; of equal waits the operation that is earlier by rank and number goes first
   abbrev pub GoesFirst : OpId → OpId → Type 0
-  GoesFirst x y = (wait y < wait x) ⊎ ((wait y ≡ wait x) × IsEarlier x y)
+  GoesFirst x y = (wait y < wait x) ⊎ ((wait y ≡ wait x) × IsBefore x y)
 
   -- The operations of the greatest waits above 0, in order: ten, or all where there are fewer. Each goes before those
   -- after it in the list, and before all that are left out.
