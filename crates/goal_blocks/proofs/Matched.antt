@@ -1,0 +1,54 @@
+-- What is matched ends in its pairs, in each complete interleaving and whatever is eager.
+use Rattle.std.proofs.Common.{◌≡◌, Bool, false, List, Option, Some, None, refl, sym, ap, ◌∙◌, is_some}
+use Rattle.std.specs.Option.{option_map}
+use Rattle.std.proofs.lemmas.Bool.{both_ways}
+use Rattle.goal_graph.specs.declared.action.OpId.{OpId}
+use Rattle.goal_graph.specs.declared.plan.Kind.{Kind}
+use Rattle.goal_graph.specs.declared.plan.Op.{Op}
+use Rattle.goal_graph.specs.Schedule.{Plan, op_at, kind_at}
+use Rattle.goal_graph.specs.Action.{Act}
+use Rattle.goal_graph.specs.Interleaving.{IsCompleteInterleaving}
+use Rattle.goal_graph.specs.Fault.{IsOp}
+use Rattle.goal_graph.specs.Laws.{HaveMet, IsApart}
+use Rattle.goal_graph.proofs.Stages.{started_send, started_receive, ended_started}
+use Rattle.goal_graph.proofs.Complete.{begun_send_arrived}
+use Rattle.goal_graph.proofs.Apart.{partners_iff_met, completes_alike}
+use Rattle.goal_blocks.specs.Channels.{AreOfOneChannel}
+use Rattle.goal_blocks.specs.Walk.{no_send, AllEnd}
+use Rattle.goal_blocks.specs.Matched.{IsMatched, EndsInItsPairs}
+use Rattle.goal_blocks.proofs.Channels.{fits_channel, channel_fits, channels_apart}
+
+module _ (plans : List Plan) where
+  -- what has a kind is an operation
+  kind_is_op : (x : OpId) (k : Kind) → kind_at plans x ≡ Some k → IsOp plans x
+  unfolding kind_at
+  kind_is_op x k e = go (op_at plans x) refl e
+    where
+      go : (o : Option Op) → op_at plans x ≡ o → option_map (λ (o : Op). o.kind) o ≡ Some k → IsOp plans x
+      go None p f = absurd (cc f)
+      go (Some o) p f = ap is_some p
+
+  module _ (eager : OpId → Bool) (h : List Act) (matched : IsMatched plans) (done : IsCompleteInterleaving plans eager h) where
+    apart : IsApart plans
+    apart = channels_apart plans matched.no_wildcard matched.no_double_channel
+
+    ends : AllEnd plans eager h
+    ends x is_op =
+        let walk = matched.no_stall.is_walk.complete.each in
+        (completes_alike plans apart eager no_send (λ m e. absurd (both_ways false refl e)) h done matched.no_stall.walk x walk).1 (matched.no_stall.all_end x is_op)
+
+    -- the send and the receive of one channel have met
+    channel_met : (m x : OpId) → AreOfOneChannel plans m x → HaveMet plans h m x
+    channel_met m x one =
+        let begun = sym (started_send plans h m one.is_send) ∙ ended_started plans eager h m done.each (ends m (kind_is_op m _ one.is_send.kind)) in
+        record {
+          arrived = begun_send_arrived plans eager h done m one.is_send begun;
+          posted = sym (started_receive plans h x one.is_receive) ∙ ended_started plans eager h x done.each (ends x (kind_is_op x _ one.is_receive.kind));
+          fit = channel_fits plans x m one;
+        }
+
+    pub ends_in_its_pairs : EndsInItsPairs plans eager h
+    ends_in_its_pairs = record {
+      all_end = ends;
+      pairs = λ m x. let iff = partners_iff_met plans apart eager h m x done.each in (λ p. fits_channel plans x m matched.no_wildcard (iff.0 p).fit, λ one. iff.1 (channel_met m x one));
+    }

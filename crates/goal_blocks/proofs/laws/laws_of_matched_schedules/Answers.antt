@@ -1,0 +1,10 @@
+-- Each law is a lemma.
+use Rattle.goal_blocks.proofs.Channels.{channels_apart}
+use Rattle.goal_blocks.proofs.Matched.{ends_in_its_pairs}
+use Rattle.goal_blocks.proofs.laws.laws_of_matched_schedules.Goals as goal
+
+pub returns-clause-channels_are_apart : goal.returns-clause-channels_are_apart
+returns-clause-channels_are_apart c = λ plans known single. channels_apart plans known single
+
+pub returns-clause-matched_ends_in_its_pairs : goal.returns-clause-matched_ends_in_its_pairs
+returns-clause-matched_ends_in_its_pairs c = λ plans eager h matched done. ends_in_its_pairs plans eager h matched done

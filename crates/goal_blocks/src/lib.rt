@@ -1,0 +1,6 @@
+//! What a schedule does to the slots of its ranks, and when that is right whatever comes first.
+#![tactic(auto)]
+
+mod laws;
+
+pub use laws::laws_of_matched_schedules;
