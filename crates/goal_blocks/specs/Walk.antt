@@ -6,14 +6,14 @@ use Rattle.goal_graph.specs.Action.{Act, place}
 use Rattle.goal_graph.specs.Allowed.{has_ended, allowed}
 use Rattle.goal_graph.specs.Interleaving.{IsCompleteInterleaving}
 use Rattle.goal_graph.specs.Fault.{IsOp}
-use Rattle.goal_graph.specs.Laws.{IsEarlier}
+use Rattle.goal_graph.specs.Order.{IsBefore}
 
 abbrev pub no_send : OpId → Bool
 no_send m = false
 
 -- a comes no later than b in the order of the walk: by rank, by number, and then by class
 abbrev pub ComesFirst : Act → Act → Type 0
-ComesFirst a b = IsEarlier a.op b.op ⊎ ((a.op ≡ b.op) × (place a.class ≤ place b.class))
+ComesFirst a b = IsBefore a.op b.op ⊎ ((a.op ≡ b.op) × (place a.class ≤ place b.class))
 
 -- each action is the first, in that order, of those that were allowed
 abbrev pub TakesFirst : List Plan → List Act → Type 0
