@@ -1,2 +1,3 @@
 pub mod Channels
 pub mod Matched
+pub mod Race

@@ -1,3 +1,6 @@
 pub mod Channels
 pub mod Walk
 pub mod Matched
+pub mod Slots
+pub mod Race
+pub mod Values

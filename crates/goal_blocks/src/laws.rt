@@ -1,5 +1,6 @@
-// The laws of matched schedules. Their function does nothing: a proof cites a law by a call.
+// The laws of matched schedules and of races. Their functions do nothing: a proof cites a law by a call.
 ghost use Rattle.goal_blocks.specs.Matched.{ChannelsAreApart, MatchedEndsInItsPairs};
+ghost use Rattle.goal_blocks.specs.Race.{OrderIsKept, ConflictsComeInOneOrder};
 
 /// The laws of schedules without wildcards, in which each send has one receive of its channel and each receive one
 /// send, and whose walk ends:
@@ -10,4 +11,15 @@ ghost use Rattle.goal_blocks.specs.Matched.{ChannelsAreApart, MatchedEndsInItsPa
 pub fn laws_of_matched_schedules()
     ensures channels_are_apart { ChannelsAreApart }
     ensures matched_ends_in_its_pairs { MatchedEndsInItsPairs }
+{}
+
+/// The laws of the order of operations of one rank, whatever is eager:
+///
+/// - `order_is_kept`: an operation whose end comes before another's start by the dependencies has ended where that
+///   one has started, in each interleaving.
+/// - `conflicts_come_in_one_order`: without a race, two operations of which one writes a slot that the other touches
+///   come in one order, the same in every interleaving.
+pub fn laws_of_races()
+    ensures order_is_kept { OrderIsKept }
+    ensures conflicts_come_in_one_order { ConflictsComeInOneOrder }
 {}
