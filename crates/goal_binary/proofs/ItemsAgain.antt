@@ -13,9 +13,10 @@ use Rattle.goal_graph.specs.declared.plan.When.TheVariants.{AfterEnd, AfterStart
 use Rattle.goal_graph.specs.declared.plan.Note.{Note}
 use Rattle.goal_graph.specs.declared.plan.Note.TheVariants.{Moves, Adds}
 use Rattle.goal_graph.specs.Fault.{value_fits}
-use Rattle.goal_graph.specs.Widths.{IsKindInWidth, IsOpInWidth, IsNoteInWidth}
+use Rattle.goal_graph.specs.Widths.{IsKindInWidth, IsNoteInWidth}
 use Rattle.goal_graph.proofs.Numbers.{and_left, and_right}
 use Rattle.goal_binary.specs.declared.form.Form.{Form}
+use Rattle.goal_binary.specs.Fitting.{OpFits, DepFits}
 use Rattle.goal_binary.specs.File.{spelled_u32, spelled_u64, kind_code, flags_of, peer_of, tag_of, size_of, op_bytes, spelled_op, spelled_dep, spelled_note, when_code}
 use Rattle.goal_binary.specs.Fields.{Read, byte_at, u32_at, byte_up_to, u32_up_to, u64_up_to}
 use Rattle.goal_binary.specs.Reading.{most_flags, form_of, most_nic, most_peer, most_tag, most_size, kind_of, when_of, note_of, list_at, form_at, op_at, dep_at, note_at}
@@ -101,15 +102,6 @@ kind_fits (Recv bytes (Some from) (Some tag)) nic width nic_width value =
       tag_width = tag_width;
       size_width = width.0;
     }
-
--- what has a spelling that is read again
-pub record OpFits (o : Op) : Type 0 where
-  pub width : IsOpInWidth o
-  pub value : value_fits o.kind o.nic ≡ true
-
-pub record DepFits (d : Dep) : Type 0 where
-  pub later : d.later < 2 ^ 32
-  pub earlier : d.earlier < 2 ^ 32
 
 when_again : (w : When) → when_of (when_code w) ≡ w
 when_again AfterEnd = refl

@@ -12,3 +12,10 @@ pub mod Round
 pub mod Follows
 pub mod Cuts
 pub mod Lengths
+pub mod Readers
+pub mod FieldsRead
+pub mod RanksRead
+pub mod Limits
+pub mod Opening
+pub mod Faults
+pub mod NoLimits

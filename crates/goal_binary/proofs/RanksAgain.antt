@@ -15,18 +15,13 @@ use Rattle.goal_graph.specs.Fault.{op_count, dep_count, note_count, IsAccepted}
 use Rattle.goal_graph.specs.Widths.{IsNoteInWidth, AreInWidth}
 use Rattle.goal_graph.proofs.Plain.{plain-counts, plain-op, plain-dep, dep_in_range-parts}
 use Rattle.goal_graph.proofs.Places.{lengths-le}
+use Rattle.goal_binary.specs.Fitting.{OpFits, DepFits, PlanFits, HaveFile}
 use Rattle.goal_binary.specs.File.{spelled_u32, spelled_op, spelled_dep, spelled_note, spelled_counts, spelled_rank, header, file}
 use Rattle.goal_binary.specs.Fields.{count_at}
 use Rattle.goal_binary.specs.Reading.{list_at, op_at, dep_at, note_at, rank_at, ranks_at}
 use Rattle.goal_binary.specs.Meaning.{plans_at, meaning}
 use Rattle.goal_binary.proofs.FieldsAgain.{IsReadAs, count_again, header_again}
-use Rattle.goal_binary.proofs.ItemsAgain.{OpFits, DepFits, op_again, dep_again, note_again, list_again}
-
--- a rank that has a spelling which is read again
-pub record PlanFits (p : Plan) : Type 0 where
-  pub ops : All OpFits p.ops
-  pub deps : All DepFits p.deps
-  pub notes : All IsNoteInWidth p.notes
+use Rattle.goal_binary.proofs.ItemsAgain.{op_again, dep_again, note_again, list_again}
 
 -- the counts of a rank, behind so many of the ranks before
 record AreFew (ops deps notes : ℕ) (p : Plan) : Type 0 where
@@ -91,7 +86,7 @@ module _ (bytes : List ℕ) where
       let r = ranks_again ps (before ++ p ∷ []) a.place rest fits.1 (subst AreAllFew (sym joined) few) a.rest_is in
       record { place = r.place; is = rw a.is (r.is ∙ ap (λ (qs : List Plan). Ok (qs, r.place)) joined); rest_is = r.rest_is }
 
--- the ranks of a schedule have such a spelling
+-- a schedule has a file
 module _ (plans : List Plan) (accepted : IsAccepted plans) (widths : AreInWidth plans) where
   fits_all : All PlanFits plans
   fits_all rank p inside =
@@ -105,13 +100,19 @@ module _ (plans : List Plan) (accepted : IsAccepted plans) (widths : AreInWidth 
         notes = (widths.ranks rank p inside).notes;
       }
 
-  pub meaning_again : meaning (file plans) ≡ Ok plans
-  unfolding meaning plans_at file header
-  meaning_again =
-      let counts = plain-counts plans accepted.plain in
-      let bytes = file plans in
-      let records = flat_map spelled_rank plans in
-      let h = header_again bytes (length plans) records counts.some_rank counts.ranks refl in
-      let r = ranks_again bytes plans [] h.place [] (recursion_from_All PlanFits plans fits_all) (record { ops = counts.ops; deps = counts.deps; notes = counts.notes }) (h.rest_is ∙ sym (append-nil records)) in
-      let ended : ltb r.place (length bytes) ≡ false = le-ltb _ _ (omega (arith, length-drop r.place bytes, ap length r.rest_is)) in
-      rw (h.is, r.is, ended) refl
+  pub schedule_fits : HaveFile plans
+  schedule_fits = record { counts = plain-counts plans accepted.plain; ranks = fits_all }
+
+pub meaning_fits : (plans : List Plan) → HaveFile plans → meaning (file plans) ≡ Ok plans
+unfolding meaning plans_at file header
+meaning_fits plans fit =
+    let counts = fit.counts in
+    let bytes = file plans in
+    let records = flat_map spelled_rank plans in
+    let h = header_again bytes (length plans) records counts.some_rank counts.ranks refl in
+    let r = ranks_again bytes plans [] h.place [] (recursion_from_All PlanFits plans fit.ranks) (record { ops = counts.ops; deps = counts.deps; notes = counts.notes }) (h.rest_is ∙ sym (append-nil records)) in
+    let ended : ltb r.place (length bytes) ≡ false = le-ltb _ _ (omega (arith, length-drop r.place bytes, ap length r.rest_is)) in
+    rw (h.is, r.is, ended) refl
+
+pub meaning_again : (plans : List Plan) → IsAccepted plans → AreInWidth plans → meaning (file plans) ≡ Ok plans
+meaning_again plans accepted widths = meaning_fits plans (schedule_fits plans accepted widths)

@@ -1,12 +1,14 @@
 -- The laws that join a schedule and its file.
-use Rattle.std.specs.Prelude.{◌≡◌, ◌≢◌, ◌<◌, ◌≤◌, ℕ, List, ◌∷◌, ◌++◌, length, take, Ok, Err, All}
+use Rattle.std.specs.Prelude.{◌≡◌, ◌≢◌, ◌<◌, ◌≤◌, ◌+◌, ◌⊎◌, ℕ, List, ◌∷◌, ◌++◌, length, take, drop, Ok, Err, All}
 use Rattle.goal_base.specs.declared.limits.TheConstants.{MAX_INPUT}
 use Rattle.goal_graph.specs.Schedule.{Plan}
 use Rattle.goal_graph.specs.Fault.{IsAccepted, AreCountsWithin}
 use Rattle.goal_graph.specs.Widths.{AreInWidth}
 use Rattle.goal_binary.specs.declared.fault.FileFault.{FileFault}
 use Rattle.goal_binary.specs.declared.fault.FileFault.TheVariants.{Short, Magic, Version, Field, Extra}
-use Rattle.goal_binary.specs.File.{file, file_length}
+use Rattle.goal_binary.specs.declared.layout.TheConstants.{MAGIC, VERSION}
+use Rattle.goal_binary.specs.Fitting.{HaveFile}
+use Rattle.goal_binary.specs.File.{spelled_u32, file, file_length}
 use Rattle.goal_binary.specs.Meaning.{meaning}
 
 -- the file has so many bytes as the plans call for
@@ -26,10 +28,6 @@ pub record IsSchedule (plans : List Plan) : Type 0 where
   pub accepted : IsAccepted plans
   pub widths : AreInWidth plans
 
--- the file of a schedule means the schedule
-abbrev pub ReadAgain : Type 0
-ReadAgain = (plans : List Plan) → IsSchedule plans → meaning (file plans) ≡ Ok plans
-
 -- a file that is cut is short where it ends
 abbrev pub CutIsShort : Type 0
 CutIsShort = (plans : List Plan) (n : ℕ) → IsSchedule plans → n < length (file plans) → meaning (take n (file plans)) ≡ Err (Short n)
@@ -37,6 +35,81 @@ CutIsShort = (plans : List Plan) (n : ℕ) → IsSchedule plans → n < length (
 -- of bytes behind a file the first is extra
 abbrev pub MoreIsExtra : Type 0
 MoreIsExtra = (plans : List Plan) (b : ℕ) (more : List ℕ) → IsSchedule plans → meaning (file plans ++ b ∷ more) ≡ Err (Extra (length (file plans)))
+
+-- plans that bytes mean have a file
+abbrev pub WithinLimits : Type 0
+WithinLimits = (bytes : List ℕ) (plans : List Plan) → All (λ b. b < 256) bytes → meaning bytes ≡ Ok plans → HaveFile plans
+
+-- plans that have a file are what it means, and a schedule has one
+abbrev pub PlansAgain : Type 0
+PlansAgain = (plans : List Plan) → HaveFile plans → meaning (file plans) ≡ Ok plans
+
+abbrev pub SchedulesHaveFiles : Type 0
+SchedulesHaveFiles = (plans : List Plan) → IsSchedule plans → HaveFile plans
+
+-- so the file of a schedule means the schedule
+abbrev pub ReadAgain : Type 0
+ReadAgain = (plans : List Plan) → IsSchedule plans → meaning (file plans) ≡ Ok plans
+
+-- a file of some plans, which may break other rules, begins with these bytes
+pub record BeginAFile (front : List ℕ) : Type 0 where
+  pub plans : List Plan
+  pub more : List ℕ
+  pub have_file : HaveFile plans
+  pub is : front ++ more ≡ file plans
+
+-- a field has one, four or eight bytes
+abbrev pub IsWidth : ℕ → Type 0
+IsWidth n = (n ≡ 1) ⊎ (n ≡ 4) ⊎ (n ≡ 8)
+
+-- the bytes end in the field that begins at this place, and the whole fields before begin a file
+pub record EndInField (bytes : List ℕ) (n : ℕ) : Type 0 where
+  pub length_is : n ≡ length bytes
+  pub at : ℕ
+  pub width : ℕ
+  pub is_width : IsWidth width
+  pub begins : at ≤ n
+  pub is_cut : n < at + width
+  pub before : BeginAFile (take at bytes)
+
+-- the whole field at this place is one that no file has there: the bytes before it begin a file, with it they begin none
+pub record IsFirstBadField (bytes : List ℕ) (at : ℕ) : Type 0 where
+  pub width : ℕ
+  pub is_width : IsWidth width
+  pub whole : at + width ≤ length bytes
+  pub before : BeginAFile (take at bytes)
+  pub none : BeginAFile (take (at + width) bytes) → ⊥
+
+-- the first eight bytes are another magic
+pub record IsOtherMagic (bytes : List ℕ) : Type 0 where
+  pub whole : 8 ≤ length bytes
+  pub other : take 8 bytes ≢ MAGIC
+
+-- the magic, and then the number of another version
+pub record IsOtherVersion (bytes : List ℕ) (found : ℕ) : Type 0 where
+  pub magic : take 8 bytes ≡ MAGIC
+  pub whole : 12 ≤ length bytes
+  pub is : take 4 (drop 8 bytes) ≡ spelled_u32 found
+  pub other : found ≢ VERSION
+
+-- the bytes before are a whole file
+pub record IsBehindFile (bytes : List ℕ) (at : ℕ) : Type 0 where
+  pub inside : at < length bytes
+  pub plans : List Plan
+  pub have_file : HaveFile plans
+  pub is : take at bytes ≡ file plans
+
+-- what each fault of bytes says of them
+abbrev pub IsTrueOf : List ℕ → FileFault → Type 0
+IsTrueOf bytes (Short n) = EndInField bytes n
+IsTrueOf bytes Magic = IsOtherMagic bytes
+IsTrueOf bytes (Version found) = IsOtherVersion bytes found
+IsTrueOf bytes (Field at) = IsFirstBadField bytes at
+IsTrueOf bytes (Extra at) = IsBehindFile bytes at
+IsTrueOf bytes _ = ⊥
+
+abbrev pub FaultsAreTrue : Type 0
+FaultsAreTrue = (bytes : List ℕ) (fault : FileFault) → All (λ b. b < 256) bytes → meaning bytes ≡ Err fault → IsTrueOf bytes fault
 
 -- the fault is that of a whole field
 abbrev pub IsOfField : FileFault → Type 0

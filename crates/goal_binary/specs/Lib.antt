@@ -1,6 +1,9 @@
+-- What a reader must believe: the one file of a schedule, and the laws of what bytes mean.
 pub mod File
+pub mod Fitting
+pub mod Laws
+pub mod FaultWords
+-- How bytes are read, field after field; the laws say what it comes to.
 pub mod Fields
 pub mod Reading
 pub mod Meaning
-pub mod Laws
-pub mod FaultWords

@@ -33,6 +33,16 @@ IsFaultOf (Ok plans) found = IsFaultOfPlans plans found
 abbrev pub IsFileFault : List ℕ → FileFault → Type 0
 IsFileFault bytes found = IsFaultOf (meaning bytes) found
 
+-- the fault is that of a count or a value over its limit
+abbrev pub IsLimitRule : PlanFault → Type 0
+IsLimitRule (plan.Count found limit) = Unit {0}
+IsLimitRule (plan.Value rank op) = Unit {0}
+IsLimitRule _ = ⊥
+
+abbrev pub IsLimitFault : FileFault → Type 0
+IsLimitFault (fault.Plan rule) = IsLimitRule rule
+IsLimitFault _ = ⊥
+
 -- the fault of plans, as that of the file
 abbrev pub fault_of_plans : PlanFault → FileFault
 fault_of_plans plan.NoMemory = fault.NoMemory

@@ -4,7 +4,7 @@ ghost use Rattle.goal_graph.specs.Schedule.{Plan};
 ghost use Rattle.goal_graph.specs.Fault.{IsAccepted};
 ghost use Rattle.goal_graph.specs.Widths.{AreInWidth};
 ghost use Rattle.goal_binary.specs.File.{file};
-ghost use Rattle.goal_binary.specs.Meaning.{plans_at, meaning, IsFileFault, fault_of_plans, Gives};
+ghost use Rattle.goal_binary.specs.Meaning.{plans_at, meaning, IsFileFault, IsLimitFault, fault_of_plans, Gives};
 
 use crate::fault::FileFault;
 use crate::fields::header_at;
@@ -67,7 +67,8 @@ fn schedule_of(alloc: Global, bytes: &[u8]) -> Result<Sched, FileFault>
 /// # Errors
 ///
 /// The first fault: that of the first field, in the order of the file, that is not whole or that no file can have
-/// there; else that of bytes behind the last rank; else the first fault of the plans. And want of memory.
+/// there; else that of bytes behind the last rank; else the first fault of the plans, which is neither `Count` nor
+/// `Value`. And want of memory.
 pub fn decode(alloc: Global, bytes: &[u8]) -> Result<Sched, FileFault>
     // The plans are those that the bytes mean, and they are a schedule.
     ensures ok { IfOk result (λ sched. meaning bytes.now ≡ Ok sched) }
@@ -75,6 +76,9 @@ pub fn decode(alloc: Global, bytes: &[u8]) -> Result<Sched, FileFault>
 
     // The fault is that of the bytes, or else that of their plans.
     ensures fault { IfErr result (λ fault. fault ≢ FileFault.NoMemory → IsFileFault bytes.now fault) }
+
+    // A file that says plans keeps the limits of counts and values.
+    ensures limits { IfErr result (λ fault. IsLimitFault fault → ⊥) }
 
     // The bytes are the file of the schedule, so no second file is accepted for it.
     ensures file { IfOk result (λ sched. bytes.now ≡ file sched) }

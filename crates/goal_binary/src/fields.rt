@@ -15,6 +15,13 @@ fn short(bytes: &[u8]) -> FileFault
     }
 }
 
+/// No file can have what the field at this place has.
+fn misfit(at: usize) -> FileFault
+    ensures { result ≡ FileFault.Field at }
+{
+    FileFault::Field { at: at as u64 }
+}
+
 /// One byte.
 #[tactic(auto, unfolding(crate::specs::Fields::byte_at))]
 pub fn byte_at(bytes: &[u8], at: usize) -> Result<(u8, usize), FileFault>
@@ -61,7 +68,7 @@ pub fn byte_up_to(bytes: &[u8], most: u8, at: usize) -> Result<(u8, usize), File
 {
     let (byte, after) = byte_at(bytes, at)?;
     if byte > most {
-        return Err(FileFault::Field { at: at as u64 });
+        return Err(misfit(at));
     }
     Ok((byte, after))
 }
@@ -73,7 +80,7 @@ pub fn u32_up_to(bytes: &[u8], most: u32, at: usize) -> Result<(u32, usize), Fil
 {
     let (number, after) = u32_at(bytes, at)?;
     if number > most {
-        return Err(FileFault::Field { at: at as u64 });
+        return Err(misfit(at));
     }
     Ok((number, after))
 }
@@ -85,7 +92,7 @@ pub fn u64_up_to(bytes: &[u8], most: u64, at: usize) -> Result<(u64, usize), Fil
 {
     let (number, after) = u64_at(bytes, at)?;
     if number > most {
-        return Err(FileFault::Field { at: at as u64 });
+        return Err(misfit(at));
     }
     Ok((number, after))
 }
@@ -98,7 +105,7 @@ pub fn count_at(bytes: &[u8], limit: u32, before: u32, at: usize) -> Result<(u32
 {
     let (number, after) = u32_at(bytes, at)?;
     if u64::from(before) + u64::from(number) > u64::from(limit) {
-        return Err(FileFault::Field { at: at as u64 });
+        return Err(misfit(at));
     }
     Ok((number, after))
 }
@@ -138,7 +145,7 @@ fn rank_count_at(bytes: &[u8], at: usize) -> Result<(u32, usize), FileFault>
 {
     let (number, after) = u32_up_to(bytes, MAX_RANKS, at)?;
     if number == 0 {
-        return Err(FileFault::Field { at: at as u64 });
+        return Err(misfit(at));
     }
     Ok((number, after))
 }

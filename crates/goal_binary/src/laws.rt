@@ -1,12 +1,17 @@
 //! The laws of compiled files. Their function does nothing: a proof cites a law by a call.
-ghost use Rattle.goal_binary.specs.Laws.{LengthIsTold, WithinInput, OneFile, ReadAgain, CutIsShort, MoreIsExtra, NoFileBegins};
+ghost use Rattle.goal_binary.specs.Laws.{LengthIsTold, WithinInput, OneFile, WithinLimits, PlansAgain, SchedulesHaveFiles, ReadAgain, FaultsAreTrue, CutIsShort, MoreIsExtra, NoFileBegins};
 
 /// The laws of compiled files, for every schedule and all bytes:
 ///
 /// - `length_is_told`: the file has so many bytes as the numbers of its ranks, operations, dependencies and notes say.
 /// - `within_input`: where these are within their limits, it is short enough to be an input.
 /// - `one_file`: bytes that mean plans are the file of these plans, so no schedule has a second file.
-/// - `read_again`: the file of a schedule means the schedule.
+/// - `within_limits`: plans that bytes mean have counts, sizes and numbers that a file can have.
+/// - `plans_again`: the file of such plans means these plans.
+/// - `schedules_have_files`: a schedule has such plans.
+/// - `read_again`: so the file of a schedule means the schedule.
+/// - `faults_are_true`: the fault of bytes says of them what its name says. Up to the field at fault they begin a file
+///   of some plans, and with the whole field they begin none; or they end inside a field; or a whole file stands before.
 /// - `cut_is_short`: a file that is cut is short where it ends.
 /// - `more_is_extra`: of bytes behind a file the first is extra.
 /// - `no_file_begins`: no file begins with bytes of which a whole field is at fault.
@@ -14,7 +19,11 @@ pub fn laws_of_files()
     ensures length_is_told { LengthIsTold }
     ensures within_input { WithinInput }
     ensures one_file { OneFile }
+    ensures within_limits { WithinLimits }
+    ensures plans_again { PlansAgain }
+    ensures schedules_have_files { SchedulesHaveFiles }
     ensures read_again { ReadAgain }
+    ensures faults_are_true { FaultsAreTrue }
     ensures cut_is_short { CutIsShort }
     ensures more_is_extra { MoreIsExtra }
     ensures no_file_begins { NoFileBegins }

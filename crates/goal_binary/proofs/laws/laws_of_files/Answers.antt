@@ -1,5 +1,6 @@
 use Rattle.goal_binary.proofs.RanksTaken.{meaning_taken, IsBytes-All}
-use Rattle.goal_binary.proofs.RanksAgain.{meaning_again}
+use Rattle.goal_binary.proofs.RanksAgain.{schedule_fits, meaning_fits, meaning_again}
+use Rattle.goal_binary.proofs.Faults.{within_limits, faults_are_true}
 use Rattle.goal_binary.proofs.Cuts.{cut_is_short, more_is_extra, no_file_begins}
 use Rattle.goal_binary.proofs.Lengths.{length-file, file-within}
 use Rattle.goal_binary.proofs.laws.laws_of_files.Goals as goal
@@ -13,8 +14,20 @@ returns-clause-within_input c = file-within
 pub returns-clause-one_file : goal.returns-clause-one_file
 returns-clause-one_file c bytes plans fits = meaning_taken bytes (IsBytes-All bytes fits) plans
 
+pub returns-clause-plans_again : goal.returns-clause-plans_again
+returns-clause-plans_again c = meaning_fits
+
 pub returns-clause-read_again : goal.returns-clause-read_again
 returns-clause-read_again c plans schedule = meaning_again plans schedule.accepted schedule.widths
+
+pub returns-clause-within_limits : goal.returns-clause-within_limits
+returns-clause-within_limits c bytes plans all = within_limits bytes (IsBytes-All bytes all) plans
+
+pub returns-clause-schedules_have_files : goal.returns-clause-schedules_have_files
+returns-clause-schedules_have_files c plans schedule = schedule_fits plans schedule.accepted schedule.widths
+
+pub returns-clause-faults_are_true : goal.returns-clause-faults_are_true
+returns-clause-faults_are_true c bytes fault all = faults_are_true bytes (IsBytes-All bytes all) fault
 
 pub returns-clause-cut_is_short : goal.returns-clause-cut_is_short
 returns-clause-cut_is_short c plans n schedule = cut_is_short plans schedule n
