@@ -1,5 +1,5 @@
 -- What a token that fails no test is.
-use Rattle.std.proofs.Common.{◌≡◌, ℕ, Bool, true, false, not, List, Option, Some, None, refl, nat_eq, nat_lt}
+use Rattle.std.proofs.Common.{◌≡◌, ◌∙◌, ℕ, Bool, true, false, not, List, Option, Some, None, refl, nat_eq, nat_lt}
 use Rattle.std.specs.List.{list_any}
 use Rattle.std.specs.Option.{option_or, IfNone}
 use Rattle.goal_lexer.specs.declared.tokens.Token.{Token}
@@ -13,11 +13,13 @@ use Rattle.goal_parser.specs.declared.draft.OptionWord.{OptionWord}
 use Rattle.goal_parser.specs.declared.counts.Counts.{Counts}
 use Rattle.goal_parser.specs.declared.draft.Draft.{Draft}
 use Rattle.goal_parser.specs.declared.line.Mention.{Mention}
-use Rattle.goal_parser.specs.Lines.{Definition}
+use Rattle.goal_parser.specs.declared.parser.Parser.{Parser}
+use Rattle.goal_parser.specs.Taken.{HasTaken}
+use Rattle.goal_parser.specs.Lines.{Definition, defined_of, used_of}
 use Rattle.goal_parser.specs.Numbers.{is_within}
 use Rattle.goal_parser.specs.Counts.{is_too_many}
 use Rattle.goal_parser.specs.Ranks.{IsNewRank}
-use Rattle.goal_parser.specs.Faults.{fault_if, syntax_fault, number_fault, rank_fault, rank_fault_of, option_fault, label_fault, count_fault, unknown_fault, fault_by}
+use Rattle.goal_parser.specs.Faults.{fault_if, syntax_fault, number_fault, rank_fault, rank_fault_of, option_fault, label_fault, count_fault, unknown_fault, fault_by, token_fault}
 
 pub none_first : {A : Type 0} (a b : Option A) → option_or a b ≡ None → a ≡ None
 none_first None b h = refl
@@ -70,3 +72,20 @@ label_passes s draft ranks blocks ds subject counts us t h =
 pub if_none : {A : Type 0} (o : Option A) (P : Type 0) → (o ≡ None → P) → IfNone o P
 if_none None P h = h refl
 if_none (Some x) P h = tt
+
+-- the first of some tests, where the first of them passes, and where it fails
+pub passed : {A : Type 0} (a b c : Option A) → None ≡ a → c ≡ b → c ≡ option_or a b
+passed None b c e h = h
+passed (Some x) b c e h = cc
+
+pub met : {A : Type 0} (x : A) (a b : Option A) → Some x ≡ a → Some x ≡ option_or a b
+met x None b h = cc
+met x (Some y) b h = h
+
+-- the first test that a token fails is told from what a parser keeps
+pub fault_taken : (parser : Parser) (before : List Token) (t : Token) (fault : Option TextFault) → HasTaken parser before
+    → fault ≡ fault_by parser.state parser.draft parser.ranks.count parser.ranks.blocks.keys (defined_of before) parser.line.subject parser.counts (used_of before) t
+    → fault ≡ token_fault before t
+unfolding token_fault
+fault_taken parser before t fault taken h =
+    h ∙ (λ i. fault_by (taken.state i) (taken.draft i) (taken.ranks i) (taken.blocks i) (defined_of before) (taken.line i).subject (taken.counts i) (used_of before) t)

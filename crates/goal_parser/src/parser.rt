@@ -61,15 +61,26 @@ impl Parser {
         ensures fault { (before : List Token) → HasTaken self.now before → result ≡ token_fault before token.now }
         ensures fits { IfNone result (Fits self.now token.now) }
     {
-        // From the last test to the first.
         let labels = &self.block.names.labels;
-        let unknown = unknown_fault(labels, token);
-        let count = self.counts.fault(token).or(unknown);
-        let label = label_fault(labels, &self.line.subject, token).or(count);
-        let option = option_fault(&self.draft, token).or(label);
-        let rank = self.ranks.fault(self.state, token).or(option);
-        let number = number_fault(self.state, self.draft.option, token).or(rank);
-        syntax_fault(self.state, token).or(number)
+        if let Some(fault) = syntax_fault(self.state, token) {
+            return Some(fault);
+        }
+        if let Some(fault) = number_fault(self.state, self.draft.option, token) {
+            return Some(fault);
+        }
+        if let Some(fault) = self.ranks.fault(self.state, token) {
+            return Some(fault);
+        }
+        if let Some(fault) = option_fault(&self.draft, token) {
+            return Some(fault);
+        }
+        if let Some(fault) = label_fault(labels, &self.line.subject, token) {
+            return Some(fault);
+        }
+        if let Some(fault) = self.counts.fault(token) {
+            return Some(fault);
+        }
+        unknown_fault(labels, token)
     }
 
     /// Keeps what a token gives that fails no test.
