@@ -4,3 +4,5 @@ pub mod Matched
 pub mod Slots
 pub mod Race
 pub mod Values
+pub mod Weight
+pub mod Certification

@@ -1,5 +1,6 @@
-// The laws of matched schedules and of races. Their functions do nothing: a proof cites a law by a call.
+// The laws of matched and certified schedules and of races. Their functions do nothing: a proof cites a law by a call.
 ghost use Rattle.goal_blocks.specs.Matched.{ChannelsAreApart, MatchedEndsInItsPairs};
+ghost use Rattle.goal_blocks.specs.Certification.{CertifiedEndsEverywhere, CertifiedConflictsInOneOrder};
 ghost use Rattle.goal_blocks.specs.Race.{OrderIsKept, ConflictsComeInOneOrder};
 
 /// The laws of schedules without wildcards, in which each send has one receive of its channel and each receive one
@@ -22,4 +23,16 @@ pub fn laws_of_matched_schedules()
 pub fn laws_of_races()
     ensures order_is_kept { OrderIsKept }
     ensures conflicts_come_in_one_order { ConflictsComeInOneOrder }
+{}
+
+/// The laws of certified schedules, for every start of the slots and whatever is wanted of them. They say nothing yet of
+/// the values that slots hold at the end:
+///
+/// - `certified_ends_everywhere`: in each complete interleaving, and whatever is eager, each operation has an end, and
+///   the pairs join each send with the receive of its channel and no others.
+/// - `certified_conflicts_in_one_order`: two operations of which one writes a slot that the other touches come in one
+///   order, the same in every interleaving.
+pub fn laws_of_certified_schedules()
+    ensures certified_ends_everywhere { CertifiedEndsEverywhere }
+    ensures certified_conflicts_in_one_order { CertifiedConflictsInOneOrder }
 {}

@@ -3,4 +3,4 @@
 
 mod laws;
 
-pub use laws::{laws_of_matched_schedules, laws_of_races};
+pub use laws::{laws_of_certified_schedules, laws_of_matched_schedules, laws_of_races};

@@ -1,0 +1,85 @@
+-- When a schedule is certified, for stores that hold `first` at the start and slots whose
+-- values at the end are to pass the test `wanted`.
+-- Each condition is readable alone. They stand in the order in which faults are told.
+use Rattle.std.specs.Prelude.{ℕ, ◌+◌, ◌-◌, ◌^◌, ◌≡◌, ◌<◌, ◌≤◌, ◌⊎◌, Bool, true, List, [], ◌∷◌, length, All, Option, Some}
+use Rattle.std.specs.List.{sum_by}
+use Rattle.goal_graph.specs.declared.action.OpId.{OpId}
+use Rattle.goal_graph.specs.declared.plan.Kind.{Kind}
+use Rattle.goal_graph.specs.declared.plan.Kind.TheVariants.{Calc}
+use Rattle.goal_graph.specs.declared.plan.Note.{Note}
+use Rattle.goal_graph.specs.declared.plan.Note.TheVariants.{Moves, Adds}
+use Rattle.goal_graph.specs.Schedule.{Plan, kind_at}
+use Rattle.goal_graph.specs.Action.{Act}
+use Rattle.goal_graph.specs.Interleaving.{IsCompleteInterleaving}
+use Rattle.goal_blocks.specs.Channels.{AreOfOneChannel}
+use Rattle.goal_blocks.specs.Slots.{slots}
+use Rattle.goal_blocks.specs.Walk.{no_send}
+use Rattle.goal_blocks.specs.Matched.{IsMatched, EndsInItsPairs}
+use Rattle.goal_blocks.specs.Race.{HasNoRace, Conflict, AlwaysEndsFirst}
+use Rattle.goal_blocks.specs.Values.{Value, Store, Held, held_after, value}
+use Rattle.goal_blocks.specs.Weight.{weight, weight_within}
+
+-- the slots that a note names are at most 65,535
+abbrev pub NamesLowSlots : Note → Type 0
+NamesLowSlots (Moves op lo hi) = (lo ≤ 65535) × (hi ≤ 65535)
+NamesLowSlots (Adds op from to) = (from ≤ 65535) × (to ≤ 65535)
+
+-- how many slots a note moves
+abbrev pub moved_count : Note → ℕ
+moved_count (Moves op lo hi) = hi + 1 - lo
+moved_count (Adds op from to) = 0
+
+-- A rank has at most 2,048 operations, notes name slots up to 65,535, and all notes together move at most 2^24
+-- slots, each counted as often as it is named.
+pub record IsSmall (plans : List Plan) : Type 0 where
+  pub operations : All (λ (p : Plan). length p.ops ≤ 2048) plans
+  pub slots : All (λ (p : Plan). All NamesLowSlots p.notes) plans
+  pub moves : sum_by (λ (p : Plan). sum_by moved_count p.notes) plans ≤ 2 ^ 24
+
+-- a send and the receive of its channel have equally many slots
+abbrev pub HasEqualLengths : List Plan → Type 0
+HasEqualLengths plans =
+    (m x : OpId) → AreOfOneChannel plans m x → length (slots plans m) ≡ length (slots plans x)
+
+-- after each of the notes that a calc adds, at most 2^24 contributions are held
+abbrev pub AddsAreLight : List Plan → List Act → Held → OpId → Option Kind → Type 0
+AddsAreLight plans h held x (Some (Calc nanos)) = (n : ℕ) → weight_within plans h held x n ≤ 2 ^ 24
+AddsAreLight plans h held x _ = Unit {0}
+
+-- at the start, and at each moment of these actions, at most 2^24 contributions are held
+abbrev pub IsLight : List Plan → Store → List Act → Type 0
+IsLight plans first [] = weight plans [] (held_after plans no_send first []) ≤ 2 ^ 24
+IsLight plans first (a ∷ h) =
+    IsLight plans first h × AddsAreLight plans h (held_after plans no_send first h) a.op (kind_at plans a.op) × (weight plans (a ∷ h) (held_after plans no_send first (a ∷ h)) ≤ 2 ^ 24)
+
+-- each slot of each rank holds what is wanted of it
+abbrev pub HoldsWanted : List Plan → (ℕ → ℕ → Value → Bool) → Store → Type 0
+HoldsWanted plans wanted store = (rank slot : ℕ) → rank < length plans → wanted rank slot (store rank slot) ≡ true
+
+pub record IsCertified (plans : List Plan) (first : Store) (wanted : ℕ → ℕ → Value → Bool) : Type 0 where
+  pub small : IsSmall plans
+  pub matched : IsMatched plans
+  pub lengths : HasEqualLengths plans
+  pub no_race : HasNoRace plans
+  pub light : IsLight plans first matched.no_stall.walk
+  pub right : HoldsWanted plans wanted (value plans no_send first matched.no_stall.walk)
+
+-- right in one interleaving: it ends, with the right pairs, and leaves what is wanted
+pub record IsRight (plans : List Plan) (first : Store) (wanted : ℕ → ℕ → Value → Bool) (eager : OpId → Bool) (h : List Act) : Type 0 where
+  pub ends : EndsInItsPairs plans eager h
+  pub wanted_held : HoldsWanted plans wanted (value plans eager first h)
+
+-- right in every complete interleaving, whatever is eager
+abbrev pub IsRightEverywhere : List Plan → Store → (ℕ → ℕ → Value → Bool) → Type 0
+IsRightEverywhere plans first wanted =
+    (eager : OpId → Bool) (h : List Act) → IsCompleteInterleaving plans eager h → IsRight plans first wanted eager h
+
+-- The laws, for all schedules. The functions `laws_of_..` ensure each.
+
+-- what is certified ends in every complete interleaving, and in the same pairs
+abbrev pub CertifiedEndsEverywhere : Type 0
+CertifiedEndsEverywhere = (plans : List Plan) (first : Store) (wanted : ℕ → ℕ → Value → Bool) (eager : OpId → Bool) (h : List Act) → IsCertified plans first wanted → IsCompleteInterleaving plans eager h → EndsInItsPairs plans eager h
+
+-- in what is certified, of two operations that conflict one comes first, the same in every interleaving
+abbrev pub CertifiedConflictsInOneOrder : Type 0
+CertifiedConflictsInOneOrder = (plans : List Plan) (first : Store) (wanted : ℕ → ℕ → Value → Bool) (x y : OpId) → IsCertified plans first wanted → Conflict plans x y → AlwaysEndsFirst plans x y ⊎ AlwaysEndsFirst plans y x
