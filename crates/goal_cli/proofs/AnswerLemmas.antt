@@ -2,10 +2,10 @@
 use Rattle.std.proofs.Common.{◌≡◌, ◌≢◌, ℕ, ◌<◌, ◌⊎◌, Bool, true, false, List, length, Option, Some, None, IfSome, IsSomeAnd, inl, inr, refl, sym, ap, ◌∙◌, arith}
 use Rattle.std.proofs.Math.Seq.{take-length}
 use Rattle.std.specs.FinMap.{insert}
-use Rattle.goal_base.specs.Device.{HostState, SinkState, Files, Later, KeepsFiles, SameFiles, Holds, HoldsPart, Held, Grows, file_of, ReadFaulted, SameReadCounts}
+use Rattle.goal_base.specs.Device.{HostState, SinkState, Files, Later, KeepsFiles, SameFiles, Holds, HoldsPart, Held, Grows, file_of, ReadFaulted, SameReadCounts, Rose}
 use Rattle.goal_graph.specs.Schedule.{Plan}
 use Rattle.sim_params.specs.Costs.{Numbers, log_gops}
-use Rattle.goal_words.specs.Words.{Command, Sim, Compile, Show}
+use Rattle.goal_words.specs.Words.{Command, Sim, Waits, Compile, Show}
 use Rattle.goal_cli.specs.declared.answer.Answer.{Answer}
 use Rattle.goal_cli.specs.declared.answer.Answer.TheVariants as answer
 use Rattle.goal_cli.specs.declared.answer.Refusal.{Refusal}
@@ -62,12 +62,14 @@ module _ (a b d : HostState) (kept : KeepsFiles a b) (later : Later a b) where
 part_from : (a b : HostState) (out : SinkState) (new : Devices) (c : Command) (bytes : List ℕ) → KeepsFiles a b → Later a b
     → GetsPart (devices b out) new c bytes → GetsPart (devices a out) new c bytes
 part_from a b out new (Sim name numbers) bytes kept later part = part
+part_from a b out new (Waits name numbers) bytes kept later part = part
 part_from a b out new (Compile name file) bytes kept later part = holds_part_from a b new.host kept later file bytes part
 part_from a b out new (Show name) bytes kept later part = part
 
 elsewhere_from : (a b : HostState) (out : SinkState) (new : Devices) (c : Command) → KeepsFiles a b → Later a b
     → Elsewhere (devices b out) new c → Elsewhere (devices a out) new c
 elsewhere_from a b out new (Sim name numbers) kept later same = keeps_from a b new.host kept later same
+elsewhere_from a b out new (Waits name numbers) kept later same = keeps_from a b new.host kept later same
 elsewhere_from a b out new (Compile name file) kept later same = same
 elsewhere_from a b out new (Show name) kept later same = keeps_from a b new.host kept later same
 
@@ -75,6 +77,7 @@ elsewhere_from a b out new (Show name) kept later same = keeps_from a b new.host
 pub rose_from : (a b : HostState) (out : SinkState) (new : Devices) (c : Command) → KeepsFiles a b → Later a b
     → WritesRose (devices b out) new c → WritesRose (devices a out) new c
 rose_from a b out new (Sim name numbers) kept later rose = rose
+rose_from a b out new (Waits name numbers) kept later rose = rose
 rose_from a b out new (Compile name file) kept later rose = rw (later.stops, kept.write_count) at rose
 rose_from a b out new (Show name) kept later rose = rose
 
@@ -100,6 +103,7 @@ module _ (old new : Devices) where
   -- what was written whole was written in part
   whole_is_part : (c : Command) (bytes : List ℕ) → Gets old new c bytes → GetsPart old new c bytes
   whole_is_part (Sim name numbers) bytes got = all_is_part old.out new.out bytes got
+  whole_is_part (Waits name numbers) bytes got = all_is_part old.out new.out bytes got
   whole_is_part (Compile name file) bytes got = inr (length bytes, omega arith, rw (take-length bytes) got)
   whole_is_part (Show name) bytes got = all_is_part old.out new.out bytes got
 
@@ -148,6 +152,7 @@ module _ (old new : Devices) where
 
   elsewhere_untouched : (c : Command) → IsUntouched old new → Elsewhere old new c
   elsewhere_untouched (Sim name numbers) u = u.files
+  elsewhere_untouched (Waits name numbers) u = u.files
   elsewhere_untouched (Compile name file) u = u.sink
   elsewhere_untouched (Show name) u = u.files
 
@@ -190,6 +195,7 @@ module _ (old new : Devices) where
 
   held_writes : (c : Command) → WritesHeld old new c → WritesRose old new c → ⊥
   held_writes (Sim name numbers) held rose = omega arith
+  held_writes (Waits name numbers) held rose = omega arith
   held_writes (Compile name file) held rose = omega arith
   held_writes (Show name) held rose = omega arith
 
@@ -298,6 +304,7 @@ module _ (old new : Devices) where
 
   written_counts : (stuck : Bool) (c : Command) → IsWritten old new stuck c → SameWriteCounts
   written_counts stuck (Sim name numbers) w = record { sink = w.writes; files = w.elsewhere.write_count }
+  written_counts stuck (Waits name numbers) w = record { sink = w.writes; files = w.elsewhere.write_count }
   written_counts stuck (Compile name file) w = record { sink = ap (λ (s : SinkState). s.count) w.elsewhere; files = w.writes.0 }
   written_counts stuck (Show name) w = record { sink = w.writes; files = w.elsewhere.write_count }
 

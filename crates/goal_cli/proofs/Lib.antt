@@ -3,4 +3,3 @@ pub mod InputLemmas
 pub mod FileLemmas
 pub mod OutputLemmas
 pub mod RefusalLemmas
-pub mod TimelineLemmas

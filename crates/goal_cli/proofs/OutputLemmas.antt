@@ -1,25 +1,38 @@
 -- What is written is a function of the schedule and the parameters.
-use Rattle.std.proofs.Common.{◌≡◌, ℕ, Bool, List, sym, ap, ◌∙◌}
+use Rattle.std.proofs.Common.{◌≡◌, ℕ, Bool, List, sym, ap, ◌∙◌, subst}
+use Rattle.goal_graph.specs.declared.action.Timed.{Timed}
 use Rattle.goal_graph.specs.Schedule.{Plan}
 use Rattle.sim_params.specs.Costs.{CostModel, log_gops}
+use Rattle.sim_params.specs.Stuck.{is_stuck}
+use Rattle.sim_waits.specs.WaitsText.{IsWaitsText}
+use Rattle.sim_waits.proofs.OneReport.{one_report}
 use Rattle.goal_print.specs.Canonical.{canonical}
 use Rattle.goal_binary.specs.File.{file}
-use Rattle.goal_words.specs.Words.{Command, Sim, Compile, Show}
+use Rattle.goal_words.specs.Words.{Command, Sim, Waits, Compile, Show}
 use Rattle.goal_cli.specs.Input.{IsReadAs}
-use Rattle.goal_cli.specs.Output.{IsPrintedRun, IsOutput}
-use Rattle.goal_cli.specs.Timeline.{timeline, is_stuck}
+use Rattle.goal_cli.specs.Output.{run_text, IsPrintedRun, IsReportedRun, IsOutput}
 use Rattle.goal_cli.proofs.InputLemmas.{same_schedule}
 
 pub one_run : (costs : CostModel) (sched : List Plan) (one other : List ℕ) (stuck waits : Bool) → IsPrintedRun costs sched one stuck
     → IsPrintedRun costs sched other waits → (one ≡ other) × (stuck ≡ waits)
 one_run costs sched one other stuck waits a b =
     let same = b.only a.history a.complete in
-    (a.printed ∙ ap (timeline sched costs) same ∙ sym b.printed, a.stuck_is ∙ ap (is_stuck sched costs) same ∙ sym b.stuck_is)
+    (a.printed ∙ ap (run_text sched costs) same ∙ sym b.printed, a.stuck_is ∙ ap (is_stuck sched costs) same ∙ sym b.stuck_is)
+
+pub one_reported : (costs : CostModel) (sched : List Plan) (one other : List ℕ) (stuck waits : Bool) → IsReportedRun costs sched one stuck
+    → IsReportedRun costs sched other waits → (one ≡ other) × (stuck ≡ waits)
+one_reported costs sched one other stuck waits a b =
+    let same = b.only a.history a.complete in
+    (one_report sched costs b.history one other (subst (λ (h : List Timed). IsWaitsText sched costs h one) same a.reported) b.reported, a.stuck_is ∙ ap (is_stuck sched costs) same ∙ sym b.stuck_is)
 
 pub same_output : (c : Command) (input again : List ℕ) (sched : List Plan) (one other : List ℕ) (stuck waits : Bool) → IsReadAs input sched
     → IsReadAs again sched → IsOutput c input one stuck → IsOutput c again other waits → (one ≡ other) × (stuck ≡ waits)
 same_output (Sim name numbers) input again sched one other stuck waits r s a b =
     one_run (log_gops numbers) sched one other stuck waits
+    (rw (same_schedule input _ _ a.schedule.read r) at a.run)
+    (rw (same_schedule again _ _ b.schedule.read s) at b.run)
+same_output (Waits name numbers) input again sched one other stuck waits r s a b =
+    one_reported (log_gops numbers) sched one other stuck waits
     (rw (same_schedule input _ _ a.schedule.read r) at a.run)
     (rw (same_schedule again _ _ b.schedule.read s) at b.run)
 same_output (Compile name out) input again sched one other stuck waits r s a b =

@@ -4,7 +4,7 @@ use Rattle.goal_parser.specs.declared.faults.TextFault.{TextFault}
 use Rattle.goal_binary.specs.declared.fault.FileFault.{FileFault}
 use Rattle.goal_graph.specs.Schedule.{Plan}
 use Rattle.sim_params.specs.Costs.{Numbers}
-use Rattle.goal_words.specs.Words.{Command, Sim, Compile, Show}
+use Rattle.goal_words.specs.Words.{Command, Sim, Waits, Compile, Show}
 use Rattle.goal_cli.specs.declared.answer.Refusal.{Refusal}
 use Rattle.goal_cli.specs.declared.answer.Refusal.TheVariants.{TooLong, Text, File, Budget}
 use Rattle.goal_cli.specs.Input.{IsReadAs, IsTextFault, IsFaultOfFile}
@@ -14,6 +14,7 @@ use Rattle.goal_cli.proofs.InputLemmas.{same_schedule, same_text_fault, same_fil
 -- the input of a budget says a schedule
 budget_read : (c : Command) (input : List ℕ) (s : ℕ) → IsRefusedBudget c input s → (sched : List Plan) × IsReadAs input sched
 budget_read (Sim name numbers) input s a = (a.sched, a.read)
+budget_read (Waits name numbers) input s a = (a.sched, a.read)
 budget_read (Compile name out) input s a = absurd a
 budget_read (Show name) input s a = absurd a
 
@@ -25,6 +26,7 @@ same_sum numbers input s t a b =
 
 same_budget : (c : Command) (input : List ℕ) (s t : ℕ) → IsRefusedBudget c input s → IsRefusedBudget c input t → s ≡ t
 same_budget (Sim name numbers) input s t a b = same_sum numbers input s t a b
+same_budget (Waits name numbers) input s t a b = same_sum numbers input s t a b
 same_budget (Compile name out) input s t a b = absurd a
 same_budget (Show name) input s t a b = absurd a
 
@@ -55,6 +57,7 @@ same_refusal c input (Budget s) (Budget t) a b = let same = same_budget c input 
 -- what is there of an input says a schedule
 output_read : (c : Command) (input : List ℕ) (sched : List Plan) → HasOutput c input sched → IsReadAs input sched
 output_read (Sim name numbers) input sched a = a.read
+output_read (Waits name numbers) input sched a = a.read
 output_read (Compile name out) input sched a = a
 output_read (Show name) input sched a = a
 
@@ -67,6 +70,7 @@ fits numbers input sched s a b =
 
 output_fits : (c : Command) (input : List ℕ) (sched : List Plan) (s : ℕ) → HasOutput c input sched → IsRefusedBudget c input s → ⊥
 output_fits (Sim name numbers) input sched s a b = fits numbers input sched s a b
+output_fits (Waits name numbers) input sched s a b = fits numbers input sched s a b
 output_fits (Compile name out) input sched s a b = b
 output_fits (Show name) input sched s a b = b
 
@@ -80,5 +84,6 @@ no_refusal c input sched (Budget s) a b = output_fits c input sched s a b
 -- nor one for which there is an output
 pub output_had : (c : Command) (input output : List ℕ) (stuck : Bool) → IsOutput c input output stuck → (sched : List Plan) × HasOutput c input sched
 output_had (Sim name numbers) input output stuck a = (a.sched, a.schedule)
+output_had (Waits name numbers) input output stuck a = (a.sched, a.schedule)
 output_had (Compile name out) input output stuck a = (a.0.sched, a.0.read)
 output_had (Show name) input output stuck a = (a.0.sched, a.0.read)

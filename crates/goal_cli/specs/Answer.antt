@@ -5,7 +5,7 @@ use Rattle.goal_base.specs.declared.limits.TheConstants.{MAX_INPUT}
 use Rattle.goal_base.specs.Device.{HostState, SinkState, Rose, Held, KeepsFiles, SameRest, ReadsAtMost, SameReadCounts, Holds, HoldsPart, Grows, file_of, ReadFaulted}
 use Rattle.goal_graph.specs.Schedule.{Plan}
 use Rattle.sim_params.specs.Costs.{CostModel}
-use Rattle.goal_words.specs.Words.{Command, Sim, Compile, Show}
+use Rattle.goal_words.specs.Words.{Command, Sim, Waits, Compile, Show}
 use Rattle.goal_cli.specs.declared.answer.Answer.{Answer}
 use Rattle.goal_cli.specs.declared.answer.Answer.TheVariants as answer
 use Rattle.goal_cli.specs.declared.answer.Status.{Status}
@@ -17,6 +17,7 @@ use Rattle.goal_cli.specs.World.{Devices, World, but_err}
 -- the name of the input of a command
 abbrev pub input_of : Command → List ℕ
 input_of (Sim name numbers) = name
+input_of (Waits name numbers) = name
 input_of (Compile name out) = name
 input_of (Show name) = name
 
@@ -53,35 +54,41 @@ module _ (old new : Devices) where
   -- these bytes were written whole
   abbrev pub Gets : Command → List ℕ → Type 0
   Gets (Sim name numbers) bytes = Grows old.out new.out bytes
+  Gets (Waits name numbers) bytes = Grows old.out new.out bytes
   Gets (Compile name file) bytes = Holds old.host new.host file bytes
   Gets (Show name) bytes = Grows old.out new.out bytes
 
   -- nothing of them was written, or a prefix
   abbrev pub GetsPart : Command → List ℕ → Type 0
   GetsPart (Sim name numbers) bytes = GrowsByPart old.out new.out bytes
+  GetsPart (Waits name numbers) bytes = GrowsByPart old.out new.out bytes
   GetsPart (Compile name file) bytes = HoldsPart old.host new.host file bytes
   GetsPart (Show name) bytes = GrowsByPart old.out new.out bytes
 
   -- where the command doesn't write, all is as it was
   abbrev pub Elsewhere : Command → Type 0
   Elsewhere (Sim name numbers) = KeepsFiles old.host new.host
+  Elsewhere (Waits name numbers) = KeepsFiles old.host new.host
   Elsewhere (Compile name file) = new.out ≡ old.out
   Elsewhere (Show name) = KeepsFiles old.host new.host
 
   -- the count of faults of writing rose; it didn't, and doesn't stand where it stops
   abbrev pub WritesRose : Command → Type 0
   WritesRose (Sim name numbers) = Rose old.out.stops old.out.count new.out.count
+  WritesRose (Waits name numbers) = Rose old.out.stops old.out.count new.out.count
   WritesRose (Compile name file) = Rose old.host.stops old.host.write_count new.host.write_count
   WritesRose (Show name) = Rose old.out.stops old.out.count new.out.count
 
   abbrev pub WritesHeld : Command → Type 0
   WritesHeld (Sim name numbers) = Held old.out.stops old.out.count new.out.count
+  WritesHeld (Waits name numbers) = Held old.out.stops old.out.count new.out.count
   WritesHeld (Compile name file) = Held old.host.stops old.host.write_count new.host.write_count
   WritesHeld (Show name) = Held old.out.stops old.out.count new.out.count
 
   -- the count is as it was, and no file is left open to be written
   abbrev pub WritesSame : Command → Type 0
   WritesSame (Sim name numbers) = new.out.count ≡ old.out.count
+  WritesSame (Waits name numbers) = new.out.count ≡ old.out.count
   WritesSame (Compile name file) = (new.host.write_count ≡ old.host.write_count) × (new.host.writing ≡ false)
   WritesSame (Show name) = new.out.count ≡ old.out.count
 

@@ -1,7 +1,6 @@
 -- what a reader of the contract of `goal` believes
 pub mod World
 pub mod Input
-pub mod Timeline
 pub mod Output
 pub mod Refusal
 pub mod Answer

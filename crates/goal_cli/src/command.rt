@@ -27,8 +27,9 @@ const OUT_OF_MEMORY: &[u8] = b"goal: out of memory\n";
 
 /// Carries out a command line, given by the words after the program's name. Each reads a schedule from the file NAME of
 /// `host`, a text or a compiled file: `sim NAME`, with options for the parameters, runs it and writes the printed run to
-/// `out`; `compile NAME OUT` writes its compiled file to the file OUT; `show NAME` writes its canonical text to `out`.
-/// What went wrong is said in a line to `err`.
+/// `out`, with the reason for each stuck operation; `waits NAME`, with the same options, runs it and writes the report on
+/// waits to `out`; `compile NAME OUT` writes its compiled file to the file OUT; `show NAME` writes its canonical text to
+/// `out`. What went wrong is said in a line to `err`.
 ///
 /// Any status may give way to `NoMemory`. A failure of `err` changes no status. `laws_of_answers` lists what follows from
 /// `answered`, answer by answer.
@@ -41,7 +42,8 @@ pub fn goal<H: Host, W: Sink, E: Sink>(
 ) -> Status
     // For every file that is read as a schedule, in text or compiled, and all parameters whose time budget fits 63 bits,
     // unless want of memory is answered or a device fails, `out` gets the start, the end and the match of each operation
-    // in the one run where the least possible action by time and tie rule happens next.
+    // in the one run where the least possible action by time and tie rule happens next, and gives the reason for each
+    // stuck operation.
     ensures headline { (name : List ℕ) (p : Numbers) → command_in words.now ≡ Some (Sim name p)
         → IfFile (H.state host.old) name (λ input. (sched : List Plan) → HasRun p input sched
         → ReadsHeld (H.state host.old) (H.state host.new)
@@ -127,6 +129,7 @@ fn name_of(line: &Line) -> &str
 {
     match line {
         Line::Sim { name, .. } => name.as_str(),
+        Line::Waits { name, .. } => name.as_str(),
         Line::Compile { name, .. } => name.as_str(),
         Line::Show { name } => name.as_str(),
     }
@@ -154,6 +157,7 @@ fn put<H: Host, W: Sink>(
 {
     match line {
         Line::Sim { .. } => print(out, bytes),
+        Line::Waits { .. } => print(out, bytes),
         Line::Compile { out: name, .. } => write_file(host, name.as_str(), bytes),
         Line::Show { .. } => print(out, bytes),
     }

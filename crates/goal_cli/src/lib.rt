@@ -1,7 +1,7 @@
 //! The top call of `goal`: what each command line reads, makes and writes.
 //!
 //! Each command reads a schedule from the file NAME, a text or a compiled file. `sim NAME` runs it and prints when each
-//! operation starts and ends, `compile NAME OUT` writes its compiled file, `show NAME` its canonical text.
+//! operation starts and ends, `waits NAME` how long operations waited, `compile NAME OUT` writes its compiled file, `show NAME` its canonical text.
 #![tactic(auto)]
 
 mod answer;
@@ -11,7 +11,6 @@ mod output;
 mod refusal;
 #[cfg(test)]
 mod tests;
-mod timeline;
 
 pub use answer::Status;
 pub use command::goal;

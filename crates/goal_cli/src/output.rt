@@ -4,15 +4,15 @@ ghost use Rattle.goal_base.specs.declared.limits.TheConstants.{MAX_INPUT};
 ghost use Rattle.sim_params.specs.Numbers.{numbers};
 ghost use Rattle.sim_params.specs.Costs.{log_gops};
 ghost use Rattle.sim_params.specs.Budget.{budget};
+ghost use Rattle.sim_params.specs.Run.{IsFinished};
 ghost use Rattle.sim_events.specs.Engine.{IsBudgetFault};
 ghost use Rattle.goal_print.specs.Canonical.{canonical};
 ghost use Rattle.goal_binary.specs.File.{file};
 ghost use Rattle.goal_words.specs.Words.{Command, command};
 ghost use Rattle.goal_cli.specs.Input.{is_compiled, IsReadAs, IsTextFault, IsFaultOfFile};
-ghost use Rattle.goal_cli.specs.Output.{IsPrintedRun, IsOutput, IsStop};
+ghost use Rattle.goal_cli.specs.Output.{run_text, IsPrintedRun, IsReportedRun, IsRunOf, IsOutput, IsStop};
 
 use crate::answer::Refusal;
-use crate::timeline::timeline;
 use goal_base::NoMemory;
 use goal_binary::{FileFault, decode, encode, laws_of_files};
 use goal_graph::Sched;
@@ -21,6 +21,9 @@ use goal_print::print_text;
 use goal_words::Line;
 use sim_events::{Engine, EngineFault};
 use sim_params::{LogGops, Params};
+use sim_stuck::{explain, is_stuck, stuck_text};
+use sim_timeline::timeline;
+use sim_waits::waits;
 use std::alloc::Global;
 
 // What a command writes, and whether an operation of the run has no end.
@@ -90,6 +93,36 @@ fn read_input(alloc: Global, input: &[u8]) -> Result<Sched, Stop>
     }
 }
 
+// The run of a schedule, to its end.
+fn run(alloc: Global, sched: &Sched, params: Params) -> Result<Engine<'_, LogGops>, EngineFault>
+    ensures fits { OnOk result (budget sched.now (log_gops (numbers params)) < 2 ^ 63) }
+    ensures run { IfOk result (λ engine. IsRunOf (log_gops (numbers params)) sched.now engine) }
+    ensures fault { IfErr result (IsBudgetFault (budget sched.now (log_gops (numbers params)))) }
+{
+    match Engine::new(alloc, sched, LogGops { params }) {
+        Ok(engine) => {
+            let mut engine = engine;
+            engine.run();
+            Ok(engine)
+        }
+        Err(fault) => Err(fault),
+    }
+}
+
+// The timeline of a run that is over, and the lines of its stuck operations.
+fn run_text(alloc: Global, sched: &Sched, engine: &Engine<'_, LogGops>) -> Result<Vec<u8>, NoMemory>
+    requires same { engine.now.plans ≡ sched.now }
+    requires done { IsFinished engine.now.plans (log_gops (numbers engine.now.costs.params)) engine.now.history }
+    ensures { IfOk result (λ text.
+        text.items ≡ run_text sched.now (log_gops (numbers engine.now.costs.params)) engine.now.history) }
+{
+    let mut text = timeline(alloc, sched, engine)?;
+    let stuck = explain(alloc, sched, engine)?;
+    let lines = stuck_text(alloc, &stuck)?;
+    text.extend_from_slice(&lines)?;
+    Ok(text)
+}
+
 // The printed run of a schedule.
 fn print_run(alloc: Global, sched: &Sched, params: Params) -> Result<Output, EngineFault>
     ensures fits { OnOk result (budget sched.now (log_gops (numbers params)) < 2 ^ 63) }
@@ -97,13 +130,35 @@ fn print_run(alloc: Global, sched: &Sched, params: Params) -> Result<Output, Eng
         IsPrintedRun (log_gops (numbers params)) sched.now output.bytes.items output.stuck) }
     ensures fault { IfErr result (IsBudgetFault (budget sched.now (log_gops (numbers params)))) }
 {
-    let mut engine = match Engine::new(alloc, sched, LogGops { params }) {
+    let engine = match run(alloc, sched, params) {
         Ok(engine) => engine,
         Err(fault) => return Err(fault),
     };
-    engine.run();
-    match timeline(alloc, sched, &engine) {
-        Ok(output) => Ok(output),
+    match run_text(alloc, sched, &engine) {
+        Ok(bytes) => Ok(Output {
+            bytes,
+            stuck: is_stuck(&engine),
+        }),
+        Err(NoMemory) => Err(EngineFault::NoMemory),
+    }
+}
+
+// The report on the waits of the run of a schedule.
+fn report_waits(alloc: Global, sched: &Sched, params: Params) -> Result<Output, EngineFault>
+    ensures fits { OnOk result (budget sched.now (log_gops (numbers params)) < 2 ^ 63) }
+    ensures run { IfOk result (λ output.
+        IsReportedRun (log_gops (numbers params)) sched.now output.bytes.items output.stuck) }
+    ensures fault { IfErr result (IsBudgetFault (budget sched.now (log_gops (numbers params)))) }
+{
+    let engine = match run(alloc, sched, params) {
+        Ok(engine) => engine,
+        Err(fault) => return Err(fault),
+    };
+    match waits(alloc, sched, &engine) {
+        Ok(bytes) => Ok(Output {
+            bytes,
+            stuck: is_stuck(&engine),
+        }),
         Err(NoMemory) => Err(EngineFault::NoMemory),
     }
 }
@@ -140,6 +195,11 @@ fn output_of(alloc: Global, line: &Line, input: &[u8], sched: &Sched) -> Result<
 {
     match line {
         Line::Sim { params, .. } => match print_run(alloc, sched, *params) {
+            Ok(output) => Ok(output),
+            Err(EngineFault::Budget { sum }) => Err(Stop::Refused(Refusal::Budget { sum })),
+            Err(EngineFault::NoMemory) => Err(Stop::NoMemory),
+        },
+        Line::Waits { params, .. } => match report_waits(alloc, sched, *params) {
             Ok(output) => Ok(output),
             Err(EngineFault::Budget { sum }) => Err(Stop::Refused(Refusal::Budget { sum })),
             Err(EngineFault::NoMemory) => Err(Stop::NoMemory),

@@ -13,6 +13,8 @@ use Rattle.goal_words.specs.Options.{numbers_of}
 pub data Command : Type 0 where
   -- to run the schedule of the file of that name with these parameters
   Sim : List ℕ → Numbers → Command
+  -- to run it in the same way, and to report how long its operations waited
+  Waits : List ℕ → Numbers → Command
   -- to write its compiled file to the file of the second name
   Compile : List ℕ → List ℕ → Command
   -- to write its canonical text
@@ -27,6 +29,11 @@ begins_dash (b ∷ bs) = b == 45
 abbrev pub sim_of : List (List ℕ) → Option Command
 sim_of [] = None
 sim_of (name ∷ options) = if begins_dash name then None else option_map (Sim name) (numbers_of options)
+
+-- `waits NAME`, and then its options
+abbrev pub waits_of : List (List ℕ) → Option Command
+waits_of [] = None
+waits_of (name ∷ options) = if begins_dash name then None else option_map (Waits name) (numbers_of options)
 
 -- `compile NAME OUT`
 abbrev pub compile_of : List (List ℕ) → Option Command
@@ -43,7 +50,7 @@ abbrev pub command_of : List (List ℕ) → Option Command
 command_of [] = None
 command_of (first ∷ words) =
     if bytes_eq first (codes "sim") then sim_of words
-    else (if bytes_eq first (codes "compile") then compile_of words else (if bytes_eq first (codes "show") then show_of words else None))
+    else (if bytes_eq first (codes "waits") then waits_of words else (if bytes_eq first (codes "compile") then compile_of words else (if bytes_eq first (codes "show") then show_of words else None)))
 
 -- the same of the words as they are handed over
 abbrev pub command_in : List (String Global) → Option Command
@@ -52,5 +59,6 @@ command_in words = command_of (map string_bytes words)
 -- the command of a line
 abbrev pub command : Line → Command
 command (line.Sim name params) = Sim name (numbers params)
+command (line.Waits name params) = Waits name (numbers params)
 command (line.Compile name out) = Compile name out
 command (line.Show name) = Show name

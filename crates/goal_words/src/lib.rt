@@ -1,6 +1,7 @@
 //! The command line of `goal`: what its words ask for.
 //!
 //!     sim NAME [--L N] [--o N] [--g N] [--G N] [--Gp N] [--O N] [--Op N] [--S N]
+//!     waits NAME [the same options]
 //!     compile NAME OUT
 //!     show NAME
 //!

@@ -2,7 +2,7 @@
 ghost use Rattle.std.specs.Prelude.{◌≡◌, None, Some, ◌⊎◌, true, false, IfOk, IfErr, OnOk, IsErrOf, map, string_bytes};
 ghost use Rattle.sim_params.specs.Numbers.{numbers};
 ghost use Rattle.goal_words.specs.Options.{numbers_of};
-ghost use Rattle.goal_words.specs.Words.{command, command_in, command_of, sim_of, compile_of, show_of, begins_dash, Sim, Compile, Show};
+ghost use Rattle.goal_words.specs.Words.{command, command_in, command_of, sim_of, waits_of, compile_of, show_of, begins_dash, Sim, Waits, Compile, Show};
 
 use crate::options::read_options;
 use sim_params::Params;
@@ -37,6 +37,8 @@ impl FileName {
 pub enum Line {
     /// To run the schedule of the file `name` with these parameters, and to print the run.
     Sim { name: FileName, params: Params },
+    /// To run it in the same way, and to print how long its operations waited.
+    Waits { name: FileName, params: Params },
     /// To write the compiled file of the schedule of `name` to the file `out`.
     Compile { name: FileName, out: FileName },
     /// To print the canonical text of the schedule of `name`.
@@ -77,6 +79,7 @@ pub fn read_words(alloc: Global, words: &[String]) -> Result<Line, LineFault>
     };
     match first.as_str() {
         "sim" => read_sim(alloc, words),
+        "waits" => read_waits(alloc, words),
         "compile" => read_compile(alloc, words),
         "show" => read_show(alloc, words),
         _ => Err(LineFault::Bad),
@@ -110,6 +113,24 @@ fn read_sim(alloc: Global, words: &[String]) -> Result<Line, LineFault>
     };
     match read_options(options) {
         Some(params) => Ok(Line::Sim { name, params }),
+        None => Err(LineFault::Bad),
+    }
+}
+
+// The words after `waits`.
+fn read_waits(alloc: Global, words: &[String]) -> Result<Line, LineFault>
+    ensures line { IfOk result (λ line. waits_of (map string_bytes words.now) ≡ Some (command line)) }
+    ensures bad { IfErr result (λ fault. fault ≡ LineFault.Bad → waits_of (map string_bytes words.now) ≡ None) }
+{
+    let Some((name, options)) = words.split_first() else {
+        return Err(LineFault::Bad);
+    };
+    let name = match read_name(alloc, name) {
+        Ok(name) => name,
+        Err(fault) => return Err(fault),
+    };
+    match read_options(options) {
+        Some(params) => Ok(Line::Waits { name, params }),
         None => Err(LineFault::Bad),
     }
 }

@@ -5,9 +5,11 @@
 mod lines;
 mod partner;
 mod reasons;
+mod stuck;
 
 pub use lines::stuck_text;
 pub use reasons::explain;
+pub use stuck::is_stuck;
 
 #[cfg(test)]
 mod tests;

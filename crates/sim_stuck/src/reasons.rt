@@ -120,8 +120,8 @@ fn is_met<C: Costs>(engine: &Engine<'_, C>, when: When, id: OpId) -> bool
     }
 }
 
-// Whether an operation has an end.
-fn has_ended<C: Costs>(engine: &Engine<'_, C>, id: OpId) -> bool
+/// Whether an operation has an end.
+pub fn has_ended<C: Costs>(engine: &Engine<'_, C>, id: OpId) -> bool
     requires { IsOp engine.now.plans id }
     ensures { result ≡ has_ended engine.now.plans (is_eager engine.now.plans (C.model engine.now.costs)) id
         (plain engine.now.history) }

@@ -1,14 +1,20 @@
-use Rattle.std.proofs.Common.{◌∙◌}
+use Rattle.std.proofs.Common.{List, ap, ◌∙◌}
+use Rattle.goal_graph.specs.Schedule.{Plan}
+use Rattle.sim_params.specs.Costs.{CostModel, log_gops}
+use Rattle.sim_params.specs.Numbers.{numbers}
+use Rattle.sim_params.specs.Stuck.{is_stuck}
+use Rattle.goal_cli.specs.Output.{run_text}
 use Rattle.goal_cli.proofs.output.print_run.Goals as goal
 
-pub returns-in-Ok-timeline-clause-run : goal.returns-in-Ok-timeline-clause-run
-returns-in-Ok-timeline-clause-run c =
-    let plans = c.run.ensures.plans ∙ c.in-Ok.ensures.plans in
-    let costs = c.run.ensures.costs ∙ c.in-Ok.ensures.costs in
+pub returns-in-Ok-run_text-clause-run : goal.returns-in-Ok-run_text-clause-run
+returns-in-Ok-run_text-clause-run c =
+    let r = c.in-Ok.ensures.run in
+    let h = c.in-Ok.engine.history in
     record {
-      history = c.run.new.self.history;
-      complete = rw (plans, costs) at c.run.ensures.complete;
-      only = rw (plans, costs) at c.run.ensures.only;
-      printed = rw costs at c.in-Ok-timeline.ensures.printed;
-      stuck_is = rw costs at c.in-Ok-timeline.ensures.stuck;
+      history = h;
+      complete = r.complete;
+      only = r.only;
+      printed = c.in-Ok-run_text.ensures ∙ ap (λ (costs : CostModel). run_text c.args.sched.now costs h) r.costs_are;
+      stuck_is =
+          c.is_stuck.ensures ∙ ap (λ (sched : List Plan). is_stuck sched (log_gops (numbers c.in-Ok.engine.costs.params)) h) r.plans ∙ ap (λ (costs : CostModel). is_stuck c.args.sched.now costs h) r.costs_are;
     }
