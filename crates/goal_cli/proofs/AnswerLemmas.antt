@@ -2,7 +2,7 @@
 use Rattle.std.proofs.Common.{◌≡◌, ◌≢◌, ℕ, ◌<◌, ◌⊎◌, Bool, true, false, List, length, Option, Some, None, IfSome, IsSomeAnd, inl, inr, refl, sym, ap, ◌∙◌, arith}
 use Rattle.std.proofs.Math.Seq.{take-length}
 use Rattle.std.specs.FinMap.{insert}
-use Rattle.goal_base.specs.Device.{HostState, SinkState, Files, Later, KeepsFiles, SameFiles, Holds, HoldsPart, Held, Grows, file_of, ReadFaulted, SameReadCounts, Rose}
+use Rattle.goal_base.specs.Device.{HostState, SinkState, Files, Later, KeepsFiles, SameFiles, Holds, HoldsPart, Held, Grows, file_of, ReadFaulted, SameReadCounts}
 use Rattle.goal_graph.specs.Schedule.{Plan}
 use Rattle.sim_params.specs.Costs.{Numbers, log_gops}
 use Rattle.goal_words.specs.Words.{Command, Sim, Waits, Compile, Show}

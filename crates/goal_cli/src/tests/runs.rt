@@ -14,7 +14,9 @@ struct Run<'a> {
 
 const USUAL: &[&str] = &["sim", "a"];
 
-const RUNS: [Run<'static>; 15] = [
+const WAITS: &[&str] = &["waits", "a"];
+
+const RUNS: [Run<'static>; 20] = [
     Run {
         text: "num_ranks 1",
         words: USUAL,
@@ -97,13 +99,43 @@ const RUNS: [Run<'static>; 15] = [
         text: "num_ranks 2 rank 0 { send 10b to 1 tag 7 } rank 1 { recv 10b from any tag any recv 10b from 0 tag 7 }",
         words: USUAL,
         status: Status::Stuck,
-        out: "ranks 2 ops 3 stuck 1 unread 0 finish 5554\nop 0 0 send start 0 end 1500 match 1 0\nop 1 0 recv start 0 end 5554 match 0 0\nop 1 1 recv start 0 end - match -\n",
+        out: "ranks 2 ops 3 stuck 1 unread 0 finish 5554\nop 0 0 send start 0 end 1500 match 1 0\nop 1 0 recv start 0 end 5554 match 0 0\nop 1 1 recv start 0 end - match -\nstuck 1 1 alone\n",
     },
     Run {
         text: "num_ranks 2 rank 0 { s: send 100000b to 1 r: recv 100000b from 1 r requires s } rank 1 { s: send 100000b to 0 r: recv 100000b from 0 r requires s }",
         words: USUAL,
         status: Status::Stuck,
-        out: "ranks 2 ops 4 stuck 4 unread 2 finish 0\nop 0 0 send start 0 end - match -\nop 0 1 recv start - end - match -\nop 1 0 send start 0 end - match -\nop 1 1 recv start - end - match -\n",
+        out: "ranks 2 ops 4 stuck 4 unread 2 finish 0\nop 0 0 send start 0 end - match -\nop 0 1 recv start - end - match -\nop 1 0 send start 0 end - match -\nop 1 1 recv start - end - match -\nstuck 0 0 for partner 1 1\nstuck 0 1 for op 0 0\nstuck 1 0 for partner 0 1\nstuck 1 1 for op 1 0\n",
+    },
+    Run {
+        text: "num_ranks 1",
+        words: WAITS,
+        status: Status::Done,
+        out: "rank 0 ended 0 wait 0\n",
+    },
+    Run {
+        text: TWO_WORDS,
+        words: WAITS,
+        status: Status::Done,
+        out: "rank 0 ended 3 wait 0\n",
+    },
+    Run {
+        text: "num_ranks 2 rank 0 { send 10b to 1 } rank 1 { recv 4b from 0 }",
+        words: &["waits", "a", "--O", "1"],
+        status: Status::Done,
+        out: "rank 0 ended 1 wait 0\nrank 1 ended 1 wait 4054\nwait 1 0 4054\noversize 1 0 room 4 message 10\n",
+    },
+    Run {
+        text: "num_ranks 2 rank 0 { s: send 100000b to 1 r: recv 100000b from 1 r requires s } rank 1 { s: send 100000b to 0 r: recv 100000b from 0 r requires s }",
+        words: WAITS,
+        status: Status::Stuck,
+        out: "rank 0 ended 0 wait 0\nrank 1 ended 0 wait 0\n",
+    },
+    Run {
+        text: "num_ranks 1 rank 0 { calc 2 cpu 0 calc 1 cpu 0 calc 2 cpu 1 calc 1 cpu 1 calc 2 cpu 2 calc 1 cpu 2 calc 2 cpu 3 calc 1 cpu 3 calc 2 cpu 4 calc 1 cpu 4 calc 2 cpu 5 calc 1 cpu 5 calc 2 cpu 6 calc 1 cpu 6 calc 2 cpu 7 calc 1 cpu 7 calc 2 cpu 8 calc 1 cpu 8 calc 2 cpu 9 calc 1 cpu 9 calc 2 cpu 10 calc 1 cpu 10 }",
+        words: WAITS,
+        status: Status::Done,
+        out: "rank 0 ended 22 wait 22\nwait 0 1 2\nwait 0 3 2\nwait 0 5 2\nwait 0 7 2\nwait 0 9 2\nwait 0 11 2\nwait 0 13 2\nwait 0 15 2\nwait 0 17 2\nwait 0 19 2\n",
     },
 ];
 
