@@ -16,7 +16,7 @@ const USUAL: &[&str] = &["sim", "a"];
 
 const WAITS: &[&str] = &["waits", "a"];
 
-const RUNS: [Run<'static>; 20] = [
+const RUNS: [Run<'static>; 21] = [
     Run {
         text: "num_ranks 1",
         words: USUAL,
@@ -106,6 +106,12 @@ const RUNS: [Run<'static>; 20] = [
         words: USUAL,
         status: Status::Stuck,
         out: "ranks 2 ops 4 stuck 4 unread 2 finish 0\nop 0 0 send start 0 end - match -\nop 0 1 recv start - end - match -\nop 1 0 send start 0 end - match -\nop 1 1 recv start - end - match -\nstuck 0 0 for partner 1 1\nstuck 0 1 for op 0 0\nstuck 1 0 for partner 0 1\nstuck 1 1 for op 1 0\n",
+    },
+    Run {
+        text: "num_ranks 2 rank 0 { calc 100 send 10b to 1 } rank 1 { calc 5000 recv 4b from 0 }",
+        words: WAITS,
+        status: Status::Done,
+        out: "rank 0 ended 2 wait 100\nrank 1 ended 2 wait 5000\nwait 1 1 5000\nwait 0 1 100\noversize 1 1 room 4 message 10\n",
     },
     Run {
         text: "num_ranks 1",
