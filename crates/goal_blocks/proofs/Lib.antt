@@ -1,3 +1,4 @@
 pub mod Channels
 pub mod Matched
 pub mod Race
+pub mod Walk

@@ -1,6 +1,6 @@
 -- When a schedule is certified, for stores that hold `first` at the start and slots whose
 -- values at the end are to pass the test `wanted`.
--- Each condition is readable alone. They stand in the order in which faults are told.
+-- Each condition is readable alone.
 use Rattle.std.specs.Prelude.{ℕ, ◌+◌, ◌-◌, ◌^◌, ◌≡◌, ◌<◌, ◌≤◌, ◌⊎◌, Bool, true, List, [], ◌∷◌, length, All, Option, Some}
 use Rattle.std.specs.List.{sum_by}
 use Rattle.goal_graph.specs.declared.action.OpId.{OpId}

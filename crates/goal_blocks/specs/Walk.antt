@@ -35,3 +35,9 @@ pub record HasNoStall (plans : List Plan) : Type 0 where
   pub walk : List Act
   pub is_walk : IsWalk plans walk
   pub all_end : AllEnd plans no_send walk
+
+-- The law, for all schedules. The functions `laws_of_..` ensure it.
+
+-- a schedule has at most one walk
+abbrev pub OneWalk : Type 0
+OneWalk = (plans : List Plan) (v w : List Act) → IsWalk plans v → IsWalk plans w → v ≡ w

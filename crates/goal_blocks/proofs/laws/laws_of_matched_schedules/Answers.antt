@@ -1,6 +1,7 @@
 -- Each law is a lemma.
 use Rattle.goal_blocks.proofs.Channels.{channels_apart}
 use Rattle.goal_blocks.proofs.Matched.{ends_in_its_pairs}
+use Rattle.goal_blocks.proofs.Walk.{one_walk}
 use Rattle.goal_blocks.proofs.laws.laws_of_matched_schedules.Goals as goal
 
 pub returns-clause-channels_are_apart : goal.returns-clause-channels_are_apart
@@ -8,3 +9,6 @@ returns-clause-channels_are_apart c = λ plans known single. channels_apart plan
 
 pub returns-clause-matched_ends_in_its_pairs : goal.returns-clause-matched_ends_in_its_pairs
 returns-clause-matched_ends_in_its_pairs c = λ plans eager h matched done. ends_in_its_pairs plans eager h matched done
+
+pub returns-clause-one_walk : goal.returns-clause-one_walk
+returns-clause-one_walk c = λ plans v w walk other. one_walk plans v w walk other
