@@ -19,3 +19,5 @@ pub mod Performed
 pub mod Views
 pub mod TurnLemmas
 pub mod Choice
+pub mod Numbering
+pub mod Lifts

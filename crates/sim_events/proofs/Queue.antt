@@ -1,8 +1,7 @@
 -- The queue of an engine: its bounds stay, are put anew, and lead to the action that is next.
-use Rattle.std.proofs.Common.{◌≡◌, ◌≢◌, ◌+◌, ◌<◌, ◌≤◌, ◌⊎◌, ◌==◌, ℕ, zero, suc, Bool, true, false, not, cond, List, [], ◌∷◌, Contains, length, drop, set, get_or, slice_get, slice_set, count_by, Option, Some, None, IfSome, inl, inr, refl, sym, ap, ◌∙◌, subst, arith, eq-eqb}
-use Rattle.std.proofs.lemmas.Bool.{cases_eq, cases_Bool, cases_lt, both_ways, ne_eqb}
+use Rattle.std.proofs.Common.{◌≡◌, ◌≢◌, ◌+◌, ◌<◌, ◌≤◌, ◌⊎◌, ℕ, zero, suc, Bool, true, false, cond, List, [], ◌∷◌, Contains, length, drop, set, get_or, slice_get, slice_set, Option, Some, None, inl, inr, refl, sym, ap, ◌∙◌, subst, arith}
+use Rattle.std.proofs.lemmas.Bool.{cases_eq, cases_Bool, cases_lt, both_ways}
 use Rattle.std.proofs.lemmas.List.{get_or-set_same, get_or-set_other, get_or_past, length-set, drop_more, drop_all}
-use Rattle.std.proofs.lemmas.List.Sums.{sum_by-set}
 use Rattle.std.proofs.lemmas.Option.{slice_get-get_or, slice_get_within, same_Some}
 use Rattle.goal_graph.specs.declared.action.OpId.{OpId}
 use Rattle.goal_graph.specs.declared.action.Timed.{Timed}
@@ -30,7 +29,9 @@ use Rattle.sim_params.proofs.Interleavings.{run_interleaving, possible_at}
 use Rattle.sim_params.proofs.Queue.{least_is_next}
 use Rattle.sim_order.specs.Events.{event_before}
 use Rattle.sim_resources.proofs.OfKind.{send_is_op, receive_is_op}
+use Rattle.sim_queue.specs.Groups.{Grouped}
 use Rattle.sim_queue.specs.Map.{key_at, IsEmptyMap, IsLeast}
+use Rattle.sim_events.specs.Stations.{AreStationed}
 use Rattle.sim_events.specs.Queue.{IsNamedIn, IsIdle, IsTurnOf, IsEarly, IsBoundOf, IsQueueBut, IsQueue, IsRefreshed, IsConcerned}
 use Rattle.sim_events.proofs.After.{other_op}
 use Rattle.sim_events.proofs.Keys.{before_event}
@@ -143,42 +144,45 @@ module _ (plans : List Plan) (costs : CostModel) where
         })
 
     -- so after an action those are due that it concerns
-    pub queue_after : (keys : List (Option Timed)) → IsQueue plans costs h keys → IsQueueBut plans costs (a ∷ h) (IsConcerned plans costs (a ∷ h) a.op) keys
-    queue_after keys q = record {
+    pub queue_after : (queue : Grouped Timed) → IsQueue plans costs h queue → IsQueueBut plans costs (a ∷ h) (IsConcerned plans costs (a ∷ h) a.op) queue
+    queue_after queue q = record {
       each = q.each;
-      bounds = λ i x e. elim (q.bounds i x e) [ inl b ↦ bound_stays x (key_at keys i) b | inr none ↦ absurd none ];
+      bounds = λ i x e. elim (q.bounds i x e) [ inl b ↦ bound_stays x (key_at queue.keys i) b | inr none ↦ absurd none ];
+      stationed = q.stationed;
     }
 
   module _ (h : List Timed) where
     -- where an operation has got its key it is no longer due
-    pub refreshed : (Due Later : OpId → Type 0) (old new : List (Option Timed)) (x : OpId) → IsQueueBut plans costs h Due old → IsRefreshed plans costs h x old new → ((y : OpId) → IsOp plans y → Due y → ¬ (y ≡ x) → Later y) → IsQueueBut plans costs h Later new
+    pub refreshed : (Due Later : OpId → Type 0) (old new : Grouped Timed) (x : OpId) → IsQueueBut plans costs h Due old → IsRefreshed plans costs h x old new → ((y : OpId) → IsOp plans y → Due y → ¬ (y ≡ x) → Later y) → IsQueueBut plans costs h Later new
     refreshed Due Later old new x q r still = record {
-      each = ap length r.put ∙ length-set old r.slot r.key ∙ q.each;
-      bounds = λ i y e. subst (λ (ks : List (Option Timed)). IsBoundOf plans costs h y (key_at ks i) ⊎ Later y) (sym r.put) (go i y e (cases_eq i r.slot));
+      each = ap (λ (g : Grouped Timed). length g.keys) r.put ∙ length-set old.keys r.slot r.key ∙ q.each;
+      bounds = λ i y e. subst (λ (g : Grouped Timed). IsBoundOf plans costs h y (key_at g.keys i) ⊎ Later y) (sym r.put) (go i y e (cases_eq i r.slot));
+      stationed = subst (λ (g : Grouped Timed). AreStationed plans g.groups) (sym r.put) q.stationed;
     }
       where
-        within : r.slot < length old
+        within : r.slot < length old.keys
         within = omega (arith, q.each, slice_get_within (operations plans) r.slot x r.is_slot)
 
-        go : (i : ℕ) (y : OpId) → slice_get (operations plans) i ≡ Some y → (i ≡ r.slot) ⊎ (i ≢ r.slot) → IsBoundOf plans costs h y (key_at (set old r.slot r.key) i) ⊎ Later y
+        go : (i : ℕ) (y : OpId) → slice_get (operations plans) i ≡ Some y → (i ≡ r.slot) ⊎ (i ≢ r.slot) → IsBoundOf plans costs h y (key_at (set old.keys r.slot r.key) i) ⊎ Later y
         go i y e (inl s) =
             let same : x ≡ y = same_Some x y (sym r.is_slot ∙ ap (slice_get (operations plans)) (sym s) ∙ e) in
-            let here : key_at (set old r.slot r.key) i ≡ r.key = ap (key_at (set old r.slot r.key)) s ∙ get_or-set_same old r.slot r.key None within in
+            let here : key_at (set old.keys r.slot r.key) i ≡ r.key = ap (key_at (set old.keys r.slot r.key)) s ∙ get_or-set_same old.keys r.slot r.key None within in
             inl (subst (λ (k : Option Timed). IsBoundOf plans costs h y k) (sym here) (subst (λ (z : OpId). IsBoundOf plans costs h z r.key) same r.bound))
         go i y e (inr d) =
-            let there : key_at (set old r.slot r.key) i ≡ key_at old i = get_or-set_other old r.slot i r.key None d in
+            let there : key_at (set old.keys r.slot r.key) i ≡ key_at old.keys i = get_or-set_other old.keys r.slot i r.key None d in
             elim (q.bounds i y e) [ inl b ↦ inl (subst (λ (k : Option Timed). IsBoundOf plans costs h y k) (sym there) b) | inr due ↦ inr (still y (listed_exists plans i y e) due (other_place plans i r.slot y x e r.is_slot d)) ]
 
     -- fewer are due
-    pub fewer_due : (Due Later : OpId → Type 0) (keys : List (Option Timed)) → IsQueueBut plans costs h Due keys → ((y : OpId) → IsOp plans y → Due y → Later y) → IsQueueBut plans costs h Later keys
-    fewer_due Due Later keys q still = record {
+    pub fewer_due : (Due Later : OpId → Type 0) (queue : Grouped Timed) → IsQueueBut plans costs h Due queue → ((y : OpId) → IsOp plans y → Due y → Later y) → IsQueueBut plans costs h Later queue
+    fewer_due Due Later queue q still = record {
       each = q.each;
       bounds = λ i y e. elim (q.bounds i y e) [ inl b ↦ inl b | inr due ↦ inr (still y (listed_exists plans i y e) due) ];
+      stationed = q.stationed;
     }
 
     -- where all are due nothing is asked
-    pub all_due : (Due : OpId → Type 0) (keys : List (Option Timed)) → length keys ≡ length (operations plans) → ((y : OpId) → Due y) → IsQueueBut plans costs h Due keys
-    all_due Due keys e every = record { each = e; bounds = λ i y f. inr (every y) }
+    pub all_due : (Due : OpId → Type 0) (queue : Grouped Timed) → length queue.keys ≡ length (operations plans) → AreStationed plans queue.groups → ((y : OpId) → Due y) → IsQueueBut plans costs h Due queue
+    all_due Due queue e stationed every = record { each = e; bounds = λ i y f. inr (every y); stationed = stationed }
 
     -- a key of the queue is early, and stands in the slot of its operation
     pub record IsFound (keys : List (Option Timed)) (slot : ℕ) (e : Timed) : Type 0 where
@@ -186,40 +190,40 @@ module _ (plans : List Plan) (costs : CostModel) where
       pub is_slot : slice_get (operations plans) slot ≡ Some e.op
       pub early : IsEarly plans costs h e.op e
 
-    pub key_found : (keys : List (Option Timed)) (slot : ℕ) (e : Timed) → IsQueue plans costs h keys → key_at keys slot ≡ Some e → IsFound keys slot e
-    key_found keys slot e q has = go (cases_lt slot (length keys))
+    pub key_found : (queue : Grouped Timed) (slot : ℕ) (e : Timed) → IsQueue plans costs h queue → key_at queue.keys slot ≡ Some e → IsFound queue.keys slot e
+    key_found queue slot e q has = go (cases_lt slot (length queue.keys))
       where
-        found : slot < length keys → (x : OpId) → slice_get (operations plans) slot ≡ Some x → IsEarly plans costs h x e → IsFound keys slot e
+        found : slot < length queue.keys → (x : OpId) → slice_get (operations plans) slot ≡ Some x → IsEarly plans costs h x e → IsFound queue.keys slot e
         found l x at early = record {
           within = l;
           is_slot = at ∙ ap Some (sym early.op);
           early = record { op = refl; allowed = early.allowed; not_later = early.not_later };
         }
 
-        bound : (x : OpId) → IsBoundOf plans costs h x (key_at keys slot) ⊎ ⊥ → IsEarly plans costs h x e
+        bound : (x : OpId) → IsBoundOf plans costs h x (key_at queue.keys slot) ⊎ ⊥ → IsEarly plans costs h x e
         bound x (inl b) = subst (λ (k : Option Timed). IsBoundOf plans costs h x k) has b
         bound x (inr none) = absurd none
 
-        go : (slot < length keys) ⊎ (length keys ≤ slot) → IsFound keys slot e
-        go (inr l) = let none : key_at keys slot ≡ None = get_or_past keys slot None l in absurd (cc)
+        go : (slot < length queue.keys) ⊎ (length queue.keys ≤ slot) → IsFound queue.keys slot e
+        go (inr l) = let none : key_at queue.keys slot ≡ None = get_or_past queue.keys slot None l in absurd (cc)
         go (inl l) =
             let at : slice_get (operations plans) slot ≡ Some (get_or (operations plans) slot e.op) = slice_get-get_or (operations plans) slot e.op (omega (arith, l, q.each)) in
             found l _ at (bound _ (q.bounds slot _ at))
 
     -- a key that is raised to the time of its action
-    pub raised : (keys new : List (Option Timed)) (slot : ℕ) (e a : Timed) → IsQueue plans costs h keys → key_at keys slot ≡ Some e → Possible plans costs h a → a.op ≡ e.op → new ≡ slice_set keys slot (Some a) → IsQueue plans costs h new
-    raised keys new slot e a q has p o put =
+    pub raised : (queue new : Grouped Timed) (slot : ℕ) (e a : Timed) → IsQueue plans costs h queue → key_at queue.keys slot ≡ Some e → Possible plans costs h a → a.op ≡ e.op → new ≡ record { keys = slice_set queue.keys slot (Some a); groups = queue.groups } → IsQueue plans costs h new
+    raised queue new slot e a q has p o put =
         let early : IsEarly plans costs h e.op a = record { op = o; allowed = p.allowed; not_later = omega (arith, p.time) } in
-        let put_anew : IsRefreshed plans costs h e.op keys new = record { slot = slot; is_slot = (key_found keys slot e q has).is_slot; key = Some a; bound = early; put = put } in
-        refreshed (λ (y : OpId). ⊥) (λ (y : OpId). ⊥) keys new e.op q put_anew (λ y o none d. none)
+        let put_anew : IsRefreshed plans costs h e.op queue new = record { slot = slot; is_slot = (key_found queue slot e q has).is_slot; key = Some a; bound = early; put = put } in
+        refreshed (λ (y : OpId). ⊥) (λ (y : OpId). ⊥) queue new e.op q put_anew (λ y o none d. none)
 
-    module _ (run : IsRun plans costs h) (keys : List (Option Timed)) (q : IsQueue plans costs h keys) where
+    module _ (run : IsRun plans costs h) (queue : Grouped Timed) (q : IsQueue plans costs h queue) where
       abbrev InQueue : Timed → Type 0
-      InQueue e = (slot : ℕ) × (key_at keys slot ≡ Some e)
+      InQueue e = (slot : ℕ) × (key_at queue.keys slot ≡ Some e)
 
       -- each possible action has an early key
       each_bound : (b : Timed) → Possible plans costs h b → HasBound InQueue b
-      each_bound b p = go (key_at keys slot) refl (bound (q.bounds slot b.op at))
+      each_bound b p = go (key_at queue.keys slot) refl (bound (q.bounds slot b.op at))
         where
           listed : Contains (operations plans) b.op
           listed = allowed_listed plans (is_eager plans costs) (plain h) b.class b.op p.allowed
@@ -230,11 +234,11 @@ module _ (plans : List Plan) (costs : CostModel) where
           at : slice_get (operations plans) slot ≡ Some b.op
           at = slice_get-get_or (operations plans) slot b.op listed.1 ∙ ap Some listed.2
 
-          bound : IsBoundOf plans costs h b.op (key_at keys slot) ⊎ ⊥ → IsBoundOf plans costs h b.op (key_at keys slot)
+          bound : IsBoundOf plans costs h b.op (key_at queue.keys slot) ⊎ ⊥ → IsBoundOf plans costs h b.op (key_at queue.keys slot)
           bound (inl x) = x
           bound (inr none) = absurd none
 
-          go : (k : Option Timed) → key_at keys slot ≡ k → IsBoundOf plans costs h b.op k → HasBound InQueue b
+          go : (k : Option Timed) → key_at queue.keys slot ≡ k → IsBoundOf plans costs h b.op k → HasBound InQueue b
           go None e idle = absurd (both_ways _ (idle b.class) p.allowed)
           go (Some e) has early =
               let class : e.class ≡ b.class = one_allowed plans (is_eager plans costs) (plain h) e.class b.class b.op (run_interleaving plans costs h run) (subst (λ (x : OpId). allowed plans (is_eager plans costs) (plain h) e.class x ≡ true) early.op early.allowed) p.allowed in
@@ -248,58 +252,34 @@ module _ (plans : List Plan) (costs : CostModel) where
               }
 
       -- an empty queue: nothing is possible
-      pub finished : IsEmptyMap keys → IsFinished plans costs h
+      pub finished : IsEmptyMap queue.keys → IsFinished plans costs h
       finished empty b p =
           let e = each_bound b p in
-          let none : key_at keys e.queued.0 ≡ None = empty e.queued.0 in
-          let some : key_at keys e.queued.0 ≡ Some e.entry = e.queued.1 in
+          let none : key_at queue.keys e.queued.0 ≡ None = empty e.queued.0 in
+          let some : key_at queue.keys e.queued.0 ≡ Some e.entry = e.queued.1 in
           absurd (cc)
 
       -- the least key at its right time is next
-      pub least_next : (slot : ℕ) (e : Timed) → IsLeast event_before keys slot e → Possible plans costs h e → IsNext plans costs h e
+      pub least_next : (slot : ℕ) (e : Timed) → IsLeast event_before queue.keys slot e → Possible plans costs h e → IsNext plans costs h e
       least_next slot e least p =
           least_is_next plans costs InQueue h e each_bound (λ k queued l. both_ways _ (least.least queued.0 k queued.1) (before_event k e l)) p
 
       -- and so is the action of its class and operation at that time
-      pub found_next : (slot : ℕ) (e a : Timed) → IsLeast event_before keys slot e → Possible plans costs h a → a.class ≡ e.class → a.op ≡ e.op → a.time ≡ e.time → IsNext plans costs h a
+      pub found_next : (slot : ℕ) (e a : Timed) → IsLeast event_before queue.keys slot e → Possible plans costs h a → a.class ≡ e.class → a.op ≡ e.op → a.time ≡ e.time → IsNext plans costs h a
       found_next slot e a least p c o t =
           let same : e ≡ a = λ i. record { time = sym t i; class = sym c i; op = sym o i } in
-          least_next slot a (subst (IsLeast event_before keys slot) same least) p
+          least_next slot a (subst (IsLeast event_before queue.keys slot) same least) p
 
     -- where nothing is possible the queue is empty
-    pub empty_from : (keys : List (Option Timed)) → IsQueue plans costs h keys → IsFinished plans costs h → IsEmptyMap keys
-    empty_from keys q none slot = go (key_at keys slot) refl
+    pub empty_from : (queue : Grouped Timed) → IsQueue plans costs h queue → IsFinished plans costs h → IsEmptyMap queue.keys
+    empty_from queue q none slot = go (key_at queue.keys slot) refl
       where
-        go : (k : Option Timed) → key_at keys slot ≡ k → k ≡ None
+        go : (k : Option Timed) → key_at queue.keys slot ≡ k → k ≡ None
         go None e = refl
-        go (Some k) e = absurd (none (at_its_time plans costs h k.class k.op) (possible_at plans costs h k.class k.op (key_found keys slot k q e).early.allowed))
-
-    -- the keys that are too early
-    unfoldable pub is_low : Option Timed → Bool
-    is_low None = false
-    is_low (Some e) = not (e.time == time plans costs h e.class e.op)
-
-    not_low : (a : Timed) → a.time ≡ time plans costs h a.class a.op → is_low (Some a) ≡ false
-    unfolding is_low
-    not_low a e = ap not (eq-eqb a.time (time plans costs h a.class a.op) e)
-
-    low : (a : Timed) → ¬ (a.time ≡ time plans costs h a.class a.op) → is_low (Some a) ≡ true
-    unfolding is_low
-    low a d = ap not (ne_eqb a.time (time plans costs h a.class a.op) d)
-
-    -- fewer are once one is raised
-    pub fewer_low : (keys new : List (Option Timed)) (slot : ℕ) (e a : Timed) → slot < length keys → key_at keys slot ≡ Some e → Possible plans costs h a → a.class ≡ e.class → a.op ≡ e.op → ¬ (a.time ≡ e.time) → new ≡ slice_set keys slot (Some a) → count_by is_low new < count_by is_low keys
-    fewer_low keys new slot e a l has p c o differ put =
-        let times : time plans costs h a.class a.op ≡ time plans costs h e.class e.op = λ i. time plans costs h (c i) (o i) in
-        let wrong : is_low (Some e) ≡ true = low e (λ s. differ (p.time ∙ times ∙ sym s)) in
-        let sums : count_by is_low (set keys slot (Some a)) + one_if (is_low (key_at keys slot)) ≡ count_by is_low keys + one_if (is_low (Some a)) = sum_by-set (λ (k : Option Timed). one_if (is_low k)) keys slot (Some a) None l in
-        let one : one_if (is_low (key_at keys slot)) ≡ 1 = ap (λ (k : Option Timed). one_if (is_low k)) has ∙ ap one_if wrong in
-        let nothing : one_if (is_low (Some a)) ≡ 0 = ap one_if (not_low a p.time) in
-        let after : count_by is_low new ≡ count_by is_low (set keys slot (Some a)) = ap (count_by is_low) put in
-        omega (arith, sums, one, nothing, after)
+        go (Some k) e = absurd (none (at_its_time plans costs h k.class k.op) (possible_at plans costs h k.class k.op (key_found queue slot k q e).early.allowed))
 
   -- the key of an operation is that of its possible action
-  pub put_turn : (h : List Timed) (x : OpId) (known : List Plan) (slot : ℕ) (turn put : Option Timed) (old new : List (Option Timed)) → known ≡ plans → slice_get (operations known) slot ≡ Some x → IsTurnOf plans costs h x turn → turn ≡ put → new ≡ slice_set old slot put → IsRefreshed plans costs h x old new
+  pub put_turn : (h : List Timed) (x : OpId) (known : List Plan) (slot : ℕ) (turn put : Option Timed) (old new : Grouped Timed) → known ≡ plans → slice_get (operations known) slot ≡ Some x → IsTurnOf plans costs h x turn → turn ≡ put → new ≡ record { keys = slice_set old.keys slot put; groups = old.groups } → IsRefreshed plans costs h x old new
   put_turn h x known slot turn put old new same at is e set_there = record {
     slot = slot;
     is_slot = ap (λ (ps : List Plan). slice_get (operations ps) slot) (sym same) ∙ at;
@@ -320,7 +300,3 @@ pub none_named : (items : List Need) (k : ℕ) (x y : OpId) → length items ≤
 none_named items k x y l n =
     let none : Contains [] n.need = subst (λ ds. Contains ds n.need) (drop_all k items l) n.listed in
     omega (arith, none.1)
-
--- the slot and the key that are answered as the least
-pub least_at : (keys : List (Option Timed)) (r : Option (ℕ × Timed)) (slot : ℕ) (e : Timed) → r ≡ Some (slot, e) → IfSome r (λ (p : ℕ × Timed). IsLeast event_before keys p.0 p.1) → IsLeast event_before keys slot e
-least_at keys r slot e is least = subst (λ (o : Option (ℕ × Timed)). IfSome o (λ (p : ℕ × Timed). IsLeast event_before keys p.0 p.1)) is least

@@ -5,6 +5,7 @@ use Rattle.goal_graph.specs.Schedule.{Plan}
 use Rattle.goal_graph.specs.Fault.{IsOp}
 use Rattle.sim_params.specs.Costs.{CostModel}
 use Rattle.sim_params.specs.Run.{IsNext, IsRun, IsFinished}
+use Rattle.sim_queue.specs.Groups.{Grouped}
 use Rattle.sim_queue.specs.Map.{IsEmptyMap}
 use Rattle.sim_events.specs.Engine.{View}
 use Rattle.sim_events.specs.Queue.{IsQueue, IsQueueBut, IsConcerned}
@@ -12,8 +13,8 @@ use Rattle.sim_events.proofs.Places.{possible_exists}
 use Rattle.sim_events.proofs.Queue.{queue_after, finished, empty_from}
 
 module _ {C : Type 0} (model : C → CostModel) where
-  abbrev pub QueueAt : View C → List (Option Timed) → Type 0
-  QueueAt v keys = IsQueue v.plans (model v.costs) v.history keys
+  abbrev pub QueueAt : View C → Grouped Timed → Type 0
+  QueueAt v queued = IsQueue v.plans (model v.costs) v.history queued
 
   abbrev pub RunAt : View C → Type 0
   RunAt v = IsRun v.plans (model v.costs) v.history
@@ -22,19 +23,19 @@ module _ {C : Type 0} (model : C → CostModel) where
   NextAt v a = IsNext v.plans (model v.costs) v.history a
 
   -- after an action those are due that it concerns
-  pub due_after : (old new : View C) (a : Timed) (keys : List (Option Timed)) → new ≡ record { plans = old.plans; costs = old.costs; history = a ∷ old.history } → RunAt old → NextAt old a → QueueAt old keys → IsQueueBut new.plans (model new.costs) new.history (IsConcerned new.plans (model new.costs) new.history a.op) keys
-  due_after old new a keys e run next q =
-      subst (λ (v : View C). IsQueueBut v.plans (model v.costs) v.history (IsConcerned v.plans (model v.costs) v.history a.op) keys) (sym e) (queue_after old.plans (model old.costs) old.history a run next.possible keys q)
+  pub due_after : (old new : View C) (a : Timed) (queued : Grouped Timed) → new ≡ record { plans = old.plans; costs = old.costs; history = a ∷ old.history } → RunAt old → NextAt old a → QueueAt old queued → IsQueueBut new.plans (model new.costs) new.history (IsConcerned new.plans (model new.costs) new.history a.op) queued
+  due_after old new a queued e run next q =
+      subst (λ (v : View C). IsQueueBut v.plans (model v.costs) v.history (IsConcerned v.plans (model v.costs) v.history a.op) queued) (sym e) (queue_after old.plans (model old.costs) old.history a run next.possible queued q)
 
   pub op_after : (old new : View C) (a : Timed) → new ≡ record { plans = old.plans; costs = old.costs; history = a ∷ old.history } → NextAt old a → IsOp new.plans a.op
   op_after old new a e next =
       subst (λ (ps : List Plan). IsOp ps a.op) (sym (ap (λ (v : View C). v.plans) e)) (possible_exists old.plans (model old.costs) old.history a next.possible)
 
   -- nothing is possible exactly where no operation has a key
-  pub done_at : (v w : View C) (keys : List (Option Timed)) (T : Type 0) → v ≡ w → RunAt w → QueueAt v keys → (T ↔ IsEmptyMap keys) → T ↔ IsFinished w.plans (model w.costs) w.history
-  done_at v w keys T e run q empty =
-      let queue : QueueAt w keys = subst (λ (u : View C). QueueAt u keys) e q in
-      (λ t. finished w.plans (model w.costs) w.history run keys queue (empty.0 t), λ f. empty.1 (empty_from w.plans (model w.costs) w.history keys queue f))
+  pub done_at : (v w : View C) (queued : Grouped Timed) (T : Type 0) → v ≡ w → RunAt w → QueueAt v queued → (T ↔ IsEmptyMap queued.keys) → T ↔ IsFinished w.plans (model w.costs) w.history
+  done_at v w queued T e run q empty =
+      let queue : QueueAt w queued = subst (λ (u : View C). QueueAt u queued) e q in
+      (λ t. finished w.plans (model w.costs) w.history run queued queue (empty.0 t), λ f. empty.1 (empty_from w.plans (model w.costs) w.history queued queue f))
 
   -- what is next after one of two views that are equal is next after the other, and so on
   pub next_of : (v w : View C) (r : Option Timed) (a : Timed) → v ≡ w → r ≡ Some a → IfSome r (IsNext v.plans (model v.costs) v.history) → NextAt w a

@@ -3,3 +3,4 @@ pub mod Queue
 pub mod Tables
 pub mod Turns
 pub mod Mirrors
+pub mod Stations

@@ -1,5 +1,6 @@
 -- What the queue of an engine holds: for each operation that has a possible action a time that is never too late.
-use Rattle.std.specs.Prelude.{ℕ, ◌≡◌, ◌≤◌, ◌⊎◌, true, false, List, length, Option, Some, None, Contains, slice_get, slice_set}
+use Rattle.std.specs.Prelude.{ℕ, ◌-◌, ◌≡◌, ◌≤◌, ◌⊎◌, true, false, List, length, Option, Some, None, Contains, slice_get, slice_set}
+use Rattle.std.specs.List.{sum_by}
 use Rattle.goal_graph.specs.declared.action.OpId.{OpId}
 use Rattle.goal_graph.specs.declared.action.Timed.{Timed}
 use Rattle.goal_graph.specs.declared.action.Class.{Class}
@@ -10,6 +11,12 @@ use Rattle.goal_graph.specs.Allowed.{allowed}
 use Rattle.sim_params.specs.Costs.{CostModel, is_eager}
 use Rattle.sim_params.specs.Times.{time, mate, Possible}
 use Rattle.sim_queue.specs.Map.{key_at}
+use Rattle.sim_queue.specs.Groups.{Grouped}
+use Rattle.sim_events.specs.Stations.{AreStationed}
+
+-- some slot has this key
+abbrev pub HasKey : List (Option Timed) → Timed → Type 0
+HasKey keys e = (slot : ℕ) × (key_at keys slot ≡ Some e)
 
 -- y is named in a list of needs of x's rank
 pub record IsNamedIn (needs : List Need) (x y : OpId) : Type 0 where
@@ -44,22 +51,31 @@ module _ (plans : List Plan) where
     IsBoundOf x (Some e) = IsEarly x e
 
     -- each operation has its bound in its slot, but those that are due
-    pub record IsQueueBut (Due : OpId → Type 0) (keys : List (Option Timed)) : Type 0 where
-      pub each : length keys ≡ length (operations plans)
-      pub bounds : (slot : ℕ) (x : OpId) → slice_get (operations plans) slot ≡ Some x → IsBoundOf x (key_at keys slot) ⊎ Due x
+    pub record IsQueueBut (Due : OpId → Type 0) (queue : Grouped Timed) : Type 0 where
+      pub each : length queue.keys ≡ length (operations plans)
+      pub bounds : (slot : ℕ) (x : OpId) → slice_get (operations plans) slot ≡ Some x → IsBoundOf x (key_at queue.keys slot) ⊎ Due x
+      pub stationed : AreStationed plans queue.groups
 
     -- each operation has its bound in its slot
-    abbrev pub IsQueue : List (Option Timed) → Type 0
-    IsQueue keys = IsQueueBut (λ x. ⊥) keys
+    abbrev pub IsQueue : Grouped Timed → Type 0
+    IsQueue queue = IsQueueBut (λ x. ⊥) queue
 
     -- the slot of x has got a bound of x, and the others are as they were
-    pub record IsRefreshed (x : OpId) (old new : List (Option Timed)) : Type 0 where
+    pub record IsRefreshed (x : OpId) (old new : Grouped Timed) : Type 0 where
       pub slot : ℕ
       pub is_slot : slice_get (operations plans) slot ≡ Some x
       pub key : Option Timed
       pub bound : IsBoundOf x key
-      pub put : new ≡ slice_set old slot key
+      pub put : new ≡ record { keys = slice_set old.keys slot key; groups = old.groups }
 
     -- an action of x may let one of y happen: y is x, or its partner, or needs it
     abbrev pub IsConcerned : OpId → OpId → Type 0
     IsConcerned x y = (y ≡ x) ⊎ ((mate plans costs h x ≡ Some y) ⊎ Waits x y)
+
+    -- how far a key is before the time of its action, and how far the keys of a queue are
+    abbrev pub lag : Option Timed → ℕ
+    lag None = 0
+    lag (Some e) = time plans costs h e.class e.op - e.time
+
+    abbrev pub lags : Grouped Timed → ℕ
+    lags queue = sum_by lag queue.keys

@@ -14,6 +14,7 @@ ghost use Rattle.sim_events.specs.Engine.{IsBudgetFault, start_told, end_told};
 
 use crate::follow::{Queue, fill, follow, is_empty, next};
 use crate::state::State;
+use crate::station::stations;
 use goal_base::NoMemory;
 use goal_graph::{OpId, Sched, Timed};
 use sim_order::Steps;
@@ -92,7 +93,8 @@ impl<'a, C: Costs + Drop> Engine<'a, C> {
         ensures fault { IfErr result (IsBudgetFault (budget sched.now (C.model costs))) }
     {
         let state = State::new(alloc, sched, costs)?;
-        let mut queue = Queue::new(alloc, sched.count())?;
+        let stations = stations(alloc, sched)?;
+        let mut queue = Queue::new(alloc, &stations.numbers, stations.count)?;
         fill::<C, Brand>(Blank::new(1), &state, &mut queue);
         Ok(Engine { state, queue })
     }

@@ -1,29 +1,32 @@
 // The queue of an engine: what it holds, and how it follows what happens.
-ghost use Rattle.std.specs.Prelude.{◌≡◌, ◌<◌, ◌≤◌, ◌+◌, ◌↔◌, ◌⊎◌, IsTrue, IfSome, IfNone, IsNone, Some, length};
+ghost use Rattle.std.specs.Prelude.{◌≡◌, ◌≢◌, ℕ, ◌<◌, ◌≤◌, ◌+◌, ◌↔◌, ◌⊎◌, IsTrue, IfSome, IfNone, IsNone, Some, length};
 ghost use Rattle.goal_graph.specs.Schedule.{operations};
 ghost use Rattle.goal_graph.specs.Fault.{IsOp};
 ghost use Rattle.sim_params.specs.Times.{Possible, mate};
 ghost use Rattle.sim_params.specs.Run.{IsNext, IsFinished};
 ghost use Rattle.sim_order.specs.Events.{event_before};
 ghost use Rattle.sim_queue.specs.Map.{IsEmptyMap, IsLeast};
-ghost use Rattle.sim_events.specs.Queue.{IsEarly, IsQueue, IsQueueBut, IsRefreshed, IsConcerned, Waits};
+ghost use Rattle.sim_queue.specs.Floors.{waits_for_room};
+ghost use Rattle.sim_events.specs.Stations.{AreStationed};
+ghost use Rattle.sim_events.specs.Queue.{IsEarly, IsQueue, IsQueueBut, IsRefreshed, IsConcerned, Waits, HasKey, lags};
 
 use crate::state::State;
-use goal_graph::{OpId, Timed};
+use goal_graph::{Class, OpId, Timed};
 use sim_order::{EventKey, Steps};
 use sim_params::{Costs, op_count};
-use sim_queue::{EventQueue, SlotHeap};
+use sim_queue::FloorQueue;
 use std::sync::ledger::{Blank, Ledger};
 
 /// For each operation that has a possible action, the key of that action at a time that is never too late.
-pub type Queue = SlotHeap<EventKey>;
+pub type Queue = FloorQueue;
 
 /// Gives each operation its key.
 pub fn fill<C: Costs, L: Ledger>(blank: Blank, state: &State<C>, queue: &mut Queue)
     requires name { blank.name ≡ L.name }
     requires parts { blank.parts ≡ L.parts }
     requires some { 0 < blank.parts }
-    requires each { length queue.old ≡ length (operations state.now.plans) }
+    requires each { length queue.old.keys ≡ length (operations state.now.plans) }
+    requires stationed { AreStationed state.now.plans queue.old.groups }
     ensures { IsQueue state.now.plans (C.model state.now.costs) state.now.history queue.new }
 {
     let mut steps = Steps::<L>::new(blank);
@@ -50,8 +53,8 @@ fn fill_rank<C: Costs, L: Ledger>(
     }
 }
 
-/// The action that happens next, none where nothing is possible. Keys that are too early are raised on the way, each to
-/// the time of its action.
+/// The action that happens next, none where nothing is possible. Keys that are too early are raised on the way: those
+/// of a station together, to the moment at which it is free.
 pub fn next<C: Costs, L: Ledger>(
     state: &State<C>,
     queue: &mut Queue,
@@ -63,28 +66,63 @@ pub fn next<C: Costs, L: Ledger>(
     ensures none { IfNone result (IsFinished state.now.plans (C.model state.now.costs) state.now.history) }
 {
     state.known();
-    'looks: while let Some((slot, early)) = least(queue, steps) {
+    'looks: while let Some(early) = least(queue, steps) {
         let action = action_of(state, early);
         if action.time == early.time {
             return Some(action);
         }
-        queue.put(slot, key_of(action), steps);
+        raise(state, queue, early, action, steps);
     }
     None
 }
 
-// The least key of the queue, and its slot.
-fn least<L: Ledger>(queue: &Queue, steps: &mut Steps<L>) -> Option<(u32, Timed)>
-    ensures none { IsNone result ↔ IsEmptyMap queue.now }
-    ensures least { IfSome result (λ r. IsLeast event_before queue.now r.0 r.1) }
+// Raises a key that is too early, or those of its station to the moment at which it is free.
+fn raise<C: Costs, L: Ledger>(
+    state: &State<C>,
+    queue: &mut Queue,
+    early: Timed,
+    action: Timed,
+    steps: &mut Steps<L>,
+)
+    requires queue { IsQueue state.now.plans (C.model state.now.costs) state.now.history queue.old }
+    requires has { HasKey queue.old.keys early }
+    requires possible { Possible state.now.plans (C.model state.now.costs) state.now.history action }
+    requires class { action.class ≡ early.class }
+    requires op { action.op ≡ early.op }
+    requires differ { action.time ≢ early.time }
+    ensures queue { IsQueue state.now.plans (C.model state.now.costs) state.now.history queue.new }
+    ensures less { lags state.now.plans (C.model state.now.costs) state.now.history queue.new < lags state.now.plans (C.model state.now.costs) state.now.history queue.old }
 {
-    let (slot, key) = queue.least(steps)?;
-    let event = Timed {
+    let slot = state.sched().index(early.op);
+    let free = state.free(early.op);
+    if waits_for_room(early.class) && early.time < free {
+        queue.lift(slot, free, steps);
+        return;
+    }
+    queue.put(slot, key_of(action), steps);
+}
+
+// Whether actions of a class wait for a cpu or an interface.
+fn waits_for_room(class: Class) -> bool
+    ensures { result ≡ waits_for_room class }
+{
+    match class {
+        Class::Begin | Class::Data | Class::Serve => true,
+        Class::Arrive | Class::Post => false,
+    }
+}
+
+// The least key of the queue.
+fn least<L: Ledger>(queue: &Queue, steps: &mut Steps<L>) -> Option<Timed>
+    ensures none { IsNone result ↔ IsEmptyMap queue.now.keys }
+    ensures least { IfSome result (λ e. (slot : ℕ) × IsLeast event_before queue.now.keys slot e) }
+{
+    let key = queue.least(steps)?;
+    Some(Timed {
         time: key.time(),
         class: key.class(),
         op: key.id(),
-    };
-    Some((slot, event))
+    })
 }
 
 // The possible action of an operation of which the queue has an early key.
@@ -165,7 +203,7 @@ fn follow_waiting<C: Costs, L: Ledger>(
 // Gives an operation its key: that of its possible action, none where it has none.
 fn refresh<C: Costs, L: Ledger>(state: &State<C>, queue: &mut Queue, id: OpId, steps: &mut Steps<L>)
     requires exists { IsOp state.now.plans id }
-    requires each { length queue.old ≡ length (operations state.now.plans) }
+    requires each { length queue.old.keys ≡ length (operations state.now.plans) }
     ensures { IsRefreshed state.now.plans (C.model state.now.costs) state.now.history id queue.old queue.new }
 {
     let slot = state.sched().index(id);
@@ -180,7 +218,7 @@ pub fn is_empty<L: Ledger>(blank: Blank, queue: &Queue) -> bool
     requires name { blank.name ≡ L.name }
     requires parts { blank.parts ≡ L.parts }
     requires some { 0 < blank.parts }
-    ensures { IsTrue result ↔ IsEmptyMap queue.now }
+    ensures { IsTrue result ↔ IsEmptyMap queue.now.keys }
 {
     let mut steps = Steps::<L>::new(blank);
     queue.least(&mut steps).is_none()

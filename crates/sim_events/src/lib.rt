@@ -5,6 +5,7 @@ mod engine;
 mod entry;
 mod follow;
 mod state;
+mod station;
 
 pub use engine::{Engine, EngineFault, Record};
 

@@ -12,11 +12,12 @@ ghost use Rattle.sim_params.specs.Run.{IsNext, IsRun, IsFinished, IsCompleteRun}
 ghost use Rattle.sim_params.specs.Laws.{IsWithin};
 ghost use Rattle.sim_events.specs.Engine.{IsBudgetFault, start_told, end_told};
 ghost use Rattle.sim_events.specs.Mirrors.{entry_told};
+ghost use Rattle.sim_events.specs.Stations.{free};
 
 use crate::engine::{EngineFault, Record};
 use crate::entry::{Entry, read};
 use goal_base::MAX_BUDGET;
-use goal_graph::{OpId, Sched, Timed};
+use goal_graph::{Kind, OpId, Sched, Timed};
 use sim_match::Matcher;
 use sim_params::{Costs, budget};
 use sim_resources::Resources;
@@ -117,6 +118,18 @@ impl<'a, C: Costs> State<'a, C> {
         match self.entry(id).paired {
             Some(pairing) => Some(pairing.with),
             None => None,
+        }
+    }
+
+    /// When all that an operation waits for is free: its cpu and, where it sends or receives, that side of its interface.
+    pub fn free(&self, id: OpId) -> u64
+        requires { IsOp self.now.plans id }
+        ensures { result ≡ free self.now.plans (C.model self.now.costs) self.now.history id }
+    {
+        match self.sched().op(id).kind {
+            Kind::Calc { .. } => self.resources.cpu(id),
+            Kind::Send { .. } => self.resources.cpu(id).max(self.resources.tx(id)),
+            Kind::Recv { .. } => self.resources.cpu(id).max(self.resources.rx(id)),
         }
     }
 

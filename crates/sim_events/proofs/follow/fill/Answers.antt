@@ -9,7 +9,7 @@ overflow_cast-ranks g c =
     omega (arith, few_ranks c.args.state.now.plans c.known.ensures.accepted, ap length (c.plans.ensures.plans ∙ c.sched.ensures))
 
 pub loop-rank-init : goal.loop-rank-init
-loop-rank-init g c = all_due _ _ _ _ _ c.requires.each (λ y. omega arith)
+loop-rank-init g c = all_due _ _ _ _ _ c.requires.each c.requires.stationed (λ y. omega arith)
 
 pub fill_rank-requires : goal.fill_rank-requires
 fill_rank-requires g c = record {

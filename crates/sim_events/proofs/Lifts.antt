@@ -1,0 +1,206 @@
+-- The keys of a station are raised together: what it waits for is free for all its operations at one time, and no action
+-- that waits for it is possible before.
+use Rattle.std.proofs.Common.{◌≡◌, ◌≢◌, ◌⊎◌, ◌==◌, ◌&&◌, ◌+◌, ◌<◌, ◌≤◌, ℕ, zero, suc, max, not, Bool, true, List, [], ◌∷◌, length, set, Option, Some, None, slice_get, if◌then◌else◌, refl, sym, ap, ap₂, ◌∙◌, subst, arith, inl, inr}
+use Rattle.std.specs.List.{sum_by}
+use Rattle.std.specs.Option.{option_map}
+use Rattle.std.proofs.lemmas.Bool.{and_parts, cases_eq}
+use Rattle.std.proofs.lemmas.List.Sums.{sum_by-cons}
+use Rattle.std.proofs.lemmas.Option.{same_Some}
+use Rattle.std.proofs.lemmas.List.{get_or-set_same, get_or-set_other, length-set}
+use Rattle.goal_graph.specs.declared.action.OpId.{OpId}
+use Rattle.goal_graph.specs.declared.action.Timed.{Timed}
+use Rattle.goal_graph.specs.declared.action.Class.{Class}
+use Rattle.goal_graph.specs.declared.action.Class.TheVariants.{Arrive, Serve, Data, Post, Begin}
+use Rattle.goal_graph.specs.declared.plan.Kind.{Kind}
+use Rattle.goal_graph.specs.declared.plan.Kind.TheVariants.{Calc, Send, Recv}
+use Rattle.goal_graph.specs.declared.plan.Op.{Op}
+use Rattle.goal_graph.specs.Schedule.{Plan, op_at, kind_at, operations}
+use Rattle.goal_graph.specs.Action.{plain, happened}
+use Rattle.goal_graph.specs.Allowed.{may, allowed}
+use Rattle.sim_params.specs.Costs.{CostModel, is_eager}
+use Rattle.sim_params.specs.Times.{same_place, holds_cpu, holds_tx, holds_rx, cpu_hold, tx_hold, rx_hold, cpu, tx, rx, time, time_of, Possible}
+use Rattle.sim_queue.specs.Map.{key_at}
+use Rattle.sim_queue.specs.Groups.{Grouped}
+use Rattle.sim_queue.specs.Floors.{waits_for_room, at_time, IsLifted, IsRaised}
+use Rattle.sim_events.specs.declared.station.Station.{Station}
+use Rattle.sim_events.specs.Stations.{station_by, HaveOneStation, AreStationed, free, free_of}
+use Rattle.sim_events.specs.Queue.{IsEarly, IsBoundOf, IsQueue, HasKey, lag, lags}
+use Rattle.sim_events.proofs.Queue.{key_found}
+use Rattle.sim_events.proofs.Tables.{other_place}
+
+module _ (plans : List Plan) (costs : CostModel) (h : List Timed) where
+  -- what waits is not possible before all is free
+  not_before : (class : Class) (x : OpId) (k : Option Kind) → waits_for_room class ≡ true → may plans (is_eager plans costs) (plain h) class x k ≡ true → free_of plans costs h x k ≤ time_of plans costs h class x k
+  not_before class x None w m = omega arith
+  not_before Arrive x (Some k) w m = absurd (cc)
+  not_before Post x (Some k) w m = absurd (cc)
+  not_before Begin x (Some (Calc nanos)) w m = omega arith
+  not_before Begin x (Some (Send bytes to tag)) w m = omega arith
+  not_before Begin x (Some (Recv room from tag)) w m = absurd (cc)
+  not_before Data x (Some (Calc nanos)) w m = absurd (cc)
+  not_before Data x (Some (Send bytes to tag)) w m = omega arith
+  not_before Data x (Some (Recv room from tag)) w m = absurd (cc)
+  not_before Serve x (Some (Calc nanos)) w m = absurd (cc)
+  not_before Serve x (Some (Send bytes to tag)) w m = absurd (cc)
+  not_before Serve x (Some (Recv room from tag)) w m = omega arith
+
+  pub free_first : (class : Class) (x : OpId) → waits_for_room class ≡ true → allowed plans (is_eager plans costs) (plain h) class x ≡ true → free plans costs h x ≤ time plans costs h class x
+  unfolding time allowed
+  free_first class x w a =
+      let both = and_parts (not (happened class x (plain h))) (may plans (is_eager plans costs) (plain h) class x (kind_at plans x)) a in
+      not_before class x (kind_at plans x) w both.1
+
+-- two operations of one rank at one place are at the same place as others
+same_places : (place : Op → ℕ) (x y z : OpId) (o p : Op) (q : Option Op) → x.rank ≡ y.rank → place o ≡ place p → same_place place x (Some o) z q ≡ same_place place y (Some p) z q
+same_places place x y z o p None e f = refl
+same_places place x y z o p (Some q) e f =
+    ap₂ (λ (b c : Bool). b && c) (ap (λ r. r == z.rank) e) (ap (λ n. n == place q) f)
+
+module _ (plans : List Plan) (costs : CostModel) (x y : OpId) (o p : Op) (is_o : op_at plans x ≡ Some o) (is_p : op_at plans y ≡ Some p) (rank : x.rank ≡ y.rank) where
+  at_place : (place : Op → ℕ) → place o ≡ place p → (z : OpId) → same_place place x (op_at plans x) z (op_at plans z) ≡ same_place place y (op_at plans y) z (op_at plans z)
+  at_place place e z =
+      ap (λ a. same_place place x a z (op_at plans z)) is_o ∙ same_places place x y z o p (op_at plans z) rank e ∙ sym (ap (λ a. same_place place y a z (op_at plans z)) is_p)
+
+  one_cpu : o.cpu ≡ p.cpu → (h : List Timed) → cpu plans costs h x ≡ cpu plans costs h y
+  unfolding cpu
+  one_cpu e [] = refl
+  one_cpu e (a ∷ h) =
+      ap₂ (λ (n : ℕ) (b : Bool). max n (if holds_cpu a.class && b then a.time + cpu_hold plans costs h a.class a.op (kind_at plans a.op) else 0)) (one_cpu e h) (at_place (λ (q : Op). q.cpu) e a.op)
+
+  one_tx : o.nic ≡ p.nic → (h : List Timed) → tx plans costs h x ≡ tx plans costs h y
+  unfolding tx
+  one_tx e [] = refl
+  one_tx e (a ∷ h) =
+      ap₂ (λ (n : ℕ) (b : Bool). max n (if holds_tx a.class (kind_at plans a.op) && b then a.time + tx_hold plans costs a.class a.op (kind_at plans a.op) else 0)) (one_tx e h) (at_place (λ (q : Op). q.nic) e a.op)
+
+  one_rx : o.nic ≡ p.nic → (h : List Timed) → rx plans costs h x ≡ rx plans costs h y
+  unfolding rx
+  one_rx e [] = refl
+  one_rx e (a ∷ h) =
+      ap₂ (λ (n : ℕ) (b : Bool). max n (if holds_rx a.class && b then a.time + rx_hold plans costs h a.class a.op (kind_at plans a.op) else 0)) (one_rx e h) (at_place (λ (q : Op). q.nic) e a.op)
+
+  one_free : (h : List Timed) (k l : Kind) → station_by x o k ≡ station_by y p l → free_of plans costs h x (Some k) ≡ free_of plans costs h y (Some l)
+  one_free h (Calc m) (Calc n) e = one_cpu (ap (λ (s : Station). s.cpu) e) h
+  one_free h (Send m t u) (Send n v w) e =
+      ap₂ max (one_cpu (ap (λ (s : Station). s.cpu) e) h) (one_tx (same_Some o.nic p.nic (ap (λ (s : Station). s.sends) e)) h)
+  one_free h (Recv m t u) (Recv n v w) e =
+      ap₂ max (one_cpu (ap (λ (s : Station). s.cpu) e) h) (one_rx (same_Some o.nic p.nic (ap (λ (s : Station). s.receives) e)) h)
+  one_free h (Calc m) (Send n v w) e = let s = ap (λ (s : Station). s.sends) e in absurd (cc)
+  one_free h (Calc m) (Recv n v w) e = let s = ap (λ (s : Station). s.receives) e in absurd (cc)
+  one_free h (Send m t u) (Calc n) e = let s = ap (λ (s : Station). s.sends) e in absurd (cc)
+  one_free h (Send m t u) (Recv n v w) e = let s = ap (λ (s : Station). s.sends) e in absurd (cc)
+  one_free h (Recv m t u) (Calc n) e = let s = ap (λ (s : Station). s.receives) e in absurd (cc)
+  one_free h (Recv m t u) (Send n v w) e = let s = ap (λ (s : Station). s.receives) e in absurd (cc)
+
+-- stations that are the same are of one rank
+rank_same : (x y : OpId) (o p : Op) (k l : Kind) → station_by x o k ≡ station_by y p l → x.rank ≡ y.rank
+rank_same x y o p (Calc m) (Calc n) e = ap (λ (s : Station). s.rank) e
+rank_same x y o p (Calc m) (Send n v w) e = ap (λ (s : Station). s.rank) e
+rank_same x y o p (Calc m) (Recv n v w) e = ap (λ (s : Station). s.rank) e
+rank_same x y o p (Send m t u) (Calc n) e = ap (λ (s : Station). s.rank) e
+rank_same x y o p (Send m t u) (Send n v w) e = ap (λ (s : Station). s.rank) e
+rank_same x y o p (Send m t u) (Recv n v w) e = ap (λ (s : Station). s.rank) e
+rank_same x y o p (Recv m t u) (Calc n) e = ap (λ (s : Station). s.rank) e
+rank_same x y o p (Recv m t u) (Send n v w) e = ap (λ (s : Station). s.rank) e
+rank_same x y o p (Recv m t u) (Recv n v w) e = ap (λ (s : Station). s.rank) e
+
+pub free_together : (plans : List Plan) (costs : CostModel) (h : List Timed) (x y : OpId) → HaveOneStation plans x y → free plans costs h x ≡ free plans costs h y
+unfolding kind_at
+free_together plans costs h x y s =
+    let left = ap (λ (o : Option Op). free_of plans costs h x (option_map (λ (p : Op). p.kind) o)) s.is_op in
+    let right = ap (λ (o : Option Op). free_of plans costs h y (option_map (λ (p : Op). p.kind) o)) s.is_other in
+    left ∙ one_free plans costs x y s.op s.other s.is_op s.is_other (rank_same x y s.op s.other s.op.kind s.other.kind s.same) h s.op.kind s.other.kind s.same ∙ sym right
+
+sum_stays : {X : Type 0} (f : Option X → ℕ) (old new : List (Option X)) → length new ≡ length old → ((i : ℕ) → f (key_at new i) ≤ f (key_at old i)) → sum_by f new ≤ sum_by f old
+sum_stays f [] [] l each = omega arith
+sum_stays f [] (n ∷ new) l each = absurd (omega (arith, l))
+sum_stays f (o ∷ old) [] l each = absurd (omega (arith, l))
+sum_stays f (o ∷ old) (n ∷ new) l each =
+    let rest = sum_stays f old new (omega (arith, l)) (λ i. each (suc i)) in omega (arith, rest, each 0, sum_by-cons f o old, sum_by-cons f n new)
+
+-- a sum falls where one of its terms does and none rises
+pub sum_falls : {X : Type 0} (f : Option X → ℕ) (old new : List (Option X)) → length new ≡ length old → ((i : ℕ) → f (key_at new i) ≤ f (key_at old i)) → (slot : ℕ) → slot < length old → f (key_at new slot) < f (key_at old slot) → sum_by f new < sum_by f old
+sum_falls f [] new l each slot within less = absurd (omega (arith, within))
+sum_falls f (o ∷ old) [] l each slot within less = absurd (omega (arith, l))
+sum_falls f (o ∷ old) (n ∷ new) l each zero within less =
+    let rest = sum_stays f old new (omega (arith, l)) (λ i. each (suc i)) in omega (arith, less, rest, sum_by-cons f o old, sum_by-cons f n new)
+sum_falls f (o ∷ old) (n ∷ new) l each (suc slot) within less =
+    let rest = sum_falls f old new (omega (arith, l)) (λ i. each (suc i)) slot (omega (arith, within)) less in
+    omega (arith, rest, each 0, sum_by-cons f o old, sum_by-cons f n new)
+
+-- a key of the queue stands in the slot of its operation
+pub has_there : (plans : List Plan) (costs : CostModel) (h : List Timed) (queue : Grouped Timed) → IsQueue plans costs h queue → (early : Timed) → HasKey queue.keys early → (slot : ℕ) → slice_get (operations plans) slot ≡ Some early.op → key_at queue.keys slot ≡ Some early
+has_there plans costs h queue q early has slot is =
+    let found = key_found plans costs h queue has.0 early q has.1 in
+    elim (cases_eq has.0 slot) [ inl s ↦ ap (key_at queue.keys) (sym s) ∙ has.1 | inr d ↦ absurd (other_place plans has.0 slot early.op early.op found.is_slot is d refl) ]
+
+module _ (plans : List Plan) (costs : CostModel) (h : List Timed) (queue new : Grouped Timed) (q : IsQueue plans costs h queue) where
+  -- the keys of a station are raised to the moment at which it is free
+  module _ (slot : ℕ) (early : Timed) (is_slot : slice_get (operations plans) slot ≡ Some early.op) (has : key_at queue.keys slot ≡ Some early) (is_early : IsEarly plans costs h early.op early) (waits : waits_for_room early.class ≡ true) (later : early.time < free plans costs h early.op) (lifted : IsLifted queue.groups queue.keys new.keys slot (free plans costs h early.op)) (groups : new.groups ≡ queue.groups) where
+    -- a key that is raised is not too late
+    raised_early : (i : ℕ) (x : OpId) → slice_get (operations plans) i ≡ Some x → (k : Timed) → waits_for_room k.class ≡ true → slice_get queue.groups i ≡ slice_get queue.groups slot → IsEarly plans costs h x k → IsEarly plans costs h x (at_time (free plans costs h early.op) k)
+    raised_early i x at k w group b =
+        let together : free plans costs h x ≡ free plans costs h early.op = free_together plans costs h x early.op (q.stationed.same i slot x early.op at is_slot group) in
+        let first : free plans costs h k.op ≤ time plans costs h k.class k.op = free_first plans costs h k.class k.op w b.allowed in
+        record {
+          op = b.op;
+          allowed = b.allowed;
+          not_later = omega (arith, together, first, ap (free plans costs h) b.op);
+        }
+
+    early_at : (i : ℕ) (x : OpId) (k : Timed) → slice_get (operations plans) i ≡ Some x → key_at queue.keys i ≡ Some k → IsEarly plans costs h x k
+    early_at i x k at e = go (q.bounds i x at)
+      where
+        go : IsBoundOf plans costs h x (key_at queue.keys i) ⊎ ⊥ → IsEarly plans costs h x k
+        go (inl b) = subst (IsBoundOf plans costs h x) e b
+        go (inr none) = absurd none
+
+    bound_now : (i : ℕ) (x : OpId) → slice_get (operations plans) i ≡ Some x → (i ≡ slot) ⊎ (key_at new.keys i ≡ key_at queue.keys i) ⊎ IsRaised queue.groups queue.keys new.keys slot (free plans costs h early.op) i → IsBoundOf plans costs h x (key_at new.keys i) ⊎ ⊥
+    bound_now i x at (inl s) =
+        let now : key_at new.keys i ≡ Some (at_time (free plans costs h early.op) early) = ap (key_at new.keys) s ∙ lifted.here early has in
+        let was : key_at queue.keys i ≡ Some early = ap (key_at queue.keys) s ∙ has in
+        inl (subst (IsBoundOf plans costs h x) (sym now) (raised_early i x at early waits (ap (slice_get queue.groups) s) (early_at i x early at was)))
+    bound_now i x at (inr (inl s)) =
+        elim (q.bounds i x at) [ inl b ↦ inl (subst (IsBoundOf plans costs h x) (sym s) b) | inr none ↦ inr none ]
+    bound_now i x at (inr (inr r)) =
+        inl (subst (IsBoundOf plans costs h x) (sym r.has) (raised_early i x at r.key r.waits r.group (early_at i x r.key at r.had)))
+
+    pub lifted_queue : IsQueue plans costs h new
+    lifted_queue = record {
+      each = lifted.each ∙ q.each;
+      bounds = λ i x at. bound_now i x at (lifted.others i);
+      stationed = subst (AreStationed plans) (sym groups) q.stationed;
+    }
+
+    lag_now : (i : ℕ) → (i ≡ slot) ⊎ (key_at new.keys i ≡ key_at queue.keys i) ⊎ IsRaised queue.groups queue.keys new.keys slot (free plans costs h early.op) i → lag plans costs h (key_at new.keys i) ≤ lag plans costs h (key_at queue.keys i)
+    lag_now i (inl s) =
+        let now = ap (lag plans costs h) (ap (key_at new.keys) s ∙ lifted.here early has) in
+        let was = ap (lag plans costs h) (ap (key_at queue.keys) s ∙ has) in
+        omega (arith, now, was, later)
+    lag_now i (inr (inl s)) = omega (arith, ap (lag plans costs h) s)
+    lag_now i (inr (inr r)) =
+        omega (arith, ap (lag plans costs h) r.has, ap (lag plans costs h) r.had, r.not_later)
+
+    pub lifted_less : slot < length queue.keys → lags plans costs h new < lags plans costs h queue
+    lifted_less within =
+        let now = ap (lag plans costs h) (lifted.here early has) in
+        let was = ap (lag plans costs h) has in
+        let first : free plans costs h early.op ≤ time plans costs h early.class early.op = free_first plans costs h early.class early.op waits is_early.allowed in
+        sum_falls (lag plans costs h) queue.keys new.keys lifted.each (λ i. lag_now i (lifted.others i)) slot within (omega (arith, now, was, later, first))
+
+  -- a key is raised to the time of its action
+  pub put_less : (slot : ℕ) (e a : Timed) → slot < length queue.keys → key_at queue.keys slot ≡ Some e → IsEarly plans costs h e.op e → Possible plans costs h a → a.class ≡ e.class → a.op ≡ e.op → a.time ≢ e.time → new ≡ record { keys = set queue.keys slot (Some a); groups = queue.groups } → lags plans costs h new < lags plans costs h queue
+  put_less slot e a within has early possible class op differ put =
+      let times : time plans costs h a.class a.op ≡ time plans costs h e.class e.op = λ i. time plans costs h (class i) (op i) in
+      let here : key_at new.keys slot ≡ Some a = ap (λ (g : Grouped Timed). key_at g.keys slot) put ∙ get_or-set_same queue.keys slot (Some a) None within in
+      let now = ap (lag plans costs h) here in
+      let was = ap (lag plans costs h) has in
+      let less : lag plans costs h (key_at new.keys slot) < lag plans costs h (key_at queue.keys slot) = omega (arith, now, was, times, possible.time, early.not_later, differ) in
+      sum_falls (lag plans costs h) queue.keys new.keys (ap (λ (g : Grouped Timed). length g.keys) put ∙ length-set queue.keys slot (Some a)) (λ i. each i less (cases_eq i slot)) slot within less
+    where
+      each : (i : ℕ) → lag plans costs h (key_at new.keys slot) < lag plans costs h (key_at queue.keys slot) → (i ≡ slot) ⊎ (i ≢ slot) → lag plans costs h (key_at new.keys i) ≤ lag plans costs h (key_at queue.keys i)
+      each i less (inl s) =
+          subst (λ j. lag plans costs h (key_at new.keys j) ≤ lag plans costs h (key_at queue.keys j)) (sym s) (omega (arith, less))
+      each i less (inr n) =
+          let same = ap (λ (g : Grouped Timed). key_at g.keys i) put ∙ get_or-set_other queue.keys slot i (Some a) None n in
+          omega (arith, ap (lag plans costs h) same)
