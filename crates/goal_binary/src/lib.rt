@@ -18,7 +18,7 @@ pub use decoding::decode;
 pub use encoding::encode;
 pub use fault::FileFault;
 pub use laws::laws_of_files;
-pub use layout::{MAGIC, VERSION};
+pub use layout::MAGIC;
 
 #[cfg(test)]
 mod tests;

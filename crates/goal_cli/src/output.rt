@@ -14,7 +14,7 @@ ghost use Rattle.goal_cli.specs.Output.{run_text, IsPrintedRun, IsReportedRun, I
 
 use crate::answer::Refusal;
 use goal_base::NoMemory;
-use goal_binary::{FileFault, decode, encode, laws_of_files};
+use goal_binary::{FileFault, MAGIC, decode, encode, laws_of_files};
 use goal_graph::Sched;
 use goal_parser::{TextFault, read_text};
 use goal_print::print_text;
@@ -39,15 +39,12 @@ pub enum Stop {
     NoMemory,
 }
 
-// The first byte of each compiled file.
-const COMPILED: u8 = 0x89;
-
-// Whether an input is a compiled file.
+// Whether an input is a compiled file: it begins with the first byte of the magic.
 fn is_compiled(input: &[u8]) -> bool
     ensures { result ≡ is_compiled input.now }
 {
     match input.first() {
-        Some(byte) => *byte == COMPILED,
+        Some(byte) => *byte == MAGIC[0],
         None => false,
     }
 }
