@@ -6,11 +6,11 @@ ghost use Rattle.sim_resources.specs.Holds.{SameFreeTimes, cpu_free, rx_free, ho
 
 use goal_graph::{OpId, Sched};
 use sim_params::Costs;
-use sim_resources::{Resources, message_of};
+use sim_resources::Resources;
 
 /// When a receive may take its message, which is there from `from` on: once its cpu and the receiving side of its
 /// interface are free.
-#[tactic(auto, using(sim_resources::proofs::OfKind::receive_is_op))]
+#[tactic(auto, using(goal_graph::proofs::OfKind::receive_is_op))]
 pub fn serve_at(res: &Resources, recv: OpId, from: u64) -> u64
     requires { IsReceive res.now.plans recv }
     ensures { result ≡ max from (max (cpu_free res.now recv) (rx_free res.now recv)) }
@@ -20,7 +20,7 @@ pub fn serve_at(res: &Resources, recv: OpId, from: u64) -> u64
 
 /// Takes the message of the send at the time `at`, and answers when the receive ends: it holds its cpu and the
 /// receiving side of its interface by the size of the message, and nothing else changes.
-#[tactic(auto, using(sim_resources::proofs::OfKind::receive_is_op))]
+#[tactic(auto, using(goal_graph::proofs::OfKind::receive_is_op))]
 pub fn serve<C: Costs>(
     sched: &Sched,
     costs: &C,
@@ -39,7 +39,7 @@ pub fn serve<C: Costs>(
     ensures holds { SameFreeTimes res.new
         (hold_rx (hold_cpu res.old recv result) recv (at + gap sched.now (C.model costs.now) send)) }
 {
-    let message = message_of(sched, send);
+    let message = sched.message(send);
     let end = at + costs.over(send.rank, message.to, message.bytes);
     let received = at + costs.gap(send.rank, message.to, message.bytes);
     res.hold_cpu(recv, end);

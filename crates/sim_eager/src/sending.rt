@@ -1,4 +1,4 @@
-// The begin of an eager send.
+// A send sends its bytes.
 ghost use Rattle.std.specs.Prelude.{◌≡◌, ◌+◌, ◌<◌, ◌^◌, max};
 ghost use Rattle.goal_graph.specs.Laws.{IsSend};
 ghost use Rattle.sim_params.specs.Costs.{over, gap, flight};
@@ -6,9 +6,9 @@ ghost use Rattle.sim_resources.specs.Holds.{SameFreeTimes, cpu_free, tx_free, ho
 
 use goal_graph::{OpId, Sched};
 use sim_params::Costs;
-use sim_resources::{Resources, message_of};
+use sim_resources::Resources;
 
-/// When an eager send that has begun ends, and when its message arrives.
+/// When a send that has sent its bytes lets go of its cpu, and when they arrive.
 #[derive(Clone, Copy, Debug, PartialEq, Eq)]
 pub struct Begun {
     pub end: u64,
@@ -16,7 +16,7 @@ pub struct Begun {
 }
 
 /// When a send that is ready at `ready` may begin: once its cpu and the sending side of its interface are free.
-#[tactic(auto, using(sim_resources::proofs::OfKind::send_is_op))]
+#[tactic(auto, using(goal_graph::proofs::OfKind::send_is_op))]
 pub fn begin_at(res: &Resources, send: OpId, ready: u64) -> u64
     requires { IsSend res.now.plans send }
     ensures { result ≡ max ready (max (cpu_free res.now send) (tx_free res.now send)) }
@@ -24,9 +24,39 @@ pub fn begin_at(res: &Resources, send: OpId, ready: u64) -> u64
     ready.max(res.cpu(send).max(res.tx(send)))
 }
 
+/// Sends so many bytes to a rank at the time `at`: the send holds its cpu and the sending side of its interface, and
+/// nothing else changes. So an eager send begins, a large one sends its request, and later hands over its bytes.
+#[tactic(auto, using(goal_graph::proofs::OfKind::send_is_op))]
+pub fn transfer<C: Costs>(
+    costs: &C,
+    res: &mut Resources,
+    send: OpId,
+    to: u32,
+    bytes: u64,
+    at: u64,
+) -> Begun
+    requires sends { IsSend res.old.plans send }
+    requires size { bytes < 2 ^ 40 }
+    requires over_fits { at + (C.model costs.now).over send.rank to bytes < 2 ^ 63 }
+    requires gap_fits { at + (C.model costs.now).gap send.rank to bytes < 2 ^ 63 }
+    requires flight_fits { at + (C.model costs.now).flight send.rank to bytes < 2 ^ 63 }
+
+    ensures end { result.end ≡ at + (C.model costs.now).over send.rank to bytes }
+    ensures arrive { result.arrive ≡ at + (C.model costs.now).flight send.rank to bytes }
+    ensures holds { SameFreeTimes res.new
+        (hold_tx (hold_cpu res.old send result.end) send (at + (C.model costs.now).gap send.rank to bytes)) }
+{
+    let end = at + costs.over(send.rank, to, bytes);
+    let sent = at + costs.gap(send.rank, to, bytes);
+    let arrive = at + costs.flight(send.rank, to, bytes);
+    res.hold_cpu(send, end);
+    res.hold_tx(send, sent);
+    Begun { end, arrive }
+}
+
 /// Begins an eager send at the time `at`: it holds its cpu and the sending side of its interface, and nothing else
 /// changes.
-#[tactic(auto, using(sim_resources::proofs::OfKind::send_is_op))]
+#[tactic(auto, using(goal_graph::proofs::OfKind::send_is_op))]
 pub fn eager_begin<C: Costs>(
     sched: &Sched,
     costs: &C,
@@ -45,11 +75,6 @@ pub fn eager_begin<C: Costs>(
     ensures holds { SameFreeTimes res.new
         (hold_tx (hold_cpu res.old send result.end) send (at + gap sched.now (C.model costs.now) send)) }
 {
-    let message = message_of(sched, send);
-    let end = at + costs.over(send.rank, message.to, message.bytes);
-    let sent = at + costs.gap(send.rank, message.to, message.bytes);
-    let arrive = at + costs.flight(send.rank, message.to, message.bytes);
-    res.hold_cpu(send, end);
-    res.hold_tx(send, sent);
-    Begun { end, arrive }
+    let message = sched.message(send);
+    transfer(costs, res, send, message.to, message.bytes, at)
 }

@@ -5,8 +5,9 @@ ghost use Rattle.sim_params.specs.Costs.{over, gap, flight};
 ghost use Rattle.sim_resources.specs.Holds.{SameFreeTimes, cpu_free, tx_free, hold_cpu, hold_tx};
 
 use goal_graph::{OpId, Sched};
+use sim_eager::{Begun, begin_at, transfer};
 use sim_params::Costs;
-use sim_resources::{Resources, message_of};
+use sim_resources::Resources;
 
 /// When a large send that has handed over its bytes ends, and when they are there at the receive.
 #[derive(Clone, Copy, Debug, PartialEq, Eq)]
@@ -17,17 +18,15 @@ pub struct Sent {
 
 /// When a large send that is cleared at `cleared` may hand over its bytes: once its cpu and the sending side of its
 /// interface are free.
-#[tactic(auto, using(sim_resources::proofs::OfKind::send_is_op))]
 pub fn data_at(res: &Resources, send: OpId, cleared: u64) -> u64
     requires { IsSend res.now.plans send }
     ensures { result ≡ max cleared (max (cpu_free res.now send) (tx_free res.now send)) }
 {
-    cleared.max(res.cpu(send).max(res.tx(send)))
+    begin_at(res, send, cleared)
 }
 
 /// Hands over the bytes of a large send at the time `at`: it holds its cpu and the sending side of its interface, and
 /// nothing else changes.
-#[tactic(auto, using(sim_resources::proofs::OfKind::send_is_op))]
 pub fn data<C: Costs>(sched: &Sched, costs: &C, res: &mut Resources, send: OpId, at: u64) -> Sent
     requires same_schedule { res.old.plans ≡ sched.now }
     requires sends { IsSend sched.now send }
@@ -40,11 +39,10 @@ pub fn data<C: Costs>(sched: &Sched, costs: &C, res: &mut Resources, send: OpId,
     ensures holds { SameFreeTimes res.new
         (hold_tx (hold_cpu res.old send result.end) send (at + gap sched.now (C.model costs.now) send)) }
 {
-    let message = message_of(sched, send);
-    let end = at + costs.over(send.rank, message.to, message.bytes);
-    let sent = at + costs.gap(send.rank, message.to, message.bytes);
-    let available = at + costs.flight(send.rank, message.to, message.bytes);
-    res.hold_cpu(send, end);
-    res.hold_tx(send, sent);
-    Sent { end, available }
+    let message = sched.message(send);
+    let Begun { end, arrive } = transfer(costs, res, send, message.to, message.bytes, at);
+    Sent {
+        end,
+        available: arrive,
+    }
 }

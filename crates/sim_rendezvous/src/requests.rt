@@ -5,15 +5,15 @@ ghost use Rattle.sim_params.specs.Costs.{over_one, gap_one, flight_one, latency}
 ghost use Rattle.sim_resources.specs.Holds.{SameFreeTimes, hold_cpu, hold_tx};
 
 use goal_graph::{OpId, Sched};
+use sim_eager::transfer;
 use sim_params::Costs;
-use sim_resources::{Resources, message_of};
+use sim_resources::Resources;
 
 /// The bytes of a request.
 const REQUEST: u64 = 1;
 
 /// Begins a large send at the time `at`, and answers when its request arrives: the request of one byte holds the cpu of
 /// the send and the sending side of its interface, and nothing else changes.
-#[tactic(auto, using(sim_resources::proofs::OfKind::send_is_op))]
 pub fn request<C: Costs>(sched: &Sched, costs: &C, res: &mut Resources, send: OpId, at: u64) -> u64
     requires same_schedule { res.old.plans ≡ sched.now }
     requires sends { IsSend sched.now send }
@@ -25,13 +25,8 @@ pub fn request<C: Costs>(sched: &Sched, costs: &C, res: &mut Resources, send: Op
     ensures holds { SameFreeTimes res.new
         (hold_tx (hold_cpu res.old send (at + over_one sched.now (C.model costs.now) send)) send (at + gap_one sched.now (C.model costs.now) send)) }
 {
-    let message = message_of(sched, send);
-    let busy = at + costs.over(send.rank, message.to, REQUEST);
-    let sent = at + costs.gap(send.rank, message.to, REQUEST);
-    let arrive = at + costs.flight(send.rank, message.to, REQUEST);
-    res.hold_cpu(send, busy);
-    res.hold_tx(send, sent);
-    arrive
+    let message = sched.message(send);
+    transfer(costs, res, send, message.to, REQUEST, at).arrive
 }
 
 /// When the clearance of a large send that was paired at `paired` is back at its sender.
@@ -40,5 +35,5 @@ pub fn clear<C: Costs>(sched: &Sched, costs: &C, send: OpId, paired: u64) -> u64
     requires latency_fits { paired + latency sched.now (C.model costs.now) send < 2 ^ 63 }
     ensures { result ≡ paired + latency sched.now (C.model costs.now) send }
 {
-    paired + costs.latency(send.rank, message_of(sched, send).to)
+    paired + costs.latency(send.rank, sched.message(send).to)
 }

@@ -1,6 +1,0 @@
-use Rattle.sim_resources.proofs.Worth.{holds_add_up}
-use Rattle.sim_rendezvous.proofs.requests.request.Goals as goal
-
-pub returns-clause-holds : goal.returns-clause-holds
-returns-clause-holds g c =
-    rw (c.message_of-message.ensures.kind, ← c.over.ensures, ← c.gap.ensures) (holds_add_up.tx.adds _ _ _ _ _ c.hold_cpu.ensures c.hold_tx.ensures)
