@@ -1,5 +1,5 @@
 -- The rules tried on small schedules: the run is computed, and its starts, ends and matches are as worked by hand.
-use Rattle.std.specs.Prelude.{ℕ, zero, suc, ◌≡◌, ◌==◌, ◌&&◌, ◌||◌, Bool, false, nat_lt, List, [], ◌∷◌, Option, Some, None, if◌then◌else◌, map, refl}
+use Rattle.std.specs.Prelude.{ℕ, zero, suc, ◌≡◌, List, [], ◌∷◌, Option, Some, None, if◌then◌else◌, map, refl}
 use Rattle.std.specs.List.{flat_map}
 use Rattle.goal_graph.specs.declared.action.OpId.{OpId}
 use Rattle.goal_graph.specs.declared.action.Timed.{Timed}

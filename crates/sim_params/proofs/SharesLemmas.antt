@@ -1,20 +1,19 @@
--- The share of an operation by what it does, bounds on shares, and sums of shares by ranks.
-use Rattle.std.proofs.Common.{◌≡◌, ℕ, suc, ◌+◌, ◌^◌, ◌<◌, ◌≤◌, true, false, nat_le, List, [], ◌∷◌, ◌++◌, length, drop, get_or, Option, Some, None, is_some, slice_get, refl, sym, ap, ◌∙◌, subst, inl, inr, arith, leb-true}
+-- The share of an operation by what it does, bounds on shares, and which operations a rank has.
+use Rattle.std.proofs.Common.{◌≡◌, ℕ, ◌+◌, ◌^◌, ◌<◌, ◌≤◌, true, false, nat_le, List, [], ◌∷◌, length, get_or, Option, Some, None, is_some, slice_get, refl, sym, ap, ◌∙◌, subst, inl, inr, arith, leb-true}
 use Rattle.std.specs.List.{sum_by}
 use Rattle.std.specs.Option.{option_map}
 use Rattle.std.proofs.lemmas.Bool.{and_parts, cases_Bool}
 use Rattle.std.proofs.lemmas.Option.{slice_get-get_or}
-use Rattle.std.proofs.lemmas.List.{at_drop_more, at_drop_all}
-use Rattle.std.proofs.lemmas.List.Sums.{sum_by-cons, sum_by-append, sum_by-le}
+use Rattle.std.proofs.lemmas.List.Sums.{sum_by-le}
 use Rattle.goal_graph.specs.declared.action.OpId.{OpId}
 use Rattle.goal_graph.specs.declared.plan.Op.{Op}
 use Rattle.goal_graph.specs.declared.plan.Kind.{Kind}
 use Rattle.goal_graph.specs.declared.plan.Kind.TheVariants.{Calc, Send, Recv}
-use Rattle.goal_graph.specs.Schedule.{Plan, op_at, kind_at, places_of_rank, places_from}
+use Rattle.goal_graph.specs.Schedule.{Plan, op_at, kind_at}
 use Rattle.goal_graph.specs.Fault.{value_fits, IsOp, IsAccepted}
 use Rattle.sim_params.specs.Costs.{CostModel, IsBounded, is_eager}
 use Rattle.sim_params.specs.Budget.{share}
-use Rattle.sim_params.specs.Shares.{message_share, request_share, ops_at, places_at}
+use Rattle.sim_params.specs.Shares.{message_share, request_share, ops_at}
 use Rattle.sim_params.proofs.Accepted.{value_within}
 pub use Rattle.goal_graph.proofs.Places.{ops_at_some}
 
@@ -85,29 +84,6 @@ module _ (plans : List Plan) (costs : CostModel) (accepted : IsAccepted plans) (
   shares_bound xs few =
       omega (arith, sum_by-le (share plans costs) (2 ^ 66) xs (λ k d h. share_bound (get_or xs k d)), few)
 
--- the places of one rank from a number on
-pub places_more : (rank i : ℕ) (ops : List Op) → i < length ops → places_of_rank rank i (drop i ops) ≡ record { rank = rank; op = i } ∷ places_of_rank rank (i + 1) (drop (i + 1) ops)
-unfolding places_of_rank
-places_more rank i [] h = absurd (omega arith)
-places_more rank i (o ∷ os) h = at_drop_more (places_of_rank rank i) (o ∷ os) i o h
-
-pub places_none : (rank i : ℕ) (ops : List Op) → length ops ≤ i → places_of_rank rank i (drop i ops) ≡ []
-unfolding places_of_rank
-places_none rank i ops h = at_drop_all (places_of_rank rank i) ops i h
-
--- the places of all ranks from one on
-pub ranks_more : (plans : List Plan) (rank : ℕ) → rank < length plans → places_from rank (drop rank plans) ≡ places_at plans rank ++ places_from (rank + 1) (drop (rank + 1) plans)
-unfolding places_from places_at
-ranks_more [] rank h = absurd (omega arith)
-ranks_more (p ∷ ps) rank h =
-    let all = p ∷ ps in
-    let here = slice_get-get_or all rank p h in
-    at_drop_more (places_from rank) all rank p h ∙ ap (λ os. places_of_rank rank 0 os ++ places_from (rank + 1) (drop (rank + 1) all)) (sym (ops_at_some all rank (get_or all rank p) here))
-
-pub ranks_none : (plans : List Plan) (rank : ℕ) → length plans ≤ rank → places_from rank (drop rank plans) ≡ []
-unfolding places_from
-ranks_none plans rank h = at_drop_all (places_from rank) plans rank h
-
 -- an operation of a rank exists
 pub op_at_rank : (plans : List Plan) (rank op : ℕ) (p : Plan) → slice_get plans rank ≡ Some p → op_at plans (record { rank = rank; op = op }) ≡ slice_get p.ops op
 unfolding op_at
@@ -123,30 +99,3 @@ pub is_op_below : (plans : List Plan) (rank op : ℕ) → rank < length plans �
 is_op_below plans rank op h k =
     let p = slice_get_within_some plans rank h in
     is_op_at plans rank op p.0 p.1 (subst (λ os. op < length os) (ops_at_some plans rank p.0 p.1) k)
-
--- the shares of a rank from a number on
-pub shares_more : (f : OpId → ℕ) (rank i : ℕ) (ops : List Op) → i < length ops → sum_by f (places_of_rank rank i (drop i ops)) ≡ f (record { rank = rank; op = i }) + sum_by f (places_of_rank rank (i + 1) (drop (i + 1) ops))
-shares_more f rank i ops h =
-    ap (sum_by f) (places_more rank i ops h) ∙ sum_by-cons f (record { rank = rank; op = i }) (places_of_rank rank (i + 1) (drop (i + 1) ops))
-
-pub shares_none : (f : OpId → ℕ) (rank i : ℕ) (ops : List Op) → length ops ≤ i → sum_by f (places_of_rank rank i (drop i ops)) ≡ 0
-shares_none f rank i ops h = ap (sum_by f) (places_none rank i ops h)
-
--- the shares of all ranks from one on
-pub rank_shares_more : (f : OpId → ℕ) (plans : List Plan) (rank : ℕ) → rank < length plans → sum_by f (places_from rank (drop rank plans)) ≡ sum_by f (places_at plans rank) + sum_by f (places_from (rank + 1) (drop (rank + 1) plans))
-rank_shares_more f plans rank h =
-    ap (sum_by f) (ranks_more plans rank h) ∙ sum_by-append f (places_at plans rank) (places_from (rank + 1) (drop (rank + 1) plans))
-
-pub rank_shares_none : (f : OpId → ℕ) (plans : List Plan) (rank : ℕ) → length plans ≤ rank → sum_by f (places_from rank (drop rank plans)) ≡ 0
-rank_shares_none f plans rank h = ap (sum_by f) (ranks_none plans rank h)
-
-length-places : (rank i : ℕ) (ops : List Op) → length (places_of_rank rank i ops) ≡ length ops
-unfolding places_of_rank
-length-places rank i [] = refl
-length-places rank i (o ∷ os) = ap suc (length-places rank (i + 1) os)
-
--- all shares of a rank together
-pub rank_bound : (plans : List Plan) (costs : CostModel) → IsAccepted plans → IsBounded costs → (rank : ℕ) → length (ops_at plans rank) ≤ 2 ^ 20 → sum_by (share plans costs) (places_at plans rank) ≤ 2 ^ 86
-unfolding places_at
-rank_bound plans costs accepted bounded rank few =
-    shares_bound plans costs accepted bounded (places_of_rank rank 0 (ops_at plans rank)) (omega (arith, length-places rank 0 (ops_at plans rank), few))

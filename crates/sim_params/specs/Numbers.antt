@@ -1,5 +1,5 @@
 -- The numbers of the parameters, and the bound on the costs of LogGOPS.
-use Rattle.std.specs.Prelude.{ℕ, zero, suc, ◌≡◌, ◌+◌, ◌-◌, ◌*◌, ◌/◌, ◌<◌, ◌≤◌, ◌^◌, max, Bool, true, false, nat_le}
+use Rattle.std.specs.Prelude.{ℕ, zero, suc, ◌≡◌, ◌+◌, ◌-◌, ◌*◌, ◌/◌, ◌<◌, ◌≤◌, ◌^◌, Bool, true, false, nat_le}
 use Rattle.std.proofs.Common.{arith, refl, ap}
 use Rattle.std.proofs.lemmas.Bool.{le-leb, lt-leb}
 use Rattle.sim_params.specs.declared.params.Params.{Params}

@@ -1,8 +1,8 @@
 // The time budget: a bound on every time of a run, known before it.
-ghost use Rattle.std.specs.Prelude.{◌≡◌, ◌<◌, ◌≤◌, ◌^◌, length, sum_by};
+ghost use Rattle.std.specs.Prelude.{◌≡◌, ◌<◌, ◌≤◌, ◌^◌, length};
 ghost use Rattle.goal_graph.specs.Fault.{IsOp};
 ghost use Rattle.sim_params.specs.Budget.{budget, share};
-ghost use Rattle.sim_params.specs.Shares.{message_share, request_share, ops_at, places_at};
+ghost use Rattle.sim_params.specs.Shares.{message_share, request_share, ops_at};
 
 use crate::Costs;
 use goal_graph::{Kind, OpId, Sched};
@@ -12,24 +12,10 @@ pub fn budget<C: Costs>(sched: &Sched, costs: &C) -> u128
     ensures { result ≡ budget sched.now (C.model costs.now) }
 {
     let _count = sched.count();
-    let ranks = sched.plans().len() as u32;
+    sched.known();
     let mut sum = 0;
-    for rank in 0..ranks {
-        let shares = rank_share(sched, costs, rank);
-        sum += shares;
-    }
-    sum
-}
-
-// The shares of the operations of one rank, added up.
-fn rank_share<C: Costs>(sched: &Sched, costs: &C, rank: u32) -> u128
-    requires { rank < length sched.now }
-    ensures { result ≡ sum_by (share sched.now (C.model costs.now)) (places_at sched.now rank) }
-{
-    let _plans = sched.plans();
-    let mut sum = 0;
-    for op in 0..op_count(sched, rank) {
-        sum += share(sched, costs, OpId { rank, op });
+    for id in sched.operations() {
+        sum += share(sched, costs, *id);
     }
     sum
 }
