@@ -1,13 +1,16 @@
+-- What a reader must believe.
 pub mod Schedule
-pub mod IdText
+pub mod Order
 pub mod Fault
+pub mod Action
+pub mod Matching
+pub mod Allowed
+pub mod Interleaving
+pub mod IdText
+-- What only the code keeps.
 pub mod Widths
 pub mod Rows
 pub mod Tables
 pub mod Search
-pub mod Action
-pub mod Order
-pub mod Matching
-pub mod Allowed
-pub mod Interleaving
+-- Laws.
 pub mod Laws

@@ -1,5 +1,5 @@
 -- A schedule: for each rank a list of operations, of dependencies and of notes.
-use Rattle.std.specs.Prelude.{ℕ, ◌+◌, ◌==◌, List, [], ◌∷◌, ◌++◌, Option, map, filter, slice_get, unwrap_or, option_and_then}
+use Rattle.std.specs.Prelude.{ℕ, ◌+◌, ◌==◌, ◌&&◌, Bool, false, Some, List, [], ◌∷◌, ◌++◌, Option, map, filter, slice_get, unwrap_or, option_and_then}
 use Rattle.std.specs.Option.{option_map}
 use Rattle.goal_graph.specs.declared.action.OpId.{OpId}
 use Rattle.goal_graph.specs.declared.plan.Op.{Op}
@@ -21,6 +21,11 @@ op_at plans x = option_and_then (λ (p : Plan). slice_get p.ops x.op) (slice_get
 -- what the operation at a place does
 unfoldable pub kind_at : List Plan → OpId → Option Kind
 kind_at plans x = option_map (λ (o : Op). o.kind) (op_at plans x)
+
+-- two operations of one rank with the same cpu, or the same interface
+abbrev pub same_place : (Op → ℕ) → OpId → Option Op → OpId → Option Op → Bool
+same_place place x (Some o) y (Some p) = (x.rank == y.rank) && (place o == place p)
+same_place place x _ y _ = false
 
 -- the operations of a rank, none where there is no such rank
 unfoldable pub ops_at : List Plan → ℕ → List Op

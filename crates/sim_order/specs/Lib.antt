@@ -1,5 +1,8 @@
+-- What a reader must believe.
 pub mod Order
 pub mod Events
-pub mod OrderLaws
+-- What only the code keeps.
 pub mod Keys
+-- Laws.
+pub mod OrderLaws
 pub mod EventLaws

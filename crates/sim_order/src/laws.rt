@@ -1,5 +1,6 @@
-// The law of orders that compares different values. Its function does nothing: a proof cites a law by a call.
+// The laws of orders that compare different values, and of events by key. Their functions do nothing: a proof cites a law by a call.
 ghost use Rattle.std.specs.Prelude.{◌≡◌, ◌≢◌, ◌⊎◌, true};
+ghost use Rattle.sim_order.specs.Events.{EventsGoByKey};
 
 use crate::{EventOrder, KeyOrder};
 
@@ -11,4 +12,9 @@ pub fn laws_of_keys<K: KeyOrder>()
 /// Of two different events one is before the other.
 pub fn laws_of_events<K: EventOrder>()
     ensures { (x y : K) → x ≢ y → (K.before x y ≡ true) ⊎ (K.before y x ≡ true) }
+{}
+
+/// Events are in the order of the keys of their actions.
+pub fn laws_of_event_keys()
+    ensures { EventsGoByKey }
 {}

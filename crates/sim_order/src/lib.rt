@@ -11,6 +11,6 @@ mod tests;
 
 pub use event::EventKey;
 pub use key::{Flip, KeyOrder, Lex};
-pub use laws::{laws_of_events, laws_of_keys};
+pub use laws::{laws_of_event_keys, laws_of_events, laws_of_keys};
 pub use order::{Counted, EventOrder};
 pub use steps::Steps;

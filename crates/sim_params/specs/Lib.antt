@@ -1,3 +1,4 @@
+-- What a reader must believe.
 pub mod Costs
 pub mod Limits
 pub mod Numbers
@@ -5,5 +6,8 @@ pub mod Times
 pub mod Run
 pub mod Stuck
 pub mod Budget
-pub mod Laws
+-- What only the code keeps.
+pub mod Bounds
 pub mod Shares
+-- Laws.
+pub mod Laws

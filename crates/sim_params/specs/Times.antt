@@ -1,7 +1,7 @@
 -- The times of a history, in nanoseconds: when operations start and end, when cpus and interfaces are free, and when
 -- an action may happen. A history is newest first. A time that is absent counts as 0 here; whether it is there is
 -- told by the rules without times.
-use Rattle.std.specs.Prelude.{ℕ, ◌+◌, ◌≡◌, ◌==◌, ◌&&◌, max, Bool, true, false, List, [], ◌∷◌, Option, Some, None, if◌then◌else◌}
+use Rattle.std.specs.Prelude.{ℕ, ◌+◌, ◌≡◌, ◌&&◌, max, Bool, true, false, List, [], ◌∷◌, Option, Some, None, if◌then◌else◌}
 use Rattle.goal_graph.specs.declared.action.OpId.{OpId}
 use Rattle.goal_graph.specs.declared.action.Timed.{Timed}
 use Rattle.goal_graph.specs.declared.action.Class.{Class}
@@ -13,6 +13,7 @@ use Rattle.goal_graph.specs.declared.plan.Need.{Need}
 use Rattle.goal_graph.specs.declared.plan.When.{When}
 use Rattle.goal_graph.specs.declared.plan.When.TheVariants.{AfterEnd, AfterStart}
 use Rattle.goal_graph.specs.Schedule.{Plan, op_at, kind_at, needs, needed}
+pub use Rattle.goal_graph.specs.Schedule.{same_place}
 use Rattle.goal_graph.specs.Action.{Act, happened, plain}
 use Rattle.goal_graph.specs.Matching.{pairs, partner, is_paired}
 use Rattle.goal_graph.specs.Allowed.{last_class, has_started, has_ended, allowed}
@@ -32,11 +33,6 @@ greatest f (x ∷ xs) = max (f x) (greatest f xs)
 abbrev pub at_partner : (OpId → ℕ) → Option OpId → ℕ
 at_partner f None = 0
 at_partner f (Some m) = f m
-
--- two operations of one rank with the same cpu, or the same interface
-abbrev pub same_place : (Op → ℕ) → OpId → Option Op → OpId → Option Op → Bool
-same_place place x (Some o) y (Some p) = (x.rank == y.rank) && (place o == place p)
-same_place place x _ y _ = false
 
 -- the actions that hold a cpu, the sending side of an interface, its receiving side
 abbrev pub holds_cpu : Class → Bool

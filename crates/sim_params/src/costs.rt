@@ -86,7 +86,8 @@ impl LogGops {
 impl Costs for LogGops {
     ghost use Rattle.std.specs.Prelude.{◌≡◌, ◌<◌, ◌^◌};
     ghost use Rattle.sim_params.specs.Costs.{CostModel, log_gops};
-    ghost use Rattle.sim_params.specs.Numbers.{numbers, log_gops_bounded};
+    ghost use Rattle.sim_params.specs.Numbers.{numbers};
+    ghost use Rattle.sim_params.specs.Bounds.{log_gops_bounded};
 
     ghost model = { λ c. log_gops (numbers c.params) };
 

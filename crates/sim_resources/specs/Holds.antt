@@ -1,15 +1,12 @@
 -- Until when the cpus and the interfaces of the ranks are held, in nanoseconds.
-use Rattle.std.specs.Prelude.{ℕ, ◌≡◌, ◌==◌, ◌&&◌, max, Bool, false, List, [], ◌∷◌, Option, Some, if◌then◌else◌}
+use Rattle.std.specs.Prelude.{ℕ, ◌≡◌, max, Bool, List, [], ◌∷◌, if◌then◌else◌}
 use Rattle.goal_graph.specs.declared.action.OpId.{OpId}
 use Rattle.goal_graph.specs.declared.plan.Op.{Op}
 use Rattle.goal_graph.specs.Schedule.{Plan, op_at}
+pub use Rattle.goal_graph.specs.Schedule.{same_place as shares_place}
 use Rattle.sim_resources.specs.declared.holds.Hold.{Hold}
 
 -- two operations of one rank that use the same cpu, or the same interface
-abbrev pub shares_place : (Op → ℕ) → OpId → Option Op → OpId → Option Op → Bool
-shares_place place x (Some o) y (Some p) = (x.rank == y.rank) && (place o == place p)
-shares_place place x _ y _ = false
-
 abbrev pub shares : (Op → ℕ) → List Plan → OpId → OpId → Bool
 shares place plans x y = shares_place place x (op_at plans x) y (op_at plans y)
 

@@ -1,6 +1,6 @@
 use Rattle.std.proofs.Common.{◌≡◌, ℕ, ◌+◌, ◌-◌, ◌*◌, ◌/◌, ◌%◌, min, ap, arith}
 use Rattle.sim_params.specs.Costs.{rounded_up}
-use Rattle.sim_params.specs.Numbers.{rounded_is}
+use Rattle.sim_params.specs.Bounds.{rounded_is}
 use Rattle.sim_params.proofs.costs.up.Goals as goal
 
 rounded_by_rest : (picos : ℕ) → picos / 1000 + min 1 (picos % 1000) ≡ rounded_up picos

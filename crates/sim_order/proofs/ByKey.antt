@@ -1,0 +1,33 @@
+-- The order of events is that of the keys of actions.
+use Rattle.std.proofs.Common.{◌≡◌, ℕ, ◌==◌, ◌&&◌, ◌||◌, Bool, true, false, nat_lt, inl, inr, refl, ap, ◌∙◌, arith, lt-ltb, eq-eqb}
+use Rattle.std.proofs.lemmas.Bool.{cases_order, le-ltb, ne_eqb}
+use Rattle.goal_graph.specs.declared.action.Timed.{Timed}
+use Rattle.goal_graph.specs.Action.{place}
+use Rattle.goal_graph.specs.Order.{less, key}
+use Rattle.sim_order.specs.Order.{lexical}
+use Rattle.sim_order.specs.Events.{event_before}
+
+first_part : (m n : ℕ) (rest : Bool) → lexical (nat_lt m n) (nat_lt n m) rest ≡ (nat_lt m n || ((m == n) && rest))
+first_part m n rest = elim (cases_order m n) [
+  | inl same ↦ rw (le-ltb m n (omega (arith, same)), le-ltb n m (omega (arith, same)), eq-eqb m n same) refl
+  | inr rest ↦ elim rest [
+    | inl below ↦ rw (lt-ltb m n below) refl
+    | inr above ↦ rw (le-ltb m n (omega (arith, above)), lt-ltb n m above, ne_eqb m n (λ same. omega (arith, above, same))) refl
+  ]
+]
+
+last_part : (m n : ℕ) → nat_lt m n ≡ (nat_lt m n || ((m == n) && false))
+last_part m n = go (nat_lt m n) (m == n)
+  where
+    go : (a b : Bool) → a ≡ (a || (b && false))
+    go true b = refl
+    go false true = refl
+    go false false = refl
+
+pub event_by_key : (a b : Timed) → event_before a b ≡ less (key a) (key b)
+unfolding less
+event_by_key a b =
+    first_part a.time b.time _
+    ∙ ap (λ (r : Bool). nat_lt a.time b.time || ((a.time == b.time) && r)) (first_part (place a.class) (place b.class) _
+    ∙ ap (λ (r : Bool). nat_lt (place a.class) (place b.class) || ((place a.class == place b.class) && r)) (first_part a.op.rank b.op.rank _
+    ∙ ap (λ (r : Bool). nat_lt a.op.rank b.op.rank || ((a.op.rank == b.op.rank) && r)) (last_part a.op.op b.op.op)))
