@@ -7,7 +7,7 @@ use Rattle.std.proofs.lemmas.Bool.Decides.{nat_tests}
 use Rattle.std.proofs.lemmas.List.{append-nil, take_at, drop-take, drop_at, length-append, length-take, get_or-drop, get_or-take, get_or-replicate, get_or_past, length-replicate}
 use Rattle.std.proofs.lemmas.Option.{slice_get_past, slice_get-get_or}
 use Rattle.goal_base.specs.declared.limits.TheConstants.{MAX_RANKS}
-use Rattle.goal_graph.proofs.Numbers.{and_left, and_right}
+use Rattle.goal_graph.proofs.ForCallers.{and_left, and_right}
 use Rattle.goal_binary.specs.declared.fault.FileFault.{FileFault}
 use Rattle.goal_binary.specs.declared.fault.FileFault.TheVariants.{Short, Field}
 use Rattle.goal_binary.specs.Fields.{Read, ◌>>=◌, allow, byte_or_short, byte_at, u32_at, u64_at, byte_up_to, u32_up_to, u64_up_to, count_at, rank_count_at}

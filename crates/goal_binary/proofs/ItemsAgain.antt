@@ -14,7 +14,7 @@ use Rattle.goal_graph.specs.declared.plan.Note.{Note}
 use Rattle.goal_graph.specs.declared.plan.Note.TheVariants.{Moves, Adds}
 use Rattle.goal_graph.specs.Fault.{value_fits}
 use Rattle.goal_graph.specs.Widths.{IsKindInWidth, IsNoteInWidth}
-use Rattle.goal_graph.proofs.Numbers.{and_left, and_right}
+use Rattle.goal_graph.proofs.ForCallers.{and_left, and_right}
 use Rattle.goal_binary.specs.declared.form.Form.{Form}
 use Rattle.goal_binary.specs.Fitting.{OpFits, DepFits}
 use Rattle.goal_binary.specs.File.{spelled_u32, spelled_u64, kind_code, flags_of, peer_of, tag_of, size_of, op_bytes, spelled_op, spelled_dep, spelled_note, when_code}

@@ -13,8 +13,7 @@ use Rattle.goal_graph.specs.declared.plan.Note.{Note}
 use Rattle.goal_graph.specs.Schedule.{Plan}
 use Rattle.goal_graph.specs.Fault.{op_count, dep_count, note_count, IsAccepted}
 use Rattle.goal_graph.specs.Widths.{IsNoteInWidth, AreInWidth}
-use Rattle.goal_graph.proofs.Plain.{plain-counts, plain-op, plain-dep, dep_in_range-parts}
-use Rattle.goal_graph.proofs.Places.{lengths-le}
+use Rattle.goal_graph.proofs.ForCallers.{plain-counts, plain-op, plain-dep, dep_in_range-parts, lengths-le}
 use Rattle.goal_binary.specs.Fitting.{OpFits, DepFits, PlanFits, HaveFile}
 use Rattle.goal_binary.specs.File.{spelled_u32, spelled_op, spelled_dep, spelled_note, spelled_counts, spelled_rank, header, file}
 use Rattle.goal_binary.specs.Fields.{count_at}

@@ -4,7 +4,7 @@ use Rattle.std.specs.Prelude.{IfOk, IfErr, IsOkUnless}
 use Rattle.goal_graph.specs.Schedule.{Plan}
 use Rattle.goal_graph.specs.Fault.{IsAccepted}
 use Rattle.goal_graph.specs.Widths.{AreInWidth}
-use Rattle.goal_graph.proofs.Faults.{IsAccepted-no_fault}
+use Rattle.goal_graph.proofs.ForCallers.{IsAccepted-no_fault}
 use Rattle.goal_binary.specs.declared.fault.FileFault.{FileFault}
 use Rattle.goal_binary.specs.declared.fault.FileFault.TheVariants as fault
 use Rattle.goal_binary.specs.File.{file}

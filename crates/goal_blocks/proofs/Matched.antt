@@ -10,9 +10,7 @@ use Rattle.goal_graph.specs.Action.{Act}
 use Rattle.goal_graph.specs.Interleaving.{IsCompleteInterleaving}
 use Rattle.goal_graph.specs.Fault.{IsOp}
 use Rattle.goal_graph.specs.Laws.{HaveMet, IsApart}
-use Rattle.goal_graph.proofs.Stages.{started_send, started_receive, ended_started}
-use Rattle.goal_graph.proofs.Complete.{begun_send_arrived}
-use Rattle.goal_graph.proofs.Apart.{partners_iff_met, completes_alike}
+use Rattle.goal_graph.proofs.ForCallers.{started_send, started_receive, ended_started, begun_send_arrived, partners_iff_met, completes_alike}
 use Rattle.goal_blocks.specs.Channels.{AreOfOneChannel}
 use Rattle.goal_blocks.specs.Walk.{no_send, AllEnd}
 use Rattle.goal_blocks.specs.Matched.{IsMatched, EndsInItsPairs}

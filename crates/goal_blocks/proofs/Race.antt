@@ -7,8 +7,7 @@ use Rattle.goal_graph.specs.Schedule.{Plan, needed}
 use Rattle.goal_graph.specs.Action.{Act}
 use Rattle.goal_graph.specs.Allowed.{has_ended, is_met, is_ready}
 use Rattle.goal_graph.specs.Interleaving.{IsInterleaving}
-use Rattle.goal_graph.proofs.Members.{ready_need}
-use Rattle.goal_graph.proofs.Stages.{ended_started, started_ready}
+use Rattle.goal_graph.proofs.ForCallers.{ready_need, ended_started, started_ready}
 use Rattle.goal_blocks.specs.Race.{Reaches, here, through, EndsBefore, Conflict, HasNoRace, AlwaysEndsFirst}
 
 module _ (plans : List Plan) where

@@ -3,7 +3,7 @@ use Rattle.std.proofs.Common.{◌≡◌, ℕ, ◌<◌, ◌^◌, Bool, true, fals
 use Rattle.std.specs.declared.result.Result.TheVariants.{Ok, Err}
 use Rattle.goal_graph.specs.Schedule.{Plan}
 use Rattle.goal_graph.specs.Fault.{IsAccepted}
-use Rattle.goal_graph.proofs.Faults.{IsFault-unique, IsAccepted-no_fault}
+use Rattle.goal_graph.proofs.ForCallers.{IsFault-unique, IsAccepted-no_fault}
 use Rattle.goal_parser.specs.declared.faults.TextFault.{TextFault}
 use Rattle.goal_parser.specs.declared.faults.TextFault.TheVariants as text
 use Rattle.goal_parser.specs.Reads as said

@@ -5,7 +5,7 @@ use Rattle.goal_graph.specs.Schedule.{Plan}
 use Rattle.sim_params.specs.Costs.{CostModel, log_gops}
 use Rattle.sim_params.specs.Stuck.{is_stuck}
 use Rattle.sim_waits.specs.WaitsText.{IsWaitsText}
-use Rattle.sim_waits.proofs.OneReport.{one_report}
+use Rattle.sim_waits.proofs.ForCallers.{one_report}
 use Rattle.goal_print.specs.Canonical.{canonical}
 use Rattle.goal_binary.specs.File.{file}
 use Rattle.goal_words.specs.Words.{Command, Sim, Waits, Compile, Show}

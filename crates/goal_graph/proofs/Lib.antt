@@ -30,3 +30,4 @@ pub mod FirstFault
 pub mod Accepted
 pub mod Order
 pub mod OfKind
+pub mod ForCallers

@@ -12,3 +12,4 @@ pub mod OnlyLaws
 pub mod StretchLaws
 pub mod WholeLaws
 pub mod GoesOnLaws
+pub mod ForCallers

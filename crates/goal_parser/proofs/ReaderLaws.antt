@@ -7,7 +7,7 @@ use Rattle.goal_lexer.specs.declared.tokens.Token.{Token}
 use Rattle.goal_lexer.specs.Scan.{Scanned, scan, closing, lexed}
 use Rattle.goal_lexer.specs.State.{LexState}
 use Rattle.goal_lexer.specs.Stands.{Stands, handed, begins_run}
-use Rattle.goal_lexer.proofs.StandsLaws.{goes_on, finishes}
+use Rattle.goal_lexer.proofs.ForCallers.{goes_on, finishes}
 use Rattle.goal_graph.specs.Schedule.{Plan}
 use Rattle.goal_parser.specs.declared.faults.TextFault.{TextFault}
 use Rattle.goal_parser.specs.declared.faults.TextFault.TheVariants.{Lex}

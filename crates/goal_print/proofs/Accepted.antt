@@ -19,7 +19,7 @@ use Rattle.goal_graph.specs.declared.plan.Note.TheVariants.{Moves, Adds}
 use Rattle.goal_graph.specs.Schedule.{Plan}
 use Rattle.goal_graph.specs.Fault.{IsAccepted, AreCountsWithin, op_count, value_fits, has_peer, dep_in_range, note_fits, can_move, can_add, op_fault, dep_fault, note_fault, first_fault, rank_fault, count_fault, plain_fault}
 use Rattle.goal_graph.specs.Widths.{IsKindInWidth, IsOpInWidth, IsNoteInWidth, IsPlanInWidth, AreInWidth}
-use Rattle.goal_graph.proofs.Plain.{option_or-none}
+use Rattle.goal_graph.proofs.ForCallers.{option_or-none}
 use Rattle.goal_parser.specs.Plans.{empty_plan}
 use Rattle.goal_print.proofs.Lexes.{within}
 use Rattle.goal_print.proofs.Fits.{WildFits, KindFits, OpFits, DepFits, NoteFits, PlanFits}

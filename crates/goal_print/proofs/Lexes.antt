@@ -12,8 +12,7 @@ use Rattle.goal_lexer.specs.Runs.{run_kind}
 use Rattle.goal_lexer.specs.Scan.{lexed}
 use Rattle.goal_lexer.specs.Stands.{begins_run}
 use Rattle.goal_lexer.specs.Pieces.{Piece, blank, run, sign, bytes_of, Each, AreWord, IsRight, spelled, AreRight, piece_tokens, tokens_of, EndsWith, NothingBegins}
-use Rattle.goal_lexer.proofs.OnlyLaws.{only_reading}
-use Rattle.goal_lexer.proofs.FormLaws.{first_in_run}
+use Rattle.goal_lexer.proofs.ForCallers.{only_reading, first_in_run}
 use Rattle.goal_print.specs.Canonical.{label}
 use Rattle.goal_print.proofs.Numerals.{decimal_digits, number_value-decimal, length-decimal, label_word, length-label, label_kind, size_kind}
 

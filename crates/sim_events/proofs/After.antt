@@ -13,17 +13,11 @@ use Rattle.goal_graph.specs.Action.{place, same_op, is_act, happened, plain, pla
 use Rattle.goal_graph.specs.Matching.{pairs, is_paired}
 use Rattle.goal_graph.specs.Allowed.{first_class, last_class, may, allowed}
 use Rattle.goal_graph.specs.Laws.{IsCalc, IsSend}
-use Rattle.goal_graph.proofs.Actions.{happened_other, happened_new, is_act_from}
-use Rattle.goal_graph.proofs.Ever.{arrived_begun}
-use Rattle.goal_graph.proofs.Persist.{is_some_from}
-use Rattle.goal_graph.proofs.Rules.{allowed_fresh}
-use Rattle.goal_graph.proofs.Stages.{started_send}
+use Rattle.goal_graph.proofs.ForCallers.{happened_other, happened_new, is_act_from, arrived_begun, is_some_from, allowed_fresh, started_send}
 use Rattle.sim_params.specs.Costs.{CostModel, flight, flight_one, is_eager}
 use Rattle.sim_params.specs.Times.{mate, cpu_hold, start, paired_at, time_of, time, Possible}
 use Rattle.sim_params.specs.Run.{IsRun}
-use Rattle.sim_params.proofs.Fixed.{start_kept, start_now, end_kept, end_last, paired_at_kept}
-use Rattle.sim_params.proofs.Grow.{since_kept, since_new}
-use Rattle.sim_params.proofs.Interleavings.{run_each, run_interleaving}
+use Rattle.sim_params.proofs.ForCallers.{start_kept, start_now, end_kept, end_last, paired_at_kept, since_kept, since_new, run_each, run_interleaving}
 use Rattle.sim_events.specs.Engine.{start_told, end_told}
 use Rattle.sim_events.specs.Turns.{time_told}
 use Rattle.sim_events.specs.Mirrors.{paired_told, there_told}

@@ -10,10 +10,10 @@ use Rattle.goal_graph.specs.Schedule.{Plan}
 use Rattle.goal_graph.specs.Action.{plain}
 use Rattle.goal_graph.specs.Allowed.{allowed}
 use Rattle.goal_graph.specs.Laws.{IsCalc, IsSend, IsReceive}
-use Rattle.goal_graph.proofs.Rules.{not_send_receive, not_receive_calc, not_send_calc, allowed_arrive, allowed_data, allowed_serve, allowed_post, allowed_begin}
+use Rattle.goal_graph.proofs.ForCallers.{not_send_receive, not_receive_calc, not_send_calc, allowed_arrive, allowed_data, allowed_serve, allowed_post, allowed_begin}
 use Rattle.sim_params.specs.Costs.{CostModel, is_eager}
 use Rattle.sim_params.specs.Laws.{at_its_time}
-use Rattle.sim_params.proofs.Interleavings.{possible_at}
+use Rattle.sim_params.proofs.ForCallers.{possible_at}
 use Rattle.sim_events.specs.Turns.{turn_told}
 use Rattle.sim_events.specs.Queue.{IsTurnOf}
 

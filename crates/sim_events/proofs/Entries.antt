@@ -10,13 +10,11 @@ use Rattle.goal_graph.specs.Fault.{IsOp}
 use Rattle.goal_graph.specs.Action.{place, same_op, is_act, plain, plain_act}
 use Rattle.goal_graph.specs.Allowed.{first_class, last_class}
 use Rattle.goal_graph.specs.Laws.{IsCalc, IsSend, IsReceive}
-use Rattle.goal_graph.proofs.Actions.{cases_op, is_act_class, same_op_true, same_op_from}
-use Rattle.goal_graph.proofs.Rules.{not_send_receive}
-use Rattle.goal_graph.proofs.Stages.{first_of_calc, first_of_send, first_of_receive, last_of_calc, last_of_eager, last_of_large, last_of_receive}
+use Rattle.goal_graph.proofs.ForCallers.{cases_op, is_act_class, same_op_true, same_op_from, not_send_receive, first_of_calc, first_of_send, first_of_receive, last_of_calc, last_of_eager, last_of_large, last_of_receive}
 use Rattle.sim_params.specs.Costs.{CostModel, flight, flight_one, is_eager}
 use Rattle.sim_params.specs.Times.{mate, cpu_hold, Possible}
 use Rattle.sim_params.specs.Run.{IsRun}
-use Rattle.sim_resources.proofs.OfKind.{send_is_op, receive_is_op}
+use Rattle.sim_resources.proofs.ForCallers.{send_is_op, receive_is_op}
 use Rattle.sim_match.specs.Heard.{is_heard, is_heard_class, send_for, receive_for}
 use Rattle.sim_events.specs.declared.entry.Entry.{Entry}
 use Rattle.sim_events.specs.declared.entry.Pairing.{Pairing}

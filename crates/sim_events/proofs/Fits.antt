@@ -10,19 +10,13 @@ use Rattle.goal_graph.specs.Action.{place, is_act, happened, plain, plain_act}
 use Rattle.goal_graph.specs.Matching.{pairs, is_paired}
 use Rattle.goal_graph.specs.Allowed.{first_class, may, is_served, allowed}
 use Rattle.goal_graph.specs.Laws.{IsSend, IsReceive}
-use Rattle.goal_graph.proofs.Ever.{arrived_begun, served_message}
-use Rattle.goal_graph.proofs.Persist.{cases_some}
-use Rattle.goal_graph.proofs.Rules.{allowed_from, allowed_arrive, allowed_data, allowed_post, allowed_serve}
-use Rattle.goal_graph.proofs.Partners.{partners_mutual, partner_is_receive}
+use Rattle.goal_graph.proofs.ForCallers.{arrived_begun, served_message, cases_some, allowed_from, allowed_arrive, allowed_data, allowed_post, allowed_serve, partners_mutual, partner_is_receive}
 use Rattle.sim_params.specs.Costs.{CostModel, flight, flight_one, is_eager}
 use Rattle.sim_params.specs.Times.{since, mate, cpu_hold, tx_hold, rx_hold, paired_at, there_at, time_of, time, Possible}
 use Rattle.sim_params.specs.Run.{IsRun}
 use Rattle.sim_params.specs.Budget.{budget}
 use Rattle.sim_params.specs.Laws.{at_its_time}
-use Rattle.sim_params.proofs.BudgetBound.{possible_budget}
-use Rattle.sim_params.proofs.Fixed.{start_now}
-use Rattle.sim_params.proofs.Grow.{since_new, mate_stays}
-use Rattle.sim_params.proofs.Interleavings.{possible_at, run_each, run_interleaving}
+use Rattle.sim_params.proofs.ForCallers.{possible_budget, start_now, since_new, mate_stays, possible_at, run_each, run_interleaving}
 use Rattle.sim_events.proofs.After.{happened_same, happened_this, fresh, other_class}
 
 module _ (plans : List Plan) (costs : CostModel) (h : List Timed) (a : Timed) (run : IsRun plans costs h) (p : Possible plans costs h a) where

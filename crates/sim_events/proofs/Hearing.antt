@@ -5,11 +5,11 @@ use Rattle.goal_graph.specs.declared.action.Class.{Class}
 use Rattle.goal_graph.specs.declared.action.Class.TheVariants.{Arrive, Post}
 use Rattle.goal_graph.specs.Schedule.{Plan}
 use Rattle.goal_graph.specs.Action.{Act, happened, plain, plain_act}
-use Rattle.goal_graph.proofs.Rules.{allowed_fresh}
+use Rattle.goal_graph.proofs.ForCallers.{allowed_fresh}
 use Rattle.sim_params.specs.Costs.{CostModel, is_eager}
 use Rattle.sim_params.specs.Times.{Possible}
 use Rattle.sim_match.specs.Heard.{Heard, is_heard_class, with_post, with_arrival}
-use Rattle.sim_match.proofs.HeardLemmas.{heard_more, heard_same, happened_heard}
+use Rattle.sim_match.proofs.ForCallers.{heard_more, heard_same, happened_heard}
 use Rattle.sim_events.specs.Mirrors.{IsAllHeard}
 
 module _ (plans : List Plan) (costs : CostModel) (h : List Timed) (a : Timed) (m : Heard) (before : IsAllHeard plans costs h m) where

@@ -2,9 +2,9 @@
 use Rattle.std.proofs.Common.{◌≡◌, true, ◌∙◌}
 use Rattle.goal_graph.specs.declared.action.Timed.{Timed}
 use Rattle.goal_graph.specs.Order.{IsLess, key}
-use Rattle.goal_graph.proofs.Order.{less_tested}
+use Rattle.goal_graph.proofs.ForCallers.{less_tested}
 use Rattle.sim_order.specs.Events.{event_before}
-use Rattle.sim_order.proofs.ByKey.{event_by_key}
+use Rattle.sim_order.proofs.ForCallers.{event_by_key}
 
 pub before_event : (a b : Timed) → IsLess (key a) (key b) → event_before a b ≡ true
 before_event a b l = event_by_key a b ∙ less_tested (key a) (key b) l

@@ -21,3 +21,4 @@ pub mod TurnLemmas
 pub mod Choice
 pub mod Numbering
 pub mod Lifts
+pub mod ForCallers

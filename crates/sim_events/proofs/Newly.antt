@@ -15,12 +15,7 @@ use Rattle.goal_graph.specs.Action.{Act, happened}
 use Rattle.goal_graph.specs.Matching.{Pair, new_pair, add_pair, pairs, partner, is_paired}
 use Rattle.goal_graph.specs.Allowed.{first_class, last_class, is_met, is_ready, is_served, may, allowed}
 use Rattle.goal_graph.specs.Interleaving.{IsInterleaving}
-use Rattle.goal_graph.proofs.Actions.{happened_cases, happened_before, is_act_op, act_of}
-use Rattle.goal_graph.proofs.Lists.{contains_first, contains_more}
-use Rattle.goal_graph.proofs.Members.{ready_need, unready_need}
-use Rattle.goal_graph.proofs.Partners.{IsListed, new_pair_is, newly_paired, listed_partners, partners_mutual}
-use Rattle.goal_graph.proofs.Persist.{is_some_from, partner_stays}
-use Rattle.goal_graph.proofs.Rules.{allowed_fresh, allowed_may, allowed_from}
+use Rattle.goal_graph.proofs.ForCallers.{happened_cases, happened_before, is_act_op, act_of, contains_first, contains_more, ready_need, unready_need, IsListed, new_pair_is, newly_paired, listed_partners, partners_mutual, is_some_from, partner_stays, allowed_fresh, allowed_may, allowed_from}
 use Rattle.sim_events.specs.Queue.{Waits}
 
 abbrev is_later : ℕ → Dep → Bool

@@ -8,7 +8,7 @@ use Rattle.std.proofs.lemmas.Option.{same_Some, slice_get_within}
 use Rattle.goal_graph.specs.declared.action.OpId.{OpId}
 use Rattle.goal_graph.specs.declared.plan.Op.{Op}
 use Rattle.goal_graph.specs.Schedule.{Plan, op_at, operations}
-use Rattle.sim_resources.proofs.Lists.{get_kept, get_last}
+use Rattle.sim_resources.proofs.ForCallers.{get_kept, get_last}
 use Rattle.sim_events.specs.declared.station.Station.{Station}
 use Rattle.sim_events.specs.Stations.{station_of, AreStationed, same_choice, same_station, HasStation}
 

@@ -13,16 +13,13 @@ use Rattle.goal_graph.specs.Matching.{Pair, partner, is_paired, fits, new_pair, 
 use Rattle.goal_graph.specs.Allowed.{is_served, allowed}
 use Rattle.goal_graph.specs.Interleaving.{IsInterleaving}
 use Rattle.goal_graph.specs.Laws.{IsSend, IsReceive}
-use Rattle.goal_graph.proofs.Actions.{act_of}
-use Rattle.goal_graph.proofs.Persist.{is_some_from}
-use Rattle.goal_graph.proofs.Rules.{allowed_fresh, fits_receive, fits_send}
-use Rattle.goal_graph.proofs.Partners.{IsNew, new_pair_is, pairs_same, partner_other, not_arrived, not_posted, IsListed, listed_partners}
+use Rattle.goal_graph.proofs.ForCallers.{act_of, is_some_from, allowed_fresh, fits_receive, fits_send, IsNew, new_pair_is, pairs_same, partner_other, not_arrived, not_posted, IsListed, listed_partners}
 use Rattle.sim_params.specs.Costs.{CostModel, is_eager}
 use Rattle.sim_params.specs.Times.{mate, paired_at, Possible}
 use Rattle.sim_params.specs.Run.{IsRun}
-use Rattle.sim_params.proofs.Interleavings.{run_interleaving}
+use Rattle.sim_params.proofs.ForCallers.{run_interleaving}
 use Rattle.sim_match.specs.Heard.{is_heard, is_heard_class, send_for, receive_for}
-use Rattle.sim_match.proofs.HeardLemmas.{send_for_heard, receive_for_heard}
+use Rattle.sim_match.proofs.ForCallers.{send_for_heard, receive_for_heard}
 use Rattle.sim_events.specs.declared.entry.Pairing.{Pairing}
 use Rattle.sim_events.specs.Mirrors.{paired_told}
 

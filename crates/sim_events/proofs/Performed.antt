@@ -7,7 +7,7 @@ use Rattle.goal_graph.specs.Schedule.{Plan, operations}
 use Rattle.goal_graph.specs.Fault.{IsOp}
 use Rattle.sim_params.specs.Costs.{CostModel}
 use Rattle.sim_params.specs.Run.{IsNext}
-use Rattle.sim_params.proofs.Interleavings.{possible_room}
+use Rattle.sim_params.proofs.ForCallers.{possible_room}
 use Rattle.sim_match.specs.Heard.{Heard}
 use Rattle.sim_resources.specs.Holds.{Holds}
 use Rattle.sim_events.specs.declared.entry.Entry.{Entry}

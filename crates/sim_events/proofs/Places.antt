@@ -8,11 +8,11 @@ use Rattle.goal_graph.specs.declared.plan.Op.{Op}
 use Rattle.goal_graph.specs.Schedule.{Plan, op_at, operations}
 use Rattle.goal_graph.specs.Fault.{IsOp}
 use Rattle.goal_graph.specs.Laws.{IsCalc}
-use Rattle.goal_graph.proofs.Exists.{listed_op, kind_listed, allowed_listed}
+use Rattle.goal_graph.proofs.ForCallers.{listed_op, kind_listed, allowed_listed}
 use Rattle.sim_params.specs.Costs.{CostModel, is_eager}
 use Rattle.sim_params.specs.Times.{Possible}
 use Rattle.sim_params.specs.Shares.{ops_at}
-use Rattle.sim_params.proofs.SharesLemmas.{ops_at_some}
+use Rattle.sim_params.proofs.ForCallers.{ops_at_some}
 
 -- the plan of the rank of an operation, and the operation in it
 pub record IsIn (plans : List Plan) (x : OpId) (o : Op) : Type 0 where

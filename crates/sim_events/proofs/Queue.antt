@@ -13,22 +13,15 @@ use Rattle.goal_graph.specs.Action.{plain, plain_act, same_op}
 use Rattle.goal_graph.specs.Allowed.{allowed}
 use Rattle.goal_graph.specs.Fault.{IsOp}
 use Rattle.goal_graph.specs.Interleaving.{IsInterleaving}
-use Rattle.goal_graph.proofs.Actions.{cases_op, same_op_false}
-use Rattle.goal_graph.proofs.Exists.{allowed_listed}
-use Rattle.goal_graph.proofs.OneEach.{one_allowed}
-use Rattle.goal_graph.proofs.Partners.{partners_met}
-use Rattle.goal_graph.proofs.Persist.{allowed_stays}
-use Rattle.goal_graph.proofs.Rules.{fits_receive, fits_send}
+use Rattle.goal_graph.proofs.ForCallers.{cases_op, same_op_false, allowed_listed, one_allowed, partners_met, allowed_stays, fits_receive, fits_send}
 use Rattle.sim_params.specs.Costs.{CostModel, is_eager}
 use Rattle.sim_params.specs.Shares.{ops_at}
 use Rattle.sim_params.specs.Times.{time, mate, Possible}
 use Rattle.sim_params.specs.Run.{IsNext, IsRun, IsFinished}
 use Rattle.sim_params.specs.Laws.{at_its_time, HasBound}
-use Rattle.sim_params.proofs.Grow.{time_grows}
-use Rattle.sim_params.proofs.Interleavings.{run_interleaving, possible_at}
-use Rattle.sim_params.proofs.Queue.{least_is_next}
+use Rattle.sim_params.proofs.ForCallers.{time_grows, run_interleaving, possible_at, least_is_next}
 use Rattle.sim_order.specs.Events.{event_before}
-use Rattle.sim_resources.proofs.OfKind.{send_is_op, receive_is_op}
+use Rattle.sim_resources.proofs.ForCallers.{send_is_op, receive_is_op}
 use Rattle.sim_queue.specs.Groups.{Grouped}
 use Rattle.sim_queue.specs.Map.{key_at, IsEmptyMap, IsLeast}
 use Rattle.sim_events.specs.Stations.{AreStationed}

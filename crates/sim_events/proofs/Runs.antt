@@ -4,7 +4,7 @@ use Rattle.goal_graph.specs.declared.action.Timed.{Timed}
 use Rattle.goal_graph.specs.Schedule.{operations}
 use Rattle.sim_params.specs.Costs.{CostModel}
 use Rattle.sim_params.specs.Run.{IsRun}
-use Rattle.sim_params.proofs.Interleavings.{run_length}
+use Rattle.sim_params.proofs.ForCallers.{run_length}
 use Rattle.sim_events.specs.Engine.{View}
 
 -- with each step fewer are left

@@ -6,8 +6,7 @@ use Rattle.std.proofs.lemmas.Option.{same_Some, slice_get-map, slice_get_within,
 use Rattle.goal_graph.specs.declared.action.OpId.{OpId}
 use Rattle.goal_graph.specs.Schedule.{Plan, operations}
 use Rattle.goal_graph.specs.Action.{same_op}
-use Rattle.goal_graph.proofs.Actions.{same_op_true, same_op_itself}
-use Rattle.goal_graph.proofs.Exists.{operations_differ}
+use Rattle.goal_graph.proofs.ForCallers.{same_op_true, same_op_itself, operations_differ}
 use Rattle.sim_events.specs.declared.entry.Entry.{Entry}
 use Rattle.sim_events.specs.Tables.{with_entry}
 

@@ -13,16 +13,13 @@ use Rattle.goal_graph.specs.Action.{happened, plain}
 use Rattle.goal_graph.specs.Matching.{pairs, is_paired}
 use Rattle.goal_graph.specs.Allowed.{first_class, has_started, has_ended, is_ready, is_served, may, allowed}
 use Rattle.goal_graph.specs.Laws.{IsCalc, IsSend, IsReceive}
-use Rattle.goal_graph.proofs.Partners.{partner_is_send}
-use Rattle.goal_graph.proofs.Rules.{allowed_fresh, allowed_may, allowed_from, allowed_data, allowed_serve}
-use Rattle.goal_graph.proofs.Stages.{first_of_calc, first_of_send, first_of_receive, ended_receive}
+use Rattle.goal_graph.proofs.ForCallers.{partner_is_send, allowed_fresh, allowed_may, allowed_from, allowed_data, allowed_serve, first_of_calc, first_of_send, first_of_receive, ended_receive}
 use Rattle.sim_params.specs.Costs.{CostModel, is_eager, eager_of, latency, flight}
 use Rattle.sim_params.specs.Times.{since, mate, ready, cpu, tx, rx, paired_at, there_at, time_of, time}
 use Rattle.sim_params.specs.Run.{IsRun}
 use Rattle.sim_params.specs.Laws.{at_its_time}
 use Rattle.sim_params.specs.Budget.{budget}
-use Rattle.sim_params.proofs.BudgetBound.{possible_budget}
-use Rattle.sim_params.proofs.Interleavings.{possible_at, run_each}
+use Rattle.sim_params.proofs.ForCallers.{possible_budget, possible_at, run_each}
 use Rattle.sim_events.specs.declared.entry.Entry.{Entry}
 use Rattle.sim_events.specs.declared.entry.Pairing.{Pairing}
 use Rattle.sim_events.specs.Mirrors.{message_told, entry_told}

@@ -8,7 +8,7 @@ use Rattle.goal_graph.specs.declared.action.Class.TheVariants.{Arrive, Serve, Da
 use Rattle.goal_graph.specs.Schedule.{Plan}
 use Rattle.goal_graph.specs.Action.{Act, place, is_act, happened, oldest}
 use Rattle.goal_graph.specs.Matching.{Pair, pair_of, fits, is_paired, is_open_receive, is_open_send, add_pair, new_pair, pairs, partner}
-use Rattle.goal_graph.proofs.Actions.{place_same, is_act_class, happened_other}
+use Rattle.goal_graph.proofs.ForCallers.{place_same, is_act_class, happened_other}
 use Rattle.sim_match.specs.Heard.{is_heard, is_heard_class, send_for, receive_for}
 
 -- one more action that is heard, and one that is not

@@ -14,8 +14,7 @@ use Rattle.goal_graph.specs.Fault.{IsOp}
 use Rattle.goal_graph.specs.Action.{Act, same_op, happened}
 use Rattle.goal_graph.specs.Matching.{Pair, pair_of, fits, is_paired, new_pair, pairs}
 use Rattle.goal_graph.specs.Laws.{IsSend, IsReceive}
-use Rattle.goal_graph.proofs.Partners.{pairs_same}
-use Rattle.goal_graph.proofs.Persist.{paired_stays}
+use Rattle.goal_graph.proofs.ForCallers.{pairs_same, paired_stays}
 use Rattle.sim_match.specs.declared.ledger.Event.{Event}
 use Rattle.sim_match.specs.declared.lists.Lists.{Lists}
 use Rattle.sim_match.specs.declared.pattern.Pattern.{Pattern}

@@ -12,3 +12,4 @@ pub mod RoomLemmas
 pub mod Begun
 pub mod HeardLemmas
 pub mod Partnered
+pub mod ForCallers

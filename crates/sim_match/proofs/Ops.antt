@@ -15,9 +15,7 @@ use Rattle.goal_graph.specs.declared.plan.Kind.TheVariants.{Calc, Send, Recv}
 use Rattle.goal_graph.specs.Schedule.{Plan, kind_at, operations}
 use Rattle.goal_graph.specs.Action.{Act, place, happened, oldest}
 use Rattle.goal_graph.specs.Laws.{IsSend, IsReceive, has_class}
-use Rattle.goal_graph.proofs.Actions.{place_same, is_act_class, is_act_op, is_act_from, happened_stays, happened_new, happened_now, happened_none, happened_cases, happened_before}
-use Rattle.goal_graph.proofs.Exists.{kind_listed}
-use Rattle.goal_graph.proofs.Sums.{count_falls, count_le}
+use Rattle.goal_graph.proofs.ForCallers.{place_same, is_act_class, is_act_op, is_act_from, happened_stays, happened_new, happened_now, happened_none, happened_cases, happened_before, kind_listed, count_falls, count_le}
 use Rattle.sim_match.specs.Heard.{is_heard_class}
 use Rattle.sim_match.specs.Waiting.{ops_of, is_message, is_message_kind}
 use Rattle.sim_match.specs.Matcher.{IsNew, IsHearing}

@@ -12,7 +12,7 @@ use Rattle.goal_graph.specs.declared.plan.Kind.TheVariants.{Calc, Send, Recv}
 use Rattle.goal_graph.specs.Schedule.{Plan, kind_at, operations}
 use Rattle.goal_graph.specs.Matching.{accepts, fits, fits_kinds}
 use Rattle.goal_graph.specs.Laws.{IsSend, IsReceive}
-use Rattle.goal_graph.proofs.Exists.{kind_listed}
+use Rattle.goal_graph.proofs.ForCallers.{kind_listed}
 use Rattle.sim_match.specs.declared.pattern.Pattern.{Pattern}
 use Rattle.sim_match.specs.Patterns.{same_choice, same_pattern, pattern_of, patterns_for, same_number, number, number_of, numbers_for, list_of, lists_for, for_list, IsListed, AreListed}
 use Rattle.sim_match.specs.Rooms.{AreOnce, AreWithin}

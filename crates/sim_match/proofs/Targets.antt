@@ -6,7 +6,7 @@ use Rattle.goal_graph.specs.declared.plan.Op.{Op}
 use Rattle.goal_graph.specs.declared.plan.Kind.{Kind}
 use Rattle.goal_graph.specs.Schedule.{Plan, op_at, kind_at}
 use Rattle.goal_graph.specs.Fault.{IsOp}
-use Rattle.goal_graph.proofs.Exists.{kind_listed, listed_places}
+use Rattle.goal_graph.proofs.ForCallers.{kind_listed, listed_places}
 
 module _ (plans : List Plan) where
   pub exists_kind : (x : OpId) (k : Kind) → kind_at plans x ≡ Some k → IsOp plans x

@@ -1,2 +1,3 @@
 pub mod Different
 pub mod ByKey
+pub mod ForCallers

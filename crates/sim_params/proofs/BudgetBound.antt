@@ -13,11 +13,7 @@ use Rattle.goal_graph.specs.Action.{happened, plain, plain_act}
 use Rattle.goal_graph.specs.Matching.{pairs, is_paired}
 use Rattle.goal_graph.specs.Allowed.{is_served, may, allowed}
 use Rattle.goal_graph.specs.Laws.{IsSend, IsReceive}
-use Rattle.goal_graph.proofs.Actions.{happened_stays, happened_now}
-use Rattle.goal_graph.proofs.Rules.{allowed_may, allowed_fresh, allowed_serve, fits_send}
-use Rattle.goal_graph.proofs.Partners.{partner_of_receive, partners_mutual}
-use Rattle.goal_graph.proofs.Exists.{kind_listed, allowed_listed}
-use Rattle.goal_graph.proofs.Sums.{sum_falls}
+use Rattle.goal_graph.proofs.ForCallers.{happened_stays, happened_now, allowed_may, allowed_fresh, allowed_serve, fits_send, partner_of_receive, partners_mutual, kind_listed, allowed_listed, sum_falls}
 use Rattle.sim_params.specs.Costs.{CostModel, over, over_one, gap, gap_one, flight, flight_one, latency, is_eager}
 use Rattle.sim_params.specs.Times.{at_partner, mate, cpu_hold, tx_hold, rx_hold, Possible}
 use Rattle.sim_params.specs.Budget.{share_of, share, budget}

@@ -11,15 +11,12 @@ use Rattle.goal_graph.specs.Action.{plain, plain_act}
 use Rattle.goal_graph.specs.Allowed.{allowed}
 use Rattle.goal_graph.specs.Interleaving.{IsInterleaving}
 use Rattle.goal_graph.specs.Laws.{left}
-use Rattle.goal_graph.proofs.Exists.{allowed_listed}
-use Rattle.goal_graph.proofs.OneEach.{one_allowed}
-use Rattle.goal_graph.proofs.Once.{left_falls}
+use Rattle.goal_graph.proofs.ForCallers.{allowed_listed, one_allowed, left_falls, less_irreflexive, less_transitive, key_cases, same_timed}
 use Rattle.sim_params.specs.Costs.{CostModel, is_eager}
 use Rattle.sim_params.specs.Times.{time, Possible}
 use Rattle.goal_graph.specs.Order.{IsLess, key}
 use Rattle.sim_params.specs.Run.{IsNext, IsRun, IsFinished, IsCompleteRun}
 use Rattle.sim_params.specs.Laws.{at_its_time}
-use Rattle.goal_graph.proofs.Order.{less_irreflexive, less_transitive, key_cases, same_timed}
 use Rattle.sim_params.proofs.Interleavings.{possible_at, run_interleaving}
 
 -- a class that passes a test, or none

@@ -11,9 +11,7 @@ use Rattle.goal_graph.specs.Schedule.{Plan, kind_at}
 use Rattle.goal_graph.specs.Action.{happened, plain, plain_act}
 use Rattle.goal_graph.specs.Matching.{pairs, partner, is_paired, add_pair, new_pair}
 use Rattle.goal_graph.specs.Allowed.{first_class, last_class, has_started, has_ended, is_served}
-use Rattle.goal_graph.proofs.Actions.{happened_new, is_act_from}
-use Rattle.goal_graph.proofs.Rules.{allowed_fresh}
-use Rattle.goal_graph.proofs.Ever.{served_message}
+use Rattle.goal_graph.proofs.ForCallers.{happened_new, is_act_from, allowed_fresh, served_message}
 use Rattle.sim_params.specs.Costs.{CostModel, over, is_eager}
 use Rattle.sim_params.specs.Times.{at_partner, mate, cpu_hold, start, end, paired_at, Possible}
 use Rattle.sim_params.proofs.Grow.{since_kept, since_new, mate_stays}

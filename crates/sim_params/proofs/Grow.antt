@@ -15,8 +15,7 @@ use Rattle.goal_graph.specs.Schedule.{Plan, kind_at, needs, needed}
 use Rattle.goal_graph.specs.Action.{Act, happened, plain, plain_act}
 use Rattle.goal_graph.specs.Matching.{pairs, is_paired}
 use Rattle.goal_graph.specs.Allowed.{last_class, has_started, has_ended}
-use Rattle.goal_graph.proofs.Actions.{happened_stays}
-use Rattle.goal_graph.proofs.Persist.{partner_stays, paired_stays, started_stays, ended_stays}
+use Rattle.goal_graph.proofs.ForCallers.{happened_stays, partner_stays, paired_stays, started_stays, ended_stays}
 use Rattle.sim_params.specs.Costs.{CostModel, over, flight, is_eager}
 use Rattle.sim_params.specs.Times.{since, greatest, at_partner, mate, cpu_hold, cpu, tx, rx, start, end, met_at, ready, paired_at, there_at, time_of, time}
 use Rattle.sim_params.specs.Laws.{NoneFalls}

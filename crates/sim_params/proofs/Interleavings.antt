@@ -9,9 +9,7 @@ use Rattle.goal_graph.specs.Action.{is_act, plain, plain_act}
 use Rattle.goal_graph.specs.Allowed.{allowed}
 use Rattle.goal_graph.specs.Interleaving.{IsInterleaving, IsCompleteInterleaving}
 use Rattle.goal_graph.specs.Laws.{left}
-use Rattle.goal_graph.proofs.Once.{happened_and_left, left_falls}
-use Rattle.goal_graph.proofs.Actions.{is_act_class, is_act_op}
-use Rattle.goal_graph.proofs.Persist.{allowed_stays}
+use Rattle.goal_graph.proofs.ForCallers.{happened_and_left, left_falls, is_act_class, is_act_op, allowed_stays}
 use Rattle.sim_params.specs.Costs.{CostModel, is_eager}
 use Rattle.sim_params.specs.Times.{time, Possible}
 use Rattle.sim_params.specs.Run.{IsRun, IsFinished, IsCompleteRun}

@@ -12,3 +12,4 @@ pub mod Exists
 pub mod Reasons
 pub mod Places
 pub mod Queue
+pub mod ForCallers

@@ -9,7 +9,7 @@ use Rattle.sim_params.specs.Times.{Possible}
 use Rattle.goal_graph.specs.Order.{IsLess, key}
 use Rattle.sim_params.specs.Run.{IsNext}
 use Rattle.sim_params.specs.Laws.{HasBound, IsLeastIn}
-use Rattle.goal_graph.proofs.Order.{less_transitive, same_timed}
+use Rattle.goal_graph.proofs.ForCallers.{less_transitive, same_timed}
 
 -- the key of an entry for an action is that of the action, or before it
 bound_before : (e b : Timed) → e.class ≡ b.class → e.op ≡ b.op → e.time ≤ b.time → (e ≡ b) ⊎ IsLess (key e) (key b)

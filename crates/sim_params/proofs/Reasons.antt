@@ -15,10 +15,7 @@ use Rattle.goal_graph.specs.Matching.{fits}
 use Rattle.goal_graph.specs.Allowed.{has_started, is_met, is_ready}
 use Rattle.goal_graph.specs.Interleaving.{IsInterleaving, IsCompleteInterleaving}
 use Rattle.goal_graph.specs.Laws.{IsCalc, IsTaken}
-use Rattle.goal_graph.proofs.Lists.{contains_first, contains_more}
-use Rattle.goal_graph.proofs.Rules.{fits_send, fits_receive}
-use Rattle.goal_graph.proofs.Exists.{kind_listed}
-use Rattle.goal_graph.proofs.Complete.{unstarted_unended, unmet_unended, ready_calc_ended, fitting_taken}
+use Rattle.goal_graph.proofs.ForCallers.{contains_first, contains_more, fits_send, fits_receive, kind_listed, unstarted_unended, unmet_unended, ready_calc_ended, fitting_taken}
 use Rattle.sim_params.specs.Stuck.{IsStuck, first_unmet, are_fit, first_absent, partner_or_alone, reason_by, reason}
 use Rattle.sim_params.specs.Laws.{IsUnmet, IsAbsent}
 

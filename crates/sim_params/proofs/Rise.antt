@@ -19,12 +19,7 @@ use Rattle.goal_graph.specs.Matching.{pairs, is_paired}
 use Rattle.goal_graph.specs.Allowed.{has_started, has_ended, is_met, is_ready, is_served, may, allowed}
 use Rattle.goal_graph.specs.Interleaving.{IsInterleaving}
 use Rattle.goal_graph.specs.Laws.{IsSend}
-use Rattle.goal_graph.proofs.Stages.{started_send}
-use Rattle.goal_graph.proofs.Actions.{happened_before}
-use Rattle.goal_graph.proofs.Persist.{is_some_from, cases_some}
-use Rattle.goal_graph.proofs.Rules.{allowed_may, allowed_fresh, allowed_from}
-use Rattle.goal_graph.proofs.Ever.{data_paired}
-use Rattle.goal_graph.proofs.Partners.{partners_mutual}
+use Rattle.goal_graph.proofs.ForCallers.{started_send, happened_before, is_some_from, cases_some, allowed_may, allowed_fresh, allowed_from, data_paired, partners_mutual}
 use Rattle.sim_params.specs.Costs.{CostModel, flight, is_eager}
 use Rattle.sim_params.specs.Times.{since, greatest, mate, met_at, ready, paired_at, there_at, time_of, time, Possible}
 use Rattle.sim_params.specs.Run.{IsRun}

@@ -15,7 +15,7 @@ use Rattle.sim_params.specs.Costs.{CostModel, IsBounded, is_eager}
 use Rattle.sim_params.specs.Budget.{share}
 use Rattle.sim_params.specs.Shares.{message_share, request_share, ops_at}
 use Rattle.sim_params.proofs.Accepted.{value_within}
-pub use Rattle.goal_graph.proofs.Places.{ops_at_some}
+pub use Rattle.goal_graph.proofs.ForCallers.{ops_at_some}
 
 -- a place within a list has an item
 pub slice_get_within_some : {A : Type 0} (xs : List A) (i : ℕ) → i < length xs → (x : A) × (slice_get xs i ≡ Some x)

@@ -6,7 +6,7 @@ use Rattle.goal_graph.specs.Schedule.{Plan}
 use Rattle.sim_params.specs.Costs.{CostModel}
 use Rattle.sim_params.specs.Times.{Possible}
 use Rattle.sim_params.specs.Run.{IsNext, IsRun, IsCompleteRun}
-use Rattle.goal_graph.proofs.Order.{one_least}
+use Rattle.goal_graph.proofs.ForCallers.{one_least}
 
 module _ (plans : List Plan) (costs : CostModel) where
   -- one action is next

@@ -5,3 +5,4 @@ pub mod FreeTimes
 pub mod OfKind
 pub mod Worth
 pub mod HoldLemmas
+pub mod ForCallers

@@ -4,7 +4,7 @@ use Rattle.std.proofs.lemmas.Bool.{cases_Bool, cases_lt}
 use Rattle.goal_graph.specs.declared.action.OpId.{OpId}
 use Rattle.goal_graph.specs.declared.plan.Op.{Op}
 use Rattle.goal_graph.specs.Schedule.{Plan}
-use Rattle.goal_graph.proofs.Lists.{contains_first, contains_more}
+use Rattle.goal_graph.proofs.ForCallers.{contains_first, contains_more}
 use Rattle.sim_resources.specs.declared.holds.Hold.{Hold}
 use Rattle.sim_resources.specs.Holds.{Holds, shares, free_at, hold, hold_cpu, hold_tx, hold_rx, SameFreeTimes}
 use Rattle.sim_resources.specs.Laws.{IsOn, HasLast, FreeTimesAreGreatest, OthersStay, HoldsAddUp}

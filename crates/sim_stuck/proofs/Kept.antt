@@ -2,7 +2,7 @@
 use Rattle.std.proofs.Common.{zero, suc, ◌≡◌, Bool, true, false, ◌&&◌, ◌⊎◌, inl, inr, cond, List, [], ◌∷◌, map, find, filter, Contains, Some, refl, ap, ◌∙◌, subst, arith}
 use Rattle.std.proofs.lemmas.Bool.{both_ways}
 use Rattle.std.proofs.lemmas.List.Elements.{All-contains, All-filter, All-contains_itself, filter_passes}
-use Rattle.goal_graph.proofs.Lists.{contains_first, contains_more}
+use Rattle.goal_graph.proofs.ForCallers.{contains_first, contains_more}
 
 -- to find among what a filter keeps is to find what passes both tests
 pub find_kept : {X : Type 0} (p q : X → Bool) (xs : List X) → find p (filter q xs) ≡ find (λ (x : X). p x && q x) xs

@@ -12,7 +12,7 @@ use Rattle.goal_graph.specs.Action.{Act}
 use Rattle.goal_graph.specs.Matching.{fits}
 use Rattle.goal_graph.specs.Allowed.{has_started, is_met}
 use Rattle.goal_graph.specs.Fault.{IsOp}
-use Rattle.goal_graph.proofs.ListingLemmas.{listed_exist}
+use Rattle.goal_graph.proofs.ForCallers.{listed_exist}
 use Rattle.sim_params.specs.Stuck.{first_unmet, first_absent, partner_or_alone, reason_by, reason}
 use Rattle.sim_stuck.proofs.Kept.{find_kept}
 

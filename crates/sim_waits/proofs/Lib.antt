@@ -4,3 +4,4 @@ pub mod RankLemmas
 pub mod FillLemmas
 pub mod WaitOrder
 pub mod KeyLemmas
+pub mod ForCallers

@@ -6,10 +6,10 @@ use Rattle.goal_graph.specs.declared.action.OpId.{OpId}
 use Rattle.goal_graph.specs.declared.action.Timed.{Timed}
 use Rattle.goal_graph.specs.declared.plan.Op.{Op}
 use Rattle.goal_graph.specs.Schedule.{Plan, places_of_rank}
-use Rattle.goal_graph.proofs.Sums.{count-cons}
+use Rattle.goal_graph.proofs.ForCallers.{count-cons}
 use Rattle.sim_params.specs.Costs.{CostModel}
 use Rattle.sim_params.specs.Shares.{ops_at, places_at}
-use Rattle.sim_params.proofs.SharesLemmas.{places_more, places_none, shares_more, shares_none, ops_at_some}
+use Rattle.sim_params.proofs.ForCallers.{places_more, places_none, shares_more, shares_none, ops_at_some}
 use Rattle.sim_waits.specs.Waits.{ended, wait, wait_or_zero}
 use Rattle.sim_waits.specs.WaitsText.{line_of_rank, rank_lines}
 use Rattle.sim_waits.specs.WaitKeys.{wait_told}

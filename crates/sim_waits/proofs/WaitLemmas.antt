@@ -9,12 +9,11 @@ use Rattle.goal_graph.specs.declared.plan.Kind.TheVariants.{Calc, Send, Recv}
 use Rattle.goal_graph.specs.Schedule.{Plan, op_at, kind_at}
 use Rattle.goal_graph.specs.Action.{plain}
 use Rattle.goal_graph.specs.Allowed.{last_class, is_ready}
-use Rattle.goal_graph.proofs.Stages.{ended_started, started_ready}
+use Rattle.goal_graph.proofs.ForCallers.{ended_started, started_ready}
 use Rattle.sim_params.specs.Costs.{CostModel, over, cost_of, is_eager}
 use Rattle.sim_params.specs.Times.{cpu_hold, at_partner, mate, end, ready}
 use Rattle.sim_params.specs.Run.{IsRun}
-use Rattle.sim_params.proofs.Interleavings.{run_interleaving}
-use Rattle.sim_params.proofs.SharesLemmas.{kind_of}
+use Rattle.sim_params.proofs.ForCallers.{run_interleaving, kind_of}
 use Rattle.sim_events.specs.Engine.{end_told}
 use Rattle.sim_events.specs.Turns.{ready_told}
 use Rattle.sim_waits.specs.Waits.{ended, wait}

@@ -1,4 +1,4 @@
-use Rattle.sim_resources.proofs.Worth.{holds_add_up}
+use Rattle.sim_resources.proofs.ForCallers.{holds_add_up}
 use Rattle.sim_eager.proofs.sending.transfer.Goals as goal
 
 pub returns-clause-holds : goal.returns-clause-holds

@@ -1,5 +1,5 @@
 use Rattle.std.proofs.Common.{length, ap, ◌∙◌, arith}
-use Rattle.sim_params.proofs.Accepted.{few_ranks}
+use Rattle.sim_params.proofs.ForCallers.{few_ranks}
 use Rattle.sim_events.proofs.Places.{rank_below}
 use Rattle.sim_events.proofs.Queue.{all_due, fewer_due}
 use Rattle.sim_events.proofs.follow.fill.Goals as goal

@@ -1,7 +1,7 @@
 use Rattle.std.proofs.Common.{List, length, ap, arith}
 use Rattle.goal_graph.specs.Schedule.{Plan}
 use Rattle.sim_params.specs.Shares.{ops_at}
-use Rattle.sim_params.proofs.SharesLemmas.{is_op_below}
+use Rattle.sim_params.proofs.ForCallers.{is_op_below}
 use Rattle.sim_events.proofs.Queue.{refreshed, fewer_due, from_more, later_ranks}
 use Rattle.sim_events.proofs.follow.fill_rank.Goals as goal
 

@@ -1,7 +1,7 @@
 use Rattle.std.proofs.Common.{◌≡◌, ◌<◌, Some, length, slice_get, refl, ap, ◌∙◌, subst, arith}
 use Rattle.std.proofs.lemmas.Option.{slice_get_read}
 use Rattle.goal_graph.specs.Schedule.{Plan}
-use Rattle.sim_params.proofs.SharesLemmas.{is_op_at}
+use Rattle.sim_params.proofs.ForCallers.{is_op_at}
 use Rattle.sim_events.proofs.tests.told.Goals as goal
 
 pub record-start-requires : goal.record-start-requires

@@ -1,7 +1,7 @@
 use Rattle.std.proofs.Common.{[], refl, ap, ◌∙◌}
 use Rattle.goal_graph.specs.declared.action.Class.TheVariants.{Arrive, Post}
 use Rattle.goal_graph.specs.Action.{happened}
-use Rattle.goal_graph.proofs.Actions.{act_of, happened_none, happened_not}
+use Rattle.goal_graph.proofs.ForCallers.{act_of, happened_none, happened_not}
 use Rattle.sim_match.specs.Heard.{Heard, with_arrival}
 use Rattle.sim_match.proofs.tests.answers.Goals as goal
 

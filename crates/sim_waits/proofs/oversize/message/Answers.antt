@@ -1,7 +1,7 @@
 use Rattle.std.proofs.Common.{List, sym, ap, ◌∙◌, subst, refl}
 use Rattle.goal_graph.specs.Schedule.{Plan}
 use Rattle.goal_graph.specs.Fault.{IsOp}
-use Rattle.sim_events.proofs.Queue.{partner_exists}
+use Rattle.sim_events.proofs.ForCallers.{partner_exists}
 use Rattle.sim_waits.specs.WaitsText.{kind_of_partner}
 use Rattle.sim_waits.proofs.WaitLemmas.{kind_read}
 use Rattle.sim_waits.proofs.oversize.message.Goals as goal

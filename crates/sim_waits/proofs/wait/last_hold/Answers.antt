@@ -1,5 +1,5 @@
 use Rattle.std.proofs.Common.{◌∙◌, sym, Some, None}
-use Rattle.sim_events.proofs.Queue.{partner_exists}
+use Rattle.sim_events.proofs.ForCallers.{partner_exists}
 use Rattle.sim_waits.proofs.WaitLemmas.{kind_read, hold_calc, hold_send, hold_recv}
 use Rattle.sim_waits.proofs.wait.last_hold.Goals as goal
 

@@ -4,7 +4,7 @@ use Rattle.goal_graph.specs.declared.plan.When.TheVariants.{AfterEnd}
 use Rattle.goal_graph.specs.Schedule.{Plan, needs, needed}
 use Rattle.goal_graph.specs.Fault.{IsOp}
 use Rattle.sim_events.specs.Turns.{ready_told}
-use Rattle.sim_events.proofs.Ready.{ready_from, ready_start, read_met, read_unmet, read_all}
+use Rattle.sim_events.proofs.ForCallers.{ready_from, ready_start, read_met, read_unmet, read_all}
 use Rattle.sim_waits.proofs.wait.ready.Goals as goal
 
 abbrev none : Need

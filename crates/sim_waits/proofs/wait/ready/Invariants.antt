@@ -1,7 +1,7 @@
 use Rattle.std.proofs.Common.{◌≡◌, drop}
 use Rattle.goal_graph.specs.Schedule.{needs}
 use Rattle.sim_events.specs.Turns.{ready_told}
-use Rattle.sim_events.proofs.Ready.{ready_from}
+use Rattle.sim_events.proofs.ForCallers.{ready_from}
 use Rattle.sim_waits.proofs.wait.ready.Given as goal
 
 -- the greatest so far and what is left to read make the ready time

@@ -1,9 +1,7 @@
 use Rattle.std.proofs.Common.{sym, ◌∙◌}
-use Rattle.goal_graph.proofs.Once.{at_most_three}
+use Rattle.goal_graph.proofs.ForCallers.{at_most_three}
 use Rattle.sim_params.specs.Costs.{is_eager}
-use Rattle.sim_params.proofs.BudgetBound.{within_budget}
-use Rattle.sim_params.proofs.Interleavings.{run_each, run_interleaving, complete_interleaving}
-use Rattle.sim_params.proofs.Unique.{one_complete}
+use Rattle.sim_params.proofs.ForCallers.{within_budget, run_each, run_interleaving, complete_interleaving, one_complete}
 use Rattle.sim_events.proofs.Finished.{complete_at}
 use Rattle.sim_events.proofs.Runs.{fewer_left}
 use Rattle.sim_events.proofs.engine.Engine.run.Goals as goal

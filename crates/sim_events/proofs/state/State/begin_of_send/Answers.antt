@@ -1,7 +1,7 @@
 use Rattle.std.proofs.Common.{subst, sym, ap₂, ◌∙◌, max}
 use Rattle.goal_graph.specs.declared.action.Class.TheVariants.{Begin}
 use Rattle.goal_graph.specs.Laws.{IsSend}
-use Rattle.sim_resources.proofs.OfKind.{send_is_op}
+use Rattle.sim_resources.proofs.ForCallers.{send_is_op}
 use Rattle.sim_events.proofs.Views.{free_at_view}
 use Rattle.sim_events.proofs.TurnLemmas.{send_begins, begun_turn, unready_turn, ready_turn, send_time}
 use Rattle.sim_events.proofs.state.State.begin_of_send.Goals as goal

@@ -1,7 +1,7 @@
 use Rattle.std.proofs.Common.{List, sym, ap, ◌∙◌}
 use Rattle.goal_graph.specs.declared.plan.Kind.TheVariants.{Calc, Send, Recv}
 use Rattle.goal_graph.specs.Schedule.{Plan, op_at}
-use Rattle.sim_resources.proofs.OfKind.{kind_from_op}
+use Rattle.sim_resources.proofs.ForCallers.{kind_from_op}
 use Rattle.sim_events.proofs.Choice.{calc_choice, send_choice, receive_choice}
 use Rattle.sim_events.proofs.state.State.choice.Goals as goal
 

@@ -1,6 +1,6 @@
 use Rattle.std.proofs.Common.{◌+◌, sym, ap, ap₂, ◌∙◌, max, arith}
 use Rattle.sim_params.specs.Costs.{latency}
-use Rattle.sim_resources.proofs.OfKind.{send_is_op}
+use Rattle.sim_resources.proofs.ForCallers.{send_is_op}
 use Rattle.sim_events.specs.Engine.{View}
 use Rattle.sim_events.proofs.Views.{free_at_view, run_at_view, within_at_view}
 use Rattle.sim_events.proofs.TurnLemmas.{eager_data, handed_data, unpaired_data, paired_some, clears, data_turn, data_time}

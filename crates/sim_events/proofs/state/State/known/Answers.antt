@@ -1,8 +1,7 @@
 use Rattle.std.proofs.Common.{subst}
 use Rattle.sim_params.specs.Budget.{budget}
 use Rattle.sim_params.specs.Laws.{IsWithin}
-use Rattle.sim_params.proofs.BudgetBound.{within_budget}
-use Rattle.sim_params.proofs.Interleavings.{run_each}
+use Rattle.sim_params.proofs.ForCallers.{within_budget, run_each}
 use Rattle.sim_events.specs.Engine.{View}
 use Rattle.sim_events.proofs.state.State.known.Goals as goal
 

@@ -1,4 +1,4 @@
-use Rattle.sim_resources.proofs.OfKind.{send_is_op}
+use Rattle.sim_resources.proofs.ForCallers.{send_is_op}
 use Rattle.sim_events.proofs.state.State.message_there.Goals as goal
 
 pub entry-requires : goal.entry-requires

@@ -1,6 +1,6 @@
 use Rattle.std.proofs.Common.{sym, ◌∙◌}
 use Rattle.goal_graph.specs.declared.action.Class.TheVariants.{Post}
-use Rattle.sim_resources.proofs.OfKind.{receive_is_op}
+use Rattle.sim_resources.proofs.ForCallers.{receive_is_op}
 use Rattle.sim_events.proofs.TurnLemmas.{receive_begins, begun_turn, unready_turn, ready_turn, post_time}
 use Rattle.sim_events.proofs.state.State.post_of.Goals as goal
 

@@ -2,7 +2,7 @@ use Rattle.std.proofs.Common.{◌+◌, ◌∙◌, ◌<◌, ℕ, length, reverse,
 use Rattle.goal_graph.specs.declared.action.Class.{Class}
 use Rattle.goal_graph.specs.Schedule.{kind_at}
 use Rattle.goal_graph.specs.Action.{plain}
-use Rattle.goal_graph.proofs.Partners.{partner_is_send}
+use Rattle.goal_graph.proofs.ForCallers.{partner_is_send}
 use Rattle.sim_params.specs.Times.{holds_cpu, holds_tx, holds_rx}
 use Rattle.sim_match.specs.Heard.{is_heard_class}
 use Rattle.sim_events.specs.declared.entry.Entry.{Entry}

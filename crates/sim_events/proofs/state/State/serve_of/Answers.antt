@@ -1,5 +1,5 @@
 use Rattle.std.proofs.Common.{sym, ap₂, ◌∙◌, max}
-use Rattle.sim_resources.proofs.OfKind.{receive_is_op}
+use Rattle.sim_resources.proofs.ForCallers.{receive_is_op}
 use Rattle.sim_events.proofs.Views.{free_at_view}
 use Rattle.sim_events.proofs.TurnLemmas.{ended_serve, unpaired_serve, absent_serve, paired_some, pairing_send, message_is, serve_turn, serve_time}
 use Rattle.sim_events.proofs.state.State.serve_of.Goals as goal
