@@ -1,15 +1,16 @@
--- The share of an operation by what it does, bounds on shares, and which operations a rank has.
-use Rattle.std.proofs.Common.{◌≡◌, ℕ, ◌+◌, ◌^◌, ◌<◌, ◌≤◌, true, false, nat_le, List, [], ◌∷◌, length, get_or, Option, Some, None, is_some, slice_get, refl, sym, ap, ◌∙◌, subst, inl, inr, arith, leb-true}
+-- The share of an operation by what it does, bounds on shares, and the operations of a rank.
+use Rattle.std.proofs.Common.{◌≡◌, ℕ, ◌+◌, ◌^◌, ◌<◌, ◌≤◌, true, false, nat_le, List, [], ◌∷◌, length, drop, get_or, Option, Some, None, is_some, slice_get, refl, sym, ap, ◌∙◌, subst, inl, inr, arith, leb-true}
 use Rattle.std.specs.List.{sum_by}
 use Rattle.std.specs.Option.{option_map}
 use Rattle.std.proofs.lemmas.Bool.{and_parts, cases_Bool}
 use Rattle.std.proofs.lemmas.Option.{slice_get-get_or}
-use Rattle.std.proofs.lemmas.List.Sums.{sum_by-le}
+use Rattle.std.proofs.lemmas.List.{at_drop_more, at_drop_all}
+use Rattle.std.proofs.lemmas.List.Sums.{sum_by-cons, sum_by-le}
 use Rattle.goal_graph.specs.declared.action.OpId.{OpId}
 use Rattle.goal_graph.specs.declared.plan.Op.{Op}
 use Rattle.goal_graph.specs.declared.plan.Kind.{Kind}
 use Rattle.goal_graph.specs.declared.plan.Kind.TheVariants.{Calc, Send, Recv}
-use Rattle.goal_graph.specs.Schedule.{Plan, op_at, kind_at}
+use Rattle.goal_graph.specs.Schedule.{Plan, op_at, kind_at, places_of_rank}
 use Rattle.goal_graph.specs.Fault.{value_fits, IsOp, IsAccepted}
 use Rattle.sim_params.specs.Costs.{CostModel, IsBounded, is_eager}
 use Rattle.sim_params.specs.Budget.{share}
@@ -99,3 +100,21 @@ pub is_op_below : (plans : List Plan) (rank op : ℕ) → rank < length plans �
 is_op_below plans rank op h k =
     let p = slice_get_within_some plans rank h in
     is_op_at plans rank op p.0 p.1 (subst (λ os. op < length os) (ops_at_some plans rank p.0 p.1) k)
+
+-- the places of one rank from a number on
+pub places_more : (rank i : ℕ) (ops : List Op) → i < length ops → places_of_rank rank i (drop i ops) ≡ record { rank = rank; op = i } ∷ places_of_rank rank (i + 1) (drop (i + 1) ops)
+unfolding places_of_rank
+places_more rank i [] h = absurd (omega arith)
+places_more rank i (o ∷ os) h = at_drop_more (places_of_rank rank i) (o ∷ os) i o h
+
+pub places_none : (rank i : ℕ) (ops : List Op) → length ops ≤ i → places_of_rank rank i (drop i ops) ≡ []
+unfolding places_of_rank
+places_none rank i ops h = at_drop_all (places_of_rank rank i) ops i h
+
+-- the shares of a rank from a number on
+pub shares_more : (f : OpId → ℕ) (rank i : ℕ) (ops : List Op) → i < length ops → sum_by f (places_of_rank rank i (drop i ops)) ≡ f (record { rank = rank; op = i }) + sum_by f (places_of_rank rank (i + 1) (drop (i + 1) ops))
+shares_more f rank i ops h =
+    ap (sum_by f) (places_more rank i ops h) ∙ sum_by-cons f (record { rank = rank; op = i }) (places_of_rank rank (i + 1) (drop (i + 1) ops))
+
+pub shares_none : (f : OpId → ℕ) (rank i : ℕ) (ops : List Op) → length ops ≤ i → sum_by f (places_of_rank rank i (drop i ops)) ≡ 0
+shares_none f rank i ops h = ap (sum_by f) (places_none rank i ops h)
