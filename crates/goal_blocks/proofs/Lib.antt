@@ -2,3 +2,4 @@ pub mod Channels
 pub mod Matched
 pub mod Race
 pub mod Walk
+mod Examples

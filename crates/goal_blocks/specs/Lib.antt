@@ -6,3 +6,8 @@ pub mod Race
 pub mod Values
 pub mod Weight
 pub mod Certification
+pub mod Collectives
+pub mod Entries
+pub mod Positions
+pub mod Made
+pub mod MadeRooted

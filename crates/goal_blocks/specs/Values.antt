@@ -8,12 +8,8 @@ use Rattle.goal_graph.specs.declared.plan.Kind.TheVariants.{Calc, Send, Recv}
 use Rattle.goal_graph.specs.Schedule.{Plan, kind_at}
 use Rattle.goal_graph.specs.Action.{Act, same_op}
 use Rattle.goal_graph.specs.Matching.{pairs, partner}
+pub use Rattle.goal_blocks.specs.declared.collective.Contribution.{Contribution}
 use Rattle.goal_blocks.specs.Slots.{Adding, slots, adds}
-
--- the item of that number of that rank
-pub record Contribution : Type 0 where
-  pub rank : ℕ
-  pub item : ℕ
 
 -- contributions in order, each as often as it was combined
 abbrev pub Value : Type 0

@@ -1,6 +1,8 @@
 //! What a schedule does to the slots of its ranks, and when that is right whatever comes first.
 #![tactic(auto)]
 
+mod collective;
 mod laws;
 
+pub use collective::{Collective, Contribution};
 pub use laws::{laws_of_certified_schedules, laws_of_matched_schedules, laws_of_races};

@@ -1,0 +1,87 @@
+-- The schedules of the broadcast, barrier, allgather, allreduce and alltoall, by rank r and number i of the operation.
+-- All messages have `bytes` bytes. A step or round has its number as the tag of its messages.
+use Rattle.std.specs.Prelude.{ℕ, zero, suc, ◌+◌, ◌-◌, ◌*◌, ◌/◌, ◌%◌, ◌^◌, List, [], ◌∷◌}
+use Rattle.goal_graph.specs.Schedule.{Plan}
+use Rattle.goal_blocks.specs.Entries.{Entry, slot, sending, receiving, summing, made_by}
+use Rattle.goal_blocks.specs.Positions.{ahead, back, flipped, digits}
+
+-- Broadcast, along a binomial tree: in round j each virtual rank v below 2^j sends to v + 2^j, where there is one. A
+-- rank receives once, in the round of its highest binary digit, and sends in the rounds after it.
+
+abbrev pub bcast_send : ℕ → ℕ → ℕ → ℕ → ℕ → List ℕ → Entry
+bcast_send ranks root bytes v j needs = sending bytes (ahead ranks (v + 2 ^ j) root) j needs (slot 0)
+
+-- the virtual rank v comes before the number
+unfoldable pub bcast_in : ℕ → ℕ → ℕ → ℕ → ℕ → Entry
+bcast_in ranks root bytes zero i = bcast_send ranks root bytes 0 i []
+bcast_in ranks root bytes (suc w) zero =
+    receiving bytes (ahead ranks (suc w - 2 ^ (digits (suc w) - 1)) root) (digits (suc w) - 1) (slot 0)
+bcast_in ranks root bytes (suc w) (suc i) =
+    bcast_send ranks root bytes (suc w) (digits (suc w) + i) (0 ∷ [])
+
+unfoldable pub bcast_count : ℕ → ℕ → ℕ
+bcast_count ranks zero = digits (ranks - 1)
+bcast_count ranks (suc w) = suc (digits (ranks - 1 - suc w) - digits (suc w))
+
+unfoldable pub made_bcast : ℕ → ℕ → ℕ → List Plan
+made_bcast ranks root bytes =
+    made_by ranks (λ r. bcast_count ranks (back ranks r root)) (λ r i. bcast_in ranks root bytes (back ranks r root) i)
+
+-- Rounds of three operations, 3k up to 3k + 2 in round k: what slot 0 has is sent, what comes is put into slot k + 1, and
+-- that is added to slot 0. The send requires the calc before it, the calc its send and its receive.
+
+abbrev pub before_round : ℕ → List ℕ
+before_round zero = []
+before_round (suc k) = (3 * k + 2) ∷ []
+
+abbrev pub round_in : ℕ → ℕ → ℕ → ℕ → ℕ → Entry
+round_in bytes to from k zero = sending bytes to k (before_round k) (slot 0)
+round_in bytes to from k (suc zero) = receiving bytes from k (slot (k + 1))
+round_in bytes to from k (suc (suc b)) = summing ((3 * k) ∷ (3 * k + 1) ∷ []) (k + 1) 0
+
+-- Barrier, by dissemination: in round k each rank sends to the one that is 2^k ahead
+unfoldable pub barrier_in : ℕ → ℕ → ℕ → ℕ → Entry
+barrier_in ranks bytes r i =
+    round_in bytes (ahead ranks r (2 ^ (i / 3))) (back ranks r (2 ^ (i / 3))) (i / 3) (i % 3)
+
+unfoldable pub made_barrier : ℕ → ℕ → List Plan
+made_barrier ranks bytes = made_by ranks (λ r. 3 * digits (ranks - 1)) (λ r i. barrier_in ranks bytes r i)
+
+-- Allreduce, by recursive doubling: in round k each rank exchanges with the one whose binary digit of 2^k is the other
+unfoldable pub allreduce_in : ℕ → ℕ → ℕ → Entry
+allreduce_in bytes r i = round_in bytes (flipped r (i / 3)) (flipped r (i / 3)) (i / 3) (i % 3)
+
+unfoldable pub made_allreduce : ℕ → ℕ → List Plan
+made_allreduce ranks bytes = made_by ranks (λ r. 3 * digits (ranks - 1)) (λ r i. allreduce_in bytes r i)
+
+-- Allgather, along a ring: in step s each rank sends on what it had received in the step before, at first its own
+
+-- what the send of step s requires: the receive of the step before
+abbrev pub before_send : ℕ → List ℕ
+before_send zero = []
+before_send (suc s) = (s + s + 1) ∷ []
+
+-- the operations of step s: a send, and a receive
+abbrev pub ring_in : ℕ → ℕ → ℕ → ℕ → ℕ → Entry
+ring_in ranks bytes r s zero = sending bytes (ahead ranks r 1) s (before_send s) (slot (back ranks r s))
+ring_in ranks bytes r s (suc b) = receiving bytes (back ranks r 1) s (slot (back ranks r (s + 1)))
+
+unfoldable pub allgather_in : ℕ → ℕ → ℕ → ℕ → Entry
+allgather_in ranks bytes r i = ring_in ranks bytes r (i / 2) (i % 2)
+
+unfoldable pub made_allgather : ℕ → ℕ → List Plan
+made_allgather ranks bytes = made_by ranks (λ r. 2 * (ranks - 1)) (λ r i. allgather_in ranks bytes r i)
+
+-- Alltoall, by shifts: a calc copies the rank's own value, and in step s, from 1 on, each rank sends to the one that is s
+-- ahead. There are no dependencies.
+
+abbrev pub shift_in : ℕ → ℕ → ℕ → ℕ → ℕ → Entry
+shift_in ranks bytes r s zero = sending bytes (ahead ranks r s) s [] (slot (ahead ranks r s))
+shift_in ranks bytes r s (suc b) = receiving bytes (back ranks r s) s (slot (ranks + back ranks r s))
+
+unfoldable pub alltoall_in : ℕ → ℕ → ℕ → ℕ → Entry
+alltoall_in ranks bytes r zero = summing [] r (ranks + r)
+alltoall_in ranks bytes r (suc i) = shift_in ranks bytes r (i / 2 + 1) (i % 2)
+
+unfoldable pub made_alltoall : ℕ → ℕ → List Plan
+made_alltoall ranks bytes = made_by ranks (λ r. 1 + 2 * (ranks - 1)) (λ r i. alltoall_in ranks bytes r i)

@@ -1,0 +1,53 @@
+// The collectives, and what their values are made of.
+ghost use Rattle.std.specs.Prelude.{◌≡◌};
+ghost use Rattle.goal_blocks.specs.Collectives.{is_first};
+
+/// A collective: what all ranks together are to do with the values of their slots. `initial` and `wanted` say for each
+/// what the slots hold at the start, and what they must hold at the end.
+#[derive(Clone, Copy, Debug, PartialEq, Eq)]
+pub enum Collective {
+    /// Every rank gets the value of the root.
+    Bcast { root: u32 },
+    /// No rank is done before every rank has begun.
+    Barrier,
+    /// Every rank gets the value of each rank.
+    Allgather,
+    /// Every rank gets the values of all ranks, combined.
+    Allreduce,
+    /// Every rank gets from each rank the value that this one has for it.
+    Alltoall,
+    /// The root gets the values of all ranks, combined.
+    Reduce { root: u32 },
+    /// The root gets the value of each rank.
+    Gather { root: u32 },
+    /// Every rank gets the value that the root has for it.
+    Scatter { root: u32 },
+    /// Every rank gets the values that all ranks have for it, combined.
+    ReduceScatter,
+    /// Every rank gets the values of the ranks up to itself, combined.
+    Scan,
+}
+
+impl Collective {
+    /// Whether it is a broadcast, barrier, allgather, allreduce or alltoall.
+    #[must_use]
+    pub fn is_first(&self) -> bool
+        ensures { result ≡ is_first self.now }
+    {
+        matches!(
+            self,
+            Collective::Bcast { .. }
+                | Collective::Barrier
+                | Collective::Allgather
+                | Collective::Allreduce
+                | Collective::Alltoall
+        )
+    }
+}
+
+/// A part of a value: the item of that number of the rank that had it at the start.
+#[derive(Clone, Copy, Debug, PartialEq, Eq, PartialOrd, Ord, Hash)]
+pub struct Contribution {
+    pub rank: u32,
+    pub item: u32,
+}
