@@ -3,3 +3,4 @@ pub mod NameLaws
 pub mod BlockLaws
 pub mod ParserLaws
 pub mod ReaderLaws
+pub mod LimitLaws

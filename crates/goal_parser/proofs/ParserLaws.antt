@@ -29,7 +29,7 @@ pub none_second : {A : Type 0} (a b : Option A) → option_or a b ≡ None → b
 none_second None b h = h
 none_second (Some x) b h = cc
 
-not_so : (b : Bool) (f : TextFault) → fault_if b f ≡ None → b ≡ false
+pub not_so : (b : Bool) (f : TextFault) → fault_if b f ≡ None → b ≡ false
 not_so true f h = cc
 not_so false f h = refl
 

@@ -11,3 +11,4 @@ pub mod Sentence
 pub mod Slots
 pub mod Taken
 pub mod FaultWords
+pub mod Laws

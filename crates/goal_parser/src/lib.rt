@@ -18,6 +18,7 @@ mod counts;
 mod draft;
 mod faults;
 mod labels;
+mod laws;
 mod line;
 mod names;
 mod numbers;
@@ -31,4 +32,5 @@ mod tests;
 mod text;
 
 pub use faults::TextFault;
+pub use laws::laws_of_texts;
 pub use text::read_text;

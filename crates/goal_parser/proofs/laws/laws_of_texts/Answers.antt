@@ -1,0 +1,5 @@
+use Rattle.goal_parser.proofs.LimitLaws.{keep_limits}
+use Rattle.goal_parser.proofs.laws.laws_of_texts.Goals as goal
+
+pub returns : goal.returns
+returns c = record { keep_limits = keep_limits }
