@@ -36,8 +36,12 @@ pub record HasNoStall (plans : List Plan) : Type 0 where
   pub is_walk : IsWalk plans walk
   pub all_end : AllEnd plans no_send walk
 
--- The law, for all schedules. The functions `laws_of_..` ensure it.
+-- The laws, for all schedules. The functions `laws_of_..` ensure each.
 
 -- a schedule has at most one walk
 abbrev pub OneWalk : Type 0
 OneWalk = (plans : List Plan) (v w : List Act) → IsWalk plans v → IsWalk plans w → v ≡ w
+
+-- a schedule has a walk
+abbrev pub SomeWalk : Type 0
+SomeWalk = (plans : List Plan) → (w : List Act) × IsWalk plans w

@@ -1,6 +1,6 @@
 // The laws of matched and certified schedules and of races. Their functions do nothing: a proof cites a law by a call.
 ghost use Rattle.goal_blocks.specs.Matched.{ChannelsAreApart, MatchedEndsInItsPairs};
-ghost use Rattle.goal_blocks.specs.Walk.{OneWalk};
+ghost use Rattle.goal_blocks.specs.Walk.{OneWalk, SomeWalk};
 ghost use Rattle.goal_blocks.specs.Certification.{CertifiedEndsEverywhere, CertifiedConflictsInOneOrder};
 ghost use Rattle.goal_blocks.specs.Race.{OrderIsKept, ConflictsComeInOneOrder};
 
@@ -11,10 +11,12 @@ ghost use Rattle.goal_blocks.specs.Race.{OrderIsKept, ConflictsComeInOneOrder};
 /// - `matched_ends_in_its_pairs`: in each complete interleaving, and whatever is eager, each operation has an end, and
 ///   the pairs join each send with the receive of its channel and no others.
 /// - `one_walk`: a schedule, matched or not, has at most one walk.
+/// - `some_walk`: a schedule, matched or not, has a walk.
 pub fn laws_of_matched_schedules()
     ensures channels_are_apart { ChannelsAreApart }
     ensures matched_ends_in_its_pairs { MatchedEndsInItsPairs }
     ensures one_walk { OneWalk }
+    ensures some_walk { SomeWalk }
 {}
 
 /// The laws of the order of operations of one rank, whatever is eager:

@@ -2,6 +2,7 @@
 use Rattle.goal_blocks.proofs.Channels.{channels_apart}
 use Rattle.goal_blocks.proofs.Matched.{ends_in_its_pairs}
 use Rattle.goal_blocks.proofs.Walk.{one_walk}
+use Rattle.goal_blocks.proofs.SomeWalk.{some_walk}
 use Rattle.goal_blocks.proofs.laws.laws_of_matched_schedules.Goals as goal
 
 pub returns-clause-channels_are_apart : goal.returns-clause-channels_are_apart
@@ -12,3 +13,6 @@ returns-clause-matched_ends_in_its_pairs c = λ plans eager h matched done. ends
 
 pub returns-clause-one_walk : goal.returns-clause-one_walk
 returns-clause-one_walk c = λ plans v w walk other. one_walk plans v w walk other
+
+pub returns-clause-some_walk : goal.returns-clause-some_walk
+returns-clause-some_walk c = λ plans. some_walk plans

@@ -1,0 +1,93 @@
+-- Each schedule has a walk.
+use Rattle.std.proofs.Common.{ℕ, zero, suc, ◌≤◌, ◌<◌, ⊎_elim, ◌≡◌, ◌⊎◌, inl, inr, Bool, true, false, List, [], ◌∷◌, AllPairs, Contains, sym, subst, arith}
+use Rattle.std.proofs.lemmas.Bool.{both_ways, cases_Bool}
+use Rattle.goal_graph.specs.declared.action.OpId.{OpId}
+use Rattle.goal_graph.specs.declared.action.Class.{Class}
+use Rattle.goal_graph.specs.declared.action.Class.TheVariants.{Arrive, Serve, Data, Post, Begin}
+use Rattle.goal_graph.specs.Schedule.{Plan, operations}
+use Rattle.goal_graph.specs.Action.{Act, place}
+use Rattle.goal_graph.specs.Allowed.{allowed}
+use Rattle.goal_graph.specs.Interleaving.{IsInterleaving}
+use Rattle.goal_graph.specs.Laws.{left}
+use Rattle.goal_graph.specs.Order.{IsBefore}
+use Rattle.goal_graph.proofs.ForCallers.{one_allowed, allowed_listed, operations_in_order, left_falls}
+use Rattle.goal_blocks.specs.Walk.{no_send, ComesFirst, TakesFirst, IsWalk}
+
+module _ (plans : List Plan) where
+  abbrev is_allowed : List Act → Class → OpId → Bool
+  is_allowed h c x = allowed plans no_send h c x
+
+  -- an operation has an allowed action, or none
+  class_of : (h : List Act) (x : OpId) → ((c : Class) × (is_allowed h c x ≡ true)) ⊎ ((c : Class) → is_allowed h c x ≡ false)
+  class_of h x =
+      go (cases_Bool (is_allowed h Arrive x)) (cases_Bool (is_allowed h Serve x)) (cases_Bool (is_allowed h Data x)) (cases_Bool (is_allowed h Post x)) (cases_Bool (is_allowed h Begin x))
+    where
+      none : is_allowed h Arrive x ≡ false → is_allowed h Serve x ≡ false → is_allowed h Data x ≡ false → is_allowed h Post x ≡ false → is_allowed h Begin x ≡ false → (c : Class) → is_allowed h c x ≡ false
+      none p q r s t Arrive = p
+      none p q r s t Serve = q
+      none p q r s t Data = r
+      none p q r s t Post = s
+      none p q r s t Begin = t
+
+      go : ((is_allowed h Arrive x ≡ true) ⊎ (is_allowed h Arrive x ≡ false)) → ((is_allowed h Serve x ≡ true) ⊎ (is_allowed h Serve x ≡ false)) → ((is_allowed h Data x ≡ true) ⊎ (is_allowed h Data x ≡ false)) → ((is_allowed h Post x ≡ true) ⊎ (is_allowed h Post x ≡ false)) → ((is_allowed h Begin x ≡ true) ⊎ (is_allowed h Begin x ≡ false)) → ((c : Class) × (is_allowed h c x ≡ true)) ⊎ ((c : Class) → is_allowed h c x ≡ false)
+      go (inl p) q r s t = inl (Arrive, p)
+      go (inr p) (inl q) r s t = inl (Serve, q)
+      go (inr p) (inr q) (inl r) s t = inl (Data, r)
+      go (inr p) (inr q) (inr r) (inl s) t = inl (Post, s)
+      go (inr p) (inr q) (inr r) (inr s) (inl t) = inl (Begin, t)
+      go (inr p) (inr q) (inr r) (inr s) (inr t) = inr (none p q r s t)
+
+  -- an allowed action of the first of these operations that has one
+  record IsFirst (h : List Act) (os : List OpId) (a : Act) : Type 0 where
+    may : is_allowed h a.class a.op ≡ true
+    first : (y : OpId) → Contains os y → (d : Class) → is_allowed h d y ≡ true → (a.op ≡ y) ⊎ IsBefore a.op y
+
+  -- none of these operations has an allowed action
+  abbrev NoneOf : List Act → List OpId → Type 0
+  NoneOf h os = (y : OpId) → Contains os y → (d : Class) → is_allowed h d y ≡ false
+
+  search : (h : List Act) (os : List OpId) → AllPairs IsBefore os → ((a : Act) × IsFirst h os a) ⊎ NoneOf h os
+  search h [] ordered = inr (λ y c d. absurd (omega (arith, c.1)))
+  search h (x ∷ os) ordered =
+      ⊎_elim (λ found. inl (record { class = found.0; op = x }, here found.0 found.1)) (λ none. ⊎_elim (λ found. inl (found.0, later none found.0 found.1)) (λ rest. inr (nowhere none rest)) (search h os (λ i j d l b. ordered (suc i) (suc j) d (omega (arith, l)) (omega (arith, b))))) (class_of h x)
+    where
+      here : (c : Class) → is_allowed h c x ≡ true → IsFirst h (x ∷ os) (record { class = c; op = x })
+      here c p = record { may = p; first = stands }
+        where
+          stands : (y : OpId) → Contains (x ∷ os) y → (d : Class) → is_allowed h d y ≡ true → (x ≡ y) ⊎ IsBefore x y
+          stands y (zero, b, e) d q = inl e
+          stands y (suc k, b, e) d q = inr (subst (λ (z : OpId). IsBefore x z) e (ordered 0 (suc k) y (omega arith) b))
+
+      later : ((c : Class) → is_allowed h c x ≡ false) → (a : Act) → IsFirst h os a → IsFirst h (x ∷ os) a
+      later none a f = record { may = f.may; first = stands }
+        where
+          stands : (y : OpId) → Contains (x ∷ os) y → (d : Class) → is_allowed h d y ≡ true → (a.op ≡ y) ⊎ IsBefore a.op y
+          stands y (zero, b, e) d q = absurd (both_ways _ (none d) (subst (λ (z : OpId). is_allowed h d z ≡ true) (sym e) q))
+          stands y (suc k, b, e) d q = f.first y (k, omega (arith, b), e) d q
+
+      nowhere : ((c : Class) → is_allowed h c x ≡ false) → NoneOf h os → NoneOf h (x ∷ os)
+      nowhere none rest y (zero, b, e) d = subst (λ (z : OpId). is_allowed h d z ≡ false) e (none d)
+      nowhere none rest y (suc k, b, e) d = rest y (k, omega (arith, b), e) d
+
+  -- the first of all operations that has an allowed action is what the walk takes
+  takes_first : (h : List Act) (a : Act) → IsInterleaving plans no_send h → IsFirst h (operations plans) a → (b : Act) → is_allowed h b.class b.op ≡ true → ComesFirst a b
+  takes_first h a run f b q =
+      ⊎_elim (λ same. inr (same, le same)) (λ before. inl before) (f.first b.op (allowed_listed plans no_send h b.class b.op q) b.class q)
+    where
+      le : a.op ≡ b.op → place a.class ≤ place b.class
+      le same =
+          let one = one_allowed plans no_send h a.class b.class b.op run (subst (λ (z : OpId). is_allowed h a.class z ≡ true) same f.may) q in
+          subst (λ (c : Class). place a.class ≤ place c) one (omega arith)
+
+  nothing_left : (h : List Act) → NoneOf h (operations plans) → (a : Act) → is_allowed h a.class a.op ≡ false
+  nothing_left h none a =
+      ⊎_elim (λ p. absurd (both_ways _ (none a.op (allowed_listed plans no_send h a.class a.op p) a.class) p)) (λ p. p) (cases_Bool (is_allowed h a.class a.op))
+
+  -- from what the walk has taken, with at most n actions left
+  walk_on : (n : ℕ) (h : List Act) → left plans h < n → IsInterleaving plans no_send h → TakesFirst plans h → (w : List Act) × IsWalk plans w
+  walk_on zero h few run takes = absurd (omega (arith, few))
+  walk_on (suc n) h few run takes =
+      ⊎_elim (λ found. let fewer = left_falls plans no_send found.0 h found.1.may in walk_on n (found.0 ∷ h) (omega (arith, few, fewer)) (run, found.1.may) (takes, takes_first h found.0 run found.1)) (λ none. (h, record { complete = record { each = run; none_left = nothing_left h none }; in_order = takes })) (search h (operations plans) (operations_in_order plans))
+
+  pub some_walk : (w : List Act) × IsWalk plans w
+  some_walk = walk_on (suc (left plans [])) [] (omega arith) tt tt
