@@ -1,4 +1,4 @@
--- what a reader of the contract of `goal` believes
+-- What a reader must believe.
 pub mod World
 pub mod Input
 pub mod Output

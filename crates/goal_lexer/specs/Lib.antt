@@ -1,12 +1,14 @@
+-- What a reader must believe.
 pub mod Bytes
 pub mod Numbers
 pub mod Padding
 pub mod Pieces
+pub mod Words
 pub mod Runs
 pub mod Scan
-pub mod Sound
-pub mod Stands
 pub mod State
+pub mod Stands
+-- What only the code keeps.
+pub mod Sound
 pub mod Steps
-pub mod Words
 pub mod Whole

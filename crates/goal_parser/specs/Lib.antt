@@ -1,14 +1,17 @@
+-- What a reader must believe.
+pub mod Numbers
+pub mod Sentence
+pub mod Ranks
 pub mod Actions
+pub mod Lines
 pub mod Counts
 pub mod Faults
-pub mod Lines
-pub mod Numbers
 pub mod Plans
-pub mod Ranks
-pub mod Reader
 pub mod Reads
-pub mod Sentence
+pub mod Reader
+pub mod FaultWords
+-- What only the code keeps.
 pub mod Slots
 pub mod Taken
-pub mod FaultWords
+-- Laws.
 pub mod Laws

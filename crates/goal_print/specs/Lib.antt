@@ -1,2 +1,4 @@
+-- What a reader must believe.
 pub mod Canonical
+-- Laws.
 pub mod Laws

@@ -1,4 +1,6 @@
+-- What a reader must believe.
 pub mod Engine
+-- What only the code keeps.
 pub mod Queue
 pub mod Tables
 pub mod Turns

@@ -1,4 +1,6 @@
+-- What a reader must believe.
 pub mod Map
+-- What only the code keeps.
 pub mod Scan
 pub mod Heap
 pub mod Groups

@@ -35,6 +35,33 @@ impl Seeded {
         self.below(n) == 0
     }
 
+    // A dependency, which may stand several times.
+    fn depend(&mut self, plan: &mut RankPlan, dep: Dep) -> Result<(), AllocError> {
+        let times = if self.is_one_in(4) { 3 } else { 1 };
+        for _ in 0..times {
+            plan.deps.push(dep)?;
+        }
+        Ok(())
+    }
+
+    // A join: the operation needs all before it.
+    fn join(&mut self, plan: &mut RankPlan, later: u32) -> Result<(), AllocError> {
+        for earlier in 0..later {
+            let when = if self.is_one_in(3) {
+                When::AfterStart
+            } else {
+                When::AfterEnd
+            };
+            let dep = Dep {
+                later,
+                earlier,
+                when,
+            };
+            self.depend(plan, dep)?;
+        }
+        Ok(())
+    }
+
     // One more operation of a rank, which may need earlier ones.
     fn add(&mut self, plan: &mut RankPlan, kind: Kind) -> Result<(), AllocError> {
         let later = u32::try_from(plan.ops.len()).unwrap_or(0);
@@ -47,12 +74,16 @@ impl Seeded {
         for when in [When::AfterEnd, When::AfterStart] {
             if later > 0 && self.is_one_in(4) {
                 let earlier = self.below(later);
-                plan.deps.push(Dep {
+                let dep = Dep {
                     later,
                     earlier,
                     when,
-                })?;
+                };
+                self.depend(plan, dep)?;
             }
+        }
+        if self.is_one_in(6) {
+            self.join(plan, later)?;
         }
         Ok(())
     }
