@@ -20,3 +20,4 @@ pub use Rattle.goal_graph.proofs.Faults.{IsAccepted-no_fault, IsFault-unique, ne
 pub use Rattle.goal_graph.proofs.ListingLemmas.{listed_exist}
 pub use Rattle.goal_graph.proofs.Order.{key_cases, less_irreflexive, less_tested, less_transitive, one_least, same_timed}
 pub use Rattle.goal_graph.proofs.OfKind.{kind_from_op, kind_of_op, receive_is_op, send_is_op}
+pub use Rattle.goal_graph.proofs.InTurn.{run_in_turn, in_turn_run}

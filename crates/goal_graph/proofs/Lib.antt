@@ -30,4 +30,5 @@ pub mod FirstFault
 pub mod Accepted
 pub mod Order
 pub mod OfKind
+pub mod InTurn
 pub mod ForCallers

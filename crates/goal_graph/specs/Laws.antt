@@ -1,5 +1,5 @@
 -- The laws of interleavings, as one reads them, and the words that they use.
-use Rattle.std.specs.Prelude.{ℕ, ◌+◌, ◌*◌, ◌≡◌, ◌≢◌, ◌≤◌, ◌⊎◌, ◌↔◌, ◌&&◌, not, Bool, true, false, List, [], ◌∷◌, length, reverse, find, Contains, AllPairs, Option, Some, is_some, count_by, sum_by}
+use Rattle.std.specs.Prelude.{ℕ, ◌+◌, ◌*◌, ◌≡◌, ◌≢◌, ◌≤◌, ◌⊎◌, ◌↔◌, ◌&&◌, not, Bool, true, false, List, [], ◌∷◌, length, reverse, take, slice_get, find, Contains, AllPairs, Option, Some, is_some, count_by, sum_by}
 use Rattle.std.specs.Option.{option_map}
 use Rattle.goal_graph.specs.declared.action.OpId.{OpId}
 use Rattle.goal_graph.specs.declared.action.Timed.{Timed}
@@ -196,6 +196,15 @@ OperationsInOrder = (plans : List Plan) → AllPairs IsBefore (operations plans)
 -- the oldest that passes is the first that passes in the list read oldest first
 abbrev pub ReadOldestFirst : Type 0
 ReadOldestFirst = (test : Act → Bool) (h : List Act) → oldest test h ≡ option_map (λ (a : Act). a.op) (find test (reverse h))
+
+-- in a list of actions, oldest first, each is allowed after those before it
+abbrev pub EachIsAllowed : List Plan → (OpId → Bool) → List Act → Type 0
+EachIsAllowed plans eager trace =
+    (k : ℕ) (a : Act) → slice_get trace k ≡ Some a → allowed plans eager (reverse (take k trace)) a.class a.op ≡ true
+
+-- read oldest first, each action of an interleaving is allowed after those before it
+abbrev pub InterleavingOldestFirst : Type 0
+InterleavingOldestFirst = (plans : List Plan) (eager : OpId → Bool) (h : List Act) → IsInterleaving plans eager h ↔ EachIsAllowed plans eager (reverse h)
 
 -- where nothing is left to happen, what is paired has ended
 abbrev pub PairedHasEnded : Type 0

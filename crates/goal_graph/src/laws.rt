@@ -1,5 +1,5 @@
 // The laws of schedules and of the rules without times. Their functions do nothing: a proof cites a law by a call.
-ghost use Rattle.goal_graph.specs.Laws.{OperationNotBeforeItself, OperationsBeforeIsTransitive, OneOperationIsBefore, NotLessThanItself, LessIsTransitive, OneIsLess, KeyTellsAction, LessIsTested, CountsAreWithin, ValuesAreWithin, EagerSendsAlone, HappenedIsListed, HappenedCases, HappenedStays, PartnerStays, ReadyStays, MessageStays, AllowedStays, PartnersAreMutual, PartnersHaveMet, FitsAreReceiveAndSend, PairsArePartners, PartnersArePaired, OnePair, ArrivesAfterBegin, DataAfterPairing, ServesAfterPost, EndsAfterStart, StartsWhenReady, HappensOnce, AtMostThree, AtMostThreeEach, LeftFalls, OneAllowed, NeverBothWait, AllowedIsListed, OperationsAreListed, OperationsInOrder, ReadOldestFirst, PairedHasEnded, ReadyWaits, FittingIsTaken, ApartArePartners, ApartCompletesAlike};
+ghost use Rattle.goal_graph.specs.Laws.{OperationNotBeforeItself, OperationsBeforeIsTransitive, OneOperationIsBefore, NotLessThanItself, LessIsTransitive, OneIsLess, KeyTellsAction, LessIsTested, CountsAreWithin, ValuesAreWithin, EagerSendsAlone, HappenedIsListed, HappenedCases, HappenedStays, PartnerStays, ReadyStays, MessageStays, AllowedStays, PartnersAreMutual, PartnersHaveMet, FitsAreReceiveAndSend, PairsArePartners, PartnersArePaired, OnePair, ArrivesAfterBegin, DataAfterPairing, ServesAfterPost, EndsAfterStart, StartsWhenReady, HappensOnce, AtMostThree, AtMostThreeEach, LeftFalls, OneAllowed, NeverBothWait, AllowedIsListed, OperationsAreListed, OperationsInOrder, ReadOldestFirst, InterleavingOldestFirst, PairedHasEnded, ReadyWaits, FittingIsTaken, ApartArePartners, ApartCompletesAlike};
 
 /// The laws of the orders of operations, by rank and number, and of actions, by the keys of their times, classes,
 /// ranks and numbers:
@@ -45,6 +45,7 @@ pub fn laws_of_schedules()
 /// - `arrives_after_begin`: a message arrives after its send has begun.
 /// - `ends_after_start`, `starts_when_ready`: what has ended has started, and what has started was ready.
 /// - `allowed_is_listed`: an allowed action is one of an operation of the schedule.
+/// - `interleaving_oldest_first`: read oldest first, each action is allowed after those before it.
 /// - `eager_sends_alone`: tests of what is eager that agree on the sends allow the same interleavings.
 pub fn laws_of_interleavings()
     ensures happened_is_listed { HappenedIsListed }
@@ -62,6 +63,7 @@ pub fn laws_of_interleavings()
     ensures ends_after_start { EndsAfterStart }
     ensures starts_when_ready { StartsWhenReady }
     ensures allowed_is_listed { AllowedIsListed }
+    ensures interleaving_oldest_first { InterleavingOldestFirst }
     ensures eager_sends_alone { EagerSendsAlone }
 {}
 

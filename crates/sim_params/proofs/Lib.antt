@@ -10,6 +10,5 @@ pub mod Rise
 pub mod Unique
 pub mod Exists
 pub mod Reasons
-pub mod Places
 pub mod Queue
 pub mod ForCallers

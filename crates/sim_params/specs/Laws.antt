@@ -133,6 +133,10 @@ StartStays = (plans : List Plan) (costs : CostModel) (h : List Timed) (a : Timed
 abbrev pub PairTimeStays : Type 0
 PairTimeStays = (plans : List Plan) (costs : CostModel) (h : List Timed) (a : Timed) (x : OpId) → is_paired (pairs plans (plain h)) x ≡ true → paired_at plans costs (a ∷ h) x ≡ paired_at plans costs h x
 
+-- an operation is paired at the time of the action that pairs it
+abbrev pub PairedByAction : Type 0
+PairedByAction = (plans : List Plan) (costs : CostModel) (h : List Timed) (a : Timed) (x : OpId) → is_paired (pairs plans (plain h)) x ≡ false → is_paired (pairs plans (plain (a ∷ h))) x ≡ true → paired_at plans costs (a ∷ h) x ≡ a.time
+
 -- an operation starts with its first action
 abbrev pub StartsWithFirst : Type 0
 StartsWithFirst = (plans : List Plan) (costs : CostModel) (h : List Timed) (a : Timed) → Possible plans costs h a → a.class ≡ first_class (kind_at plans a.op) → start plans costs (a ∷ h) a.op ≡ a.time

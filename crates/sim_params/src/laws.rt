@@ -1,11 +1,12 @@
 // The laws of the timed run. Their functions do nothing: a proof cites a law by a call.
-ghost use Rattle.sim_params.specs.Laws.{TimesNeverFall, PossibleStays, StartStays, PairTimeStays, StartsWithFirst, EndsWithLast, IsAnInterleaving, IsACompleteInterleaving, AtMostThreeEach, RoomForPossible, EndStays, TimesRise, NewestIsLast, PossibleIsNotPast, OneIsNext, NextOrFinished, OneRunOfEachLength, OneBeginsAsTheOther, CompleteRunBeginsAsEach, OneCompleteRun, SomeCompleteRun, ReadOldestFirst, LeastEntryIsNext, WithinReach, WithinBudget, PossibleWithinBudget, ReachRisesByPart, PartsAreTheShare, ReasonsAreStuck, OpIsNeeded, PartnerIsAbsent, AloneIsAlone, CalcIsNotAlone};
+ghost use Rattle.sim_params.specs.Laws.{TimesNeverFall, PossibleStays, StartStays, PairTimeStays, PairedByAction, StartsWithFirst, EndsWithLast, IsAnInterleaving, IsACompleteInterleaving, AtMostThreeEach, RoomForPossible, EndStays, TimesRise, NewestIsLast, PossibleIsNotPast, OneIsNext, NextOrFinished, OneRunOfEachLength, OneBeginsAsTheOther, CompleteRunBeginsAsEach, OneCompleteRun, SomeCompleteRun, ReadOldestFirst, LeastEntryIsNext, WithinReach, WithinBudget, PossibleWithinBudget, ReachRisesByPart, PartsAreTheShare, ReasonsAreStuck, OpIsNeeded, PartnerIsAbsent, AloneIsAlone, CalcIsNotAlone};
 
 /// The laws of times, for every schedule, all costs and every history, be it a run or not:
 ///
 /// - `times_never_fall`: one more action makes no time of an action, no start, end or ready time and no free time less.
 /// - `possible_stays`: a possible action stays possible until it happens, at a time that is not less.
 /// - `start_stays`, `pair_time_stays`: the start of an operation, and the time at which it was paired, stay once there.
+/// - `paired_by_action`: it was paired at the time of the action that pairs it.
 /// - `starts_with_first`: an operation starts with its first action.
 /// - `ends_with_last`: it ends when its last action lets go of the cpu.
 pub fn laws_of_times()
@@ -13,6 +14,7 @@ pub fn laws_of_times()
     ensures possible_stays { PossibleStays }
     ensures start_stays { StartStays }
     ensures pair_time_stays { PairTimeStays }
+    ensures paired_by_action { PairedByAction }
     ensures starts_with_first { StartsWithFirst }
     ensures ends_with_last { EndsWithLast }
 {}

@@ -1,4 +1,6 @@
 -- Each law is a lemma.
+use Rattle.std.proofs.Common.{◌≡◌, true, List}
+use Rattle.goal_graph.specs.Action.{Act}
 use Rattle.goal_graph.proofs.Actions.{happened_stays}
 use Rattle.goal_graph.proofs.Persist.{ready_stays, served_stays, allowed_stays}
 use Rattle.goal_graph.proofs.Ever.{arrived_begun}
@@ -8,6 +10,9 @@ use Rattle.goal_graph.proofs.Once.{happens_once, at_most_three, happened_and_lef
 use Rattle.goal_graph.proofs.Exists.{allowed_listed}
 use Rattle.goal_graph.proofs.Eager.{same_interleavings}
 use Rattle.goal_graph.proofs.Members.{happened_member, member_happened, happened_one_more}
+use Rattle.goal_graph.proofs.InTurn.{run_in_turn, in_turn_run}
+use Rattle.goal_graph.specs.Allowed.{allowed}
+use Rattle.goal_graph.specs.Interleaving.{IsInterleaving}
 use Rattle.goal_graph.proofs.laws.laws_of_interleavings.Goals as goal
 
 pub returns-clause-happened_is_listed : goal.returns-clause-happened_is_listed
@@ -54,6 +59,12 @@ returns-clause-starts_when_ready c = started_ready
 
 pub returns-clause-allowed_is_listed : goal.returns-clause-allowed_is_listed
 returns-clause-allowed_is_listed c = allowed_listed
+
+pub returns-clause-interleaving_oldest_first : goal.returns-clause-interleaving_oldest_first
+returns-clause-interleaving_oldest_first c = λ plans eager h.
+    let Next = λ (l : List Act) (a : Act). allowed plans eager l a.class a.op ≡ true in
+    let Run = IsInterleaving plans eager in
+    (run_in_turn Next Run tt (λ a l r n. (r, n)) (λ a l r. r) h, in_turn_run Next Run tt (λ a l r n. (r, n)) (λ a l r. r) h)
 
 pub returns-clause-eager_sends_alone : goal.returns-clause-eager_sends_alone
 returns-clause-eager_sends_alone c = λ plans eager other h agree. same_interleavings plans eager other agree h

@@ -5,7 +5,8 @@ use Rattle.sim_params.proofs.Fixed.{end_kept}
 use Rattle.sim_params.proofs.Rise.{times_rise, newest_last, possible_last}
 use Rattle.sim_params.proofs.Unique.{one_next, one_of_length, one_starts_other, starts_complete, one_complete}
 use Rattle.sim_params.proofs.Exists.{next_or_finished, some_complete}
-use Rattle.sim_params.proofs.Places.{run_each_next, each_next_run}
+use Rattle.goal_graph.proofs.ForCallers.{run_in_turn, in_turn_run}
+use Rattle.sim_params.specs.Run.{IsNext, IsRun}
 use Rattle.sim_params.proofs.Queue.{least_is_next}
 use Rattle.sim_params.proofs.laws.laws_of_runs.Goals as goal
 
@@ -55,7 +56,10 @@ pub returns-clause-some_complete_run : goal.returns-clause-some_complete_run
 returns-clause-some_complete_run c = some_complete
 
 pub returns-clause-read_oldest_first : goal.returns-clause-read_oldest_first
-returns-clause-read_oldest_first c = λ plans costs h. (run_each_next plans costs h, each_next_run plans costs h)
+returns-clause-read_oldest_first c = λ plans costs h.
+    let Next = IsNext plans costs in
+    let Run = IsRun plans costs in
+    (run_in_turn Next Run tt (λ a l r n. (r, n)) (λ a l r. r) h, in_turn_run Next Run tt (λ a l r n. (r, n)) (λ a l r. r) h)
 
 pub returns-clause-least_entry_is_next : goal.returns-clause-least_entry_is_next
 returns-clause-least_entry_is_next c = λ plans costs h entries. least_is_next plans costs (Contains entries) h

@@ -1,6 +1,6 @@
 -- Each law is a lemma.
 use Rattle.sim_params.proofs.Grow.{none_falls}
-use Rattle.sim_params.proofs.Fixed.{start_kept, paired_at_kept, start_now, end_last}
+use Rattle.sim_params.proofs.Fixed.{start_kept, paired_at_kept, start_now, end_last, paired_now}
 use Rattle.sim_params.proofs.Interleavings.{possible_stays}
 use Rattle.sim_params.proofs.laws.laws_of_times.Goals as goal
 
@@ -15,6 +15,9 @@ returns-clause-start_stays c = λ plans costs h a x. start_kept plans costs a h 
 
 pub returns-clause-pair_time_stays : goal.returns-clause-pair_time_stays
 returns-clause-pair_time_stays c = λ plans costs h a x. paired_at_kept plans costs a h x
+
+pub returns-clause-paired_by_action : goal.returns-clause-paired_by_action
+returns-clause-paired_by_action c = λ plans costs h a x. paired_now plans costs a h x
 
 pub returns-clause-starts_with_first : goal.returns-clause-starts_with_first
 returns-clause-starts_with_first c = λ plans costs h a. start_now plans costs a h
