@@ -11,7 +11,7 @@ use Rattle.goal_graph.specs.declared.fault.PlanFault.{PlanFault}
 use Rattle.goal_graph.specs.declared.fault.PlanFault.TheVariants as plan
 use Rattle.goal_graph.specs.declared.plan.Op.{Op}
 use Rattle.goal_graph.specs.Schedule.{Plan}
-use Rattle.goal_graph.specs.Fault.{op_count, dep_count, note_count, AreCountsWithin, over, count_fault, has_peer, dep_in_range, note_fits, op_fault, dep_fault, note_fault, first_fault, rank_fault, plain_fault, IsFault}
+use Rattle.goal_graph.specs.Fault.{op_count, dep_count, note_count, AreCountsWithin, count_over, count_fault, has_peer, dep_in_range, note_fits, op_fault, dep_fault, note_fault, first_fault, rank_fault, plain_fault, IsFault}
 use Rattle.goal_binary.specs.declared.fault.FileFault.{FileFault}
 use Rattle.goal_binary.specs.declared.fault.FileFault.TheVariants as fault
 use Rattle.goal_binary.specs.Fitting.{OpFits, PlanFits, HaveFile}
@@ -68,7 +68,7 @@ module _ (ranks rank : ℕ) where
       (among_any (dep_fault (length p.ops) rank) (λ dep d. told_unless (dep_in_range (length p.ops) d) (plan.DepRange rank dep) (λ limit. limit)) 0 p.deps)
       (among_any (note_fault p.ops rank) (λ note n. told_unless (note_fits p.ops n) (plan.NoteMisfit rank note) (λ limit. limit)) 0 p.notes))
 
-not_over : (limit found : ℕ) → found ≤ limit → over limit found ≡ None
+not_over : (limit found : ℕ) → found ≤ limit → count_over limit found ≡ None
 not_over limit found le = ap (λ (b : Bool). cond b (Some (plan.Count found limit)) None) (le-ltb limit found le)
 
 some-eqb : (n : ℕ) → 0 < n → eqb n 0 ≡ false

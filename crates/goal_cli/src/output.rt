@@ -5,7 +5,7 @@ ghost use Rattle.sim_params.specs.Numbers.{numbers};
 ghost use Rattle.sim_params.specs.Costs.{log_gops};
 ghost use Rattle.sim_params.specs.Budget.{budget};
 ghost use Rattle.sim_params.specs.Run.{IsFinished};
-ghost use Rattle.sim_events.specs.Engine.{IsBudgetFault};
+ghost use Rattle.sim_events.specs.Engine.{IsEngineFault};
 ghost use Rattle.goal_print.specs.Canonical.{canonical};
 ghost use Rattle.goal_binary.specs.File.{file};
 ghost use Rattle.goal_words.specs.Words.{Command, command};
@@ -94,7 +94,7 @@ fn read_input(alloc: Global, input: &[u8]) -> Result<Sched, Stop>
 fn run(alloc: Global, sched: &Sched, params: Params) -> Result<Engine<'_, LogGops>, EngineFault>
     ensures fits { OnOk result (budget sched.now (log_gops (numbers params)) < 2 ^ 63) }
     ensures run { IfOk result (λ engine. IsRunOf (log_gops (numbers params)) sched.now engine) }
-    ensures fault { IfErr result (IsBudgetFault (budget sched.now (log_gops (numbers params)))) }
+    ensures fault { IfErr result (IsEngineFault (budget sched.now (log_gops (numbers params)))) }
 {
     match Engine::new(alloc, sched, LogGops { params }) {
         Ok(engine) => {
@@ -125,7 +125,7 @@ fn print_run(alloc: Global, sched: &Sched, params: Params) -> Result<Output, Eng
     ensures fits { OnOk result (budget sched.now (log_gops (numbers params)) < 2 ^ 63) }
     ensures run { IfOk result (λ output.
         IsPrintedRun (log_gops (numbers params)) sched.now output.bytes.items output.stuck) }
-    ensures fault { IfErr result (IsBudgetFault (budget sched.now (log_gops (numbers params)))) }
+    ensures fault { IfErr result (IsEngineFault (budget sched.now (log_gops (numbers params)))) }
 {
     let engine = match run(alloc, sched, params) {
         Ok(engine) => engine,
@@ -145,7 +145,7 @@ fn report_waits(alloc: Global, sched: &Sched, params: Params) -> Result<Output, 
     ensures fits { OnOk result (budget sched.now (log_gops (numbers params)) < 2 ^ 63) }
     ensures run { IfOk result (λ output.
         IsReportedRun (log_gops (numbers params)) sched.now output.bytes.items output.stuck) }
-    ensures fault { IfErr result (IsBudgetFault (budget sched.now (log_gops (numbers params)))) }
+    ensures fault { IfErr result (IsEngineFault (budget sched.now (log_gops (numbers params)))) }
 {
     let engine = match run(alloc, sched, params) {
         Ok(engine) => engine,

@@ -14,7 +14,7 @@ pub use Rattle.goal_graph.proofs.Complete.{begun_send_arrived, fitting_taken, re
 pub use Rattle.goal_graph.proofs.Members.{ready_need, unready_need}
 pub use Rattle.goal_graph.proofs.Apart.{completes_alike, partners_iff_met}
 pub use Rattle.goal_graph.proofs.Numbers.{and_left, and_right}
-pub use Rattle.goal_graph.proofs.Plain.{dep_in_range-parts, option_or-none, plain-counts, plain-dep, plain-op}
+pub use Rattle.goal_graph.proofs.Plain.{count_over-none, dep_in_range-parts, option_or-none, plain-counts, plain-dep, plain-op}
 pub use Rattle.goal_graph.proofs.Places.{lengths-le, ops_at_some}
 pub use Rattle.goal_graph.proofs.Faults.{IsAccepted-no_fault, IsFault-unique, needs-exist}
 pub use Rattle.goal_graph.proofs.ListingLemmas.{listed_exist}

@@ -13,7 +13,7 @@ use Rattle.goal_graph.specs.declared.rows.Listing.{Listing}
 use Rattle.goal_graph.specs.declared.rows.Listing.TheVariants.{Needs, WaitingOn}
 use Rattle.goal_graph.specs.Schedule.{Plan}
 use Rattle.goal_graph.specs.Rows.{owner}
-use Rattle.goal_graph.specs.Fault.{AreCountsWithin, op_count, dep_count, note_count, over, count_fault, op_fault, dep_fault, value_fits, has_peer, dep_in_range, first_fault, rank_fault, plain_fault}
+use Rattle.goal_graph.specs.Fault.{AreCountsWithin, op_count, dep_count, note_count, count_over, count_fault, op_fault, dep_fault, value_fits, has_peer, dep_in_range, first_fault, rank_fault, plain_fault}
 
 -- neither of two is there
 pub option_or-none : {T : Type 0} (a b : Option T) → option_or a b ≡ None → (a ≡ None) × (b ≡ None)
@@ -33,8 +33,8 @@ first_fault-none fault n (x ∷ xs) h (suc k) d inside =
     let e : n + 1 + k ≡ n + suc k = omega arith in
     rw (← e) (first_fault-none fault (n + 1) xs (option_or-none _ _ h).1 k d (omega arith))
 
-over-none : (limit found : ℕ) → over limit found ≡ None → found ≤ limit
-over-none limit found h = grind (arith, nat_tests)
+pub count_over-none : (limit found : ℕ) → count_over limit found ≡ None → found ≤ limit
+count_over-none limit found h = grind (arith, nat_tests)
 
 pub count_fault-none : (plans : List Plan) → count_fault plans ≡ None → AreCountsWithin plans
 unfolding count_fault
@@ -45,15 +45,15 @@ count_fault-none plans h =
     record {
       some_rank = ranks_some (length plans) a.0;
       ranks = ranks_over (length plans) a.0;
-      ops = over-none _ _ b.0;
-      deps = over-none _ _ c.0;
-      notes = over-none _ _ c.1;
+      ops = count_over-none _ _ b.0;
+      deps = count_over-none _ _ c.0;
+      notes = count_over-none _ _ c.1;
     }
   where
-    ranks_some : (n : ℕ) → (if eqb n 0 then Some (Count 0 MAX_RANKS) else over MAX_RANKS n) ≡ None → 0 < n
+    ranks_some : (n : ℕ) → (if eqb n 0 then Some (Count 0 MAX_RANKS) else count_over MAX_RANKS n) ≡ None → 0 < n
     ranks_some n h = grind (arith, nat_tests)
 
-    ranks_over : (n : ℕ) → (if eqb n 0 then Some (Count 0 MAX_RANKS) else over MAX_RANKS n) ≡ None → n ≤ MAX_RANKS
+    ranks_over : (n : ℕ) → (if eqb n 0 then Some (Count 0 MAX_RANKS) else count_over MAX_RANKS n) ≡ None → n ≤ MAX_RANKS
     ranks_over n h = grind (arith, nat_tests)
 
 -- a test that would have told a fault has passed
@@ -104,17 +104,17 @@ module _ (plans : List Plan) where
   count_fault-empty none = rw (← none) refl
 
   module _ (some : false ≡ eqb (length plans) 0) where
-    pub count_fault-ranks : (f : PlanFault) → Some f ≡ over MAX_RANKS (length plans) → Some f ≡ count_fault plans
+    pub count_fault-ranks : (f : PlanFault) → Some f ≡ count_over MAX_RANKS (length plans) → Some f ≡ count_fault plans
     unfolding count_fault
     count_fault-ranks f found = rw (← some) (ap (λ o. option_or o rest) found)
       where
         rest : Option PlanFault
-        rest = option_or (over MAX_OPS (op_count plans)) (option_or (over MAX_DEPS (dep_count plans)) (over MAX_NOTES (note_count plans)))
+        rest = option_or (count_over MAX_OPS (op_count plans)) (option_or (count_over MAX_DEPS (dep_count plans)) (count_over MAX_NOTES (note_count plans)))
 
-    pub count_fault-rest : None ≡ over MAX_RANKS (length plans) → option_or (option_or (over MAX_OPS (op_count plans)) (over MAX_DEPS (dep_count plans))) (over MAX_NOTES (note_count plans)) ≡ count_fault plans
+    pub count_fault-rest : None ≡ count_over MAX_RANKS (length plans) → option_or (option_or (count_over MAX_OPS (op_count plans)) (count_over MAX_DEPS (dep_count plans))) (count_over MAX_NOTES (note_count plans)) ≡ count_fault plans
     unfolding count_fault
     count_fault-rest none =
-        rw (← some, ← none) (option_or_assoc (over MAX_OPS (op_count plans)) (over MAX_DEPS (dep_count plans)) (over MAX_NOTES (note_count plans)))
+        rw (← some, ← none) (option_or_assoc (count_over MAX_OPS (op_count plans)) (count_over MAX_DEPS (dep_count plans)) (count_over MAX_NOTES (note_count plans)))
 
 -- a plan fault's parts: the counts come first
 pub plain_fault-counts : (plans : List Plan) (f : PlanFault) → Some f ≡ count_fault plans → Some f ≡ plain_fault plans

@@ -35,14 +35,14 @@ pub record AreCountsWithin (plans : List Plan) : Type 0 where
   pub notes : note_count plans ≤ MAX_NOTES
 
 -- a number is over its limit
-abbrev pub over : ℕ → ℕ → Option PlanFault
-over limit found = if nat_lt limit found then Some (Count found limit) else None
+abbrev pub count_over : ℕ → ℕ → Option PlanFault
+count_over limit found = if nat_lt limit found then Some (Count found limit) else None
 
 -- there is no rank, or there are too many ranks, operations, dependencies or notes, tried in this order
 unfoldable pub count_fault : List Plan → Option PlanFault
 count_fault plans =
-    option_or (if length plans == 0 then Some (Count 0 MAX_RANKS) else over MAX_RANKS (length plans))
-    (option_or (over MAX_OPS (op_count plans)) (option_or (over MAX_DEPS (dep_count plans)) (over MAX_NOTES (note_count plans))))
+    option_or (if length plans == 0 then Some (Count 0 MAX_RANKS) else count_over MAX_RANKS (length plans))
+    (option_or (count_over MAX_OPS (op_count plans)) (option_or (count_over MAX_DEPS (dep_count plans)) (count_over MAX_NOTES (note_count plans))))
 
 -- its size or duration is within the limit, and a calc has nic 0
 abbrev pub value_fits : Kind → ℕ → Bool

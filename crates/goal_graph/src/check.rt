@@ -1,7 +1,7 @@
 // The first rule that a list of plans breaks, but for cycles.
 ghost use Rattle.std.specs.Prelude.{◌≡◌, ◌≤◌, ◌^◌, length, All, IfNone};
 ghost use Rattle.std.specs.Option.{option_copied};
-ghost use Rattle.goal_graph.specs.Fault.{value_fits, has_peer, can_add, can_move, op_fault, dep_fault, note_fault, first_fault, rank_fault, over, op_count, dep_count, note_count, count_fault, plain_fault};
+ghost use Rattle.goal_graph.specs.Fault.{value_fits, has_peer, can_add, can_move, op_fault, dep_fault, note_fault, first_fault, rank_fault, count_over, op_count, dep_count, note_count, count_fault, plain_fault};
 ghost use Rattle.goal_graph.specs.Widths.{IsKindInWidth, IsOpInWidth, IsNoteInWidth, IsPlanInWidth, AreInWidth};
 
 use crate::fault::PlanFault;
@@ -169,7 +169,7 @@ fn totals_of(plans: &[RankPlan]) -> Totals
 
 // The fault of a number that may be over its limit.
 fn fault_of_number(limit: u32, found: u128) -> Option<PlanFault>
-    ensures { result ≡ over limit found }
+    ensures { result ≡ count_over limit found }
 {
     if found > u128::from(limit) {
         let limit = u64::from(limit);

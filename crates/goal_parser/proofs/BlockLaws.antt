@@ -5,7 +5,7 @@ use Rattle.goal_lexer.specs.declared.tokens.TokenKind.TheVariants as token
 use Rattle.goal_graph.specs.declared.plan.Op.{Op}
 use Rattle.goal_graph.specs.Schedule.{Plan}
 use Rattle.goal_parser.specs.declared.sentence.State.{State}
-use Rattle.goal_parser.specs.Lines.{IsInside, ops_with, ended_ops}
+use Rattle.goal_parser.specs.Items.{IsInside, ops_with, ended_ops}
 use Rattle.goal_parser.specs.Plans.{plan_ended}
 
 pub inside : (k : TokenKind) → (k ≡ token.Close → ⊥) → IsInside k

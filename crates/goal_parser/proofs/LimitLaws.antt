@@ -27,15 +27,15 @@ use Rattle.goal_parser.specs.declared.draft.OptionWord.{OptionWord}
 use Rattle.goal_parser.specs.declared.draft.OptionWord.TheVariants as option
 use Rattle.goal_parser.specs.declared.draft.Draft.{Draft}
 use Rattle.goal_parser.specs.declared.counts.Counts.{Counts}
-use Rattle.goal_parser.specs.declared.line.Line.{Line}
-use Rattle.goal_parser.specs.declared.line.Mention.{Mention}
-use Rattle.goal_parser.specs.declared.line.Verb.{Verb}
+use Rattle.goal_parser.specs.declared.head.ItemHead.{ItemHead}
+use Rattle.goal_parser.specs.declared.head.Mention.{Mention}
+use Rattle.goal_parser.specs.declared.head.Verb.{Verb}
 use Rattle.goal_parser.specs.Sentence.{entry, state_of}
 use Rattle.goal_parser.specs.Numbers.{is_within}
 use Rattle.goal_parser.specs.Ranks.{ranks_of, rank_of, blocks_of}
 use Rattle.goal_parser.specs.Actions.{draft_with, draft_of, option_with, kind_of, op_of}
 use Rattle.goal_parser.specs.Counts.{counts_with, counts_of, is_too_many}
-use Rattle.goal_parser.specs.Lines.{Definition, NamedDep, NamedNote, ends_action, ended_ops, ops_with, ops_of, line_of, defined_of, used_of, dep_ended, deps_with, deps_of, note_ended, notes_with, notes_of, dep_by, note_by}
+use Rattle.goal_parser.specs.Items.{Definition, NamedDep, NamedNote, ends_action, ended_ops, ops_with, ops_of, head_of, defined_of, used_of, dep_ended, deps_with, deps_of, note_ended, notes_with, notes_of, dep_by, note_by}
 use Rattle.goal_parser.specs.Plans.{empty_plan, block_plan, first_plans, plans_with, plans_of}
 use Rattle.goal_parser.specs.Faults.{fault_by, token_fault, syntax_fault, number_fault, rank_fault, option_fault, label_fault, count_fault, unknown_fault}
 use Rattle.goal_parser.specs.Reads.{first_fault, end_fault, last_fault, text_fault, text_plans, Reading, reading, reads, plans, faulty}
@@ -194,25 +194,25 @@ unfolding ops_with
 ops_length s token.Close op ops = let e = ended_length (ends_action s token.Close) op ops in omega arith
 ops_length s k op ops = let e = ended_length (ends_action s k) op ops in omega arith
 
-deps_length : (s : State) (k : TokenKind) (line : Line) (deps : List NamedDep) → length (deps_with s k line deps) + closing k (length deps) ≤ length deps + kept_deps s k
+deps_length : (s : State) (k : TokenKind) (head : ItemHead) (deps : List NamedDep) → length (deps_with s k head deps) + closing k (length deps) ≤ length deps + kept_deps s k
 unfolding deps_with
-deps_length state.Label (token.Label label) line deps = by line.subject
+deps_length state.Label (token.Label label) head deps = by head.subject
   where
-    by : (subject : Option Mention) → length (dep_ended state.Label subject line.verb label deps) + 0 ≤ length deps + 1
+    by : (subject : Option Mention) → length (dep_ended state.Label subject head.verb label deps) + 0 ≤ length deps + 1
     by None = omega arith
     by (Some subject) = omega (arith, length-append {A = NamedDep})
-deps_length _ token.Close line deps = omega arith
-deps_length _ _ line deps = omega arith
+deps_length _ token.Close head deps = omega arith
+deps_length _ _ head deps = omega arith
 
-notes_length : (s : State) (k : TokenKind) (line : Line) (notes : List NamedNote) → length (notes_with s k line notes) + closing k (length notes) ≤ length notes + kept_notes s k
+notes_length : (s : State) (k : TokenKind) (head : ItemHead) (notes : List NamedNote) → length (notes_with s k head notes) + closing k (length notes) ≤ length notes + kept_notes s k
 unfolding notes_with
-notes_length state.Note3 (token.Number n) line notes = by line.subject
+notes_length state.Note3 (token.Number n) head notes = by head.subject
   where
-    by : (subject : Option Mention) → length (note_ended state.Note3 subject line.verb line.low n notes) + 0 ≤ length notes + 1
+    by : (subject : Option Mention) → length (note_ended state.Note3 subject head.verb head.low n notes) + 0 ≤ length notes + 1
     by None = omega arith
     by (Some subject) = omega (arith, length-append {A = NamedNote})
-notes_length _ token.Close line notes = omega arith
-notes_length _ _ line notes = omega arith
+notes_length _ token.Close head notes = omega arith
+notes_length _ _ head notes = omega arith
 
 -- the number of ranks
 abbrev RanksFit : State → List Plan → Type 0
@@ -428,7 +428,7 @@ passes_of s draft ranks blocks ds subject counts us t h =
 
 token_passes : (before : List Token) (t : Token) → token_fault before t ≡ None → Passes (state_of before) (draft_of before).option (counts_of before) t
 unfolding token_fault
-token_passes before t h = passes_of (state_of before) (draft_of before) (ranks_of before) (blocks_of before) (defined_of before) (line_of before).subject (counts_of before) (used_of before) t h
+token_passes before t h = passes_of (state_of before) (draft_of before) (ranks_of before) (blocks_of before) (defined_of before) (head_of before).subject (counts_of before) (used_of before) t h
 
 -- what is kept and what has begun, with one token more
 within_count : (new old length_new length_old closed kept_one acting_new acting_old begun count count_new : ℕ)
@@ -459,10 +459,10 @@ module _ (before : List Token) (t : Token) (passes : Passes (state_of before) (d
   deps_more =
       let s = state_of before in let k = t.kind in let deps = deps_of before in
       let plan = block_plan before in
-      within_count (dep_count (plans_with s k (rank_of before) plan (plans_of before))) (dep_count (plans_of before)) (length (deps_with s k (line_of before) deps)) (length deps) (closing k (length deps)) (kept_deps s k) (depending (behind s k)) (depending s) (begun_deps k) (counts_of before).deps (counts_with k (counts_of before)).deps
+      within_count (dep_count (plans_with s k (rank_of before) plan (plans_of before))) (dep_count (plans_of before)) (length (deps_with s k (head_of before) deps)) (length deps) (closing k (length deps)) (kept_deps s k) (depending (behind s k)) (depending s) (begun_deps k) (counts_of before).deps (counts_with k (counts_of before)).deps
       (subst (λ (n : ℕ). dep_count (plans_with s k (rank_of before) plan (plans_of before)) ≤ dep_count (plans_of before) + closing k n) (length-map deps (dep_by (defined_of before)))
       (plans_sum (λ (p : Plan). length p.deps) refl s k (rank_of before) plan (plans_of before)))
-      (deps_length s k (line_of before) deps)
+      (deps_length s k (head_of before) deps)
       (leb-true (kept_deps s k + depending (behind s k)) (depending s + begun_deps k) (deps_begun s k))
       (deps_counted (counts_of before) k)
       keeps.deps
@@ -472,10 +472,10 @@ module _ (before : List Token) (t : Token) (passes : Passes (state_of before) (d
   notes_more =
       let s = state_of before in let k = t.kind in let notes = notes_of before in
       let plan = block_plan before in
-      within_count (note_count (plans_with s k (rank_of before) plan (plans_of before))) (note_count (plans_of before)) (length (notes_with s k (line_of before) notes)) (length notes) (closing k (length notes)) (kept_notes s k) (noting (behind s k)) (noting s) (begun_notes k) (counts_of before).notes (counts_with k (counts_of before)).notes
+      within_count (note_count (plans_with s k (rank_of before) plan (plans_of before))) (note_count (plans_of before)) (length (notes_with s k (head_of before) notes)) (length notes) (closing k (length notes)) (kept_notes s k) (noting (behind s k)) (noting s) (begun_notes k) (counts_of before).notes (counts_with k (counts_of before)).notes
       (subst (λ (n : ℕ). note_count (plans_with s k (rank_of before) plan (plans_of before)) ≤ note_count (plans_of before) + closing k n) (length-map notes (note_by (defined_of before)))
       (plans_sum (λ (p : Plan). length p.notes) refl s k (rank_of before) plan (plans_of before)))
-      (notes_length s k (line_of before) notes)
+      (notes_length s k (head_of before) notes)
       (leb-true (kept_notes s k + noting (behind s k)) (noting s + begun_notes k) (notes_begun s k))
       (notes_counted (counts_of before) k)
       keeps.notes

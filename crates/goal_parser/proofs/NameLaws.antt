@@ -7,12 +7,12 @@ use Rattle.goal_graph.specs.declared.plan.Dep.{Dep}
 use Rattle.goal_graph.specs.declared.plan.Note.{Note}
 use Rattle.goal_parser.specs.declared.labels.Slot.{Slot}
 use Rattle.goal_parser.specs.declared.labels.Labels.{Labels}
-use Rattle.goal_parser.specs.declared.line.Mention.{Mention}
-use Rattle.goal_parser.specs.declared.line.Verb.{Verb}
-use Rattle.goal_parser.specs.declared.line.Verb.TheVariants as verb
+use Rattle.goal_parser.specs.declared.head.Mention.{Mention}
+use Rattle.goal_parser.specs.declared.head.Verb.{Verb}
+use Rattle.goal_parser.specs.declared.head.Verb.TheVariants as verb
 use Rattle.goal_parser.specs.declared.names.Names.{Names}
-use Rattle.goal_parser.specs.Lines.{Definition, NamedDep, NamedNote, is_defined, op_number, when_of, dep_by, note_by, note_as}
-use Rattle.goal_parser.specs.Slots.{Entries, op_in, op_by, op_at, dep_at, note_at, label_at, IsSlot, IsDep, IsNote, Keeps, Grows, Holds}
+use Rattle.goal_parser.specs.Items.{Definition, NamedDep, NamedNote, is_defined, op_number, when_of, dep_by, note_by, note_as}
+use Rattle.goal_parser.specs.Slots.{Entries, op_in, op_by, op_at, dep_at, note_at, label_at, IsSlot, IsDep, IsNote, Keeps, Grows, NamesHold}
 use Rattle.goal_parser.specs.Faults.{fault_if, defined_fault}
 use Rattle.goal_parser.specs.declared.faults.TextFault.TheVariants.{Repeat}
 use Rattle.goal_parser.proofs.SlotLaws.{label_of_entry}
@@ -47,22 +47,22 @@ IsNote-grows : (es fs : Entries) → Grows es fs → (d : Note) (n : NamedNote) 
 IsNote-grows es fs grows d n is = record { slot = is.slot; subject = IsSlot-grows es fs is.slot n.subject grows is.subject; is = is.is }
 
 -- the labels change, and the slots stay
-pub Holds-labels : (names : Names) (labels : Labels) (ds es : List Definition) (us vs : List Mention) (deps : List NamedDep) (notes : List NamedNote)
-    → Grows names.labels.slots.entries labels.slots.entries → Keeps labels.slots.entries es vs → Holds names ds us deps notes → Holds (record names { labels = labels }) es vs deps notes
-Holds-labels names labels ds es us vs deps notes grows keeps holds = record {
+pub NamesHold-labels : (names : Names) (labels : Labels) (ds es : List Definition) (us vs : List Mention) (deps : List NamedDep) (notes : List NamedNote)
+    → Grows names.labels.slots.entries labels.slots.entries → Keeps labels.slots.entries es vs → NamesHold names ds us deps notes → NamesHold (record names { labels = labels }) es vs deps notes
+NamesHold-labels names labels ds es us vs deps notes grows keeps holds = record {
   labels = keeps;
   deps = AllZip-weaker (IsDep names.labels.slots.entries) (IsDep labels.slots.entries) (IsDep-grows names.labels.slots.entries labels.slots.entries grows) names.deps.items deps holds.deps;
   notes = AllZip-weaker (IsNote names.labels.slots.entries) (IsNote labels.slots.entries) (IsNote-grows names.labels.slots.entries labels.slots.entries grows) names.notes.items notes holds.notes;
 }
 
 -- a dependency more
-pub Holds-dep : (old new : Names) (between : Labels) (ds : List Definition) (us : List Mention) (deps : List NamedDep) (notes : List NamedNote) (s u : Mention) (v : Verb) (later earlier : ℕ)
+pub NamesHold-dep : (old new : Names) (between : Labels) (ds : List Definition) (us : List Mention) (deps : List NamedDep) (notes : List NamedNote) (s u : Mention) (v : Verb) (later earlier : ℕ)
     → Grows old.labels.slots.entries between.slots.entries → Grows between.slots.entries new.labels.slots.entries
     → Keeps new.labels.slots.entries ds ((us ++ s ∷ []) ++ u ∷ [])
     → IsSlot between.slots.entries later s.label → IsSlot new.labels.slots.entries earlier u.label
     → new.deps.items ≡ old.deps.items ++ record { later = later; earlier = earlier; when = when_of v } ∷ [] → new.notes.items ≡ old.notes.items
-    → Holds old ds us deps notes → Holds new ds ((us ++ s ∷ []) ++ u ∷ []) (deps ++ record { later = s.label; earlier = u.label; when = when_of v } ∷ []) notes
-Holds-dep old new between ds us deps notes s u v later earlier g1 g2 keeps first second pushed same holds =
+    → NamesHold old ds us deps notes → NamesHold new ds ((us ++ s ∷ []) ++ u ∷ []) (deps ++ record { later = s.label; earlier = u.label; when = when_of v } ∷ []) notes
+NamesHold-dep old new between ds us deps notes s u v later earlier g1 g2 keeps first second pushed same holds =
     let es = old.labels.slots.entries in
     let ms = between.slots.entries in
     let fs = new.labels.slots.entries in
@@ -77,11 +77,11 @@ Holds-dep old new between ds us deps notes s u v later earlier g1 g2 keeps first
     }
 
 -- a note more
-pub Holds-note : (old new : Names) (ds : List Definition) (us : List Mention) (deps : List NamedDep) (notes : List NamedNote) (s : Mention) (v : Verb) (slot first second : ℕ)
+pub NamesHold-note : (old new : Names) (ds : List Definition) (us : List Mention) (deps : List NamedDep) (notes : List NamedNote) (s : Mention) (v : Verb) (slot first second : ℕ)
     → Grows old.labels.slots.entries new.labels.slots.entries → Keeps new.labels.slots.entries ds (us ++ s ∷ []) → IsSlot new.labels.slots.entries slot s.label
     → new.deps.items ≡ old.deps.items → new.notes.items ≡ old.notes.items ++ note_as v slot first second ∷ []
-    → Holds old ds us deps notes → Holds new ds (us ++ s ∷ []) deps (notes ++ record { subject = s.label; verb = v; first = first; second = second } ∷ [])
-Holds-note old new ds us deps notes s v slot first second grows keeps is same pushed holds =
+    → NamesHold old ds us deps notes → NamesHold new ds (us ++ s ∷ []) deps (notes ++ record { subject = s.label; verb = v; first = first; second = second } ∷ [])
+NamesHold-note old new ds us deps notes s v slot first second grows keeps is same pushed holds =
     let es = old.labels.slots.entries in
     let fs = new.labels.slots.entries in
     record {

@@ -12,10 +12,10 @@ use Rattle.goal_parser.specs.declared.sentence.State.TheVariants as state
 use Rattle.goal_parser.specs.declared.draft.OptionWord.{OptionWord}
 use Rattle.goal_parser.specs.declared.counts.Counts.{Counts}
 use Rattle.goal_parser.specs.declared.draft.Draft.{Draft}
-use Rattle.goal_parser.specs.declared.line.Mention.{Mention}
+use Rattle.goal_parser.specs.declared.head.Mention.{Mention}
 use Rattle.goal_parser.specs.declared.parser.Parser.{Parser}
 use Rattle.goal_parser.specs.Taken.{HasTaken}
-use Rattle.goal_parser.specs.Lines.{Definition, defined_of, used_of}
+use Rattle.goal_parser.specs.Items.{Definition, defined_of, used_of}
 use Rattle.goal_parser.specs.Numbers.{is_within}
 use Rattle.goal_parser.specs.Counts.{is_too_many}
 use Rattle.goal_parser.specs.Ranks.{IsNewRank}
@@ -84,8 +84,8 @@ met x (Some y) b h = h
 
 -- the first test that a token fails is told from what a parser keeps
 pub fault_taken : (parser : Parser) (before : List Token) (t : Token) (fault : Option TextFault) → HasTaken parser before
-    → fault ≡ fault_by parser.state parser.draft parser.ranks.count parser.ranks.blocks.keys (defined_of before) parser.line.subject parser.counts (used_of before) t
+    → fault ≡ fault_by parser.state parser.draft parser.ranks.count parser.ranks.blocks.keys (defined_of before) parser.head.subject parser.counts (used_of before) t
     → fault ≡ token_fault before t
 unfolding token_fault
 fault_taken parser before t fault taken h =
-    h ∙ (λ i. fault_by (taken.state i) (taken.draft i) (taken.ranks i) (taken.blocks i) (defined_of before) (taken.line i).subject (taken.counts i) (used_of before) t)
+    h ∙ (λ i. fault_by (taken.state i) (taken.draft i) (taken.ranks i) (taken.blocks i) (defined_of before) (taken.head i).subject (taken.counts i) (used_of before) t)

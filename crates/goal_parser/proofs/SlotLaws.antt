@@ -12,8 +12,8 @@ use Rattle.std.proofs.Math.Seq.{get_or-append_seam}
 use Rattle.indexmap.specs.IndexMap.{insert_entry}
 use Rattle.indexmap.proofs.SetLemmas.{keys_insert_entry}
 use Rattle.goal_parser.specs.declared.labels.Slot.{Slot}
-use Rattle.goal_parser.specs.declared.line.Mention.{Mention}
-use Rattle.goal_parser.specs.Lines.{Definition, number_of, is_defined, first_outside, first_unknown}
+use Rattle.goal_parser.specs.declared.head.Mention.{Mention}
+use Rattle.goal_parser.specs.Items.{Definition, defined_as, is_defined, first_outside, first_unknown}
 use Rattle.goal_parser.specs.Slots.{Entries, op_in, place_in, op_by, first_by, label_at, Keeps, Grows}
 
 option_or-none : {A : Type 0} (a : Option A) → option_or a None ≡ a
@@ -42,13 +42,13 @@ first_outside-append test (f ∷ us) u = by (test f.label) (first_outside-append
     by true rest = rest
     by false rest = refl
 
-number_of-append : (ds : List Definition) (d : Definition) (q : List ℕ) → number_of (ds ++ d ∷ []) q ≡ option_or (number_of ds q) (if bytes_eq q d.label then Some d.op else None)
-unfolding number_of
-number_of-append [] d q = refl
-number_of-append (f ∷ ds) d q = by (bytes_eq q f.label) (number_of-append ds d q)
+defined_as-append : (ds : List Definition) (d : Definition) (q : List ℕ) → defined_as (ds ++ d ∷ []) q ≡ option_or (defined_as ds q) (if bytes_eq q d.label then Some d.op else None)
+unfolding defined_as
+defined_as-append [] d q = refl
+defined_as-append (f ∷ ds) d q = by (bytes_eq q f.label) (defined_as-append ds d q)
   where
-    by : (b : Bool) → number_of (ds ++ d ∷ []) q ≡ option_or (number_of ds q) (if bytes_eq q d.label then Some d.op else None)
-        → (if b then Some f.op else number_of (ds ++ d ∷ []) q) ≡ option_or (if b then Some f.op else number_of ds q) (if bytes_eq q d.label then Some d.op else None)
+    by : (b : Bool) → defined_as (ds ++ d ∷ []) q ≡ option_or (defined_as ds q) (if bytes_eq q d.label then Some d.op else None)
+        → (if b then Some f.op else defined_as (ds ++ d ∷ []) q) ≡ option_or (if b then Some f.op else defined_as ds q) (if bytes_eq q d.label then Some d.op else None)
     by true rest = refl
     by false rest = rest
 
@@ -139,7 +139,7 @@ option_or-some None b h = cc
 option_or-some (Some x) b h = refl
 
 pub Keeps-empty : (es : Entries) → es ≡ [] → Keeps es [] []
-unfolding op_by first_by first_outside number_of
+unfolding op_by first_by first_outside defined_as
 Keeps-empty es none = record {
   numbers = λ q. ap (λ (l : Entries). op_in (lookup (bytes_eq q) l)) none;
   firsts = λ test all. ap (first_by test) none;
@@ -158,8 +158,8 @@ Keeps-again es ds us u s there k = record { numbers = k.numbers; firsts = λ tes
 Updated : (x : List ℕ) (v : Slot) (es fs : Entries) → Type 0
 Updated x v es fs = (q : List ℕ) → lookup (bytes_eq q) fs ≡ cond (bytes_eq x q) (Some v) (lookup (bytes_eq q) es)
 
-none_outside : (ds : List Definition) (x : List ℕ) → is_defined ds x ≡ false → number_of ds x ≡ None
-none_outside ds x h = by (number_of ds x) h
+none_outside : (ds : List Definition) (x : List ℕ) → is_defined ds x ≡ false → defined_as ds x ≡ None
+none_outside ds x h = by (defined_as ds x) h
   where
     by : (o : Option ℕ) → is_some o ≡ false → o ≡ None
     by None h = refl
@@ -178,12 +178,12 @@ Keeps-used es fs ds us u none put updated k = record {
       ∙ sym (first_outside-append test us u);
 }
   where
-    by : (q : List ℕ) (b : Bool) → bytes_eq u.label q ≡ b → op_in (cond b (Some (record { op = None; at = u.at })) (lookup (bytes_eq q) es)) ≡ number_of ds q
-    by q true h = subst (λ z. None ≡ number_of ds z) (sym (exact u.label q h)) (sym (ap op_in none) ∙ k.numbers u.label)
+    by : (q : List ℕ) (b : Bool) → bytes_eq u.label q ≡ b → op_in (cond b (Some (record { op = None; at = u.at })) (lookup (bytes_eq q) es)) ≡ defined_as ds q
+    by q true h = subst (λ z. None ≡ defined_as ds z) (sym (exact u.label q h)) (sym (ap op_in none) ∙ k.numbers u.label)
     by q false h = k.numbers q
 
 defined_more : (ds : List Definition) (d : Definition) (q : List ℕ) → is_defined ds q ≡ true → is_defined (ds ++ d ∷ []) q ≡ true
-defined_more ds d q h = ap is_some (number_of-append ds d q) ∙ by (number_of ds q) (if bytes_eq q d.label then Some d.op else None) h
+defined_more ds d q h = ap is_some (defined_as-append ds d q) ∙ by (defined_as ds q) (if bytes_eq q d.label then Some d.op else None) h
   where
     by : (a b : Option ℕ) → is_some a ≡ true → is_some (option_or a b) ≡ true
     by None b h = cc
@@ -193,7 +193,7 @@ own_label : (x : List ℕ) → bytes_eq x x ≡ true
 own_label x = nat_list_eq_equiv.refl x
 
 defined_now : (ds : List Definition) (x : List ℕ) (op : ℕ) → is_defined (ds ++ record { label = x; op = op } ∷ []) x ≡ true
-defined_now ds x op = ap is_some (number_of-append ds (record { label = x; op = op }) x) ∙ ap (λ b. is_some (option_or (number_of ds x) (if b then Some op else None))) (own_label x) ∙ by (number_of ds x)
+defined_now ds x op = ap is_some (defined_as-append ds (record { label = x; op = op }) x) ∙ ap (λ b. is_some (option_or (defined_as ds x) (if b then Some op else None))) (own_label x) ∙ by (defined_as ds x)
   where
     by : (a : Option ℕ) → is_some (option_or a (Some op)) ≡ true
     by None = refl
@@ -205,19 +205,19 @@ pub Keeps-defined : (es fs : Entries) (ds : List Definition) (us : List Mention)
     → Keeps es ds us → is_defined ds x ≡ false → Keeps fs (ds ++ record { label = x; op = op } ∷ []) us
 unfolding op_by
 Keeps-defined es fs ds us x op at place placed put updated k fresh = record {
-  numbers = λ q. ap op_in (updated q) ∙ by q (bytes_eq x q) refl ∙ sym (number_of-append ds (record { label = x; op = op }) q);
+  numbers = λ q. ap op_in (updated q) ∙ by q (bytes_eq x q) refl ∙ sym (defined_as-append ds (record { label = x; op = op }) q);
   firsts = λ test all. ap (first_by test) put
       ∙ firsts test (lookup (bytes_eq x) es) refl (all x (defined_now ds x op))
       ∙ k.firsts test (λ q h. all q (defined_more ds (record { label = x; op = op }) q h));
 }
   where
-    by : (q : List ℕ) (b : Bool) → bytes_eq x q ≡ b → op_in (cond b (Some (record { op = Some op; at = place })) (lookup (bytes_eq q) es)) ≡ option_or (number_of ds q) (if bytes_eq q x then Some op else None)
+    by : (q : List ℕ) (b : Bool) → bytes_eq x q ≡ b → op_in (cond b (Some (record { op = Some op; at = place })) (lookup (bytes_eq q) es)) ≡ option_or (defined_as ds q) (if bytes_eq q x then Some op else None)
     by q true h =
         let same = exact x q h in
-        sym (ap (λ o. option_or o (if bytes_eq q x then Some op else None)) (ap (number_of ds) same ∙ none_outside ds x fresh)
+        sym (ap (λ o. option_or o (if bytes_eq q x then Some op else None)) (ap (defined_as ds) same ∙ none_outside ds x fresh)
         ∙ ap (λ b. if b then Some op else None) (nat_list_eq_equiv.symm q x ∙ h))
     by q false h =
-        k.numbers q ∙ sym (ap (λ b. option_or (number_of ds q) (if b then Some op else None)) (nat_list_eq_equiv.symm q x ∙ h) ∙ option_or-none (number_of ds q))
+        k.numbers q ∙ sym (ap (λ b. option_or (defined_as ds q) (if b then Some op else None)) (nat_list_eq_equiv.symm q x ∙ h) ∙ option_or-none (defined_as ds q))
 
     firsts : (test : List ℕ → Bool) (o : Option Slot) → lookup (bytes_eq x) es ≡ o → test x ≡ true → first_by test (insert_entry bytes_eq es x (record { op = Some op; at = place })) ≡ first_by test es
     firsts test None h passes =

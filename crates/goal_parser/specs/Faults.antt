@@ -12,13 +12,13 @@ use Rattle.goal_parser.specs.declared.sentence.State.TheVariants as state
 use Rattle.goal_parser.specs.declared.draft.OptionWord.{OptionWord}
 use Rattle.goal_parser.specs.declared.draft.Draft.{Draft}
 use Rattle.goal_parser.specs.declared.counts.Counts.{Counts}
-use Rattle.goal_parser.specs.declared.line.Mention.{Mention}
+use Rattle.goal_parser.specs.declared.head.Mention.{Mention}
 use Rattle.goal_parser.specs.Sentence.{entry, state_of}
 use Rattle.goal_parser.specs.Numbers.{is_within}
 use Rattle.goal_parser.specs.Ranks.{ranks_of, blocks_of}
 use Rattle.goal_parser.specs.Actions.{draft_of, has_option}
 use Rattle.goal_parser.specs.Counts.{counts_of, is_too_many}
-use Rattle.goal_parser.specs.Lines.{Definition, is_defined, first_unknown, line_of, defined_of, used_of}
+use Rattle.goal_parser.specs.Items.{Definition, is_defined, first_unknown, head_of, defined_of, used_of}
 
 abbrev pub fault_if : Bool → TextFault → Option TextFault
 fault_if test fault = if test then Some fault else None
@@ -86,4 +86,4 @@ fault_by s draft ranks blocks defined subject counts used t =
 -- the first test that a token fails behind these tokens
 unfoldable pub token_fault : List Token → Token → Option TextFault
 token_fault before t =
-    fault_by (state_of before) (draft_of before) (ranks_of before) (blocks_of before) (defined_of before) (line_of before).subject (counts_of before) (used_of before) t
+    fault_by (state_of before) (draft_of before) (ranks_of before) (blocks_of before) (defined_of before) (head_of before).subject (counts_of before) (used_of before) t

@@ -3,7 +3,7 @@ pub mod Numbers
 pub mod Sentence
 pub mod Ranks
 pub mod Actions
-pub mod Lines
+pub mod Items
 pub mod Counts
 pub mod Faults
 pub mod Plans

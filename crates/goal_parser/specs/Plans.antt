@@ -9,7 +9,7 @@ use Rattle.goal_parser.specs.declared.sentence.State.TheVariants as state
 use Rattle.goal_parser.specs.Sentence.{state_of}
 use Rattle.goal_parser.specs.Actions.{draft_of, op_of}
 use Rattle.goal_parser.specs.Ranks.{rank_of}
-use Rattle.goal_parser.specs.Lines.{ended_ops, ops_of, defined_of, deps_of, notes_of, dep_by, note_by}
+use Rattle.goal_parser.specs.Items.{ended_ops, ops_of, defined_of, deps_of, notes_of, dep_by, note_by}
 
 -- a rank without a block
 abbrev pub empty_plan : Plan

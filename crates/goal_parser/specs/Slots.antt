@@ -7,8 +7,8 @@ use Rattle.goal_graph.specs.declared.plan.Note.{Note}
 use Rattle.goal_graph.specs.declared.plan.Note.TheVariants.{Moves, Adds}
 use Rattle.goal_parser.specs.declared.names.Names.{Names}
 use Rattle.goal_parser.specs.declared.labels.Slot.{Slot}
-use Rattle.goal_parser.specs.declared.line.Mention.{Mention}
-use Rattle.goal_parser.specs.Lines.{Definition, number_of, is_defined, first_outside, NamedDep, NamedNote, note_as}
+use Rattle.goal_parser.specs.declared.head.Mention.{Mention}
+use Rattle.goal_parser.specs.Items.{Definition, defined_as, is_defined, first_outside, NamedDep, NamedNote, note_as}
 
 abbrev pub Entries : Type 0
 Entries = List (List ℕ × Slot)
@@ -36,7 +36,7 @@ label_at entries slot = slice_index_or (keys_of entries) slot []
 
 -- The slots know which labels are defined, and where each label that isn't is used first.
 pub record Keeps (entries : Entries) (ds : List Definition) (us : List Mention) : Type 0 where
-  pub numbers : (label : List ℕ) → op_by entries label ≡ number_of ds label
+  pub numbers : (label : List ℕ) → op_by entries label ≡ defined_as ds label
   pub firsts : (test : List ℕ → Bool) → ((label : List ℕ) → is_defined ds label ≡ true → test label ≡ true) → first_by test entries ≡ first_outside test us
 
 -- the slots stay, and more may follow
@@ -73,7 +73,7 @@ pub record IsNote (entries : Entries) (n : Note) (named : NamedNote) : Type 0 wh
   pub is : n ≡ note_as named.verb slot named.first named.second
 
 -- what is kept of a block's labels, dependencies and notes
-pub record Holds (names : Names) (ds : List Definition) (us : List Mention) (named_deps : List NamedDep) (named_notes : List NamedNote) : Type 0 where
+pub record NamesHold (names : Names) (ds : List Definition) (us : List Mention) (named_deps : List NamedDep) (named_notes : List NamedNote) : Type 0 where
   pub labels : Keeps names.labels.slots.entries ds us
   pub deps : AllZip (IsDep names.labels.slots.entries) names.deps.items named_deps
   pub notes : AllZip (IsNote names.labels.slots.entries) names.notes.items named_notes

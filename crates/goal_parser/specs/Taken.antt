@@ -7,9 +7,9 @@ use Rattle.goal_parser.specs.Numbers.{is_within}
 use Rattle.goal_parser.specs.Ranks.{ranks_of, rank_of, blocks_of, IsNewRank}
 use Rattle.goal_parser.specs.Counts.{counts_of, is_too_many}
 use Rattle.goal_parser.specs.Actions.{draft_of}
-use Rattle.goal_parser.specs.Lines.{line_of, ops_of, defined_of, used_of, deps_of, notes_of}
+use Rattle.goal_parser.specs.Items.{head_of, ops_of, defined_of, used_of, deps_of, notes_of}
 use Rattle.goal_parser.specs.Plans.{plans_of}
-use Rattle.goal_parser.specs.Slots.{Holds}
+use Rattle.goal_parser.specs.Slots.{NamesHold}
 
 -- The parser has taken these tokens, of which the newest stands first: it keeps what they give.
 pub record HasTaken (parser : Parser) (before : List Token) : Type 0 where
@@ -19,9 +19,9 @@ pub record HasTaken (parser : Parser) (before : List Token) : Type 0 where
   pub blocks : parser.ranks.blocks.keys ≡ blocks_of before
   pub counts : parser.counts ≡ counts_of before
   pub draft : parser.draft ≡ draft_of before
-  pub line : parser.line ≡ line_of before
+  pub head : parser.head ≡ head_of before
   pub ops : parser.block.ops.items ≡ ops_of before
-  pub names : Holds parser.block.names (defined_of before) (used_of before) (deps_of before) (notes_of before)
+  pub names : NamesHold parser.block.names (defined_of before) (used_of before) (deps_of before) (notes_of before)
   pub plans : parser.plans.items ≡ plans_of before
 
 -- what a parser relies on in a token that it keeps

@@ -1,15 +1,15 @@
 //! The block that is read.
 ghost use Rattle.std.specs.Prelude.{◌≡◌, ℕ, List, [], ◌∷◌, ◌++◌, IfOk, OnOk, map, length, Some, None};
-ghost use Rattle.goal_parser.specs.declared.line.Mention.{Mention};
+ghost use Rattle.goal_parser.specs.declared.head.Mention.{Mention};
 ghost use Rattle.goal_parser.specs.Actions.{op_of};
-ghost use Rattle.goal_parser.specs.Lines.{Definition, NamedDep, NamedNote, begins_item, ends_action, ended_ops, ops_with, defined_with, used_with, deps_with, notes_with, dep_by, note_by};
+ghost use Rattle.goal_parser.specs.Items.{Definition, NamedDep, NamedNote, begins_item, ends_action, ended_ops, ops_with, defined_with, used_with, deps_with, notes_with, dep_by, note_by};
 ghost use Rattle.goal_parser.specs.Plans.{plan_ended};
 ghost use Rattle.goal_parser.specs.Numbers.{IsWithin};
 ghost use Rattle.goal_parser.specs.Faults.{label_fault};
-ghost use Rattle.goal_parser.specs.Slots.{Holds};
+ghost use Rattle.goal_parser.specs.Slots.{NamesHold};
 
 use crate::draft::Draft;
-use crate::line::Line;
+use crate::head::ItemHead;
 use crate::names::Names;
 use crate::sentence::State;
 use goal_graph::{Op, RankPlan};
@@ -41,7 +41,7 @@ fn begins_item(kind: &TokenKind) -> bool
 }
 
 /// Whether the token ends an action.
-#[tactic(auto, unfolding(crate::specs::Lines::ends_action))]
+#[tactic(auto, unfolding(crate::specs::Items::ends_action))]
 fn ends_action(state: State, kind: &TokenKind) -> bool
     ensures { result ≡ ends_action state kind.now }
 {
@@ -70,7 +70,7 @@ impl Block {
     /// An empty block.
     pub fn new(alloc: Global) -> Block
         ensures ops { result.ops.items ≡ [] }
-        ensures names { Holds result.names [] [] [] [] }
+        ensures names { NamesHold result.names [] [] [] [] }
     {
         Block {
             ops: Vec::new(alloc),
@@ -80,7 +80,7 @@ impl Block {
 
     /// The plan of the block, which ends in this state.
     fn finish(self, state: State, draft: &Draft) -> Result<RankPlan, AllocError>
-        ensures { IfOk result (λ plan. (ds : List Definition) (us : List Mention) (deps : List NamedDep) (notes : List NamedNote) → Holds self.names ds us deps notes →
+        ensures { IfOk result (λ plan. (ds : List Definition) (us : List Mention) (deps : List NamedDep) (notes : List NamedNote) → NamesHold self.names ds us deps notes →
             plan ≡ record { ops = ended_ops state TokenKind.Close (op_of draft.now) self.ops.items; deps = map (dep_by ds) deps; notes = map (note_by ds) notes }) }
     {
         let Block { mut ops, mut names } = self;
@@ -96,21 +96,21 @@ impl Block {
     }
 
     /// Takes a token that stands in this state. The answer is the plan of the block where the token ends it.
-    #[tactic(auto, unfolding(crate::specs::Lines::ops_with))]
+    #[tactic(auto, unfolding(crate::specs::Items::ops_with))]
     pub fn take(
         &mut self,
         alloc: Global,
         state: State,
         token: &Token,
         draft: &Draft,
-        line: &Line,
+        head: &ItemHead,
     ) -> Result<Option<RankPlan>, AllocError>
         requires { IsWithin state token.now.kind }
         ensures ops { OnOk result (self.new.ops.items ≡ ops_with state token.now.kind (op_of draft.now) self.old.ops.items) }
-        ensures names { OnOk result ((ds : List Definition) (us : List Mention) (deps : List NamedDep) (notes : List NamedNote) → Holds self.old.names ds us deps notes → label_fault ds line.now.subject token.now ≡ None →
-            Holds self.new.names (defined_with token.now.kind line.now.subject (length self.old.ops.items) ds) (used_with state token.now.kind token.now.start line.now us)
-            (deps_with state token.now.kind line.now deps) (notes_with state token.now.kind line.now notes)) }
-        ensures plan { IfOk result (λ plan. (ds : List Definition) (us : List Mention) (deps : List NamedDep) (notes : List NamedNote) → Holds self.old.names ds us deps notes →
+        ensures names { OnOk result ((ds : List Definition) (us : List Mention) (deps : List NamedDep) (notes : List NamedNote) → NamesHold self.old.names ds us deps notes → label_fault ds head.now.subject token.now ≡ None →
+            NamesHold self.new.names (defined_with token.now.kind head.now.subject (length self.old.ops.items) ds) (used_with state token.now.kind token.now.start head.now us)
+            (deps_with state token.now.kind head.now deps) (notes_with state token.now.kind head.now notes)) }
+        ensures plan { IfOk result (λ plan. (ds : List Definition) (us : List Mention) (deps : List NamedDep) (notes : List NamedNote) → NamesHold self.old.names ds us deps notes →
             plan ≡ plan_ended token.now.kind (record { ops = ended_ops state TokenKind.Close (op_of draft.now) self.old.ops.items; deps = map (dep_by ds) deps; notes = map (note_by ds) notes })) }
     {
         match &token.kind {
@@ -124,7 +124,7 @@ impl Block {
                 let Ok(op) = u32::try_from(self.ops.len()) else {
                     return Err(AllocError);
                 };
-                self.names.take(state, token, line, op)?;
+                self.names.take(state, token, head, op)?;
                 end_action(&mut self.ops, state, kind, draft)?;
                 Ok(None)
             }

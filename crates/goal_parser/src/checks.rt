@@ -1,14 +1,14 @@
 //! The tests of a token.
 ghost use Rattle.std.specs.Prelude.{◌≡◌, List, None, Some};
-ghost use Rattle.goal_parser.specs.declared.line.Mention.{Mention};
-ghost use Rattle.goal_parser.specs.Lines.{Definition};
+ghost use Rattle.goal_parser.specs.declared.head.Mention.{Mention};
+ghost use Rattle.goal_parser.specs.Items.{Definition};
 ghost use Rattle.goal_parser.specs.Slots.{Keeps};
 ghost use Rattle.goal_parser.specs.Faults.{fault_if, syntax_fault, number_fault, option_fault, defined_fault, label_fault, unknown_fault};
 
 use crate::draft::{Draft, OptionWord};
 use crate::faults::TextFault;
+use crate::head::Mention;
 use crate::labels::Labels;
-use crate::line::Mention;
 use crate::numbers::is_within;
 use crate::sentence::{State, entry};
 use goal_lexer::{Token, TokenKind};

@@ -1,11 +1,11 @@
 //! The labels of a block.
 ghost use Rattle.std.specs.Prelude.{◌≡◌, ℕ, ◌<◌, List, [], ◌∷◌, ◌++◌, Some, None, IfOk, OnOk, false, length, bytes_eq, slice_get, IfSome};
 ghost use Rattle.std.specs.Map.{lookup};
-ghost use Rattle.goal_parser.specs.Lines.{Definition, is_defined, first_unknown};
-ghost use Rattle.goal_parser.specs.declared.line.Mention.{Mention};
+ghost use Rattle.goal_parser.specs.Items.{Definition, is_defined, first_unknown};
+ghost use Rattle.goal_parser.specs.declared.head.Mention.{Mention};
 ghost use Rattle.goal_parser.specs.Slots.{Keeps, Grows, op_by, place_in, label_at, op_at};
 
-use crate::line::Mention;
+use crate::head::Mention;
 use goal_lexer::Label;
 use indexmap::IndexMap;
 use std::alloc::{AllocError, Global};

@@ -3,7 +3,7 @@
 //! [`read_text`] is the whole of it. What a text says is stated in `specs/`, apart from how it is read:
 //!
 //! - `Sentence` is the table of which token may follow, and `Numbers` has the limits of numbers.
-//! - `Ranks`, `Actions`, `Counts`, `Lines` and `Plans` say what the tokens before a place give. In these lists of tokens
+//! - `Ranks`, `Actions`, `Counts`, `Items` and `Plans` say what the tokens before a place give. In these lists of tokens
 //!   the newest stands first.
 //! - `Faults` has the tests of a token, each a fact about the token and the tokens before it, in their order.
 //! - `Reads` has the first fault of a text, and else its plans.
@@ -17,9 +17,9 @@ mod checks;
 mod counts;
 mod draft;
 mod faults;
+mod head;
 mod labels;
 mod laws;
-mod line;
 mod names;
 mod numbers;
 mod parser;

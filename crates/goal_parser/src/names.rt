@@ -1,13 +1,13 @@
 //! The labels of a block, and the dependencies and notes that name them.
 ghost use Rattle.std.specs.Prelude.{◌≡◌, ℕ, List, [], ◌∷◌, ◌++◌, IfOk, OnOk, map, Some, None};
-ghost use Rattle.goal_parser.specs.declared.line.Mention.{Mention};
-ghost use Rattle.goal_parser.specs.Lines.{Definition, NamedDep, NamedNote, define, dep_ended, note_ended, dep_uses, note_uses, defined_with, used_with, deps_with, notes_with, when_of, note_as, IsInside};
-ghost use Rattle.goal_parser.specs.Slots.{Holds, IsNote, IsDep, dep_at, note_at};
+ghost use Rattle.goal_parser.specs.declared.head.Mention.{Mention};
+ghost use Rattle.goal_parser.specs.Items.{Definition, NamedDep, NamedNote, define, dep_ended, note_ended, dep_uses, note_uses, defined_with, used_with, deps_with, notes_with, when_of, note_as, IsInside};
+ghost use Rattle.goal_parser.specs.Slots.{NamesHold, IsNote, IsDep, dep_at, note_at};
 ghost use Rattle.goal_parser.specs.Numbers.{IsWithin};
 ghost use Rattle.goal_parser.specs.Faults.{defined_fault, label_fault};
 
+use crate::head::{ItemHead, Mention, Verb};
 use crate::labels::Labels;
-use crate::line::{Line, Mention, Verb};
 use crate::sentence::State;
 use goal_graph::{Dep, Note, When};
 use goal_lexer::{Label, Token, TokenKind};
@@ -55,7 +55,7 @@ fn note_as(verb: Verb, op: u32, first: u32, second: u32) -> Note
 impl Names {
     /// Nothing is named.
     pub fn new(alloc: Global) -> Names
-        ensures { Holds result [] [] [] [] }
+        ensures { NamesHold result [] [] [] [] }
     {
         Names {
             labels: Labels::new(alloc),
@@ -66,8 +66,8 @@ impl Names {
 
     /// Defines a label that the block hasn't defined: it stands before the operation of this number.
     fn define(&mut self, subject: &Option<Mention>, op: u32) -> Result<(), AllocError>
-        ensures { OnOk result ((ds : List Definition) (us : List Mention) (deps : List NamedDep) (notes : List NamedNote) → Holds self.old ds us deps notes → defined_fault ds subject.now ≡ None →
-            Holds self.new (define subject.now op ds) us deps notes) }
+        ensures { OnOk result ((ds : List Definition) (us : List Mention) (deps : List NamedDep) (notes : List NamedNote) → NamesHold self.old ds us deps notes → defined_fault ds subject.now ≡ None →
+            NamesHold self.new (define subject.now op ds) us deps notes) }
     {
         match subject {
             Some(subject) => {
@@ -86,8 +86,8 @@ impl Names {
         verb: Verb,
         earlier: &Mention,
     ) -> Result<(), AllocError>
-        ensures { OnOk result ((ds : List Definition) (us : List Mention) (deps : List NamedDep) (notes : List NamedNote) → Holds self.old ds us deps notes →
-            Holds self.new ds (dep_uses state subject.now earlier.now us) (dep_ended state subject.now verb earlier.now.label deps) notes) }
+        ensures { OnOk result ((ds : List Definition) (us : List Mention) (deps : List NamedDep) (notes : List NamedNote) → NamesHold self.old ds us deps notes →
+            NamesHold self.new ds (dep_uses state subject.now earlier.now us) (dep_ended state subject.now verb earlier.now.label deps) notes) }
     {
         match (state, subject) {
             (State::Label, Some(subject)) => {
@@ -106,16 +106,16 @@ impl Names {
 
     /// Takes the second number of a note.
     #[tactic(auto, unfolding(crate::specs::Numbers::is_within))]
-    fn end_note(&mut self, state: State, line: &Line, second: u64) -> Result<(), AllocError>
+    fn end_note(&mut self, state: State, head: &ItemHead, second: u64) -> Result<(), AllocError>
         requires { IsWithin state (TokenKind.Number second) }
-        ensures { OnOk result ((ds : List Definition) (us : List Mention) (deps : List NamedDep) (notes : List NamedNote) → Holds self.old ds us deps notes →
-            Holds self.new ds (note_uses state line.now.subject us) deps (note_ended state line.now.subject line.now.verb line.now.low second notes)) }
+        ensures { OnOk result ((ds : List Definition) (us : List Mention) (deps : List NamedDep) (notes : List NamedNote) → NamesHold self.old ds us deps notes →
+            NamesHold self.new ds (note_uses state head.now.subject us) deps (note_ended state head.now.subject head.now.verb head.now.low second notes)) }
     {
-        match (state, &line.subject) {
+        match (state, &head.subject) {
             (State::Note3, Some(subject)) => {
                 let second = second as u32;
                 let op = self.labels.mention(subject)?;
-                self.notes.push(note_as(line.verb, op, line.low, second))?;
+                self.notes.push(note_as(head.verb, op, head.low, second))?;
                 Ok(())
             }
             _ => Ok(()),
@@ -123,23 +123,23 @@ impl Names {
     }
 
     /// Takes a token that stands in this state, where the block has so many operations. It ends no block.
-    #[tactic(auto, unfolding(crate::specs::Lines::defined_with, crate::specs::Lines::used_with, crate::specs::Lines::deps_with, crate::specs::Lines::notes_with, crate::specs::Faults::label_fault))]
+    #[tactic(auto, unfolding(crate::specs::Items::defined_with, crate::specs::Items::used_with, crate::specs::Items::deps_with, crate::specs::Items::notes_with, crate::specs::Faults::label_fault))]
     pub fn take(
         &mut self,
         state: State,
         token: &Token,
-        line: &Line,
+        head: &ItemHead,
         op: u32,
     ) -> Result<(), AllocError>
         requires within { IsWithin state token.now.kind }
         requires inside { IsInside token.now.kind }
-        ensures { OnOk result ((ds : List Definition) (us : List Mention) (deps : List NamedDep) (notes : List NamedNote) → Holds self.old ds us deps notes → label_fault ds line.now.subject token.now ≡ None →
-            Holds self.new (defined_with token.now.kind line.now.subject op ds) (used_with state token.now.kind token.now.start line.now us)
-            (deps_with state token.now.kind line.now deps) (notes_with state token.now.kind line.now notes)) }
+        ensures { OnOk result ((ds : List Definition) (us : List Mention) (deps : List NamedDep) (notes : List NamedNote) → NamesHold self.old ds us deps notes → label_fault ds head.now.subject token.now ≡ None →
+            NamesHold self.new (defined_with token.now.kind head.now.subject op ds) (used_with state token.now.kind token.now.start head.now us)
+            (deps_with state token.now.kind head.now deps) (notes_with state token.now.kind head.now notes)) }
     {
         match &token.kind {
             TokenKind::Colon => {
-                self.define(&line.subject, op)?;
+                self.define(&head.subject, op)?;
                 Ok(())
             }
             TokenKind::Label(label) => {
@@ -147,11 +147,11 @@ impl Names {
                     label: *label,
                     at: token.start,
                 };
-                self.end_dep(state, &line.subject, line.verb, &earlier)?;
+                self.end_dep(state, &head.subject, head.verb, &earlier)?;
                 Ok(())
             }
             TokenKind::Number { value } => {
-                self.end_note(state, line, *value)?;
+                self.end_note(state, head, *value)?;
                 Ok(())
             }
             _ => Ok(()),

@@ -2,7 +2,7 @@
 ghost use Rattle.std.specs.Prelude.{◌≡◌, ◌≢◌, List, [], ◌∷◌, None, Some, OnOk, IfErr, IfNone};
 ghost use Rattle.goal_lexer.specs.declared.tokens.Token.{Token};
 ghost use Rattle.goal_parser.specs.Faults.{token_fault, label_fault};
-ghost use Rattle.goal_parser.specs.Lines.{defined_of, line_of};
+ghost use Rattle.goal_parser.specs.Items.{defined_of, head_of};
 ghost use Rattle.goal_parser.specs.Taken.{HasTaken, Fits};
 
 use crate::block::Block;
@@ -10,7 +10,7 @@ use crate::checks::{label_fault, number_fault, option_fault, syntax_fault, unkno
 use crate::counts::Counts;
 use crate::draft::Draft;
 use crate::faults::TextFault;
-use crate::line::Line;
+use crate::head::ItemHead;
 use crate::plans;
 use crate::ranks::Ranks;
 use crate::sentence::{State, next_state};
@@ -32,7 +32,7 @@ pub struct Parser {
     /// The newest action.
     pub draft: Draft,
     /// The newest item that begins with a label.
-    pub line: Line,
+    pub head: ItemHead,
     /// The present block.
     pub block: Block,
     /// The plans of the blocks that have ended.
@@ -50,7 +50,7 @@ impl Parser {
             ranks: Ranks::new(alloc),
             counts: Counts::new(),
             draft: Draft::new(),
-            line: Line::new(),
+            head: ItemHead::new(),
             block: Block::new(alloc),
             plans: Vec::new(alloc),
         }
@@ -74,7 +74,7 @@ impl Parser {
         if let Some(fault) = option_fault(&self.draft, token) {
             return Some(fault);
         }
-        if let Some(fault) = label_fault(labels, &self.line.subject, token) {
+        if let Some(fault) = label_fault(labels, &self.head.subject, token) {
             return Some(fault);
         }
         if let Some(fault) = self.counts.fault(token) {
@@ -86,13 +86,13 @@ impl Parser {
     /// Keeps what a token gives that fails no test.
     fn keep(&mut self, token: &Token) -> Result<(), AllocError>
         requires fits { Fits self.old token.now }
-        ensures taken { OnOk result ((before : List Token) → HasTaken self.old before → label_fault (defined_of before) (line_of before).subject token.now ≡ None →
+        ensures taken { OnOk result ((before : List Token) → HasTaken self.old before → label_fault (defined_of before) (head_of before).subject token.now ≡ None →
             HasTaken self.new (token.now ∷ before)) }
     {
         let state = self.state;
         let ended = self
             .block
-            .take(self.alloc, state, token, &self.draft, &self.line)?;
+            .take(self.alloc, state, token, &self.draft, &self.head)?;
         plans::take(
             &mut self.plans,
             self.alloc,
@@ -103,7 +103,7 @@ impl Parser {
         )?;
         self.ranks.take(state, &token.kind)?;
         self.counts.take(&token.kind);
-        self.line.take(state, token);
+        self.head.take(state, token);
         self.draft.take(state, &token.kind);
         self.state = next_state(state, &token.kind);
         Ok(())

@@ -16,10 +16,10 @@ use Rattle.goal_parser.specs.declared.sentence.State.{State}
 use Rattle.goal_parser.specs.declared.sentence.State.TheVariants as state
 use Rattle.goal_parser.specs.declared.draft.Draft.{Draft}
 use Rattle.goal_parser.specs.declared.counts.Counts.{Counts}
-use Rattle.goal_parser.specs.declared.line.Verb.{Verb}
-use Rattle.goal_parser.specs.declared.line.Verb.TheVariants as verb
+use Rattle.goal_parser.specs.declared.head.Verb.{Verb}
+use Rattle.goal_parser.specs.declared.head.Verb.TheVariants as verb
 use Rattle.goal_parser.specs.Actions.{op_of}
-use Rattle.goal_parser.specs.Lines.{ended_ops, ends_action, is_defined, op_number, dep_by, note_by, note_as, first_unknown}
+use Rattle.goal_parser.specs.Items.{ended_ops, ends_action, is_defined, op_number, dep_by, note_by, note_as, first_unknown}
 use Rattle.goal_print.specs.Canonical.{label}
 use Rattle.goal_print.proofs.Fits.{KindFits, OpFits, DepFits, NoteFits}
 use Rattle.goal_print.proofs.TextKinds.{op_kinds, ops_kinds, deps_kinds, note_kinds, notes_kinds}

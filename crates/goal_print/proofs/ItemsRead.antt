@@ -15,10 +15,10 @@ use Rattle.goal_parser.specs.declared.draft.Draft.{Draft}
 use Rattle.goal_parser.specs.declared.draft.Action.TheVariants as action
 use Rattle.goal_parser.specs.declared.draft.OptionWord.{OptionWord}
 use Rattle.goal_parser.specs.declared.draft.OptionWord.TheVariants as option
-use Rattle.goal_parser.specs.declared.line.Verb.{Verb}
-use Rattle.goal_parser.specs.declared.line.Verb.TheVariants as verb
+use Rattle.goal_parser.specs.declared.head.Verb.{Verb}
+use Rattle.goal_parser.specs.declared.head.Verb.TheVariants as verb
 use Rattle.goal_parser.specs.Actions.{begun}
-use Rattle.goal_parser.specs.Lines.{is_defined}
+use Rattle.goal_parser.specs.Items.{is_defined}
 use Rattle.goal_print.proofs.Fits.{WildFits}
 use Rattle.goal_print.proofs.TextKinds.{wild_kind, verb_kind, action_kinds}
 use Rattle.goal_print.proofs.Seen.{Seen, ops_now, step, fault_in, Good, next, passes_upto, passes_u32, BeginsItem, label_read, passes}
@@ -38,7 +38,7 @@ after_op s label at st draft = record s {
   state = st;
   draft = draft;
   ops = ops_now s;
-  line = record s.line { subject = Some (record { label = label; at = at }) };
+  head = record s.head { subject = Some (record { label = label; at = at }) };
   defined = s.defined ++ record { label = label; op = length (ops_now s) } ∷ [];
   counts = record s.counts { ops = s.counts.ops + 1 };
 }
@@ -163,7 +163,7 @@ abbrev pub after_dep : Seen → List ℕ → List ℕ → ℕ → ℕ → When �
 after_dep s later earlier at there when = record s {
   state = state.Item;
   ops = ops_now s;
-  line = record s.line { subject = Some (record { label = later; at = at }); verb = verb_of when };
+  head = record s.head { subject = Some (record { label = later; at = at }); verb = verb_of when };
   deps = s.deps ++ record { later = later; earlier = earlier; when = when } ∷ [];
   used = (s.used ++ record { label = later; at = at } ∷ []) ++ record { label = earlier; at = there } ∷ [];
   counts = record s.counts { deps = s.counts.deps + 1 };
@@ -174,7 +174,7 @@ abbrev pub after_note : Seen → List ℕ → ℕ → Verb → ℕ → ℕ → S
 after_note s subject at verb first second = record s {
   state = state.Item;
   ops = ops_now s;
-  line = record s.line { subject = Some (record { label = subject; at = at }); verb = verb; low = first };
+  head = record s.head { subject = Some (record { label = subject; at = at }); verb = verb; low = first };
   notes = s.notes ++ record { subject = subject; verb = verb; first = first; second = second } ∷ [];
   used = s.used ++ record { label = subject; at = at } ∷ [];
   counts = record s.counts { notes = s.counts.notes + 1 };

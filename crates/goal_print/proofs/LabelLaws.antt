@@ -4,8 +4,8 @@ use Rattle.std.specs.Option.{option_or}
 use Rattle.std.proofs.lemmas.Fmt.{decimal_injective}
 use Rattle.std.proofs.lemmas.Bool.Decides.{nat_tests}
 use Rattle.std.proofs.lemmas.Slice.Eq.{bytes_eq-Decides}
-use Rattle.goal_parser.specs.declared.line.Mention.{Mention}
-use Rattle.goal_parser.specs.Lines.{Definition, number_of, first_outside}
+use Rattle.goal_parser.specs.declared.head.Mention.{Mention}
+use Rattle.goal_parser.specs.Items.{Definition, defined_as, first_outside}
 use Rattle.goal_print.specs.Canonical.{label}
 
 label_injective : (i j : ℕ) → i < 2 ^ 32 → j < 2 ^ 32 → label i ≡ label j → i ≡ j
@@ -24,44 +24,44 @@ label_other i j i_fits j_fits other = by (bytes_eq (label i) (label j)) refl
     by true is = absurd (other (label_injective i j i_fits j_fits ((bytes_eq-Decides (label i) (label j)).0 is)))
     by false is = is
 
-number_of-append : (ds : List Definition) (d : Definition) (q : List ℕ) → number_of (ds ++ d ∷ []) q ≡ option_or (number_of ds q) (if bytes_eq q d.label then Some d.op else None)
-unfolding number_of
-number_of-append [] d q = refl
-number_of-append (f ∷ ds) d q = by (bytes_eq q f.label) (number_of-append ds d q)
+defined_as-append : (ds : List Definition) (d : Definition) (q : List ℕ) → defined_as (ds ++ d ∷ []) q ≡ option_or (defined_as ds q) (if bytes_eq q d.label then Some d.op else None)
+unfolding defined_as
+defined_as-append [] d q = refl
+defined_as-append (f ∷ ds) d q = by (bytes_eq q f.label) (defined_as-append ds d q)
   where
-    by : (b : Bool) → number_of (ds ++ d ∷ []) q ≡ option_or (number_of ds q) (if bytes_eq q d.label then Some d.op else None)
-        → (if b then Some f.op else number_of (ds ++ d ∷ []) q) ≡ option_or (if b then Some f.op else number_of ds q) (if bytes_eq q d.label then Some d.op else None)
+    by : (b : Bool) → defined_as (ds ++ d ∷ []) q ≡ option_or (defined_as ds q) (if bytes_eq q d.label then Some d.op else None)
+        → (if b then Some f.op else defined_as (ds ++ d ∷ []) q) ≡ option_or (if b then Some f.op else defined_as ds q) (if bytes_eq q d.label then Some d.op else None)
     by true rest = refl
     by false rest = rest
 
 -- the first n labels are defined, each with its number, and no other
 pub record Knows (ds : List Definition) (n : ℕ) : Type 0 where
-  pub there : (i : ℕ) → i < n → number_of ds (label i) ≡ Some i
-  pub new : (i : ℕ) → n ≤ i → i < 2 ^ 32 → number_of ds (label i) ≡ None
+  pub there : (i : ℕ) → i < n → defined_as ds (label i) ≡ Some i
+  pub new : (i : ℕ) → n ≤ i → i < 2 ^ 32 → defined_as ds (label i) ≡ None
 
 pub knows_none : Knows [] 0
-unfolding number_of
+unfolding defined_as
 knows_none = record { there = λ i below. absurd (omega arith); new = λ i above fits. refl }
 
 pub knows_more : (ds : List Definition) (n : ℕ) → n < 2 ^ 32 → Knows ds n → Knows (ds ++ record { label = label n; op = n } ∷ []) (n + 1)
 knows_more ds n fits knows = record {
-  there = λ i below. number_of-append ds (record { label = label n; op = n }) (label i) ∙ there_now i below (nat_eq i n) refl;
+  there = λ i below. defined_as-append ds (record { label = label n; op = n }) (label i) ∙ there_now i below (nat_eq i n) refl;
   new = λ i above i_fits.
-      number_of-append ds (record { label = label n; op = n }) (label i)
+      defined_as-append ds (record { label = label n; op = n }) (label i)
       ∙ ap (λ (o : Option ℕ). option_or o (if bytes_eq (label i) (label n) then Some n else None)) (knows.new i (omega arith) i_fits)
       ∙ ap (λ (b : Bool). if b then Some n else None) (label_other i n i_fits fits (λ e. omega arith));
 }
   where
-    old : (i : ℕ) → i < n → option_or (number_of ds (label i)) (if bytes_eq (label i) (label n) then Some n else None) ≡ Some i
+    old : (i : ℕ) → i < n → option_or (defined_as ds (label i)) (if bytes_eq (label i) (label n) then Some n else None) ≡ Some i
     old i below = ap (λ (o : Option ℕ). option_or o (if bytes_eq (label i) (label n) then Some n else None)) (knows.there i below)
 
-    newest : option_or (number_of ds (label n)) (if bytes_eq (label n) (label n) then Some n else None) ≡ Some n
+    newest : option_or (defined_as ds (label n)) (if bytes_eq (label n) (label n) then Some n else None) ≡ Some n
     newest =
         ap (λ (o : Option ℕ). option_or o (if bytes_eq (label n) (label n) then Some n else None)) (knows.new n (omega arith) fits)
         ∙ ap (λ (b : Bool). if b then Some n else None) (label_same n)
 
-    there_now : (i : ℕ) → i < n + 1 → (b : Bool) → nat_eq i n ≡ b → option_or (number_of ds (label i)) (if bytes_eq (label i) (label n) then Some n else None) ≡ Some i
-    there_now i below true is = let e : n ≡ i = grind (arith, nat_tests) in subst (λ (j : ℕ). option_or (number_of ds (label j)) (if bytes_eq (label j) (label n) then Some n else None) ≡ Some j) e newest
+    there_now : (i : ℕ) → i < n + 1 → (b : Bool) → nat_eq i n ≡ b → option_or (defined_as ds (label i)) (if bytes_eq (label i) (label n) then Some n else None) ≡ Some i
+    there_now i below true is = let e : n ≡ i = grind (arith, nat_tests) in subst (λ (j : ℕ). option_or (defined_as ds (label j)) (if bytes_eq (label j) (label n) then Some n else None) ≡ Some j) e newest
     there_now i below false is = old i (grind (arith, nat_tests))
 
 -- uses of labels that pass a test, one more

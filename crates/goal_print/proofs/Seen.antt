@@ -15,13 +15,13 @@ use Rattle.goal_parser.specs.declared.sentence.State.{State}
 use Rattle.goal_parser.specs.declared.sentence.State.TheVariants as state
 use Rattle.goal_parser.specs.declared.draft.Draft.{Draft}
 use Rattle.goal_parser.specs.declared.counts.Counts.{Counts}
-use Rattle.goal_parser.specs.declared.line.Mention.{Mention}
-use Rattle.goal_parser.specs.declared.line.Line.{Line}
+use Rattle.goal_parser.specs.declared.head.Mention.{Mention}
+use Rattle.goal_parser.specs.declared.head.ItemHead.{ItemHead}
 use Rattle.goal_parser.specs.Sentence.{entry, state_of}
 use Rattle.goal_parser.specs.Ranks.{ranks_with, ranks_of, blocks_with, blocks_of, rank_with, rank_of}
 use Rattle.goal_parser.specs.Actions.{draft_with, draft_of, op_of}
 use Rattle.goal_parser.specs.Counts.{counts_with, counts_of, is_too_many}
-use Rattle.goal_parser.specs.Lines.{Definition, NamedDep, NamedNote, line_with, line_of, ended_ops, ops_with, ops_of, defined_with, defined_of, deps_with, deps_of, notes_with, notes_of, used_with, used_of, dep_by, note_by, first_unknown, ends_action}
+use Rattle.goal_parser.specs.Items.{Definition, NamedDep, NamedNote, head_with, head_of, ended_ops, ops_with, ops_of, defined_with, defined_of, deps_with, deps_of, notes_with, notes_of, used_with, used_of, dep_by, note_by, first_unknown, ends_action}
 use Rattle.goal_parser.specs.Plans.{plans_with, plans_of}
 use Rattle.goal_parser.specs.Numbers.{is_within}
 use Rattle.goal_parser.specs.Faults.{fault_if, fault_by, token_fault, syntax_fault, number_fault, rank_fault, option_fault, label_fault, count_fault, unknown_fault}
@@ -35,7 +35,7 @@ pub record Seen : Type 0 where
   pub ranks : ℕ
   pub blocks : List ℕ
   pub rank : ℕ
-  pub line : Line
+  pub head : ItemHead
   pub ops : List Op
   pub defined : List Definition
   pub deps : List NamedDep
@@ -51,7 +51,7 @@ seen_of before = record {
   ranks = ranks_of before;
   blocks = blocks_of before;
   rank = rank_of before;
-  line = line_of before;
+  head = head_of before;
   ops = ops_of before;
   defined = defined_of before;
   deps = deps_of before;
@@ -71,19 +71,19 @@ plan_now s = record { ops = ops_now s; deps = map (dep_by s.defined) s.deps; not
 
 -- the same with one token more
 unfoldable pub step : Token → Seen → Seen
-unfolding entry draft_with ranks_with blocks_with rank_with line_with ops_with ends_action defined_with deps_with notes_with used_with counts_with plans_with
+unfolding entry draft_with ranks_with blocks_with rank_with head_with ops_with ends_action defined_with deps_with notes_with used_with counts_with plans_with
 step t s = record {
   state = unwrap_or (entry s.state t.kind) s.state;
   draft = draft_with s.state t.kind s.draft;
   ranks = ranks_with s.state t.kind s.ranks;
   blocks = blocks_with s.state t.kind s.blocks;
   rank = rank_with s.state t.kind s.rank;
-  line = line_with s.state t.kind t.start s.line;
+  head = head_with s.state t.kind t.start s.head;
   ops = ops_with s.state t.kind (op_of s.draft) s.ops;
-  defined = defined_with t.kind s.line.subject (length s.ops) s.defined;
-  deps = deps_with s.state t.kind s.line s.deps;
-  notes = notes_with s.state t.kind s.line s.notes;
-  used = used_with s.state t.kind t.start s.line s.used;
+  defined = defined_with t.kind s.head.subject (length s.ops) s.defined;
+  deps = deps_with s.state t.kind s.head s.deps;
+  notes = notes_with s.state t.kind s.head s.notes;
+  used = used_with s.state t.kind t.start s.head s.used;
   counts = counts_with t.kind s.counts;
   plans = plans_with s.state t.kind s.rank (plan_now s) s.plans;
 }
@@ -91,7 +91,7 @@ step t s = record {
 -- the first test that a token fails
 unfoldable pub fault_in : Seen → Token → Option TextFault
 unfolding fault_by syntax_fault number_fault rank_fault option_fault label_fault count_fault unknown_fault is_within is_too_many entry
-fault_in s t = fault_by s.state s.draft s.ranks s.blocks s.defined s.line.subject s.counts s.used t
+fault_in s t = fault_by s.state s.draft s.ranks s.blocks s.defined s.head.subject s.counts s.used t
 
 -- the text may end, and these are its plans
 abbrev pub Ends : Seen → List Plan → Type 0
@@ -116,7 +116,7 @@ good_token (next passes more) start end = (passes start end, more start end)
 -- so tokens of these kinds have no fault
 pub good_tokens : (before tokens : List Token) (plans : List Plan) → Good (seen_of before) (kinds_of tokens) plans
     → (first_fault before tokens ≡ None) × Ends (seen_of (reverse tokens ++ before)) plans
-unfolding step fault_in first_fault token_fault state_of draft_of ranks_of blocks_of rank_of line_of ops_of defined_of deps_of notes_of used_of counts_of plans_of
+unfolding step fault_in first_fault token_fault state_of draft_of ranks_of blocks_of rank_of head_of ops_of defined_of deps_of notes_of used_of counts_of plans_of
 good_tokens before [] plans good = (refl, good_end good)
 good_tokens before (t ∷ tokens) plans good =
     let here = good_token good t.start t.end in
@@ -153,7 +153,7 @@ BeginsItem _ = ⊥
 
 -- the label that an item begins with
 abbrev pub at_word : Seen → List ℕ → ℕ → Seen
-at_word s label at = record s { state = state.Word; ops = ops_now s; line = record s.line { subject = Some (record { label = label; at = at }) } }
+at_word s label at = record s { state = state.Word; ops = ops_now s; head = record s.head { subject = Some (record { label = label; at = at }) } }
 
 pub label_read : (s : Seen) (label : List ℕ) (kinds : List TokenKind) (plans : List Plan) → BeginsItem s.state
     → ((at : ℕ) → Good (at_word s label at) kinds plans) → Good s (token.Label label ∷ kinds) plans

@@ -22,7 +22,7 @@ use Rattle.goal_parser.specs.Sentence.{state_of}
 use Rattle.goal_parser.specs.Ranks.{ranks_of, blocks_of, rank_of}
 use Rattle.goal_parser.specs.Actions.{draft_of}
 use Rattle.goal_parser.specs.Counts.{counts_of}
-use Rattle.goal_parser.specs.Lines.{line_of, ops_of, ends_action, defined_of, deps_of, notes_of, used_of, dep_by, note_by}
+use Rattle.goal_parser.specs.Items.{head_of, ops_of, ends_action, defined_of, deps_of, notes_of, used_of, dep_by, note_by}
 use Rattle.goal_parser.specs.Plans.{empty_plan, plans_of}
 use Rattle.goal_parser.specs.Faults.{fault_if}
 use Rattle.goal_print.proofs.Fits.{PlanFits}
@@ -202,7 +202,7 @@ blocks_read (p ∷ more) s ranks rank done long all small fits h room =
 -- the whole text
 pub canonical_read : (plans : List Plan) → 0 < length plans → length plans ≤ MAX_RANKS → op_count plans ≤ MAX_OPS → dep_count plans ≤ MAX_DEPS → note_count plans ≤ MAX_NOTES
     → AllByRecursion PlanFits plans → Good (seen_of []) (canonical_kinds plans) plans
-unfolding step fault_in state_of draft_of ranks_of blocks_of rank_of line_of ops_of defined_of deps_of notes_of used_of counts_of plans_of
+unfolding step fault_in state_of draft_of ranks_of blocks_of rank_of head_of ops_of defined_of deps_of notes_of used_of counts_of plans_of
 canonical_read plans some few ops deps notes fits =
     next (λ a b. refl) (λ a b.
     next (λ a b. passes_number 1 (length plans) MAX_RANKS (fault.Number a) some few) (λ c d.

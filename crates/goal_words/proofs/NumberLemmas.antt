@@ -7,7 +7,7 @@ use Rattle.std.specs.Result.{OkIff}
 use Rattle.std.proofs.lemmas.Bool.{and_parts, and_from, leb-true, le-leb, ltb-true, lt-ltb}
 use Rattle.std.proofs.lemmas.Str.Parse.{IsDigitsTest, IsNumeralModel, numerals_by_value, parse_digits}
 use Rattle.std.specs.declared.result.Result.TheVariants.{Ok, Err}
-use Rattle.goal_words.specs.Options.{is_number, number_of}
+use Rattle.goal_words.specs.Options.{is_number, value_of}
 
 tells : IsDigitsTest (λ ds. list_all is_ascii_digit ds ≡ true)
 tells = record {
@@ -59,7 +59,7 @@ tests w n =
     (lt-ltb (digits_value 10 w) (2 ^ 64) n.below)
 
 by_result : {E : Type 0} (w : List ℕ) (r : Result ℕ E) → list_all is_ascii_digit w ≡ true → length w ≤ 20
-    → OkIff r ((0 < length w) × (digits_value 10 w < 2 ^ 64)) (digits_value 10 w) → read_of r ≡ number_of w
+    → OkIff r ((0 < length w) × (digits_value 10 w < 2 ^ 64)) (digits_value 10 w) → read_of r ≡ value_of w
 by_result w (Ok n) digits few iff =
     let number = tests w (record { some = iff.0.0; few = few; digits = digits; below = iff.0.1 }) in
     ap Some iff.1 ∙ sym (chosen (is_number w) (digits_value 10 w) number)
@@ -68,5 +68,5 @@ by_result w (Err e) digits few none =
 
 -- at most 20 digits are read as their number
 pub parsed : {E : Type 0} (w : List ℕ) (r : Result ℕ E) → list_all is_ascii_digit w ≡ true → length w ≤ 20 → ParsesUnsigned 64 10 w r
-    → read_of r ≡ number_of w
+    → read_of r ≡ value_of w
 parsed w r digits few h = by_result w r digits few (parse_digits own 64 w r h digits)

@@ -32,8 +32,8 @@ abbrev pub is_number : List ℕ → Bool
 is_number w = nat_lt 0 (length w) && nat_le (length w) 20 && list_all is_ascii_digit w && nat_lt (digits_value 10 w) (2 ^ 64)
 
 -- the value of a number
-abbrev pub number_of : List ℕ → Option ℕ
-number_of w = if is_number w then Some (digits_value 10 w) else None
+abbrev pub value_of : List ℕ → Option ℕ
+value_of w = if is_number w then Some (digits_value 10 w) else None
 
 -- no option yet
 abbrev pub none_given : Given
@@ -76,7 +76,7 @@ with_option g p n = if is_some (given_for g p) then None else Some (set g p n)
 
 -- with the option that two words are
 abbrev pub with_words : Given → List ℕ → List ℕ → Option Given
-with_words g word value = option_and_then (λ p. option_and_then (λ n. with_option g p n) (number_of value)) (option_of word)
+with_words g word value = option_and_then (λ p. option_and_then (λ n. with_option g p n) (value_of value)) (option_of word)
 
 -- with all options that words are: two words an option
 unfoldable pub with_all : Given → List (List ℕ) → Option Given

@@ -3,7 +3,7 @@ ghost use Rattle.std.specs.Prelude.{◌≡◌, None, Some, MatchOption, map, str
 ghost use Rattle.std.specs.List.{list_all};
 ghost use Rattle.std.specs.Char.{is_ascii_digit};
 ghost use Rattle.sim_params.specs.Numbers.{numbers};
-ghost use Rattle.goal_words.specs.Options.{option_of, number_of, none_given, given_for, set, with_option, with_words, with_all, numbers_given, within_limits, numbers_of};
+ghost use Rattle.goal_words.specs.Options.{option_of, value_of, none_given, given_for, set, with_option, with_words, with_all, numbers_given, within_limits, numbers_of};
 
 use sim_params::{
     DEFAULT_GAP, DEFAULT_GAP_PER_BYTE, DEFAULT_LATENCY, DEFAULT_OVERHEAD,
@@ -91,8 +91,8 @@ fn are_digits(word: &[u8]) -> bool
 }
 
 // The value of a number.
-fn number_of(word: &str) -> Option<u64>
-    ensures { result ≡ number_of word.now }
+fn value_of(word: &str) -> Option<u64>
+    ensures { result ≡ value_of word.now }
 {
     if word.len() > MOST_DIGITS || !are_digits(word.as_bytes()) {
         return None;
@@ -112,7 +112,7 @@ impl Given {
             Some(param) => param,
             None => return None,
         };
-        match number_of(value) {
+        match value_of(value) {
             Some(number) => self.with(param, number),
             None => None,
         }

@@ -2,7 +2,7 @@
 ghost use Rattle.std.specs.Prelude.{◌≡◌, ◌+◌, ◌<◌, ◌^◌, max};
 ghost use Rattle.goal_graph.specs.Laws.{IsSend, IsReceive};
 ghost use Rattle.sim_params.specs.Costs.{over, gap};
-ghost use Rattle.sim_resources.specs.Holds.{SameFreeTimes, cpu_free, rx_free, hold_cpu, hold_rx};
+ghost use Rattle.sim_resources.specs.FreeTimes.{SameFreeTimes, cpu_free, rx_free, hold_cpu, hold_rx};
 
 use goal_graph::{OpId, Sched};
 use sim_params::Costs;

@@ -11,7 +11,7 @@ use Rattle.goal_graph.specs.Allowed.{may, allowed}
 use Rattle.sim_params.specs.Costs.{CostModel, is_eager}
 use Rattle.sim_params.specs.Times.{cpu, tx, rx, time}
 use Rattle.sim_match.specs.Heard.{Heard}
-use Rattle.sim_resources.specs.Holds.{Holds, free_at, cpu_free, tx_free, rx_free, unheld, SameFreeTimes}
+use Rattle.sim_resources.specs.FreeTimes.{Holds, free_at, cpu_free, tx_free, rx_free, unheld, SameFreeTimes}
 use Rattle.sim_events.specs.declared.entry.Entry.{Entry}
 use Rattle.sim_events.specs.Engine.{start_told, end_told}
 use Rattle.sim_events.specs.Turns.{time_told}

@@ -9,7 +9,7 @@ use Rattle.sim_params.specs.Costs.{CostModel}
 use Rattle.sim_params.specs.Run.{IsNext}
 use Rattle.sim_params.proofs.ForCallers.{possible_room}
 use Rattle.sim_match.specs.Heard.{Heard}
-use Rattle.sim_resources.specs.Holds.{Holds}
+use Rattle.sim_resources.specs.FreeTimes.{Holds}
 use Rattle.sim_events.specs.declared.entry.Entry.{Entry}
 use Rattle.sim_events.specs.Engine.{View}
 use Rattle.sim_events.specs.Mirrors.{Mirrors, entry_told, IsAllHeard, AreFreeTimes}

@@ -3,7 +3,7 @@ use Rattle.std.proofs.Common.{◌≡◌, ◌<◌, ◌^◌, subst}
 use Rattle.sim_params.specs.Costs.{CostModel}
 use Rattle.sim_params.specs.Run.{IsRun}
 use Rattle.sim_params.specs.Budget.{budget}
-use Rattle.sim_resources.specs.Holds.{Holds}
+use Rattle.sim_resources.specs.FreeTimes.{Holds}
 use Rattle.sim_events.specs.Engine.{View}
 use Rattle.sim_events.specs.Mirrors.{AreFreeTimes}
 

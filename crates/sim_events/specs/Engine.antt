@@ -17,9 +17,9 @@ pub record View (C : Type 0) : Type 0 where
   pub history : List Timed
 
 -- the schedule's time budget is over 2^63-1, which comes before want of memory
-abbrev pub IsBudgetFault : ℕ → EngineFault → Type 0
-IsBudgetFault total (Budget sum) = (sum ≡ total) × (2 ^ 63 ≤ total)
-IsBudgetFault total NoMemory = total < 2 ^ 63
+abbrev pub IsEngineFault : ℕ → EngineFault → Type 0
+IsEngineFault total (Budget sum) = (sum ≡ total) × (2 ^ 63 ≤ total)
+IsEngineFault total NoMemory = total < 2 ^ 63
 
 -- when x started, once it has
 abbrev pub start_told : List Plan → CostModel → List Timed → OpId → Option ℕ

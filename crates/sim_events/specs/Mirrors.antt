@@ -12,7 +12,7 @@ use Rattle.sim_params.specs.Times.{since, mate, paired_at, cpu, tx, rx}
 use Rattle.sim_params.specs.Run.{IsRun}
 use Rattle.sim_params.specs.Budget.{budget}
 use Rattle.sim_match.specs.Heard.{Heard, is_heard}
-use Rattle.sim_resources.specs.Holds.{Holds, cpu_free, tx_free, rx_free}
+use Rattle.sim_resources.specs.FreeTimes.{Holds, cpu_free, tx_free, rx_free}
 use Rattle.sim_events.specs.declared.entry.Entry.{Entry}
 use Rattle.sim_events.specs.declared.entry.Pairing.{Pairing}
 use Rattle.sim_events.specs.Engine.{start_told, end_told}

@@ -10,7 +10,7 @@ ghost use Rattle.sim_params.specs.Budget.{budget};
 ghost use Rattle.sim_params.specs.Times.{mate};
 ghost use Rattle.sim_params.specs.Run.{IsNext, IsRun, IsFinished, IsCompleteRun};
 ghost use Rattle.sim_params.specs.Laws.{IsWithin};
-ghost use Rattle.sim_events.specs.Engine.{IsBudgetFault, start_told, end_told};
+ghost use Rattle.sim_events.specs.Engine.{IsEngineFault, start_told, end_told};
 ghost use Rattle.sim_events.specs.Mirrors.{entry_told};
 ghost use Rattle.sim_events.specs.Stations.{free};
 
@@ -63,7 +63,7 @@ impl<'a, C: Costs + Drop> State<'a, C> {
         ensures costs { IfOk result (λ e. e.costs ≡ costs) }
         ensures empty { IfOk result (λ e. e.history ≡ []) }
         ensures fits { OnOk result (budget sched.now (C.model costs) < 2 ^ 63) }
-        ensures fault { IfErr result (IsBudgetFault (budget sched.now (C.model costs))) }
+        ensures fault { IfErr result (IsEngineFault (budget sched.now (C.model costs))) }
     {
         let sum = budget(sched, &costs);
         let most = u128::from(MAX_BUDGET);

@@ -1,6 +1,5 @@
 -- What an accepted schedule keeps: few ranks and operations, and every number within its limit.
-use Rattle.std.proofs.Common.{◌≡◌, ℕ, zero, suc, ◌+◌, ◌^◌, ◌≤◌, ◌==◌, Bool, true, false, nat_lt, List, [], ◌∷◌, length, Option, Some, None, slice_get, option_and_then, if◌then◌else◌, refl, subst, arith, ltb-false}
-use Rattle.std.specs.Option.{option_or}
+use Rattle.std.proofs.Common.{◌≡◌, ℕ, zero, suc, ◌+◌, ◌^◌, ◌≤◌, ◌==◌, Bool, true, false, List, [], ◌∷◌, length, Option, Some, None, slice_get, option_and_then, if◌then◌else◌, refl, subst, arith}
 use Rattle.std.proofs.lemmas.Option.{same_Some, slice_get_within, get_or_from_slice_get}
 use Rattle.std.proofs.lemmas.List.Sums.{get_or-le-sum_by}
 use Rattle.goal_graph.specs.declared.action.OpId.{OpId}
@@ -9,50 +8,38 @@ use Rattle.goal_graph.specs.declared.fault.PlanFault.TheVariants.{Count, Value, 
 use Rattle.goal_base.specs.declared.limits.TheConstants.{MAX_RANKS, MAX_OPS}
 use Rattle.goal_graph.specs.declared.plan.Op.{Op}
 use Rattle.goal_graph.specs.Schedule.{Plan, op_at}
-use Rattle.goal_graph.specs.Fault.{op_count, over, count_fault, value_fits, has_peer, op_fault, first_fault, rank_fault, plain_fault, IsAccepted}
-
--- where neither of two things is there, both are absent
-pub or_none : {A : Type 0} (o p : Option A) → option_or o p ≡ None → (o ≡ None) × (p ≡ None)
-or_none None p e = (refl, e)
-or_none (Some x) p e = absurd (cc)
+use Rattle.goal_graph.proofs.ForCallers.{count_over-none, option_or-none}
+use Rattle.goal_graph.specs.Fault.{op_count, count_over, count_fault, value_fits, has_peer, op_fault, first_fault, rank_fault, plain_fault, IsAccepted}
 
 -- where no item has a fault, none at a place has
 pub no_fault_at : {A : Type 0} (fault : ℕ → A → Option PlanFault) (n : ℕ) (xs : List A) (i : ℕ) (x : A) → first_fault fault n xs ≡ None → slice_get xs i ≡ Some x → fault (n + i) x ≡ None
 unfolding first_fault
 no_fault_at fault n [] i x e f = absurd (cc)
 no_fault_at fault n (y ∷ ys) zero x e f =
-    subst (λ m. fault m x ≡ None) (omega arith) (subst (λ z. fault n z ≡ None) (same_Some y x f) (or_none _ _ e).0)
+    subst (λ m. fault m x ≡ None) (omega arith) (subst (λ z. fault n z ≡ None) (same_Some y x f) (option_or-none _ _ e).0)
 no_fault_at fault n (y ∷ ys) (suc i) x e f =
-    subst (λ m. fault m x ≡ None) (omega arith) (no_fault_at fault (n + 1) ys i x (or_none _ _ e).1 f)
-
--- what is not over its limit is at most the limit
-pub not_over : (limit found : ℕ) → over limit found ≡ None → found ≤ limit
-not_over limit found e = go (nat_lt limit found) refl e
-  where
-    go : (b : Bool) → nat_lt limit found ≡ b → (if b then Some (Count found limit) else None) ≡ None → found ≤ limit
-    go true t e = absurd (cc)
-    go false t e = ltb-false limit found t
+    subst (λ m. fault m x ≡ None) (omega arith) (no_fault_at fault (n + 1) ys i x (option_or-none _ _ e).1 f)
 
 module _ (plans : List Plan) (accepted : IsAccepted plans) where
   no_counts : count_fault plans ≡ None
   unfolding plain_fault
-  no_counts = (or_none (count_fault plans) _ accepted.plain).0
+  no_counts = (option_or-none (count_fault plans) _ accepted.plain).0
 
   no_rank_fault : first_fault (rank_fault (length plans)) 0 plans ≡ None
   unfolding plain_fault
-  no_rank_fault = (or_none (count_fault plans) _ accepted.plain).1
+  no_rank_fault = (option_or-none (count_fault plans) _ accepted.plain).1
 
   pub few_ranks : length plans ≤ 65536
   unfolding count_fault
-  few_ranks = go (length plans == 0) refl (or_none _ _ no_counts).0
+  few_ranks = go (length plans == 0) refl (option_or-none _ _ no_counts).0
     where
-      go : (b : Bool) → (length plans == 0) ≡ b → (if b then Some (Count 0 MAX_RANKS) else over MAX_RANKS (length plans)) ≡ None → length plans ≤ 65536
+      go : (b : Bool) → (length plans == 0) ≡ b → (if b then Some (Count 0 MAX_RANKS) else count_over MAX_RANKS (length plans)) ≡ None → length plans ≤ 65536
       go true t e = absurd (cc)
-      go false t e = not_over MAX_RANKS (length plans) e
+      go false t e = count_over-none MAX_RANKS (length plans) e
 
   pub few_ops : op_count plans ≤ 2 ^ 20
   unfolding count_fault
-  few_ops = not_over MAX_OPS (op_count plans) (or_none (over MAX_OPS (op_count plans)) _ (or_none _ _ no_counts).1).0
+  few_ops = count_over-none MAX_OPS (op_count plans) (option_or-none (count_over MAX_OPS (op_count plans)) _ (option_or-none _ _ no_counts).1).0
 
   rank_has_no_fault : (rank : ℕ) (p : Plan) → slice_get plans rank ≡ Some p → rank_fault (length plans) rank p ≡ None
   rank_has_no_fault rank p e =
@@ -71,7 +58,7 @@ module _ (plans : List Plan) (accepted : IsAccepted plans) where
   op_has_no_fault : (rank op : ℕ) (p : Plan) (o : Op) → slice_get plans rank ≡ Some p → slice_get p.ops op ≡ Some o → op_fault (length plans) rank op o ≡ None
   unfolding rank_fault
   op_has_no_fault rank op p o e f =
-      let none = (or_none (first_fault (op_fault (length plans) rank) 0 p.ops) _ (rank_has_no_fault rank p e)).0 in
+      let none = (option_or-none (first_fault (op_fault (length plans) rank) 0 p.ops) _ (rank_has_no_fault rank p e)).0 in
       subst (λ i. op_fault (length plans) rank i o ≡ None) (omega arith) (no_fault_at (op_fault (length plans) rank) 0 p.ops op o none f)
 
   -- its size or duration is within its limit

@@ -2,7 +2,7 @@
 ghost use Rattle.std.specs.Prelude.{◌≡◌, ◌+◌, ◌<◌, ◌^◌, max};
 ghost use Rattle.goal_graph.specs.Laws.{IsSend};
 ghost use Rattle.sim_params.specs.Costs.{over, gap, flight};
-ghost use Rattle.sim_resources.specs.Holds.{SameFreeTimes, cpu_free, tx_free, hold_cpu, hold_tx};
+ghost use Rattle.sim_resources.specs.FreeTimes.{SameFreeTimes, cpu_free, tx_free, hold_cpu, hold_tx};
 
 use goal_graph::{OpId, Sched};
 use sim_eager::{Begun, begin_at, transfer};

@@ -2,7 +2,7 @@
 ghost use Rattle.std.specs.Prelude.{◌≡◌, ◌+◌, ◌<◌, ◌^◌};
 ghost use Rattle.goal_graph.specs.Laws.{IsSend};
 ghost use Rattle.sim_params.specs.Costs.{over_one, gap_one, flight_one, latency};
-ghost use Rattle.sim_resources.specs.Holds.{SameFreeTimes, hold_cpu, hold_tx};
+ghost use Rattle.sim_resources.specs.FreeTimes.{SameFreeTimes, hold_cpu, hold_tx};
 
 use goal_graph::{OpId, Sched};
 use sim_eager::transfer;

@@ -7,7 +7,7 @@ use Rattle.goal_graph.specs.declared.action.OpId.{OpId}
 use Rattle.goal_graph.specs.declared.plan.Op.{Op}
 use Rattle.goal_graph.specs.Schedule.{Plan, operations}
 use Rattle.sim_resources.specs.declared.holds.Hold.{Hold}
-use Rattle.sim_resources.specs.Holds.{shares, free_at, hold}
+use Rattle.sim_resources.specs.FreeTimes.{shares, free_at, hold}
 use Rattle.sim_resources.specs.Slots.{HasSlot, IsNumbered, users}
 use Rattle.sim_resources.proofs.Shares.{shares_alike, shares_back}
 

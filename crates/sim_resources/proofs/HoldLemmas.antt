@@ -4,7 +4,7 @@ use Rattle.goal_graph.specs.declared.action.OpId.{OpId}
 use Rattle.goal_graph.specs.declared.plan.Op.{Op}
 use Rattle.goal_graph.specs.Schedule.{Plan, operations}
 use Rattle.sim_resources.specs.declared.holds.Hold.{Hold}
-use Rattle.sim_resources.specs.Holds.{Holds, SameFreeTimes, hold_cpu, hold_tx, hold_rx}
+use Rattle.sim_resources.specs.FreeTimes.{Holds, SameFreeTimes, hold_cpu, hold_tx, hold_rx}
 use Rattle.sim_resources.specs.Slots.{AreNumbered}
 use Rattle.sim_resources.proofs.FreeTimes.{raised, free_raised, numbered_raised}
 

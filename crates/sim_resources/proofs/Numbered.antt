@@ -6,7 +6,7 @@ use Rattle.std.proofs.lemmas.Option.{same_Some, slice_get_within}
 use Rattle.goal_graph.specs.declared.action.OpId.{OpId}
 use Rattle.goal_graph.specs.declared.plan.Op.{Op}
 use Rattle.goal_graph.specs.Schedule.{Plan, op_at, operations}
-use Rattle.sim_resources.specs.Holds.{shares}
+use Rattle.sim_resources.specs.FreeTimes.{shares}
 use Rattle.sim_resources.specs.Slots.{HasSlot, IsNumbered}
 use Rattle.sim_resources.proofs.Lists.{get_kept, get_last, get_either, found_first, none_passes, none_first}
 use Rattle.sim_resources.proofs.Shares.{shares-is, shares_itself, shares_back}

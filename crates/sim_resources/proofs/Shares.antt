@@ -4,7 +4,7 @@ use Rattle.std.proofs.lemmas.Bool.{both_ways, and_parts, and_from, eqb-true}
 use Rattle.goal_graph.specs.declared.action.OpId.{OpId}
 use Rattle.goal_graph.specs.declared.plan.Op.{Op}
 use Rattle.goal_graph.specs.Schedule.{Plan, op_at}
-use Rattle.sim_resources.specs.Holds.{shares_place, shares}
+use Rattle.sim_resources.specs.FreeTimes.{shares_place, shares}
 
 module _ (place : Op → ℕ) (plans : List Plan) where
   -- two operations of one rank whose numbers are equal

@@ -1,5 +1,5 @@
 -- What a reader must believe.
-pub mod Holds
+pub mod FreeTimes
 -- What only the code keeps.
 pub mod Slots
 -- Laws.

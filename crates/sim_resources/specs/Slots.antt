@@ -3,15 +3,15 @@ use Rattle.std.specs.Prelude.{ℕ, ◌≡◌, true, List, Some, map, slice_get}
 use Rattle.goal_graph.specs.declared.action.OpId.{OpId}
 use Rattle.goal_graph.specs.declared.plan.Op.{Op}
 use Rattle.goal_graph.specs.Schedule.{Plan, operations}
-use Rattle.sim_resources.specs.Holds.{shares}
+use Rattle.sim_resources.specs.FreeTimes.{shares}
 use Rattle.sim_resources.specs.declared.holds.Hold.{Hold}
 use Rattle.sim_resources.specs.declared.slots.Part.{Part}
 use Rattle.sim_resources.specs.declared.slots.Part.TheVariants.{Cpu, Nic}
 
 -- the number of the part that an operation uses
-abbrev pub number_of : Part → Op → ℕ
-number_of Cpu o = o.cpu
-number_of Nic o = o.nic
+abbrev pub part_of : Part → Op → ℕ
+part_of Cpu o = o.cpu
+part_of Nic o = o.nic
 
 module _ (place : Op → ℕ) (plans : List Plan) (slots : List ℕ) (users : List OpId) where
   -- the slot of the operation x, the i-th of all, and the operation that stands for the slot

@@ -2,7 +2,7 @@
 ghost use Rattle.std.specs.Prelude.{◌≡◌, IfOk};
 ghost use Rattle.goal_graph.specs.Fault.{IsOp};
 ghost use Rattle.goal_graph.specs.Laws.{IsSend, IsReceive};
-ghost use Rattle.sim_resources.specs.Holds.{SameFreeTimes, cpu_free, tx_free, rx_free, hold_cpu, hold_tx, hold_rx, unheld};
+ghost use Rattle.sim_resources.specs.FreeTimes.{SameFreeTimes, cpu_free, tx_free, rx_free, hold_cpu, hold_tx, hold_rx, unheld};
 
 use crate::Hold;
 use crate::slots::{Part, free, number, raise};
@@ -23,7 +23,7 @@ pub struct Resources<'a> {
 }
 
 impl<'a> Model for Resources<'a> {
-    ghost use Rattle.sim_resources.specs.Holds.{Holds};
+    ghost use Rattle.sim_resources.specs.FreeTimes.{Holds};
     ghost use Rattle.sim_resources.specs.Slots.{AreNumbered};
 
     ghost Value = { Holds };

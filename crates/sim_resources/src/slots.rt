@@ -1,7 +1,7 @@
 // Slots of operations: two operations have the same slot where they use the same cpu, or the same interface.
 ghost use Rattle.std.specs.Prelude.{◌≡◌, ◌<◌, max, Some, IfOk, All, length, slice_get, slice_index, slice_set};
 ghost use Rattle.sim_resources.specs.declared.holds.Hold.{Hold};
-ghost use Rattle.sim_resources.specs.Slots.{number_of, users, IsNumbered};
+ghost use Rattle.sim_resources.specs.Slots.{part_of, users, IsNumbered};
 
 use crate::Hold;
 use goal_base::NoMemory;
@@ -19,7 +19,7 @@ pub enum Part {
 impl Part {
     /// The number of the cpu or of the interface that an operation uses.
     fn number(self, op: &Op) -> u8
-        ensures { result ≡ number_of self op.now }
+        ensures { result ≡ part_of self op.now }
     {
         match self {
             Part::Cpu => op.cpu,
@@ -37,7 +37,7 @@ pub struct Numbering {
 
 /// Numbers what the operations use, in the order in which they first use it. The holds are until 0.
 pub fn number(alloc: Global, sched: &Sched, part: Part) -> Result<Numbering, NoMemory>
-    ensures numbered { IfOk result (λ n. IsNumbered (number_of part) sched.now n.slots.items (users n.holds.items)) }
+    ensures numbered { IfOk result (λ n. IsNumbered (part_of part) sched.now n.slots.items (users n.holds.items)) }
     ensures unheld { IfOk result (λ n. All (λ h. h.until ≡ 0) n.holds.items) }
 {
     let mut keys = IndexSet::new(alloc);

@@ -1,7 +1,7 @@
 use Rattle.std.proofs.Common.{◌∙◌, ◌≡◌, map}
 use Rattle.goal_lexer.specs.declared.tokens.TokenKind.TheVariants as token
 use Rattle.goal_parser.specs.Actions.{op_of}
-use Rattle.goal_parser.specs.Lines.{ended_ops, dep_by, note_by}
+use Rattle.goal_parser.specs.Items.{ended_ops, dep_by, note_by}
 use Rattle.goal_parser.proofs.NameLaws.{deps_of_labels, notes_of_labels}
 use Rattle.goal_parser.proofs.block.Block.finish.Goals as goal
 

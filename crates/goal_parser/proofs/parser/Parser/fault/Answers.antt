@@ -1,5 +1,5 @@
 use Rattle.std.proofs.Common.{sym}
-use Rattle.goal_parser.specs.Lines.{defined_of, used_of}
+use Rattle.goal_parser.specs.Items.{defined_of, used_of}
 use Rattle.goal_parser.specs.Faults.{fault_by}
 use Rattle.goal_parser.specs.Taken.{Fits}
 use Rattle.goal_parser.proofs.ParserLaws.{if_none, passed, met, fault_taken, number_passes, rank_passes, count_passes}

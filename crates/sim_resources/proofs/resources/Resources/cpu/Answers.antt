@@ -1,5 +1,5 @@
 use Rattle.std.proofs.Common.{◌≡◌, subst}
-use Rattle.sim_resources.specs.Holds.{Holds, cpu_free}
+use Rattle.sim_resources.specs.FreeTimes.{Holds, cpu_free}
 use Rattle.sim_resources.proofs.FreeTimes.{place_in, slot_in, free_is}
 use Rattle.sim_resources.proofs.resources.Resources.cpu.Goals as goal
 

@@ -2,7 +2,7 @@ use Rattle.std.proofs.Common.{◌≡◌, subst, arith}
 use Rattle.std.specs.Vec.{with_items}
 use Rattle.std.proofs.lemmas.List.{with_items_is}
 use Rattle.goal_graph.specs.Fault.{IsOp}
-use Rattle.sim_resources.specs.Holds.{Holds}
+use Rattle.sim_resources.specs.FreeTimes.{Holds}
 use Rattle.sim_resources.proofs.OfKind.{send_is_op}
 use Rattle.sim_resources.proofs.FreeTimes.{place_in, slot_in}
 use Rattle.sim_resources.proofs.HoldLemmas.{tx_held, tx_numbered}

@@ -1,6 +1,6 @@
 use Rattle.std.proofs.Common.{sym, arith, ◌∙◌}
 use Rattle.goal_words.proofs.NumberLemmas.{parsed}
-use Rattle.goal_words.proofs.options.number_of.Goals as goal
+use Rattle.goal_words.proofs.options.value_of.Goals as goal
 
 pub returns-in-Err : goal.returns-in-Err
 returns-in-Err c =

@@ -1,6 +1,6 @@
 //! The label and the verb that an item of a block begins with.
 ghost use Rattle.std.specs.Prelude.{◌≡◌};
-ghost use Rattle.goal_parser.specs.Lines.{label_line, low_line, line_with};
+ghost use Rattle.goal_parser.specs.Items.{label_head, low_head, head_with};
 ghost use Rattle.goal_parser.specs.Numbers.{IsWithin};
 
 use crate::sentence::State;
@@ -30,7 +30,7 @@ pub enum Verb {
 
 /// What an item that begins with a label has given so far.
 #[derive(Clone, Copy, Debug, PartialEq, Eq)]
-pub struct Line {
+pub struct ItemHead {
     /// The label that the newest such item begins with.
     pub subject: Option<Mention>,
     /// The verb that stood last.
@@ -39,12 +39,12 @@ pub struct Line {
     pub low: u32,
 }
 
-impl Line {
+impl ItemHead {
     /// What no token has given.
-    pub fn new() -> Line
+    pub fn new() -> ItemHead
         ensures { result ≡ record { subject = None; verb = Verb.Requires; low = 0 } }
     {
-        Line {
+        ItemHead {
             subject: None,
             verb: Verb::Requires,
             low: 0,
@@ -53,7 +53,7 @@ impl Line {
 
     /// Takes a label.
     fn take_label(&mut self, state: State, mention: Mention)
-        ensures { self.new ≡ label_line state mention self.old }
+        ensures { self.new ≡ label_head state mention self.old }
     {
         match state {
             State::Label => {}
@@ -65,7 +65,7 @@ impl Line {
     #[tactic(auto, unfolding(crate::specs::Numbers::is_within))]
     fn take_number(&mut self, state: State, value: u64)
         requires { IsWithin state (TokenKind.Number value) }
-        ensures { self.new ≡ low_line state value self.old }
+        ensures { self.new ≡ low_head state value self.old }
     {
         match state {
             State::Note1 => self.low = value as u32,
@@ -74,10 +74,10 @@ impl Line {
     }
 
     /// Takes a token that stands in this state.
-    #[tactic(auto, unfolding(crate::specs::Lines::line_with))]
+    #[tactic(auto, unfolding(crate::specs::Items::head_with))]
     pub fn take(&mut self, state: State, token: &Token)
         requires within { IsWithin state token.now.kind }
-        ensures taken { self.new ≡ line_with state token.now.kind token.now.start self.old }
+        ensures taken { self.new ≡ head_with state token.now.kind token.now.start self.old }
     {
         match &token.kind {
             TokenKind::Label(label) => self.take_label(

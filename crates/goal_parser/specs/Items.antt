@@ -11,36 +11,36 @@ use Rattle.goal_graph.specs.declared.plan.Note.{Note}
 use Rattle.goal_graph.specs.declared.plan.Note.TheVariants.{Moves, Adds}
 use Rattle.goal_parser.specs.declared.sentence.State.{State}
 use Rattle.goal_parser.specs.declared.sentence.State.TheVariants as state
-use Rattle.goal_parser.specs.declared.line.Mention.{Mention}
-use Rattle.goal_parser.specs.declared.line.Verb.{Verb}
-use Rattle.goal_parser.specs.declared.line.Verb.TheVariants as verb
-use Rattle.goal_parser.specs.declared.line.Line.{Line}
+use Rattle.goal_parser.specs.declared.head.Mention.{Mention}
+use Rattle.goal_parser.specs.declared.head.Verb.{Verb}
+use Rattle.goal_parser.specs.declared.head.Verb.TheVariants as verb
+use Rattle.goal_parser.specs.declared.head.ItemHead.{ItemHead}
 use Rattle.goal_parser.specs.Sentence.{state_of}
 use Rattle.goal_parser.specs.Actions.{draft_of, op_of}
 
 -- a label begins an item, but behind `requires` or `irequires`
-abbrev pub label_line : State → Mention → Line → Line
-label_line state.Label mention line = line
-label_line _ mention line = record line { subject = Some mention }
+abbrev pub label_head : State → Mention → ItemHead → ItemHead
+label_head state.Label mention head = head
+label_head _ mention head = record head { subject = Some mention }
 
 -- the first slot of a note
-abbrev pub low_line : State → ℕ → Line → Line
-low_line state.Note1 n line = record line { low = n }
-low_line _ n line = line
+abbrev pub low_head : State → ℕ → ItemHead → ItemHead
+low_head state.Note1 n head = record head { low = n }
+low_head _ n head = head
 
-unfoldable pub line_with : State → TokenKind → ℕ → Line → Line
-line_with s (token.Label label) at line = label_line s (record { label = label; at = at }) line
-line_with s token.Requires at line = record line { verb = verb.Requires }
-line_with s token.Irequires at line = record line { verb = verb.Irequires }
-line_with s token.Moves at line = record line { verb = verb.Moves }
-line_with s token.Adds at line = record line { verb = verb.Adds }
-line_with s (token.Number n) at line = low_line s n line
-line_with s _ at line = line
+unfoldable pub head_with : State → TokenKind → ℕ → ItemHead → ItemHead
+head_with s (token.Label label) at head = label_head s (record { label = label; at = at }) head
+head_with s token.Requires at head = record head { verb = verb.Requires }
+head_with s token.Irequires at head = record head { verb = verb.Irequires }
+head_with s token.Moves at head = record head { verb = verb.Moves }
+head_with s token.Adds at head = record head { verb = verb.Adds }
+head_with s (token.Number n) at head = low_head s n head
+head_with s _ at head = head
 
 -- The label that the newest item begins with, the newest verb, and the newest first slot. The newest token stands first.
-unfoldable pub line_of : List Token → Line
-line_of [] = record { subject = None; verb = verb.Requires; low = 0 }
-line_of (t ∷ before) = line_with (state_of before) t.kind t.start (line_of before)
+unfoldable pub head_of : List Token → ItemHead
+head_of [] = record { subject = None; verb = verb.Requires; low = 0 }
+head_of (t ∷ before) = head_with (state_of before) t.kind t.start (head_of before)
 
 -- the token ends an action: it isn't one of the action's own
 abbrev pub begins_item : TokenKind → Bool
@@ -76,12 +76,12 @@ pub record Definition : Type 0 where
   pub op : ℕ
 
 -- the number of a label's operation, if the label is defined
-unfoldable pub number_of : List Definition → List ℕ → Option ℕ
-number_of [] label = None
-number_of (d ∷ ds) label = if bytes_eq label d.label then Some d.op else number_of ds label
+unfoldable pub defined_as : List Definition → List ℕ → Option ℕ
+defined_as [] label = None
+defined_as (d ∷ ds) label = if bytes_eq label d.label then Some d.op else defined_as ds label
 
 abbrev pub is_defined : List Definition → List ℕ → Bool
-is_defined ds label = is_some (number_of ds label)
+is_defined ds label = is_some (defined_as ds label)
 
 -- a colon defines the label before it
 abbrev pub define : Option Mention → ℕ → List Definition → List Definition
@@ -96,7 +96,7 @@ defined_with _ subject op ds = ds
 -- the labels that the present block has defined
 unfoldable pub defined_of : List Token → List Definition
 defined_of [] = []
-defined_of (t ∷ before) = defined_with t.kind (line_of before).subject (length (ops_of before)) (defined_of before)
+defined_of (t ∷ before) = defined_with t.kind (head_of before).subject (length (ops_of before)) (defined_of before)
 
 -- a dependency, by its labels: `later` requires or irequires `earlier`
 pub record NamedDep : Type 0 where
@@ -121,15 +121,15 @@ dep_ended state.Label (Some subject) verb earlier deps =
     deps ++ record { later = subject.label; earlier = earlier; when = when_of verb } ∷ []
 dep_ended _ _ verb earlier deps = deps
 
-unfoldable pub deps_with : State → TokenKind → Line → List NamedDep → List NamedDep
-deps_with s token.Close line deps = []
-deps_with s (token.Label label) line deps = dep_ended s line.subject line.verb label deps
-deps_with s _ line deps = deps
+unfoldable pub deps_with : State → TokenKind → ItemHead → List NamedDep → List NamedDep
+deps_with s token.Close head deps = []
+deps_with s (token.Label label) head deps = dep_ended s head.subject head.verb label deps
+deps_with s _ head deps = deps
 
 -- the dependencies of the present block
 unfoldable pub deps_of : List Token → List NamedDep
 deps_of [] = []
-deps_of (t ∷ before) = deps_with (state_of before) t.kind (line_of before) (deps_of before)
+deps_of (t ∷ before) = deps_with (state_of before) t.kind (head_of before) (deps_of before)
 
 -- a note ends with its second number
 abbrev pub note_ended : State → Option Mention → Verb → ℕ → ℕ → List NamedNote → List NamedNote
@@ -137,15 +137,15 @@ note_ended state.Note3 (Some subject) verb low n notes =
     notes ++ record { subject = subject.label; verb = verb; first = low; second = n } ∷ []
 note_ended _ _ verb low n notes = notes
 
-unfoldable pub notes_with : State → TokenKind → Line → List NamedNote → List NamedNote
-notes_with s token.Close line notes = []
-notes_with s (token.Number n) line notes = note_ended s line.subject line.verb line.low n notes
-notes_with s _ line notes = notes
+unfoldable pub notes_with : State → TokenKind → ItemHead → List NamedNote → List NamedNote
+notes_with s token.Close head notes = []
+notes_with s (token.Number n) head notes = note_ended s head.subject head.verb head.low n notes
+notes_with s _ head notes = notes
 
 -- the notes of the present block
 unfoldable pub notes_of : List Token → List NamedNote
 notes_of [] = []
-notes_of (t ∷ before) = notes_with (state_of before) t.kind (line_of before) (notes_of before)
+notes_of (t ∷ before) = notes_with (state_of before) t.kind (head_of before) (notes_of before)
 
 -- a dependency uses both its labels, and a note uses its label
 abbrev pub dep_uses : State → Option Mention → Mention → List Mention → List Mention
@@ -156,16 +156,16 @@ abbrev pub note_uses : State → Option Mention → List Mention → List Mentio
 note_uses state.Note3 (Some subject) used = used ++ subject ∷ []
 note_uses _ _ used = used
 
-unfoldable pub used_with : State → TokenKind → ℕ → Line → List Mention → List Mention
-used_with s token.Close at line used = []
-used_with s (token.Label label) at line used = dep_uses s line.subject (record { label = label; at = at }) used
-used_with s (token.Number n) at line used = note_uses s line.subject used
-used_with s _ at line used = used
+unfoldable pub used_with : State → TokenKind → ℕ → ItemHead → List Mention → List Mention
+used_with s token.Close at head used = []
+used_with s (token.Label label) at head used = dep_uses s head.subject (record { label = label; at = at }) used
+used_with s (token.Number n) at head used = note_uses s head.subject used
+used_with s _ at head used = used
 
 -- the labels that stand in dependencies and notes of the present block, in the order of the text
 unfoldable pub used_of : List Token → List Mention
 used_of [] = []
-used_of (t ∷ before) = used_with (state_of before) t.kind t.start (line_of before) (used_of before)
+used_of (t ∷ before) = used_with (state_of before) t.kind t.start (head_of before) (used_of before)
 
 -- the place of the first of these labels that doesn't pass the test
 unfoldable pub first_outside : (List ℕ → Bool) → List Mention → Option ℕ
@@ -178,7 +178,7 @@ first_unknown ds us = first_outside (is_defined ds) us
 
 -- a dependency and a note, by the numbers of operations
 abbrev pub op_number : List Definition → List ℕ → ℕ
-op_number ds label = unwrap_or (number_of ds label) 0
+op_number ds label = unwrap_or (defined_as ds label) 0
 
 abbrev pub dep_by : List Definition → NamedDep → Dep
 dep_by ds d = record { later = op_number ds d.later; earlier = op_number ds d.earlier; when = d.when }
