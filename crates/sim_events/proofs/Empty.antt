@@ -10,12 +10,12 @@ use Rattle.goal_graph.specs.Matching.{pairs, partner}
 use Rattle.goal_graph.specs.Allowed.{may, allowed}
 use Rattle.sim_params.specs.Costs.{CostModel, is_eager}
 use Rattle.sim_params.specs.Times.{cpu, tx, rx, time}
-use Rattle.sim_match.specs.Heard.{Heard}
+use Rattle.sim_match.specs.PostsAndArrivals.{PostsAndArrivals}
 use Rattle.sim_resources.specs.FreeTimes.{Holds, free_at, cpu_free, tx_free, rx_free, unheld, SameFreeTimes}
 use Rattle.sim_events.specs.declared.entry.Entry.{Entry}
 use Rattle.sim_events.specs.Engine.{start_told, end_told}
 use Rattle.sim_events.specs.Turns.{time_told}
-use Rattle.sim_events.specs.Mirrors.{paired_told, there_told, entry_told, AreFreeTimes, IsAllHeard}
+use Rattle.sim_events.specs.Mirrors.{paired_told, there_told, entry_told, AreFreeTimes, KnowsPostsAndArrivals}
 
 abbrev pub blank : Entry
 blank = record { start = None; end = None; arriving = None; paired = None; there = None }
@@ -74,10 +74,10 @@ module _ (plans : List Plan) (costs : CostModel) where
     receivers = λ x. same.rx x ∙ rx_first x;
   }
 
-  -- nothing is heard
-  pub heard_first : (matcher : Heard) → matcher ≡ record { plans = plans; heard = [] } → IsAllHeard plans costs [] matcher
+  -- a new matcher
+  pub none_known : (matcher : PostsAndArrivals) → matcher ≡ record { plans = plans; actions = [] } → KnowsPostsAndArrivals plans costs [] matcher
   unfolding plain
-  heard_first matcher e = record {
-    same_plans = ap (λ (m : Heard). m.plans) e;
-    events = ap (λ (m : Heard). m.heard) e;
+  none_known matcher e = record {
+    same_plans = ap (λ (m : PostsAndArrivals). m.plans) e;
+    events = ap (λ (m : PostsAndArrivals). m.actions) e;
   }

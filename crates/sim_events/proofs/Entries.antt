@@ -15,7 +15,7 @@ use Rattle.sim_params.specs.Costs.{CostModel, flight, flight_one, is_eager}
 use Rattle.sim_params.specs.Times.{mate, cpu_hold, Possible}
 use Rattle.sim_params.specs.Run.{IsRun}
 use Rattle.sim_resources.proofs.ForCallers.{send_is_op, receive_is_op}
-use Rattle.sim_match.specs.Heard.{is_heard, is_heard_class, send_for, receive_for}
+use Rattle.sim_match.specs.PostsAndArrivals.{is_post_or_arrival, is_post_or_arrival_class, send_for, receive_for}
 use Rattle.sim_events.specs.declared.entry.Entry.{Entry}
 use Rattle.sim_events.specs.declared.entry.Pairing.{Pairing}
 use Rattle.sim_events.specs.Engine.{start_told, end_told}
@@ -24,7 +24,7 @@ use Rattle.sim_events.specs.Tables.{with_entry, with_pairing, with_partner}
 use Rattle.sim_events.specs.Mirrors.{entry_told, paired_told, there_told}
 use Rattle.sim_events.proofs.Tables.{same_tables}
 use Rattle.sim_events.proofs.After.{other_op, other_class, start_same, start_new, end_same, end_new, arriving_same, arriving_calc, arriving_begun, arriving_arrived, there_same, there_new, paired_same, paired_new}
-use Rattle.sim_events.proofs.Pairings.{none_made, unheard_none, post_none, post_some, arrive_none, arrive_some}
+use Rattle.sim_events.proofs.Pairings.{none_made, other_makes_none, post_none, post_some, arrive_none, arrive_some}
 
 same_entry : (d e : Entry) → d.start ≡ e.start → d.end ≡ e.end → d.arriving ≡ e.arriving → d.paired ≡ e.paired → d.there ≡ e.there → d ≡ e
 same_entry d e s n a p t =
@@ -111,8 +111,8 @@ module _ (plans : List Plan) (costs : CostModel) (h : List Timed) (a : Timed) (r
     one_written n mates now =
         same_tables _ _ (operations plans) (λ i x s. written a.op n before after now (λ x d. other_same x (mates x) d) x)
 
-    unpaired : (c : Class) → a.class ≡ c → is_heard_class c ≡ false → (x : OpId) → mate plans costs (a ∷ h) x ≡ mate plans costs h x
-    unpaired c same f = none_made plans costs h a (unheard_none plans costs h a (ap is_heard_class same ∙ f))
+    unpaired : (c : Class) → a.class ≡ c → is_post_or_arrival_class c ≡ false → (x : OpId) → mate plans costs (a ∷ h) x ≡ mate plans costs h x
+    unpaired c same f = none_made plans costs h a (other_makes_none plans costs h a (ap is_post_or_arrival_class same ∙ f))
 
     module _ (until : ℕ) (ends : until ≡ a.time + cpu_hold plans costs h a.class a.op (kind_at plans a.op)) where
       end_now : a.class ≡ last_class (is_eager plans costs a.op) (kind_at plans a.op) → end_told plans costs (a ∷ h) a.op ≡ Some until
@@ -181,12 +181,12 @@ module _ (plans : List Plan) (costs : CostModel) (h : List Timed) (a : Timed) (r
             elim (cases_Bool (is_eager plans costs a.op)) [ inl t ↦ differ (f ∙ last_of_eager plans (is_eager plans costs) a.op k t) | inr t ↦ differ_too (f ∙ last_of_large plans (is_eager plans costs) a.op k t) ]
 
     -- where no one is paired
-    posted_alone : a.class ≡ Post → IsReceive plans a.op → send_for plans (filter is_heard (plain h)) a.op ≡ None → Becomes (record e { start = Some a.time })
+    posted_alone : a.class ≡ Post → IsReceive plans a.op → send_for plans (filter is_post_or_arrival (plain h)) a.op ≡ None → Becomes (record e { start = Some a.time })
     posted_alone c k none =
         let mates = post_none plans costs h a run possible c none in
         one_written _ mates (posted_entry e.paired c k (paired_was (mates a.op)))
 
-    arrived_alone : a.class ≡ Arrive → IsSend plans a.op → receive_for plans (filter is_heard (plain h)) a.op ≡ None → Becomes (record e { arriving = None })
+    arrived_alone : a.class ≡ Arrive → IsSend plans a.op → receive_for plans (filter is_post_or_arrival (plain h)) a.op ≡ None → Becomes (record e { arriving = None })
     arrived_alone c k none =
         let mates = arrive_none plans costs h a run possible c none in
         one_written _ mates (arrived_entry e.paired c k (paired_was (mates a.op)))
@@ -203,14 +203,14 @@ module _ (plans : List Plan) (costs : CostModel) (h : List Timed) (a : Timed) (r
     apart m x s r =
         false_from_ne_true _ (λ t. not_send_receive plans x (subst (λ (y : OpId). IsSend plans y) (same_op_true m x t) s) r)
 
-    posted_pair : (m : OpId) → a.class ≡ Post → send_for plans (filter is_heard (plain h)) a.op ≡ Some m → BecomePaired m (record e { start = Some a.time })
+    posted_pair : (m : OpId) → a.class ≡ Post → send_for plans (filter is_post_or_arrival (plain h)) a.op ≡ Some m → BecomePaired m (record e { start = Some a.time })
     posted_pair m c some =
         let p = post_some plans costs h a run possible c m some in
         let differ = swapped m a.op (apart m a.op p.send p.receive) in
         let here = posted_entry (Some (record { with = m; at = a.time })) c p.receive (paired_new plans costs h a a.op m p.free_receive p.receive_taken) in
         same_tables _ _ (operations plans) (λ i x s. pair_written a.op m a.time _ before after differ here (partner_entry m differ p.free_send p.send_taken) (λ x d f. other_same x (p.others x f d) d) x)
 
-    arrived_pair : (x : OpId) → a.class ≡ Arrive → receive_for plans (filter is_heard (plain h)) a.op ≡ Some x → BecomePaired x (record e { arriving = None })
+    arrived_pair : (x : OpId) → a.class ≡ Arrive → receive_for plans (filter is_post_or_arrival (plain h)) a.op ≡ Some x → BecomePaired x (record e { arriving = None })
     arrived_pair x c some =
         let p = arrive_some plans costs h a run possible c x some in
         let differ = apart a.op x p.send p.receive in
@@ -218,19 +218,19 @@ module _ (plans : List Plan) (costs : CostModel) (h : List Timed) (a : Timed) (r
         same_tables _ _ (operations plans) (λ i y s. pair_written a.op x a.time _ before after differ here (partner_entry x differ p.free_receive p.receive_taken) (λ y d f. other_same y (p.others y d f) d) y)
 
     -- whether someone is paired or not
-    pub posted : (partner : Option OpId) → a.class ≡ Post → IsReceive plans a.op → partner ≡ send_for plans (filter is_heard (plain h)) a.op → map (with_partner a.op partner a.time (with_entry a.op (record e { start = Some a.time }) before)) (operations plans) ≡ map after (operations plans)
+    pub posted : (partner : Option OpId) → a.class ≡ Post → IsReceive plans a.op → partner ≡ send_for plans (filter is_post_or_arrival (plain h)) a.op → map (with_partner a.op partner a.time (with_entry a.op (record e { start = Some a.time }) before)) (operations plans) ≡ map after (operations plans)
     posted None c k is = posted_alone c k (sym is)
     posted (Some m) c k is = posted_pair m c (sym is)
 
-    pub arrived : (partner : Option OpId) → a.class ≡ Arrive → IsSend plans a.op → partner ≡ receive_for plans (filter is_heard (plain h)) a.op → map (with_partner a.op partner a.time (with_entry a.op (record e { arriving = None }) before)) (operations plans) ≡ map after (operations plans)
+    pub arrived : (partner : Option OpId) → a.class ≡ Arrive → IsSend plans a.op → partner ≡ receive_for plans (filter is_post_or_arrival (plain h)) a.op → map (with_partner a.op partner a.time (with_entry a.op (record e { arriving = None }) before)) (operations plans) ≡ map after (operations plans)
     arrived None c k is = arrived_alone c k (sym is)
     arrived (Some m) c k is = arrived_pair m c (sym is)
 
   -- the partner is an operation
-  pub sender_exists : (partner : Option OpId) → a.class ≡ Post → partner ≡ send_for plans (filter is_heard (plain h)) a.op → IfSome partner (IsOp plans)
+  pub sender_exists : (partner : Option OpId) → a.class ≡ Post → partner ≡ send_for plans (filter is_post_or_arrival (plain h)) a.op → IfSome partner (IsOp plans)
   sender_exists None c is = tt
   sender_exists (Some m) c is = send_is_op plans m (post_some plans costs h a run possible c m (sym is)).send
 
-  pub receiver_exists : (partner : Option OpId) → a.class ≡ Arrive → partner ≡ receive_for plans (filter is_heard (plain h)) a.op → IfSome partner (IsOp plans)
+  pub receiver_exists : (partner : Option OpId) → a.class ≡ Arrive → partner ≡ receive_for plans (filter is_post_or_arrival (plain h)) a.op → IfSome partner (IsOp plans)
   receiver_exists None c is = tt
   receiver_exists (Some x) c is = receive_is_op plans x (arrive_some plans costs h a run possible c x (sym is)).receive

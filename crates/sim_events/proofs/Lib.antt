@@ -11,7 +11,7 @@ pub mod Runs
 pub mod After
 pub mod Pairings
 pub mod FreeTimes
-pub mod Hearing
+pub mod PostsAndArrivals
 pub mod Fits
 pub mod HoldTimes
 pub mod Entries

@@ -18,8 +18,8 @@ use Rattle.sim_params.specs.Costs.{CostModel, is_eager}
 use Rattle.sim_params.specs.Times.{mate, paired_at, Possible}
 use Rattle.sim_params.specs.Run.{IsRun}
 use Rattle.sim_params.proofs.ForCallers.{run_interleaving}
-use Rattle.sim_match.specs.Heard.{is_heard, is_heard_class, send_for, receive_for}
-use Rattle.sim_match.proofs.ForCallers.{send_for_heard, receive_for_heard}
+use Rattle.sim_match.specs.PostsAndArrivals.{is_post_or_arrival, is_post_or_arrival_class, send_for, receive_for}
+use Rattle.sim_match.proofs.ForCallers.{send_for_filtered, receive_for_filtered}
 use Rattle.sim_events.specs.declared.entry.Pairing.{Pairing}
 use Rattle.sim_events.specs.Mirrors.{paired_told}
 
@@ -57,10 +57,10 @@ module _ (plans : List Plan) (costs : CostModel) (h : List Timed) (a : Timed) wh
   none_made e x = ap (λ (ps : List Pair). partner ps x) (pairs_same plans (plain_act a) (plain h) e)
 
   -- only a Post and an Arrive make one
-  pub unheard_none : is_heard_class a.class ≡ false → pair_made ≡ None
-  unheard_none e = go a.class e
+  pub other_makes_none : is_post_or_arrival_class a.class ≡ false → pair_made ≡ None
+  other_makes_none e = go a.class e
     where
-      go : (c : Class) → is_heard_class c ≡ false → new_pair plans (pairs plans (plain h)) (plain h) c a.op ≡ None
+      go : (c : Class) → is_post_or_arrival_class c ≡ false → new_pair plans (pairs plans (plain h)) (plain h) c a.op ≡ None
       go Arrive f = absurd (both_ways _ f refl)
       go Post f = absurd (both_ways _ f refl)
       go Serve f = refl
@@ -127,15 +127,15 @@ module _ (plans : List Plan) (costs : CostModel) (h : List Timed) (a : Timed) wh
         elim (new_pair_is plans (plain_act a) (plain h) p e).by [ inl (f, free) ↦ inl (ap (λ (b : Act). b.class) f, ap (λ (b : Act). b.op) f) | inr (f, free) ↦ inr (ap (λ (b : Act). b.class) f, ap (λ (b : Act). b.op) f) ]
 
     -- a receive that is posted takes the send that the matcher answers
-    pub post_none : a.class ≡ Post → send_for plans (filter is_heard (plain h)) a.op ≡ None → (x : OpId) → mate plans costs (a ∷ h) x ≡ mate plans costs h x
-    post_none c e = none_made (go pair_made (ap (λ (d : Class). option_map (λ (p : Pair). p.send) (new_pair plans (pairs plans (plain h)) (plain h) d a.op)) c ∙ sym (send_for_heard plans (plain h) a.op) ∙ e))
+    pub post_none : a.class ≡ Post → send_for plans (filter is_post_or_arrival (plain h)) a.op ≡ None → (x : OpId) → mate plans costs (a ∷ h) x ≡ mate plans costs h x
+    post_none c e = none_made (go pair_made (ap (λ (d : Class). option_map (λ (p : Pair). p.send) (new_pair plans (pairs plans (plain h)) (plain h) d a.op)) c ∙ sym (send_for_filtered plans (plain h) a.op) ∙ e))
       where
         go : (o : Option Pair) → option_map (λ (p : Pair). p.send) o ≡ None → o ≡ None
         go None f = refl
         go (Some p) f = absurd (cc)
 
-    pub post_some : a.class ≡ Post → (m : OpId) → send_for plans (filter is_heard (plain h)) a.op ≡ Some m → ArePaired m a.op
-    post_some c m e = go pair_made refl (ap (λ (d : Class). option_map (λ (p : Pair). p.send) (new_pair plans (pairs plans (plain h)) (plain h) d a.op)) c ∙ sym (send_for_heard plans (plain h) a.op) ∙ e)
+    pub post_some : a.class ≡ Post → (m : OpId) → send_for plans (filter is_post_or_arrival (plain h)) a.op ≡ Some m → ArePaired m a.op
+    post_some c m e = go pair_made refl (ap (λ (d : Class). option_map (λ (p : Pair). p.send) (new_pair plans (pairs plans (plain h)) (plain h) d a.op)) c ∙ sym (send_for_filtered plans (plain h) a.op) ∙ e)
       where
         other : Post ≡ Arrive → ⊥
         other f = cc
@@ -147,15 +147,15 @@ module _ (plans : List Plan) (costs : CostModel) (h : List Timed) (a : Timed) wh
             subst (λ (x : OpId). ArePaired m x) recv (subst (λ (n : OpId). ArePaired n p.recv) (same_Some p.send m f) (one_made p s))
 
     -- a message that arrives is taken by the receive that the matcher answers
-    pub arrive_none : a.class ≡ Arrive → receive_for plans (filter is_heard (plain h)) a.op ≡ None → (x : OpId) → mate plans costs (a ∷ h) x ≡ mate plans costs h x
-    arrive_none c e = none_made (go pair_made (ap (λ (d : Class). option_map (λ (p : Pair). p.recv) (new_pair plans (pairs plans (plain h)) (plain h) d a.op)) c ∙ sym (receive_for_heard plans (plain h) a.op) ∙ e))
+    pub arrive_none : a.class ≡ Arrive → receive_for plans (filter is_post_or_arrival (plain h)) a.op ≡ None → (x : OpId) → mate plans costs (a ∷ h) x ≡ mate plans costs h x
+    arrive_none c e = none_made (go pair_made (ap (λ (d : Class). option_map (λ (p : Pair). p.recv) (new_pair plans (pairs plans (plain h)) (plain h) d a.op)) c ∙ sym (receive_for_filtered plans (plain h) a.op) ∙ e))
       where
         go : (o : Option Pair) → option_map (λ (p : Pair). p.recv) o ≡ None → o ≡ None
         go None f = refl
         go (Some p) f = absurd (cc)
 
-    pub arrive_some : a.class ≡ Arrive → (x : OpId) → receive_for plans (filter is_heard (plain h)) a.op ≡ Some x → ArePaired a.op x
-    arrive_some c x e = go pair_made refl (ap (λ (d : Class). option_map (λ (p : Pair). p.recv) (new_pair plans (pairs plans (plain h)) (plain h) d a.op)) c ∙ sym (receive_for_heard plans (plain h) a.op) ∙ e)
+    pub arrive_some : a.class ≡ Arrive → (x : OpId) → receive_for plans (filter is_post_or_arrival (plain h)) a.op ≡ Some x → ArePaired a.op x
+    arrive_some c x e = go pair_made refl (ap (λ (d : Class). option_map (λ (p : Pair). p.recv) (new_pair plans (pairs plans (plain h)) (plain h) d a.op)) c ∙ sym (receive_for_filtered plans (plain h) a.op) ∙ e)
       where
         other : Arrive ≡ Post → ⊥
         other f = cc

@@ -11,7 +11,7 @@ use Rattle.sim_params.specs.Costs.{CostModel, flight, is_eager}
 use Rattle.sim_params.specs.Times.{since, mate, paired_at, cpu, tx, rx}
 use Rattle.sim_params.specs.Run.{IsRun}
 use Rattle.sim_params.specs.Budget.{budget}
-use Rattle.sim_match.specs.Heard.{Heard, is_heard}
+use Rattle.sim_match.specs.PostsAndArrivals.{PostsAndArrivals, is_post_or_arrival}
 use Rattle.sim_resources.specs.FreeTimes.{Holds, cpu_free, tx_free, rx_free}
 use Rattle.sim_events.specs.declared.entry.Entry.{Entry}
 use Rattle.sim_events.specs.declared.entry.Pairing.{Pairing}
@@ -48,17 +48,17 @@ module _ (plans : List Plan) (costs : CostModel) (h : List Timed) where
     pub senders : (x : OpId) → tx_free res x ≡ tx plans costs h x
     pub receivers : (x : OpId) → rx_free res x ≡ rx plans costs h x
 
-  -- the posts and arrivals of the history are heard
-  pub record IsAllHeard (matcher : Heard) : Type 0 where
+  -- the matcher knows the posts and arrivals of the history
+  pub record KnowsPostsAndArrivals (matcher : PostsAndArrivals) : Type 0 where
     pub same_plans : matcher.plans ≡ plans
-    pub events : matcher.heard ≡ filter is_heard (plain h)
+    pub events : matcher.actions ≡ filter is_post_or_arrival (plain h)
 
   -- There is an entry for each operation, in their order, and room for every action of a run.
-  pub record Mirrors (entries : List Entry) (matcher : Heard) (res : Holds) (room : ℕ) : Type 0 where
+  pub record Mirrors (entries : List Entry) (matcher : PostsAndArrivals) (res : Holds) (room : ℕ) : Type 0 where
     pub accepted : IsAccepted plans
     pub within : budget plans costs < 2 ^ 63
     pub run : IsRun plans costs h
     pub told : entries ≡ map entry_told (operations plans)
-    pub heard : IsAllHeard matcher
+    pub posts_and_arrivals : KnowsPostsAndArrivals matcher
     pub free : AreFreeTimes res
     pub roomy : 3 * length (operations plans) ≤ room

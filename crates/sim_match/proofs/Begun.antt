@@ -1,4 +1,4 @@
--- A ledger that has heard nothing.
+-- A match table before all posts and arrivals.
 use Rattle.std.proofs.Common.{ℕ, zero, suc, ◌+◌, ◌<◌, ◌≤◌, ◌≡◌, Bool, true, false, List, [], ◌∷◌, ◌++◌, length, Some, take, replicate, filter, get_or, slice_get, count_by, vec_capacity, All, refl, arith, sym, ap, ◌∙◌, subst}
 use Rattle.std.specs.List.{AllZip}
 use Rattle.std.proofs.lemmas.Option.{same_Some, none-some}
@@ -9,17 +9,17 @@ use Rattle.goal_graph.specs.declared.action.Class.TheVariants.{Arrive, Post}
 use Rattle.goal_graph.specs.Schedule.{Plan, operations}
 use Rattle.goal_graph.specs.Fault.{IsAccepted}
 use Rattle.goal_graph.specs.Matching.{is_paired, pairs, partner}
-use Rattle.sim_match.specs.declared.lists.Lists.{Lists}
+use Rattle.sim_match.specs.declared.pattern_lists.PatternLists.{PatternLists}
 use Rattle.sim_match.specs.declared.pattern.Pattern.{Pattern}
-use Rattle.sim_match.specs.declared.rolls.Entry.{Entry}
-use Rattle.sim_match.specs.declared.rolls.Roll.{Roll}
-use Rattle.sim_match.specs.declared.rooms.Room.{Room}
+use Rattle.sim_match.specs.declared.match_list.MatchEntry.{MatchEntry}
+use Rattle.sim_match.specs.declared.match_list.MatchList.{MatchList}
+use Rattle.sim_match.specs.declared.capacities.Capacity.{Capacity}
 use Rattle.sim_match.specs.Waiting.{is_message}
 use Rattle.sim_match.specs.Patterns.{in_list, for_list, AreListed}
-use Rattle.sim_match.specs.Rolls.{is_marked}
-use Rattle.sim_match.specs.Rooms.{IsRoom, AreRooms}
-use Rattle.sim_match.specs.Lists.{IsEmptyList}
-use Rattle.sim_match.specs.Matcher.{IsRoll, receives_of, sends_of, AreLists, Mirrors}
+use Rattle.sim_match.specs.MatchLists.{is_marked}
+use Rattle.sim_match.specs.Capacities.{IsCapacity, AreCapacities}
+use Rattle.sim_match.specs.PatternLists.{AreEmptyLists}
+use Rattle.sim_match.specs.Matcher.{IsMatchList, receives_of, sends_of, AreLists, Mirrors}
 use Rattle.sim_match.proofs.Entries.{entries_none}
 use Rattle.sim_match.proofs.Marks.{no_marks}
 
@@ -57,29 +57,29 @@ none_paired : (plans : List Plan) (x : OpId) → is_paired (pairs plans []) x �
 unfolding pairs partner
 none_paired plans x = refl
 
-begun_roll : (es : List Entry) (paired : OpId → Bool) (room : ℕ) (roll : Roll) → es ≡ [] → roll.entries.items ≡ [] → roll.head ≡ 0 → room ≤ vec_capacity roll.entries → IsRoll es paired room roll
-begun_roll es paired room roll none empty head roomy = record {
+begun_match_list : (es : List MatchEntry) (paired : OpId → Bool) (room : ℕ) (match_list : MatchList) → es ≡ [] → match_list.entries.items ≡ [] → match_list.head ≡ 0 → room ≤ vec_capacity match_list.entries → IsMatchList es paired room match_list
+begun_match_list es paired room match_list none empty head roomy = record {
   entries = empty ∙ sym none;
   within = omega (arith, head);
-  skipped = subst (λ (xs : List Entry). All (λ (e : Entry). paired e.op ≡ true) (take roll.head xs)) (sym none) (empty_skips (λ (e : Entry). paired e.op ≡ true) roll.head);
+  skipped = subst (λ (xs : List MatchEntry). All (λ (e : MatchEntry). paired e.op ≡ true) (take match_list.head xs)) (sym none) (empty_skips (λ (e : MatchEntry). paired e.op ≡ true) match_list.head);
   room = roomy;
 }
 
--- what a new ledger keeps
-pub begins : (plans : List Plan) (keys : List Pattern) (rooms : List Room) (lists : List Lists) (marks : List Bool) (room : ℕ) → IsAccepted plans → AreListed plans keys → AreRooms plans keys (operations plans) rooms → AllZip IsEmptyList rooms lists → marks ≡ replicate (length (operations plans)) false → count_by (is_message plans) (operations plans) ≤ room → Mirrors plans keys lists marks [] room
-begins plans keys rooms lists marks room accepted listed counted empty unmarked roomy = record {
+-- what a new match table keeps
+pub begins : (plans : List Plan) (keys : List Pattern) (capacities : List Capacity) (lists : List PatternLists) (marks : List Bool) (room : ℕ) → IsAccepted plans → AreListed plans keys → AreCapacities plans keys (operations plans) capacities → AllZip AreEmptyLists capacities lists → marks ≡ replicate (length (operations plans)) false → count_by (is_message plans) (operations plans) ≤ room → Mirrors plans keys lists marks [] room
+begins plans keys capacities lists marks room accepted listed counted empty unmarked roomy = record {
   accepted = accepted;
-  hearing = tt;
+  actions = tt;
   listed = listed;
-  one_each = zip_length IsEmptyList rooms lists empty ∙ counted.one_each;
-  each = λ list w e. let at = zip_at IsEmptyList rooms lists list w empty e in begun list at.0 w (counted.each list at.0 at.1) at.2;
+  one_each = zip_length AreEmptyLists capacities lists empty ∙ counted.one_each;
+  each = λ list w e. let at = zip_at AreEmptyLists capacities lists list w empty e in begun list at.0 w (counted.each list at.0 at.1) at.2;
   marked = λ x. ap (λ (bs : List Bool). is_marked (operations plans) bs x) unmarked ∙ no_marks (operations plans) (length (operations plans)) x ∙ sym (none_paired plans x);
   all_marks = let long = ap length unmarked ∙ length-replicate (length (operations plans)) false in omega (arith, long);
   roomy = roomy;
 }
   where
-    begun : (list : ℕ) (r : Room) (w : Lists) → IsRoom plans keys (operations plans) list r → IsEmptyList r w → AreLists plans keys (is_paired (pairs plans [])) list (receives_of plans keys [] list) (sends_of plans keys [] list) w
+    begun : (list : ℕ) (r : Capacity) (w : PatternLists) → IsCapacity plans keys (operations plans) list r → AreEmptyLists r w → AreLists plans keys (is_paired (pairs plans [])) list (receives_of plans keys [] list) (sends_of plans keys [] list) w
     begun list r w is none = record {
-      receives = begun_roll _ _ _ w.receives (ap (filter (λ (e : Entry). in_list plans keys list e.op)) (entries_none Post)) none.receives none.receive_head (omega (arith, is.receives, none.receive_room));
-      sends = begun_roll _ _ _ w.sends (ap (filter (λ (e : Entry). for_list plans keys list e.op)) (entries_none Arrive)) none.sends none.send_head (omega (arith, is.sends, none.send_room));
+      receives = begun_match_list _ _ _ w.receives (ap (filter (λ (e : MatchEntry). in_list plans keys list e.op)) (entries_none Post)) none.receives none.receive_head (omega (arith, is.receives, none.receive_capacity));
+      sends = begun_match_list _ _ _ w.sends (ap (filter (λ (e : MatchEntry). for_list plans keys list e.op)) (entries_none Arrive)) none.sends none.send_head (omega (arith, is.sends, none.send_capacity));
     }

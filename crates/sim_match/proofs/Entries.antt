@@ -1,4 +1,4 @@
--- Entries of what was heard: the order in which they stand, their operations, and the first that passes a test.
+-- Entries of posts and arrivals: the order in which they stand, their operations, and the first that passes a test.
 use Rattle.std.proofs.Common.{suc, ◌<◌, ◌≡◌, ◌==◌, ◌&&◌, Bool, true, false, if◌then◌else◌, List, [], ◌∷◌, ◌++◌, length, map, filter, find, count_by, ◌⊎◌, inl, inr, cond, All, refl, arith, sym, ap, ap₂, ◌∙◌, subst, append-nil}
 use Rattle.std.specs.Option.{option_map}
 use Rattle.std.proofs.lemmas.Bool.{cases_Bool}
@@ -13,11 +13,11 @@ use Rattle.goal_graph.specs.Schedule.{Plan, kind_at, operations}
 use Rattle.goal_graph.specs.Fault.{IsOp}
 use Rattle.goal_graph.specs.Action.{Act, place, happened, oldest}
 use Rattle.goal_graph.specs.Laws.{IsSend, IsReceive, has_class}
-use Rattle.sim_match.specs.declared.rolls.Entry.{Entry}
-use Rattle.sim_match.specs.Rolls.{entries_of}
+use Rattle.sim_match.specs.declared.match_list.MatchEntry.{MatchEntry}
+use Rattle.sim_match.specs.MatchLists.{entries_of}
 use Rattle.sim_match.specs.Waiting.{ops_of}
-use Rattle.sim_match.specs.Matcher.{IsHearing}
-use Rattle.sim_match.proofs.Ops.{oldest_found, ops_happened, heard_suits, suited_receive, suited_send, ops_fewer}
+use Rattle.sim_match.specs.Matcher.{ArePostsAndArrivals}
+use Rattle.sim_match.proofs.Ops.{oldest_found, ops_happened, action_suits, suited_receive, suited_send, ops_fewer}
 use Rattle.sim_match.proofs.Targets.{exists_kind}
 use Rattle.sim_match.proofs.Finding.{find_map, InOrder}
 
@@ -37,33 +37,33 @@ unfolding entries_of
 entries_none class = refl
 
 -- their operations
-pub entries_ops : (class : Class) (h : List Act) → map (λ (e : Entry). e.op) (entries_of class h) ≡ ops_of class h
+pub entries_ops : (class : Class) (h : List Act) → map (λ (e : MatchEntry). e.op) (entries_of class h) ≡ ops_of class h
 unfolding entries_of ops_of
 entries_ops class [] = refl
 entries_ops class (a ∷ h) =
-    map-append (λ (e : Entry). e.op) (entries_of class h) (if place a.class == place class then record { op = a.op; at = length h } ∷ [] else []) ∙ ap₂ (λ (xs ys : List OpId). xs ++ ys) (entries_ops class h) (go (place a.class == place class))
+    map-append (λ (e : MatchEntry). e.op) (entries_of class h) (if place a.class == place class then record { op = a.op; at = length h } ∷ [] else []) ∙ ap₂ (λ (xs ys : List OpId). xs ++ ys) (entries_ops class h) (go (place a.class == place class))
   where
-    go : (b : Bool) → map (λ (e : Entry). e.op) (if b then record { op = a.op; at = length h } ∷ [] else []) ≡ (if b then a.op ∷ [] else [])
+    go : (b : Bool) → map (λ (e : MatchEntry). e.op) (if b then record { op = a.op; at = length h } ∷ [] else []) ≡ (if b then a.op ∷ [] else [])
     go true = refl
     go false = refl
 
--- they stand in order, each before all that is heard later
-pub entries_before : (class : Class) (h : List Act) → All (λ (e : Entry). e.at < length h) (entries_of class h)
-entries_before class [] = subst (All (λ (e : Entry). e.at < 0)) (sym (entries_none class)) (All-nil (λ (e : Entry). e.at < 0))
+-- they stand in order, each before all that comes later
+pub entries_before : (class : Class) (h : List Act) → All (λ (e : MatchEntry). e.at < length h) (entries_of class h)
+entries_before class [] = subst (All (λ (e : MatchEntry). e.at < 0)) (sym (entries_none class)) (All-nil (λ (e : MatchEntry). e.at < 0))
 entries_before class (a ∷ h) = more (entries_before class h) (cases_Bool (place a.class == place class))
   where
-    more : All (λ (e : Entry). e.at < length h) (entries_of class h) → (((place a.class == place class) ≡ true) ⊎ ((place a.class == place class) ≡ false)) → All (λ (e : Entry). e.at < length (a ∷ h)) (entries_of class (a ∷ h))
+    more : All (λ (e : MatchEntry). e.at < length h) (entries_of class h) → (((place a.class == place class) ≡ true) ⊎ ((place a.class == place class) ≡ false)) → All (λ (e : MatchEntry). e.at < length (a ∷ h)) (entries_of class (a ∷ h))
     more before c =
-        let older : All (λ (e : Entry). e.at < length (a ∷ h)) (entries_of class h) = All-weaker (λ (e : Entry). e.at < length h) (λ (e : Entry). e.at < length (a ∷ h)) (λ e l. omega (arith, l)) (entries_of class h) before in
+        let older : All (λ (e : MatchEntry). e.at < length (a ∷ h)) (entries_of class h) = All-weaker (λ (e : MatchEntry). e.at < length h) (λ (e : MatchEntry). e.at < length (a ∷ h)) (λ e l. omega (arith, l)) (entries_of class h) before in
         elim c [
-          | inl t ↦ subst (All (λ (e : Entry). e.at < length (a ∷ h))) (sym (entries_same class a h t)) (All-push (λ (e : Entry). e.at < length (a ∷ h)) (entries_of class h) (record { op = a.op; at = length h }) older (omega arith))
-          | inr f ↦ subst (All (λ (e : Entry). e.at < length (a ∷ h))) (sym (entries_other class a h f)) older
+          | inl t ↦ subst (All (λ (e : MatchEntry). e.at < length (a ∷ h))) (sym (entries_same class a h t)) (All-push (λ (e : MatchEntry). e.at < length (a ∷ h)) (entries_of class h) (record { op = a.op; at = length h }) older (omega arith))
+          | inr f ↦ subst (All (λ (e : MatchEntry). e.at < length (a ∷ h))) (sym (entries_other class a h f)) older
         ]
 
 pub entries_order : (class : Class) (h : List Act) → InOrder (entries_of class h)
 entries_order class [] = subst InOrder (sym (entries_none class)) (λ i j d l b. absurd (omega arith))
 entries_order class (a ∷ h) = elim (cases_Bool (place a.class == place class)) [
-  | inl t ↦ subst InOrder (sym (entries_same class a h t)) (all_pairs_push (λ (e f : Entry). e.at < f.at) (entries_of class h) (record { op = a.op; at = length h }) (entries_order class h) (entries_before class h))
+  | inl t ↦ subst InOrder (sym (entries_same class a h t)) (all_pairs_push (λ (e f : MatchEntry). e.at < f.at) (entries_of class h) (record { op = a.op; at = length h }) (entries_order class h) (entries_before class h))
   | inr f ↦ subst InOrder (sym (entries_other class a h f)) (entries_order class h)
 ]
 
@@ -72,14 +72,14 @@ from_map P f xs all k d b =
     let long = length-map xs f in
     subst P (get_or-map f xs k d (f d) b) (all k (f d) (omega (arith, b, long)))
 
-pub entries_happened : (class : Class) (h : List Act) → All (λ (e : Entry). happened class e.op h ≡ true) (entries_of class h)
+pub entries_happened : (class : Class) (h : List Act) → All (λ (e : MatchEntry). happened class e.op h ≡ true) (entries_of class h)
 entries_happened class h =
-    from_map (λ (x : OpId). happened class x h ≡ true) (λ (e : Entry). e.op) (entries_of class h) (subst (All (λ (x : OpId). happened class x h ≡ true)) (sym (entries_ops class h)) (ops_happened class h))
+    from_map (λ (x : OpId). happened class x h ≡ true) (λ (e : MatchEntry). e.op) (entries_of class h) (subst (All (λ (x : OpId). happened class x h ≡ true)) (sym (entries_ops class h)) (ops_happened class h))
 
 -- the oldest action of a class that passes two tests is the first of its entries that passes them
-pub oldest_entry : (class : Class) (r q : OpId → Bool) (h : List Act) → oldest (λ (a : Act). (place a.class == place class) && r a.op && q a.op) h ≡ option_map (λ (e : Entry). e.op) (find (λ (e : Entry). r e.op && q e.op) (entries_of class h))
+pub oldest_entry : (class : Class) (r q : OpId → Bool) (h : List Act) → oldest (λ (a : Act). (place a.class == place class) && r a.op && q a.op) h ≡ option_map (λ (e : MatchEntry). e.op) (find (λ (e : MatchEntry). r e.op && q e.op) (entries_of class h))
 oldest_entry class r q h =
-    oldest_found class r q h ∙ ap (find (λ (x : OpId). r x && q x)) (sym (entries_ops class h)) ∙ find_map (λ (e : Entry). e.op) (λ (x : OpId). r x && q x) (entries_of class h)
+    oldest_found class r q h ∙ ap (find (λ (x : OpId). r x && q x)) (sym (entries_ops class h)) ∙ find_map (λ (e : MatchEntry). e.op) (λ (x : OpId). r x && q x) (entries_of class h)
 
 length_map_filter : {X Y : Type 0} (f : X → Y) (p : Y → Bool) (xs : List X) → length (filter p (map f xs)) ≡ length (filter (λ x. p (f x)) xs)
 length_map_filter f p [] = refl
@@ -89,23 +89,23 @@ length_map_filter {X} {Y} f p (x ∷ xs) = go (p (f x)) (length_map_filter f p x
     go true rest = ap suc rest
     go false rest = rest
 
-module _ (plans : List Plan) (h : List Act) (i : IsHearing plans h) where
+module _ (plans : List Plan) (h : List Act) (i : ArePostsAndArrivals plans h) where
   -- what was posted are receives, what has arrived are sends, and they exist
-  pub posted_receives : All (λ (e : Entry). IsReceive plans e.op) (entries_of Post h)
-  posted_receives = All-weaker (λ (e : Entry). happened Post e.op h ≡ true) (λ (e : Entry). IsReceive plans e.op) (λ e was. suited_receive plans e.op (heard_suits plans h Post e.op i was)) (entries_of Post h) (entries_happened Post h)
+  pub posted_receives : All (λ (e : MatchEntry). IsReceive plans e.op) (entries_of Post h)
+  posted_receives = All-weaker (λ (e : MatchEntry). happened Post e.op h ≡ true) (λ (e : MatchEntry). IsReceive plans e.op) (λ e was. suited_receive plans e.op (action_suits plans h Post e.op i was)) (entries_of Post h) (entries_happened Post h)
 
-  pub arrived_sends : All (λ (e : Entry). IsSend plans e.op) (entries_of Arrive h)
-  arrived_sends = All-weaker (λ (e : Entry). happened Arrive e.op h ≡ true) (λ (e : Entry). IsSend plans e.op) (λ e was. suited_send plans e.op (heard_suits plans h Arrive e.op i was)) (entries_of Arrive h) (entries_happened Arrive h)
+  pub arrived_sends : All (λ (e : MatchEntry). IsSend plans e.op) (entries_of Arrive h)
+  arrived_sends = All-weaker (λ (e : MatchEntry). happened Arrive e.op h ≡ true) (λ (e : MatchEntry). IsSend plans e.op) (λ e was. suited_send plans e.op (action_suits plans h Arrive e.op i was)) (entries_of Arrive h) (entries_happened Arrive h)
 
-  pub posted_exist : All (λ (e : Entry). IsOp plans e.op) (entries_of Post h)
-  posted_exist = All-weaker (λ (e : Entry). IsReceive plans e.op) (λ (e : Entry). IsOp plans e.op) (λ e r. exists_kind plans e.op _ r.kind) (entries_of Post h) posted_receives
+  pub posted_exist : All (λ (e : MatchEntry). IsOp plans e.op) (entries_of Post h)
+  posted_exist = All-weaker (λ (e : MatchEntry). IsReceive plans e.op) (λ (e : MatchEntry). IsOp plans e.op) (λ e r. exists_kind plans e.op _ r.kind) (entries_of Post h) posted_receives
 
-  pub arrived_exist : All (λ (e : Entry). IsOp plans e.op) (entries_of Arrive h)
-  arrived_exist = All-weaker (λ (e : Entry). IsSend plans e.op) (λ (e : Entry). IsOp plans e.op) (λ e s. exists_kind plans e.op _ s.kind) (entries_of Arrive h) arrived_sends
+  pub arrived_exist : All (λ (e : MatchEntry). IsOp plans e.op) (entries_of Arrive h)
+  arrived_exist = All-weaker (λ (e : MatchEntry). IsSend plans e.op) (λ (e : MatchEntry). IsOp plans e.op) (λ e s. exists_kind plans e.op _ s.kind) (entries_of Arrive h) arrived_sends
 
   -- an operation that is still to come finds room
-  pub entries_fewer : (test : OpId → Bool) (class : Class) (x : OpId) → has_class (kind_at plans x) class ≡ true → happened class x h ≡ false → test x ≡ true → length (filter (λ (e : Entry). test e.op) (entries_of class h)) < count_by test (operations plans)
+  pub entries_fewer : (test : OpId → Bool) (class : Class) (x : OpId) → has_class (kind_at plans x) class ≡ true → happened class x h ≡ false → test x ≡ true → length (filter (λ (e : MatchEntry). test e.op) (entries_of class h)) < count_by test (operations plans)
   entries_fewer test class x suited fresh pass =
       let fewer = ops_fewer plans test class h x i suited fresh pass in
-      let same = sym (length_map_filter (λ (e : Entry). e.op) test (entries_of class h)) ∙ length-filter test (map (λ (e : Entry). e.op) (entries_of class h)) ∙ ap (λ (xs : List OpId). count_by test xs) (entries_ops class h) in
+      let same = sym (length_map_filter (λ (e : MatchEntry). e.op) test (entries_of class h)) ∙ length-filter test (map (λ (e : MatchEntry). e.op) (entries_of class h)) ∙ ap (λ (xs : List OpId). count_by test xs) (entries_ops class h) in
       omega (arith, fewer, same)

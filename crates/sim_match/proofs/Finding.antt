@@ -4,8 +4,8 @@ use Rattle.std.specs.Option.{option_map}
 use Rattle.std.proofs.lemmas.Bool.{cases_Bool, cond-true, cond-false, lt-ltb, le-ltb}
 use Rattle.std.proofs.lemmas.Option.{none-some, same_Some}
 use Rattle.std.proofs.lemmas.List.Elements.{All-head, All-tail, filter-append}
-use Rattle.sim_match.specs.declared.rolls.Entry.{Entry}
-use Rattle.sim_match.specs.Rolls.{earlier}
+use Rattle.sim_match.specs.declared.match_list.MatchEntry.{MatchEntry}
+use Rattle.sim_match.specs.MatchLists.{earlier}
 
 module _ {X : Type 0} (p : X → Bool) where
   pub find_at_place : (xs : List X) (i : ℕ) (d : X) → i < length xs → p (get_or xs i d) ≡ true → ((k : ℕ) → k < i → p (get_or xs k d) ≡ false) → find p xs ≡ Some (get_or xs i d)
@@ -66,17 +66,17 @@ pub filter_last_passes : {X : Type 0} (f : X → Bool) (xs : List X) (x : X) →
 filter_last_passes {X} f xs x e =
     filter-append f xs (x ∷ []) ∙ ap (λ (b : Bool). filter f xs ++ cond b (x ∷ []) []) e
 
--- entries in the order in which they were heard
-abbrev pub InOrder : List Entry → Type 0
-InOrder es = AllPairs (λ (e f : Entry). e.at < f.at) es
+-- entries in the order of their posts and arrivals
+abbrev pub InOrder : List MatchEntry → Type 0
+InOrder es = AllPairs (λ (e f : MatchEntry). e.at < f.at) es
 
-order_head : (e : Entry) (es : List Entry) → InOrder (e ∷ es) → All (λ (f : Entry). e.at < f.at) es
+order_head : (e : MatchEntry) (es : List MatchEntry) → InOrder (e ∷ es) → All (λ (f : MatchEntry). e.at < f.at) es
 order_head e es order k d b = order 0 (suc k) d (omega arith) (omega arith)
 
-order_tail : (e : Entry) (es : List Entry) → InOrder (e ∷ es) → InOrder es
+order_tail : (e : MatchEntry) (es : List MatchEntry) → InOrder (e ∷ es) → InOrder es
 order_tail e es order i j d l b = order (suc i) (suc j) d (omega arith) (omega arith)
 
-earlier_itself : (e : Entry) → earlier (Some e) (Some e) ≡ Some e
+earlier_itself : (e : MatchEntry) → earlier (Some e) (Some e) ≡ Some e
 earlier_itself e = go (nat_lt e.at e.at)
   where
     go : (b : Bool) → (if b then Some e else Some e) ≡ Some e
@@ -84,20 +84,20 @@ earlier_itself e = go (nat_lt e.at e.at)
     go false = refl
 
 -- of the first of two kinds, the earlier is the first of either kind
-pub find_either : (p q : Entry → Bool) (es : List Entry) → InOrder es → find (λ (e : Entry). p e || q e) es ≡ earlier (find p es) (find q es)
+pub find_either : (p q : MatchEntry → Bool) (es : List MatchEntry) → InOrder es → find (λ (e : MatchEntry). p e || q e) es ≡ earlier (find p es) (find q es)
 find_either p q [] order = refl
 find_either p q (e ∷ es) order = go (p e) (q e) (find_either p q es (order_tail e es order))
   where
-    here_first : (o : Option Entry) → ((z : Entry) → o ≡ Some z → e.at < z.at) → Some e ≡ earlier (Some e) o
+    here_first : (o : Option MatchEntry) → ((z : MatchEntry) → o ≡ Some z → e.at < z.at) → Some e ≡ earlier (Some e) o
     here_first None late = refl
     here_first (Some z) late = sym (cond-false (nat_lt z.at e.at) (Some z) (Some e) (le-ltb z.at e.at (let l = late z refl in omega (arith, l))))
 
-    here_second : (o : Option Entry) → ((z : Entry) → o ≡ Some z → e.at < z.at) → Some e ≡ earlier o (Some e)
+    here_second : (o : Option MatchEntry) → ((z : MatchEntry) → o ≡ Some z → e.at < z.at) → Some e ≡ earlier o (Some e)
     here_second None late = refl
     here_second (Some z) late = sym (cond-true (nat_lt e.at z.at) (Some e) (Some z) (lt-ltb e.at z.at (late z refl)))
 
-    go : (s t : Bool) → find (λ (e : Entry). p e || q e) es ≡ earlier (find p es) (find q es) → cond (s || t) (Some e) (find (λ (e : Entry). p e || q e) es) ≡ earlier (cond s (Some e) (find p es)) (cond t (Some e) (find q es))
+    go : (s t : Bool) → find (λ (e : MatchEntry). p e || q e) es ≡ earlier (find p es) (find q es) → cond (s || t) (Some e) (find (λ (e : MatchEntry). p e || q e) es) ≡ earlier (cond s (Some e) (find p es)) (cond t (Some e) (find q es))
     go true true rest = sym (earlier_itself e)
-    go true false rest = here_first (find q es) (λ z f. find_all (λ (f : Entry). e.at < f.at) q es z (order_head e es order) f)
-    go false true rest = here_second (find p es) (λ z f. find_all (λ (f : Entry). e.at < f.at) p es z (order_head e es order) f)
+    go true false rest = here_first (find q es) (λ z f. find_all (λ (f : MatchEntry). e.at < f.at) q es z (order_head e es order) f)
+    go false true rest = here_second (find p es) (λ z f. find_all (λ (f : MatchEntry). e.at < f.at) p es z (order_head e es order) f)
     go false false rest = rest

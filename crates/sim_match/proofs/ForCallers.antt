@@ -1,2 +1,2 @@
 -- The lemmas of this crate that upper crates cite: they import this file alone.
-pub use Rattle.sim_match.proofs.HeardLemmas.{happened_heard, heard_more, heard_same, receive_for_heard, send_for_heard}
+pub use Rattle.sim_match.proofs.PostsAndArrivalsLemmas.{happened_filtered, filtered_more, filtered_same, receive_for_filtered, send_for_filtered}

@@ -1,4 +1,4 @@
--- What a ledger keeps, after one more post or arrival.
+-- What a match table keeps, after one more post or arrival.
 use Rattle.std.proofs.Common.{ℕ, zero, suc, ◌+◌, ◌<◌, ◌≡◌, ◌&&◌, ◌||◌, Bool, true, false, not, if◌then◌else◌, inl, inr, List, [], ◌∷◌, ◌++◌, length, Option, Some, None, All, filter, find, map, reverse, take, drop, get_or, slice_get, slice_set, count_by, vec_capacity, refl, arith, sym, ap, ◌∙◌, subst, eq-eqb, append-nil}
 use Rattle.std.specs.Option.{IfSome, option_map}
 use Rattle.std.specs.List.{list_any}
@@ -15,29 +15,29 @@ use Rattle.goal_graph.specs.Action.{Act, same_op, happened}
 use Rattle.goal_graph.specs.Matching.{Pair, pair_of, fits, is_paired, new_pair, pairs}
 use Rattle.goal_graph.specs.Laws.{IsSend, IsReceive}
 use Rattle.goal_graph.proofs.ForCallers.{pairs_same, paired_stays}
-use Rattle.sim_match.specs.declared.ledger.Event.{Event}
-use Rattle.sim_match.specs.declared.lists.Lists.{Lists}
+use Rattle.sim_match.specs.declared.match_table.Event.{Event}
+use Rattle.sim_match.specs.declared.pattern_lists.PatternLists.{PatternLists}
 use Rattle.sim_match.specs.declared.pattern.Pattern.{Pattern}
-use Rattle.sim_match.specs.declared.rolls.Entry.{Entry}
-use Rattle.sim_match.specs.Heard.{send_for, receive_for}
+use Rattle.sim_match.specs.declared.match_list.MatchEntry.{MatchEntry}
+use Rattle.sim_match.specs.PostsAndArrivals.{send_for, receive_for}
 use Rattle.sim_match.specs.Patterns.{same_number, list_of, lists_for, in_list, for_list, IsListed}
-use Rattle.sim_match.specs.Rolls.{is_marked, entries_of, earlier, IsReady, IsFirst, IsPushed}
-use Rattle.sim_match.specs.Matcher.{act_of, heard_of, IsNew, ArePaired, IsRoll, receives_of, sends_of, AreLists, Mirrors, IsJoined}
-use Rattle.sim_match.proofs.Ops.{post_suits, arrival_suits, heard_fewer}
+use Rattle.sim_match.specs.MatchLists.{is_marked, entries_of, earlier, IsReady, IsFirst, IsPushed}
+use Rattle.sim_match.specs.Matcher.{act_of, actions_of, IsNew, ArePaired, IsMatchList, receives_of, sends_of, AreLists, Mirrors, IsJoined}
+use Rattle.sim_match.proofs.Ops.{post_suits, arrival_suits, actions_fewer}
 use Rattle.sim_match.proofs.Pairs.{in_pair, paired_more, pairs_with}
 use Rattle.sim_match.proofs.Written.{slice_get_written, slice_get_elsewhere}
 use Rattle.sim_match.proofs.Targets.{exists_kind}
 use Rattle.sim_match.proofs.Finding.{find_alike, find_agree, find_filter, find_none, find_all, find_either, filter_last, filter_last_passes}
 use Rattle.sim_match.proofs.PatternLemmas.{fits_list, fits_any, lists_once, lists_within}
 use Rattle.sim_match.proofs.Entries.{entries_same, entries_other, entries_order, oldest_entry, posted_receives, posted_exist, arrived_exist, entries_fewer}
-use Rattle.sim_match.proofs.RollLemmas.{roll_ready, roll_kept, roll_found, roll_pushed, roll_later}
+use Rattle.sim_match.proofs.MatchListLemmas.{match_list_ready, match_list_kept, match_list_found, match_list_pushed, match_list_later}
 
-pub length-heard_of : (events : List Event) → length (heard_of events) ≡ length events
-length-heard_of events = length-reverse (map act_of events) ∙ length-map events act_of
+pub length-actions_of : (events : List Event) → length (actions_of events) ≡ length events
+length-actions_of events = length-reverse (map act_of events) ∙ length-map events act_of
 
 -- one event more
-pub heard_of-push : (events : List Event) (e : Event) → heard_of (events ++ e ∷ []) ≡ act_of e ∷ heard_of events
-heard_of-push events e =
+pub actions_of-push : (events : List Event) (e : Event) → actions_of (events ++ e ∷ []) ≡ act_of e ∷ actions_of events
+actions_of-push events e =
     ap reverse (map_push act_of events e) ∙ reverse-append (map act_of events) (act_of e ∷ [])
 
 or_assoc : (s t u : Bool) → ((s || t) || u) ≡ (s || (t || u))
@@ -73,12 +73,12 @@ whole_back {X} n xs ys long all =
     ap (λ (zs : List X). take n (xs ++ zs)) rest ∙ ap (take n) (append-nil xs) ∙ take_all n xs (omega (arith, long, all))
 
 -- what is found exists
-pub met_exists : (plans : List Plan) (es : List Entry) (test : Entry → Bool) (met : Option Entry) → met ≡ find test es → All (λ (e : Entry). IsOp plans e.op) es → IfSome met (λ (e : Entry). IsOp plans e.op)
+pub met_exists : (plans : List Plan) (es : List MatchEntry) (test : MatchEntry → Bool) (met : Option MatchEntry) → met ≡ find test es → All (λ (e : MatchEntry). IsOp plans e.op) es → IfSome met (λ (e : MatchEntry). IsOp plans e.op)
 met_exists plans es test None e all = tt
-met_exists plans es test (Some f) e all = find_all (λ (e : Entry). IsOp plans e.op) test es f all (sym e)
+met_exists plans es test (Some f) e all = find_all (λ (e : MatchEntry). IsOp plans e.op) test es f all (sym e)
 
 -- who is paired after the newest action, by what it has met
-paired_after : (plans : List Plan) (a : Act) (h : List Act) (old new : List Bool) (met : Option Entry) (pairing : OpId → Pair) → ((z y : OpId) → in_pair (pairing z) y ≡ (same_op a.op y || same_op z y)) → new_pair plans (pairs plans h) h a.class a.op ≡ option_map pairing (option_map (λ (e : Entry). e.op) met) → ((x : OpId) → is_marked (operations plans) old x ≡ is_paired (pairs plans h) x) → ArePaired (operations plans) a.op met old new → (y : OpId) → is_marked (operations plans) new y ≡ is_paired (pairs plans (a ∷ h)) y
+paired_after : (plans : List Plan) (a : Act) (h : List Act) (old new : List Bool) (met : Option MatchEntry) (pairing : OpId → Pair) → ((z y : OpId) → in_pair (pairing z) y ≡ (same_op a.op y || same_op z y)) → new_pair plans (pairs plans h) h a.class a.op ≡ option_map pairing (option_map (λ (e : MatchEntry). e.op) met) → ((x : OpId) → is_marked (operations plans) old x ≡ is_paired (pairs plans h) x) → ArePaired (operations plans) a.op met old new → (y : OpId) → is_marked (operations plans) new y ≡ is_paired (pairs plans (a ∷ h)) y
 paired_after plans a h old new None pairing both makes marked changes y =
     changes y ∙ marked y ∙ ap (λ (ps : List Pair). is_paired ps y) (sym (pairs_same plans a h makes))
 paired_after plans a h old new (Some f) pairing both makes marked changes y =
@@ -100,51 +100,51 @@ module _ (plans : List Plan) (keys : List Pattern) (h : List Act) where
   abbrev arrival_of : OpId → Act
   arrival_of m = record { class = Arrive; op = m }
 
-  abbrev entry : OpId → Entry
+  abbrev entry : OpId → MatchEntry
   entry x = record { op = x; at = length h }
 
   receives_more : (x : OpId) (l : ℕ) → in_list plans keys l x ≡ true → receives_of plans keys (post_of x ∷ h) l ≡ receives_of plans keys h l ++ entry x ∷ []
   receives_more x l pass =
-      ap (filter (λ (e : Entry). in_list plans keys l e.op)) (entries_same Post (post_of x) h refl) ∙ filter_last_passes (λ (e : Entry). in_list plans keys l e.op) (entries_of Post h) (entry x) pass
+      ap (filter (λ (e : MatchEntry). in_list plans keys l e.op)) (entries_same Post (post_of x) h refl) ∙ filter_last_passes (λ (e : MatchEntry). in_list plans keys l e.op) (entries_of Post h) (entry x) pass
 
   receives_same : (x : OpId) (l : ℕ) → in_list plans keys l x ≡ false → receives_of plans keys (post_of x ∷ h) l ≡ receives_of plans keys h l
   receives_same x l fails =
-      ap (filter (λ (e : Entry). in_list plans keys l e.op)) (entries_same Post (post_of x) h refl) ∙ filter_last (λ (e : Entry). in_list plans keys l e.op) (entries_of Post h) (entry x) fails
+      ap (filter (λ (e : MatchEntry). in_list plans keys l e.op)) (entries_same Post (post_of x) h refl) ∙ filter_last (λ (e : MatchEntry). in_list plans keys l e.op) (entries_of Post h) (entry x) fails
 
   sends_same : (x : OpId) (l : ℕ) → sends_of plans keys (post_of x ∷ h) l ≡ sends_of plans keys h l
-  sends_same x l = ap (filter (λ (e : Entry). for_list plans keys l e.op)) (entries_other Arrive (post_of x) h refl)
+  sends_same x l = ap (filter (λ (e : MatchEntry). for_list plans keys l e.op)) (entries_other Arrive (post_of x) h refl)
 
   -- and after an arrival
   receives_stay : (m : OpId) (l : ℕ) → receives_of plans keys (arrival_of m ∷ h) l ≡ receives_of plans keys h l
-  receives_stay m l = ap (filter (λ (e : Entry). in_list plans keys l e.op)) (entries_other Post (arrival_of m) h refl)
+  receives_stay m l = ap (filter (λ (e : MatchEntry). in_list plans keys l e.op)) (entries_other Post (arrival_of m) h refl)
 
   sends_after : (m : OpId) (l : ℕ) → sends_of plans keys (arrival_of m ∷ h) l ≡ sends_of plans keys h l ++ (if list_any (same_number (Some l)) (lists_for plans keys m) then entry m ∷ [] else [])
   unfolding for_list
   sends_after m l =
-      ap (filter (λ (e : Entry). for_list plans keys l e.op)) (entries_same Arrive (arrival_of m) h refl) ∙ filter-append (λ (e : Entry). for_list plans keys l e.op) (entries_of Arrive h) (entry m ∷ [])
+      ap (filter (λ (e : MatchEntry). for_list plans keys l e.op)) (entries_same Arrive (arrival_of m) h refl) ∙ filter-append (λ (e : MatchEntry). for_list plans keys l e.op) (entries_of Arrive h) (entry m ∷ [])
 
-module _ (plans : List Plan) (keys : List Pattern) (lists : List Lists) (marks : List Bool) (h : List Act) (room : ℕ) (m : Mirrors plans keys lists marks h room) where
+module _ (plans : List Plan) (keys : List Pattern) (lists : List PatternLists) (marks : List Bool) (h : List Act) (room : ℕ) (m : Mirrors plans keys lists marks h room) where
   abbrev paired : OpId → Bool
   paired = is_paired (pairs plans h)
 
-  lists_read : (list : ℕ) (w : Lists) → list < length keys → w ≡ get_or lists list w → AreLists plans keys paired list (receives_of plans keys h list) (sends_of plans keys h list) w
+  lists_read : (list : ℕ) (w : PatternLists) → list < length keys → w ≡ get_or lists list w → AreLists plans keys paired list (receives_of plans keys h list) (sends_of plans keys h list) w
   lists_read list w within read =
       m.each list w (slice_get_read lists (length lists) list w refl (omega (arith, within, m.one_each)) read)
 
-  receives_exist : (list : ℕ) → All (λ (e : Entry). IsOp plans e.op) (receives_of plans keys h list)
-  receives_exist list = All-filter (λ (e : Entry). in_list plans keys list e.op) (λ (e : Entry). IsOp plans e.op) (entries_of Post h) (posted_exist plans h m.hearing)
+  receives_exist : (list : ℕ) → All (λ (e : MatchEntry). IsOp plans e.op) (receives_of plans keys h list)
+  receives_exist list = All-filter (λ (e : MatchEntry). in_list plans keys list e.op) (λ (e : MatchEntry). IsOp plans e.op) (entries_of Post h) (posted_exist plans h m.actions)
 
-  sends_exist : (list : ℕ) → All (λ (e : Entry). IsOp plans e.op) (sends_of plans keys h list)
-  sends_exist list = All-filter (λ (e : Entry). for_list plans keys list e.op) (λ (e : Entry). IsOp plans e.op) (entries_of Arrive h) (arrived_exist plans h m.hearing)
+  sends_exist : (list : ℕ) → All (λ (e : MatchEntry). IsOp plans e.op) (sends_of plans keys h list)
+  sends_exist list = All-filter (λ (e : MatchEntry). for_list plans keys list e.op) (λ (e : MatchEntry). IsOp plans e.op) (entries_of Arrive h) (arrived_exist plans h m.actions)
 
   -- a receive that is still to be posted
   module _ (x : OpId) (r : IsReceive plans x) (fresh : happened Post x h ≡ false) where
     new : IsNew plans h (post_of plans keys h x)
-    new = record { heard = refl; suited = post_suits plans x r; fresh = fresh }
+    new = record { class = refl; suited = post_suits plans x r; fresh = fresh }
 
-    pub post_heard_room : length h < room
-    post_heard_room =
-        let fewer = heard_fewer plans (post_of plans keys h x) h m.hearing new in
+    pub post_event_room : length h < room
+    post_event_room =
+        let fewer = actions_fewer plans (post_of plans keys h x) h m.actions new in
         omega (arith, fewer, m.roomy)
 
     pub post_exists : IsOp plans x
@@ -169,49 +169,49 @@ module _ (plans : List Plan) (keys : List Pattern) (lists : List Lists) (marks :
       unfolding in_list
       elsewhere l n = ap (λ (o : Option ℕ). same_number o (Some l)) is ∙ ne_eqb list l (λ e. n (sym e))
 
-      module _ (w : Lists) (read : w ≡ get_or lists list w) where
+      module _ (w : PatternLists) (read : w ≡ get_or lists list w) where
         old : AreLists plans keys paired list (receives_of plans keys h list) (sends_of plans keys h list) w
         old = lists_read list w post_in read
 
         pub post_ready : IsReady plans marks w.sends
-        post_ready = roll_ready _ _ _ w.sends (old).sends plans marks m.marked (sends_exist list) m.all_marks
+        post_ready = match_list_ready _ _ _ w.sends (old).sends plans marks m.marked (sends_exist list) m.all_marks
 
         pub post_room : length w.receives.entries.items < vec_capacity w.receives.entries
         post_room =
-            let fewer = entries_fewer plans h m.hearing (in_list plans keys list) Post x (post_suits plans x r) fresh here in
+            let fewer = entries_fewer plans h m.actions (in_list plans keys list) Post x (post_suits plans x r) fresh here in
             omega (arith, fewer, ap length (old).receives.entries, (old).receives.room)
 
-        module _ (v : Lists) (met : Option Entry) (first : IsFirst (is_marked (operations plans) marks) w.sends v.sends met) (pushed : IsPushed (entry plans keys h x) w.receives v.receives) where
-          post_met : met ≡ find (λ (e : Entry). not (paired e.op) && fits plans x e.op) (entries_of Arrive h)
+        module _ (v : PatternLists) (met : Option MatchEntry) (first : IsFirst (is_marked (operations plans) marks) w.sends v.sends met) (pushed : IsPushed (entry plans keys h x) w.receives v.receives) where
+          post_met : met ≡ find (λ (e : MatchEntry). not (paired e.op) && fits plans x e.op) (entries_of Arrive h)
           post_met =
-              roll_found _ _ _ w.sends (old).sends plans marks m.marked v.sends met first ∙ find_filter (λ (e : Entry). for_list plans keys list e.op) (λ (e : Entry). not (paired e.op)) (entries_of Arrive h) ∙ find_agree (λ (e : Entry). not (paired e.op) && for_list plans keys list e.op) (λ (e : Entry). not (paired e.op) && fits plans x e.op) (λ e. ap (λ (b : Bool). not (paired e.op) && b) (sym (fits_list plans keys x e.op list r is))) (entries_of Arrive h)
+              match_list_found _ _ _ w.sends (old).sends plans marks m.marked v.sends met first ∙ find_filter (λ (e : MatchEntry). for_list plans keys list e.op) (λ (e : MatchEntry). not (paired e.op)) (entries_of Arrive h) ∙ find_agree (λ (e : MatchEntry). not (paired e.op) && for_list plans keys list e.op) (λ (e : MatchEntry). not (paired e.op) && fits plans x e.op) (λ e. ap (λ (b : Bool). not (paired e.op) && b) (sym (fits_list plans keys x e.op list r is))) (entries_of Arrive h)
 
-          post_makes : new_pair plans (pairs plans h) h Post x ≡ option_map (λ (z : OpId). pair_of z x) (option_map (λ (e : Entry). e.op) met)
+          post_makes : new_pair plans (pairs plans h) h Post x ≡ option_map (λ (z : OpId). pair_of z x) (option_map (λ (e : MatchEntry). e.op) met)
           post_makes =
-              ap (option_map (λ (z : OpId). pair_of z x)) (oldest_entry Arrive (λ (z : OpId). not (paired z)) (fits plans x) h ∙ ap (option_map (λ (e : Entry). e.op)) (sym post_met))
+              ap (option_map (λ (z : OpId). pair_of z x)) (oldest_entry Arrive (λ (z : OpId). not (paired z)) (fits plans x) h ∙ ap (option_map (λ (e : MatchEntry). e.op)) (sym post_met))
 
-          pub post_answers : option_map (λ (e : Entry). e.op) met ≡ send_for plans h x
+          pub post_answers : option_map (λ (e : MatchEntry). e.op) met ≡ send_for plans h x
           post_answers = sym (ap (option_map (λ (p : Pair). p.send)) post_makes ∙ its_send x _)
 
-          pub post_met_exists : IfSome met (λ (e : Entry). IsOp plans e.op)
-          post_met_exists = met_exists plans (entries_of Arrive h) _ met post_met (arrived_exist plans h m.hearing)
+          pub post_met_exists : IfSome met (λ (e : MatchEntry). IsOp plans e.op)
+          post_met_exists = met_exists plans (entries_of Arrive h) _ met post_met (arrived_exist plans h m.actions)
 
           later : (y : OpId) → paired y ≡ true → is_paired (pairs plans (post_of plans keys h x ∷ h)) y ≡ true
           later y = paired_stays plans (post_of plans keys h x) h y
 
           post_here : AreLists plans keys (is_paired (pairs plans (post_of plans keys h x ∷ h))) list (receives_of plans keys (post_of plans keys h x ∷ h) list) (sends_of plans keys (post_of plans keys h x ∷ h) list) v
           post_here = record {
-            receives = subst (λ (es : List Entry). IsRoll es (is_paired (pairs plans (post_of plans keys h x ∷ h))) (count_by (in_list plans keys list) (operations plans)) v.receives) (sym (receives_more plans keys h x list here)) (roll_later _ _ _ v.receives (roll_pushed _ _ _ w.receives (old).receives (entry plans keys h x) v.receives pushed) _ later);
-            sends = subst (λ (es : List Entry). IsRoll es (is_paired (pairs plans (post_of plans keys h x ∷ h))) (count_by (for_list plans keys list) (operations plans)) v.sends) (sym (sends_same plans keys h x list)) (roll_later _ _ _ v.sends (roll_kept _ _ _ w.sends (old).sends plans marks m.marked v.sends met first) _ later);
+            receives = subst (λ (es : List MatchEntry). IsMatchList es (is_paired (pairs plans (post_of plans keys h x ∷ h))) (count_by (in_list plans keys list) (operations plans)) v.receives) (sym (receives_more plans keys h x list here)) (match_list_later _ _ _ v.receives (match_list_pushed _ _ _ w.receives (old).receives (entry plans keys h x) v.receives pushed) _ later);
+            sends = subst (λ (es : List MatchEntry). IsMatchList es (is_paired (pairs plans (post_of plans keys h x ∷ h))) (count_by (for_list plans keys list) (operations plans)) v.sends) (sym (sends_same plans keys h x list)) (match_list_later _ _ _ v.sends (match_list_kept _ _ _ w.sends (old).sends plans marks m.marked v.sends met first) _ later);
           }
 
-          post_elsewhere : (l : ℕ) (u : Lists) → (l ≡ list → ⊥) → AreLists plans keys paired l (receives_of plans keys h l) (sends_of plans keys h l) u → AreLists plans keys (is_paired (pairs plans (post_of plans keys h x ∷ h))) l (receives_of plans keys (post_of plans keys h x ∷ h) l) (sends_of plans keys (post_of plans keys h x ∷ h) l) u
+          post_elsewhere : (l : ℕ) (u : PatternLists) → (l ≡ list → ⊥) → AreLists plans keys paired l (receives_of plans keys h l) (sends_of plans keys h l) u → AreLists plans keys (is_paired (pairs plans (post_of plans keys h x ∷ h))) l (receives_of plans keys (post_of plans keys h x ∷ h) l) (sends_of plans keys (post_of plans keys h x ∷ h) l) u
           post_elsewhere l u n before = record {
-            receives = subst (λ (es : List Entry). IsRoll es (is_paired (pairs plans (post_of plans keys h x ∷ h))) (count_by (in_list plans keys l) (operations plans)) u.receives) (sym (receives_same plans keys h x l (elsewhere l n))) (roll_later _ _ _ u.receives before.receives _ later);
-            sends = subst (λ (es : List Entry). IsRoll es (is_paired (pairs plans (post_of plans keys h x ∷ h))) (count_by (for_list plans keys l) (operations plans)) u.sends) (sym (sends_same plans keys h x l)) (roll_later _ _ _ u.sends before.sends _ later);
+            receives = subst (λ (es : List MatchEntry). IsMatchList es (is_paired (pairs plans (post_of plans keys h x ∷ h))) (count_by (in_list plans keys l) (operations plans)) u.receives) (sym (receives_same plans keys h x l (elsewhere l n))) (match_list_later _ _ _ u.receives before.receives _ later);
+            sends = subst (λ (es : List MatchEntry). IsMatchList es (is_paired (pairs plans (post_of plans keys h x ∷ h))) (count_by (for_list plans keys l) (operations plans)) u.sends) (sym (sends_same plans keys h x l)) (match_list_later _ _ _ u.sends before.sends _ later);
           }
 
-          post_each : (l : ℕ) (u : Lists) → slice_get (slice_set lists list v) l ≡ Some u → AreLists plans keys (is_paired (pairs plans (post_of plans keys h x ∷ h))) l (receives_of plans keys (post_of plans keys h x ∷ h) l) (sends_of plans keys (post_of plans keys h x ∷ h) l) u
+          post_each : (l : ℕ) (u : PatternLists) → slice_get (slice_set lists list v) l ≡ Some u → AreLists plans keys (is_paired (pairs plans (post_of plans keys h x ∷ h))) l (receives_of plans keys (post_of plans keys h x ∷ h) l) (sends_of plans keys (post_of plans keys h x ∷ h) l) u
           post_each l u e = elim (cases_eq l list) [
             | inl same ↦ subst (λ (k : ℕ). AreLists plans keys (is_paired (pairs plans (post_of plans keys h x ∷ h))) k (receives_of plans keys (post_of plans keys h x ∷ h) k) (sends_of plans keys (post_of plans keys h x ∷ h) k) u) (sym same) (subst (AreLists plans keys (is_paired (pairs plans (post_of plans keys h x ∷ h))) list (receives_of plans keys (post_of plans keys h x ∷ h) list) (sends_of plans keys (post_of plans keys h x ∷ h) list)) (slice_get_written lists list v u (subst (λ (k : ℕ). slice_get (slice_set lists list v) k ≡ Some u) same e)) post_here)
             | inr n ↦ post_elsewhere l u n (m.each l u (sym (slice_get_elsewhere lists list l v n) ∙ e))
@@ -220,7 +220,7 @@ module _ (plans : List Plan) (keys : List Pattern) (lists : List Lists) (marks :
           pub post_keeps : (after : List Bool) → ArePaired (operations plans) x met marks after → length after ≡ length marks → Mirrors plans keys (slice_set lists list v) after (post_of plans keys h x ∷ h) room
           post_keeps after changes long = record {
             accepted = m.accepted;
-            hearing = (m.hearing, new);
+            actions = (m.actions, new);
             listed = m.listed;
             one_each = length-set lists list v ∙ m.one_each;
             each = post_each;
@@ -232,32 +232,32 @@ module _ (plans : List Plan) (keys : List Pattern) (lists : List Lists) (marks :
   -- a send that is still to arrive
   module _ (y : OpId) (s : IsSend plans y) (fresh : happened Arrive y h ≡ false) where
     coming : IsNew plans h (arrival_of plans keys h y)
-    coming = record { heard = refl; suited = arrival_suits plans y s; fresh = fresh }
+    coming = record { class = refl; suited = arrival_suits plans y s; fresh = fresh }
 
-    pub arrival_heard_room : length h < room
-    arrival_heard_room =
-        let fewer = heard_fewer plans (arrival_of plans keys h y) h m.hearing coming in
+    pub arrival_event_room : length h < room
+    arrival_event_room =
+        let fewer = actions_fewer plans (arrival_of plans keys h y) h m.actions coming in
         omega (arith, fewer, m.roomy)
 
     pub arrival_exists : IsOp plans y
     arrival_exists = exists_kind plans y _ s.kind
 
-    abbrev joins : List (Option ℕ) → ℕ → List Entry
+    abbrev joins : List (Option ℕ) → ℕ → List MatchEntry
     joins numbers l = sends_of plans keys h l ++ (if list_any (same_number (Some l)) numbers then entry plans keys h y ∷ [] else [])
 
-    abbrev meets : List (Option ℕ) → Entry → Bool
+    abbrev meets : List (Option ℕ) → MatchEntry → Bool
     meets numbers e = not (paired e.op) && list_any (same_number (list_of plans keys e.op)) numbers
 
     -- before any of its lists
     pub joined_none : IsJoined plans keys h y [] lists None
     joined_none = record {
       one_each = m.one_each;
-      each = λ l w e. let before = m.each l w e in record { receives = before.receives; sends = subst (λ (es : List Entry). IsRoll es paired (count_by (for_list plans keys l) (operations plans)) w.sends) (sym (append-nil (sends_of plans keys h l))) before.sends };
+      each = λ l w e. let before = m.each l w e in record { receives = before.receives; sends = subst (λ (es : List MatchEntry). IsMatchList es paired (count_by (for_list plans keys l) (operations plans)) w.sends) (sym (append-nil (sends_of plans keys h l))) before.sends };
       found = sym (find_none (meets []) (entries_of Post h) (λ k d b. and_none (not (paired (get_or (entries_of Post h) k d).op))));
     }
 
     -- after some of them
-    module _ (k : ℕ) (d : Option ℕ) (inside : k < length (lists_for plans keys y)) (now : List Lists) (met : Option Entry) (j : IsJoined plans keys h y (take k (lists_for plans keys y)) now met) where
+    module _ (k : ℕ) (d : Option ℕ) (inside : k < length (lists_for plans keys y)) (now : List PatternLists) (met : Option MatchEntry) (j : IsJoined plans keys h y (take k (lists_for plans keys y)) now met) where
       abbrev numbers : List (Option ℕ)
       numbers = lists_for plans keys y
 
@@ -268,7 +268,7 @@ module _ (plans : List Plan) (keys : List Pattern) (lists : List Lists) (marks :
       pub joined_without : get_or (lists_for plans keys y) k d ≡ None → IsJoined plans keys h y (take (k + 1) (lists_for plans keys y)) now met
       joined_without absent = record {
         one_each = j.one_each;
-        each = λ l w e. let before = j.each l w e in record { receives = before.receives; sends = subst (λ (b : Bool). IsRoll (sends_of plans keys h l ++ (if b then entry plans keys h y ∷ [] else [])) paired (count_by (for_list plans keys l) (operations plans)) w.sends) (sym (same (Some l))) before.sends };
+        each = λ l w e. let before = j.each l w e in record { receives = before.receives; sends = subst (λ (b : Bool). IsMatchList (sends_of plans keys h l ++ (if b then entry plans keys h y ∷ [] else [])) paired (count_by (for_list plans keys l) (operations plans)) w.sends) (sym (same (Some l))) before.sends };
         found = j.found ∙ find_agree (meets (take k numbers)) (meets (take (k + 1) numbers)) (λ e. ap (λ (b : Bool). not (paired e.op) && b) (sym (same (list_of plans keys e.op)))) (entries_of Post h);
       }
         where
@@ -291,16 +291,16 @@ module _ (plans : List Plan) (keys : List Pattern) (lists : List Lists) (marks :
         pub join_within : i < length now
         join_within = let within = lists_within plans keys y s k i at in omega (arith, within, j.one_each)
 
-        module _ (w : Lists) (read : w ≡ get_or now i w) where
+        module _ (w : PatternLists) (read : w ≡ get_or now i w) where
           was : AreLists plans keys paired i (receives_of plans keys h i) (joins (take k (lists_for plans keys y)) i) w
           was = j.each i w (slice_get_read now (length now) i w refl join_within read)
 
-          sends_were : IsRoll (sends_of plans keys h i) paired (count_by (for_list plans keys i) (operations plans)) w.sends
+          sends_were : IsMatchList (sends_of plans keys h i) paired (count_by (for_list plans keys i) (operations plans)) w.sends
           sends_were =
-              subst (λ (es : List Entry). IsRoll es paired (count_by (for_list plans keys i) (operations plans)) w.sends) (ap (λ (b : Bool). sends_of plans keys h i ++ (if b then entry plans keys h y ∷ [] else [])) unseen ∙ append-nil (sends_of plans keys h i)) (was).sends
+              subst (λ (es : List MatchEntry). IsMatchList es paired (count_by (for_list plans keys i) (operations plans)) w.sends) (ap (λ (b : Bool). sends_of plans keys h i ++ (if b then entry plans keys h y ∷ [] else [])) unseen ∙ append-nil (sends_of plans keys h i)) (was).sends
 
           pub join_ready : IsReady plans marks w.receives
-          join_ready = roll_ready _ _ _ w.receives (was).receives plans marks m.marked (receives_exist i) m.all_marks
+          join_ready = match_list_ready _ _ _ w.receives (was).receives plans marks m.marked (receives_exist i) m.all_marks
 
           for_it : for_list plans keys i y ≡ true
           unfolding for_list
@@ -308,35 +308,35 @@ module _ (plans : List Plan) (keys : List Pattern) (lists : List Lists) (marks :
 
           pub join_room : length w.sends.entries.items < vec_capacity w.sends.entries
           join_room =
-              let fewer = entries_fewer plans h m.hearing (for_list plans keys i) Arrive y (arrival_suits plans y s) fresh for_it in
-              let roll = sends_were in
-              omega (arith, fewer, ap length roll.entries, roll.room)
+              let fewer = entries_fewer plans h m.actions (for_list plans keys i) Arrive y (arrival_suits plans y s) fresh for_it in
+              let match_list = sends_were in
+              omega (arith, fewer, ap length match_list.entries, match_list.room)
 
-          module _ (v : Lists) (first : Option Entry) (f : IsFirst (is_marked (operations plans) marks) w.receives v.receives first) (pushed : IsPushed (entry plans keys h y) w.sends v.sends) where
+          module _ (v : PatternLists) (first : Option MatchEntry) (f : IsFirst (is_marked (operations plans) marks) w.receives v.receives first) (pushed : IsPushed (entry plans keys h y) w.sends v.sends) where
             join_here : AreLists plans keys paired i (receives_of plans keys h i) (joins (take (k + 1) (lists_for plans keys y)) i) v
             join_here = record {
-              receives = roll_kept _ _ _ w.receives (was).receives plans marks m.marked v.receives first f;
-              sends = subst (λ (b : Bool). IsRoll (sends_of plans keys h i ++ (if b then entry plans keys h y ∷ [] else [])) paired (count_by (for_list plans keys i) (operations plans)) v.sends) (sym seen) (roll_pushed _ _ _ w.sends sends_were (entry plans keys h y) v.sends pushed);
+              receives = match_list_kept _ _ _ w.receives (was).receives plans marks m.marked v.receives first f;
+              sends = subst (λ (b : Bool). IsMatchList (sends_of plans keys h i ++ (if b then entry plans keys h y ∷ [] else [])) paired (count_by (for_list plans keys i) (operations plans)) v.sends) (sym seen) (match_list_pushed _ _ _ w.sends sends_were (entry plans keys h y) v.sends pushed);
             }
               where
                 seen : list_any (same_number (Some i)) (take (k + 1) numbers) ≡ true
                 seen = more (same_number (Some i)) ∙ ap (λ (b : Bool). b || same_number (Some i) (get_or numbers k d)) unseen ∙ ap (same_number (Some i)) is ∙ eq-eqb i i refl
 
-            join_elsewhere : (l : ℕ) (u : Lists) → (l ≡ i → ⊥) → AreLists plans keys paired l (receives_of plans keys h l) (joins (take k (lists_for plans keys y)) l) u → AreLists plans keys paired l (receives_of plans keys h l) (joins (take (k + 1) (lists_for plans keys y)) l) u
+            join_elsewhere : (l : ℕ) (u : PatternLists) → (l ≡ i → ⊥) → AreLists plans keys paired l (receives_of plans keys h l) (joins (take k (lists_for plans keys y)) l) u → AreLists plans keys paired l (receives_of plans keys h l) (joins (take (k + 1) (lists_for plans keys y)) l) u
             join_elsewhere l u n before = record {
               receives = before.receives;
-              sends = subst (λ (b : Bool). IsRoll (sends_of plans keys h l ++ (if b then entry plans keys h y ∷ [] else [])) paired (count_by (for_list plans keys l) (operations plans)) u.sends) (sym same) before.sends;
+              sends = subst (λ (b : Bool). IsMatchList (sends_of plans keys h l ++ (if b then entry plans keys h y ∷ [] else [])) paired (count_by (for_list plans keys l) (operations plans)) u.sends) (sym same) before.sends;
             }
               where
                 same : list_any (same_number (Some l)) (take (k + 1) numbers) ≡ list_any (same_number (Some l)) (take k numbers)
                 same = more (same_number (Some l)) ∙ ap (λ (b : Bool). list_any (same_number (Some l)) (take k numbers) || b) (ap (same_number (Some l)) is ∙ ne_eqb l i n) ∙ or_none (list_any (same_number (Some l)) (take k numbers))
 
-            first_here : first ≡ find (λ (e : Entry). not (paired e.op) && same_number (list_of plans keys e.op) (Some i)) (entries_of Post h)
+            first_here : first ≡ find (λ (e : MatchEntry). not (paired e.op) && same_number (list_of plans keys e.op) (Some i)) (entries_of Post h)
             unfolding in_list
             first_here =
-                roll_found _ _ _ w.receives (was).receives plans marks m.marked v.receives first f ∙ find_filter (λ (e : Entry). in_list plans keys i e.op) (λ (e : Entry). not (paired e.op)) (entries_of Post h)
+                match_list_found _ _ _ w.receives (was).receives plans marks m.marked v.receives first f ∙ find_filter (λ (e : MatchEntry). in_list plans keys i e.op) (λ (e : MatchEntry). not (paired e.op)) (entries_of Post h)
 
-            either : (e : Entry) → meets (take (k + 1) (lists_for plans keys y)) e ≡ (meets (take k (lists_for plans keys y)) e || (not (paired e.op) && same_number (list_of plans keys e.op) (Some i)))
+            either : (e : MatchEntry) → meets (take (k + 1) (lists_for plans keys y)) e ≡ (meets (take k (lists_for plans keys y)) e || (not (paired e.op) && same_number (list_of plans keys e.op) (Some i)))
             either e =
                 ap (λ (b : Bool). not (paired e.op) && b) (more (same_number (list_of plans keys e.op)) ∙ ap (λ (o : Option ℕ). list_any (same_number (list_of plans keys e.op)) (take k numbers) || same_number (list_of plans keys e.op) o) is) ∙ and_or (not (paired e.op)) (list_any (same_number (list_of plans keys e.op)) (take k numbers)) (same_number (list_of plans keys e.op) (Some i))
 
@@ -348,34 +348,34 @@ module _ (plans : List Plan) (keys : List Pattern) (lists : List Lists) (marks :
                 | inr n ↦ join_elsewhere l u n (j.each l u (sym (slice_get_elsewhere now i l v n) ∙ e))
               ];
               found =
-                  ap (λ (o : Option Entry). earlier o first) j.found ∙ ap (earlier (find (meets (take k numbers)) (entries_of Post h))) first_here ∙ sym (find_agree (meets (take (k + 1) numbers)) (λ (e : Entry). meets (take k numbers) e || (not (paired e.op) && same_number (list_of plans keys e.op) (Some i))) either (entries_of Post h) ∙ find_either (meets (take k numbers)) (λ (e : Entry). not (paired e.op) && same_number (list_of plans keys e.op) (Some i)) (entries_of Post h) (entries_order Post h));
+                  ap (λ (o : Option MatchEntry). earlier o first) j.found ∙ ap (earlier (find (meets (take k numbers)) (entries_of Post h))) first_here ∙ sym (find_agree (meets (take (k + 1) numbers)) (λ (e : MatchEntry). meets (take k numbers) e || (not (paired e.op) && same_number (list_of plans keys e.op) (Some i))) either (entries_of Post h) ∙ find_either (meets (take k numbers)) (λ (e : MatchEntry). not (paired e.op) && same_number (list_of plans keys e.op) (Some i)) (entries_of Post h) (entries_order Post h));
             }
 
     -- after all of them
-    module _ (after : List Lists) (met : Option Entry) (j : IsJoined plans keys h y (lists_for plans keys y) after met) where
-      arrival_met : met ≡ find (λ (e : Entry). not (paired e.op) && fits plans e.op y) (entries_of Post h)
+    module _ (after : List PatternLists) (met : Option MatchEntry) (j : IsJoined plans keys h y (lists_for plans keys y) after met) where
+      arrival_met : met ≡ find (λ (e : MatchEntry). not (paired e.op) && fits plans e.op y) (entries_of Post h)
       arrival_met =
-          j.found ∙ find_alike (meets (lists_for plans keys y)) (λ (e : Entry). not (paired e.op) && fits plans e.op y) (entries_of Post h) (All-weaker (λ (e : Entry). IsReceive plans e.op) (λ (e : Entry). meets (lists_for plans keys y) e ≡ (not (paired e.op) && fits plans e.op y)) (λ e r. ap (λ (b : Bool). not (paired e.op) && b) (fits_any plans keys e.op y r (m.listed e.op r))) (entries_of Post h) (posted_receives plans h m.hearing))
+          j.found ∙ find_alike (meets (lists_for plans keys y)) (λ (e : MatchEntry). not (paired e.op) && fits plans e.op y) (entries_of Post h) (All-weaker (λ (e : MatchEntry). IsReceive plans e.op) (λ (e : MatchEntry). meets (lists_for plans keys y) e ≡ (not (paired e.op) && fits plans e.op y)) (λ e r. ap (λ (b : Bool). not (paired e.op) && b) (fits_any plans keys e.op y r (m.listed e.op r))) (entries_of Post h) (posted_receives plans h m.actions))
 
-      arrival_makes : new_pair plans (pairs plans h) h Arrive y ≡ option_map (λ (z : OpId). pair_of y z) (option_map (λ (e : Entry). e.op) met)
+      arrival_makes : new_pair plans (pairs plans h) h Arrive y ≡ option_map (λ (z : OpId). pair_of y z) (option_map (λ (e : MatchEntry). e.op) met)
       arrival_makes =
-          ap (option_map (λ (z : OpId). pair_of y z)) (oldest_entry Post (λ (z : OpId). not (paired z)) (λ (z : OpId). fits plans z y) h ∙ ap (option_map (λ (e : Entry). e.op)) (sym arrival_met))
+          ap (option_map (λ (z : OpId). pair_of y z)) (oldest_entry Post (λ (z : OpId). not (paired z)) (λ (z : OpId). fits plans z y) h ∙ ap (option_map (λ (e : MatchEntry). e.op)) (sym arrival_met))
 
-      pub arrival_answers : option_map (λ (e : Entry). e.op) met ≡ receive_for plans h y
+      pub arrival_answers : option_map (λ (e : MatchEntry). e.op) met ≡ receive_for plans h y
       arrival_answers = sym (ap (option_map (λ (p : Pair). p.recv)) arrival_makes ∙ its_receive y _)
 
-      pub arrival_met_exists : IfSome met (λ (e : Entry). IsOp plans e.op)
-      arrival_met_exists = met_exists plans (entries_of Post h) _ met arrival_met (posted_exist plans h m.hearing)
+      pub arrival_met_exists : IfSome met (λ (e : MatchEntry). IsOp plans e.op)
+      arrival_met_exists = met_exists plans (entries_of Post h) _ met arrival_met (posted_exist plans h m.actions)
 
       pub arrival_keeps : (marks' : List Bool) → ArePaired (operations plans) y met marks marks' → length marks' ≡ length marks → Mirrors plans keys after marks' (arrival_of plans keys h y ∷ h) room
       arrival_keeps marks' changes long = record {
         accepted = m.accepted;
-        hearing = (m.hearing, coming);
+        actions = (m.actions, coming);
         listed = m.listed;
         one_each = j.one_each;
         each = λ l u e. let before = j.each l u e in record {
-          receives = subst (λ (es : List Entry). IsRoll es (is_paired (pairs plans (arrival_of plans keys h y ∷ h))) (count_by (in_list plans keys l) (operations plans)) u.receives) (sym (receives_stay plans keys h y l)) (roll_later _ _ _ u.receives before.receives _ (paired_stays plans (arrival_of plans keys h y) h));
-          sends = subst (λ (es : List Entry). IsRoll es (is_paired (pairs plans (arrival_of plans keys h y ∷ h))) (count_by (for_list plans keys l) (operations plans)) u.sends) (sym (sends_after plans keys h y l)) (roll_later _ _ _ u.sends before.sends _ (paired_stays plans (arrival_of plans keys h y) h));
+          receives = subst (λ (es : List MatchEntry). IsMatchList es (is_paired (pairs plans (arrival_of plans keys h y ∷ h))) (count_by (in_list plans keys l) (operations plans)) u.receives) (sym (receives_stay plans keys h y l)) (match_list_later _ _ _ u.receives before.receives _ (paired_stays plans (arrival_of plans keys h y) h));
+          sends = subst (λ (es : List MatchEntry). IsMatchList es (is_paired (pairs plans (arrival_of plans keys h y ∷ h))) (count_by (for_list plans keys l) (operations plans)) u.sends) (sym (sends_after plans keys h y l)) (match_list_later _ _ _ u.sends before.sends _ (paired_stays plans (arrival_of plans keys h y) h));
         };
         marked = paired_after plans (arrival_of plans keys h y) h marks marks' met (λ (z : OpId). pair_of y z) (λ z x. refl) arrival_makes m.marked changes;
         all_marks = omega (arith, m.all_marks, long);

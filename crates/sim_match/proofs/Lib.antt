@@ -6,10 +6,10 @@ pub mod Finding
 pub mod PatternLemmas
 pub mod Marks
 pub mod Entries
-pub mod RollLemmas
+pub mod MatchListLemmas
 pub mod Kept
-pub mod RoomLemmas
+pub mod CapacityLemmas
 pub mod Begun
-pub mod HeardLemmas
+pub mod PostsAndArrivalsLemmas
 pub mod Partnered
 pub mod ForCallers

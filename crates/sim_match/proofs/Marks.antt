@@ -6,7 +6,7 @@ use Rattle.goal_graph.specs.declared.action.OpId.{OpId}
 use Rattle.goal_graph.specs.Action.{same_op}
 use Rattle.goal_graph.specs.Schedule.{Plan, operations}
 use Rattle.goal_graph.proofs.ForCallers.{same_op_true, same_op_from, operations_differ}
-use Rattle.sim_match.specs.Rolls.{is_marked, IsMarked}
+use Rattle.sim_match.specs.MatchLists.{is_marked, IsMarked}
 
 apart_there : {X : Type 0} (y : X) (ys : List X) → AllPairs (λ (x z : X). x ≢ z) (y ∷ ys) → (i : ℕ) (z : X) → slice_get ys i ≡ Some z → y ≢ z
 apart_there y ys apart i z e same =

@@ -1,4 +1,4 @@
--- The operations of what was heard: each is there once, of the right kind, and there are no more than the schedule has.
+-- The operations that were posted or have arrived: each is there once, of the right kind, and there are no more than the schedule has.
 use Rattle.std.proofs.Common.{◌+◌, ◌<◌, ◌≤◌, ◌≡◌, ◌≢◌, ◌==◌, ◌&&◌, ◌⊎◌, Bool, true, false, not, cond, if◌then◌else◌, inl, inr, List, [], ◌∷◌, ◌++◌, length, Option, Some, None, All, AllPairs, Contains, find, count_by, refl, arith, sym, ap, ap₂, ◌∙◌, subst}
 use Rattle.std.specs.Option.{option_or}
 use Rattle.std.proofs.lemmas.Bool.{cases_Bool, eqb-true, and_parts, and_from, and_right, both_ways, not-true, not_from_true, not_from_false}
@@ -16,9 +16,9 @@ use Rattle.goal_graph.specs.Schedule.{Plan, kind_at, operations}
 use Rattle.goal_graph.specs.Action.{Act, place, happened, oldest}
 use Rattle.goal_graph.specs.Laws.{IsSend, IsReceive, has_class}
 use Rattle.goal_graph.proofs.ForCallers.{place_same, is_act_class, is_act_op, is_act_from, happened_stays, happened_new, happened_now, happened_none, happened_cases, happened_before, kind_listed, count_falls, count_le}
-use Rattle.sim_match.specs.Heard.{is_heard_class}
+use Rattle.sim_match.specs.PostsAndArrivals.{is_post_or_arrival_class}
 use Rattle.sim_match.specs.Waiting.{ops_of, is_message, is_message_kind}
-use Rattle.sim_match.specs.Matcher.{IsNew, IsHearing}
+use Rattle.sim_match.specs.Matcher.{IsNew, ArePostsAndArrivals}
 
 -- the operations after one more action, of that class and of another
 pub ops_same : (class : Class) (a : Act) (h : List Act) → (place a.class == place class) ≡ true → ops_of class (a ∷ h) ≡ ops_of class h ++ a.op ∷ []
@@ -90,13 +90,13 @@ module _ (plans : List Plan) where
   arrival_suits m s = ap (λ (k : Option Kind). has_class k Arrive) s.kind
 
   -- what has happened suits the kind of its operation
-  pub heard_suits : (h : List Act) (c : Class) (x : OpId) → IsHearing plans h → happened c x h ≡ true → has_class (kind_at plans x) c ≡ true
-  heard_suits [] c x i e = absurd (both_ways _ (happened_none c x) e)
-  heard_suits (a ∷ h) c x i e =
-      elim (happened_cases c x a h e) [ inl was ↦ heard_suits h c x i.0 was | inr now ↦ subst (λ (y : OpId). has_class (kind_at plans y) c ≡ true) (is_act_op c x a now) (subst (λ (d : Class). has_class (kind_at plans a.op) d ≡ true) (is_act_class c x a now) i.1.suited) ]
+  pub action_suits : (h : List Act) (c : Class) (x : OpId) → ArePostsAndArrivals plans h → happened c x h ≡ true → has_class (kind_at plans x) c ≡ true
+  action_suits [] c x i e = absurd (both_ways _ (happened_none c x) e)
+  action_suits (a ∷ h) c x i e =
+      elim (happened_cases c x a h e) [ inl was ↦ action_suits h c x i.0 was | inr now ↦ subst (λ (y : OpId). has_class (kind_at plans y) c ≡ true) (is_act_op c x a now) (subst (λ (d : Class). has_class (kind_at plans a.op) d ≡ true) (is_act_class c x a now) i.1.suited) ]
 
   -- no operation stands twice
-  pub ops_apart : (class : Class) (h : List Act) → IsHearing plans h → AllPairs (λ (x y : OpId). x ≢ y) (ops_of class h)
+  pub ops_apart : (class : Class) (h : List Act) → ArePostsAndArrivals plans h → AllPairs (λ (x y : OpId). x ≢ y) (ops_of class h)
   unfolding ops_of
   ops_apart class [] i = λ j k d l b. absurd (omega arith)
   ops_apart class (a ∷ h) i = more (ops_apart class h i.0) (cases_Bool (place a.class == place class))
@@ -111,40 +111,40 @@ module _ (plans : List Plan) where
       more before (inr f) = subst (AllPairs (λ (x y : OpId). x ≢ y)) (sym (ops_other class a h f)) before
 
   -- an operation that passes the test and whose action of that class has not happened
-  abbrev unheard : (OpId → Bool) → Class → List Act → OpId → Bool
-  unheard test class h x = test x && not (happened class x h)
+  abbrev still_to_come : (OpId → Bool) → Class → List Act → OpId → Bool
+  still_to_come test class h x = test x && not (happened class x h)
 
-  unheard_before : (test : OpId → Bool) (class : Class) (a : Act) (h : List Act) (x : OpId) → unheard test class (a ∷ h) x ≡ true → unheard test class h x ≡ true
-  unheard_before test class a h x e =
+  to_come_before_of : (test : OpId → Bool) (class : Class) (a : Act) (h : List Act) (x : OpId) → still_to_come test class (a ∷ h) x ≡ true → still_to_come test class h x ≡ true
+  to_come_before_of test class a h x e =
       let parts = and_parts (test x) (not (happened class x (a ∷ h))) e in
       and_from _ _ parts.0 (not_from_false _ (happened_before class x a h (not-true _ parts.1)))
 
-  unheard_now : (test : OpId → Bool) (class : Class) (a : Act) (h : List Act) → a.class ≡ class → unheard test class (a ∷ h) a.op ≡ false
-  unheard_now test class a h e =
+  to_come_now_of : (test : OpId → Bool) (class : Class) (a : Act) (h : List Act) → a.class ≡ class → still_to_come test class (a ∷ h) a.op ≡ false
+  to_come_now_of test class a h e =
       and_right (test a.op) _ (not_from_true _ (happened_new class a.op a h (is_act_from class a.op a e refl)))
 
   -- The operations of a class that pass a test, and those that are still to come, are among those of the schedule.
-  pub ops_within : (test : OpId → Bool) (class : Class) (h : List Act) → IsHearing plans h → count_by test (ops_of class h) + count_by (unheard test class h) (operations plans) ≤ count_by test (operations plans)
+  pub ops_within : (test : OpId → Bool) (class : Class) (h : List Act) → ArePostsAndArrivals plans h → count_by test (ops_of class h) + count_by (still_to_come test class h) (operations plans) ≤ count_by test (operations plans)
   unfolding ops_of
   ops_within test class [] i =
-      let all = count_le test (unheard test class []) (operations plans) (λ x e. (and_parts (test x) _ e).0) in
+      let all = count_le test (still_to_come test class []) (operations plans) (λ x e. (and_parts (test x) _ e).0) in
       omega (arith, all)
   ops_within test class (a ∷ h) i =
       more (ops_within test class h i.0) (cases_Bool (place a.class == place class)) (cases_Bool (test a.op))
     where
-      stays : count_by (unheard test class (a ∷ h)) (operations plans) ≤ count_by (unheard test class h) (operations plans)
+      stays : count_by (still_to_come test class (a ∷ h)) (operations plans) ≤ count_by (still_to_come test class h) (operations plans)
       stays =
-          count_le (unheard test class h) (unheard test class (a ∷ h)) (operations plans) (unheard_before test class a h)
+          count_le (still_to_come test class h) (still_to_come test class (a ∷ h)) (operations plans) (to_come_before_of test class a h)
 
-      falls : a.class ≡ class → test a.op ≡ true → count_by (unheard test class (a ∷ h)) (operations plans) + 1 ≤ count_by (unheard test class h) (operations plans)
+      falls : a.class ≡ class → test a.op ≡ true → count_by (still_to_come test class (a ∷ h)) (operations plans) + 1 ≤ count_by (still_to_come test class h) (operations plans)
       falls same pass =
-          count_falls (unheard test class h) (unheard test class (a ∷ h)) (operations plans) a.op (suited_listed a.op a.class i.1.suited) (unheard_before test class a h) (unheard_now test class a h same) (and_from _ _ pass (not_from_false _ (subst (λ (c : Class). happened c a.op h ≡ false) same i.1.fresh)))
+          count_falls (still_to_come test class h) (still_to_come test class (a ∷ h)) (operations plans) a.op (suited_listed a.op a.class i.1.suited) (to_come_before_of test class a h) (to_come_now_of test class a h same) (and_from _ _ pass (not_from_false _ (subst (λ (c : Class). happened c a.op h ≡ false) same i.1.fresh)))
 
       one : (b : Bool) → test a.op ≡ b → count_by test (ops_of class h ++ a.op ∷ []) ≡ count_by test (ops_of class h) + cond b 1 0
       one b e =
           sum_by_push (λ (x : OpId). cond (test x) 1 0) (ops_of class h) a.op ∙ ap (λ (t : Bool). count_by test (ops_of class h) + cond t 1 0) e
 
-      more : count_by test (ops_of class h) + count_by (unheard test class h) (operations plans) ≤ count_by test (operations plans) → (((place a.class == place class) ≡ true) ⊎ ((place a.class == place class) ≡ false)) → ((test a.op ≡ true) ⊎ (test a.op ≡ false)) → count_by test (ops_of class (a ∷ h)) + count_by (unheard test class (a ∷ h)) (operations plans) ≤ count_by test (operations plans)
+      more : count_by test (ops_of class h) + count_by (still_to_come test class h) (operations plans) ≤ count_by test (operations plans) → (((place a.class == place class) ≡ true) ⊎ ((place a.class == place class) ≡ false)) → ((test a.op ≡ true) ⊎ (test a.op ≡ false)) → count_by test (ops_of class (a ∷ h)) + count_by (still_to_come test class (a ∷ h)) (operations plans) ≤ count_by test (operations plans)
       more before (inl t) (inl pass) =
           let count = ap (λ (l : List OpId). count_by test l) (ops_same class a h t) ∙ one true pass in
           let less = falls (place_same a.class class (eqb-true _ _ t)) pass in
@@ -157,10 +157,10 @@ module _ (plans : List Plan) where
           omega (arith, before, count, stays)
 
   -- an operation that is still to come finds fewer there than the schedule has
-  pub ops_fewer : (test : OpId → Bool) (class : Class) (h : List Act) (x : OpId) → IsHearing plans h → has_class (kind_at plans x) class ≡ true → happened class x h ≡ false → test x ≡ true → count_by test (ops_of class h) < count_by test (operations plans)
+  pub ops_fewer : (test : OpId → Bool) (class : Class) (h : List Act) (x : OpId) → ArePostsAndArrivals plans h → has_class (kind_at plans x) class ≡ true → happened class x h ≡ false → test x ≡ true → count_by test (ops_of class h) < count_by test (operations plans)
   ops_fewer test class h x i suited fresh pass =
       let within = ops_within test class h i in
-      let one = count_falls (unheard test class h) (λ (y : OpId). false) (operations plans) x (suited_listed x class suited) (λ y e. absurd (both_ways false refl e)) refl (and_from _ _ pass (not_from_false _ fresh)) in
+      let one = count_falls (still_to_come test class h) (λ (y : OpId). false) (operations plans) x (suited_listed x class suited) (λ y e. absurd (both_ways false refl e)) refl (and_from _ _ pass (not_from_false _ fresh)) in
       omega (arith, within, one)
 
   -- a receive that is still to be posted, a send that is still to arrive
@@ -184,7 +184,7 @@ module _ (plans : List Plan) where
       not_from_false _ (happened_before Post x a h (not-true _ e))
   to_come_before a h x None e = e
 
-  came : (a : Act) (h : List Act) (c : Class) (k : Option Kind) → is_heard_class c ≡ true → has_class k c ≡ true → happened c a.op h ≡ false → happened c a.op (a ∷ h) ≡ true → (to_come h a.op k ≡ true) × (to_come (a ∷ h) a.op k ≡ false)
+  came : (a : Act) (h : List Act) (c : Class) (k : Option Kind) → is_post_or_arrival_class c ≡ true → has_class k c ≡ true → happened c a.op h ≡ false → happened c a.op (a ∷ h) ≡ true → (to_come h a.op k ≡ true) × (to_come (a ∷ h) a.op k ≡ false)
   came a h Arrive (Some (Send bytes to tag)) e s before now = (not_from_false _ before, not_from_true _ now)
   came a h Post (Some (Recv room from tag)) e s before now = (not_from_false _ before, not_from_true _ now)
   came a h Arrive None e s before now = absurd (both_ways _ refl s)
@@ -197,18 +197,18 @@ module _ (plans : List Plan) where
   came a h Data k e s before now = absurd (both_ways _ refl e)
   came a h Begin k e s before now = absurd (both_ways _ refl e)
 
-  heard_within : (h : List Act) → IsHearing plans h → length h + count_by (λ (x : OpId). to_come h x (kind_at plans x)) (operations plans) ≤ count_by (is_message plans) (operations plans)
-  heard_within [] i =
+  actions_within : (h : List Act) → ArePostsAndArrivals plans h → length h + count_by (λ (x : OpId). to_come h x (kind_at plans x)) (operations plans) ≤ count_by (is_message plans) (operations plans)
+  actions_within [] i =
       let all = count_le (is_message plans) (λ (x : OpId). to_come [] x (kind_at plans x)) (operations plans) (λ x e. to_come_message [] x (kind_at plans x) e) in
       omega (arith, all)
-  heard_within (a ∷ h) i =
-      let before = heard_within h i.0 in
-      let turn = came a h a.class (kind_at plans a.op) i.1.heard i.1.suited i.1.fresh (happened_now a h) in
+  actions_within (a ∷ h) i =
+      let before = actions_within h i.0 in
+      let turn = came a h a.class (kind_at plans a.op) i.1.class i.1.suited i.1.fresh (happened_now a h) in
       let falls = count_falls (λ (x : OpId). to_come h x (kind_at plans x)) (λ (x : OpId). to_come (a ∷ h) x (kind_at plans x)) (operations plans) a.op (suited_listed a.op a.class i.1.suited) (λ x e. to_come_before a h x (kind_at plans x) e) turn.1 turn.0 in
       omega (arith, before, falls)
 
-  -- what was heard is no more than the sends and receives of the schedule
-  pub heard_fewer : (a : Act) (h : List Act) → IsHearing plans h → IsNew plans h a → length h < count_by (is_message plans) (operations plans)
-  heard_fewer a h i new =
-      let within = heard_within (a ∷ h) (i, new) in
+  -- the posts and arrivals are no more than the sends and receives of the schedule
+  pub actions_fewer : (a : Act) (h : List Act) → ArePostsAndArrivals plans h → IsNew plans h a → length h < count_by (is_message plans) (operations plans)
+  actions_fewer a h i new =
+      let within = actions_within (a ∷ h) (i, new) in
       omega (arith, within)

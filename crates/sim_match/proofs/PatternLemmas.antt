@@ -14,8 +14,8 @@ use Rattle.goal_graph.specs.Matching.{accepts, fits, fits_kinds}
 use Rattle.goal_graph.specs.Laws.{IsSend, IsReceive}
 use Rattle.goal_graph.proofs.ForCallers.{kind_listed}
 use Rattle.sim_match.specs.declared.pattern.Pattern.{Pattern}
-use Rattle.sim_match.specs.Patterns.{same_choice, same_pattern, pattern_of, patterns_for, same_number, number, number_of, numbers_for, list_of, lists_for, for_list, IsListed, AreListed}
-use Rattle.sim_match.specs.Rooms.{AreOnce, AreWithin}
+use Rattle.sim_match.specs.Patterns.{same_choice, same_pattern, pattern_of, patterns_for, same_number, number, list_number, numbers_for, list_of, lists_for, for_list, IsListed, AreListed}
+use Rattle.sim_match.specs.Capacities.{AreOnce, AreWithin}
 
 same_choice_true : (a b : Option ℕ) → same_choice a b ≡ true → a ≡ b
 same_choice_true None None e = refl
@@ -140,7 +140,7 @@ fits_list plans keys x m i r e =
     ap (λ (k : Option Kind). fits_kinds x k m (kind_at plans m)) r.kind ∙ at (kind_at plans m)
   where
     its : number keys (record { rank = x.rank; from = r.from; tag = r.tag }) ≡ Some i
-    its = sym (ap (λ (k : Option Kind). number_of keys (pattern_of x k)) r.kind) ∙ e
+    its = sym (ap (λ (k : Option Kind). list_number keys (pattern_of x k)) r.kind) ∙ e
 
     at : (k : Option Kind) → fits_kinds x (Some (Recv r.room r.from r.tag)) m k ≡ list_any (same_number (Some i)) (numbers_for keys m k)
     at (Some (Send bytes to tag)) =
@@ -224,7 +224,7 @@ module _ (plans : List Plan) (ops : List OpId) (n : ℕ) (keys : List Pattern) (
     within = let longer = length-append keys more in omega (arith, its.within, longer);
   }
     where
-      go : (o : Option Pattern) → number_of keys o ≡ Some its.list → number_of (keys ++ more) o ≡ Some its.list
+      go : (o : Option Pattern) → list_number keys o ≡ Some its.list → list_number (keys ++ more) o ≡ Some its.list
       go None e = absurd (none-some its.list e)
       go (Some p) e = number_kept keys more p its.list e
 
@@ -243,7 +243,7 @@ module _ (plans : List Plan) (ops : List OpId) (n : ℕ) (keys : List Pattern) (
       has : IsListed plans after x
       has =
           let place = number_there after p j q there same in
-          record { list = place.0; is = ap (number_of after) its ∙ place.1; within = number_within after p place.0 place.1 }
+          record { list = place.0; is = ap (list_number after) its ∙ place.1; within = number_within after p place.0 place.1 }
 
       by : (more : List Pattern) → after ≡ keys ++ more → AreListedTo plans ops (n + 1) after
       by more e = subst (AreListedTo plans ops (n + 1)) (sym e) (listed_by more (subst (λ (ks : List Pattern). IsListed plans ks x) e has))

@@ -1,8 +1,8 @@
-pub mod Heard
+pub mod PostsAndArrivals
 pub mod Waiting
 pub mod Patterns
-pub mod Rolls
-pub mod Rooms
-pub mod Lists
+pub mod MatchLists
+pub mod Capacities
+pub mod PatternLists
 pub mod Matcher
 pub mod Laws

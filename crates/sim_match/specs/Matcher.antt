@@ -1,4 +1,4 @@
--- What a matcher keeps of what it has heard.
+-- What a matcher keeps of posts and arrivals.
 use Rattle.std.specs.Prelude.{ℕ, ◌≡◌, ◌≤◌, ◌&&◌, ◌||◌, not, Bool, true, false, List, [], ◌∷◌, ◌++◌, length, reverse, map, filter, find, take, Option, Some, All, slice_get, count_by, vec_capacity, if◌then◌else◌}
 use Rattle.std.specs.Option.{MatchOption}
 use Rattle.std.specs.List.{list_any}
@@ -9,83 +9,83 @@ use Rattle.goal_graph.specs.Fault.{IsAccepted}
 use Rattle.goal_graph.specs.Action.{Act, same_op, happened}
 use Rattle.goal_graph.specs.Matching.{is_paired, pairs}
 use Rattle.goal_graph.specs.Laws.{has_class}
-use Rattle.sim_match.specs.declared.ledger.Event.{Event}
-use Rattle.sim_match.specs.declared.ledger.Event.TheVariants as event
-use Rattle.sim_match.specs.declared.ledger.Ledger.{Ledger}
-use Rattle.sim_match.specs.declared.lists.Lists.{Lists}
+use Rattle.sim_match.specs.declared.match_table.Event.{Event}
+use Rattle.sim_match.specs.declared.match_table.Event.TheVariants as event
+use Rattle.sim_match.specs.declared.match_table.MatchTable.{MatchTable}
+use Rattle.sim_match.specs.declared.pattern_lists.PatternLists.{PatternLists}
 use Rattle.sim_match.specs.declared.pattern.Pattern.{Pattern}
-use Rattle.sim_match.specs.declared.rolls.Entry.{Entry}
-use Rattle.sim_match.specs.declared.rolls.Roll.{Roll}
-use Rattle.sim_match.specs.Heard.{is_heard}
+use Rattle.sim_match.specs.declared.match_list.MatchEntry.{MatchEntry}
+use Rattle.sim_match.specs.declared.match_list.MatchList.{MatchList}
+use Rattle.sim_match.specs.PostsAndArrivals.{is_post_or_arrival}
 use Rattle.sim_match.specs.Waiting.{is_message}
 use Rattle.sim_match.specs.Patterns.{same_number, list_of, in_list, for_list, AreListed}
-use Rattle.sim_match.specs.Rolls.{is_marked, entries_of}
+use Rattle.sim_match.specs.MatchLists.{is_marked, entries_of}
 
 -- what is kept of a post, of an arrival
 abbrev pub act_of : Event → Act
 act_of (event.Post x) = record { class = Post; op = x }
 act_of (event.Arrive m) = record { class = Arrive; op = m }
 
--- what was heard, newest first, of the events oldest first
-abbrev pub heard_of : List Event → List Act
-heard_of events = reverse (map act_of events)
+-- the posts and arrivals, newest first, of the events oldest first
+abbrev pub actions_of : List Event → List Act
+actions_of events = reverse (map act_of events)
 
 -- a is the post of a receive or the arrival of a send that has not happened in h
 pub record IsNew (plans : List Plan) (h : List Act) (a : Act) : Type 0 where
-  pub heard : is_heard a ≡ true
+  pub class : is_post_or_arrival a ≡ true
   pub suited : has_class (kind_at plans a.op) a.class ≡ true
   pub fresh : happened a.class a.op h ≡ false
 
 -- each action is the post of a receive or the arrival of a send, and happens once
-abbrev pub IsHearing : List Plan → List Act → Type 0
-IsHearing plans [] = Unit {0}
-IsHearing plans (a ∷ h) = IsHearing plans h × IsNew plans h a
+abbrev pub ArePostsAndArrivals : List Plan → List Act → Type 0
+ArePostsAndArrivals plans [] = Unit {0}
+ArePostsAndArrivals plans (a ∷ h) = ArePostsAndArrivals plans h × IsNew plans h a
 
 -- x and what it has met are marked too, and all else is as it was
-abbrev pub ArePaired : List OpId → OpId → Option Entry → List Bool → List Bool → Type 0
+abbrev pub ArePaired : List OpId → OpId → Option MatchEntry → List Bool → List Bool → Type 0
 ArePaired ops x met old new =
-    (y : OpId) → MatchOption met (is_marked ops new y ≡ is_marked ops old y) (λ (e : Entry). is_marked ops new y ≡ ((is_marked ops old y || same_op x y) || same_op e.op y))
+    (y : OpId) → MatchOption met (is_marked ops new y ≡ is_marked ops old y) (λ (e : MatchEntry). is_marked ops new y ≡ ((is_marked ops old y || same_op x y) || same_op e.op y))
 
--- a roll has these entries, skips none that waits, and has room for so many
-pub record IsRoll (es : List Entry) (paired : OpId → Bool) (count : ℕ) (roll : Roll) : Type 0 where
-  pub entries : roll.entries.items ≡ es
-  pub within : roll.head ≤ length es
-  pub skipped : All (λ (e : Entry). paired e.op ≡ true) (take roll.head es)
-  pub room : count ≤ vec_capacity roll.entries
+-- a match list has these entries, skips none that waits, and has room for so many
+pub record IsMatchList (es : List MatchEntry) (paired : OpId → Bool) (count : ℕ) (match_list : MatchList) : Type 0 where
+  pub entries : match_list.entries.items ≡ es
+  pub within : match_list.head ≤ length es
+  pub skipped : All (λ (e : MatchEntry). paired e.op ≡ true) (take match_list.head es)
+  pub room : count ≤ vec_capacity match_list.entries
 
 module _ (plans : List Plan) (keys : List Pattern) where
   -- the receives of a list that were posted, the sends for it that have arrived
-  abbrev pub receives_of : List Act → ℕ → List Entry
-  receives_of h list = filter (λ (e : Entry). in_list plans keys list e.op) (entries_of Post h)
+  abbrev pub receives_of : List Act → ℕ → List MatchEntry
+  receives_of h list = filter (λ (e : MatchEntry). in_list plans keys list e.op) (entries_of Post h)
 
-  abbrev pub sends_of : List Act → ℕ → List Entry
-  sends_of h list = filter (λ (e : Entry). for_list plans keys list e.op) (entries_of Arrive h)
+  abbrev pub sends_of : List Act → ℕ → List MatchEntry
+  sends_of h list = filter (λ (e : MatchEntry). for_list plans keys list e.op) (entries_of Arrive h)
 
-  -- the rolls of a list have these receives and sends, and room for each receive of it and for each send for it
-  pub record AreLists (paired : OpId → Bool) (list : ℕ) (posted arrived : List Entry) (w : Lists) : Type 0 where
-    pub receives : IsRoll posted paired (count_by (in_list plans keys list) (operations plans)) w.receives
-    pub sends : IsRoll arrived paired (count_by (for_list plans keys list) (operations plans)) w.sends
+  -- the match lists of a pattern have these receives and sends, and room for each receive of it and for each send for it
+  pub record AreLists (paired : OpId → Bool) (list : ℕ) (posted arrived : List MatchEntry) (w : PatternLists) : Type 0 where
+    pub receives : IsMatchList posted paired (count_by (in_list plans keys list) (operations plans)) w.receives
+    pub sends : IsMatchList arrived paired (count_by (for_list plans keys list) (operations plans)) w.sends
 
-  -- what is kept after h: each pattern has its lists, what is paired is marked, and what was heard has room for each
+  -- what is kept after h: each pattern has its lists, what is paired is marked, and the events have room for each
   -- receive and each send
-  pub record Mirrors (lists : List Lists) (marks : List Bool) (h : List Act) (room : ℕ) : Type 0 where
+  pub record Mirrors (lists : List PatternLists) (marks : List Bool) (h : List Act) (room : ℕ) : Type 0 where
     pub accepted : IsAccepted plans
-    pub hearing : IsHearing plans h
+    pub actions : ArePostsAndArrivals plans h
     pub listed : AreListed plans keys
     pub one_each : length lists ≡ length keys
-    pub each : (list : ℕ) (w : Lists) → slice_get lists list ≡ Some w → AreLists (is_paired (pairs plans h)) list (receives_of h list) (sends_of h list) w
+    pub each : (list : ℕ) (w : PatternLists) → slice_get lists list ≡ Some w → AreLists (is_paired (pairs plans h)) list (receives_of h list) (sends_of h list) w
     pub marked : (x : OpId) → is_marked (operations plans) marks x ≡ is_paired (pairs plans h) x
     pub all_marks : length (operations plans) ≤ length marks
     pub roomy : count_by (is_message plans) (operations plans) ≤ room
 
   -- After h the send m stands last in the lists of these numbers too. It has met the first receive of these lists that
   -- waits.
-  pub record IsJoined (h : List Act) (m : OpId) (numbers : List (Option ℕ)) (lists : List Lists) (met : Option Entry) : Type 0 where
+  pub record IsJoined (h : List Act) (m : OpId) (numbers : List (Option ℕ)) (lists : List PatternLists) (met : Option MatchEntry) : Type 0 where
     pub one_each : length lists ≡ length keys
-    pub each : (list : ℕ) (w : Lists) → slice_get lists list ≡ Some w → AreLists (is_paired (pairs plans h)) list (receives_of h list) (sends_of h list ++ (if list_any (same_number (Some list)) numbers then record { op = m; at = length h } ∷ [] else [])) w
-    pub found : met ≡ find (λ (e : Entry). not (is_paired (pairs plans h) e.op) && list_any (same_number (list_of plans keys e.op)) numbers) (entries_of Post h)
+    pub each : (list : ℕ) (w : PatternLists) → slice_get lists list ≡ Some w → AreLists (is_paired (pairs plans h)) list (receives_of h list) (sends_of h list ++ (if list_any (same_number (Some list)) numbers then record { op = m; at = length h } ∷ [] else [])) w
+    pub found : met ≡ find (λ (e : MatchEntry). not (is_paired (pairs plans h) e.op) && list_any (same_number (list_of plans keys e.op)) numbers) (entries_of Post h)
 
--- what a ledger keeps
-abbrev pub IsKept : List Plan → Ledger → Type 0
-IsKept plans ledger =
-    Mirrors plans ledger.patterns.keys ledger.lists.items ledger.marks.items (heard_of ledger.heard.items) (vec_capacity ledger.heard)
+-- what a match table keeps
+abbrev pub IsKept : List Plan → MatchTable → Type 0
+IsKept plans table =
+    Mirrors plans table.patterns.keys table.lists.items table.marks.items (actions_of table.events.items) (vec_capacity table.events)

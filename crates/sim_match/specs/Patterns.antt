@@ -44,9 +44,9 @@ same_number (Some i) (Some j) = i == j
 abbrev pub number : List Pattern → Pattern → Option ℕ
 number keys p = position (same_pattern p) keys
 
-abbrev pub number_of : List Pattern → Option Pattern → Option ℕ
-number_of keys None = None
-number_of keys (Some p) = number keys p
+abbrev pub list_number : List Pattern → Option Pattern → Option ℕ
+list_number keys None = None
+list_number keys (Some p) = number keys p
 
 abbrev pub numbers_for : List Pattern → OpId → Option Kind → List (Option ℕ)
 numbers_for keys m (Some (Calc nanos)) = []
@@ -57,7 +57,7 @@ numbers_for keys m None = []
 module _ (plans : List Plan) (keys : List Pattern) where
   -- the list of a receive, by its pattern
   abbrev pub list_of : OpId → Option ℕ
-  list_of x = number_of keys (pattern_of x (kind_at plans x))
+  list_of x = list_number keys (pattern_of x (kind_at plans x))
 
   -- the lists of a send, where the schedule has the patterns that it takes
   abbrev pub lists_for : OpId → List (Option ℕ)

@@ -1,15 +1,15 @@
 //! Matching: which receive takes which message.
 #![tactic(auto)]
 
+mod capacities;
 mod laws;
-mod ledger;
-mod lists;
+mod match_list;
+mod match_table;
 mod matcher;
 mod pattern;
-mod rolls;
-mod rooms;
+mod pattern_lists;
 #[cfg(test)]
 mod tests;
 
-pub use laws::laws_of_hearing;
+pub use laws::laws_of_posts_and_arrivals;
 pub use matcher::Matcher;

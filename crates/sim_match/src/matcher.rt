@@ -4,9 +4,9 @@ ghost use Rattle.goal_graph.specs.declared.action.Class.TheVariants.{Post, Arriv
 ghost use Rattle.goal_graph.specs.Action.{happened};
 ghost use Rattle.goal_graph.specs.Laws.{IsSend, IsReceive};
 ghost use Rattle.goal_graph.specs.Matching.{pairs, partner};
-ghost use Rattle.sim_match.specs.Heard.{with_post, with_arrival, send_for, receive_for, NoSendFits, NoReceiveFits};
+ghost use Rattle.sim_match.specs.PostsAndArrivals.{with_post, with_arrival, send_for, receive_for, NoSendFits, NoReceiveFits};
 
-use crate::ledger::Ledger;
+use crate::match_table::MatchTable;
 use goal_base::NoMemory;
 use goal_graph::{OpId, Sched};
 use std::alloc::Global;
@@ -21,55 +21,56 @@ use std::marker::Model;
 #[derive(Drop)]
 pub struct Matcher<'a> {
     sched: &'a Sched,
-    ledger: Ledger,
+    table: MatchTable,
 }
 
 impl<'a> Model for Matcher<'a> {
-    ghost use Rattle.sim_match.specs.Heard.{Heard};
+    ghost use Rattle.sim_match.specs.PostsAndArrivals.{PostsAndArrivals};
 
-    ghost Value = { Heard };
+    ghost Value = { PostsAndArrivals };
 
-    ghost use Rattle.sim_match.specs.Matcher.{heard_of, IsKept};
+    ghost use Rattle.sim_match.specs.Matcher.{actions_of, IsKept};
 
-    ghost view = { λ m. record { plans = m.sched.now; heard = heard_of m.ledger.heard.items } };
+    ghost view = { λ m. record { plans = m.sched.now; actions = actions_of m.table.events.items } };
 
-    ghost invariant = { λ m. IsKept m.sched.now m.ledger };
+    ghost invariant = { λ m. IsKept m.sched.now m.table };
 }
 
 impl<'a> Matcher<'a> {
-    /// A matcher that has heard nothing. It takes all its memory here, with room for each send and each receive once.
+    /// A matcher before all posts and arrivals. It takes all its memory here, with room for each send and each receive
+    /// once.
     ///
     /// `NoMemory` where there is not enough.
     pub fn new(alloc: Global, sched: &'a Sched) -> Result<Matcher<'a>, NoMemory>
-        ensures { IfOk result (λ m. m ≡ record { plans = sched.now; heard = [] }) }
+        ensures { IfOk result (λ m. m ≡ record { plans = sched.now; actions = [] }) }
     {
-        let ledger = Ledger::new(alloc, sched)?;
-        Ok(Matcher { sched, ledger })
+        let table = MatchTable::new(alloc, sched)?;
+        Ok(Matcher { sched, table })
     }
 
     /// A receive is posted, which was not posted before. Answers the send that it takes: none exactly where every
     /// arrived send that it fits is paired.
     pub fn post(&mut self, recv: OpId) -> Option<OpId>
         requires receive { IsReceive self.old.plans recv }
-        requires fresh { happened Post recv self.old.heard ≡ false }
-        ensures heard { self.new ≡ with_post self.old recv }
-        ensures taken { result ≡ send_for self.old.plans self.old.heard recv }
-        ensures partner { result ≡ partner (pairs self.new.plans self.new.heard) recv }
-        ensures none { IsNone result ↔ NoSendFits self.old.plans self.old.heard recv }
+        requires fresh { happened Post recv self.old.actions ≡ false }
+        ensures actions { self.new ≡ with_post self.old recv }
+        ensures taken { result ≡ send_for self.old.plans self.old.actions recv }
+        ensures partner { result ≡ partner (pairs self.new.plans self.new.actions) recv }
+        ensures none { IsNone result ↔ NoSendFits self.old.plans self.old.actions recv }
     {
-        self.ledger.post(self.sched, recv)
+        self.table.post(self.sched, recv)
     }
 
     /// A message arrives, or the request of a large one, which did not arrive before. Answers the receive that takes it:
     /// none exactly where every posted receive that fits it is paired.
     pub fn arrive(&mut self, send: OpId) -> Option<OpId>
         requires send { IsSend self.old.plans send }
-        requires fresh { happened Arrive send self.old.heard ≡ false }
-        ensures heard { self.new ≡ with_arrival self.old send }
-        ensures taken { result ≡ receive_for self.old.plans self.old.heard send }
-        ensures partner { result ≡ partner (pairs self.new.plans self.new.heard) send }
-        ensures none { IsNone result ↔ NoReceiveFits self.old.plans self.old.heard send }
+        requires fresh { happened Arrive send self.old.actions ≡ false }
+        ensures actions { self.new ≡ with_arrival self.old send }
+        ensures taken { result ≡ receive_for self.old.plans self.old.actions send }
+        ensures partner { result ≡ partner (pairs self.new.plans self.new.actions) send }
+        ensures none { IsNone result ↔ NoReceiveFits self.old.plans self.old.actions send }
     {
-        self.ledger.arrive(self.sched, send)
+        self.table.arrive(self.sched, send)
     }
 }

@@ -5,12 +5,12 @@ use Rattle.goal_graph.specs.Schedule.{Plan, kind_at}
 use Rattle.goal_graph.specs.Action.{plain}
 use Rattle.goal_graph.specs.Laws.{IsSend}
 use Rattle.sim_params.specs.Times.{holds_cpu, holds_tx, holds_rx}
-use Rattle.sim_match.specs.Heard.{is_heard, receive_for}
+use Rattle.sim_match.specs.PostsAndArrivals.{is_post_or_arrival, receive_for}
 use Rattle.sim_events.specs.Mirrors.{entry_told}
 use Rattle.sim_events.proofs.Entries.{arrived, receiver_exists}
 use Rattle.sim_events.proofs.Fits.{arrives}
 use Rattle.sim_events.proofs.FreeTimes.{free_same}
-use Rattle.sim_events.proofs.Hearing.{arrival_heard, unheard}
+use Rattle.sim_events.proofs.PostsAndArrivals.{arrival_known, not_before}
 use Rattle.sim_events.proofs.Places.{possible_exists}
 use Rattle.sim_events.proofs.Performed.{next_at, entry_is, each_entry, room_left, performed, is_op}
 use Rattle.sim_events.proofs.state.State.arrive.Goals as goal
@@ -28,8 +28,8 @@ arrive-partner-requires g c =
     let m = c.self.invariant in
     let next = next_at g.C.Costs.model _ _ a c.self.view_is c.requires.next in
     record {
-      send = subst (λ (ps : List Plan). IsSend ps a.op) (sym m.heard.same_plans) (arrives plans costs h a m.run next.possible c.requires.class);
-      fresh = unheard plans costs h a c.self.inside.matcher m.heard Arrive next.possible c.requires.class refl;
+      send = subst (λ (ps : List Plan). IsSend ps a.op) (sym m.posts_and_arrivals.same_plans) (arrives plans costs h a m.run next.possible c.requires.class);
+      fresh = not_before plans costs h a c.self.inside.matcher m.posts_and_arrivals Arrive next.possible c.requires.class refl;
     }
 
 pub write_met-requires : goal.write_met-requires
@@ -40,7 +40,7 @@ write_met-requires g c =
     let a = c.args.action in
     let m = c.self.invariant in
     let next = next_at g.C.Costs.model _ _ a c.self.view_is c.requires.next in
-    let taken : c.arrive-partner.result ≡ receive_for plans (filter is_heard (plain h)) a.op = c.arrive-partner.ensures.taken ∙ (λ i. receive_for (m.heard.same_plans i) (m.heard.events i) a.op) in
+    let taken : c.arrive-partner.result ≡ receive_for plans (filter is_post_or_arrival (plain h)) a.op = c.arrive-partner.ensures.taken ∙ (λ i. receive_for (m.posts_and_arrivals.same_plans i) (m.posts_and_arrivals.events i) a.op) in
     record {
       exists = is_op _ _ _ _ _ _ _ m a next;
       other = receiver_exists plans costs h a m.run next.possible c.arrive-partner.result c.requires.class taken;
@@ -63,8 +63,8 @@ invariant_of-self g c =
     let next = next_at g.C.Costs.model _ _ a c.self.view_is c.requires.next in
     let was = entry_is g.C.Costs.model _ _ a.op c.entry-entry.result c.self.view_is c.entry-entry.ensures in
     let kind = arrives plans costs h a m.run next.possible c.requires.class in
-    let taken : c.arrive-partner.result ≡ receive_for plans (filter is_heard (plain h)) a.op = c.arrive-partner.ensures.taken ∙ (λ i. receive_for (m.heard.same_plans i) (m.heard.events i) a.op) in
+    let taken : c.arrive-partner.result ≡ receive_for plans (filter is_post_or_arrival (plain h)) a.op = c.arrive-partner.ensures.taken ∙ (λ i. receive_for (m.posts_and_arrivals.same_plans i) (m.posts_and_arrivals.events i) a.op) in
     let told = c.write_met.ensures (entry_told plans costs h) (c.deref_mut.ensures.value ∙ m.told) ∙ arrived plans costs h a m.run next.possible c.entry-entry.result was c.arrive-partner.result c.requires.class kind taken in
-    let heard = arrival_heard plans costs h a c.self.inside.matcher m.heard c.arrive-partner.new.self c.requires.class c.arrive-partner.ensures.heard in
+    let posts_and_arrivals = arrival_known plans costs h a c.self.inside.matcher m.posts_and_arrivals c.arrive-partner.new.self c.requires.class c.arrive-partner.ensures.actions in
     let free = free_same plans costs h a c.self.inside.resources m.free (ap holds_cpu c.requires.class) (ap (λ (k : Class). holds_tx k (kind_at plans a.op)) c.requires.class) (ap holds_rx c.requires.class) in
-    performed plans costs c.self.inside.history.items c.self.inside.entries.items c.self.inside.matcher c.self.inside.resources (vec_capacity c.self.inside.history) m a next c.push_reserved.new.self.items c.deref_mut.result.now c.write_met.new.entries c.arrive-partner.new.self c.self.inside.resources (vec_capacity c.push_reserved.new.self) c.self.inside.entries.len c.push_reserved.ensures.items c.push_reserved.ensures.capacity c.self.inside.entries.ok.0 c.deref_mut.ensures.value c.write_met.auto.entries told heard free
+    performed plans costs c.self.inside.history.items c.self.inside.entries.items c.self.inside.matcher c.self.inside.resources (vec_capacity c.self.inside.history) m a next c.push_reserved.new.self.items c.deref_mut.result.now c.write_met.new.entries c.arrive-partner.new.self c.self.inside.resources (vec_capacity c.push_reserved.new.self) c.self.inside.entries.len c.push_reserved.ensures.items c.push_reserved.ensures.capacity c.self.inside.entries.ok.0 c.deref_mut.ensures.value c.write_met.auto.entries told posts_and_arrivals free

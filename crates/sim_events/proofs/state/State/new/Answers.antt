@@ -3,7 +3,7 @@ use Rattle.std.specs.Vec.{vec_capacity}
 use Rattle.goal_graph.specs.Schedule.{operations}
 use Rattle.sim_events.specs.Mirrors.{Mirrors}
 use Rattle.sim_events.proofs.Tables.{fresh_table}
-use Rattle.sim_events.proofs.Empty.{nothing_told, free_first, heard_first, blank}
+use Rattle.sim_events.proofs.Empty.{nothing_told, free_first, none_known, blank}
 use Rattle.sim_events.proofs.state.State.new.Goals as goal
 
 pub invariant_of-result : goal.invariant_of-result
@@ -16,7 +16,7 @@ invariant_of-result g c =
       within = omega (arith, c.budget-sum.ensures, c.if-sum-most.false);
       run = tt;
       told = fresh_table _ blank (operations plans) _ _ c.count-count.ensures.count entries (nothing_told plans costs);
-      heard = heard_first plans costs c.in_ok-matcher.matcher c.in_ok-matcher.ensures;
+      posts_and_arrivals = none_known plans costs c.in_ok-matcher.matcher c.in_ok-matcher.ensures;
       free = free_first plans costs c.in_ok-resources.resources c.in_ok-resources.ensures;
       roomy = omega (arith, c.count-count.ensures.count, c.in_ok-history.ensures.capacity);
     })

@@ -5,12 +5,12 @@ use Rattle.goal_graph.specs.Schedule.{Plan, kind_at}
 use Rattle.goal_graph.specs.Action.{plain}
 use Rattle.goal_graph.specs.Laws.{IsReceive}
 use Rattle.sim_params.specs.Times.{holds_cpu, holds_tx, holds_rx}
-use Rattle.sim_match.specs.Heard.{is_heard, send_for}
+use Rattle.sim_match.specs.PostsAndArrivals.{is_post_or_arrival, send_for}
 use Rattle.sim_events.specs.Mirrors.{entry_told}
 use Rattle.sim_events.proofs.Entries.{posted, sender_exists}
 use Rattle.sim_events.proofs.Fits.{posts}
 use Rattle.sim_events.proofs.FreeTimes.{free_same}
-use Rattle.sim_events.proofs.Hearing.{post_heard, unheard}
+use Rattle.sim_events.proofs.PostsAndArrivals.{post_known, not_before}
 use Rattle.sim_events.proofs.Places.{possible_exists}
 use Rattle.sim_events.proofs.Performed.{next_at, entry_is, each_entry, room_left, performed, is_op}
 use Rattle.sim_events.proofs.state.State.post.Goals as goal
@@ -28,8 +28,8 @@ post-partner-requires g c =
     let m = c.self.invariant in
     let next = next_at g.C.Costs.model _ _ a c.self.view_is c.requires.next in
     record {
-      receive = subst (λ (ps : List Plan). IsReceive ps a.op) (sym m.heard.same_plans) (posts plans costs h a m.run next.possible c.requires.class);
-      fresh = unheard plans costs h a c.self.inside.matcher m.heard Post next.possible c.requires.class refl;
+      receive = subst (λ (ps : List Plan). IsReceive ps a.op) (sym m.posts_and_arrivals.same_plans) (posts plans costs h a m.run next.possible c.requires.class);
+      fresh = not_before plans costs h a c.self.inside.matcher m.posts_and_arrivals Post next.possible c.requires.class refl;
     }
 
 pub write_met-requires : goal.write_met-requires
@@ -40,7 +40,7 @@ write_met-requires g c =
     let a = c.args.action in
     let m = c.self.invariant in
     let next = next_at g.C.Costs.model _ _ a c.self.view_is c.requires.next in
-    let taken : c.post-partner.result ≡ send_for plans (filter is_heard (plain h)) a.op = c.post-partner.ensures.taken ∙ (λ i. send_for (m.heard.same_plans i) (m.heard.events i) a.op) in
+    let taken : c.post-partner.result ≡ send_for plans (filter is_post_or_arrival (plain h)) a.op = c.post-partner.ensures.taken ∙ (λ i. send_for (m.posts_and_arrivals.same_plans i) (m.posts_and_arrivals.events i) a.op) in
     record {
       exists = is_op _ _ _ _ _ _ _ m a next;
       other = sender_exists plans costs h a m.run next.possible c.post-partner.result c.requires.class taken;
@@ -63,8 +63,8 @@ invariant_of-self g c =
     let next = next_at g.C.Costs.model _ _ a c.self.view_is c.requires.next in
     let was = entry_is g.C.Costs.model _ _ a.op c.entry-entry.result c.self.view_is c.entry-entry.ensures in
     let kind = posts plans costs h a m.run next.possible c.requires.class in
-    let taken : c.post-partner.result ≡ send_for plans (filter is_heard (plain h)) a.op = c.post-partner.ensures.taken ∙ (λ i. send_for (m.heard.same_plans i) (m.heard.events i) a.op) in
+    let taken : c.post-partner.result ≡ send_for plans (filter is_post_or_arrival (plain h)) a.op = c.post-partner.ensures.taken ∙ (λ i. send_for (m.posts_and_arrivals.same_plans i) (m.posts_and_arrivals.events i) a.op) in
     let told = c.write_met.ensures (entry_told plans costs h) (c.deref_mut.ensures.value ∙ m.told) ∙ posted plans costs h a m.run next.possible c.entry-entry.result was c.post-partner.result c.requires.class kind taken in
-    let heard = post_heard plans costs h a c.self.inside.matcher m.heard c.post-partner.new.self c.requires.class c.post-partner.ensures.heard in
+    let posts_and_arrivals = post_known plans costs h a c.self.inside.matcher m.posts_and_arrivals c.post-partner.new.self c.requires.class c.post-partner.ensures.actions in
     let free = free_same plans costs h a c.self.inside.resources m.free (ap holds_cpu c.requires.class) (ap (λ (k : Class). holds_tx k (kind_at plans a.op)) c.requires.class) (ap holds_rx c.requires.class) in
-    performed plans costs c.self.inside.history.items c.self.inside.entries.items c.self.inside.matcher c.self.inside.resources (vec_capacity c.self.inside.history) m a next c.push_reserved.new.self.items c.deref_mut.result.now c.write_met.new.entries c.post-partner.new.self c.self.inside.resources (vec_capacity c.push_reserved.new.self) c.self.inside.entries.len c.push_reserved.ensures.items c.push_reserved.ensures.capacity c.self.inside.entries.ok.0 c.deref_mut.ensures.value c.write_met.auto.entries told heard free
+    performed plans costs c.self.inside.history.items c.self.inside.entries.items c.self.inside.matcher c.self.inside.resources (vec_capacity c.self.inside.history) m a next c.push_reserved.new.self.items c.deref_mut.result.now c.write_met.new.entries c.post-partner.new.self c.self.inside.resources (vec_capacity c.push_reserved.new.self) c.self.inside.entries.len c.push_reserved.ensures.items c.push_reserved.ensures.capacity c.self.inside.entries.ok.0 c.deref_mut.ensures.value c.write_met.auto.entries told posts_and_arrivals free

@@ -3,8 +3,8 @@ use Rattle.goal_graph.specs.declared.action.OpId.{OpId}
 use Rattle.goal_graph.specs.declared.action.Class.TheVariants.{Arrive}
 use Rattle.goal_graph.specs.Action.{happened}
 use Rattle.goal_graph.specs.Laws.{IsSend}
-use Rattle.sim_match.specs.Heard.{Heard, with_arrival, receive_for, NoReceiveFits}
-use Rattle.sim_match.proofs.Kept.{heard_of-push}
+use Rattle.sim_match.specs.PostsAndArrivals.{PostsAndArrivals, with_arrival, receive_for, NoReceiveFits}
+use Rattle.sim_match.proofs.Kept.{actions_of-push}
 use Rattle.sim_match.proofs.Partnered.{arrival_partner, arrival_none}
 use Rattle.sim_match.proofs.matcher.Matcher.arrive.Goals as goal
 
@@ -12,30 +12,30 @@ pub arrive-requires-clause-kept : goal.arrive-requires-clause-kept
 arrive-requires-clause-kept c = c.self.invariant
 
 pub arrive-requires-clause-send : goal.arrive-requires-clause-send
-arrive-requires-clause-send c = subst (λ (v : Heard). IsSend v.plans c.args.send) (sym c.self.view_is) c.requires.send
+arrive-requires-clause-send c = subst (λ (v : PostsAndArrivals). IsSend v.plans c.args.send) (sym c.self.view_is) c.requires.send
 
 pub arrive-requires-clause-fresh : goal.arrive-requires-clause-fresh
 arrive-requires-clause-fresh c =
-    subst (λ (v : Heard). happened Arrive c.args.send v.heard ≡ false) (sym c.self.view_is) c.requires.fresh
+    subst (λ (v : PostsAndArrivals). happened Arrive c.args.send v.actions ≡ false) (sym c.self.view_is) c.requires.fresh
 
 pub invariant_of-self : goal.invariant_of-self
 invariant_of-self c = c.arrive.ensures.kept
 
-pub returns-clause-heard : goal.returns-clause-heard
-returns-clause-heard c =
-    rw (c.arrive.ensures.heard, heard_of-push) (ap (λ (v : Heard). with_arrival v c.args.send) c.self.view_is)
+pub returns-clause-actions : goal.returns-clause-actions
+returns-clause-actions c =
+    rw (c.arrive.ensures.events, actions_of-push) (ap (λ (v : PostsAndArrivals). with_arrival v c.args.send) c.self.view_is)
 
 pub returns-clause-taken : goal.returns-clause-taken
 returns-clause-taken c =
-    c.arrive.ensures.taken ∙ ap (λ (v : Heard). receive_for v.plans v.heard c.args.send) c.self.view_is
+    c.arrive.ensures.taken ∙ ap (λ (v : PostsAndArrivals). receive_for v.plans v.actions c.args.send) c.self.view_is
 
 pub returns-clause-partner : goal.returns-clause-partner
 returns-clause-partner c =
-    let its = subst (λ (v : Heard). IsSend v.plans c.args.send) (sym c.self.view_is) c.requires.send in
-    let fresh = subst (λ (v : Heard). happened Arrive c.args.send v.heard ≡ false) (sym c.self.view_is) c.requires.fresh in
-    rw (c.arrive.ensures.heard, heard_of-push) (c.arrive.ensures.taken ∙ arrival_partner _ _ c.args.send its fresh)
+    let its = subst (λ (v : PostsAndArrivals). IsSend v.plans c.args.send) (sym c.self.view_is) c.requires.send in
+    let fresh = subst (λ (v : PostsAndArrivals). happened Arrive c.args.send v.actions ≡ false) (sym c.self.view_is) c.requires.fresh in
+    rw (c.arrive.ensures.events, actions_of-push) (c.arrive.ensures.taken ∙ arrival_partner _ _ c.args.send its fresh)
 
 pub returns-clause-none : goal.returns-clause-none
 returns-clause-none c =
-    let taken = c.arrive.ensures.taken ∙ ap (λ (v : Heard). receive_for v.plans v.heard c.args.send) c.self.view_is in
-    subst (λ (o : Option OpId). IsNone o ↔ NoReceiveFits c.args.self.now.plans c.args.self.now.heard c.args.send) (sym taken) (arrival_none c.args.self.now.plans c.args.self.now.heard c.args.send)
+    let taken = c.arrive.ensures.taken ∙ ap (λ (v : PostsAndArrivals). receive_for v.plans v.actions c.args.send) c.self.view_is in
+    subst (λ (o : Option OpId). IsNone o ↔ NoReceiveFits c.args.self.now.plans c.args.self.now.actions c.args.send) (sym taken) (arrival_none c.args.self.now.plans c.args.self.now.actions c.args.send)

@@ -1,0 +1,199 @@
+-- The capacity of each list, after one more operation, and after one more list of a send.
+use Rattle.std.proofs.Common.{ℕ, zero, suc, ◌+◌, ◌<◌, ◌^◌, ◌≡◌, ◌||◌, Bool, true, false, cond, if◌then◌else◌, inl, inr, List, [], ◌∷◌, length, Option, Some, None, take, get_or, slice_get, slice_set, count_by, refl, arith, sym, ap, ◌∙◌, subst, eq-eqb}
+use Rattle.std.specs.List.{list_any}
+use Rattle.std.proofs.lemmas.Bool.{cases_eq, ne_eqb}
+use Rattle.std.proofs.lemmas.Option.{slice_get_read}
+use Rattle.std.proofs.lemmas.List.{length-set, length-take}
+use Rattle.std.proofs.lemmas.List.Sums.{sum_by_more, count_by-le-length}
+use Rattle.std.proofs.lemmas.List.Folds.{list_any_more}
+use Rattle.goal_graph.specs.declared.action.OpId.{OpId}
+use Rattle.goal_graph.specs.declared.plan.Op.{Op}
+use Rattle.goal_graph.specs.declared.plan.Kind.{Kind}
+use Rattle.goal_graph.specs.declared.plan.Kind.TheVariants.{Calc, Send, Recv}
+use Rattle.goal_graph.specs.Schedule.{Plan, op_at, kind_at}
+use Rattle.sim_match.specs.declared.pattern.Pattern.{Pattern}
+use Rattle.sim_match.specs.declared.capacities.Capacity.{Capacity}
+use Rattle.sim_match.specs.Patterns.{same_number, pattern_of, list_number, numbers_for, list_of, lists_for, in_list, for_list}
+use Rattle.sim_match.specs.Capacities.{AreOnce, AreWithin, IsCounted, AreCounted, IsCapacity, AreCapacities}
+use Rattle.sim_match.proofs.Targets.{kind_read}
+use Rattle.sim_match.proofs.Written.{slice_get_written, slice_get_elsewhere}
+
+abbrev one_if : Bool → ℕ
+one_if b = cond b 1 0
+
+stays : (n : ℕ) → n ≡ n + cond false 1 0
+stays n = omega arith
+
+-- a send is counted in the first k of its lists
+pub counted_none : (capacities : List Capacity) → AreCounted [] capacities capacities
+counted_none capacities = record {
+  one_each = refl;
+  each = λ l capacity e. record { before = capacity; was = e; receives = refl; sends = stays capacity.sends };
+}
+
+module _ (numbers : List (Option ℕ)) (old now : List Capacity) (k : ℕ) (d : Option ℕ) (inside : k < length numbers) (c : AreCounted (take k numbers) old now) where
+  more : (test : Option ℕ → Bool) → list_any test (take (k + 1) numbers) ≡ (list_any test (take k numbers) || test (get_or numbers k d))
+  more test = list_any_more test numbers k d inside
+
+  or_none : (s : Bool) → (s || false) ≡ s
+  or_none true = refl
+  or_none false = refl
+
+  alike : (l : ℕ) (capacity : Capacity) → same_number (Some l) (get_or numbers k d) ≡ false → IsCounted (take k numbers) old l capacity → IsCounted (take (k + 1) numbers) old l capacity
+  alike l capacity other is = record {
+    before = is.before;
+    was = is.was;
+    receives = is.receives;
+    sends = is.sends ∙ ap (λ (b : Bool). is.before.sends + (if b then 1 else 0)) (sym (more (same_number (Some l)) ∙ ap (λ (b : Bool). list_any (same_number (Some l)) (take k numbers) || b) other ∙ or_none (list_any (same_number (Some l)) (take k numbers))));
+  }
+
+  -- no list
+  pub counted_without : get_or numbers k d ≡ None → AreCounted (take (k + 1) numbers) old now
+  counted_without absent = record {
+    one_each = c.one_each;
+    each = λ l capacity e. alike l capacity (ap (same_number (Some l)) absent) (c.each l capacity e);
+  }
+
+  -- a list
+  module _ (i : ℕ) (is : get_or numbers k d ≡ Some i) (once : AreOnce numbers) (within : AreWithin numbers (length old)) where
+    at : slice_get numbers k ≡ Some (Some i)
+    at = slice_get_read numbers (length numbers) k (Some i) refl inside (sym (get_or_from numbers k d (Some i) inside is))
+      where
+        get_or_from : (xs : List (Option ℕ)) (k : ℕ) (d o : Option ℕ) → k < length xs → get_or xs k d ≡ o → get_or xs k o ≡ o
+        get_or_from [] k d o b e = absurd (omega arith)
+        get_or_from (z ∷ zs) zero d o b e = e
+        get_or_from (z ∷ zs) (suc k) d o b e = get_or_from zs k d o (omega arith) e
+
+    pub count_within : i < length now
+    count_within = let low = within k i at in omega (arith, low, c.one_each)
+
+    module _ (capacity : Capacity) (read : capacity ≡ get_or now i capacity) where
+      its : IsCounted (take k numbers) old i capacity
+      its = c.each i capacity (slice_get_read now (length now) i capacity refl count_within read)
+
+      none : one_if (list_any (same_number (Some i)) (take k numbers)) ≡ 0
+      none = ap one_if (once k i at)
+
+      pub count_fits : ((l : ℕ) (r : Capacity) → slice_get old l ≡ Some r → r.sends + 1 < 2 ^ 64) → capacity.sends + 1 < 2 ^ 64
+      count_fits small =
+          let fits = small i (its).before (its).was in
+          omega (arith, (its).sends, none, fits)
+
+      pub counted_with : AreCounted (take (k + 1) numbers) old (slice_set now i (record capacity { sends = capacity.sends + 1 }))
+      counted_with = record {
+        one_each = length-set now i (record capacity { sends = capacity.sends + 1 }) ∙ c.one_each;
+        each = λ l u e. elim (cases_eq l i) [
+          | inl same ↦ subst (λ (n : ℕ). IsCounted (take (k + 1) numbers) old n u) (sym same) (subst (IsCounted (take (k + 1) numbers) old i) (slice_get_written now i (record capacity { sends = capacity.sends + 1 }) u (subst (λ (n : ℕ). slice_get (slice_set now i (record capacity { sends = capacity.sends + 1 })) n ≡ Some u) same e)) here)
+          | inr n ↦ alike l u (ap (same_number (Some l)) is ∙ ne_eqb l i n) (c.each l u (sym (slice_get_elsewhere now i l (record capacity { sends = capacity.sends + 1 }) n) ∙ e))
+        ];
+      }
+        where
+          one : one_if (list_any (same_number (Some i)) (take (k + 1) numbers)) ≡ 1
+          one = ap one_if (more (same_number (Some i)) ∙ ap (λ (b : Bool). b || same_number (Some i) (get_or numbers k d)) (once k i at) ∙ ap (same_number (Some i)) is ∙ eq-eqb i i refl)
+
+          here : IsCounted (take (k + 1) numbers) old i (record capacity { sends = capacity.sends + 1 })
+          here = record {
+            before = (its).before;
+            was = (its).was;
+            receives = (its).receives;
+            sends = omega (arith, (its).sends, none, one);
+          }
+
+-- the capacities after `it`, the operation o that is read at a place
+module _ (plans : List Plan) (keys : List Pattern) (ops : List OpId) (i : ℕ) (d : OpId) (inside : i < length ops) (capacities : List Capacity) (before : AreCapacities plans keys (take i ops) capacities) (o : Op) (is : op_at plans (get_or ops i d) ≡ Some o) where
+  abbrev it : OpId
+  it = get_or ops i d
+
+  kind : (k : Kind) → o.kind ≡ k → kind_at plans it ≡ Some k
+  kind k e = kind_read plans it o is ∙ ap (λ (k : Kind). Some k) e
+
+  capacity_more : (list : ℕ) (old new : Capacity) → IsCapacity plans keys (take i ops) list old → (r s : Bool) → in_list plans keys list it ≡ r → for_list plans keys list it ≡ s → new.receives ≡ old.receives + cond r 1 0 → new.sends ≡ old.sends + cond s 1 0 → IsCapacity plans keys (take (i + 1) ops) list new
+  capacity_more list old new was r s er es receives sends = record {
+    receives = receives ∙ ap (λ (n : ℕ). n + cond r 1 0) was.receives ∙ sym (counts (in_list plans keys list) r er);
+    sends = sends ∙ ap (λ (n : ℕ). n + cond s 1 0) was.sends ∙ sym (counts (for_list plans keys list) s es);
+  }
+    where
+      counts : (test : OpId → Bool) (b : Bool) → test it ≡ b → count_by test (take (i + 1) ops) ≡ count_by test (take i ops) + cond b 1 0
+      counts test b e =
+          sum_by_more (λ (x : OpId). cond (test x) 1 0) ops i d inside ∙ ap (λ (b : Bool). count_by test (take i ops) + cond b 1 0) e
+
+  few : (test : OpId → Bool) → length ops < 2 ^ 64 → count_by test (take i ops) + 1 < 2 ^ 64
+  few test short =
+      let less = count_by-le-length test (take i ops) in
+      let part = length-take i ops in
+      omega (arith, less, part)
+
+  -- a receive, of a list
+  module _ (bytes : ℕ) (from tag : Option ℕ) (e : o.kind ≡ Recv bytes from tag) (list : ℕ) (has : list_of plans keys (get_or ops i d) ≡ Some list) (within : list < length keys) where
+    pub receive_within : list < length capacities
+    receive_within = omega (arith, within, before.one_each)
+
+    here : in_list plans keys list it ≡ true
+    unfolding in_list
+    here = ap (λ (o : Option ℕ). same_number o (Some list)) has ∙ eq-eqb list list refl
+
+    elsewhere : (l : ℕ) → (l ≡ list → ⊥) → in_list plans keys l it ≡ false
+    unfolding in_list
+    elsewhere l n = ap (λ (o : Option ℕ). same_number o (Some l)) has ∙ ne_eqb list l (λ f. n (sym f))
+
+    no_send : (l : ℕ) → for_list plans keys l it ≡ false
+    unfolding for_list
+    no_send l = ap (λ (k : Option Kind). list_any (same_number (Some l)) (numbers_for keys it k)) (kind (Recv bytes from tag) e)
+
+    module _ (capacity : Capacity) (read : capacity ≡ get_or capacities list capacity) where
+      its_capacity : IsCapacity plans keys (take i ops) list capacity
+      its_capacity = before.each list capacity (slice_get_read capacities (length capacities) list capacity refl receive_within read)
+
+      pub receives_fit : length ops < 2 ^ 64 → capacity.receives + 1 < 2 ^ 64
+      receives_fit short =
+          let fits = few (in_list plans keys list) short in
+          omega (arith, fits, (its_capacity).receives)
+
+      pub receive_more : AreCapacities plans keys (take (i + 1) ops) (slice_set capacities list (record capacity { receives = capacity.receives + 1 }))
+      receive_more = record {
+        one_each = length-set capacities list (record capacity { receives = capacity.receives + 1 }) ∙ before.one_each;
+        each = λ l u f. elim (cases_eq l list) [
+          | inl same ↦ subst (λ (n : ℕ). IsCapacity plans keys (take (i + 1) ops) n u) (sym same) (subst (IsCapacity plans keys (take (i + 1) ops) list) (slice_get_written capacities list (record capacity { receives = capacity.receives + 1 }) u (subst (λ (n : ℕ). slice_get (slice_set capacities list (record capacity { receives = capacity.receives + 1 })) n ≡ Some u) same f)) (capacity_more list capacity (record capacity { receives = capacity.receives + 1 }) its_capacity true false here (no_send list) refl (stays capacity.sends)))
+          | inr n ↦ capacity_more l u u (before.each l u (sym (slice_get_elsewhere capacities list l (record capacity { receives = capacity.receives + 1 }) n) ∙ f)) false false (elsewhere l n) (no_send l) (stays u.receives) (stays u.sends)
+        ];
+      }
+
+  -- a send
+  module _ (bytes to tag : ℕ) (e : o.kind ≡ Send bytes to tag) where
+    no_receive : (l : ℕ) → in_list plans keys l it ≡ false
+    unfolding in_list
+    no_receive l = ap (λ (k : Option Kind). same_number (list_number keys (pattern_of it k)) (Some l)) (kind (Send bytes to tag) e)
+
+    pub its_lists : lists_for plans keys (get_or ops i d) ≡ numbers_for keys (get_or ops i d) (Some (Send bytes to tag))
+    its_lists = ap (numbers_for keys it) (kind (Send bytes to tag) e)
+
+    for_one : (l : ℕ) → for_list plans keys l it ≡ list_any (same_number (Some l)) (numbers_for keys it (Some (Send bytes to tag)))
+    unfolding for_list
+    for_one l = ap (list_any (same_number (Some l))) its_lists
+
+    pub sends_fit : length ops < 2 ^ 64 → (l : ℕ) (capacity : Capacity) → slice_get capacities l ≡ Some capacity → capacity.sends + 1 < 2 ^ 64
+    sends_fit short l capacity at =
+        let fits = few (for_list plans keys l) short in
+        omega (arith, fits, (before.each l capacity at).sends)
+
+    pub send_more : (new : List Capacity) → AreCounted (numbers_for keys (get_or ops i d) (Some (Send bytes to tag))) capacities new → AreCapacities plans keys (take (i + 1) ops) new
+    send_more new c = record {
+      one_each = c.one_each ∙ before.one_each;
+      each = λ l u f. let was = c.each l u f in capacity_more l was.before u (before.each l was.before was.was) false (list_any (same_number (Some l)) (numbers_for keys it (Some (Send bytes to tag)))) (no_receive l) (for_one l) (was.receives ∙ stays was.before.receives) was.sends;
+    }
+
+  -- a calc
+  module _ (nanos : ℕ) (e : o.kind ≡ Calc nanos) where
+    no_list : (l : ℕ) → in_list plans keys l it ≡ false
+    unfolding in_list
+    no_list l = ap (λ (k : Option Kind). same_number (list_number keys (pattern_of it k)) (Some l)) (kind (Calc nanos) e)
+
+    no_lists : (l : ℕ) → for_list plans keys l it ≡ false
+    unfolding for_list
+    no_lists l = ap (λ (k : Option Kind). list_any (same_number (Some l)) (numbers_for keys it k)) (kind (Calc nanos) e)
+
+    pub calc_more : AreCapacities plans keys (take (i + 1) ops) capacities
+    calc_more = record {
+      one_each = before.one_each;
+      each = λ l u f. capacity_more l u u (before.each l u f) false false (no_list l) (no_lists l) (stays u.receives) (stays u.sends);
+    }

@@ -1,0 +1,46 @@
+use Rattle.std.proofs.Common.{◌<◌, ◌^◌, Some, length, get_or, arith, ap, ◌∙◌}
+use Rattle.goal_graph.specs.declared.plan.Kind.{Kind}
+use Rattle.sim_match.proofs.Kept.{whole_back}
+use Rattle.sim_match.proofs.PatternLemmas.{four_once, four_within}
+use Rattle.sim_match.proofs.CapacityLemmas.{receives_fit, receive_more, sends_fit, send_more, calc_more}
+use Rattle.sim_match.proofs.Targets.{kind_read}
+use Rattle.sim_match.proofs.capacities.capacities.Goals as goal
+use Rattle.sim_match.proofs.capacities.capacities.Goals.{in-Recv, in-Send, in-Calc}
+
+pub list_of_receive-list-requires-clause-receive :
+    goal.list_of_receive-list-requires-clause-receive
+list_of_receive-list-requires-clause-receive c = record {
+  room = c.in-Recv.bytes;
+  from = c.in-Recv.from;
+  tag = c.in-Recv.tag;
+  kind = kind_read _ _ _ c.op.ensures.op ∙ ap (λ (k : Kind). Some k) c.in-Recv.is;
+}
+
+pub overflow_add-capacity : goal.overflow_add-capacity
+overflow_add-capacity c =
+    let short : length c.operations-id-items.result.now < 2 ^ 64 = omega arith in
+    let fits = receives_fit _ _ c.operations-id-items.result.now c.loop-id.id-index (record { rank = 0; op = 0 }) (omega arith) _ c.loop-id.invariant _ c.op.ensures.op _ _ _ c.in-Recv.is _ c.list_of_receive-list.ensures.list c.list_of_receive-list.ensures.within _ c.index_mut-capacity.ensures.value short in
+    omega (arith, fits)
+
+pub count_send-requires-clause-once : goal.count_send-requires-clause-once
+count_send-requires-clause-once c = rw c.lists_for.ensures (four_once c.args.patterns.now.keys (get_or c.operations-id-items.result.now c.loop-id.id-index (record { rank = 0; op = 0 })).rank c.in-Send.to c.in-Send.tag)
+
+pub count_send-requires-clause-within : goal.count_send-requires-clause-within
+count_send-requires-clause-within c = λ k i e.
+    let low = four_within c.args.patterns.now.keys (get_or c.operations-id-items.result.now c.loop-id.id-index (record { rank = 0; op = 0 })).rank c.in-Send.to c.in-Send.tag k i (rw c.lists_for.ensures at e) in
+    omega (arith, low, c.deref_mut.ensures.len, c.loop-id.invariant.one_each, c.loop-id.capacities.ok.0)
+
+pub count_send-requires-clause-small : goal.count_send-requires-clause-small
+count_send-requires-clause-small c = λ l r e.
+    let short : length c.operations-id-items.result.now < 2 ^ 64 = omega arith in
+    sends_fit _ _ c.operations-id-items.result.now c.loop-id.id-index (record { rank = 0; op = 0 }) (omega arith) _ c.loop-id.invariant _ c.op.ensures.op _ _ _ c.in-Send.is short l r (rw c.deref_mut.ensures.value at e)
+
+pub loop-id-preserved : goal.loop-id-preserved
+loop-id-preserved c = elim c.match-op.branch [
+  | in-Recv w ↦ rw w.capacities-is (receive_more _ _ c.operations-id-items.result.now c.loop-id.id-index (record { rank = 0; op = 0 }) (omega arith) _ c.loop-id.invariant _ c.op.ensures.op _ _ _ w.in-Recv.is _ w.list_of_receive-list.ensures.list w.list_of_receive-list.ensures.within _ w.index_mut-capacity.ensures.value)
+  | in-Send w ↦
+      let counted = rw (w.lists_for.ensures, w.deref_mut.ensures.value) at w.count_send.ensures in
+      let back = whole_back c.loop-id.capacities.len w.count_send.new.capacities c.loop-id.capacities.items counted.one_each (omega (arith, c.loop-id.capacities.ok.0)) in
+      rw (w.capacities-is, back) (send_more _ _ c.operations-id-items.result.now c.loop-id.id-index (record { rank = 0; op = 0 }) (omega arith) _ c.loop-id.invariant _ c.op.ensures.op _ _ _ w.in-Send.is w.count_send.new.capacities counted)
+  | in-Calc w ↦ rw w.capacities-is (calc_more _ _ c.operations-id-items.result.now c.loop-id.id-index (record { rank = 0; op = 0 }) (omega arith) _ c.loop-id.invariant _ c.op.ensures.op _ w.in-Calc.is)
+]

@@ -1,6 +1,0 @@
-use Rattle.std.proofs.Common.{take}
-use Rattle.sim_match.specs.Rooms.{AreCounted}
-use Rattle.sim_match.proofs.rooms.count_send.Given as goal
-
-abbrev pub invariant-loop-number : goal.invariant-loop-number
-invariant-loop-number l = AreCounted (take l.number-index l.number-items) l.fn.rooms l.rooms

@@ -1,0 +1,38 @@
+-- The capacity of each list.
+use Rattle.std.specs.Prelude.{ℕ, ◌≡◌, ◌<◌, ◌+◌, false, List, length, Option, Some, take, slice_get, count_by, if◌then◌else◌}
+use Rattle.std.specs.List.{list_any}
+use Rattle.goal_graph.specs.declared.action.OpId.{OpId}
+use Rattle.goal_graph.specs.Schedule.{Plan}
+use Rattle.sim_match.specs.declared.pattern.Pattern.{Pattern}
+use Rattle.sim_match.specs.declared.capacities.Capacity.{Capacity}
+use Rattle.sim_match.specs.Patterns.{same_number, in_list, for_list}
+
+-- no number stands twice
+abbrev pub AreOnce : List (Option ℕ) → Type 0
+AreOnce numbers = (k i : ℕ) → slice_get numbers k ≡ Some (Some i) → list_any (same_number (Some i)) (take k numbers) ≡ false
+
+-- each number is below the bound
+abbrev pub AreWithin : List (Option ℕ) → ℕ → Type 0
+AreWithin numbers bound = (k i : ℕ) → slice_get numbers k ≡ Some (Some i) → i < bound
+
+-- a send more for each of the lists of these numbers, from the capacity before
+pub record IsCounted (numbers : List (Option ℕ)) (capacities : List Capacity) (list : ℕ) (capacity : Capacity) : Type 0 where
+  pub before : Capacity
+  pub was : slice_get capacities list ≡ Some before
+  pub receives : capacity.receives ≡ before.receives
+  pub sends : capacity.sends ≡ before.sends + (if list_any (same_number (Some list)) numbers then 1 else 0)
+
+pub record AreCounted (numbers : List (Option ℕ)) (old new : List Capacity) : Type 0 where
+  pub one_each : length new ≡ length old
+  pub each : (list : ℕ) (capacity : Capacity) → slice_get new list ≡ Some capacity → IsCounted numbers old list capacity
+
+module _ (plans : List Plan) (keys : List Pattern) where
+  -- of these operations, so many are receives of the list, and so many are sends for it
+  pub record IsCapacity (ops : List OpId) (list : ℕ) (capacity : Capacity) : Type 0 where
+    pub receives : capacity.receives ≡ count_by (in_list plans keys list) ops
+    pub sends : capacity.sends ≡ count_by (for_list plans keys list) ops
+
+  -- the capacity of each list
+  pub record AreCapacities (ops : List OpId) (capacities : List Capacity) : Type 0 where
+    pub one_each : length capacities ≡ length keys
+    pub each : (list : ℕ) (capacity : Capacity) → slice_get capacities list ≡ Some capacity → IsCapacity ops list capacity

@@ -1,0 +1,51 @@
+-- Marks of operations, entries of posts and arrivals, and match lists.
+use Rattle.std.specs.Prelude.{◌≡◌, ◌≤◌, ◌==◌, ◌||◌, not, Bool, true, false, List, [], ◌∷◌, ◌++◌, length, take, find, All, Option, Some, None, nat_lt, if◌then◌else◌, vec_capacity}
+use Rattle.goal_graph.specs.declared.action.OpId.{OpId}
+use Rattle.goal_graph.specs.declared.action.Class.{Class}
+use Rattle.goal_graph.specs.Schedule.{Plan, operations}
+use Rattle.goal_graph.specs.Fault.{IsOp}
+use Rattle.goal_graph.specs.Action.{Act, place, same_op}
+use Rattle.sim_match.specs.declared.match_list.MatchEntry.{MatchEntry}
+use Rattle.sim_match.specs.declared.match_list.MatchList.{MatchList}
+
+-- the mark of x, of the marks of these operations
+abbrev pub is_marked : List OpId → List Bool → OpId → Bool
+is_marked [] marks x = false
+is_marked (y ∷ ys) [] x = false
+is_marked (y ∷ ys) (b ∷ bs) x = if same_op y x then b else is_marked ys bs x
+
+-- x is marked too, and all else is as it was
+abbrev pub IsMarked : List OpId → OpId → List Bool → List Bool → Type 0
+IsMarked ops x old new = (y : OpId) → is_marked ops new y ≡ (is_marked ops old y || same_op x y)
+
+-- of two entries the one that came first
+abbrev pub earlier : Option MatchEntry → Option MatchEntry → Option MatchEntry
+earlier None f = f
+earlier (Some e) None = Some e
+earlier (Some e) (Some f) = if nat_lt f.at e.at then Some f else Some e
+
+-- the entries of the actions of a class, oldest first
+unfoldable pub entries_of : Class → List Act → List MatchEntry
+entries_of class [] = []
+entries_of class (a ∷ h) =
+    entries_of class h ++ (if place a.class == place class then record { op = a.op; at = length h } ∷ [] else [])
+
+-- a match list of operations, each with its mark, of which those before the head are marked
+pub record IsReady (plans : List Plan) (marks : List Bool) (match_list : MatchList) : Type 0 where
+  pub exist : All (λ (e : MatchEntry). IsOp plans e.op) match_list.entries.items
+  pub long : length (operations plans) ≤ length marks
+  pub within : match_list.head ≤ length match_list.entries.items
+  pub skipped : All (λ (e : MatchEntry). is_marked (operations plans) marks e.op ≡ true) (take match_list.head match_list.entries.items)
+
+-- the first entry that is not marked is found, and the head may have passed some that are
+pub record IsFirst (marked : OpId → Bool) (old new : MatchList) (first : Option MatchEntry) : Type 0 where
+  pub found : first ≡ find (λ (e : MatchEntry). not (marked e.op)) old.entries.items
+  pub entries : new.entries ≡ old.entries
+  pub within : new.head ≤ length old.entries.items
+  pub skipped : All (λ (e : MatchEntry). marked e.op ≡ true) (take new.head old.entries.items)
+
+-- one entry more
+pub record IsPushed (entry : MatchEntry) (old new : MatchList) : Type 0 where
+  pub entries : new.entries.items ≡ old.entries.items ++ entry ∷ []
+  pub head : new.head ≡ old.head
+  pub room : vec_capacity new.entries ≡ vec_capacity old.entries

@@ -1,0 +1,97 @@
+// The capacities of the lists of a matcher.
+ghost use Rattle.std.specs.Prelude.{ℕ, ◌≡◌, ◌+◌, ◌<◌, ◌^◌, length, count_by, slice_get, Some, IfOk};
+ghost use Rattle.goal_graph.specs.Schedule.{operations};
+ghost use Rattle.goal_graph.specs.Fault.{IsOp};
+ghost use Rattle.sim_match.specs.declared.capacities.Capacity.{Capacity};
+ghost use Rattle.sim_match.specs.Waiting.{is_message, is_message_kind};
+ghost use Rattle.sim_match.specs.Patterns.{AreListed};
+ghost use Rattle.sim_match.specs.Capacities.{AreCapacities, AreCounted, AreOnce, AreWithin};
+
+use crate::pattern::{Pattern, list_of_receive, lists_for};
+use goal_graph::{Kind, OpId, Sched};
+use indexmap::IndexSet;
+use std::alloc::{AllocError, Global};
+
+/// How many receives a list has, and how many sends are for it.
+#[derive(Clone, Copy, Debug, PartialEq, Eq)]
+pub struct Capacity {
+    pub receives: usize,
+    pub sends: usize,
+}
+
+// Counts a send in each of these lists.
+fn count_send(capacities: &mut [Capacity], numbers: [Option<usize>; 4])
+    requires once { AreOnce numbers }
+    requires within { AreWithin numbers (length capacities.old) }
+    requires small { (list : ℕ) (capacity : Capacity) → slice_get capacities.old list ≡ Some capacity → capacity.sends + 1 < 2 ^ 64 }
+    ensures { AreCounted numbers capacities.old capacities.new }
+{
+    for number in numbers {
+        match number {
+            Some(list) => {
+                let capacity = &mut capacities[list];
+                capacity.sends += 1;
+            }
+            None => {}
+        }
+    }
+}
+
+/// The capacity of each list.
+pub fn capacities(
+    alloc: Global,
+    sched: &Sched,
+    patterns: &IndexSet<Pattern>,
+) -> Result<Vec<Capacity>, AllocError>
+    requires { AreListed sched.now patterns.now.keys }
+    ensures { IfOk result (λ capacities. AreCapacities sched.now patterns.now.keys (operations sched.now) capacities.items) }
+{
+    let none = Capacity {
+        receives: 0,
+        sends: 0,
+    };
+    let mut capacities = vec![in alloc; none; patterns.len()]?;
+    for id in sched.operations() {
+        match sched.op(*id).kind {
+            Kind::Recv { .. } => {
+                let list = list_of_receive(patterns, sched, *id);
+                let capacity = &mut capacities[list];
+                capacity.receives += 1;
+            }
+            Kind::Send { to, tag, .. } => {
+                count_send(&mut capacities, lists_for(patterns, id.rank, to, tag));
+            }
+            Kind::Calc { .. } => {}
+        }
+    }
+    Ok(capacities)
+}
+
+// Whether an operation of that kind is a send or a receive.
+fn is_message_kind(kind: Kind) -> bool
+    ensures { result ≡ is_message_kind (Some kind) }
+{
+    match kind {
+        Kind::Send { .. } | Kind::Recv { .. } => true,
+        Kind::Calc { .. } => false,
+    }
+}
+
+// Whether an operation is a send or a receive.
+fn is_message(sched: &Sched, id: OpId) -> bool
+    requires { IsOp sched.now id }
+    ensures { result ≡ is_message sched.now id }
+{
+    is_message_kind(sched.op(id).kind)
+}
+
+/// How many sends and receives a schedule has.
+pub fn message_count(sched: &Sched) -> usize
+    ensures { result ≡ count_by (is_message sched.now) (operations sched.now) }
+{
+    sched
+        .operations()
+        .iter()
+        .filter(|id| is_message(sched, **id))
+        .count()
+}

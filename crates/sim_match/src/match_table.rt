@@ -1,0 +1,148 @@
+// The table of a matcher: the posts and arrivals so far, by pattern.
+ghost use Rattle.std.specs.Prelude.{◌≡◌, ◌≤◌, ◌∷◌, [], ◌++◌, false, length, IfOk};
+ghost use Rattle.std.specs.Option.{option_map, IfSome};
+ghost use Rattle.goal_graph.specs.Schedule.{operations};
+ghost use Rattle.goal_graph.specs.Fault.{IsOp};
+ghost use Rattle.goal_graph.specs.Laws.{IsSend, IsReceive};
+ghost use Rattle.goal_graph.specs.declared.action.Class.TheVariants.{Post, Arrive};
+ghost use Rattle.goal_graph.specs.Action.{happened};
+ghost use Rattle.sim_match.specs.PostsAndArrivals.{send_for, receive_for};
+ghost use Rattle.sim_match.specs.Patterns.{lists_for};
+ghost use Rattle.sim_match.specs.Matcher.{actions_of, ArePaired, IsJoined, IsKept};
+
+use crate::capacities::{capacities, message_count};
+use crate::match_list::{MatchEntry, earlier, mark};
+use crate::pattern::{Pattern, list_of_receive, lists_for, patterns_of};
+use crate::pattern_lists::{PatternLists, empty_lists};
+use goal_base::NoMemory;
+use goal_graph::{Kind, OpId, Sched};
+use indexmap::IndexSet;
+use std::alloc::Global;
+
+/// A receive is posted, or a message or the request of a large one arrives.
+#[derive(Clone, Copy, Debug, PartialEq, Eq)]
+pub enum Event {
+    Post(OpId),
+    Arrive(OpId),
+}
+
+/// The posts and arrivals so far, oldest first, and for each pattern of the schedule its lists. An operation is marked
+/// once it is paired.
+#[derive(Drop)]
+pub struct MatchTable {
+    pub patterns: IndexSet<Pattern>,
+    pub lists: Vec<PatternLists>,
+    pub marks: Vec<bool>,
+    pub events: Vec<Event>,
+}
+
+// The numbers of the lists of a send.
+fn lists_of_send(patterns: &IndexSet<Pattern>, sched: &Sched, send: OpId) -> [Option<usize>; 4]
+    requires { IsSend sched.now send }
+    ensures { result ≡ lists_for sched.now patterns.now.keys send }
+{
+    match sched.op(send).kind {
+        Kind::Send { to, tag, .. } => lists_for(patterns, send.rank, to, tag),
+        Kind::Calc { .. } | Kind::Recv { .. } => unreachable!(),
+    }
+}
+
+// Marks an operation and the one that it has met. Answers the latter.
+fn pair(sched: &Sched, marks: &mut [bool], id: OpId, met: Option<MatchEntry>) -> Option<OpId>
+    requires op { IsOp sched.now id }
+    requires other { IfSome met (λ e. IsOp sched.now e.op) }
+    requires long { length (operations sched.now) ≤ length marks.old }
+    ensures answer { result ≡ option_map (λ e. e.op) met }
+    ensures paired { ArePaired (operations sched.now) id met marks.old marks.new }
+    ensures long { length marks.new ≡ length marks.old }
+{
+    match met {
+        Some(other) => {
+            mark(sched, marks, id);
+            mark(sched, marks, other.op);
+            Some(other.op)
+        }
+        None => None,
+    }
+}
+
+impl MatchTable {
+    /// Nothing was posted or has arrived, and there is room for each send and each receive once.
+    pub fn new(alloc: Global, sched: &Sched) -> Result<MatchTable, NoMemory>
+        ensures kept { IfOk result (λ table. IsKept sched.now table) }
+        ensures events { IfOk result (λ table. table.events.items ≡ []) }
+    {
+        sched.known();
+        let patterns = patterns_of(alloc, sched)?;
+        let capacities = capacities(alloc, sched, &patterns)?;
+        let lists = empty_lists(alloc, &capacities)?;
+        let marks = vec![in alloc; false; sched.count() as usize]?;
+        let events = Vec::with_capacity(alloc, message_count(sched))?;
+        Ok(MatchTable {
+            patterns,
+            lists,
+            marks,
+            events,
+        })
+    }
+
+    /// A receive is posted. Answers the send that it takes.
+    pub fn post(&mut self, sched: &Sched, recv: OpId) -> Option<OpId>
+        requires kept { IsKept sched.now self.old }
+        requires receive { IsReceive sched.now recv }
+        requires fresh { happened Post recv (actions_of self.old.events.items) ≡ false }
+        ensures kept { IsKept sched.now self.new }
+        ensures events { self.new.events.items ≡ self.old.events.items ++ Event.Post recv ∷ [] }
+        ensures taken { result ≡ send_for sched.now (actions_of self.old.events.items) recv }
+    {
+        let entry = MatchEntry {
+            op: recv,
+            at: self.events.len(),
+        };
+        self.events.push_reserved(Event::Post(recv));
+        let list = list_of_receive(&self.patterns, sched, recv);
+        let met = self.lists[list].post(sched, &self.marks, entry);
+        pair(sched, &mut self.marks, recv, met)
+    }
+
+    // A send joins its lists. Answers the receive among them that was posted first and waits.
+    fn join(&mut self, sched: &Sched, send: OpId) -> Option<MatchEntry>
+        requires kept { IsKept sched.now self.old }
+        requires send { IsSend sched.now send }
+        requires fresh { happened Arrive send (actions_of self.old.events.items) ≡ false }
+        ensures joined { IsJoined sched.now self.old.patterns.keys (actions_of self.old.events.items) send (lists_for sched.now self.old.patterns.keys send) self.new.lists.items result }
+        ensures patterns { self.new.patterns ≡ self.old.patterns }
+        ensures marks { self.new.marks ≡ self.old.marks }
+        ensures events { self.new.events ≡ self.old.events }
+    {
+        let entry = MatchEntry {
+            op: send,
+            at: self.events.len(),
+        };
+        let mut met = None;
+        for number in lists_of_send(&self.patterns, sched, send) {
+            match number {
+                Some(list) => {
+                    let first = self.lists[list].arrive(sched, &self.marks, entry);
+                    met = earlier(met, first);
+                }
+                None => {}
+            }
+        }
+        met
+    }
+
+    /// A send arrives. Answers the receive that takes it.
+    pub fn arrive(&mut self, sched: &Sched, send: OpId) -> Option<OpId>
+        requires kept { IsKept sched.now self.old }
+        requires send { IsSend sched.now send }
+        requires fresh { happened Arrive send (actions_of self.old.events.items) ≡ false }
+        ensures kept { IsKept sched.now self.new }
+        ensures events { self.new.events.items ≡ self.old.events.items ++ Event.Arrive send ∷ [] }
+        ensures taken { result ≡ receive_for sched.now (actions_of self.old.events.items) send }
+    {
+        let met = self.join(sched, send);
+        self.events.push_reserved(Event::Arrive(send));
+        pair(sched, &mut self.marks, send, met)
+    }
+}
