@@ -1,4 +1,12 @@
 pub mod Channels
+pub mod Fitting
+pub mod Positions
+pub mod Slim
+pub mod Totals
+pub mod MadeFits
+pub mod Trees
+pub mod RootedFits
+pub mod MadeAccepted
 pub mod Matched
 pub mod Race
 pub mod SomeWalk

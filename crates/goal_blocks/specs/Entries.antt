@@ -1,6 +1,6 @@
 -- A schedule told by an entry for each rank and number: what the operation does, what it requires, and what it does to
 -- slots. The operations of a rank, their dependencies and their notes stand in the order of the numbers.
-use Rattle.std.specs.Prelude.{ℕ, ◌+◌, ◌-◌, List, [], ◌∷◌, ◌++◌, map, Some}
+use Rattle.std.specs.Prelude.{ℕ, List, [], ◌∷◌, ◌++◌, map, Some}
 use Rattle.std.specs.List.{flat_map, range_with_len}
 use Rattle.goal_graph.specs.declared.plan.Kind.{Kind}
 use Rattle.goal_graph.specs.declared.plan.Kind.TheVariants.{Calc, Send, Recv}

@@ -8,6 +8,8 @@ pub mod Weight
 pub mod Certification
 pub mod Collectives
 pub mod Entries
+pub mod Fitting
 pub mod Positions
 pub mod Made
 pub mod MadeRooted
+pub mod Generated

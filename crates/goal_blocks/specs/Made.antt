@@ -1,8 +1,7 @@
 -- The schedules of the broadcast, barrier, allgather, allreduce and alltoall, by rank r and number i of the operation.
 -- All messages have `bytes` bytes. A step or round has its number as the tag of its messages.
 use Rattle.std.specs.Prelude.{ℕ, zero, suc, ◌+◌, ◌-◌, ◌*◌, ◌/◌, ◌%◌, ◌^◌, List, [], ◌∷◌}
-use Rattle.goal_graph.specs.Schedule.{Plan}
-use Rattle.goal_blocks.specs.Entries.{Entry, slot, sending, receiving, summing, made_by}
+use Rattle.goal_blocks.specs.Entries.{Entry, slot, sending, receiving, summing}
 use Rattle.goal_blocks.specs.Positions.{ahead, back, flipped, digits}
 
 -- Broadcast, along a binomial tree: in round j each virtual rank v below 2^j sends to v + 2^j, where there is one. A
@@ -23,10 +22,6 @@ unfoldable pub bcast_count : ℕ → ℕ → ℕ
 bcast_count ranks zero = digits (ranks - 1)
 bcast_count ranks (suc w) = suc (digits (ranks - 1 - suc w) - digits (suc w))
 
-unfoldable pub made_bcast : ℕ → ℕ → ℕ → List Plan
-made_bcast ranks root bytes =
-    made_by ranks (λ r. bcast_count ranks (back ranks r root)) (λ r i. bcast_in ranks root bytes (back ranks r root) i)
-
 -- Rounds of three operations, 3k up to 3k + 2 in round k: what slot 0 has is sent, what comes is put into slot k + 1, and
 -- that is added to slot 0. The send requires the calc before it, the calc its send and its receive.
 
@@ -44,15 +39,9 @@ unfoldable pub barrier_in : ℕ → ℕ → ℕ → ℕ → Entry
 barrier_in ranks bytes r i =
     round_in bytes (ahead ranks r (2 ^ (i / 3))) (back ranks r (2 ^ (i / 3))) (i / 3) (i % 3)
 
-unfoldable pub made_barrier : ℕ → ℕ → List Plan
-made_barrier ranks bytes = made_by ranks (λ r. 3 * digits (ranks - 1)) (λ r i. barrier_in ranks bytes r i)
-
 -- Allreduce, by recursive doubling: in round k each rank exchanges with the one whose binary digit of 2^k is the other
 unfoldable pub allreduce_in : ℕ → ℕ → ℕ → Entry
 allreduce_in bytes r i = round_in bytes (flipped r (i / 3)) (flipped r (i / 3)) (i / 3) (i % 3)
-
-unfoldable pub made_allreduce : ℕ → ℕ → List Plan
-made_allreduce ranks bytes = made_by ranks (λ r. 3 * digits (ranks - 1)) (λ r i. allreduce_in bytes r i)
 
 -- Allgather, along a ring: in step s each rank sends on what it had received in the step before, at first its own
 
@@ -69,9 +58,6 @@ ring_in ranks bytes r s (suc b) = receiving bytes (back ranks r 1) s (slot (back
 unfoldable pub allgather_in : ℕ → ℕ → ℕ → ℕ → Entry
 allgather_in ranks bytes r i = ring_in ranks bytes r (i / 2) (i % 2)
 
-unfoldable pub made_allgather : ℕ → ℕ → List Plan
-made_allgather ranks bytes = made_by ranks (λ r. 2 * (ranks - 1)) (λ r i. allgather_in ranks bytes r i)
-
 -- Alltoall, by shifts: a calc copies the rank's own value, and in step s, from 1 on, each rank sends to the one that is s
 -- ahead. There are no dependencies.
 
@@ -82,6 +68,3 @@ shift_in ranks bytes r s (suc b) = receiving bytes (back ranks r s) s (slot (ran
 unfoldable pub alltoall_in : ℕ → ℕ → ℕ → ℕ → Entry
 alltoall_in ranks bytes r zero = summing [] r (ranks + r)
 alltoall_in ranks bytes r (suc i) = shift_in ranks bytes r (i / 2 + 1) (i % 2)
-
-unfoldable pub made_alltoall : ℕ → ℕ → List Plan
-made_alltoall ranks bytes = made_by ranks (λ r. 1 + 2 * (ranks - 1)) (λ r i. alltoall_in ranks bytes r i)

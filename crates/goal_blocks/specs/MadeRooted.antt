@@ -1,13 +1,10 @@
--- The schedules of the reduce, gather, scatter, reduce_scatter and scan, by rank and number of the operation, and the
--- schedule of each of the ten collectives. v is a virtual rank.
+-- The schedules of the reduce, gather, scatter, reduce_scatter and scan, by rank r and number i of the operation. v is a
+-- virtual rank.
 use Rattle.std.specs.Prelude.{ℕ, zero, suc, ◌+◌, ◌-◌, ◌*◌, ◌/◌, ◌%◌, ◌^◌, nat_lt, List, [], ◌∷◌, if◌then◌else◌}
 use Rattle.std.specs.List.{range_with_len}
-use Rattle.goal_graph.specs.Schedule.{Plan}
-use Rattle.goal_blocks.specs.declared.collective.Collective.{Collective}
-use Rattle.goal_blocks.specs.declared.collective.Collective.TheVariants.{Bcast, Barrier, Allgather, Allreduce, Alltoall, Reduce, Gather, Scatter, ReduceScatter, Scan}
-use Rattle.goal_blocks.specs.Entries.{Entry, slot, sending, receiving, summing, made_by}
-use Rattle.goal_blocks.specs.Positions.{ahead, back, digits, low, rounds, parent, upward, share}
-use Rattle.goal_blocks.specs.Made.{before_round, made_bcast, made_barrier, made_allgather, made_allreduce, made_alltoall}
+use Rattle.goal_blocks.specs.Entries.{Entry, slot, sending, receiving, summing}
+use Rattle.goal_blocks.specs.Positions.{ahead, back, low, rounds, parent, upward, share}
+use Rattle.goal_blocks.specs.Made.{before_round}
 
 -- Reduce, up a binomial tree: v receives from its children v + 2^j, for rising j, each time into slot j + 1, and adds that
 -- to slot 0; then it sends slot 0 to its parent.
@@ -28,10 +25,6 @@ reduce_in ranks root bytes v i =
     then hear_in ranks root bytes v (i / 2) (i % 2)
     else sending bytes (parent ranks root v) (low v) (earlier_sum (rounds ranks v)) (slot 0)
 
-unfoldable pub made_reduce : ℕ → ℕ → ℕ → List Plan
-made_reduce ranks root bytes =
-    made_by ranks (λ r. 2 * rounds ranks (back ranks r root) + upward (back ranks r root)) (λ r i. reduce_in ranks root bytes (back ranks r root) i)
-
 -- Gather, up the same tree: v receives from its child v + 2^j the slots of 2^j virtual ranks from the child on, and sends
 -- the slots of its own 2^low v to its parent, after all receives.
 unfoldable pub gather_in : ℕ → ℕ → ℕ → ℕ → ℕ → Entry
@@ -39,10 +32,6 @@ gather_in ranks root bytes v i =
     if nat_lt i (rounds ranks v)
     then receiving bytes (ahead ranks (v + 2 ^ i) root) i (share ranks root (v + 2 ^ i) (2 ^ i))
     else sending bytes (parent ranks root v) (low v) (range_with_len 0 (rounds ranks v)) (share ranks root v (2 ^ low v))
-
-unfoldable pub made_gather : ℕ → ℕ → ℕ → List Plan
-made_gather ranks root bytes =
-    made_by ranks (λ r. rounds ranks (back ranks r root) + upward (back ranks r root)) (λ r i. gather_in ranks root bytes (back ranks r root) i)
 
 -- Scatter, down the same tree: v receives the slots of its own 2^low v virtual ranks, and sends to its children v + 2^j,
 -- for falling j, those of 2^j virtual ranks from the child on.
@@ -58,10 +47,6 @@ scatter_in ranks root bytes (suc w) zero =
 scatter_in ranks root bytes (suc w) (suc i) =
     give_in ranks root bytes (suc w) (rounds ranks (suc w) - 1 - i) (0 ∷ [])
 
-unfoldable pub made_scatter : ℕ → ℕ → ℕ → List Plan
-made_scatter ranks root bytes =
-    made_by ranks (λ r. upward (back ranks r root) + rounds ranks (back ranks r root)) (λ r i. scatter_in ranks root bytes (back ranks r root) i)
-
 -- Reduce and scatter, along a ring, with the operations 3s up to 3s + 2 in step s: a slot is sent ahead, the slot before
 -- it comes, and is added to the rank's own.
 abbrev pub part_in : ℕ → ℕ → ℕ → ℕ → ℕ → Entry
@@ -75,9 +60,6 @@ part_in ranks bytes r s (suc (suc b)) =
 unfoldable pub reduce_scatter_in : ℕ → ℕ → ℕ → ℕ → Entry
 reduce_scatter_in ranks bytes r i = part_in ranks bytes r (i / 3) (i % 3)
 
-unfoldable pub made_reduce_scatter : ℕ → ℕ → List Plan
-made_reduce_scatter ranks bytes = made_by ranks (λ r. 3 * (ranks - 1)) (λ r i. reduce_scatter_in ranks bytes r i)
-
 -- Scan, along a line: a rank receives from the one before it, adds that to its own, and sends the sum to the next one.
 unfoldable pub scan_in : ℕ → ℕ → ℕ → Entry
 scan_in bytes zero i = sending bytes 1 0 [] (slot 0)
@@ -88,19 +70,3 @@ scan_in bytes (suc w) (suc (suc b)) = sending bytes (suc w + 1) 0 (1 ∷ []) (sl
 -- all but the first rank receive, all but the last send
 unfoldable pub scan_count : ℕ → ℕ → ℕ
 scan_count ranks r = 2 * upward r + (if nat_lt (r + 1) ranks then 1 else 0)
-
-unfoldable pub made_scan : ℕ → ℕ → List Plan
-made_scan ranks bytes = made_by ranks (λ r. scan_count ranks r) (λ r i. scan_in bytes r i)
-
--- the schedule of a collective, for so many ranks, and messages of so many bytes
-unfoldable pub made : Collective → ℕ → ℕ → List Plan
-made (Bcast root) ranks bytes = made_bcast ranks root bytes
-made Barrier ranks bytes = made_barrier ranks bytes
-made Allgather ranks bytes = made_allgather ranks bytes
-made Allreduce ranks bytes = made_allreduce ranks bytes
-made Alltoall ranks bytes = made_alltoall ranks bytes
-made (Reduce root) ranks bytes = made_reduce ranks root bytes
-made (Gather root) ranks bytes = made_gather ranks root bytes
-made (Scatter root) ranks bytes = made_scatter ranks root bytes
-made ReduceScatter ranks bytes = made_reduce_scatter ranks bytes
-made Scan ranks bytes = made_scan ranks bytes

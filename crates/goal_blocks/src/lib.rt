@@ -2,7 +2,9 @@
 #![tactic(auto)]
 
 mod collective;
+mod generated;
 mod laws;
 
 pub use collective::{Collective, Contribution};
+pub use generated::laws_of_made_schedules;
 pub use laws::{laws_of_certified_schedules, laws_of_matched_schedules, laws_of_races};

@@ -1,0 +1,42 @@
+-- When a schedule that is told by entries is accepted: what each entry must be, and how many there may be.
+use Rattle.std.specs.Prelude.{ℕ, ◌≡◌, ◌+◌, ◌<◌, ◌≤◌, true, false, length, All}
+use Rattle.std.specs.List.{sum_by, range_with_len}
+use Rattle.goal_base.specs.declared.limits.TheConstants.{MAX_RANKS, MAX_OPS, MAX_DEPS, MAX_NOTES}
+use Rattle.goal_graph.specs.Fault.{value_fits, has_peer, is_calc, IsAccepted}
+use Rattle.goal_blocks.specs.Slots.{Adding}
+use Rattle.goal_blocks.specs.Entries.{Entry, Span, made_by}
+
+-- an entry may be number i of a rank, where there are so many ranks
+pub record IsFitting (ranks i : ℕ) (e : Entry) : Type 0 where
+  -- its size or duration is within the limit
+  pub value : value_fits e.kind 0 ≡ true
+  -- its peer is a rank
+  pub peer : has_peer ranks e.kind ≡ true
+  -- it requires operations of lower numbers alone
+  pub lower : All (λ (k : ℕ). k < i) e.needs
+  -- a calc moves no slots, and the others move them in order
+  pub moves : All (λ (s : Span). (is_calc e.kind ≡ false) × (s.lo ≤ s.hi)) e.moves
+  -- only a calc adds slots
+  pub adds : All (λ (a : Adding). is_calc e.kind ≡ true) e.adds
+
+-- how many operations the entries of all ranks require together, and how many notes they have
+unfoldable pub need_total : ℕ → (ℕ → ℕ) → (ℕ → ℕ → Entry) → ℕ
+need_total ranks count e =
+    sum_by (λ (r : ℕ). sum_by (λ (i : ℕ). length (e r i).needs) (range_with_len 0 (count r))) (range_with_len 0 ranks)
+
+unfoldable pub note_total : ℕ → (ℕ → ℕ) → (ℕ → ℕ → Entry) → ℕ
+note_total ranks count e =
+    sum_by (λ (r : ℕ). sum_by (λ (i : ℕ). length (e r i).moves + length (e r i).adds) (range_with_len 0 (count r))) (range_with_len 0 ranks)
+
+-- there is a rank, there are not too many, each entry fits, and there are not too many of them
+pub record AreFitting (ranks : ℕ) (count : ℕ → ℕ) (e : ℕ → ℕ → Entry) : Type 0 where
+  pub some_rank : 0 < ranks
+  pub few_ranks : ranks ≤ MAX_RANKS
+  pub few_ops : sum_by count (range_with_len 0 ranks) ≤ MAX_OPS
+  pub few_needs : need_total ranks count e ≤ MAX_DEPS
+  pub few_notes : note_total ranks count e ≤ MAX_NOTES
+  pub each : (r i : ℕ) → r < ranks → i < count r → IsFitting ranks i (e r i)
+
+-- The law: a schedule of entries that fit is accepted.
+abbrev pub FittingIsAccepted : Type 0
+FittingIsAccepted = (ranks : ℕ) (count : ℕ → ℕ) (e : ℕ → ℕ → Entry) → AreFitting ranks count e → IsAccepted (made_by ranks count e)

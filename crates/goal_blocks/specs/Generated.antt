@@ -1,0 +1,82 @@
+-- The schedule of each of the ten collectives, and for which ranks there is one.
+use Rattle.std.specs.Prelude.{ℕ, ◌+◌, ◌-◌, ◌*◌, ◌^◌, ◌≡◌, ◌<◌, ◌≤◌, List}
+use Rattle.goal_base.specs.declared.limits.TheConstants.{MAX_BYTES}
+use Rattle.goal_graph.specs.Schedule.{Plan}
+use Rattle.goal_graph.specs.Fault.{IsAccepted}
+use Rattle.goal_blocks.specs.declared.collective.Collective.{Collective}
+use Rattle.goal_blocks.specs.declared.collective.Collective.TheVariants.{Bcast, Barrier, Allgather, Allreduce, Alltoall, Reduce, Gather, Scatter, ReduceScatter, Scan}
+use Rattle.goal_blocks.specs.Entries.{Entry, made_by}
+use Rattle.goal_blocks.specs.Positions.{back, digits, rounds, upward}
+use Rattle.goal_blocks.specs.Made.{bcast_in, bcast_count, barrier_in, allreduce_in, allgather_in, alltoall_in}
+use Rattle.goal_blocks.specs.MadeRooted.{reduce_in, gather_in, scatter_in, reduce_scatter_in, scan_in, scan_count}
+
+-- how many operations the rank r has, of so many ranks
+abbrev pub count_in : Collective → ℕ → ℕ → ℕ
+count_in (Bcast root) ranks r = bcast_count ranks (back ranks r root)
+count_in Barrier ranks r = 3 * digits (ranks - 1)
+count_in Allgather ranks r = 2 * (ranks - 1)
+count_in Allreduce ranks r = 3 * digits (ranks - 1)
+count_in Alltoall ranks r = 1 + 2 * (ranks - 1)
+count_in (Reduce root) ranks r = 2 * rounds ranks (back ranks r root) + upward (back ranks r root)
+count_in (Gather root) ranks r = rounds ranks (back ranks r root) + upward (back ranks r root)
+count_in (Scatter root) ranks r = upward (back ranks r root) + rounds ranks (back ranks r root)
+count_in ReduceScatter ranks r = 3 * (ranks - 1)
+count_in Scan ranks r = scan_count ranks r
+
+-- its operation number i, with messages of so many bytes
+abbrev pub entry_in : Collective → ℕ → ℕ → ℕ → ℕ → Entry
+entry_in (Bcast root) ranks bytes r i = bcast_in ranks root bytes (back ranks r root) i
+entry_in Barrier ranks bytes r i = barrier_in ranks bytes r i
+entry_in Allgather ranks bytes r i = allgather_in ranks bytes r i
+entry_in Allreduce ranks bytes r i = allreduce_in bytes r i
+entry_in Alltoall ranks bytes r i = alltoall_in ranks bytes r i
+entry_in (Reduce root) ranks bytes r i = reduce_in ranks root bytes (back ranks r root) i
+entry_in (Gather root) ranks bytes r i = gather_in ranks root bytes (back ranks r root) i
+entry_in (Scatter root) ranks bytes r i = scatter_in ranks root bytes (back ranks r root) i
+entry_in ReduceScatter ranks bytes r i = reduce_scatter_in ranks bytes r i
+entry_in Scan ranks bytes r i = scan_in bytes r i
+
+-- the schedule of a collective, for so many ranks, and messages of so many bytes
+unfoldable pub made : Collective → ℕ → ℕ → List Plan
+made what ranks bytes = made_by ranks (λ r. count_in what ranks r) (λ r i. entry_in what ranks bytes r i)
+
+-- the most ranks that it may have
+abbrev pub most_ranks : Collective → ℕ
+most_ranks (Bcast root) = 65536
+most_ranks Barrier = 16384
+most_ranks Allgather = 512
+most_ranks Allreduce = 16384
+most_ranks Alltoall = 512
+most_ranks (Reduce root) = 65536
+most_ranks (Gather root) = 65536
+most_ranks (Scatter root) = 65536
+most_ranks ReduceScatter = 128
+most_ranks Scan = 2048
+
+-- the root, where there is one, is a rank
+abbrev pub HasRoot : Collective → ℕ → Type 0
+HasRoot (Bcast root) ranks = root < ranks
+HasRoot (Reduce root) ranks = root < ranks
+HasRoot (Gather root) ranks = root < ranks
+HasRoot (Scatter root) ranks = root < ranks
+HasRoot _ ranks = Unit {0}
+
+pub record IsPower (n : ℕ) : Type 0 where
+  pub exponent : ℕ
+  pub power : n ≡ 2 ^ exponent
+
+-- the ranks of an allreduce are a power of two
+abbrev pub HasPower : Collective → ℕ → Type 0
+HasPower Allreduce ranks = IsPower ranks
+HasPower _ ranks = Unit {0}
+
+-- there is a schedule for so many ranks
+pub record IsPossible (what : Collective) (ranks : ℕ) : Type 0 where
+  pub some_rank : 0 < ranks
+  pub few_ranks : ranks ≤ most_ranks what
+  pub root : HasRoot what ranks
+  pub power : HasPower what ranks
+
+-- The law: it is accepted.
+abbrev pub MadeIsAccepted : Type 0
+MadeIsAccepted = (what : Collective) (ranks bytes : ℕ) → IsPossible what ranks → bytes ≤ MAX_BYTES → IsAccepted (made what ranks bytes)
