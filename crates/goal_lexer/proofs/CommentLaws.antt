@@ -3,12 +3,7 @@ use Rattle.std.proofs.Common.{◌≡◌, ℕ, Bool, true, false, ◌&&◌, ◌||
 use Rattle.std.proofs.lemmas.Bool.Decides.{nat_tests}
 use Rattle.goal_lexer.specs.Bytes.{slash, star}
 use Rattle.goal_lexer.specs.Pieces.{has_close}
-
--- a `*` stands at the end
-abbrev pub ends_in_star : List ℕ → Bool
-ends_in_star [] = false
-ends_in_star (c ∷ []) = c == star
-ends_in_star (c ∷ d ∷ cs) = ends_in_star (d ∷ cs)
+use Rattle.goal_lexer.specs.Open.{ends_in_star}
 
 or_false : (a b : Bool) → (a || b) ≡ false → (a ≡ false) × (b ≡ false)
 or_false false b none = (refl, none)

@@ -12,4 +12,6 @@ pub mod OnlyLaws
 pub mod StretchLaws
 pub mod WholeLaws
 pub mod GoesOnLaws
+pub mod TakenLaws
+pub mod TakenBackLaws
 pub mod ForCallers

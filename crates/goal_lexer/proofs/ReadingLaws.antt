@@ -10,8 +10,9 @@ use Rattle.goal_lexer.specs.Bytes.{is_blank, begins_word, is_digit, is_run_byte,
 use Rattle.goal_lexer.specs.Scan.{scan, closing, fault_at_end, lexed, form_with}
 use Rattle.goal_lexer.specs.Runs.{run_token}
 use Rattle.goal_lexer.specs.Pieces.{blank, line_comment, block_comment, run, sign, Each, has_close, sign_kind, NothingBegins, IsReading}
+use Rattle.goal_lexer.specs.Open.{ends_in_star}
 use Rattle.goal_lexer.proofs.FormLaws.{form_of, form_of-grown, has_form}
-use Rattle.goal_lexer.proofs.CommentLaws.{ends_in_star, has_close-push, ends_in_star-push, before_star, has_close-front}
+use Rattle.goal_lexer.proofs.CommentLaws.{has_close-push, ends_in_star-push, before_star, has_close-front}
 use Rattle.goal_lexer.proofs.NothingLaws.{nothing_at, nothing_at_slash, nothing_at_last_slash, nothing_in_comment, nothing_without_form, nothing_too_long, Each-push}
 use Rattle.goal_lexer.proofs.PieceLaws.{Read, ReadOn, goes_on_by, ends_with_byte, ends_before, at_fault, ends_open, opens_with, is_piece, next_tokens, next_fault, tokens_past_run, fault_past_run}
 

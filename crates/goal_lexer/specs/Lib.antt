@@ -8,6 +8,7 @@ pub mod Runs
 pub mod Scan
 pub mod State
 pub mod Stands
+pub mod Open
 -- What only the code keeps.
 pub mod Sound
 pub mod Steps

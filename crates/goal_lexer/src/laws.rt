@@ -4,6 +4,7 @@ ghost use Rattle.goal_lexer.specs.Scan.{lexed};
 ghost use Rattle.goal_lexer.specs.declared.tokens.Token.{Token};
 ghost use Rattle.goal_lexer.specs.State.{LexState};
 ghost use Rattle.goal_lexer.specs.Stands.{Stands, handed, begins_run};
+ghost use Rattle.goal_lexer.specs.Open.{IsTaken};
 ghost use Rattle.goal_lexer.specs.Pieces.{IsReading, Piece, IsCutInto, NothingBegins, EndsWith, tokens_of, spelled};
 
 /// The tokens of a text and its fault, by the scan that the lexer's contracts speak of, are those of the text as
@@ -28,4 +29,17 @@ pub fn laws_of_tokens()
 
     // A text that a lexer stands for goes on to a text without a fault.
     ensures goes_on { (lexer : LexState) (text : List ℕ) → Stands lexer text → (more : List ℕ) × ((lexed (text ++ more)).1 ≡ None) }
+{}
+
+/// What a lexer stands for, in the words of the rules: what it took is whole pieces, tokens, blanks and comments, and then
+/// what is open: a run, a `/` or a comment that may go on, or nothing. The tokens that it handed out are those of the pieces.
+pub fn laws_of_lexers()
+    // A text that a lexer stands for is whole pieces, whatever follows, and then what the lexer keeps open.
+    ensures taken { (lexer : LexState) (text : List ℕ) → Stands lexer text → IsTaken lexer text }
+
+    // A lexer stands for each such text.
+    ensures stands { (lexer : LexState) (text : List ℕ) → IsTaken lexer text → Stands lexer text }
+
+    // The tokens that it handed out are those of the pieces.
+    ensures handed { (lexer : LexState) (text : List ℕ) (taken : IsTaken lexer text) → handed lexer text ≡ tokens_of 0 taken.pieces }
 {}
