@@ -19,7 +19,7 @@ use Rattle.goal_graph.specs.declared.plan.Need.{Need}
 use Rattle.goal_graph.specs.declared.plan.Note.{Note}
 use Rattle.goal_graph.specs.declared.plan.Note.TheVariants.{Moves, Adds}
 use Rattle.goal_graph.specs.Schedule.{Plan, deps_at, needs, needed, earlier_of}
-use Rattle.goal_graph.specs.Fault.{value_fits, has_peer, is_calc, dep_in_range, note_fits, op_fault, dep_fault, note_fault, first_fault, rank_fault, count_fault, over, op_count, dep_count, note_count, plain_fault, is_below, HasDepth, IsAccepted}
+use Rattle.goal_graph.specs.Fault.{value_fits, has_peer, is_calc, dep_in_range, note_fits, op_fault, dep_fault, note_fault, first_fault, rank_fault, count_fault, count_over, op_count, dep_count, note_count, plain_fault, is_below, HasDepth, IsAccepted}
 use Rattle.goal_blocks.specs.Slots.{Adding}
 use Rattle.goal_blocks.specs.Entries.{Entry, Span, op_of, deps_of, notes_of, plan_by, made_by}
 use Rattle.goal_blocks.specs.Fitting.{IsFitting, AreFitting, need_total, note_total}
@@ -201,7 +201,7 @@ module _ (ranks : ℕ) (count : ℕ → ℕ) (e : ℕ → ℕ → Entry) (fit : 
       sum_made (λ (p : Plan). length p.notes)
       ∙ ap (λ (f : ℕ → ℕ). sum_by f (range_with_len 0 ranks)) (λ i r. length_notes r i)
 
-  not_over : (limit found : ℕ) → found ≤ limit → over limit found ≡ None
+  not_over : (limit found : ℕ) → found ≤ limit → count_over limit found ≡ None
   not_over limit found h = grind (arith, nat_tests)
 
   counts_within : count_fault (made_by ranks count e) ≡ None
