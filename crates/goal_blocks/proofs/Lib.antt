@@ -12,3 +12,7 @@ pub mod Race
 pub mod SomeWalk
 pub mod Walk
 mod Examples
+pub mod Orders
+pub mod Effects
+pub mod Ends
+pub mod Right

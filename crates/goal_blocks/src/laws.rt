@@ -1,7 +1,7 @@
 // The laws of matched and certified schedules and of races. Their functions do nothing: a proof cites a law by a call.
 ghost use Rattle.goal_blocks.specs.Matched.{ChannelsAreApart, MatchedEndsInItsPairs};
 ghost use Rattle.goal_blocks.specs.Walk.{OneWalk, SomeWalk};
-ghost use Rattle.goal_blocks.specs.Certification.{CertifiedEndsEverywhere, CertifiedConflictsInOneOrder};
+ghost use Rattle.goal_blocks.specs.Certification.{CertifiedEndsEverywhere, CertifiedConflictsInOneOrder, MatchedHoldsAsTheWalk, CertifiedIsRightEverywhere};
 ghost use Rattle.goal_blocks.specs.Race.{OrderIsKept, ConflictsComeInOneOrder};
 
 /// The laws of schedules without wildcards, in which each send has one receive of its channel and each receive one
@@ -30,14 +30,19 @@ pub fn laws_of_races()
     ensures conflicts_come_in_one_order { ConflictsComeInOneOrder }
 {}
 
-/// The laws of certified schedules, for every start of the slots and whatever is wanted of them. They say nothing yet of
-/// the values that slots hold at the end:
+/// The laws of certified schedules, for every start of the slots and whatever is wanted of them:
 ///
+/// - `certified_is_right_everywhere`: in each complete interleaving, and whatever is eager, each operation has an end,
+///   the pairs join each send with the receive of its channel and no others, and each slot holds what is wanted of it.
+/// - `matched_holds_as_the_walk`: what is matched and has no race leaves in each slot what the walk leaves, in each
+///   complete interleaving and whatever is eager, and each send has read the same.
 /// - `certified_ends_everywhere`: in each complete interleaving, and whatever is eager, each operation has an end, and
 ///   the pairs join each send with the receive of its channel and no others.
 /// - `certified_conflicts_in_one_order`: two operations of which one writes a slot that the other touches come in one
 ///   order, the same in every interleaving.
 pub fn laws_of_certified_schedules()
+    ensures certified_is_right_everywhere { CertifiedIsRightEverywhere }
+    ensures matched_holds_as_the_walk { MatchedHoldsAsTheWalk }
     ensures certified_ends_everywhere { CertifiedEndsEverywhere }
     ensures certified_conflicts_in_one_order { CertifiedConflictsInOneOrder }
 {}
