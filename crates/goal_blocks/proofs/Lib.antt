@@ -1,12 +1,14 @@
 pub mod Channels
 pub mod Fitting
-pub mod Positions
+pub mod RingAndTree
 pub mod Slim
 pub mod Totals
 pub mod MadeFits
 pub mod Trees
 pub mod RootedFits
 pub mod MadeAccepted
+pub mod PlanBy
+pub mod ForCallers
 pub mod Matched
 pub mod Race
 pub mod SomeWalk

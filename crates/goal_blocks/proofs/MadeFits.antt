@@ -12,8 +12,8 @@ use Rattle.goal_blocks.specs.Fitting.{AreFitting}
 use Rattle.goal_blocks.specs.Positions.{ahead, back, flipped, digits}
 use Rattle.goal_blocks.specs.Made.{bcast_in, bcast_count, before_round, round_in, barrier_in, allreduce_in, before_send, ring_in, allgather_in, shift_in, alltoall_in}
 use Rattle.goal_blocks.specs.MadeRooted.{part_in, reduce_scatter_in, scan_in, scan_count}
-use Rattle.goal_blocks.specs.Generated.{IsPower}
-use Rattle.goal_blocks.proofs.Positions.{ahead_below, back_below, flipped_below, digits_low, digits_few, digits_some, upward_some, upward_few}
+use Rattle.std.specs.Int.{IsPowerOfTwo}
+use Rattle.goal_blocks.proofs.RingAndTree.{ahead_below, back_below, flipped_below, digits_low, digits_few, digits_some, upward_some, upward_few}
 use Rattle.goal_blocks.proofs.Totals.{sum_range_few}
 use Rattle.goal_blocks.proofs.Slim.{IsSlim, All_one, All_two, slot_in_order, sending_slim, receiving_slim, summing_slim, slim_fitting}
 
@@ -86,16 +86,16 @@ module _ (ranks bytes : ℕ) (small : bytes ≤ MAX_BYTES) where
       (even_total ranks 16384 42 (λ r. 3 * digits (ranks - 1)) few (λ r in_rank. omega arith)) (omega arith) (omega arith) (omega arith)
 
   -- the allreduce
-  pub allreduce_fits : ranks ≤ 16384 → IsPower ranks → AreFitting ranks (λ r. 3 * digits (ranks - 1)) (λ r i. allreduce_in bytes r i)
+  pub allreduce_fits : ranks ≤ 16384 → IsPowerOfTwo ranks → AreFitting ranks (λ r. 3 * digits (ranks - 1)) (λ r i. allreduce_in bytes r i)
   unfolding allreduce_in
   allreduce_fits few p =
-      let some = pow_pos p.exponent in
-      let is = p.power in
+      let some = pow_pos p.0 in
+      let is = p.1 in
       let rounds_few = digits_few (ranks - 1) 14 (omega arith) (omega arith) in
-      let rounds_are = digits_few (ranks - 1) p.exponent (omega arith) (omega arith) in
+      let rounds_are = digits_few (ranks - 1) p.0 (omega arith) (omega arith) in
       slim_fitting ranks (λ r. 3 * digits (ranks - 1)) (λ r i. allreduce_in bytes r i) 2 1 (16384 * 42) (omega arith) (omega arith)
       (λ r i in_rank inside.
-      let other = flipped_below p.exponent r (i / 3) (omega arith) (omega arith) in
+      let other = flipped_below p.0 r (i / 3) (omega arith) (omega arith) in
       round_slim (flipped r (i / 3)) (flipped r (i / 3)) (i / 3) (i % 3) i (omega arith) (omega arith) (omega arith))
       (even_total ranks 16384 42 (λ r. 3 * digits (ranks - 1)) few (λ r in_rank. omega arith)) (omega arith) (omega arith) (omega arith)
 

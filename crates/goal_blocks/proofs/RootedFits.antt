@@ -11,7 +11,7 @@ use Rattle.goal_blocks.specs.Fitting.{AreFitting}
 use Rattle.goal_blocks.specs.Positions.{ahead, back, low, rounds, parent, upward, span, share}
 use Rattle.goal_blocks.specs.MadeRooted.{earlier_sum, hear_in, reduce_in, gather_in, give_in, scatter_in}
 use Rattle.goal_blocks.proofs.Fitting.{All-range}
-use Rattle.goal_blocks.proofs.Positions.{ahead_below, back_below, upward_some, upward_few}
+use Rattle.goal_blocks.proofs.RingAndTree.{ahead_below, back_below, upward_some, upward_few}
 use Rattle.goal_blocks.proofs.Slim.{IsSlim, AreInOrder, All_one, All_two, slot_in_order, sending_slim, receiving_slim, summing_slim, slim_fitting}
 use Rattle.goal_blocks.proofs.Trees.{rounds_few, child_below, tree_total}
 

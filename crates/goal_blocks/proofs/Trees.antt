@@ -9,7 +9,7 @@ use Rattle.std.proofs.lemmas.List.FromFn.{sum_by-map-range_with_len_more}
 use Rattle.std.proofs.lemmas.Nat.{pow_pos}
 use Rattle.goal_blocks.specs.Positions.{back, digits, low, rounds}
 use Rattle.goal_blocks.proofs.Fitting.{sum_by-map}
-use Rattle.goal_blocks.proofs.Positions.{digits_low, digits_few}
+use Rattle.goal_blocks.proofs.RingAndTree.{digits_low, digits_few}
 
 -- f 0 + .. + f (n - 1)
 sum_below : (ℕ → ℕ) → ℕ → ℕ

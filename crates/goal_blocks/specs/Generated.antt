@@ -1,5 +1,6 @@
 -- The schedule of each of the ten collectives, and for which ranks there is one.
-use Rattle.std.specs.Prelude.{ℕ, ◌+◌, ◌-◌, ◌*◌, ◌^◌, ◌≡◌, ◌<◌, ◌≤◌, List}
+use Rattle.std.specs.Prelude.{ℕ, ◌+◌, ◌-◌, ◌*◌, ◌<◌, ◌≤◌, List}
+use Rattle.std.specs.Int.{IsPowerOfTwo}
 use Rattle.goal_base.specs.declared.limits.TheConstants.{MAX_BYTES}
 use Rattle.goal_graph.specs.Schedule.{Plan}
 use Rattle.goal_graph.specs.Fault.{IsAccepted}
@@ -61,13 +62,9 @@ HasRoot (Gather root) ranks = root < ranks
 HasRoot (Scatter root) ranks = root < ranks
 HasRoot _ ranks = Unit {0}
 
-pub record IsPower (n : ℕ) : Type 0 where
-  pub exponent : ℕ
-  pub power : n ≡ 2 ^ exponent
-
 -- the ranks of an allreduce are a power of two
 abbrev pub HasPower : Collective → ℕ → Type 0
-HasPower Allreduce ranks = IsPower ranks
+HasPower Allreduce ranks = IsPowerOfTwo ranks
 HasPower _ ranks = Unit {0}
 
 -- there is a schedule for so many ranks

@@ -13,3 +13,4 @@ pub mod Positions
 pub mod Made
 pub mod MadeRooted
 pub mod Generated
+pub mod Steps

@@ -1,6 +1,45 @@
-// The laws of schedules that are told by entries. Their function does nothing: a proof cites a law by a call.
+// For which ranks a collective has a schedule. The laws of schedules that are told by entries: their function does
+// nothing, and a proof cites a law by a call.
 ghost use Rattle.goal_blocks.specs.Fitting.{FittingIsAccepted};
 ghost use Rattle.goal_blocks.specs.Generated.{MadeIsAccepted};
+
+use crate::collective::Collective;
+
+impl Collective {
+    ghost use Rattle.std.specs.Prelude.{◌≡◌, ◌↔◌, IsTrue};
+    ghost use Rattle.goal_blocks.specs.Generated.{most_ranks, HasRoot};
+
+    /// The most ranks that its schedule may have.
+    #[must_use]
+    pub fn most_ranks(&self) -> u32
+        ensures { result ≡ most_ranks self.now }
+    {
+        match self {
+            Collective::Bcast { .. }
+            | Collective::Reduce { .. }
+            | Collective::Gather { .. }
+            | Collective::Scatter { .. } => 65_536,
+            Collective::Barrier | Collective::Allreduce => 16_384,
+            Collective::Allgather | Collective::Alltoall => 512,
+            Collective::ReduceScatter => 128,
+            Collective::Scan => 2_048,
+        }
+    }
+
+    /// Whether its root, if it has one, is one of so many ranks.
+    #[must_use]
+    pub fn has_root(&self, ranks: u32) -> bool
+        ensures { IsTrue result ↔ HasRoot self.now ranks }
+    {
+        match self {
+            Collective::Bcast { root }
+            | Collective::Reduce { root }
+            | Collective::Gather { root }
+            | Collective::Scatter { root } => *root < ranks,
+            _ => true,
+        }
+    }
+}
 
 /// The laws of schedules that are told by an entry for each rank and number:
 ///

@@ -2,7 +2,7 @@
 use Rattle.std.proofs.Common.{◌≡◌, ◌⊎◌, ℕ, suc, ◌+◌, ◌-◌, ◌*◌, ◌/◌, ◌%◌, ◌^◌, ◌<◌, ◌≤◌, eqb, Bool, true, false, inl, inr, refl, ap, ◌∙◌, subst, arith, shr_lt}
 use Rattle.std.proofs.lemmas.Bool.{cases_lt}
 use Rattle.std.proofs.lemmas.Bool.Decides.{nat_tests}
-use Rattle.std.proofs.lemmas.Nat.{leading_length, pow_pos, pow-add, mod_below, div-add-mod'}
+use Rattle.std.proofs.lemmas.Nat.{leading_length, one_shl, pow_pos, pow-add, mod_below, div-add-mod'}
 use Rattle.std.proofs.Math.Pow.{pow_mono}
 use Rattle.std.proofs.Math.Nat.{pow-suc, mul-le-mul_right}
 use Rattle.std.specs.Prelude.{if◌then◌else◌}
@@ -91,3 +91,7 @@ upward_some v h = grind (arith, nat_tests)
 
 pub upward_few : (v : ℕ) → upward v ≤ 1
 upward_few v = grind (arith, nat_tests)
+
+-- 1 shifted by less than 32 places
+pub one_shifted : (k : ℕ) → k < 32 → (1 * 2 ^ k) % 2 ^ 32 ≡ 2 ^ k
+one_shifted k h = one_shl k 32 h

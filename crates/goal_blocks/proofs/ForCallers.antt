@@ -1,0 +1,4 @@
+-- The lemmas of this crate that upper crates cite: they import this file alone.
+pub use Rattle.goal_blocks.proofs.MadeAccepted.{made_accepted}
+pub use Rattle.goal_blocks.proofs.RingAndTree.{ahead_below, back_below, digits_few, digits_high, digits_low, digits_some, flipped_below}
+pub use Rattle.goal_blocks.proofs.Trees.{child_below, rounds_few}

@@ -1,0 +1,238 @@
+// Schedules that are told by rank and number: what a step is, and the plans of all ranks.
+ghost use Rattle.std.specs.Prelude.{◌≡◌, ℕ, ◌^◌, ◌<◌, [], ◌∷◌, ◌++◌, map, OnOk, IfOk};
+ghost use Rattle.std.specs.List.{range_with_len};
+ghost use Rattle.goal_graph.specs.declared.plan.When.TheVariants.{AfterEnd};
+ghost use Rattle.goal_blocks.specs.Made.{before_round};
+ghost use Rattle.goal_blocks.specs.Entries.{Entry, plan_by, made_by};
+ghost use Rattle.goal_blocks.specs.Steps.{entry_of, needs_of, notes_from};
+
+use goal_graph::{Dep, Kind, Note, Op, RankPlan, When};
+use std::alloc::{AllocError, Global};
+
+/// The numbers of the operations whose ends a step requires.
+#[derive(Clone, Copy, Debug, PartialEq, Eq)]
+pub enum Needs {
+    Nothing,
+    One(u32),
+    Two(u32, u32),
+    /// All below a number.
+    Below(u32),
+}
+
+/// What a step does to slots.
+#[derive(Clone, Copy, Debug, PartialEq, Eq)]
+pub enum Effect {
+    /// A send reads, or a receive sets, the slots `lo` up to `hi`.
+    Moves { lo: u32, hi: u32 },
+    /// A send reads, or a receive sets, the slots `lo` up to `last`, and then 0 up to `hi`.
+    Wraps { lo: u32, last: u32, hi: u32 },
+    /// A calc adds the value of slot `from` to that of slot `to`.
+    Adds { from: u32, to: u32 },
+}
+
+/// An operation of a rank, with what it requires and what it does to slots.
+#[derive(Clone, Copy, Debug, PartialEq, Eq)]
+pub struct Step {
+    pub kind: Kind,
+    pub needs: Needs,
+    pub effect: Effect,
+}
+
+impl Step {
+    ghost use Rattle.std.specs.Prelude.{◌≡◌, Some};
+    ghost use Rattle.goal_graph.specs.declared.plan.Kind.TheVariants.{Calc, Send, Recv};
+    ghost use Rattle.goal_blocks.specs.declared.steps.Needs.TheVariants.{Nothing};
+    ghost use Rattle.goal_blocks.specs.declared.steps.Effect.TheVariants.{Adds};
+
+    /// A send of `bytes` bytes.
+    #[must_use]
+    pub fn send(bytes: u64, to: u32, tag: u32, needs: Needs, effect: Effect) -> Step
+        ensures { result ≡ record { kind = Send bytes to tag; needs = needs; effect = effect } }
+    {
+        let kind = Kind::Send { bytes, to, tag };
+        Step {
+            kind,
+            needs,
+            effect,
+        }
+    }
+
+    /// A receive of `bytes` bytes, which requires nothing.
+    #[must_use]
+    pub fn receive(bytes: u64, from: u32, tag: u32, effect: Effect) -> Step
+        ensures { result ≡ record { kind = Recv bytes (Some from) (Some tag); needs = Nothing; effect = effect } }
+    {
+        let kind = Kind::Recv {
+            bytes,
+            from: Some(from),
+            tag: Some(tag),
+        };
+        Step {
+            kind,
+            needs: Needs::Nothing,
+            effect,
+        }
+    }
+
+    /// A calc that takes no time, and adds the slot `from` to the slot `to`.
+    #[must_use]
+    pub fn sum(needs: Needs, from: u32, to: u32) -> Step
+        ensures { result ≡ record { kind = Calc 0; needs = needs; effect = Adds from to } }
+    {
+        let kind = Kind::Calc { nanos: 0 };
+        Step {
+            kind,
+            needs,
+            effect: Effect::Adds { from, to },
+        }
+    }
+}
+
+impl Effect {
+    ghost use Rattle.std.specs.Prelude.{◌≡◌};
+    ghost use Rattle.goal_blocks.specs.declared.steps.Effect.TheVariants.{Moves};
+
+    /// A send reads, or a receive sets, one slot.
+    #[must_use]
+    pub fn slot(slot: u32) -> Effect
+        ensures { result ≡ Moves slot slot }
+    {
+        Effect::Moves { lo: slot, hi: slot }
+    }
+}
+
+/// What the first of the three operations of a round requires: the last one of the round before.
+#[must_use]
+pub fn before_round(round: u32) -> Needs
+    requires { round < 2 ^ 30 }
+    ensures { needs_of result ≡ before_round round }
+{
+    if round == 0 {
+        return Needs::Nothing;
+    }
+    Needs::One(3 * round - 1)
+}
+
+// The operation `later` requires the end of the operation `earlier`.
+fn push_need(deps: &mut Vec<Dep>, later: u32, earlier: u32) -> Result<(), AllocError>
+    ensures { OnOk result (deps.new.items
+        ≡ deps.old.items ++ record { later = later; earlier = earlier; when = AfterEnd } ∷ []) }
+{
+    deps.push(Dep {
+        later,
+        earlier,
+        when: When::AfterEnd,
+    })?;
+    Ok(())
+}
+
+// The operation `later` requires the ends of all below `end`.
+fn push_needs_below(deps: &mut Vec<Dep>, later: u32, end: u32) -> Result<(), AllocError>
+    ensures { OnOk result (deps.new.items ≡ deps.old.items
+        ++ map (λ k. record { later = later; earlier = k; when = AfterEnd }) (range_with_len 0 end)) }
+{
+    for earlier in 0..end {
+        push_need(deps, later, earlier)?;
+    }
+    Ok(())
+}
+
+// The operation `later` requires the ends of these.
+fn push_needs(deps: &mut Vec<Dep>, later: u32, needs: Needs) -> Result<(), AllocError>
+    ensures { OnOk result (deps.new.items ≡ deps.old.items
+        ++ map (λ k. record { later = later; earlier = k; when = AfterEnd }) (needs_of needs)) }
+{
+    match needs {
+        Needs::Nothing => Ok(()),
+        Needs::One(earlier) => push_need(deps, later, earlier),
+        Needs::Two(first, second) => {
+            push_need(deps, later, first)?;
+            push_need(deps, later, second)
+        }
+        Needs::Below(end) => push_needs_below(deps, later, end),
+    }
+}
+
+// What the operation `op` does to slots.
+fn push_notes(notes: &mut Vec<Note>, op: u32, effect: Effect) -> Result<(), AllocError>
+    ensures { OnOk result (notes.new.items ≡ notes.old.items ++ notes_from op effect) }
+{
+    match effect {
+        Effect::Moves { lo, hi } => notes.push(Note::Moves { op, lo, hi })?,
+        Effect::Wraps { lo, last, hi } => {
+            notes.push(Note::Moves { op, lo, hi: last })?;
+            notes.push(Note::Moves { op, lo: 0, hi })?;
+        }
+        Effect::Adds { from, to } => notes.push(Note::Adds { op, from, to })?,
+    }
+    Ok(())
+}
+
+/// A schedule that is told by rank and number: how many operations a rank has, and what each of them is.
+pub trait Formula {
+    /// How many ranks there are.
+    ghost rank_count: { Self → ℕ };
+
+    /// How many operations a rank has.
+    ghost op_count: { Self → ℕ → ℕ };
+
+    /// The operation of a rank and a number.
+    ghost entry_at: { Self → ℕ → ℕ → Entry };
+
+    /// How many ranks there are.
+    fn ranks(&self) -> u32
+        ensures { result ≡ rank_count self.now };
+
+    /// How many operations a rank has.
+    fn count(&self, rank: u32) -> u32
+        requires { rank < rank_count self.now }
+        ensures { result ≡ op_count self.now rank };
+
+    /// The operation of a rank and a number.
+    fn step(&self, rank: u32, number: u32) -> Step
+        requires rank { rank < rank_count self.now }
+        requires number { number < op_count self.now rank }
+        ensures { entry_of result ≡ entry_at self.now rank number };
+}
+
+// The plan of a rank.
+fn plan_of<F: Formula>(alloc: Global, formula: &F, rank: u32) -> Result<RankPlan, AllocError>
+    requires { rank < F.rank_count formula.now }
+    ensures { IfOk result (λ plan. plan ≡ plan_by (F.op_count formula.now rank) (F.entry_at formula.now rank)) }
+{
+    let mut ops = Vec::new(alloc);
+    let mut deps = Vec::new(alloc);
+    let mut notes = Vec::new(alloc);
+    for number in 0..formula.count(rank) {
+        let Step {
+            kind,
+            needs,
+            effect,
+        } = formula.step(rank, number);
+        ops.push(Op {
+            kind,
+            cpu: 0,
+            nic: 0,
+        })?;
+        push_needs(&mut deps, number, needs)?;
+        push_notes(&mut notes, number, effect)?;
+    }
+    Ok(RankPlan { ops, deps, notes })
+}
+
+/// The plans of all ranks, made in one pass.
+///
+/// # Errors
+///
+/// Want of memory.
+pub fn plans_of<F: Formula>(alloc: Global, formula: &F) -> Result<Vec<RankPlan>, AllocError>
+    ensures { IfOk result (λ plans. plans.items
+        ≡ made_by (F.rank_count formula.now) (F.op_count formula.now) (F.entry_at formula.now)) }
+{
+    let mut plans = Vec::new(alloc);
+    for rank in 0..formula.ranks() {
+        let plan = plan_of(alloc, formula, rank)?;
+        plans.push(plan)?;
+    }
+    Ok(plans)
+}
