@@ -4,6 +4,7 @@ pub mod Targets
 pub mod Written
 pub mod Finding
 pub mod PatternLemmas
+mod Searching
 pub mod Marks
 pub mod Entries
 pub mod MatchListLemmas

@@ -1,5 +1,6 @@
 -- Match lists: what one keeps when its first entry is looked for, when an entry is added, and when more is paired.
-use Rattle.std.proofs.Common.{ℕ, ◌≤◌, ◌≡◌, Bool, true, false, not, List, [], ◌∷◌, ◌++◌, length, take, find, get_or, Option, Some, None, ◌<◌, All, refl, arith, sym, ap, ◌∙◌, subst}
+use Rattle.std.proofs.Common.{ℕ, ◌≤◌, ◌≡◌, Bool, true, false, not, List, [], ◌∷◌, ◌++◌, length, take, find, get_or, slice_get, Option, Some, None, ◌<◌, All, refl, arith, sym, ap, ◌∙◌, subst}
+use Rattle.std.proofs.lemmas.Option.{slice_get_read, slice_get_past}
 use Rattle.std.proofs.lemmas.List.{take-append-le, length-append, length-take, get_or-take, take_all}
 use Rattle.std.proofs.lemmas.List.Elements.{All-weaker}
 use Rattle.goal_graph.specs.declared.action.OpId.{OpId}
@@ -71,6 +72,7 @@ module _ (marked : OpId → Bool) (old now : MatchList) (i : ℕ) (head : now.he
         found = ap (λ (f : MatchEntry). Some f) at ∙ sym (find_at_place (λ (f : MatchEntry). not (marked f.op)) old.entries.items i e (omega (arith, inside, long)) (ap (λ (f : MatchEntry). not (marked f.op)) (sym at) ∙ ap not waits) (λ k b. ap not (before k e b (omega (arith, inside, long, b)))));
         entries = same;
         within = omega (arith, head, inside, long);
+        at_head = ap (slice_get old.entries.items) head ∙ slice_get_read old.entries.items (length old.entries.items) i e refl (omega (arith, inside, long)) at;
         skipped = passed;
       }
     where
@@ -87,5 +89,6 @@ module _ (marked : OpId → Bool) (old now : MatchList) (i : ℕ) (head : now.he
         found = sym (find_none (λ (f : MatchEntry). not (marked f.op)) old.entries.items (All-weaker (λ (e : MatchEntry). marked e.op ≡ true) (λ (e : MatchEntry). not (marked e.op) ≡ false) (λ e t. ap not t) old.entries.items (subst (All (λ (e : MatchEntry). marked e.op ≡ true)) (take_all i old.entries.items (omega (arith, at_end, long))) skipped)));
         entries = same;
         within = omega (arith, head, at_end, long);
+        at_head = slice_get_past old.entries.items now.head (omega (arith, head, at_end, long));
         skipped = passed;
       }

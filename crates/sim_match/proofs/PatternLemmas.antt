@@ -1,9 +1,9 @@
 -- Patterns and their numbers.
-use Rattle.std.proofs.Common.{ℕ, zero, suc, ◌<◌, ◌≤◌, ◌+◌, ◌≡◌, ◌==◌, ◌&&◌, ◌||◌, Bool, true, false, List, [], ◌∷◌, ◌++◌, length, get_or, map, Option, Some, None, inl, inr, slice_get, take, position, refl, arith, sym, ap, ap₂, ◌∙◌, subst, eq-eqb, append-nil, if◌then◌else◌, Contains}
+use Rattle.std.proofs.Common.{ℕ, zero, suc, ◌<◌, ◌≤◌, ◌+◌, ◌≡◌, ◌==◌, ◌&&◌, ◌||◌, Bool, true, false, List, [], ◌∷◌, ◌++◌, length, get_or, map, Option, Some, None, inl, inr, slice_get, take, position, refl, arith, sym, ap, ap₂, ◌∙◌, subst, eq-eqb, Contains}
 use Rattle.std.specs.List.{list_any, position_or_len}
-use Rattle.std.proofs.lemmas.Bool.{cond-true, both_ways, and_parts, and_from, eqb-true, ne_eqb, lt-ltb, cases_lt, false_from_ne_true}
+use Rattle.std.proofs.lemmas.Bool.{cond-true, cond-false, le-ltb, both_ways, and_parts, and_from, eqb-true, ne_eqb, lt-ltb, cases_lt, false_from_ne_true}
 use Rattle.std.proofs.lemmas.Option.{none-some, same_Some, get_or_from_slice_get, slice_get_within, slice_get_read}
-use Rattle.std.proofs.lemmas.List.{get_or_append_left, length-append}
+use Rattle.std.proofs.lemmas.List.Elements.{Contains-append_left, Contains-append_right}
 use Rattle.std.proofs.lemmas.List.Quantifiers.{position-Some}
 use Rattle.std.proofs.lemmas.List.Sums.{position_or_len_is, fails_before_first}
 use Rattle.goal_graph.specs.declared.action.OpId.{OpId}
@@ -41,22 +41,21 @@ same_pattern_itself p =
     and_from _ _ (eq-eqb p.rank p.rank refl) (and_from _ _ (same_choice_itself p.from) (same_choice_itself p.tag))
 
 -- the first place that passes
-position_at : {X : Type 0} (p : X → Bool) (xs : List X) (i : ℕ) (d : X) → i < length xs → p (get_or xs i d) ≡ true → ((k : ℕ) → k < i → p (get_or xs k d) ≡ false) → position p xs ≡ Some i
+pub position_at : {X : Type 0} (p : X → Bool) (xs : List X) (i : ℕ) (d : X) → i < length xs → p (get_or xs i d) ≡ true → ((k : ℕ) → k < i → p (get_or xs k d) ≡ false) → position p xs ≡ Some i
 position_at p xs i d inside passes before =
     let at = position_or_len_is p xs i d (omega arith) before (λ l. passes) in
     cond-true _ (Some (position_or_len p xs)) None (lt-ltb (position_or_len p xs) (length xs) (omega (arith, at))) ∙ ap (λ (n : ℕ). Some n) at
+
+pub position_past : {X : Type 0} (p : X → Bool) (xs : List X) (d : X) → ((k : ℕ) → k < length xs → p (get_or xs k d) ≡ false) → position p xs ≡ None
+position_past p xs d fails =
+    let at = position_or_len_is p xs (length xs) d (omega arith) fails (λ l. absurd (omega (arith, l))) in
+    cond-false _ (Some (position_or_len p xs)) None (le-ltb (position_or_len p xs) (length xs) (omega (arith, at)))
 
 position_none : {X : Type 0} (p : X → Bool) (xs : List X) → position p xs ≡ None → length xs ≤ position_or_len p xs
 position_none p xs e =
     elim (cases_lt (position_or_len p xs) (length xs)) [ inl l ↦ absurd (none-some (position_or_len p xs) (sym e ∙ cond-true _ (Some (position_or_len p xs)) None (lt-ltb _ _ l))) | inr l ↦ l ]
 
--- a pattern keeps its number where more come after it
-pub number_kept : (keys more : List Pattern) (p : Pattern) (i : ℕ) → number keys p ≡ Some i → number (keys ++ more) p ≡ Some i
-number_kept keys more p i e =
-    let at = position-Some (same_pattern p) keys i p e in
-    let longer = length-append keys more in
-    position_at (same_pattern p) (keys ++ more) i p (omega (arith, at.0, longer)) (ap (same_pattern p) (get_or_append_left keys more p i at.0) ∙ at.1) (λ k b. ap (same_pattern p) (get_or_append_left keys more p k (omega (arith, b, at.0))) ∙ at.2 k b)
-
+-- a number is that of a pattern
 pub number_within : (keys : List Pattern) (p : Pattern) (i : ℕ) → number keys p ≡ Some i → i < length keys
 number_within keys p i e = (position-Some (same_pattern p) keys i p e).0
 
@@ -198,64 +197,33 @@ lists_once plans keys m s = subst AreOnce (sym (send_lists plans keys m s)) (fou
 pub lists_within : (plans : List Plan) (keys : List Pattern) (m : OpId) → IsSend plans m → AreWithin (lists_for plans keys m) (length keys)
 lists_within plans keys m s = subst (λ (ns : List (Option ℕ)). AreWithin ns (length keys)) (sym (send_lists plans keys m s)) (four_within keys m.rank s.to s.tag)
 
--- each receive among the first n operations has a list
-abbrev pub AreListedTo : List Plan → List OpId → ℕ → List Pattern → Type 0
-AreListedTo plans ops n keys = (k : ℕ) (x : OpId) → k < n → slice_get ops k ≡ Some x → IsReceive plans x → IsListed plans keys x
+-- the patterns of the first n operations are among these
+abbrev pub AreCollected : List Plan → List OpId → ℕ → List Pattern → Type 0
+AreCollected plans ops n keys = (k : ℕ) (x : OpId) (p : Pattern) → k < n → slice_get ops k ≡ Some x → pattern_of x (kind_at plans x) ≡ Some p → Contains keys p
 
-pub listed_none : (plans : List Plan) (ops : List OpId) (keys : List Pattern) → AreListedTo plans ops 0 keys
-listed_none plans ops keys k x below at r = absurd (omega arith)
+pub collected_none : (plans : List Plan) (ops : List OpId) (keys : List Pattern) → AreCollected plans ops 0 keys
+collected_none plans ops keys k x p below at is = absurd (omega arith)
 
-module _ (plans : List Plan) (ops : List OpId) (n : ℕ) (keys : List Pattern) (before : AreListedTo plans ops n keys) (x : OpId) (at : slice_get ops n ≡ Some x) where
-  -- an operation that is no receive
-  pub listed_same : (IsReceive plans x → ⊥) → AreListedTo plans ops (n + 1) keys
-  listed_same none k y below read r =
-      elim (cases_lt k n) [
-        | inl less ↦ before k y less read r
-        | inr no_less ↦
-            let same : n ≡ k = omega arith in
-            absurd (none (subst (IsReceive plans) (same_Some y x (sym read ∙ ap (slice_get ops) (sym same) ∙ at)) r))
-      ]
+-- one more operation, which has these patterns
+pub collected_more : (plans : List Plan) (ops : List OpId) (n : ℕ) (keys more : List Pattern) → AreCollected plans ops n keys → (x : OpId) → slice_get ops n ≡ Some x → ((p : Pattern) → pattern_of x (kind_at plans x) ≡ Some p → Contains more p) → AreCollected plans ops (n + 1) (keys ++ more)
+collected_more plans ops n keys more before x at has k y p below read is =
+    elim (cases_lt k n) [
+      | inl less ↦ Contains-append_left keys more p (before k y p less read is)
+      | inr no_less ↦
+          let same : n ≡ k = omega arith in
+          let alike : y ≡ x = same_Some y x (sym read ∙ ap (slice_get ops) (sym same) ∙ at) in
+          Contains-append_right keys more p (has p (subst (λ (z : OpId). pattern_of z (kind_at plans z) ≡ Some p) alike is))
+    ]
 
-  -- a receive, whose pattern goes last where it is new
-  listed_kept : (more : List Pattern) (y : OpId) → IsListed plans keys y → IsListed plans (keys ++ more) y
-  listed_kept more y its = record {
-    list = its.list;
-    is = go (pattern_of y (kind_at plans y)) its.is;
-    within = let longer = length-append keys more in omega (arith, its.within, longer);
-  }
-    where
-      go : (o : Option Pattern) → list_number keys o ≡ Some its.list → list_number (keys ++ more) o ≡ Some its.list
-      go None e = absurd (none-some its.list e)
-      go (Some p) e = number_kept keys more p its.list e
-
-  listed_by : (more : List Pattern) → IsListed plans (keys ++ more) x → AreListedTo plans ops (n + 1) (keys ++ more)
-  listed_by more its k y below read r =
-      elim (cases_lt k n) [
-        | inl less ↦ listed_kept more y (before k y less read r)
-        | inr no_less ↦
-            let same : n ≡ k = omega arith in
-            subst (IsListed plans (keys ++ more)) (same_Some x y (sym at ∙ ap (slice_get ops) same ∙ read)) its
-      ]
-
-  pub listed_more : (p q : Pattern) (j : ℕ) (after : List Pattern) → pattern_of x (kind_at plans x) ≡ Some p → after ≡ (if list_any (same_pattern p) keys then keys else keys ++ p ∷ []) → slice_get after j ≡ Some q → same_pattern p q ≡ true → AreListedTo plans ops (n + 1) after
-  listed_more p q j after its grown there same = go (list_any (same_pattern p) keys) grown
-    where
-      has : IsListed plans after x
-      has =
-          let place = number_there after p j q there same in
-          record { list = place.0; is = ap (list_number after) its ∙ place.1; within = number_within after p place.0 place.1 }
-
-      by : (more : List Pattern) → after ≡ keys ++ more → AreListedTo plans ops (n + 1) after
-      by more e = subst (AreListedTo plans ops (n + 1)) (sym e) (listed_by more (subst (λ (ks : List Pattern). IsListed plans ks x) e has))
-
-      go : (b : Bool) → after ≡ (if b then keys else keys ++ p ∷ []) → AreListedTo plans ops (n + 1) after
-      go true e = by [] (e ∙ sym (append-nil keys))
-      go false e = by (p ∷ []) e
-
-pub listed_all : (plans : List Plan) (n : ℕ) (keys : List Pattern) → AreListedTo plans (operations plans) n keys → length (operations plans) ≤ n → AreListed plans keys
-listed_all plans n keys to all x r =
+-- each receive has a list where all patterns are there
+pub listed_all : (plans : List Plan) (n : ℕ) (keys : List Pattern) → ((p : Pattern) (k : ℕ) (x : OpId) → k < n → slice_get (operations plans) k ≡ Some x → pattern_of x (kind_at plans x) ≡ Some p → Contains keys p) → length (operations plans) ≤ n → AreListed plans keys
+listed_all plans n keys there all x r =
     let place = at_place (operations plans) x (kind_listed plans x _ r.kind) in
-    to place.0 x (omega (arith, all, slice_get_within (operations plans) place.0 x place.1)) place.1 r
+    let p : Pattern = record { rank = x.rank; from = r.from; tag = r.tag } in
+    let is : pattern_of x (kind_at plans x) ≡ Some p = ap (pattern_of x) r.kind in
+    let at = at_place keys p (there p place.0 x (omega (arith, all, slice_get_within (operations plans) place.0 x place.1)) place.1 is) in
+    let its = number_there keys p at.0 p at.1 (same_pattern_itself p) in
+    record { list = its.0; is = ap (list_number keys) is ∙ its.1; within = number_within keys p its.0 its.1 }
   where
-    at_place : (xs : List OpId) (x : OpId) → Contains xs x → (k : ℕ) × (slice_get xs k ≡ Some x)
+    at_place : {X : Type 0} (xs : List X) (x : X) → Contains xs x → (k : ℕ) × (slice_get xs k ≡ Some x)
     at_place xs x c = (c.0, slice_get_read xs (length xs) c.0 x refl c.1 (sym c.2))

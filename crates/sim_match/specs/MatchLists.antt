@@ -1,5 +1,5 @@
 -- Marks of operations, entries of posts and arrivals, and match lists.
-use Rattle.std.specs.Prelude.{◌≡◌, ◌≤◌, ◌==◌, ◌||◌, not, Bool, true, false, List, [], ◌∷◌, ◌++◌, length, take, find, All, Option, Some, None, nat_lt, if◌then◌else◌, vec_capacity}
+use Rattle.std.specs.Prelude.{◌≡◌, ◌≤◌, ◌==◌, ◌||◌, not, Bool, true, false, List, [], ◌∷◌, ◌++◌, length, take, find, All, Option, Some, None, nat_lt, if◌then◌else◌, slice_get, vec_capacity}
 use Rattle.goal_graph.specs.declared.action.OpId.{OpId}
 use Rattle.goal_graph.specs.declared.action.Class.{Class}
 use Rattle.goal_graph.specs.Schedule.{Plan, operations}
@@ -37,11 +37,13 @@ pub record IsReady (plans : List Plan) (marks : List Bool) (match_list : MatchLi
   pub within : match_list.head ≤ length match_list.entries.items
   pub skipped : All (λ (e : MatchEntry). is_marked (operations plans) marks e.op ≡ true) (take match_list.head match_list.entries.items)
 
--- the first entry that is not marked is found, and the head may have passed some that are
+-- The first entry that is not marked is found. The head stands at it, or at the end where there is none, so that each
+-- entry is skipped once in all.
 pub record IsFirst (marked : OpId → Bool) (old new : MatchList) (first : Option MatchEntry) : Type 0 where
   pub found : first ≡ find (λ (e : MatchEntry). not (marked e.op)) old.entries.items
   pub entries : new.entries ≡ old.entries
   pub within : new.head ≤ length old.entries.items
+  pub at_head : slice_get old.entries.items new.head ≡ first
   pub skipped : All (λ (e : MatchEntry). marked e.op ≡ true) (take new.head old.entries.items)
 
 -- one entry more

@@ -88,4 +88,4 @@ module _ (plans : List Plan) (keys : List Pattern) where
 -- what a match table keeps
 abbrev pub IsKept : List Plan → MatchTable → Type 0
 IsKept plans table =
-    Mirrors plans table.patterns.keys table.lists.items table.marks.items (actions_of table.events.items) (vec_capacity table.events)
+    Mirrors plans table.patterns table.lists.items table.marks.items (actions_of table.events.items) (vec_capacity table.events)

@@ -1,6 +1,9 @@
 -- The patterns of receives, and the lists in which an operation stands.
 use Rattle.std.specs.Prelude.{ℕ, ◌≡◌, ◌<◌, ◌==◌, ◌&&◌, Bool, true, false, List, [], ◌∷◌, length, map, Option, Some, None, position}
 use Rattle.std.specs.List.{list_any}
+use Rattle.std.specs.Option.{option_cmp}
+use Rattle.std.specs.declared.cmp.Ordering.{Ordering}
+use Rattle.std.specs.Ordering.{nat_cmp, ordering_then}
 use Rattle.goal_graph.specs.declared.action.OpId.{OpId}
 use Rattle.goal_graph.specs.declared.plan.Kind.{Kind}
 use Rattle.goal_graph.specs.declared.plan.Kind.TheVariants.{Calc, Send, Recv}
@@ -17,6 +20,11 @@ same_choice (Some k) (Some n) = k == n
 
 abbrev pub same_pattern : Pattern → Pattern → Bool
 same_pattern p q = (p.rank == q.rank) && (same_choice p.from q.from && same_choice p.tag q.tag)
+
+-- the order of patterns: by rank, then source, then tag; any stands first
+abbrev pub pattern_cmp : Pattern → Pattern → Ordering
+pattern_cmp p q =
+    ordering_then (nat_cmp p.rank q.rank) (ordering_then (option_cmp nat_cmp p.from q.from) (option_cmp nat_cmp p.tag q.tag))
 
 -- the pattern of a receive
 abbrev pub pattern_of : OpId → Option Kind → Option Pattern

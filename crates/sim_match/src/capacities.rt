@@ -7,9 +7,8 @@ ghost use Rattle.sim_match.specs.Waiting.{is_message, is_message_kind};
 ghost use Rattle.sim_match.specs.Patterns.{AreListed};
 ghost use Rattle.sim_match.specs.Capacities.{AreCapacities, AreCounted, AreOnce, AreWithin};
 
-use crate::pattern::{Pattern, list_of_receive, lists_for};
+use crate::pattern::{Patterns, list_of_receive, lists_for};
 use goal_graph::{Kind, OpId, Sched};
-use indexmap::IndexSet;
 use std::alloc::{AllocError, Global};
 
 /// How many receives a list has, and how many sends are for it.
@@ -41,10 +40,10 @@ fn count_send(capacities: &mut [Capacity], numbers: [Option<usize>; 4])
 pub fn capacities(
     alloc: Global,
     sched: &Sched,
-    patterns: &IndexSet<Pattern>,
+    patterns: &Patterns,
 ) -> Result<Vec<Capacity>, AllocError>
-    requires { AreListed sched.now patterns.now.keys }
-    ensures { IfOk result (λ capacities. AreCapacities sched.now patterns.now.keys (operations sched.now) capacities.items) }
+    requires { AreListed sched.now patterns.now }
+    ensures { IfOk result (λ capacities. AreCapacities sched.now patterns.now (operations sched.now) capacities.items) }
 {
     let none = Capacity {
         receives: 0,

@@ -12,11 +12,10 @@ ghost use Rattle.sim_match.specs.Matcher.{actions_of, ArePaired, IsJoined, IsKep
 
 use crate::capacities::{capacities, message_count};
 use crate::match_list::{MatchEntry, earlier, mark};
-use crate::pattern::{Pattern, list_of_receive, lists_for, patterns_of};
+use crate::pattern::{Patterns, list_of_receive, lists_for};
 use crate::pattern_lists::{PatternLists, empty_lists};
 use goal_base::NoMemory;
 use goal_graph::{Kind, OpId, Sched};
-use indexmap::IndexSet;
 use std::alloc::Global;
 
 /// A receive is posted, or a message or the request of a large one arrives.
@@ -30,16 +29,16 @@ pub enum Event {
 /// once it is paired.
 #[derive(Drop)]
 pub struct MatchTable {
-    pub patterns: IndexSet<Pattern>,
+    pub patterns: Patterns,
     pub lists: Vec<PatternLists>,
     pub marks: Vec<bool>,
     pub events: Vec<Event>,
 }
 
 // The numbers of the lists of a send.
-fn lists_of_send(patterns: &IndexSet<Pattern>, sched: &Sched, send: OpId) -> [Option<usize>; 4]
+fn lists_of_send(patterns: &Patterns, sched: &Sched, send: OpId) -> [Option<usize>; 4]
     requires { IsSend sched.now send }
-    ensures { result ≡ lists_for sched.now patterns.now.keys send }
+    ensures { result ≡ lists_for sched.now patterns.now send }
 {
     match sched.op(send).kind {
         Kind::Send { to, tag, .. } => lists_for(patterns, send.rank, to, tag),
@@ -73,7 +72,7 @@ impl MatchTable {
         ensures events { IfOk result (λ table. table.events.items ≡ []) }
     {
         sched.known();
-        let patterns = patterns_of(alloc, sched)?;
+        let patterns = Patterns::of(alloc, sched)?;
         let capacities = capacities(alloc, sched, &patterns)?;
         let lists = empty_lists(alloc, &capacities)?;
         let marks = vec![in alloc; false; sched.count() as usize]?;
@@ -110,7 +109,7 @@ impl MatchTable {
         requires kept { IsKept sched.now self.old }
         requires send { IsSend sched.now send }
         requires fresh { happened Arrive send (actions_of self.old.events.items) ≡ false }
-        ensures joined { IsJoined sched.now self.old.patterns.keys (actions_of self.old.events.items) send (lists_for sched.now self.old.patterns.keys send) self.new.lists.items result }
+        ensures joined { IsJoined sched.now self.old.patterns (actions_of self.old.events.items) send (lists_for sched.now self.old.patterns send) self.new.lists.items result }
         ensures patterns { self.new.patterns ≡ self.old.patterns }
         ensures marks { self.new.marks ≡ self.old.marks }
         ensures events { self.new.events ≡ self.old.events }

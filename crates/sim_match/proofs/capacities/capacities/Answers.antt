@@ -23,11 +23,11 @@ overflow_add-capacity c =
     omega (arith, fits)
 
 pub count_send-requires-clause-once : goal.count_send-requires-clause-once
-count_send-requires-clause-once c = rw c.lists_for.ensures (four_once c.args.patterns.now.keys (get_or c.operations-id-items.result.now c.loop-id.id-index (record { rank = 0; op = 0 })).rank c.in-Send.to c.in-Send.tag)
+count_send-requires-clause-once c = rw c.lists_for.ensures (four_once c.args.patterns.now (get_or c.operations-id-items.result.now c.loop-id.id-index (record { rank = 0; op = 0 })).rank c.in-Send.to c.in-Send.tag)
 
 pub count_send-requires-clause-within : goal.count_send-requires-clause-within
 count_send-requires-clause-within c = λ k i e.
-    let low = four_within c.args.patterns.now.keys (get_or c.operations-id-items.result.now c.loop-id.id-index (record { rank = 0; op = 0 })).rank c.in-Send.to c.in-Send.tag k i (rw c.lists_for.ensures at e) in
+    let low = four_within c.args.patterns.now (get_or c.operations-id-items.result.now c.loop-id.id-index (record { rank = 0; op = 0 })).rank c.in-Send.to c.in-Send.tag k i (rw c.lists_for.ensures at e) in
     omega (arith, low, c.deref_mut.ensures.len, c.loop-id.invariant.one_each, c.loop-id.capacities.ok.0)
 
 pub count_send-requires-clause-small : goal.count_send-requires-clause-small

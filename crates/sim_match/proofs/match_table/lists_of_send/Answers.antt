@@ -16,4 +16,4 @@ unreachable-requires c =
 
 pub returns : goal.returns
 returns c =
-    c.lists_for.ensures ∙ sym (ap (numbers_for c.args.patterns.now.keys c.args.send) (kind_read _ c.args.send _ c.op.ensures.op ∙ ap (λ (k : Kind). Some k) c.in-Send.is))
+    c.lists_for.ensures ∙ sym (ap (numbers_for c.args.patterns.now c.args.send) (kind_read _ c.args.send _ c.op.ensures.op ∙ ap (λ (k : Kind). Some k) c.in-Send.is))

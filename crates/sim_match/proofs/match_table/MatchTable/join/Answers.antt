@@ -16,19 +16,19 @@ loop-number-init c = record {
 
 pub arrive-first-requires-clause-ready : goal.arrive-first-requires-clause-ready
 arrive-first-requires-clause-ready c =
-    let inside : c.loop-number.number-index < length (lists_for c.args.sched.now c.args.self.now.patterns.keys c.args.send) = omega (arith, c.loop-number-test.true, ap length c.lists_of_send-number-items.ensures) in
+    let inside : c.loop-number.number-index < length (lists_for c.args.sched.now c.args.self.now.patterns c.args.send) = omega (arith, c.loop-number-test.true, ap length c.lists_of_send-number-items.ensures) in
     let ready = join_ready _ _ _ _ _ _ c.requires.kept c.args.send c.requires.send c.requires.fresh c.loop-number.number-index _ inside _ _ c.loop-number.invariant.joined c.in-Some.list (rw c.lists_of_send-number-items.ensures at c.in-Some.is) _ c.index_mut.ensures.value in
     rw (c.deref.ensures.value, c.loop-number.invariant.marks) ready
 
 pub arrive-first-requires-clause-room : goal.arrive-first-requires-clause-room
 arrive-first-requires-clause-room c =
-    let inside : c.loop-number.number-index < length (lists_for c.args.sched.now c.args.self.now.patterns.keys c.args.send) = omega (arith, c.loop-number-test.true, ap length c.lists_of_send-number-items.ensures) in
+    let inside : c.loop-number.number-index < length (lists_for c.args.sched.now c.args.self.now.patterns c.args.send) = omega (arith, c.loop-number-test.true, ap length c.lists_of_send-number-items.ensures) in
     let room = join_room _ _ _ _ _ _ c.requires.kept c.args.send c.requires.send c.requires.fresh c.loop-number.number-index _ inside _ _ c.loop-number.invariant.joined c.in-Some.list (rw c.lists_of_send-number-items.ensures at c.in-Some.is) _ c.index_mut.ensures.value in
     omega (arith, room, c.index_mut.result.now.sends.entries.ok.0)
 
 pub loop-number-preserved : goal.loop-number-preserved
 loop-number-preserved c =
-    let inside : c.loop-number.number-index < length (lists_for c.args.sched.now c.args.self.now.patterns.keys c.args.send) = omega (arith, c.loop-number-test.true, ap length c.lists_of_send-number-items.ensures) in
+    let inside : c.loop-number.number-index < length (lists_for c.args.sched.now c.args.self.now.patterns c.args.send) = omega (arith, c.loop-number-test.true, ap length c.lists_of_send-number-items.ensures) in
     elim c.match-number.branch [
       | in-Some w ↦
           let at : c.len.result ≡ length (actions_of c.args.self.now.events.items) = omega (arith, c.len.ensures, length-actions_of c.args.self.now.events.items, c.args.self.now.events.ok.0) in

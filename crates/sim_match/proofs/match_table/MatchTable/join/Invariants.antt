@@ -5,7 +5,7 @@ use Rattle.sim_match.proofs.match_table.MatchTable.join.Given as goal
 
 abbrev pub invariant-loop-number : goal.invariant-loop-number
 invariant-loop-number l = record {
-  joined : IsJoined l.sched l.fn.self.patterns.keys (actions_of l.fn.self.events.items) l.fn.send (take l.number-index (lists_for l.sched l.fn.self.patterns.keys l.fn.send)) l.self.lists.items l.met;
+  joined : IsJoined l.sched l.fn.self.patterns (actions_of l.fn.self.events.items) l.fn.send (take l.number-index (lists_for l.sched l.fn.self.patterns l.fn.send)) l.self.lists.items l.met;
   patterns : l.self.patterns ≡ l.fn.self.patterns;
   marks : l.self.marks ≡ l.fn.self.marks;
   events : l.self.events ≡ l.fn.self.events;
