@@ -4,3 +4,4 @@ pub mod BlockLaws
 pub mod ParserLaws
 pub mod ReaderLaws
 pub mod LimitLaws
+pub mod GrammarLaws

@@ -1,7 +1,7 @@
 -- In a text without a fault the counts and the values keep their limits.
-use Rattle.std.proofs.Common.{◌≡◌, ℕ, ◌+◌, ◌*◌, ◌<◌, ◌≤◌, inl, inr, Bool, true, false, not, ◌&&◌, List, [], ◌∷◌, ◌++◌, map, length, reverse, replicate, slice_set, nat_le, Option, Some, None, is_none, unwrap_or, refl, sym, ap, subst, ◌∙◌, arith, append_assoc, length-append}
+use Rattle.std.proofs.Common.{◌≡◌, ℕ, ◌+◌, ◌*◌, ◌<◌, ◌≤◌, inl, inr, Bool, true, false, ◌&&◌, List, [], ◌∷◌, ◌++◌, length, reverse, replicate, slice_set, nat_le, Option, Some, None, is_none, unwrap_or, refl, sym, ap, subst, ◌∙◌, arith, append_assoc, length-append}
 use Rattle.std.specs.Prelude.{⊤, ◌==◌, if◌then◌else◌, slice_index_or}
-use Rattle.std.specs.List.{AllByRecursion, All, sum_by}
+use Rattle.std.specs.List.{AllByRecursion, sum_by}
 use Rattle.std.specs.Option.{option_or}
 use Rattle.std.proofs.ByRecursion.{All-append, All-set, All-weaker}
 use Rattle.std.proofs.lemmas.List.{length-map, length-set, length-replicate, set_past, reverse-append, append-nil}
@@ -16,7 +16,7 @@ use Rattle.goal_lexer.specs.Scan.{lexed}
 use Rattle.goal_base.specs.declared.limits.TheConstants.{MAX_RANKS, MAX_OPS, MAX_DEPS, MAX_NOTES, MAX_BYTES, MAX_NANOS}
 use Rattle.goal_graph.specs.declared.plan.Op.{Op}
 use Rattle.goal_graph.specs.Schedule.{Plan}
-use Rattle.goal_graph.specs.Fault.{op_count, dep_count, note_count, value_fits, AreCountsWithin}
+use Rattle.goal_graph.specs.Fault.{op_count, dep_count, note_count, value_fits}
 use Rattle.goal_parser.specs.declared.faults.TextFault.{TextFault}
 use Rattle.goal_parser.specs.declared.faults.TextFault.TheVariants.{Syntax}
 use Rattle.goal_parser.specs.declared.sentence.State.{State}
@@ -29,7 +29,6 @@ use Rattle.goal_parser.specs.declared.draft.Draft.{Draft}
 use Rattle.goal_parser.specs.declared.counts.Counts.{Counts}
 use Rattle.goal_parser.specs.declared.head.ItemHead.{ItemHead}
 use Rattle.goal_parser.specs.declared.head.Mention.{Mention}
-use Rattle.goal_parser.specs.declared.head.Verb.{Verb}
 use Rattle.goal_parser.specs.Sentence.{entry, state_of}
 use Rattle.goal_parser.specs.Numbers.{is_within}
 use Rattle.goal_parser.specs.Ranks.{ranks_of, rank_of, blocks_of}
@@ -38,7 +37,7 @@ use Rattle.goal_parser.specs.Counts.{counts_with, counts_of, is_too_many}
 use Rattle.goal_parser.specs.Items.{Definition, NamedDep, NamedNote, ends_action, ended_ops, ops_with, ops_of, head_of, defined_of, used_of, dep_ended, deps_with, deps_of, note_ended, notes_with, notes_of, dep_by, note_by}
 use Rattle.goal_parser.specs.Plans.{empty_plan, block_plan, first_plans, plans_with, plans_of}
 use Rattle.goal_parser.specs.Faults.{fault_by, token_fault, syntax_fault, number_fault, rank_fault, option_fault, label_fault, count_fault, unknown_fault}
-use Rattle.goal_parser.specs.Reads.{first_fault, end_fault, last_fault, text_fault, text_plans, Reading, reading, reads, plans, faulty}
+use Rattle.goal_parser.specs.Reads.{first_fault, last_fault, text_fault, text_plans, reading, reads, plans, faulty}
 use Rattle.goal_parser.specs.Laws.{HasValue, HaveValues, AreWithinLimits}
 use Rattle.goal_parser.proofs.ParserLaws.{none_first, none_second, not_so, number_passes, count_passes}
 

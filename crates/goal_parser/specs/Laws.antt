@@ -3,6 +3,8 @@ use Rattle.std.specs.Prelude.{◌≡◌, ℕ, true, List, All}
 use Rattle.goal_graph.specs.declared.plan.Op.{Op}
 use Rattle.goal_graph.specs.Schedule.{Plan}
 use Rattle.goal_graph.specs.Fault.{value_fits, AreCountsWithin}
+use Rattle.goal_lexer.specs.Scan.{lexed}
+use Rattle.goal_parser.specs.Grammar.{IsWritten}
 use Rattle.goal_parser.specs.Reads.{reads, plans}
 
 -- the size or duration of an operation is within its limit
@@ -22,3 +24,7 @@ pub record AreWithinLimits (ps : List Plan) : Type 0 where
 -- the plans that a text says keep the limits of counts and values
 abbrev pub KeepLimits : Type 0
 KeepLimits = (text : List ℕ) (ps : List Plan) → reads text ≡ plans ps → AreWithinLimits ps
+
+-- the tokens of a text that says plans are sentences, and its plans are what the sentences say
+abbrev pub SayPlans : Type 0
+SayPlans = (text : List ℕ) (ps : List Plan) → reads text ≡ plans ps → IsWritten (lexed text).0 ps

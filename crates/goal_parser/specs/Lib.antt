@@ -14,4 +14,5 @@ pub mod FaultWords
 pub mod Slots
 pub mod Taken
 -- Laws.
+pub mod Grammar
 pub mod Laws

@@ -1,0 +1,993 @@
+-- A text that says plans is sentences, and its plans are what these say.
+use Rattle.std.proofs.Common.{◌≡◌, ◌≢◌, ℕ, ◌+◌, ◌<◌, Bool, true, false, ◌||◌, List, [], ◌∷◌, ◌++◌, map, length, reverse, replicate, slice_set, nat_eq, Option, Some, None, is_none, unwrap_or, refl, sym, ap, subst, ◌∙◌, arith, append_assoc, length-append}
+use Rattle.std.specs.Prelude.{⊤, ◌==◌, if◌then◌else◌, slice_index_or}
+use Rattle.std.specs.List.{flat_map, list_any}
+use Rattle.std.specs.Option.{option_or}
+use Rattle.std.proofs.lemmas.Bool.{true≢false}
+use Rattle.std.proofs.lemmas.Bool.Decides.{nat_tests}
+use Rattle.std.proofs.lemmas.List.{append-nil, map-append, flat_map_more, length-replicate, get_or-replicate, length-set, get_or-set_same, get_or-set_other, reverse-append}
+use Rattle.goal_lexer.specs.declared.tokens.Token.{Token}
+use Rattle.goal_lexer.specs.declared.tokens.TokenKind.{TokenKind}
+use Rattle.goal_lexer.specs.declared.tokens.TokenKind.TheVariants as token
+use Rattle.goal_lexer.specs.Scan.{lexed}
+use Rattle.goal_graph.specs.declared.plan.Op.{Op}
+use Rattle.goal_graph.specs.declared.plan.When.TheVariants.{AfterEnd, AfterStart}
+use Rattle.goal_graph.specs.Schedule.{Plan}
+use Rattle.goal_parser.specs.declared.faults.TextFault.{TextFault}
+use Rattle.goal_parser.specs.declared.sentence.State.{State}
+use Rattle.goal_parser.specs.declared.sentence.State.TheVariants as state
+use Rattle.goal_parser.specs.declared.draft.Action.{Action}
+use Rattle.goal_parser.specs.declared.draft.Action.TheVariants as action
+use Rattle.goal_parser.specs.declared.draft.OptionWord.{OptionWord}
+use Rattle.goal_parser.specs.declared.draft.OptionWord.TheVariants as option
+use Rattle.goal_parser.specs.declared.draft.Draft.{Draft}
+use Rattle.goal_parser.specs.declared.head.ItemHead.{ItemHead}
+use Rattle.goal_parser.specs.declared.head.Mention.{Mention}
+use Rattle.goal_parser.specs.declared.head.Verb.{Verb}
+use Rattle.goal_parser.specs.declared.head.Verb.TheVariants as verb
+use Rattle.goal_parser.specs.Sentence.{entry, item_entry, state_of}
+use Rattle.goal_parser.specs.Ranks.{blocks_with, rank_with, rank_of, blocks_of, IsNewRank}
+use Rattle.goal_parser.specs.Actions.{begun, option_with, draft_with, draft_of, op_of, has_option}
+use Rattle.goal_parser.specs.Items.{Definition, NamedDep, NamedNote, ends_action, ended_ops, ops_with, ops_of, head_with, head_of, defined_with, defined_of, define, dep_ended, deps_with, deps_of, note_ended, notes_with, notes_of, dep_by, note_by}
+use Rattle.goal_parser.specs.Plans.{empty_plan, plans_with, plans_of}
+use Rattle.goal_parser.specs.Reads.{first_fault, last_fault, text_fault, text_plans, reading, reads, plans, faulty}
+use Rattle.goal_parser.specs.declared.faults.TextFault.TheVariants.{Syntax, Repeat}
+use Rattle.goal_parser.specs.declared.counts.Counts.{Counts}
+use Rattle.goal_parser.specs.Ranks.{ranks_of}
+use Rattle.goal_parser.specs.Counts.{counts_of}
+use Rattle.goal_parser.specs.Items.{used_of}
+use Rattle.goal_parser.specs.Faults.{fault_by, token_fault, syntax_fault, number_fault, rank_fault, option_fault, label_fault, count_fault, unknown_fault}
+use Rattle.goal_parser.proofs.ParserLaws.{none_first, none_second, not_so, rank_passes}
+use Rattle.goal_parser.specs.Grammar.{Amount, plain, marked, Setting, tag, cpu, nic, Item, calc, send, recv, requires, irequires, moves, adds, Block, Written, number_or_any, amount_token, setting_tokens, label_tokens, item_tokens, block_tokens, text_tokens, amount, tag_of, cpu_of, nic_of, op_said, defined_before, defined_by, definitions, dep_said, note_said, plan_said, rank_said, AreSaid, IsWritten}
+
+-- what is kept of the tokens so far, but for the newest action and the newest head
+record Kept : Type 0 where
+  blocks : List ℕ
+  rank : ℕ
+  ops : List Op
+  defined : List Definition
+  deps : List NamedDep
+  notes : List NamedNote
+  plans : List Plan
+
+abbrev kept_of : List Token → Kept
+kept_of before = record {
+  blocks = blocks_of before;
+  rank = rank_of before;
+  ops = ops_of before;
+  defined = defined_of before;
+  deps = deps_of before;
+  notes = notes_of before;
+  plans = plans_of before;
+}
+
+abbrev plan_with : State → Draft → Kept → Plan
+plan_with s draft kept = record {
+  ops = ended_ops s token.Close (op_of draft) kept.ops;
+  deps = map (dep_by kept.defined) kept.deps;
+  notes = map (note_by kept.defined) kept.notes;
+}
+
+abbrev kept_with : State → TokenKind → Draft → ItemHead → Kept → Kept
+kept_with s k draft head kept = record {
+  blocks = blocks_with s k kept.blocks;
+  rank = rank_with s k kept.rank;
+  ops = ops_with s k (op_of draft) kept.ops;
+  defined = defined_with k head.subject (length kept.ops) kept.defined;
+  deps = deps_with s k head kept.deps;
+  notes = notes_with s k head kept.notes;
+  plans = plans_with s k kept.rank (plan_with s draft kept) kept.plans;
+}
+
+-- the state behind the token
+abbrev behind : State → TokenKind → State
+behind s k = unwrap_or (entry s k) s
+
+-- the dependency and the note of an item, by their labels
+abbrev dep_named : Item → List NamedDep
+dep_named (requires later earlier) = record { later = later; earlier = earlier; when = AfterEnd } ∷ []
+dep_named (irequires later earlier) = record { later = later; earlier = earlier; when = AfterStart } ∷ []
+dep_named _ = []
+
+abbrev note_named : Item → List NamedNote
+note_named (moves label first last) = record { subject = label; verb = verb.Moves; first = first; second = last } ∷ []
+note_named (adds label from to) = record { subject = label; verb = verb.Adds; first = from; second = to } ∷ []
+note_named _ = []
+
+dep_by_labels : (ds : List Definition) (item : Item) → map (dep_by ds) (dep_named item) ≡ dep_said ds item
+dep_by_labels ds (requires later earlier) = refl
+dep_by_labels ds _ = refl
+
+note_by_labels : (ds : List Definition) (item : Item) → map (note_by ds) (note_named item) ≡ note_said ds item
+note_by_labels ds (moves label first last) = refl
+note_by_labels ds _ = refl
+
+module _ {A B : Type 0} (f : A → B) (g : Item → List A) (h : Item → List B) (same : (item : Item) → map f (g item) ≡ h item) where
+  map_items : (items : List Item) → map f (flat_map g items) ≡ flat_map h items
+  map_items [] = refl
+  map_items (item ∷ items) =
+      map-append f (g item) (flat_map g items) ∙ ap (λ (xs : List B). xs ++ map f (flat_map g items)) (same item) ∙ ap (λ (xs : List B). h item ++ xs) (map_items items)
+
+flat_more : {A B : Type 0} (f : A → List B) (xs : List A) (x : A) → flat_map f xs ++ f x ≡ flat_map f (xs ++ x ∷ [])
+flat_more f xs x = flat_map_more f [] xs x
+
+definitions-push : (n : ℕ) (items : List Item) (item : Item) → definitions n (items ++ item ∷ []) ≡ definitions n items ++ defined_by item (n + length (flat_map op_said items))
+definitions-push n [] item =
+    let same : n ≡ n + 0 = omega arith in
+    append-nil (defined_by item n) ∙ ap (defined_by item) same
+definitions-push n (x ∷ xs) item =
+    let next = n + length (op_said x) in
+    let same : next + length (flat_map op_said xs) ≡ n + length (op_said x ++ flat_map op_said xs) = omega (arith, length-append (op_said x) (flat_map op_said xs)) in
+    ap (λ (ds : List Definition). defined_by x n ++ ds) (definitions-push next xs item)
+    ∙ ap (λ (m : ℕ). defined_by x n ++ (definitions next xs ++ defined_by item m)) same
+    ∙ sym (append_assoc (defined_by x n) (definitions next xs) (defined_by item (n + length (op_said x ++ flat_map op_said xs))))
+
+abbrev ranks_in : List Block → List ℕ
+ranks_in bs = map (λ (b : Block). b.rank) bs
+
+-- nothing is kept of a block
+record IsClear (kept : Kept) : Type 0 where
+  ops : kept.ops ≡ []
+  defined : kept.defined ≡ []
+  deps : kept.deps ≡ []
+  notes : kept.notes ≡ []
+
+-- the tokens are blocks and this part of the next
+record Out (kept : Kept) (ks part : List TokenKind) : Type 0 where
+  written : Written
+  spelled : ks ≡ text_tokens written ++ part
+  said : AreSaid written kept.plans
+  blocks : kept.blocks ≡ ranks_in written.blocks
+  clear : IsClear kept
+
+record Opened (kept : Kept) (ks : List TokenKind) : Type 0 where
+  written : Written
+  spelled : ks ≡ text_tokens written ++ token.Rank ∷ token.Number kept.rank ∷ []
+  said : AreSaid written kept.plans
+  blocks : kept.blocks ≡ ranks_in written.blocks ++ kept.rank ∷ []
+  new : list_any (nat_eq kept.rank) (ranks_in written.blocks) ≡ false
+  clear : IsClear kept
+
+-- the tokens are blocks, and in the next one items and this part of an item, which defines this label
+record In (kept : Kept) (ks part : List TokenKind) (label : Option (List ℕ)) : Type 0 where
+  written : Written
+  items : List Item
+  spelled : ks ≡ text_tokens written ++ token.Rank ∷ token.Number kept.rank ∷ token.Open ∷ (flat_map item_tokens items ++ part)
+  said : AreSaid written kept.plans
+  blocks : kept.blocks ≡ ranks_in written.blocks ++ kept.rank ∷ []
+  new : list_any (nat_eq kept.rank) (ranks_in written.blocks) ≡ false
+  ops : kept.ops ≡ flat_map op_said items
+  defined : kept.defined ≡ definitions 0 items ++ defined_before label (length kept.ops)
+  deps : kept.deps ≡ flat_map dep_named items
+  notes : kept.notes ≡ flat_map note_named items
+
+module _ (kept : Kept) (ks part : List TokenKind) (label : Option (List ℕ)) (inside : In kept ks part label) where
+  -- a token more of the item
+  stay : (k : TokenKind) (longer : List TokenKind) → part ++ k ∷ [] ≡ longer → In kept (ks ++ k ∷ []) longer label
+  stay k longer same =
+      let front = text_tokens inside.written in
+      let items = flat_map item_tokens inside.items in
+      let open_block = token.Rank ∷ token.Number kept.rank ∷ token.Open ∷ [] in
+      record {
+        written = inside.written;
+        items = inside.items;
+        spelled = ap (λ (xs : List TokenKind). xs ++ k ∷ []) inside.spelled
+            ∙ append_assoc front (open_block ++ (items ++ part)) (k ∷ [])
+            ∙ ap (λ (xs : List TokenKind). front ++ (open_block ++ xs)) (append_assoc items part (k ∷ []) ∙ ap (λ (xs : List TokenKind). items ++ xs) same);
+        said = inside.said;
+        blocks = inside.blocks;
+        new = inside.new;
+        ops = inside.ops;
+        defined = inside.defined;
+        deps = inside.deps;
+        notes = inside.notes;
+      }
+
+  -- the item is complete
+  complete : (item : Item) (ops : List Op) (deps : List NamedDep) (notes : List NamedNote) → part ≡ item_tokens item →
+      ops ≡ kept.ops ++ op_said item → deps ≡ kept.deps ++ dep_named item → notes ≡ kept.notes ++ note_named item →
+      ((n : ℕ) → defined_before label n ≡ defined_by item n) →
+      In (record { blocks = kept.blocks; rank = kept.rank; ops = ops; defined = kept.defined; deps = deps; notes = notes; plans = kept.plans }) ks [] None
+  complete item ops deps notes whole same_ops same_deps same_notes same_label =
+      let items = inside.items in
+      let front = text_tokens inside.written in
+      let open_block = token.Rank ∷ token.Number kept.rank ∷ token.Open ∷ [] in
+      let at : length kept.ops ≡ 0 + length (flat_map op_said items) = omega (arith, ap length inside.ops) in
+      record {
+        written = inside.written;
+        items = items ++ item ∷ [];
+        spelled = inside.spelled
+            ∙ ap (λ (xs : List TokenKind). front ++ (open_block ++ xs))
+            (ap (λ (xs : List TokenKind). flat_map item_tokens items ++ xs) whole ∙ flat_more item_tokens items item ∙ sym (append-nil (flat_map item_tokens (items ++ item ∷ []))));
+        said = inside.said;
+        blocks = inside.blocks;
+        new = inside.new;
+        ops = same_ops ∙ ap (λ (xs : List Op). xs ++ op_said item) inside.ops ∙ flat_more op_said items item;
+        defined = inside.defined
+            ∙ ap (λ (ds : List Definition). definitions 0 items ++ ds) (same_label (length kept.ops) ∙ ap (defined_by item) at)
+            ∙ sym (definitions-push 0 items item) ∙ sym (append-nil (definitions 0 (items ++ item ∷ [])));
+        deps = same_deps ∙ ap (λ (xs : List NamedDep). xs ++ dep_named item) inside.deps ∙ flat_more dep_named items item;
+        notes = same_notes ∙ ap (λ (xs : List NamedNote). xs ++ note_named item) inside.notes ∙ flat_more note_named items item;
+      }
+
+-- an option's word, and the option with its number
+abbrev option_token : OptionWord → TokenKind
+option_token option.Tag = token.Tag
+option_token option.Cpu = token.Cpu
+option_token option.Nic = token.Nic
+
+abbrev number_setting : OptionWord → ℕ → Setting
+number_setting option.Tag n = tag (Some n)
+number_setting option.Cpu n = cpu n
+number_setting option.Nic n = nic n
+
+abbrev is_of : OptionWord → Setting → Bool
+is_of option.Tag (tag n) = true
+is_of option.Cpu (cpu n) = true
+is_of option.Nic (nic n) = true
+is_of _ _ = false
+
+abbrev gives : OptionWord → List Setting → Bool
+gives o [] = false
+gives o (s ∷ ss) = is_of o s || gives o ss
+
+-- what the tokens of an action have given
+abbrev drafted : Action → ℕ → Option ℕ → List Setting → OptionWord → Draft
+drafted a size peer ss o = record {
+  action = a;
+  size = size;
+  peer = peer;
+  tag = tag_of ss;
+  cpu = cpu_of ss;
+  nic = nic_of ss;
+  has_tag = gives option.Tag ss;
+  has_cpu = gives option.Cpu ss;
+  has_nic = gives option.Nic ss;
+  option = o;
+}
+
+abbrev mark : OptionWord → Draft → Draft
+mark option.Tag d = record d { has_tag = true; option = option.Tag }
+mark option.Cpu d = record d { has_cpu = true; option = option.Cpu }
+mark option.Nic d = record d { has_nic = true; option = option.Nic }
+
+-- the label that an item begins with
+abbrev IsSubject : ItemHead → List ℕ → Type 0
+IsSubject head label = (at : ℕ) × (head.subject ≡ Some (record { label = label; at = at }))
+
+abbrev verb_token : Verb → TokenKind
+verb_token verb.Requires = token.Requires
+verb_token verb.Irequires = token.Irequires
+verb_token verb.Moves = token.Moves
+verb_token verb.Adds = token.Adds
+
+abbrev IsOrder : Verb → Type 0
+IsOrder verb.Requires = ⊤
+IsOrder verb.Irequires = ⊤
+IsOrder _ = ⊥
+
+abbrev IsNote : Verb → Type 0
+IsNote verb.Moves = ⊤
+IsNote verb.Adds = ⊤
+IsNote _ = ⊥
+
+abbrev cpu_settings : Option ℕ → List Setting
+cpu_settings None = []
+cpu_settings (Some n) = cpu n ∷ []
+
+-- what the tokens so far are, where they end in this state
+abbrev At : State → Kept → Draft → ItemHead → List TokenKind → Type 0
+At state.Start kept draft head ks = (ks ≡ []) × IsClear kept × (kept.blocks ≡ [])
+At state.Ranks kept draft head ks = (ks ≡ token.NumRanks ∷ []) × IsClear kept × (kept.blocks ≡ [])
+At state.Top kept draft head ks = Out kept ks []
+At state.Block kept draft head ks = Out kept ks (token.Rank ∷ [])
+At state.Open kept draft head ks = Opened kept ks
+At state.Item kept draft head ks = In kept ks [] None
+At state.Word kept draft head ks = (label : List ℕ) × IsSubject head label × In kept ks (token.Label label ∷ []) None
+At state.Label kept draft head ks =
+    (label : List ℕ) × IsSubject head label × IsOrder head.verb × In kept ks (token.Label label ∷ verb_token head.verb ∷ []) None
+At state.Note1 kept draft head ks =
+    (label : List ℕ) × IsSubject head label × IsNote head.verb × In kept ks (token.Label label ∷ verb_token head.verb ∷ []) None
+At state.Note2 kept draft head ks =
+    (label : List ℕ) × IsSubject head label × IsNote head.verb × In kept ks (token.Label label ∷ verb_token head.verb ∷ token.Number head.low ∷ []) None
+At state.Note3 kept draft head ks =
+    (label : List ℕ) × IsSubject head label × IsNote head.verb × In kept ks (token.Label label ∷ verb_token head.verb ∷ token.Number head.low ∷ token.To ∷ []) None
+At state.Action kept draft head ks = (label : List ℕ) × In kept ks (token.Label label ∷ token.Colon ∷ []) (Some label)
+At state.Calc1 kept draft head ks = (label : Option (List ℕ)) × (o : OptionWord) × In kept ks (label_tokens label ++ token.Calc ∷ []) label × (draft ≡ begun action.Calc o)
+At state.Calc2 kept draft head ks =
+    (label : Option (List ℕ)) × (o : OptionWord) × (nanos : ℕ) × (c : Option ℕ)
+    × In kept ks (item_tokens (calc label nanos c)) label × (draft ≡ drafted action.Calc nanos None (cpu_settings c) o)
+At state.Calc3 kept draft head ks =
+    (label : Option (List ℕ)) × (o : OptionWord) × (nanos : ℕ)
+    × In kept ks (label_tokens label ++ token.Calc ∷ token.Number nanos ∷ token.Cpu ∷ []) label × (draft ≡ mark option.Cpu (drafted action.Calc nanos None [] o))
+At state.Send1 kept draft head ks = (label : Option (List ℕ)) × (o : OptionWord) × In kept ks (label_tokens label ++ token.Send ∷ []) label × (draft ≡ begun action.Send o)
+At state.Send2 kept draft head ks =
+    (label : Option (List ℕ)) × (o : OptionWord) × (size : Amount)
+    × In kept ks (label_tokens label ++ token.Send ∷ amount_token size ∷ []) label × (draft ≡ drafted action.Send (amount size) None [] o)
+At state.Send3 kept draft head ks =
+    (label : Option (List ℕ)) × (o : OptionWord) × (size : Amount)
+    × In kept ks (label_tokens label ++ token.Send ∷ amount_token size ∷ token.To ∷ []) label × (draft ≡ drafted action.Send (amount size) None [] o)
+At state.Send4 kept draft head ks =
+    (label : Option (List ℕ)) × (o : OptionWord) × (size : Amount) × (to : ℕ) × (ss : List Setting)
+    × In kept ks (item_tokens (send label size to ss)) label × (draft ≡ drafted action.Send (amount size) (Some to) ss o)
+At state.Send5 kept draft head ks =
+    (label : Option (List ℕ)) × (o : OptionWord) × (size : Amount) × (to : ℕ) × (ss : List Setting) × (w : OptionWord)
+    × In kept ks (item_tokens (send label size to ss) ++ option_token w ∷ []) label × (gives w ss ≡ false)
+    × (draft ≡ mark w (drafted action.Send (amount size) (Some to) ss o))
+At state.Recv1 kept draft head ks = (label : Option (List ℕ)) × (o : OptionWord) × In kept ks (label_tokens label ++ token.Recv ∷ []) label × (draft ≡ begun action.Recv o)
+At state.Recv2 kept draft head ks =
+    (label : Option (List ℕ)) × (o : OptionWord) × (size : Amount)
+    × In kept ks (label_tokens label ++ token.Recv ∷ amount_token size ∷ []) label × (draft ≡ drafted action.Recv (amount size) None [] o)
+At state.Recv3 kept draft head ks =
+    (label : Option (List ℕ)) × (o : OptionWord) × (size : Amount)
+    × In kept ks (label_tokens label ++ token.Recv ∷ amount_token size ∷ token.From ∷ []) label × (draft ≡ drafted action.Recv (amount size) None [] o)
+At state.Recv4 kept draft head ks =
+    (label : Option (List ℕ)) × (o : OptionWord) × (size : Amount) × (from : Option ℕ) × (ss : List Setting)
+    × In kept ks (item_tokens (recv label size from ss)) label × (draft ≡ drafted action.Recv (amount size) from ss o)
+At state.Recv5 kept draft head ks =
+    (label : Option (List ℕ)) × (o : OptionWord) × (size : Amount) × (from : Option ℕ) × (ss : List Setting)
+    × In kept ks (item_tokens (recv label size from ss) ++ token.Tag ∷ []) label × (gives option.Tag ss ≡ false)
+    × (draft ≡ mark option.Tag (drafted action.Recv (amount size) from ss o))
+At state.Recv6 kept draft head ks =
+    (label : Option (List ℕ)) × (o : OptionWord) × (size : Amount) × (from : Option ℕ) × (ss : List Setting) × (w : OptionWord)
+    × In kept ks (item_tokens (recv label size from ss) ++ option_token w ∷ []) label × (gives w ss ≡ false)
+    × (draft ≡ mark w (drafted action.Recv (amount size) from ss o))
+
+-- the plan of a rank, with a block more
+either_way : (a b : Bool) → (a || b) ≡ false → (a ≡ false) × (b ≡ false)
+either_way false b none = (refl, none)
+either_way true b none = cc
+
+rank_of_new : (bs : List Block) (b : Block) (rank : ℕ) → rank ≡ b.rank → list_any (nat_eq b.rank) (ranks_in bs) ≡ false → rank_said (bs ++ b ∷ []) rank ≡ plan_said b.items
+rank_of_new [] b rank same new =
+    let is : (rank == b.rank) ≡ true = grind (arith, nat_tests) in ap (λ (t : Bool). if t then plan_said b.items else empty_plan) is
+rank_of_new (c ∷ bs) b rank same new =
+    let parts = either_way (nat_eq b.rank c.rank) (list_any (nat_eq b.rank) (ranks_in bs)) new in
+    let other = parts.0 in
+    let is : (rank == c.rank) ≡ false = grind (arith, nat_tests) in
+    ap (λ (t : Bool). if t then plan_said c.items else rank_said (bs ++ b ∷ []) rank) is ∙ rank_of_new bs b rank same parts.1
+
+rank_of_other : (bs : List Block) (b : Block) (rank : ℕ) → (rank == b.rank) ≡ false → rank_said (bs ++ b ∷ []) rank ≡ rank_said bs rank
+rank_of_other [] b rank is = ap (λ (t : Bool). if t then plan_said b.items else empty_plan) is
+rank_of_other (c ∷ bs) b rank is = ap (λ (p : Plan). if rank == c.rank then plan_said c.items else p) (rank_of_other bs b rank is)
+
+said_more : (w : Written) (ps : List Plan) (b : Block) (plan : Plan) → AreSaid w ps → list_any (nat_eq b.rank) (ranks_in w.blocks) ≡ false → plan ≡ plan_said b.items →
+    AreSaid (record { ranks = w.ranks; blocks = w.blocks ++ b ∷ [] }) (slice_set ps b.rank plan)
+said_more w ps b plan said new same =
+    record {
+      ranks = length-set ps b.rank plan ∙ said.ranks;
+      each = λ rank below. by rank below (rank == b.rank) refl;
+    }
+  where
+    by : (rank : ℕ) → rank < w.ranks → (s : Bool) → (rank == b.rank) ≡ s → slice_index_or (slice_set ps b.rank plan) rank empty_plan ≡ rank_said (w.blocks ++ b ∷ []) rank
+    by rank below true is =
+        let here : rank ≡ b.rank = grind (arith, nat_tests) in
+        let fits : b.rank < length ps = omega (arith, said.ranks) in
+        ap (λ (r : ℕ). slice_index_or (slice_set ps b.rank plan) r empty_plan) here
+        ∙ get_or-set_same ps b.rank plan empty_plan fits ∙ same ∙ sym (rank_of_new w.blocks b rank here new)
+    by rank below false is =
+        let there : rank ≢ b.rank = grind (arith, nat_tests) in
+        get_or-set_other ps b.rank rank plan empty_plan there ∙ said.each rank below ∙ sym (rank_of_other w.blocks b rank is)
+
+-- an item begins where no action is open, or a block ends
+module _ (kept : Kept) (draft : Draft) (head : ItemHead) (ks : List TokenKind) (inside : In kept ks [] None) where
+  plan_is : plan_with state.Item draft kept ≡ plan_said inside.items
+  unfolding ends_action
+  plan_is =
+      let items = inside.items in
+      let labels : kept.defined ≡ definitions 0 items = inside.defined ∙ append-nil (definitions 0 items) in
+      let deps : map (dep_by kept.defined) kept.deps ≡ flat_map (dep_said (definitions 0 items)) items =
+      ap (λ (ds : List NamedDep). map (dep_by kept.defined) ds) inside.deps ∙ map_items (dep_by kept.defined) dep_named (dep_said kept.defined) (dep_by_labels kept.defined) items
+      ∙ ap (λ (ds : List Definition). flat_map (dep_said ds) items) labels in
+      let notes : map (note_by kept.defined) kept.notes ≡ flat_map (note_said (definitions 0 items)) items =
+      ap (λ (ns : List NamedNote). map (note_by kept.defined) ns) inside.notes ∙ map_items (note_by kept.defined) note_named (note_said kept.defined) (note_by_labels kept.defined) items
+      ∙ ap (λ (ds : List Definition). flat_map (note_said ds) items) labels in
+      λ i. record { ops = inside.ops i; deps = deps i; notes = notes i }
+
+  closed : Out (kept_with state.Item token.Close draft head kept) (ks ++ token.Close ∷ []) []
+  unfolding blocks_with rank_with ops_with ends_action defined_with deps_with notes_with plans_with
+  closed =
+      let w = inside.written in
+      let block : Block = record { rank = kept.rank; items = inside.items } in
+      let front = text_tokens w in
+      let items = flat_map item_tokens inside.items in
+      let open_block = token.Rank ∷ token.Number kept.rank ∷ token.Open ∷ [] in
+      record {
+        written = record { ranks = w.ranks; blocks = w.blocks ++ block ∷ [] };
+        spelled = ap (λ (xs : List TokenKind). xs ++ token.Close ∷ []) inside.spelled
+            ∙ append_assoc front (open_block ++ (items ++ [])) (token.Close ∷ [])
+            ∙ ap (λ (xs : List TokenKind). front ++ (open_block ++ (xs ++ token.Close ∷ []))) (append-nil items)
+            ∙ ap (λ (xs : List TokenKind). token.NumRanks ∷ token.Number w.ranks ∷ xs) (flat_more block_tokens w.blocks block ∙ sym (append-nil (flat_map block_tokens (w.blocks ++ block ∷ []))));
+        said = said_more w kept.plans block (plan_with state.Item draft kept) inside.said inside.new plan_is;
+        blocks = inside.blocks ∙ sym (map-append (λ (b : Block). b.rank) w.blocks (block ∷ []));
+        clear = record { ops = refl; defined = refl; deps = refl; notes = refl };
+      }
+
+  step_item : (k : TokenKind) (at : ℕ) → is_none (item_entry k) ≡ false →
+      At (unwrap_or (item_entry k) state.Item) (kept_with state.Item k draft head kept) (draft_with state.Item k draft) (head_with state.Item k at head) (ks ++ k ∷ [])
+  unfolding blocks_with rank_with draft_with head_with ops_with ends_action defined_with deps_with notes_with plans_with
+  step_item token.Close at known = closed
+  step_item (token.Label label) at known = (label, (at, refl), stay kept ks [] None inside (token.Label label) (token.Label label ∷ []) refl)
+  step_item token.Calc at known = (None, draft.option, stay kept ks [] None inside token.Calc (token.Calc ∷ []) refl, refl)
+  step_item token.Send at known = (None, draft.option, stay kept ks [] None inside token.Send (token.Send ∷ []) refl, refl)
+  step_item token.Recv at known = (None, draft.option, stay kept ks [] None inside token.Recv (token.Recv ∷ []) refl, refl)
+  step_item _ at known = absurd (true≢false known)
+
+-- the same behind an action, which then is complete
+abbrev with_op : Draft → Kept → Kept
+with_op draft kept = record {
+  blocks = kept.blocks;
+  rank = kept.rank;
+  ops = kept.ops ++ op_of draft ∷ [];
+  defined = kept.defined;
+  deps = kept.deps;
+  notes = kept.notes;
+  plans = kept.plans;
+}
+
+module _ (kept : Kept) (draft : Draft) (head : ItemHead) (ks : List TokenKind) (inside : In (with_op draft kept) ks [] None) where
+  step_calc : (k : TokenKind) (at : ℕ) → is_none (item_entry k) ≡ false →
+      At (unwrap_or (item_entry k) state.Calc2) (kept_with state.Calc2 k draft head kept) (draft_with state.Calc2 k draft) (head_with state.Calc2 k at head) (ks ++ k ∷ [])
+  unfolding blocks_with rank_with draft_with head_with ops_with ends_action defined_with deps_with notes_with plans_with
+  step_calc token.Close at known = step_item (with_op draft kept) draft head ks inside token.Close at refl
+  step_calc (token.Label label) at known = step_item (with_op draft kept) draft head ks inside (token.Label label) at refl
+  step_calc token.Calc at known = step_item (with_op draft kept) draft head ks inside token.Calc at refl
+  step_calc token.Send at known = step_item (with_op draft kept) draft head ks inside token.Send at refl
+  step_calc token.Recv at known = step_item (with_op draft kept) draft head ks inside token.Recv at refl
+  step_calc _ at known = absurd (true≢false known)
+
+  step_send : (k : TokenKind) (at : ℕ) → is_none (item_entry k) ≡ false →
+      At (unwrap_or (item_entry k) state.Send4) (kept_with state.Send4 k draft head kept) (draft_with state.Send4 k draft) (head_with state.Send4 k at head) (ks ++ k ∷ [])
+  unfolding blocks_with rank_with draft_with head_with ops_with ends_action defined_with deps_with notes_with plans_with
+  step_send token.Close at known = step_item (with_op draft kept) draft head ks inside token.Close at refl
+  step_send (token.Label label) at known = step_item (with_op draft kept) draft head ks inside (token.Label label) at refl
+  step_send token.Calc at known = step_item (with_op draft kept) draft head ks inside token.Calc at refl
+  step_send token.Send at known = step_item (with_op draft kept) draft head ks inside token.Send at refl
+  step_send token.Recv at known = step_item (with_op draft kept) draft head ks inside token.Recv at refl
+  step_send _ at known = absurd (true≢false known)
+
+  step_recv : (k : TokenKind) (at : ℕ) → is_none (item_entry k) ≡ false →
+      At (unwrap_or (item_entry k) state.Recv4) (kept_with state.Recv4 k draft head kept) (draft_with state.Recv4 k draft) (head_with state.Recv4 k at head) (ks ++ k ∷ [])
+  unfolding blocks_with rank_with draft_with head_with ops_with ends_action defined_with deps_with notes_with plans_with
+  step_recv token.Close at known = step_item (with_op draft kept) draft head ks inside token.Close at refl
+  step_recv (token.Label label) at known = step_item (with_op draft kept) draft head ks inside (token.Label label) at refl
+  step_recv token.Calc at known = step_item (with_op draft kept) draft head ks inside token.Calc at refl
+  step_recv token.Send at known = step_item (with_op draft kept) draft head ks inside token.Send at refl
+  step_recv token.Recv at known = step_item (with_op draft kept) draft head ks inside token.Recv at refl
+  step_recv _ at known = absurd (true≢false known)
+
+-- an option that the action has not given before
+tag_now : (ss : List Setting) (n : Option ℕ) → gives option.Tag ss ≡ false → tag_of (ss ++ tag n ∷ []) ≡ n
+tag_now [] n new = refl
+tag_now (tag m ∷ ss) n new = absurd (true≢false new)
+tag_now (cpu m ∷ ss) n new = tag_now ss n new
+tag_now (nic m ∷ ss) n new = tag_now ss n new
+
+cpu_now : (ss : List Setting) (n : ℕ) → gives option.Cpu ss ≡ false → cpu_of (ss ++ cpu n ∷ []) ≡ n
+cpu_now [] n new = refl
+cpu_now (tag m ∷ ss) n new = cpu_now ss n new
+cpu_now (cpu m ∷ ss) n new = absurd (true≢false new)
+cpu_now (nic m ∷ ss) n new = cpu_now ss n new
+
+nic_now : (ss : List Setting) (n : ℕ) → gives option.Nic ss ≡ false → nic_of (ss ++ nic n ∷ []) ≡ n
+nic_now [] n new = refl
+nic_now (tag m ∷ ss) n new = nic_now ss n new
+nic_now (cpu m ∷ ss) n new = nic_now ss n new
+nic_now (nic m ∷ ss) n new = absurd (true≢false new)
+
+-- the other options stay
+tag_stays : (ss : List Setting) (x : Setting) → is_of option.Tag x ≡ false → tag_of (ss ++ x ∷ []) ≡ tag_of ss
+tag_stays [] (tag m) other = absurd (true≢false other)
+tag_stays [] (cpu m) other = refl
+tag_stays [] (nic m) other = refl
+tag_stays (tag m ∷ ss) x other = refl
+tag_stays (cpu m ∷ ss) x other = tag_stays ss x other
+tag_stays (nic m ∷ ss) x other = tag_stays ss x other
+
+cpu_stays : (ss : List Setting) (x : Setting) → is_of option.Cpu x ≡ false → cpu_of (ss ++ x ∷ []) ≡ cpu_of ss
+cpu_stays [] (tag m) other = refl
+cpu_stays [] (cpu m) other = absurd (true≢false other)
+cpu_stays [] (nic m) other = refl
+cpu_stays (tag m ∷ ss) x other = cpu_stays ss x other
+cpu_stays (cpu m ∷ ss) x other = refl
+cpu_stays (nic m ∷ ss) x other = cpu_stays ss x other
+
+nic_stays : (ss : List Setting) (x : Setting) → is_of option.Nic x ≡ false → nic_of (ss ++ x ∷ []) ≡ nic_of ss
+nic_stays [] (tag m) other = refl
+nic_stays [] (cpu m) other = refl
+nic_stays [] (nic m) other = absurd (true≢false other)
+nic_stays (tag m ∷ ss) x other = nic_stays ss x other
+nic_stays (cpu m ∷ ss) x other = nic_stays ss x other
+nic_stays (nic m ∷ ss) x other = refl
+
+gives_now : (w : OptionWord) (ss : List Setting) (x : Setting) → is_of w x ≡ true → gives w (ss ++ x ∷ []) ≡ true
+gives_now w [] x is = ap (λ (b : Bool). b || false) is
+gives_now w (s ∷ ss) x is = by (is_of w s) (gives_now w ss x is)
+  where
+    by : (a : Bool) → gives w (ss ++ x ∷ []) ≡ true → (a || gives w (ss ++ x ∷ [])) ≡ true
+    by true more = refl
+    by false more = more
+
+gives_stays : (w : OptionWord) (ss : List Setting) (x : Setting) → is_of w x ≡ false → gives w (ss ++ x ∷ []) ≡ gives w ss
+gives_stays w [] x other = ap (λ (b : Bool). b || false) other
+gives_stays w (s ∷ ss) x other = ap (λ (b : Bool). is_of w s || b) (gives_stays w ss x other)
+
+module _ (a : Action) (size : ℕ) (peer : Option ℕ) (ss : List Setting) (o : OptionWord) where
+  with_tag : (n : Option ℕ) → gives option.Tag ss ≡ false →
+      ◌≡◌ {A = Draft} (record (mark option.Tag (drafted a size peer ss o)) { tag = n }) (drafted a size peer (ss ++ tag n ∷ []) option.Tag)
+  with_tag n new = λ i. record {
+    action = a;
+    size = size;
+    peer = peer;
+    tag = sym (tag_now ss n new) i;
+    cpu = sym (cpu_stays ss (tag n) refl) i;
+    nic = sym (nic_stays ss (tag n) refl) i;
+    has_tag = sym (gives_now option.Tag ss (tag n) refl) i;
+    has_cpu = sym (gives_stays option.Cpu ss (tag n) refl) i;
+    has_nic = sym (gives_stays option.Nic ss (tag n) refl) i;
+    option = option.Tag;
+  }
+
+  with_cpu : (n : ℕ) → gives option.Cpu ss ≡ false →
+      ◌≡◌ {A = Draft} (record (mark option.Cpu (drafted a size peer ss o)) { cpu = n }) (drafted a size peer (ss ++ cpu n ∷ []) option.Cpu)
+  with_cpu n new = λ i. record {
+    action = a;
+    size = size;
+    peer = peer;
+    tag = sym (tag_stays ss (cpu n) refl) i;
+    cpu = sym (cpu_now ss n new) i;
+    nic = sym (nic_stays ss (cpu n) refl) i;
+    has_tag = sym (gives_stays option.Tag ss (cpu n) refl) i;
+    has_cpu = sym (gives_now option.Cpu ss (cpu n) refl) i;
+    has_nic = sym (gives_stays option.Nic ss (cpu n) refl) i;
+    option = option.Cpu;
+  }
+
+  with_nic : (n : ℕ) → gives option.Nic ss ≡ false →
+      ◌≡◌ {A = Draft} (record (mark option.Nic (drafted a size peer ss o)) { nic = n }) (drafted a size peer (ss ++ nic n ∷ []) option.Nic)
+  with_nic n new = λ i. record {
+    action = a;
+    size = size;
+    peer = peer;
+    tag = sym (tag_stays ss (nic n) refl) i;
+    cpu = sym (cpu_stays ss (nic n) refl) i;
+    nic = sym (nic_now ss n new) i;
+    has_tag = sym (gives_stays option.Tag ss (nic n) refl) i;
+    has_cpu = sym (gives_stays option.Cpu ss (nic n) refl) i;
+    has_nic = sym (gives_now option.Nic ss (nic n) refl) i;
+    option = option.Nic;
+  }
+
+  settled : (w : OptionWord) (n : ℕ) → gives w ss ≡ false →
+      option_with (mark w (drafted a size peer ss o)).option n (mark w (drafted a size peer ss o)) ≡ drafted a size peer (ss ++ number_setting w n ∷ []) w
+  settled option.Tag n new = with_tag (Some n) new
+  settled option.Cpu n new = with_cpu n new
+  settled option.Nic n new = with_nic n new
+
+setting_is : (w : OptionWord) (n : ℕ) → option_token w ∷ token.Number n ∷ [] ≡ setting_tokens (number_setting w n)
+setting_is option.Tag n = refl
+setting_is option.Cpu n = refl
+setting_is option.Nic n = refl
+
+-- an option more, of two tokens
+longer_by : (front back : List TokenKind) (ss : List Setting) (x : Setting) (word value : TokenKind) → word ∷ value ∷ [] ≡ setting_tokens x →
+    ((front ++ (back ++ flat_map setting_tokens ss)) ++ word ∷ []) ++ value ∷ [] ≡ front ++ (back ++ flat_map setting_tokens (ss ++ x ∷ []))
+longer_by front back ss x word value same =
+    append_assoc (front ++ (back ++ flat_map setting_tokens ss)) (word ∷ []) (value ∷ [])
+    ∙ append_assoc front (back ++ flat_map setting_tokens ss) (word ∷ value ∷ [])
+    ∙ ap (λ (xs : List TokenKind). front ++ xs)
+    (append_assoc back (flat_map setting_tokens ss) (word ∷ value ∷ [])
+    ∙ ap (λ (xs : List TokenKind). back ++ (flat_map setting_tokens ss ++ xs)) same
+    ∙ ap (λ (xs : List TokenKind). back ++ xs) (flat_more setting_tokens ss x))
+
+-- the operation of a calc
+calc_op : (nanos : ℕ) (c : Option ℕ) (o : OptionWord) → op_of (drafted action.Calc nanos None (cpu_settings c) o) ∷ [] ≡ op_said (calc None nanos c)
+calc_op nanos None o = refl
+calc_op nanos (Some n) o = refl
+
+-- an action is complete
+module _ (kept : Kept) (draft : Draft) (ks : List TokenKind) (label : Option (List ℕ)) where
+  acted : (item : Item) → In kept ks (item_tokens item) label → op_of draft ∷ [] ≡ op_said item → [] ≡ dep_named item → [] ≡ note_named item →
+      ((n : ℕ) → defined_before label n ≡ defined_by item n) → In (with_op draft kept) ks [] None
+  acted item inside same no_dep no_note same_label =
+      complete kept ks (item_tokens item) label inside item (kept.ops ++ op_of draft ∷ []) kept.deps kept.notes refl
+      (ap (λ (os : List Op). kept.ops ++ os) same)
+      (sym (append-nil kept.deps) ∙ ap (λ (ds : List NamedDep). kept.deps ++ ds) no_dep)
+      (sym (append-nil kept.notes) ∙ ap (λ (ns : List NamedNote). kept.notes ++ ns) no_note)
+      same_label
+
+-- what a token makes of what the tokens before it are, where it passes these tests
+abbrev Steps : State → Type 0
+Steps s = (k : TokenKind) (at : ℕ) (kept : Kept) (draft : Draft) (head : ItemHead) (ks : List TokenKind) →
+    is_none (entry s k) ≡ false → has_option k draft ≡ false → IsNewRank s kept.blocks k → At s kept draft head ks →
+    At (behind s k) (kept_with s k draft head kept) (draft_with s k draft) (head_with s k at head) (ks ++ k ∷ [])
+
+empty_said : (n : ℕ) → AreSaid (record { ranks = n; blocks = [] }) (replicate n empty_plan)
+empty_said n = record { ranks = length-replicate n empty_plan; each = λ rank below. get_or-replicate n rank empty_plan empty_plan below }
+
+step_start : Steps state.Start
+unfolding entry blocks_with rank_with draft_with head_with ops_with ends_action defined_with deps_with notes_with plans_with
+step_start token.NumRanks at kept draft head ks known once new here = (ap (λ (xs : List TokenKind). xs ++ token.NumRanks ∷ []) here.0, here.1, here.2)
+step_start _ at kept draft head ks known once new here = absurd (true≢false known)
+
+step_ranks : Steps state.Ranks
+unfolding entry blocks_with rank_with draft_with head_with ops_with ends_action defined_with deps_with notes_with plans_with
+step_ranks (token.Number n) at kept draft head ks known once new here =
+    record {
+      written = record { ranks = n; blocks = [] };
+      spelled = ap (λ (xs : List TokenKind). xs ++ token.Number n ∷ []) here.0;
+      said = empty_said n;
+      blocks = here.2;
+      clear = record { ops = here.1.ops; defined = here.1.defined; deps = here.1.deps; notes = here.1.notes };
+    }
+step_ranks _ at kept draft head ks known once new here = absurd (true≢false known)
+
+step_top : Steps state.Top
+unfolding entry blocks_with rank_with draft_with head_with ops_with ends_action defined_with deps_with notes_with plans_with
+step_top token.Rank at kept draft head ks known once new here =
+    record {
+      written = here.written;
+      spelled = ap (λ (xs : List TokenKind). xs ++ token.Rank ∷ []) here.spelled ∙ append_assoc (text_tokens here.written) [] (token.Rank ∷ []);
+      said = here.said;
+      blocks = here.blocks;
+      clear = here.clear;
+    }
+step_top _ at kept draft head ks known once new here = absurd (true≢false known)
+
+step_block : Steps state.Block
+unfolding entry blocks_with rank_with draft_with head_with ops_with ends_action defined_with deps_with notes_with plans_with
+step_block (token.Number n) at kept draft head ks known once new here =
+    record {
+      written = here.written;
+      spelled = ap (λ (xs : List TokenKind). xs ++ token.Number n ∷ []) here.spelled ∙ append_assoc (text_tokens here.written) (token.Rank ∷ []) (token.Number n ∷ []);
+      said = here.said;
+      blocks = ap (λ (bs : List ℕ). bs ++ n ∷ []) here.blocks;
+      new = subst (λ (bs : List ℕ). list_any (nat_eq n) bs ≡ false) here.blocks new;
+      clear = record { ops = here.clear.ops; defined = here.clear.defined; deps = here.clear.deps; notes = here.clear.notes };
+    }
+step_block _ at kept draft head ks known once new here = absurd (true≢false known)
+
+step_open : Steps state.Open
+unfolding entry blocks_with rank_with draft_with head_with ops_with ends_action defined_with deps_with notes_with plans_with
+step_open token.Open at kept draft head ks known once new here =
+    record {
+      written = here.written;
+      items = [];
+      spelled = ap (λ (xs : List TokenKind). xs ++ token.Open ∷ []) here.spelled ∙ append_assoc (text_tokens here.written) (token.Rank ∷ token.Number kept.rank ∷ []) (token.Open ∷ []);
+      said = here.said;
+      blocks = here.blocks;
+      new = here.new;
+      ops = here.clear.ops;
+      defined = here.clear.defined;
+      deps = here.clear.deps;
+      notes = here.clear.notes;
+    }
+step_open _ at kept draft head ks known once new here = absurd (true≢false known)
+
+module _ (label : List ℕ) (kept : Kept) (ks : List TokenKind) (inside : In kept ks (token.Label label ∷ []) None) where
+  -- a colon defines the label
+  defines : (subject : Option Mention) (at : ℕ) → subject ≡ Some (record { label = label; at = at }) →
+      In (record kept { defined = define subject (length kept.ops) kept.defined }) (ks ++ token.Colon ∷ []) (token.Label label ∷ token.Colon ∷ []) (Some label)
+  defines subject at is =
+      let stayed = stay kept ks (token.Label label ∷ []) None inside token.Colon (token.Label label ∷ token.Colon ∷ []) refl in
+      record {
+        written = stayed.written;
+        items = stayed.items;
+        spelled = stayed.spelled;
+        said = stayed.said;
+        blocks = stayed.blocks;
+        new = stayed.new;
+        ops = stayed.ops;
+        defined = ap (λ (s : Option Mention). define s (length kept.ops) kept.defined) is
+            ∙ ap (λ (ds : List Definition). ds ++ record { label = label; op = length kept.ops } ∷ []) (stayed.defined ∙ append-nil (definitions 0 stayed.items));
+        deps = stayed.deps;
+        notes = stayed.notes;
+      }
+
+step_word : Steps state.Word
+unfolding entry blocks_with rank_with draft_with head_with ops_with ends_action defined_with deps_with notes_with plans_with
+step_word token.Colon at kept draft head ks known once new here = (here.0, defines here.0 kept ks here.2 head.subject here.1.0 here.1.1)
+step_word token.Requires at kept draft head ks known once new here = (here.0, here.1, tt, stay kept ks (token.Label here.0 ∷ []) None here.2 token.Requires (token.Label here.0 ∷ token.Requires ∷ []) refl)
+step_word token.Irequires at kept draft head ks known once new here = (here.0, here.1, tt, stay kept ks (token.Label here.0 ∷ []) None here.2 token.Irequires (token.Label here.0 ∷ token.Irequires ∷ []) refl)
+step_word token.Moves at kept draft head ks known once new here = (here.0, here.1, tt, stay kept ks (token.Label here.0 ∷ []) None here.2 token.Moves (token.Label here.0 ∷ token.Moves ∷ []) refl)
+step_word token.Adds at kept draft head ks known once new here = (here.0, here.1, tt, stay kept ks (token.Label here.0 ∷ []) None here.2 token.Adds (token.Label here.0 ∷ token.Adds ∷ []) refl)
+step_word _ at kept draft head ks known once new here = absurd (true≢false known)
+
+-- a dependency and a note are complete
+module _ (kept : Kept) (ks : List TokenKind) (label : List ℕ) (subject : Option Mention) (at : ℕ) (is : subject ≡ Some (record { label = label; at = at })) where
+  depends : (earlier : List ℕ) (v : Verb) → IsOrder v → In kept ks (token.Label label ∷ verb_token v ∷ token.Label earlier ∷ []) None →
+      In (record kept { deps = dep_ended state.Label subject v earlier kept.deps }) ks [] None
+  depends earlier verb.Requires order inside =
+      complete kept ks (item_tokens (requires label earlier)) None inside (requires label earlier) kept.ops (dep_ended state.Label subject verb.Requires earlier kept.deps) kept.notes refl
+      (sym (append-nil kept.ops)) (ap (λ (s : Option Mention). dep_ended state.Label s verb.Requires earlier kept.deps) is) (sym (append-nil kept.notes)) (λ n. refl)
+  depends earlier verb.Irequires order inside =
+      complete kept ks (item_tokens (irequires label earlier)) None inside (irequires label earlier) kept.ops (dep_ended state.Label subject verb.Irequires earlier kept.deps) kept.notes refl
+      (sym (append-nil kept.ops)) (ap (λ (s : Option Mention). dep_ended state.Label s verb.Irequires earlier kept.deps) is) (sym (append-nil kept.notes)) (λ n. refl)
+  depends earlier _ order inside = absurd order
+
+  notes_on : (low n : ℕ) (v : Verb) → IsNote v → In kept ks (token.Label label ∷ verb_token v ∷ token.Number low ∷ token.To ∷ token.Number n ∷ []) None →
+      In (record kept { notes = note_ended state.Note3 subject v low n kept.notes }) ks [] None
+  notes_on low n verb.Moves note inside =
+      complete kept ks (item_tokens (moves label low n)) None inside (moves label low n) kept.ops kept.deps (note_ended state.Note3 subject verb.Moves low n kept.notes) refl
+      (sym (append-nil kept.ops)) (sym (append-nil kept.deps)) (ap (λ (s : Option Mention). note_ended state.Note3 s verb.Moves low n kept.notes) is) (λ n. refl)
+  notes_on low n verb.Adds note inside =
+      complete kept ks (item_tokens (adds label low n)) None inside (adds label low n) kept.ops kept.deps (note_ended state.Note3 subject verb.Adds low n kept.notes) refl
+      (sym (append-nil kept.ops)) (sym (append-nil kept.deps)) (ap (λ (s : Option Mention). note_ended state.Note3 s verb.Adds low n kept.notes) is) (λ n. refl)
+  notes_on low n _ note inside = absurd note
+
+step_label : Steps state.Label
+unfolding entry blocks_with rank_with draft_with head_with ops_with ends_action defined_with deps_with notes_with plans_with
+step_label (token.Label earlier) at kept draft head ks known once new here =
+    depends kept (ks ++ token.Label earlier ∷ []) here.0 head.subject here.1.0 here.1.1 earlier head.verb here.2
+    (stay kept ks (token.Label here.0 ∷ verb_token head.verb ∷ []) None here.3 (token.Label earlier) (token.Label here.0 ∷ verb_token head.verb ∷ token.Label earlier ∷ []) refl)
+step_label _ at kept draft head ks known once new here = absurd (true≢false known)
+
+step_note1 : Steps state.Note1
+unfolding entry blocks_with rank_with draft_with head_with ops_with ends_action defined_with deps_with notes_with plans_with
+step_note1 (token.Number n) at kept draft head ks known once new here = (here.0, here.1, here.2, stay kept ks (token.Label here.0 ∷ verb_token head.verb ∷ []) None here.3 (token.Number n) (token.Label here.0 ∷ verb_token head.verb ∷ token.Number n ∷ []) refl)
+step_note1 _ at kept draft head ks known once new here = absurd (true≢false known)
+
+step_note2 : Steps state.Note2
+unfolding entry blocks_with rank_with draft_with head_with ops_with ends_action defined_with deps_with notes_with plans_with
+step_note2 token.To at kept draft head ks known once new here = (here.0, here.1, here.2, stay kept ks (token.Label here.0 ∷ verb_token head.verb ∷ token.Number head.low ∷ []) None here.3 token.To (token.Label here.0 ∷ verb_token head.verb ∷ token.Number head.low ∷ token.To ∷ []) refl)
+step_note2 _ at kept draft head ks known once new here = absurd (true≢false known)
+
+step_note3 : Steps state.Note3
+unfolding entry blocks_with rank_with draft_with head_with ops_with ends_action defined_with deps_with notes_with plans_with
+step_note3 (token.Number n) at kept draft head ks known once new here =
+    notes_on kept (ks ++ token.Number n ∷ []) here.0 head.subject here.1.0 here.1.1 head.low n head.verb here.2
+    (stay kept ks (token.Label here.0 ∷ verb_token head.verb ∷ token.Number head.low ∷ token.To ∷ []) None here.3 (token.Number n) (token.Label here.0 ∷ verb_token head.verb ∷ token.Number head.low ∷ token.To ∷ token.Number n ∷ []) refl)
+step_note3 _ at kept draft head ks known once new here = absurd (true≢false known)
+
+step_action : Steps state.Action
+unfolding entry blocks_with rank_with draft_with head_with ops_with ends_action defined_with deps_with notes_with plans_with
+step_action token.Calc at kept draft head ks known once new here = (Some here.0, draft.option, stay kept ks (token.Label here.0 ∷ token.Colon ∷ []) (Some here.0) here.1 token.Calc (token.Label here.0 ∷ token.Colon ∷ token.Calc ∷ []) refl, refl)
+step_action token.Send at kept draft head ks known once new here = (Some here.0, draft.option, stay kept ks (token.Label here.0 ∷ token.Colon ∷ []) (Some here.0) here.1 token.Send (token.Label here.0 ∷ token.Colon ∷ token.Send ∷ []) refl, refl)
+step_action token.Recv at kept draft head ks known once new here = (Some here.0, draft.option, stay kept ks (token.Label here.0 ∷ token.Colon ∷ []) (Some here.0) here.1 token.Recv (token.Label here.0 ∷ token.Colon ∷ token.Recv ∷ []) refl, refl)
+step_action _ at kept draft head ks known once new here = absurd (true≢false known)
+
+step_calc1 : Steps state.Calc1
+unfolding entry blocks_with rank_with draft_with head_with ops_with ends_action defined_with deps_with notes_with plans_with
+step_calc1 (token.Number n) at kept draft head ks known once new here = (here.0, here.1, n, None, stay kept ks (label_tokens here.0 ++ token.Calc ∷ []) here.0 here.2 (token.Number n) (label_tokens here.0 ++ token.Calc ∷ token.Number n ∷ []) (append_assoc (label_tokens here.0) (token.Calc ∷ []) ((token.Number n) ∷ [])), ap (λ (d : Draft). record d { size = n }) here.3)
+step_calc1 _ at kept draft head ks known once new here = absurd (true≢false known)
+
+step_calc2 : Steps state.Calc2
+unfolding entry blocks_with rank_with draft_with head_with ops_with ends_action defined_with deps_with notes_with plans_with
+step_calc2 token.Cpu at kept draft head ks known once new here = by here.3 here.4 here.5
+  where
+    by : (c : Option ℕ) → In kept ks (item_tokens (calc here.0 here.2 c)) here.0 → draft ≡ drafted action.Calc here.2 None (cpu_settings c) here.1 →
+        At state.Calc3 kept (record draft { has_cpu = true; option = option.Cpu }) head (ks ++ token.Cpu ∷ [])
+    by None inside is = (
+      here.0,
+      here.1,
+      here.2,
+      stay kept ks (label_tokens here.0 ++ token.Calc ∷ token.Number here.2 ∷ []) here.0 inside token.Cpu (label_tokens here.0 ++ token.Calc ∷ token.Number here.2 ∷ token.Cpu ∷ [])
+          (append_assoc (label_tokens here.0) (token.Calc ∷ token.Number here.2 ∷ []) (token.Cpu ∷ [])),
+      ap (mark option.Cpu) is,
+    )
+    by (Some n) inside is = absurd (true≢false (sym (ap (λ (d : Draft). d.has_cpu) is) ∙ once))
+step_calc2 k at kept draft head ks known once new here =
+    step_calc kept draft head ks
+    (acted kept draft ks here.0 (calc here.0 here.2 here.3) here.4 (ap (λ (d : Draft). op_of d ∷ []) here.5 ∙ calc_op here.2 here.3 here.1) refl refl (λ n. refl))
+    k at known
+
+step_calc3 : Steps state.Calc3
+unfolding entry blocks_with rank_with draft_with head_with ops_with ends_action defined_with deps_with notes_with plans_with
+step_calc3 (token.Number n) at kept draft head ks known once new here = (here.0, option.Cpu, here.2, Some n, stay kept ks (label_tokens here.0 ++ token.Calc ∷ token.Number here.2 ∷ token.Cpu ∷ []) here.0 here.3 (token.Number n) (label_tokens here.0 ++ token.Calc ∷ token.Number here.2 ∷ token.Cpu ∷ token.Number n ∷ []) (append_assoc (label_tokens here.0) (token.Calc ∷ token.Number here.2 ∷ token.Cpu ∷ []) ((token.Number n) ∷ [])), ap (λ (d : Draft). option_with d.option n d) here.4)
+step_calc3 _ at kept draft head ks known once new here = absurd (true≢false known)
+
+step_send1 : Steps state.Send1
+unfolding entry blocks_with rank_with draft_with head_with ops_with ends_action defined_with deps_with notes_with plans_with
+step_send1 (token.Number n) at kept draft head ks known once new here = (here.0, here.1, plain n, stay kept ks (label_tokens here.0 ++ token.Send ∷ []) here.0 here.2 (token.Number n) (label_tokens here.0 ++ token.Send ∷ token.Number n ∷ []) (append_assoc (label_tokens here.0) (token.Send ∷ []) ((token.Number n) ∷ [])), ap (λ (d : Draft). record d { size = n }) here.3)
+step_send1 (token.Size n) at kept draft head ks known once new here = (here.0, here.1, marked n, stay kept ks (label_tokens here.0 ++ token.Send ∷ []) here.0 here.2 (token.Size n) (label_tokens here.0 ++ token.Send ∷ token.Size n ∷ []) (append_assoc (label_tokens here.0) (token.Send ∷ []) ((token.Size n) ∷ [])), ap (λ (d : Draft). record d { size = n }) here.3)
+step_send1 _ at kept draft head ks known once new here = absurd (true≢false known)
+
+step_send2 : Steps state.Send2
+unfolding entry blocks_with rank_with draft_with head_with ops_with ends_action defined_with deps_with notes_with plans_with
+step_send2 token.To at kept draft head ks known once new here = (here.0, here.1, here.2, stay kept ks (label_tokens here.0 ++ token.Send ∷ amount_token here.2 ∷ []) here.0 here.3 token.To (label_tokens here.0 ++ token.Send ∷ amount_token here.2 ∷ token.To ∷ []) (append_assoc (label_tokens here.0) (token.Send ∷ amount_token here.2 ∷ []) (token.To ∷ [])), here.4)
+step_send2 _ at kept draft head ks known once new here = absurd (true≢false known)
+
+step_send3 : Steps state.Send3
+unfolding entry blocks_with rank_with draft_with head_with ops_with ends_action defined_with deps_with notes_with plans_with
+step_send3 (token.Number n) at kept draft head ks known once new here = (here.0, here.1, here.2, n, [], stay kept ks (label_tokens here.0 ++ token.Send ∷ amount_token here.2 ∷ token.To ∷ []) here.0 here.3 (token.Number n) (label_tokens here.0 ++ token.Send ∷ amount_token here.2 ∷ token.To ∷ token.Number n ∷ []) (append_assoc (label_tokens here.0) (token.Send ∷ amount_token here.2 ∷ token.To ∷ []) ((token.Number n) ∷ [])), ap (λ (d : Draft). record d { peer = Some n }) here.4)
+step_send3 _ at kept draft head ks known once new here = absurd (true≢false known)
+
+step_send4 : Steps state.Send4
+unfolding entry blocks_with rank_with draft_with head_with ops_with ends_action defined_with deps_with notes_with plans_with
+step_send4 token.Tag at kept draft head ks known once new here = (here.0, here.1, here.2, here.3, here.4, option.Tag, stay kept ks (item_tokens (send here.0 here.2 here.3 here.4)) here.0 here.5 token.Tag (item_tokens (send here.0 here.2 here.3 here.4) ++ token.Tag ∷ []) refl, sym (ap (λ (d : Draft). d.has_tag) here.6) ∙ once, ap (mark option.Tag) here.6)
+step_send4 token.Cpu at kept draft head ks known once new here = (here.0, here.1, here.2, here.3, here.4, option.Cpu, stay kept ks (item_tokens (send here.0 here.2 here.3 here.4)) here.0 here.5 token.Cpu (item_tokens (send here.0 here.2 here.3 here.4) ++ token.Cpu ∷ []) refl, sym (ap (λ (d : Draft). d.has_cpu) here.6) ∙ once, ap (mark option.Cpu) here.6)
+step_send4 token.Nic at kept draft head ks known once new here = (here.0, here.1, here.2, here.3, here.4, option.Nic, stay kept ks (item_tokens (send here.0 here.2 here.3 here.4)) here.0 here.5 token.Nic (item_tokens (send here.0 here.2 here.3 here.4) ++ token.Nic ∷ []) refl, sym (ap (λ (d : Draft). d.has_nic) here.6) ∙ once, ap (mark option.Nic) here.6)
+step_send4 k at kept draft head ks known once new here =
+    step_send kept draft head ks
+    (acted kept draft ks here.0 (send here.0 here.2 here.3 here.4) here.5 (ap (λ (d : Draft). op_of d ∷ []) here.6) refl refl (λ n. refl))
+    k at known
+
+step_send5 : Steps state.Send5
+unfolding entry blocks_with rank_with draft_with head_with ops_with ends_action defined_with deps_with notes_with plans_with
+step_send5 (token.Number n) at kept draft head ks known once new here = (
+  here.0,
+  here.5,
+  here.2,
+  here.3,
+  here.4 ++ number_setting here.5 n ∷ [],
+  stay kept ks (item_tokens (send here.0 here.2 here.3 here.4) ++ option_token here.5 ∷ []) here.0 here.6 (token.Number n) (item_tokens (send here.0 here.2 here.3 (here.4 ++ number_setting here.5 n ∷ [])))
+      (longer_by (label_tokens here.0) (token.Send ∷ amount_token here.2 ∷ token.To ∷ token.Number here.3 ∷ []) here.4 (number_setting here.5 n) (option_token here.5) (token.Number n) (setting_is here.5 n)),
+  ap (λ (d : Draft). option_with d.option n d) here.8 ∙ settled action.Send (amount here.2) (Some here.3) here.4 here.1 here.5 n here.7,
+)
+step_send5 _ at kept draft head ks known once new here = absurd (true≢false known)
+
+step_recv1 : Steps state.Recv1
+unfolding entry blocks_with rank_with draft_with head_with ops_with ends_action defined_with deps_with notes_with plans_with
+step_recv1 (token.Number n) at kept draft head ks known once new here = (here.0, here.1, plain n, stay kept ks (label_tokens here.0 ++ token.Recv ∷ []) here.0 here.2 (token.Number n) (label_tokens here.0 ++ token.Recv ∷ token.Number n ∷ []) (append_assoc (label_tokens here.0) (token.Recv ∷ []) ((token.Number n) ∷ [])), ap (λ (d : Draft). record d { size = n }) here.3)
+step_recv1 (token.Size n) at kept draft head ks known once new here = (here.0, here.1, marked n, stay kept ks (label_tokens here.0 ++ token.Recv ∷ []) here.0 here.2 (token.Size n) (label_tokens here.0 ++ token.Recv ∷ token.Size n ∷ []) (append_assoc (label_tokens here.0) (token.Recv ∷ []) ((token.Size n) ∷ [])), ap (λ (d : Draft). record d { size = n }) here.3)
+step_recv1 _ at kept draft head ks known once new here = absurd (true≢false known)
+
+step_recv2 : Steps state.Recv2
+unfolding entry blocks_with rank_with draft_with head_with ops_with ends_action defined_with deps_with notes_with plans_with
+step_recv2 token.From at kept draft head ks known once new here = (here.0, here.1, here.2, stay kept ks (label_tokens here.0 ++ token.Recv ∷ amount_token here.2 ∷ []) here.0 here.3 token.From (label_tokens here.0 ++ token.Recv ∷ amount_token here.2 ∷ token.From ∷ []) (append_assoc (label_tokens here.0) (token.Recv ∷ amount_token here.2 ∷ []) (token.From ∷ [])), here.4)
+step_recv2 _ at kept draft head ks known once new here = absurd (true≢false known)
+
+step_recv3 : Steps state.Recv3
+unfolding entry blocks_with rank_with draft_with head_with ops_with ends_action defined_with deps_with notes_with plans_with
+step_recv3 (token.Number n) at kept draft head ks known once new here = (here.0, here.1, here.2, Some n, [], stay kept ks (label_tokens here.0 ++ token.Recv ∷ amount_token here.2 ∷ token.From ∷ []) here.0 here.3 (token.Number n) (label_tokens here.0 ++ token.Recv ∷ amount_token here.2 ∷ token.From ∷ token.Number n ∷ []) (append_assoc (label_tokens here.0) (token.Recv ∷ amount_token here.2 ∷ token.From ∷ []) ((token.Number n) ∷ [])), ap (λ (d : Draft). record d { peer = Some n }) here.4)
+step_recv3 token.Any at kept draft head ks known once new here = (here.0, here.1, here.2, None, [], stay kept ks (label_tokens here.0 ++ token.Recv ∷ amount_token here.2 ∷ token.From ∷ []) here.0 here.3 token.Any (label_tokens here.0 ++ token.Recv ∷ amount_token here.2 ∷ token.From ∷ token.Any ∷ []) (append_assoc (label_tokens here.0) (token.Recv ∷ amount_token here.2 ∷ token.From ∷ []) (token.Any ∷ [])), ap (λ (d : Draft). record d { peer = None }) here.4)
+step_recv3 _ at kept draft head ks known once new here = absurd (true≢false known)
+
+step_recv4 : Steps state.Recv4
+unfolding entry blocks_with rank_with draft_with head_with ops_with ends_action defined_with deps_with notes_with plans_with
+step_recv4 token.Tag at kept draft head ks known once new here = (here.0, here.1, here.2, here.3, here.4, stay kept ks (item_tokens (recv here.0 here.2 here.3 here.4)) here.0 here.5 token.Tag (item_tokens (recv here.0 here.2 here.3 here.4) ++ token.Tag ∷ []) refl, sym (ap (λ (d : Draft). d.has_tag) here.6) ∙ once, ap (mark option.Tag) here.6)
+step_recv4 token.Cpu at kept draft head ks known once new here = (here.0, here.1, here.2, here.3, here.4, option.Cpu, stay kept ks (item_tokens (recv here.0 here.2 here.3 here.4)) here.0 here.5 token.Cpu (item_tokens (recv here.0 here.2 here.3 here.4) ++ token.Cpu ∷ []) refl, sym (ap (λ (d : Draft). d.has_cpu) here.6) ∙ once, ap (mark option.Cpu) here.6)
+step_recv4 token.Nic at kept draft head ks known once new here = (here.0, here.1, here.2, here.3, here.4, option.Nic, stay kept ks (item_tokens (recv here.0 here.2 here.3 here.4)) here.0 here.5 token.Nic (item_tokens (recv here.0 here.2 here.3 here.4) ++ token.Nic ∷ []) refl, sym (ap (λ (d : Draft). d.has_nic) here.6) ∙ once, ap (mark option.Nic) here.6)
+step_recv4 k at kept draft head ks known once new here =
+    step_recv kept draft head ks
+    (acted kept draft ks here.0 (recv here.0 here.2 here.3 here.4) here.5 (ap (λ (d : Draft). op_of d ∷ []) here.6) refl refl (λ n. refl))
+    k at known
+
+step_recv5 : Steps state.Recv5
+unfolding entry blocks_with rank_with draft_with head_with ops_with ends_action defined_with deps_with notes_with plans_with
+step_recv5 (token.Number n) at kept draft head ks known once new here = (
+  here.0,
+  option.Tag,
+  here.2,
+  here.3,
+  here.4 ++ number_setting option.Tag n ∷ [],
+  stay kept ks (item_tokens (recv here.0 here.2 here.3 here.4) ++ option_token option.Tag ∷ []) here.0 here.5 (token.Number n) (item_tokens (recv here.0 here.2 here.3 (here.4 ++ number_setting option.Tag n ∷ [])))
+      (longer_by (label_tokens here.0) (token.Recv ∷ amount_token here.2 ∷ token.From ∷ number_or_any here.3 ∷ []) here.4 (number_setting option.Tag n) (option_token option.Tag) (token.Number n) (setting_is option.Tag n)),
+  ap (λ (d : Draft). option_with d.option n d) here.7 ∙ settled action.Recv (amount here.2) here.3 here.4 here.1 option.Tag n here.6,
+)
+step_recv5 token.Any at kept draft head ks known once new here = (
+  here.0,
+  option.Tag,
+  here.2,
+  here.3,
+  here.4 ++ tag None ∷ [],
+  stay kept ks (item_tokens (recv here.0 here.2 here.3 here.4) ++ token.Tag ∷ []) here.0 here.5 token.Any (item_tokens (recv here.0 here.2 here.3 (here.4 ++ tag None ∷ [])))
+      (longer_by (label_tokens here.0) (token.Recv ∷ amount_token here.2 ∷ token.From ∷ number_or_any here.3 ∷ []) here.4 (tag None) token.Tag token.Any refl),
+  ap (λ (d : Draft). record d { tag = None }) here.7 ∙ with_tag action.Recv (amount here.2) here.3 here.4 here.1 None here.6,
+)
+step_recv5 _ at kept draft head ks known once new here = absurd (true≢false known)
+
+step_recv6 : Steps state.Recv6
+unfolding entry blocks_with rank_with draft_with head_with ops_with ends_action defined_with deps_with notes_with plans_with
+step_recv6 (token.Number n) at kept draft head ks known once new here = (
+  here.0,
+  here.5,
+  here.2,
+  here.3,
+  here.4 ++ number_setting here.5 n ∷ [],
+  stay kept ks (item_tokens (recv here.0 here.2 here.3 here.4) ++ option_token here.5 ∷ []) here.0 here.6 (token.Number n) (item_tokens (recv here.0 here.2 here.3 (here.4 ++ number_setting here.5 n ∷ [])))
+      (longer_by (label_tokens here.0) (token.Recv ∷ amount_token here.2 ∷ token.From ∷ number_or_any here.3 ∷ []) here.4 (number_setting here.5 n) (option_token here.5) (token.Number n) (setting_is here.5 n)),
+  ap (λ (d : Draft). option_with d.option n d) here.8 ∙ settled action.Recv (amount here.2) here.3 here.4 here.1 here.5 n here.7,
+)
+step_recv6 _ at kept draft head ks known once new here = absurd (true≢false known)
+
+step : (s : State) → Steps s
+unfolding entry
+step state.Start = step_start
+step state.Ranks = step_ranks
+step state.Top = step_top
+step state.Block = step_block
+step state.Open = step_open
+step state.Item = λ k at kept draft head ks known once new here. step_item kept draft head ks here k at known
+step state.Word = step_word
+step state.Label = step_label
+step state.Note1 = step_note1
+step state.Note2 = step_note2
+step state.Note3 = step_note3
+step state.Action = step_action
+step state.Calc1 = step_calc1
+step state.Calc2 = step_calc2
+step state.Calc3 = step_calc3
+step state.Send1 = step_send1
+step state.Send2 = step_send2
+step state.Send3 = step_send3
+step state.Send4 = step_send4
+step state.Send5 = step_send5
+step state.Recv1 = step_recv1
+step state.Recv2 = step_recv2
+step state.Recv3 = step_recv3
+step state.Recv4 = step_recv4
+step state.Recv5 = step_recv5
+step state.Recv6 = step_recv6
+
+-- the tests that a token passes
+record Passes (s : State) (draft : Draft) (blocks : List ℕ) (k : TokenKind) : Type 0 where
+  known : is_none (entry s k) ≡ false
+  once : has_option k draft ≡ false
+  new_rank : IsNewRank s blocks k
+
+module _ (s : State) (draft : Draft) (ranks : ℕ) (blocks : List ℕ) (ds : List Definition) (subject : Option Mention) (counts : Counts) (us : List Mention) (t : Token) where
+  passes_of : fault_by s draft ranks blocks ds subject counts us t ≡ None → Passes s draft blocks t.kind
+  unfolding fault_by syntax_fault option_fault
+  passes_of h =
+      let labels = option_or (label_fault ds subject t) (option_or (count_fault counts t) (unknown_fault ds us t)) in
+      let options = option_or (option_fault draft t) labels in
+      let numbered = option_or (rank_fault s ranks blocks t) options in
+      let sized = option_or (number_fault s draft.option t) numbered in
+      let behind_syntax = none_second (syntax_fault s t) sized h in
+      let behind_number = none_second (number_fault s draft.option t) numbered behind_syntax in
+      let behind_rank = none_second (rank_fault s ranks blocks t) options behind_number in
+      record {
+        known = not_so (is_none (entry s t.kind)) (Syntax t.start) (none_first (syntax_fault s t) sized h);
+        once = not_so (has_option t.kind draft) (Repeat t.start) (none_first (option_fault draft t) labels behind_rank);
+        new_rank = rank_passes s ranks blocks t (none_first (rank_fault s ranks blocks t) options behind_number);
+      }
+
+-- what tokens that fail no test are
+abbrev AtEnd : List Token → List TokenKind → Type 0
+AtEnd before ks = At (state_of before) (kept_of before) (draft_of before) (head_of before) ks
+
+one_more : (before : List Token) (t : Token) (ks : List TokenKind) → token_fault before t ≡ None → AtEnd before ks → AtEnd (t ∷ before) (ks ++ t.kind ∷ [])
+unfolding token_fault state_of draft_of head_of blocks_of rank_of ops_of defined_of deps_of notes_of plans_of
+one_more before t ks passed here =
+    let passes = passes_of (state_of before) (draft_of before) (ranks_of before) (blocks_of before) (defined_of before) (head_of before).subject (counts_of before) (used_of before) t passed in
+    step (state_of before) t.kind t.start (kept_of before) (draft_of before) (head_of before) ks passes.known passes.once passes.new_rank here
+
+all_more : (before tokens : List Token) (ks : List TokenKind) → first_fault before tokens ≡ None → AtEnd before ks →
+    AtEnd (reverse tokens ++ before) (ks ++ map (λ (t : Token). t.kind) tokens)
+unfolding first_fault
+all_more before [] ks passed here = subst (AtEnd before) (sym (append-nil ks)) here
+all_more before (t ∷ tokens) ks passed here =
+    let kinds = map (λ (u : Token). u.kind) tokens in
+    let first = one_more before t ks (none_first (token_fault before t) (first_fault (t ∷ before) tokens) passed) here in
+    let rest = all_more (t ∷ before) tokens (ks ++ t.kind ∷ []) (none_second (token_fault before t) (first_fault (t ∷ before) tokens) passed) first in
+    let turned : reverse (t ∷ tokens) ++ before ≡ reverse tokens ++ t ∷ before =
+    ap (λ (l : List Token). l ++ before) (reverse-append (t ∷ []) tokens) ∙ append_assoc (reverse tokens) (t ∷ []) before in
+    subst (λ (l : List Token). AtEnd l (ks ++ t.kind ∷ kinds)) (sym turned)
+    (subst (AtEnd (reverse tokens ++ t ∷ before)) (append_assoc ks (t.kind ∷ []) kinds) rest)
+
+at_start : AtEnd [] []
+unfolding state_of blocks_of ops_of defined_of deps_of notes_of
+at_start = (refl, record { ops = refl; defined = refl; deps = refl; notes = refl }, refl)
+
+-- where the text may end
+at_last : (o : Option ℕ) (s : State) (place : ℕ) (kept : Kept) (draft : Draft) (head : ItemHead) (ks : List TokenKind) → last_fault o s place ≡ None →
+    At s kept draft head ks → Out kept ks []
+at_last None state.Top place kept draft head ks h here = here
+at_last None _ place kept draft head ks h here = cc
+at_last (Some at) s place kept draft head ks h here = cc
+
+of_text : (text : List ℕ) → text_fault text ≡ None → IsWritten (lexed text).0 (text_plans text)
+unfolding text_fault text_plans
+of_text text passed =
+    let tokens = (lexed text).0 in
+    let kinds = map (λ (t : Token). t.kind) tokens in
+    let before = reverse tokens in
+    let last = last_fault (lexed text).1 (state_of before) (length text) in
+    let here = subst (λ (l : List Token). AtEnd l kinds) (append-nil before) (all_more [] tokens [] (none_first (first_fault [] tokens) last passed) at_start) in
+    let out = at_last (lexed text).1 (state_of before) (length text) (kept_of before) (draft_of before) (head_of before) kinds (none_second (first_fault [] tokens) last passed) here in
+    record { written = out.written; spelled = out.spelled ∙ append-nil (text_tokens out.written); said = out.said }
+
+of_reading : (tokens : List Token) (fault : Option TextFault) (said ps : List Plan) → (fault ≡ None → IsWritten tokens said) → reading fault said ≡ plans ps → IsWritten tokens ps
+of_reading tokens None said ps h is = subst (IsWritten tokens) (same said ps is) (h refl)
+  where
+    same : (a b : List Plan) → plans a ≡ plans b → a ≡ b
+    same a b e = cc
+of_reading tokens (Some f) said ps h is = absurd (apart f ps is)
+  where
+    apart : (f : TextFault) (b : List Plan) → faulty f ≡ plans b → ⊥
+    apart f b e = cc
+
+pub say_plans : (text : List ℕ) (ps : List Plan) → reads text ≡ plans ps → IsWritten (lexed text).0 ps
+unfolding reads
+say_plans text ps is = of_reading (lexed text).0 (text_fault text) (text_plans text) ps (of_text text) is

@@ -1,0 +1,172 @@
+-- The sentences of a text as one writes them: their tokens, and what they mean.
+use Rattle.std.specs.Prelude.{◌≡◌, ℕ, ◌+◌, ◌<◌, ◌==◌, List, [], ◌∷◌, ◌++◌, Option, Some, None, length, map, unwrap_or, slice_index_or, if◌then◌else◌}
+use Rattle.std.specs.List.{flat_map}
+use Rattle.goal_lexer.specs.declared.tokens.Token.{Token}
+use Rattle.goal_lexer.specs.declared.tokens.TokenKind.{TokenKind}
+use Rattle.goal_lexer.specs.declared.tokens.TokenKind.TheVariants as token
+use Rattle.goal_graph.specs.declared.plan.Op.{Op}
+use Rattle.goal_graph.specs.declared.plan.Kind.TheVariants as kind
+use Rattle.goal_graph.specs.declared.plan.Dep.{Dep}
+use Rattle.goal_graph.specs.declared.plan.When.TheVariants.{AfterEnd, AfterStart}
+use Rattle.goal_graph.specs.declared.plan.Note.{Note}
+use Rattle.goal_graph.specs.declared.plan.Note.TheVariants as note
+use Rattle.goal_graph.specs.Schedule.{Plan}
+use Rattle.goal_parser.specs.Items.{Definition, op_number}
+use Rattle.goal_parser.specs.Plans.{empty_plan}
+
+-- a size: `10` or `10b`
+pub data Amount : Type 0 where
+  plain : ℕ → Amount
+  marked : ℕ → Amount
+
+-- an option of a send or a receive with its number; a tag may be `any`
+pub data Setting : Type 0 where
+  tag : Option ℕ → Setting
+  cpu : ℕ → Setting
+  nic : ℕ → Setting
+
+-- An item of a block. An action may stand behind a label and a colon, and `any` is None:
+--   calc T cpu C · send S to R .. · recv S from R .. · X requires Y · X irequires Y · X moves A to B · X adds A to B
+pub data Item : Type 0 where
+  calc : Option (List ℕ) → ℕ → Option ℕ → Item
+  send : Option (List ℕ) → Amount → ℕ → List Setting → Item
+  recv : Option (List ℕ) → Amount → Option ℕ → List Setting → Item
+  requires : List ℕ → List ℕ → Item
+  irequires : List ℕ → List ℕ → Item
+  moves : List ℕ → ℕ → ℕ → Item
+  adds : List ℕ → ℕ → ℕ → Item
+
+-- the block of a rank
+pub record Block : Type 0 where
+  pub rank : ℕ
+  pub items : List Item
+
+-- a text: its number of ranks, and then blocks
+pub record Written : Type 0 where
+  pub ranks : ℕ
+  pub blocks : List Block
+
+-- How sentences are written: their tokens.
+
+abbrev pub number_or_any : Option ℕ → TokenKind
+number_or_any None = token.Any
+number_or_any (Some n) = token.Number n
+
+abbrev pub amount_token : Amount → TokenKind
+amount_token (plain n) = token.Number n
+amount_token (marked n) = token.Size n
+
+abbrev pub setting_tokens : Setting → List TokenKind
+setting_tokens (tag n) = token.Tag ∷ number_or_any n ∷ []
+setting_tokens (cpu n) = token.Cpu ∷ token.Number n ∷ []
+setting_tokens (nic n) = token.Nic ∷ token.Number n ∷ []
+
+abbrev pub label_tokens : Option (List ℕ) → List TokenKind
+label_tokens None = []
+label_tokens (Some label) = token.Label label ∷ token.Colon ∷ []
+
+abbrev pub cpu_tokens : Option ℕ → List TokenKind
+cpu_tokens None = []
+cpu_tokens (Some n) = token.Cpu ∷ token.Number n ∷ []
+
+abbrev pub item_tokens : Item → List TokenKind
+item_tokens (calc label nanos on) = label_tokens label ++ token.Calc ∷ token.Number nanos ∷ cpu_tokens on
+item_tokens (send label size to settings) =
+    label_tokens label ++ token.Send ∷ amount_token size ∷ token.To ∷ token.Number to ∷ flat_map setting_tokens settings
+item_tokens (recv label size from settings) =
+    label_tokens label ++ token.Recv ∷ amount_token size ∷ token.From ∷ number_or_any from ∷ flat_map setting_tokens settings
+item_tokens (requires later earlier) = token.Label later ∷ token.Requires ∷ token.Label earlier ∷ []
+item_tokens (irequires later earlier) = token.Label later ∷ token.Irequires ∷ token.Label earlier ∷ []
+item_tokens (moves label first last) = token.Label label ∷ token.Moves ∷ token.Number first ∷ token.To ∷ token.Number last ∷ []
+item_tokens (adds label from to) = token.Label label ∷ token.Adds ∷ token.Number from ∷ token.To ∷ token.Number to ∷ []
+
+abbrev pub block_tokens : Block → List TokenKind
+block_tokens b = token.Rank ∷ token.Number b.rank ∷ token.Open ∷ flat_map item_tokens b.items ++ token.Close ∷ []
+
+abbrev pub text_tokens : Written → List TokenKind
+text_tokens w = token.NumRanks ∷ token.Number w.ranks ∷ flat_map block_tokens w.blocks
+
+-- What sentences mean.
+
+abbrev pub amount : Amount → ℕ
+amount (plain n) = n
+amount (marked n) = n
+
+-- the number of an option, 0 where it isn't given
+abbrev pub tag_of : List Setting → Option ℕ
+tag_of [] = Some 0
+tag_of (tag n ∷ settings) = n
+tag_of (cpu n ∷ settings) = tag_of settings
+tag_of (nic n ∷ settings) = tag_of settings
+
+abbrev pub cpu_of : List Setting → ℕ
+cpu_of [] = 0
+cpu_of (cpu n ∷ settings) = n
+cpu_of (tag n ∷ settings) = cpu_of settings
+cpu_of (nic n ∷ settings) = cpu_of settings
+
+abbrev pub nic_of : List Setting → ℕ
+nic_of [] = 0
+nic_of (nic n ∷ settings) = n
+nic_of (tag n ∷ settings) = nic_of settings
+nic_of (cpu n ∷ settings) = nic_of settings
+
+-- the operation of an item, if it is an action
+abbrev pub op_said : Item → List Op
+op_said (calc label nanos on) = record { kind = kind.Calc nanos; cpu = unwrap_or on 0; nic = 0 } ∷ []
+op_said (send label size to settings) =
+    record { kind = kind.Send (amount size) to (unwrap_or (tag_of settings) 0); cpu = cpu_of settings; nic = nic_of settings } ∷ []
+op_said (recv label size from settings) =
+    record { kind = kind.Recv (amount size) from (tag_of settings); cpu = cpu_of settings; nic = nic_of settings } ∷ []
+op_said _ = []
+
+-- the label of an action, with the number of its operation
+abbrev pub defined_before : Option (List ℕ) → ℕ → List Definition
+defined_before None op = []
+defined_before (Some label) op = record { label = label; op = op } ∷ []
+
+abbrev pub defined_by : Item → ℕ → List Definition
+defined_by (calc label nanos on) op = defined_before label op
+defined_by (send label size to settings) op = defined_before label op
+defined_by (recv label size from settings) op = defined_before label op
+defined_by _ op = []
+
+-- the labels of items, behind so many operations of their block
+abbrev pub definitions : ℕ → List Item → List Definition
+definitions op [] = []
+definitions op (item ∷ items) = defined_by item op ++ definitions (op + length (op_said item)) items
+
+-- the dependency and the note of an item, if it is one, where labels mean these operations
+abbrev pub dep_said : List Definition → Item → List Dep
+dep_said ds (requires later earlier) = record { later = op_number ds later; earlier = op_number ds earlier; when = AfterEnd } ∷ []
+dep_said ds (irequires later earlier) = record { later = op_number ds later; earlier = op_number ds earlier; when = AfterStart } ∷ []
+dep_said ds _ = []
+
+abbrev pub note_said : List Definition → Item → List Note
+note_said ds (moves label first last) = note.Moves (op_number ds label) first last ∷ []
+note_said ds (adds label from to) = note.Adds (op_number ds label) from to ∷ []
+note_said ds _ = []
+
+-- the plan of a block: its operations, its dependencies and its notes, in the order of its items
+abbrev pub plan_said : List Item → Plan
+plan_said items = record {
+  ops = flat_map op_said items;
+  deps = flat_map (dep_said (definitions 0 items)) items;
+  notes = flat_map (note_said (definitions 0 items)) items;
+}
+
+-- the plan of a rank is that of its block, and empty where it has none
+abbrev pub rank_said : List Block → ℕ → Plan
+rank_said [] rank = empty_plan
+rank_said (b ∷ bs) rank = if rank == b.rank then plan_said b.items else rank_said bs rank
+
+-- the plans are those that the sentences say, one for each rank
+pub record AreSaid (w : Written) (ps : List Plan) : Type 0 where
+  pub ranks : length ps ≡ w.ranks
+  pub each : (rank : ℕ) → rank < w.ranks → slice_index_or ps rank empty_plan ≡ rank_said w.blocks rank
+
+-- the tokens are those of sentences, and the plans are what these say
+pub record IsWritten (tokens : List Token) (ps : List Plan) : Type 0 where
+  pub written : Written
+  pub spelled : map (λ (t : Token). t.kind) tokens ≡ text_tokens written
+  pub said : AreSaid written ps
