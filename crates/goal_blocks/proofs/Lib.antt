@@ -18,3 +18,4 @@ pub mod Orders
 pub mod Effects
 pub mod Ends
 pub mod Right
+pub mod BcastOfTwo

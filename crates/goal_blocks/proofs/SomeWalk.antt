@@ -14,7 +14,7 @@ use Rattle.goal_graph.proofs.ForCallers.{one_allowed, allowed_listed, operations
 use Rattle.goal_blocks.specs.Walk.{no_send, ComesFirst, TakesFirst, IsWalk}
 
 module _ (plans : List Plan) where
-  abbrev is_allowed : List Act → Class → OpId → Bool
+  abbrev pub is_allowed : List Act → Class → OpId → Bool
   is_allowed h c x = allowed plans no_send h c x
 
   -- an operation has an allowed action, or none
@@ -38,12 +38,12 @@ module _ (plans : List Plan) where
       go (inr p) (inr q) (inr r) (inr s) (inr t) = inr (none p q r s t)
 
   -- an allowed action of the first of these operations that has one
-  record IsFirst (h : List Act) (os : List OpId) (a : Act) : Type 0 where
-    may : is_allowed h a.class a.op ≡ true
-    first : (y : OpId) → Contains os y → (d : Class) → is_allowed h d y ≡ true → (a.op ≡ y) ⊎ IsBefore a.op y
+  pub record IsFirst (h : List Act) (os : List OpId) (a : Act) : Type 0 where
+    pub may : is_allowed h a.class a.op ≡ true
+    pub first : (y : OpId) → Contains os y → (d : Class) → is_allowed h d y ≡ true → (a.op ≡ y) ⊎ IsBefore a.op y
 
   -- none of these operations has an allowed action
-  abbrev NoneOf : List Act → List OpId → Type 0
+  abbrev pub NoneOf : List Act → List OpId → Type 0
   NoneOf h os = (y : OpId) → Contains os y → (d : Class) → is_allowed h d y ≡ false
 
   search : (h : List Act) (os : List OpId) → AllPairs IsBefore os → ((a : Act) × IsFirst h os a) ⊎ NoneOf h os
@@ -70,7 +70,7 @@ module _ (plans : List Plan) where
       nowhere none rest y (suc k, b, e) d = rest y (k, omega (arith, b), e) d
 
   -- the first of all operations that has an allowed action is what the walk takes
-  takes_first : (h : List Act) (a : Act) → IsInterleaving plans no_send h → IsFirst h (operations plans) a → (b : Act) → is_allowed h b.class b.op ≡ true → ComesFirst a b
+  pub takes_first : (h : List Act) (a : Act) → IsInterleaving plans no_send h → IsFirst h (operations plans) a → (b : Act) → is_allowed h b.class b.op ≡ true → ComesFirst a b
   takes_first h a run f b q =
       ⊎_elim (λ same. inr (same, le same)) (λ before. inl before) (f.first b.op (allowed_listed plans no_send h b.class b.op q) b.class q)
     where
@@ -79,7 +79,7 @@ module _ (plans : List Plan) where
           let one = one_allowed plans no_send h a.class b.class b.op run (subst (λ (z : OpId). is_allowed h a.class z ≡ true) same f.may) q in
           subst (λ (c : Class). place a.class ≤ place c) one (omega arith)
 
-  nothing_left : (h : List Act) → NoneOf h (operations plans) → (a : Act) → is_allowed h a.class a.op ≡ false
+  pub nothing_left : (h : List Act) → NoneOf h (operations plans) → (a : Act) → is_allowed h a.class a.op ≡ false
   nothing_left h none a =
       ⊎_elim (λ p. absurd (both_ways _ (none a.op (allowed_listed plans no_send h a.class a.op p) a.class) p)) (λ p. p) (cases_Bool (is_allowed h a.class a.op))
 

@@ -14,3 +14,4 @@ pub mod Made
 pub mod MadeRooted
 pub mod Generated
 pub mod Steps
+pub mod Certified

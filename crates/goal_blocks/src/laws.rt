@@ -2,6 +2,7 @@
 ghost use Rattle.goal_blocks.specs.Matched.{ChannelsAreApart, MatchedEndsInItsPairs};
 ghost use Rattle.goal_blocks.specs.Walk.{OneWalk, SomeWalk};
 ghost use Rattle.goal_blocks.specs.Certification.{CertifiedEndsEverywhere, CertifiedConflictsInOneOrder, MatchedHoldsAsTheWalk, CertifiedIsRightEverywhere};
+ghost use Rattle.goal_blocks.specs.Certified.{BcastOfTwoIsCertified};
 ghost use Rattle.goal_blocks.specs.Race.{OrderIsKept, ConflictsComeInOneOrder};
 
 /// The laws of schedules without wildcards, in which each send has one receive of its channel and each receive one
@@ -38,11 +39,14 @@ pub fn laws_of_races()
 ///   complete interleaving and whatever is eager, and each send has read the same.
 /// - `certified_ends_everywhere`: in each complete interleaving, and whatever is eager, each operation has an end, and
 ///   the pairs join each send with the receive of its channel and no others.
+/// - `bcast_of_two_is_certified`: there are certified schedules, such as the one that is made for a broadcast from rank 0
+///   to rank 1.
 /// - `certified_conflicts_in_one_order`: two operations of which one writes a slot that the other touches come in one
 ///   order, the same in every interleaving.
 pub fn laws_of_certified_schedules()
     ensures certified_is_right_everywhere { CertifiedIsRightEverywhere }
     ensures matched_holds_as_the_walk { MatchedHoldsAsTheWalk }
+    ensures bcast_of_two_is_certified { BcastOfTwoIsCertified }
     ensures certified_ends_everywhere { CertifiedEndsEverywhere }
     ensures certified_conflicts_in_one_order { CertifiedConflictsInOneOrder }
 {}

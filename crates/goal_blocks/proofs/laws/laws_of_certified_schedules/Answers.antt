@@ -1,4 +1,5 @@
 -- Each law is a lemma.
+use Rattle.goal_blocks.proofs.BcastOfTwo.{bcast_of_two}
 use Rattle.goal_blocks.proofs.Matched.{ends_in_its_pairs}
 use Rattle.goal_blocks.proofs.Race.{conflict_in_order}
 use Rattle.goal_blocks.proofs.Right.{held_as_the_walk, certified_right}
@@ -15,3 +16,6 @@ returns-clause-certified_ends_everywhere c = λ plans first wanted eager h certi
 
 pub returns-clause-certified_conflicts_in_one_order : goal.returns-clause-certified_conflicts_in_one_order
 returns-clause-certified_conflicts_in_one_order c = λ plans first wanted x y certified conflict. conflict_in_order plans x y certified.no_race conflict
+
+pub returns-clause-bcast_of_two_is_certified : goal.returns-clause-bcast_of_two_is_certified
+returns-clause-bcast_of_two_is_certified c = bcast_of_two
