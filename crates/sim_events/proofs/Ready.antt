@@ -1,6 +1,7 @@
 -- When an operation is ready, need by need.
-use Rattle.std.proofs.Common.{◌≡◌, ℕ, ◌+◌, ◌<◌, ◌≤◌, max, Bool, true, false, ◌&&◌, List, [], ◌∷◌, length, drop, get_or, Option, Some, None, if◌then◌else◌, refl, sym, ap, ◌∙◌, subst, arith}
+use Rattle.std.proofs.Common.{◌≡◌, ℕ, ◌+◌, ◌<◌, ◌≤◌, max, Bool, true, false, ◌&&◌, List, [], ◌∷◌, length, drop, get_or, Option, Some, None, is_some, if◌then◌else◌, refl, sym, ap, ◌∙◌, subst, arith}
 use Rattle.std.specs.List.{list_all}
+use Rattle.std.proofs.lemmas.List.Folds.{list_all_at}
 use Rattle.std.proofs.lemmas.Option.{same_Some}
 use Rattle.std.proofs.lemmas.List.{drop_more, drop_all}
 use Rattle.goal_graph.specs.declared.action.OpId.{OpId}
@@ -59,6 +60,18 @@ module _ (plans : List Plan) (costs : CostModel) (h : List Timed) (x : OpId) whe
   ready_unmet n d ds e = go (is_there d) (sym (moment_is d) ∙ e)
     where
       go : (b : Bool) → (if b then Some (there_at d) else None) ≡ None → (if b && list_all is_there ds then Some (max n (greatest there_at (d ∷ ds))) else None) ≡ None
+      go true f = absurd (cc)
+      go false f = refl
+
+  -- with a need that is not met it is not ready
+  pub missing_unready : (items : List Need) → items ≡ needs plans x → (k : ℕ) (d : Need) → k < length items → (r : Option ℕ) → r ≡ moment_told plans costs h (get_or items k d).when (needed x (get_or items k d)) → is_some r ≡ false → ready_told plans costs h x ≡ None
+  unfolding is_ready
+  missing_unready items are k d l r e none =
+      let absent : is_there (get_or items k d) ≡ false = go (is_there (get_or items k d)) (ap is_some (sym (moment_is (get_or items k d)) ∙ sym e) ∙ none) in
+      let all : list_all is_there (needs plans x) ≡ false = subst (λ ds. list_all is_there ds ≡ false) are (list_all_at is_there items k d l absent) in
+      ap (λ b. if b then Some (ready plans costs h x) else None) all
+    where
+      go : (b : Bool) → is_some (if b then Some (there_at (get_or items k d)) else None) ≡ false → b ≡ false
       go true f = absurd (cc)
       go false f = refl
 

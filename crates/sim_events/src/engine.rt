@@ -69,6 +69,8 @@ pub struct Engine<'a, C: Costs> {
     state: State<'a, C>,
     // the possible actions, each at a time that is never too late
     queue: Queue,
+    // for each operation a place in the list of its needs, from which those that are not met are looked for
+    cursors: Vec<usize>,
 }
 
 impl<'a, C: Costs> Model for Engine<'a, C> {
@@ -80,6 +82,11 @@ impl<'a, C: Costs> Model for Engine<'a, C> {
     ghost view = { λ e. e.state };
 
     ghost invariant = { λ e. IsQueue e.state.plans (C.model e.state.costs) e.state.history e.queue };
+}
+
+// The cursors of all operations, each at the first need.
+fn at_first(alloc: Global, sched: &Sched) -> Result<Vec<usize>, NoMemory> {
+    Ok(vec![in alloc; 0; sched.count() as usize]?)
 }
 
 impl<'a, C: Costs + Drop> Engine<'a, C> {
@@ -95,8 +102,13 @@ impl<'a, C: Costs + Drop> Engine<'a, C> {
         let state = State::new(alloc, sched, costs)?;
         let stations = stations(alloc, sched)?;
         let mut queue = Queue::new(alloc, &stations.numbers, stations.count)?;
-        fill::<C, Brand>(Blank::new(1), &state, &mut queue);
-        Ok(Engine { state, queue })
+        let mut cursors = at_first(alloc, sched)?;
+        fill::<C, Brand>(Blank::new(1), &state, &mut queue, &mut cursors);
+        Ok(Engine {
+            state,
+            queue,
+            cursors,
+        })
     }
 }
 
@@ -197,7 +209,13 @@ impl<'a, C: Costs> Engine<'a, C> {
         self.known();
         let action = next(&self.state, &mut self.queue, &mut steps)?;
         self.state.perform(action);
-        follow(&self.state, &mut self.queue, action.op, &mut steps);
+        follow(
+            &self.state,
+            &mut self.queue,
+            &mut self.cursors,
+            action.op,
+            &mut steps,
+        );
         Some(action)
     }
 }

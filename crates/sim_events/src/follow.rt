@@ -8,7 +8,7 @@ ghost use Rattle.sim_order.specs.Events.{event_before};
 ghost use Rattle.sim_queue.specs.Map.{IsEmptyMap, IsLeast};
 ghost use Rattle.sim_queue.specs.Floors.{waits_for_room};
 ghost use Rattle.sim_events.specs.Stations.{AreStationed};
-ghost use Rattle.sim_events.specs.Queue.{IsEarly, IsQueue, IsQueueBut, IsRefreshed, IsConcerned, Waits, HasKey, lags};
+ghost use Rattle.sim_events.specs.Queue.{IsEarly, IsQueue, IsQueueBut, IsRefreshed, IsConcerned, Waits, HasKey, IsTurnOf, lags};
 
 use crate::state::State;
 use goal_graph::{Class, OpId, Timed};
@@ -21,7 +21,12 @@ use std::sync::ledger::{Blank, Ledger};
 pub type Queue = FloorQueue;
 
 /// Gives each operation its key.
-pub fn fill<C: Costs, L: Ledger>(blank: Blank, state: &State<C>, queue: &mut Queue)
+pub fn fill<C: Costs, L: Ledger>(
+    blank: Blank,
+    state: &State<C>,
+    queue: &mut Queue,
+    cursors: &mut [usize],
+)
     requires name { blank.name ≡ L.name }
     requires parts { blank.parts ≡ L.parts }
     requires some { 0 < blank.parts }
@@ -33,7 +38,7 @@ pub fn fill<C: Costs, L: Ledger>(blank: Blank, state: &State<C>, queue: &mut Que
     state.known();
     let ranks = state.sched().plans().len() as u32;
     for rank in 0..ranks {
-        fill_rank(state, queue, rank, &mut steps);
+        fill_rank(state, queue, cursors, rank, &mut steps);
     }
 }
 
@@ -41,6 +46,7 @@ pub fn fill<C: Costs, L: Ledger>(blank: Blank, state: &State<C>, queue: &mut Que
 fn fill_rank<C: Costs, L: Ledger>(
     state: &State<C>,
     queue: &mut Queue,
+    cursors: &mut [usize],
     rank: u32,
     steps: &mut Steps<L>,
 )
@@ -49,7 +55,7 @@ fn fill_rank<C: Costs, L: Ledger>(
     ensures { IsQueueBut state.now.plans (C.model state.now.costs) state.now.history (λ y. rank + 1 ≤ y.rank) queue.new }
 {
     for op in 0..op_count(state.sched(), rank) {
-        refresh(state, queue, OpId { rank, op }, steps);
+        refresh(state, queue, cursors, OpId { rank, op }, steps);
     }
 }
 
@@ -133,7 +139,7 @@ fn action_of<C: Costs>(state: &State<C>, early: Timed) -> Timed
     ensures op { result.op ≡ early.op }
 {
     state.known();
-    let Some(action) = state.choice(early.op) else {
+    let Some(action) = state.choice(early.op, &mut usize::MAX) else {
         unreachable!()
     };
     action
@@ -151,6 +157,7 @@ fn key_of(action: Timed) -> EventKey
 pub fn follow<C: Costs, L: Ledger>(
     state: &State<C>,
     queue: &mut Queue,
+    cursors: &mut [usize],
     id: OpId,
     steps: &mut Steps<L>,
 )
@@ -158,15 +165,16 @@ pub fn follow<C: Costs, L: Ledger>(
     requires rest { IsQueueBut state.now.plans (C.model state.now.costs) state.now.history (IsConcerned state.now.plans (C.model state.now.costs) state.now.history id) queue.old }
     ensures { IsQueue state.now.plans (C.model state.now.costs) state.now.history queue.new }
 {
-    refresh(state, queue, id, steps);
-    follow_partner(state, queue, id, steps);
-    follow_waiting(state, queue, id, steps);
+    refresh(state, queue, cursors, id, steps);
+    follow_partner(state, queue, cursors, id, steps);
+    follow_waiting(state, queue, cursors, id, steps);
 }
 
 // Gives its key to the partner of an operation, if it has one.
 fn follow_partner<C: Costs, L: Ledger>(
     state: &State<C>,
     queue: &mut Queue,
+    cursors: &mut [usize],
     id: OpId,
     steps: &mut Steps<L>,
 )
@@ -177,13 +185,14 @@ fn follow_partner<C: Costs, L: Ledger>(
     let Some(partner) = state.partner(id) else {
         return;
     };
-    refresh(state, queue, partner, steps);
+    refresh(state, queue, cursors, partner, steps);
 }
 
 // Gives their keys to the operations that need this one.
 fn follow_waiting<C: Costs, L: Ledger>(
     state: &State<C>,
     queue: &mut Queue,
+    cursors: &mut [usize],
     id: OpId,
     steps: &mut Steps<L>,
 )
@@ -196,18 +205,40 @@ fn follow_waiting<C: Costs, L: Ledger>(
             rank: id.rank,
             op: need.op,
         };
-        refresh(state, queue, waiting, steps);
+        refresh(state, queue, cursors, waiting, steps);
+    }
+}
+
+// The possible action of an operation, if it has one. Its needs are looked at from its cursor on.
+fn choice_from<C: Costs>(
+    state: &State<C>,
+    cursors: &mut [usize],
+    slot: u32,
+    id: OpId,
+) -> Option<Timed>
+    requires { IsOp state.now.plans id }
+    ensures { IsTurnOf state.now.plans (C.model state.now.costs) state.now.history id result }
+{
+    match cursors.get_mut(slot as usize) {
+        Some(cursor) => state.choice(id, cursor),
+        None => state.choice(id, &mut 0),
     }
 }
 
 // Gives an operation its key: that of its possible action, none where it has none.
-fn refresh<C: Costs, L: Ledger>(state: &State<C>, queue: &mut Queue, id: OpId, steps: &mut Steps<L>)
+fn refresh<C: Costs, L: Ledger>(
+    state: &State<C>,
+    queue: &mut Queue,
+    cursors: &mut [usize],
+    id: OpId,
+    steps: &mut Steps<L>,
+)
     requires exists { IsOp state.now.plans id }
     requires each { length queue.old.keys ≡ length (operations state.now.plans) }
     ensures { IsRefreshed state.now.plans (C.model state.now.costs) state.now.history id queue.old queue.new }
 {
     let slot = state.sched().index(id);
-    match state.choice(id) {
+    match choice_from(state, cursors, slot, id) {
         Some(action) => queue.put(slot, key_of(action), steps),
         None => queue.drop_slot(slot, steps),
     }

@@ -1,5 +1,5 @@
 // What may happen next of one operation, and when.
-ghost use Rattle.std.specs.Prelude.{◌≡◌};
+ghost use Rattle.std.specs.Prelude.{◌≡◌, true, None};
 ghost use Rattle.goal_graph.specs.declared.action.Class.TheVariants.{Arrive, Serve, Data, Post, Begin};
 ghost use Rattle.goal_graph.specs.Fault.{IsOp};
 ghost use Rattle.goal_graph.specs.Laws.{IsCalc, IsSend, IsReceive};
@@ -17,30 +17,31 @@ use sim_rendezvous::{clear, data_at};
 use sim_resources::message_of;
 
 impl<'a, C: Costs> State<'a, C> {
-    /// The possible action of an operation, if it has one.
-    pub fn choice(&self, id: OpId) -> Option<Timed>
+    /// The possible action of an operation, if it has one. Where it waits for what it needs, `cursor` goes on to the place
+    /// of a need that is not met: the next call looks from there on. Any value of it is right.
+    pub fn choice(&self, id: OpId, cursor: &mut usize) -> Option<Timed>
         requires { IsOp self.now.plans id }
         ensures { IsTurnOf self.now.plans (C.model self.now.costs) self.now.history id result }
     {
         match self.sched().op(id).kind {
-            Kind::Calc { .. } => self.begin_of_calc(id),
+            Kind::Calc { .. } => self.begin_of_calc(id, cursor),
             Kind::Send { .. } => self
-                .begin_of_send(id)
+                .begin_of_send(id, cursor)
                 .or(self.arrival(id))
                 .or(self.hand_over_of(id)),
-            Kind::Recv { .. } => self.post_of(id).or(self.serve_of(id)),
+            Kind::Recv { .. } => self.post_of(id, cursor).or(self.serve_of(id)),
         }
     }
 
     // The Begin of a calc: once it is ready and its cpu is free.
-    fn begin_of_calc(&self, calc: OpId) -> Option<Timed>
+    fn begin_of_calc(&self, calc: OpId, cursor: &mut usize) -> Option<Timed>
         requires { IsCalc self.now.plans calc }
         ensures { result ≡ turn_told self.now.plans (C.model self.now.costs) self.now.history Begin calc }
     {
         if self.entry(calc).start.is_some() {
             return None;
         }
-        let ready = self.ready(calc)?;
+        let ready = self.ready(calc, cursor)?;
         Some(Timed {
             time: ready.max(self.resources.cpu(calc)),
             class: Class::Begin,
@@ -49,14 +50,14 @@ impl<'a, C: Costs> State<'a, C> {
     }
 
     // The Begin of a send: once it is ready, and its cpu and its interface are free.
-    fn begin_of_send(&self, send: OpId) -> Option<Timed>
+    fn begin_of_send(&self, send: OpId, cursor: &mut usize) -> Option<Timed>
         requires { IsSend self.now.plans send }
         ensures { result ≡ turn_told self.now.plans (C.model self.now.costs) self.now.history Begin send }
     {
         if self.entry(send).start.is_some() {
             return None;
         }
-        let ready = self.ready(send)?;
+        let ready = self.ready(send, cursor)?;
         Some(Timed {
             time: begin_at(&self.resources, send, ready),
             class: Class::Begin,
@@ -96,14 +97,14 @@ impl<'a, C: Costs> State<'a, C> {
     }
 
     // The Post of a receive: once it is ready.
-    fn post_of(&self, recv: OpId) -> Option<Timed>
+    fn post_of(&self, recv: OpId, cursor: &mut usize) -> Option<Timed>
         requires { IsReceive self.now.plans recv }
         ensures { result ≡ turn_told self.now.plans (C.model self.now.costs) self.now.history Post recv }
     {
         if self.entry(recv).start.is_some() {
             return None;
         }
-        let time = self.ready(recv)?;
+        let time = self.ready(recv, cursor)?;
         Some(Timed {
             time,
             class: Class::Post,
@@ -148,11 +149,36 @@ impl<'a, C: Costs> State<'a, C> {
         self.costs().eager(send.rank, message.to, message.bytes)
     }
 
+    // Whether a need of an operation is not met, as far as those from the cursor on tell. The cursor goes on to that need,
+    // or past all.
+    fn lacks_need(&self, id: OpId, cursor: &mut usize) -> bool
+        requires { IsOp self.now.plans id }
+        ensures { result ≡ true → ready_told self.now.plans (C.model self.now.costs) self.now.history id ≡ None }
+    {
+        let needs = self.sched.needs(id);
+        'needs: for at in *cursor..needs.len() {
+            let need = needs[at];
+            let needed = OpId {
+                rank: id.rank,
+                op: need.op,
+            };
+            if self.moment(need.when, needed).is_none() {
+                *cursor = at;
+                return true;
+            }
+        }
+        *cursor = needs.len();
+        false
+    }
+
     // When all that an operation needs is there, once it is.
-    fn ready(&self, id: OpId) -> Option<u64>
+    fn ready(&self, id: OpId, cursor: &mut usize) -> Option<u64>
         requires { IsOp self.now.plans id }
         ensures { result ≡ ready_told self.now.plans (C.model self.now.costs) self.now.history id }
     {
+        if self.lacks_need(id, cursor) {
+            return None;
+        }
         let mut ready: u64 = 0;
         for need in self.sched.needs(id) {
             let needed = OpId {

@@ -10,8 +10,8 @@ put-requires g c =
 
 pub returns-in-Some : goal.returns-in-Some
 returns-in-Some g c =
-    put_turn _ _ _ c.args.id _ c.index-slot.result _ _ _ _ c.sched.ensures c.index-slot.ensures.index c.choice.ensures (c.in-Some.is ∙ ap (λ (a : Timed). Some a) (sym c.key_of.ensures)) c.put.ensures
+    put_turn _ _ _ c.args.id _ c.index-slot.result _ _ _ _ c.sched.ensures c.index-slot.ensures.index c.choice_from.ensures (c.in-Some.is ∙ ap (λ (a : Timed). Some a) (sym c.key_of.ensures)) c.put.ensures
 
 pub returns-in-None : goal.returns-in-None
 returns-in-None g c =
-    put_turn _ _ _ c.args.id _ c.index-slot.result _ _ _ _ c.sched.ensures c.index-slot.ensures.index c.choice.ensures c.in-None.is c.drop_slot.ensures
+    put_turn _ _ _ c.args.id _ c.index-slot.result _ _ _ _ c.sched.ensures c.index-slot.ensures.index c.choice_from.ensures c.in-None.is c.drop_slot.ensures
