@@ -36,7 +36,7 @@ module _ (plans : List Plan) (costs : CostModel) (h : List Timed) (x : OpId) whe
   unfolding ready_from greatest
   ready_end n = ap Some (omega arith)
 
-  moment_is : (d : Need) → moment_told plans costs h d.when (needed x d) ≡ (if is_there d then Some (there_at d) else None)
+  pub moment_is : (d : Need) → moment_told plans costs h d.when (needed x d) ≡ (if is_there d then Some (there_at d) else None)
   moment_is d = go d.when
     where
       go : (w : When) → moment_told plans costs h w (needed x d) ≡ (if is_met plans (is_eager plans costs) (plain h) w (needed x d) then Some (met_at plans costs h w (needed x d)) else None)

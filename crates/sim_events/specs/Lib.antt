@@ -6,3 +6,4 @@ pub mod Tables
 pub mod Turns
 pub mod Mirrors
 pub mod Stations
+pub mod Cursors

@@ -5,13 +5,15 @@ ghost use Rattle.goal_graph.specs.declared.action.Timed.{Timed};
 ghost use Rattle.goal_graph.specs.Fault.{IsOp, IsAccepted};
 ghost use Rattle.goal_graph.specs.Action.{plain, same_op};
 ghost use Rattle.goal_graph.specs.Interleaving.{IsCompleteInterleaving};
-ghost use Rattle.sim_params.specs.Costs.{is_eager};
+ghost use Rattle.sim_params.specs.Costs.{CostModel, is_eager};
 ghost use Rattle.sim_params.specs.Budget.{budget};
 ghost use Rattle.sim_params.specs.Times.{mate};
 ghost use Rattle.sim_params.specs.Run.{IsNext, IsRun, IsFinished, IsCompleteRun};
 ghost use Rattle.sim_params.specs.Laws.{IsWithin};
 ghost use Rattle.sim_events.specs.Engine.{IsEngineFault, start_told, end_told};
+ghost use Rattle.sim_events.specs.Cursors.{AreCursors};
 
+use crate::cursor::Cursor;
 use crate::follow::{Queue, fill, follow, is_empty, next};
 use crate::state::State;
 use crate::station::stations;
@@ -69,24 +71,28 @@ pub struct Engine<'a, C: Costs> {
     state: State<'a, C>,
     // the possible actions, each at a time that is never too late
     queue: Queue,
-    // for each operation a place in the list of its needs, from which those that are not met are looked for
-    cursors: Vec<usize>,
+    // how far the needs of each operation have been looked at
+    cursors: Vec<Cursor>,
 }
 
 impl<'a, C: Costs> Model for Engine<'a, C> {
     ghost use Rattle.sim_events.specs.Engine.{View};
     ghost use Rattle.sim_events.specs.Queue.{IsQueue};
+    ghost use Rattle.sim_events.specs.Cursors.{AreCursors};
 
     ghost Value = { View C };
 
     ghost view = { λ e. e.state };
 
-    ghost invariant = { λ e. IsQueue e.state.plans (C.model e.state.costs) e.state.history e.queue };
+    ghost invariant = { λ e. IsQueue e.state.plans (C.model e.state.costs) e.state.history e.queue × AreCursors e.state.plans (C.model e.state.costs) e.state.history e.cursors.items };
 }
 
-// The cursors of all operations, each at the first need.
-fn at_first(alloc: Global, sched: &Sched) -> Result<Vec<usize>, NoMemory> {
-    Ok(vec![in alloc; 0; sched.count() as usize]?)
+// The cursors of all operations, each before the first need.
+fn at_first(alloc: Global, sched: &Sched) -> Result<Vec<Cursor>, AllocError>
+    ensures { IfOk result (λ cursors. (costs : CostModel) → AreCursors sched.now costs [] cursors.items) }
+{
+    let cursors = vec![in alloc; Cursor::START; sched.count() as usize]?;
+    Ok(cursors)
 }
 
 impl<'a, C: Costs + Drop> Engine<'a, C> {
@@ -207,7 +213,7 @@ impl<'a, C: Costs> Engine<'a, C> {
     {
         let mut steps = Steps::<L>::new(blank);
         self.known();
-        let action = next(&self.state, &mut self.queue, &mut steps)?;
+        let action = next(&self.state, &mut self.queue, &self.cursors, &mut steps)?;
         self.state.perform(action);
         follow(
             &self.state,

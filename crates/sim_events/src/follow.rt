@@ -8,8 +8,10 @@ ghost use Rattle.sim_order.specs.Events.{event_before};
 ghost use Rattle.sim_queue.specs.Map.{IsEmptyMap, IsLeast};
 ghost use Rattle.sim_queue.specs.Floors.{waits_for_room};
 ghost use Rattle.sim_events.specs.Stations.{AreStationed};
+ghost use Rattle.sim_events.specs.Cursors.{IsCursorOf, AreCursors};
 ghost use Rattle.sim_events.specs.Queue.{IsEarly, IsQueue, IsQueueBut, IsRefreshed, IsConcerned, Waits, HasKey, IsTurnOf, lags};
 
+use crate::cursor::Cursor;
 use crate::state::State;
 use goal_graph::{Class, OpId, Timed};
 use sim_order::{EventKey, Steps};
@@ -25,14 +27,16 @@ pub fn fill<C: Costs, L: Ledger>(
     blank: Blank,
     state: &State<C>,
     queue: &mut Queue,
-    cursors: &mut [usize],
+    cursors: &mut [Cursor],
 )
     requires name { blank.name ≡ L.name }
     requires parts { blank.parts ≡ L.parts }
     requires some { 0 < blank.parts }
     requires each { length queue.old.keys ≡ length (operations state.now.plans) }
     requires stationed { AreStationed state.now.plans queue.old.groups }
-    ensures { IsQueue state.now.plans (C.model state.now.costs) state.now.history queue.new }
+    requires cursors { AreCursors state.now.plans (C.model state.now.costs) state.now.history cursors.old }
+    ensures queue { IsQueue state.now.plans (C.model state.now.costs) state.now.history queue.new }
+    ensures cursors { AreCursors state.now.plans (C.model state.now.costs) state.now.history cursors.new }
 {
     let mut steps = Steps::<L>::new(blank);
     state.known();
@@ -46,13 +50,15 @@ pub fn fill<C: Costs, L: Ledger>(
 fn fill_rank<C: Costs, L: Ledger>(
     state: &State<C>,
     queue: &mut Queue,
-    cursors: &mut [usize],
+    cursors: &mut [Cursor],
     rank: u32,
     steps: &mut Steps<L>,
 )
     requires exists { rank < length state.now.plans }
     requires rest { IsQueueBut state.now.plans (C.model state.now.costs) state.now.history (λ y. rank ≤ y.rank) queue.old }
-    ensures { IsQueueBut state.now.plans (C.model state.now.costs) state.now.history (λ y. rank + 1 ≤ y.rank) queue.new }
+    requires cursors { AreCursors state.now.plans (C.model state.now.costs) state.now.history cursors.old }
+    ensures queue { IsQueueBut state.now.plans (C.model state.now.costs) state.now.history (λ y. rank + 1 ≤ y.rank) queue.new }
+    ensures cursors { AreCursors state.now.plans (C.model state.now.costs) state.now.history cursors.new }
 {
     for op in 0..op_count(state.sched(), rank) {
         refresh(state, queue, cursors, OpId { rank, op }, steps);
@@ -64,16 +70,18 @@ fn fill_rank<C: Costs, L: Ledger>(
 pub fn next<C: Costs, L: Ledger>(
     state: &State<C>,
     queue: &mut Queue,
+    cursors: &[Cursor],
     steps: &mut Steps<L>,
 ) -> Option<Timed>
-    requires { IsQueue state.now.plans (C.model state.now.costs) state.now.history queue.old }
+    requires queue { IsQueue state.now.plans (C.model state.now.costs) state.now.history queue.old }
+    requires cursors { AreCursors state.now.plans (C.model state.now.costs) state.now.history cursors.now }
     ensures queue { IsQueue state.now.plans (C.model state.now.costs) state.now.history queue.new }
     ensures next { IfSome result (IsNext state.now.plans (C.model state.now.costs) state.now.history) }
     ensures none { IfNone result (IsFinished state.now.plans (C.model state.now.costs) state.now.history) }
 {
     state.known();
     'looks: while let Some(early) = least(queue, steps) {
-        let action = action_of(state, early);
+        let action = action_of(state, cursors, early);
         if action.time == early.time {
             return Some(action);
         }
@@ -132,14 +140,16 @@ fn least<L: Ledger>(queue: &Queue, steps: &mut Steps<L>) -> Option<Timed>
 }
 
 // The possible action of an operation of which the queue has an early key.
-fn action_of<C: Costs>(state: &State<C>, early: Timed) -> Timed
-    requires { IsEarly state.now.plans (C.model state.now.costs) state.now.history early.op early }
+fn action_of<C: Costs>(state: &State<C>, cursors: &[Cursor], early: Timed) -> Timed
+    requires early { IsEarly state.now.plans (C.model state.now.costs) state.now.history early.op early }
+    requires cursors { AreCursors state.now.plans (C.model state.now.costs) state.now.history cursors.now }
     ensures possible { Possible state.now.plans (C.model state.now.costs) state.now.history result }
     ensures class { result.class ≡ early.class }
     ensures op { result.op ≡ early.op }
 {
     state.known();
-    let Some(action) = state.choice(early.op, &mut usize::MAX) else {
+    let mut cursor = cursor_of(state, cursors, early.op);
+    let Some(action) = state.choice(early.op, &mut cursor) else {
         unreachable!()
     };
     action
@@ -157,13 +167,15 @@ fn key_of(action: Timed) -> EventKey
 pub fn follow<C: Costs, L: Ledger>(
     state: &State<C>,
     queue: &mut Queue,
-    cursors: &mut [usize],
+    cursors: &mut [Cursor],
     id: OpId,
     steps: &mut Steps<L>,
 )
     requires exists { IsOp state.now.plans id }
     requires rest { IsQueueBut state.now.plans (C.model state.now.costs) state.now.history (IsConcerned state.now.plans (C.model state.now.costs) state.now.history id) queue.old }
-    ensures { IsQueue state.now.plans (C.model state.now.costs) state.now.history queue.new }
+    requires cursors { AreCursors state.now.plans (C.model state.now.costs) state.now.history cursors.old }
+    ensures queue { IsQueue state.now.plans (C.model state.now.costs) state.now.history queue.new }
+    ensures cursors { AreCursors state.now.plans (C.model state.now.costs) state.now.history cursors.new }
 {
     refresh(state, queue, cursors, id, steps);
     follow_partner(state, queue, cursors, id, steps);
@@ -174,13 +186,15 @@ pub fn follow<C: Costs, L: Ledger>(
 fn follow_partner<C: Costs, L: Ledger>(
     state: &State<C>,
     queue: &mut Queue,
-    cursors: &mut [usize],
+    cursors: &mut [Cursor],
     id: OpId,
     steps: &mut Steps<L>,
 )
     requires exists { IsOp state.now.plans id }
     requires rest { IsQueueBut state.now.plans (C.model state.now.costs) state.now.history (λ y. (mate state.now.plans (C.model state.now.costs) state.now.history id ≡ Some y) ⊎ Waits state.now.plans id y) queue.old }
-    ensures { IsQueueBut state.now.plans (C.model state.now.costs) state.now.history (Waits state.now.plans id) queue.new }
+    requires cursors { AreCursors state.now.plans (C.model state.now.costs) state.now.history cursors.old }
+    ensures queue { IsQueueBut state.now.plans (C.model state.now.costs) state.now.history (Waits state.now.plans id) queue.new }
+    ensures cursors { AreCursors state.now.plans (C.model state.now.costs) state.now.history cursors.new }
 {
     let Some(partner) = state.partner(id) else {
         return;
@@ -192,13 +206,15 @@ fn follow_partner<C: Costs, L: Ledger>(
 fn follow_waiting<C: Costs, L: Ledger>(
     state: &State<C>,
     queue: &mut Queue,
-    cursors: &mut [usize],
+    cursors: &mut [Cursor],
     id: OpId,
     steps: &mut Steps<L>,
 )
     requires exists { IsOp state.now.plans id }
     requires rest { IsQueueBut state.now.plans (C.model state.now.costs) state.now.history (Waits state.now.plans id) queue.old }
-    ensures { IsQueue state.now.plans (C.model state.now.costs) state.now.history queue.new }
+    requires cursors { AreCursors state.now.plans (C.model state.now.costs) state.now.history cursors.old }
+    ensures queue { IsQueue state.now.plans (C.model state.now.costs) state.now.history queue.new }
+    ensures cursors { AreCursors state.now.plans (C.model state.now.costs) state.now.history cursors.new }
 {
     for need in state.sched().waiting_on(id) {
         let waiting = OpId {
@@ -209,36 +225,44 @@ fn follow_waiting<C: Costs, L: Ledger>(
     }
 }
 
-// The possible action of an operation, if it has one. Its needs are looked at from its cursor on.
-fn choice_from<C: Costs>(
-    state: &State<C>,
-    cursors: &mut [usize],
-    slot: u32,
-    id: OpId,
-) -> Option<Timed>
-    requires { IsOp state.now.plans id }
-    ensures { IsTurnOf state.now.plans (C.model state.now.costs) state.now.history id result }
+// The cursor of an operation.
+fn cursor_of<C: Costs>(state: &State<C>, cursors: &[Cursor], id: OpId) -> Cursor
+    requires exists { IsOp state.now.plans id }
+    requires cursors { AreCursors state.now.plans (C.model state.now.costs) state.now.history cursors.now }
+    ensures { IsCursorOf state.now.plans (C.model state.now.costs) state.now.history id result }
 {
-    match cursors.get_mut(slot as usize) {
-        Some(cursor) => state.choice(id, cursor),
-        None => state.choice(id, &mut 0),
-    }
+    cursors[state.sched().index(id) as usize]
+}
+
+// The possible action of an operation, if it has one. Its needs are looked at from its cursor on.
+fn choice_from<C: Costs>(state: &State<C>, cursors: &mut [Cursor], id: OpId) -> Option<Timed>
+    requires exists { IsOp state.now.plans id }
+    requires cursors { AreCursors state.now.plans (C.model state.now.costs) state.now.history cursors.old }
+    ensures turn { IsTurnOf state.now.plans (C.model state.now.costs) state.now.history id result }
+    ensures cursors { AreCursors state.now.plans (C.model state.now.costs) state.now.history cursors.new }
+{
+    let mut cursor = cursor_of(state, cursors, id);
+    let action = state.choice(id, &mut cursor);
+    cursors[state.sched().index(id) as usize] = cursor;
+    action
 }
 
 // Gives an operation its key: that of its possible action, none where it has none.
 fn refresh<C: Costs, L: Ledger>(
     state: &State<C>,
     queue: &mut Queue,
-    cursors: &mut [usize],
+    cursors: &mut [Cursor],
     id: OpId,
     steps: &mut Steps<L>,
 )
     requires exists { IsOp state.now.plans id }
     requires each { length queue.old.keys ≡ length (operations state.now.plans) }
-    ensures { IsRefreshed state.now.plans (C.model state.now.costs) state.now.history id queue.old queue.new }
+    requires cursors { AreCursors state.now.plans (C.model state.now.costs) state.now.history cursors.old }
+    ensures queue { IsRefreshed state.now.plans (C.model state.now.costs) state.now.history id queue.old queue.new }
+    ensures cursors { AreCursors state.now.plans (C.model state.now.costs) state.now.history cursors.new }
 {
     let slot = state.sched().index(id);
-    match choice_from(state, cursors, slot, id) {
+    match choice_from(state, cursors, id) {
         Some(action) => queue.put(slot, key_of(action), steps),
         None => queue.drop_slot(slot, steps),
     }

@@ -1,6 +1,7 @@
 //! The engine that runs a schedule: at each step the possible action of the least key happens.
 #![tactic(auto)]
 
+mod cursor;
 mod engine;
 mod entry;
 mod follow;

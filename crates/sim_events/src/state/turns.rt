@@ -5,10 +5,12 @@ ghost use Rattle.goal_graph.specs.Fault.{IsOp};
 ghost use Rattle.goal_graph.specs.Laws.{IsCalc, IsSend, IsReceive};
 ghost use Rattle.sim_params.specs.Costs.{is_eager};
 ghost use Rattle.sim_events.specs.Mirrors.{message_told};
+ghost use Rattle.sim_events.specs.Cursors.{IsCursorOf};
 ghost use Rattle.sim_events.specs.Queue.{IsTurnOf};
 ghost use Rattle.sim_events.specs.Turns.{moment_told, ready_told, turn_told};
 
 use super::State;
+use crate::cursor::Cursor;
 use crate::entry::Pairing;
 use goal_graph::{Class, Kind, OpId, Timed, When};
 use sim_eager::{begin_at, serve_at};
@@ -17,11 +19,13 @@ use sim_rendezvous::{clear, data_at};
 use sim_resources::message_of;
 
 impl<'a, C: Costs> State<'a, C> {
-    /// The possible action of an operation, if it has one. Where it waits for what it needs, `cursor` goes on to the place
-    /// of a need that is not met: the next call looks from there on. Any value of it is right.
-    pub fn choice(&self, id: OpId, cursor: &mut usize) -> Option<Timed>
-        requires { IsOp self.now.plans id }
-        ensures { IsTurnOf self.now.plans (C.model self.now.costs) self.now.history id result }
+    /// The possible action of an operation, if it has one. While it has not started its cursor goes on to the first need
+    /// that is not met, or past all: the next call looks from there on.
+    pub fn choice(&self, id: OpId, cursor: &mut Cursor) -> Option<Timed>
+        requires op { IsOp self.now.plans id }
+        requires cursor { IsCursorOf self.now.plans (C.model self.now.costs) self.now.history id cursor.old }
+        ensures turn { IsTurnOf self.now.plans (C.model self.now.costs) self.now.history id result }
+        ensures cursor { IsCursorOf self.now.plans (C.model self.now.costs) self.now.history id cursor.new }
     {
         match self.sched().op(id).kind {
             Kind::Calc { .. } => self.begin_of_calc(id, cursor),
@@ -34,9 +38,11 @@ impl<'a, C: Costs> State<'a, C> {
     }
 
     // The Begin of a calc: once it is ready and its cpu is free.
-    fn begin_of_calc(&self, calc: OpId, cursor: &mut usize) -> Option<Timed>
-        requires { IsCalc self.now.plans calc }
-        ensures { result ≡ turn_told self.now.plans (C.model self.now.costs) self.now.history Begin calc }
+    fn begin_of_calc(&self, calc: OpId, cursor: &mut Cursor) -> Option<Timed>
+        requires op { IsCalc self.now.plans calc }
+        requires cursor { IsCursorOf self.now.plans (C.model self.now.costs) self.now.history calc cursor.old }
+        ensures turn { result ≡ turn_told self.now.plans (C.model self.now.costs) self.now.history Begin calc }
+        ensures cursor { IsCursorOf self.now.plans (C.model self.now.costs) self.now.history calc cursor.new }
     {
         if self.entry(calc).start.is_some() {
             return None;
@@ -50,9 +56,11 @@ impl<'a, C: Costs> State<'a, C> {
     }
 
     // The Begin of a send: once it is ready, and its cpu and its interface are free.
-    fn begin_of_send(&self, send: OpId, cursor: &mut usize) -> Option<Timed>
-        requires { IsSend self.now.plans send }
-        ensures { result ≡ turn_told self.now.plans (C.model self.now.costs) self.now.history Begin send }
+    fn begin_of_send(&self, send: OpId, cursor: &mut Cursor) -> Option<Timed>
+        requires op { IsSend self.now.plans send }
+        requires cursor { IsCursorOf self.now.plans (C.model self.now.costs) self.now.history send cursor.old }
+        ensures turn { result ≡ turn_told self.now.plans (C.model self.now.costs) self.now.history Begin send }
+        ensures cursor { IsCursorOf self.now.plans (C.model self.now.costs) self.now.history send cursor.new }
     {
         if self.entry(send).start.is_some() {
             return None;
@@ -97,9 +105,11 @@ impl<'a, C: Costs> State<'a, C> {
     }
 
     // The Post of a receive: once it is ready.
-    fn post_of(&self, recv: OpId, cursor: &mut usize) -> Option<Timed>
-        requires { IsReceive self.now.plans recv }
-        ensures { result ≡ turn_told self.now.plans (C.model self.now.costs) self.now.history Post recv }
+    fn post_of(&self, recv: OpId, cursor: &mut Cursor) -> Option<Timed>
+        requires op { IsReceive self.now.plans recv }
+        requires cursor { IsCursorOf self.now.plans (C.model self.now.costs) self.now.history recv cursor.old }
+        ensures turn { result ≡ turn_told self.now.plans (C.model self.now.costs) self.now.history Post recv }
+        ensures cursor { IsCursorOf self.now.plans (C.model self.now.costs) self.now.history recv cursor.new }
     {
         if self.entry(recv).start.is_some() {
             return None;
@@ -149,48 +159,31 @@ impl<'a, C: Costs> State<'a, C> {
         self.costs().eager(send.rank, message.to, message.bytes)
     }
 
-    // Whether a need of an operation is not met, as far as those from the cursor on tell. The cursor goes on to that need,
-    // or past all.
-    fn lacks_need(&self, id: OpId, cursor: &mut usize) -> bool
-        requires { IsOp self.now.plans id }
-        ensures { result ≡ true → ready_told self.now.plans (C.model self.now.costs) self.now.history id ≡ None }
+    // When all that an operation needs is there, once it is. Its cursor goes on as far as needs are met.
+    fn ready(&self, id: OpId, cursor: &mut Cursor) -> Option<u64>
+        requires op { IsOp self.now.plans id }
+        requires cursor { IsCursorOf self.now.plans (C.model self.now.costs) self.now.history id cursor.old }
+        ensures ready { result ≡ ready_told self.now.plans (C.model self.now.costs) self.now.history id }
+        ensures cursor { IsCursorOf self.now.plans (C.model self.now.costs) self.now.history id cursor.new }
     {
         let needs = self.sched.needs(id);
-        'needs: for at in *cursor..needs.len() {
+        for at in cursor.at..needs.len() {
             let need = needs[at];
             let needed = OpId {
                 rank: id.rank,
                 op: need.op,
             };
-            if self.moment(need.when, needed).is_none() {
-                *cursor = at;
-                return true;
-            }
-        }
-        *cursor = needs.len();
-        false
-    }
-
-    // When all that an operation needs is there, once it is.
-    fn ready(&self, id: OpId, cursor: &mut usize) -> Option<u64>
-        requires { IsOp self.now.plans id }
-        ensures { result ≡ ready_told self.now.plans (C.model self.now.costs) self.now.history id }
-    {
-        if self.lacks_need(id, cursor) {
-            return None;
-        }
-        let mut ready: u64 = 0;
-        for need in self.sched.needs(id) {
-            let needed = OpId {
-                rank: id.rank,
-                op: need.op,
-            };
             match self.moment(need.when, needed) {
-                Some(at) => ready = ready.max(at),
+                Some(moment) => {
+                    *cursor = Cursor {
+                        at: at + 1,
+                        ready: cursor.ready.max(moment),
+                    }
+                }
                 None => return None,
             }
         }
-        Some(ready)
+        Some(cursor.ready)
     }
 
     // The moment of an operation that a dependency waits for, once it is there.

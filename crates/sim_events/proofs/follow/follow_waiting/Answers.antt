@@ -14,7 +14,8 @@ refresh-requires g c =
     let d = get_or c.waiting_on-need-items.result.now c.loop-need.need-index none in
     record {
       exists = subst (λ (ps : List Plan). IsOp ps (needed c.args.id d)) c.sched.ensures (c.waiting_on-need-items.ensures.exist c.loop-need.need-index none c.loop-need-test.true);
-      each = c.loop-need.invariant.each;
+      each = c.loop-need.invariant.0.each;
+      cursors = c.loop-need.invariant.1;
     }
 
 pub loop-need-preserved : goal.loop-need-preserved
@@ -24,10 +25,10 @@ loop-need-preserved g c =
     let k = c.loop-need.need-index in
     let d = get_or c.waiting_on-need-items.result.now k none in
     let within = subst (λ (ds : List Need). k < length ds) items c.loop-need-test.true in
-    refreshed plans _ _ _ _ _ _ _ c.loop-need.invariant c.refresh.ensures (λ y is n differ. named_rest (waiting_on plans c.args.id) k none c.args.id y within n (λ e. differ (e ∙ ap (λ (ds : List Need). needed c.args.id (get_or ds k none)) (sym items))))
+    (refreshed plans _ _ _ _ _ _ _ c.loop-need.invariant.0 c.refresh.ensures.queue (λ y is n differ. named_rest (waiting_on plans c.args.id) k none c.args.id y within n (λ e. differ (e ∙ ap (λ (ds : List Need). needed c.args.id (get_or ds k none)) (sym items)))), c.refresh.ensures.cursors)
 
-pub returns : goal.returns
-returns g c =
+pub returns-clause-queue : goal.returns-clause-queue
+returns-clause-queue g c =
     let plans = c.args.state.now.plans in
     let items = c.waiting_on-need-items.ensures.waiting_on ∙ ap (λ (ps : List Plan). waiting_on ps c.args.id) c.sched.ensures in
-    fewer_due plans _ _ _ _ _ c.loop-need.invariant (λ y is n. none_named (waiting_on plans c.args.id) c.loop-need.need-index c.args.id y (omega (arith, ap length items, c.loop-need-test.false)) n)
+    fewer_due plans _ _ _ _ _ c.loop-need.invariant.0 (λ y is n. none_named (waiting_on plans c.args.id) c.loop-need.need-index c.args.id y (omega (arith, ap length items, c.loop-need-test.false)) n)

@@ -2,8 +2,8 @@ use Rattle.std.proofs.Common.{is_some, ap}
 use Rattle.sim_events.proofs.Queue.{key_found, found_next, finished}
 use Rattle.sim_events.proofs.follow.next.Goals as goal
 
-pub action_of-action-requires : goal.action_of-action-requires
-action_of-action-requires g c =
+pub action_of-action-requires-clause-early : goal.action_of-action-requires-clause-early
+action_of-action-requires-clause-early g c =
     let least = c.in-Some.ensures.least in
     (key_found _ _ _ c.looks.queue least.0 c.in-Some.early c.looks.invariant least.1.has).early
 

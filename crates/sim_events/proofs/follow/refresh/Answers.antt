@@ -8,10 +8,10 @@ pub put-requires : goal.put-requires
 put-requires g c =
     omega (arith, c.index-slot.ensures.below, c.requires.each, ap (λ (ps : List Plan). length (operations ps)) c.sched.ensures)
 
-pub returns-in-Some : goal.returns-in-Some
-returns-in-Some g c =
-    put_turn _ _ _ c.args.id _ c.index-slot.result _ _ _ _ c.sched.ensures c.index-slot.ensures.index c.choice_from.ensures (c.in-Some.is ∙ ap (λ (a : Timed). Some a) (sym c.key_of.ensures)) c.put.ensures
+pub returns-in-Some-clause-queue : goal.returns-in-Some-clause-queue
+returns-in-Some-clause-queue g c =
+    put_turn _ _ _ c.args.id _ c.index-slot.result _ _ _ _ c.sched.ensures c.index-slot.ensures.index c.choice_from.ensures.turn (c.in-Some.is ∙ ap (λ (a : Timed). Some a) (sym c.key_of.ensures)) c.put.ensures
 
-pub returns-in-None : goal.returns-in-None
-returns-in-None g c =
-    put_turn _ _ _ c.args.id _ c.index-slot.result _ _ _ _ c.sched.ensures c.index-slot.ensures.index c.choice_from.ensures c.in-None.is c.drop_slot.ensures
+pub returns-in-None-clause-queue : goal.returns-in-None-clause-queue
+returns-in-None-clause-queue g c =
+    put_turn _ _ _ c.args.id _ c.index-slot.result _ _ _ _ c.sched.ensures c.index-slot.ensures.index c.choice_from.ensures.turn c.in-None.is c.drop_slot.ensures

@@ -1,6 +1,8 @@
 use Rattle.std.proofs.Common.{refl, sym, subst}
 use Rattle.sim_params.specs.Run.{IsRun}
 use Rattle.sim_events.specs.Engine.{View}
+use Rattle.sim_events.specs.Cursors.{AreCursors}
+use Rattle.sim_events.proofs.Cursors.{cursors_after}
 use Rattle.sim_events.proofs.Steps.{next_of, op_after, due_after}
 use Rattle.sim_events.proofs.engine.Engine.step_counted.Goals as goal
 
@@ -18,3 +20,11 @@ follow-requires-clause-rest g c =
     let next = next_of model state state c.next.result c.in_ok-action.action refl c.in_ok-action.was c.next.ensures.next in
     let run = subst (λ (v : View _). IsRun v.plans (model v.costs) v.history) (sym c.self.view_is) c.known.ensures.run in
     due_after model state c.perform.new.self c.in_ok-action.action c.next.new.queue c.perform.ensures run next c.next.ensures.queue
+
+pub follow-requires-clause-cursors : goal.follow-requires-clause-cursors
+follow-requires-clause-cursors g c =
+    let model = g.C.Costs.model in
+    let state = c.self.inside.state in
+    let after = c.perform.new.self in
+    let run = subst (λ (v : View _). IsRun v.plans (model v.costs) v.history) (sym c.self.view_is) c.known.ensures.run in
+    subst (AreCursors after.plans (model after.costs) after.history) (sym c.deref_mut.ensures.value) (cursors_after model state after c.in_ok-action.action c.self.inside.cursors.items c.perform.ensures run c.self.invariant.1)

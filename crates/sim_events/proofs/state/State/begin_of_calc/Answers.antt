@@ -7,25 +7,25 @@ use Rattle.sim_events.proofs.TurnLemmas.{calc_begins, begun_turn, unready_turn, 
 use Rattle.sim_events.proofs.state.State.begin_of_calc.Goals as goal
 
 pub entry-requires : goal.entry-requires
-entry-requires g c = calc_is_op _ c.args.calc c.requires
+entry-requires g c = calc_is_op _ c.args.calc c.requires.op
 
-pub returns-then-is_some : goal.returns-then-is_some
-returns-then-is_some g c =
-    begun_turn _ _ _ c.args.calc Begin (calc_begins _ _ _ c.args.calc c.requires) c.entry.result c.entry.ensures (sym c.is_some.ensures ∙ c.if-is_some.true)
+pub returns-then-is_some-clause-turn : goal.returns-then-is_some-clause-turn
+returns-then-is_some-clause-turn g c =
+    begun_turn _ _ _ c.args.calc Begin (calc_begins _ _ _ c.args.calc c.requires.op) c.entry.result c.entry.ensures (sym c.is_some.ensures ∙ c.if-is_some.true)
 
-pub ready-requires : goal.ready-requires
-ready-requires g c = calc_is_op _ c.args.calc c.requires
+pub ready-requires-clause-op : goal.ready-requires-clause-op
+ready-requires-clause-op g c = calc_is_op _ c.args.calc c.requires.op
 
-pub returns-in_err-ready : goal.returns-in_err-ready
-returns-in_err-ready g c =
-    c.from_residual.ensures ∙ unready_turn _ _ _ c.args.calc Begin (calc_begins _ _ _ c.args.calc c.requires) c.ready.result c.ready.ensures c.in_err-ready.was
+pub returns-in_err-ready-clause-turn : goal.returns-in_err-ready-clause-turn
+returns-in_err-ready-clause-turn g c =
+    c.from_residual.ensures ∙ unready_turn _ _ _ c.args.calc Begin (calc_begins _ _ _ c.args.calc c.requires.op) c.ready.result c.ready.ensures.ready c.in_err-ready.was
 
 pub cpu-requires : goal.cpu-requires
 cpu-requires g c =
     let free = free_at_view g.C.Costs.model _ _ _ c.self.view_is c.self.invariant.free in
-    subst (λ plans. IsOp plans c.args.calc) (sym free.same_plans) (calc_is_op _ c.args.calc c.requires)
+    subst (λ plans. IsOp plans c.args.calc) (sym free.same_plans) (calc_is_op _ c.args.calc c.requires.op)
 
-pub returns : goal.returns
-returns g c =
+pub returns-clause-turn : goal.returns-clause-turn
+returns-clause-turn g c =
     let free = free_at_view g.C.Costs.model _ _ _ c.self.view_is c.self.invariant.free in
-    ready_turn _ _ _ c.args.calc Begin (calc_begins _ _ _ c.args.calc c.requires) c.entry.result c.entry.ensures (sym c.is_some.ensures ∙ c.if-is_some.false) c.ready.result c.in_ok-ready.ready c.max.result c.ready.ensures c.in_ok-ready.was (λ e. c.max.ensures ∙ ap₂ max (sym e) (c.cpu.ensures ∙ free.cpus c.args.calc) ∙ sym (calc_time _ _ _ c.args.calc c.requires))
+    ready_turn _ _ _ c.args.calc Begin (calc_begins _ _ _ c.args.calc c.requires.op) c.entry.result c.entry.ensures (sym c.is_some.ensures ∙ c.if-is_some.false) c.ready.result c.in_ok-ready.ready c.max.result c.ready.ensures.ready c.in_ok-ready.was (λ e. c.max.ensures ∙ ap₂ max (sym e) (c.cpu.ensures ∙ free.cpus c.args.calc) ∙ sym (calc_time _ _ _ c.args.calc c.requires.op))

@@ -5,13 +5,13 @@ use Rattle.sim_resources.proofs.ForCallers.{kind_from_op}
 use Rattle.sim_events.proofs.Choice.{calc_choice, send_choice, receive_choice}
 use Rattle.sim_events.proofs.state.State.choice.Goals as goal
 
-pub begin_of_calc-requires : goal.begin_of_calc-requires
-begin_of_calc-requires g c =
+pub begin_of_calc-requires-clause-op : goal.begin_of_calc-requires-clause-op
+begin_of_calc-requires-clause-op g c =
     let is = sym (ap (λ (plans : List Plan). op_at plans c.args.id) c.sched.ensures) ∙ c.op.ensures.op in
     record { nanos = c.in-Calc.nanos; kind = kind_from_op _ c.args.id c.op.result.now (Calc c.in-Calc.nanos) is c.in-Calc.is }
 
-pub begin_of_send-requires : goal.begin_of_send-requires
-begin_of_send-requires g c =
+pub begin_of_send-requires-clause-op : goal.begin_of_send-requires-clause-op
+begin_of_send-requires-clause-op g c =
     let is = sym (ap (λ (plans : List Plan). op_at plans c.args.id) c.sched.ensures) ∙ c.op.ensures.op in
     record { bytes = c.in-Send.bytes; to = c.in-Send.to; tag = c.in-Send.tag; kind = kind_from_op _ c.args.id c.op.result.now (Send c.in-Send.bytes c.in-Send.to c.in-Send.tag) is c.in-Send.is }
 
@@ -20,8 +20,8 @@ hand_over_of-requires g c =
     let is = sym (ap (λ (plans : List Plan). op_at plans c.args.id) c.sched.ensures) ∙ c.op.ensures.op in
     record { bytes = c.in-Send.bytes; to = c.in-Send.to; tag = c.in-Send.tag; kind = kind_from_op _ c.args.id c.op.result.now (Send c.in-Send.bytes c.in-Send.to c.in-Send.tag) is c.in-Send.is }
 
-pub post_of-requires : goal.post_of-requires
-post_of-requires g c =
+pub post_of-requires-clause-op : goal.post_of-requires-clause-op
+post_of-requires-clause-op g c =
     let is = sym (ap (λ (plans : List Plan). op_at plans c.args.id) c.sched.ensures) ∙ c.op.ensures.op in
     record { room = c.in-Recv.bytes; from = c.in-Recv.from; tag = c.in-Recv.tag; kind = kind_from_op _ c.args.id c.op.result.now (Recv c.in-Recv.bytes c.in-Recv.from c.in-Recv.tag) is c.in-Recv.is }
 
@@ -30,17 +30,17 @@ serve_of-requires g c =
     let is = sym (ap (λ (plans : List Plan). op_at plans c.args.id) c.sched.ensures) ∙ c.op.ensures.op in
     record { room = c.in-Recv.bytes; from = c.in-Recv.from; tag = c.in-Recv.tag; kind = kind_from_op _ c.args.id c.op.result.now (Recv c.in-Recv.bytes c.in-Recv.from c.in-Recv.tag) is c.in-Recv.is }
 
-pub returns-in-Calc : goal.returns-in-Calc
-returns-in-Calc g c =
+pub returns-in-Calc-clause-turn : goal.returns-in-Calc-clause-turn
+returns-in-Calc-clause-turn g c =
     let is = sym (ap (λ (plans : List Plan). op_at plans c.args.id) c.sched.ensures) ∙ c.op.ensures.op in
-    calc_choice _ _ _ c.args.id (record { nanos = c.in-Calc.nanos; kind = kind_from_op _ c.args.id c.op.result.now (Calc c.in-Calc.nanos) is c.in-Calc.is }) c.begin_of_calc.result c.begin_of_calc.ensures
+    calc_choice _ _ _ c.args.id (record { nanos = c.in-Calc.nanos; kind = kind_from_op _ c.args.id c.op.result.now (Calc c.in-Calc.nanos) is c.in-Calc.is }) c.begin_of_calc.result c.begin_of_calc.ensures.turn
 
-pub returns-in-Send : goal.returns-in-Send
-returns-in-Send g c =
+pub returns-in-Send-clause-turn : goal.returns-in-Send-clause-turn
+returns-in-Send-clause-turn g c =
     let is = sym (ap (λ (plans : List Plan). op_at plans c.args.id) c.sched.ensures) ∙ c.op.ensures.op in
-    send_choice _ _ _ c.args.id (record { bytes = c.in-Send.bytes; to = c.in-Send.to; tag = c.in-Send.tag; kind = kind_from_op _ c.args.id c.op.result.now (Send c.in-Send.bytes c.in-Send.to c.in-Send.tag) is c.in-Send.is }) c.begin_of_send.result c.arrival.result c.hand_over_of.result c.or-in-Send.result c.or.result c.begin_of_send.ensures c.arrival.ensures c.hand_over_of.ensures c.or.ensures c.or-in-Send.ensures
+    send_choice _ _ _ c.args.id (record { bytes = c.in-Send.bytes; to = c.in-Send.to; tag = c.in-Send.tag; kind = kind_from_op _ c.args.id c.op.result.now (Send c.in-Send.bytes c.in-Send.to c.in-Send.tag) is c.in-Send.is }) c.begin_of_send.result c.arrival.result c.hand_over_of.result c.or-in-Send.result c.or.result c.begin_of_send.ensures.turn c.arrival.ensures c.hand_over_of.ensures c.or.ensures c.or-in-Send.ensures
 
-pub returns-in-Recv : goal.returns-in-Recv
-returns-in-Recv g c =
+pub returns-in-Recv-clause-turn : goal.returns-in-Recv-clause-turn
+returns-in-Recv-clause-turn g c =
     let is = sym (ap (λ (plans : List Plan). op_at plans c.args.id) c.sched.ensures) ∙ c.op.ensures.op in
-    receive_choice _ _ _ c.args.id (record { room = c.in-Recv.bytes; from = c.in-Recv.from; tag = c.in-Recv.tag; kind = kind_from_op _ c.args.id c.op.result.now (Recv c.in-Recv.bytes c.in-Recv.from c.in-Recv.tag) is c.in-Recv.is }) c.post_of.result c.serve_of.result c.or-in-Recv.result c.post_of.ensures c.serve_of.ensures c.or-in-Recv.ensures
+    receive_choice _ _ _ c.args.id (record { room = c.in-Recv.bytes; from = c.in-Recv.from; tag = c.in-Recv.tag; kind = kind_from_op _ c.args.id c.op.result.now (Recv c.in-Recv.bytes c.in-Recv.from c.in-Recv.tag) is c.in-Recv.is }) c.post_of.result c.serve_of.result c.or-in-Recv.result c.post_of.ensures.turn c.serve_of.ensures c.or-in-Recv.ensures

@@ -5,19 +5,19 @@ use Rattle.sim_events.proofs.TurnLemmas.{receive_begins, begun_turn, unready_tur
 use Rattle.sim_events.proofs.state.State.post_of.Goals as goal
 
 pub entry-requires : goal.entry-requires
-entry-requires g c = receive_is_op _ c.args.recv c.requires
+entry-requires g c = receive_is_op _ c.args.recv c.requires.op
 
-pub returns-then-is_some : goal.returns-then-is_some
-returns-then-is_some g c =
-    begun_turn _ _ _ c.args.recv Post (receive_begins _ _ _ c.args.recv c.requires) c.entry.result c.entry.ensures (sym c.is_some.ensures ∙ c.if-is_some.true)
+pub returns-then-is_some-clause-turn : goal.returns-then-is_some-clause-turn
+returns-then-is_some-clause-turn g c =
+    begun_turn _ _ _ c.args.recv Post (receive_begins _ _ _ c.args.recv c.requires.op) c.entry.result c.entry.ensures (sym c.is_some.ensures ∙ c.if-is_some.true)
 
-pub ready-requires : goal.ready-requires
-ready-requires g c = receive_is_op _ c.args.recv c.requires
+pub ready-requires-clause-op : goal.ready-requires-clause-op
+ready-requires-clause-op g c = receive_is_op _ c.args.recv c.requires.op
 
-pub returns-in_err-time : goal.returns-in_err-time
-returns-in_err-time g c =
-    c.from_residual.ensures ∙ unready_turn _ _ _ c.args.recv Post (receive_begins _ _ _ c.args.recv c.requires) c.ready.result c.ready.ensures c.in_err-time.was
+pub returns-in_err-time-clause-turn : goal.returns-in_err-time-clause-turn
+returns-in_err-time-clause-turn g c =
+    c.from_residual.ensures ∙ unready_turn _ _ _ c.args.recv Post (receive_begins _ _ _ c.args.recv c.requires.op) c.ready.result c.ready.ensures.ready c.in_err-time.was
 
-pub returns : goal.returns
-returns g c =
-    ready_turn _ _ _ c.args.recv Post (receive_begins _ _ _ c.args.recv c.requires) c.entry.result c.entry.ensures (sym c.is_some.ensures ∙ c.if-is_some.false) c.ready.result c.in_ok-time.time c.in_ok-time.time c.ready.ensures c.in_ok-time.was (λ e. sym e ∙ sym (post_time _ _ _ c.args.recv c.requires))
+pub returns-clause-turn : goal.returns-clause-turn
+returns-clause-turn g c =
+    ready_turn _ _ _ c.args.recv Post (receive_begins _ _ _ c.args.recv c.requires.op) c.entry.result c.entry.ensures (sym c.is_some.ensures ∙ c.if-is_some.false) c.ready.result c.in_ok-time.time c.in_ok-time.time c.ready.ensures.ready c.in_ok-time.was (λ e. sym e ∙ sym (post_time _ _ _ c.args.recv c.requires.op))

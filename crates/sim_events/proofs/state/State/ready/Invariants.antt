@@ -1,9 +1,8 @@
-use Rattle.std.proofs.Common.{◌≡◌, drop}
-use Rattle.goal_graph.specs.Schedule.{needs}
-use Rattle.sim_events.specs.Turns.{ready_told}
-use Rattle.sim_events.proofs.Ready.{ready_from}
+use Rattle.std.proofs.Common.{◌≡◌}
+use Rattle.sim_events.specs.Cursors.{IsCursorOf}
 use Rattle.sim_events.proofs.state.State.ready.Given as goal
 
-abbrev pub invariant-loop-need : goal.invariant-loop-need
-invariant-loop-need g l =
-    ready_from l.self.plans (g.C.Costs.model l.self.costs) l.self.history l.id l.ready (drop l.need-index (needs l.self.plans l.id)) ≡ ready_told l.self.plans (g.C.Costs.model l.self.costs) l.self.history l.id
+-- the needs before this place are met
+abbrev pub invariant-loop-at : goal.invariant-loop-at
+invariant-loop-at g l =
+    (l.cursor.at ≡ l.at) × IsCursorOf l.self.plans (g.C.Costs.model l.self.costs) l.self.history l.id l.cursor
