@@ -1,5 +1,5 @@
 -- Cursors go on as needs are met, and stay as more happens.
-use Rattle.std.proofs.Common.{◌≡◌, ℕ, ◌+◌, ◌<◌, ◌≤◌, ◌⊎◌, max, Bool, true, false, ◌&&◌, List, [], ◌∷◌, ◌++◌, length, take, get_or, replicate, slice_get, slice_set, Option, Some, None, is_some, inl, inr, if◌then◌else◌, refl, sym, ap, ap₂, ◌∙◌, subst, arith}
+use Rattle.std.proofs.Common.{◌≡◌, ℕ, ◌+◌, ◌<◌, ◌≤◌, ◌⊎◌, max, Bool, true, false, ◌&&◌, List, [], ◌∷◌, ◌++◌, length, take, get_or, replicate, slice_get, slice_set, Option, Some, None, inl, inr, if◌then◌else◌, refl, sym, ap, ap₂, ◌∙◌, subst, arith}
 use Rattle.std.specs.List.{list_all}
 use Rattle.std.proofs.lemmas.Bool.{cases_eq}
 use Rattle.std.proofs.lemmas.List.Folds.{list_all_more}
@@ -24,7 +24,6 @@ use Rattle.sim_events.specs.Engine.{View}
 use Rattle.sim_events.specs.Turns.{moment_told, ready_told}
 use Rattle.sim_events.specs.Cursors.{is_there, there_at, IsCursorOf, AreCursors}
 use Rattle.sim_events.proofs.Ready.{moment_is}
-use Rattle.sim_events.proofs.Tables.{one_place}
 
 abbrev pub start : Cursor
 start = record { at = 0; ready = 0 }

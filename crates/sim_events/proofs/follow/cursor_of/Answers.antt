@@ -1,4 +1,3 @@
-use Rattle.std.proofs.Common.{refl}
 use Rattle.sim_events.proofs.Cursors.{cursor_read}
 use Rattle.sim_events.proofs.follow.cursor_of.Goals as goal
 
