@@ -1,6 +1,7 @@
 -- The schedule of each of the ten collectives, and for which ranks there is one.
 use Rattle.std.specs.Prelude.{ℕ, ◌+◌, ◌-◌, ◌*◌, ◌<◌, ◌≤◌, List}
 use Rattle.std.specs.Int.{IsPowerOfTwo}
+use Rattle.std.proofs.Props.{props}
 use Rattle.goal_base.specs.declared.limits.TheConstants.{MAX_BYTES}
 use Rattle.goal_graph.specs.Schedule.{Plan}
 use Rattle.goal_graph.specs.Fault.{IsAccepted}
@@ -61,6 +62,14 @@ HasRoot (Reduce root) ranks = root < ranks
 HasRoot (Gather root) ranks = root < ranks
 HasRoot (Scatter root) ranks = root < ranks
 HasRoot _ ranks = Unit {0}
+
+-- it says no more than that it holds
+pub HasRoot-prop : (what : Collective) (ranks : ℕ) → IsProp (HasRoot what ranks)
+HasRoot-prop (Bcast root) ranks = hlevel props
+HasRoot-prop (Reduce root) ranks = hlevel props
+HasRoot-prop (Gather root) ranks = hlevel props
+HasRoot-prop (Scatter root) ranks = hlevel props
+HasRoot-prop _ ranks = hlevel props
 
 -- the ranks of an allreduce are a power of two
 abbrev pub HasPower : Collective → ℕ → Type 0

@@ -1,0 +1,48 @@
+-- Powers of two.
+use Rattle.std.proofs.Common.{◌≡◌, ℕ, zero, suc, ◌+◌, ◌-◌, ◌*◌, ◌^◌, ◌<◌, eqb, Bool, true, refl, arith}
+use Rattle.std.specs.Int.{is_power_of_two, IsPowerOfTwo}
+use Rattle.std.specs.Int.RustNames.{count_ones}
+use Rattle.std.specs.Int.Count.{ones, ones_in}
+use Rattle.std.proofs.Math.Nat.{pow-suc}
+use Rattle.std.proofs.lemmas.Bool.Decides.{nat_tests}
+use Rattle.std.proofs.lemmas.Nat.{leading_top, ones_cat, zero_from_ones, pow_pos}
+use Rattle.goal_blocks.specs.declared.collective.Collective.{Collective}
+use Rattle.goal_blocks.specs.declared.collective.Collective.TheVariants.{Allreduce}
+use Rattle.goal_blocks.specs.Generated.{HasPower}
+
+ones_of_zero : count_ones 0 ≡ 0
+unfolding ones ones_in
+ones_of_zero = refl
+
+ones_of_one : count_ones 1 ≡ 1
+unfolding ones ones_in
+ones_of_one = refl
+
+same_test : (m : ℕ) → eqb m 1 ≡ true → m ≡ 1
+same_test m h = grind (arith, nat_tests)
+
+some_ones : (n : ℕ) → is_power_of_two n ≡ true → 0 < n
+some_ones zero h = absurd (omega (arith, same_test (count_ones 0) h, ones_of_zero))
+some_ones (suc n) h = omega arith
+
+-- a number with one binary digit 1
+pub power_from_test : (n : ℕ) → n < 2 ^ 32 → is_power_of_two n ≡ true → IsPowerOfTwo n
+power_from_test n small one =
+    let top = leading_top 32 n (some_ones n one) small in
+    let below : n - 2 ^ top.0 < 2 ^ top.0 = omega (arith, top.2, top.3, pow-suc 2 top.0) in
+    let parts : 1 * 2 ^ top.0 + (n - 2 ^ top.0) ≡ n = omega (arith, top.2) in
+    let count = ones_cat top.0 1 (n - 2 ^ top.0) below in
+    let one' : count_ones n ≡ 1 = same_test (count_ones n) one in
+    let rest : count_ones (n - 2 ^ top.0) ≡ 0 = omega (arith, rw parts at count, one', ones_of_one) in
+    let none = zero_from_ones (n - 2 ^ top.0) rest in
+    (top.0, omega (arith, none, top.2))
+
+pub test_from_power : (n : ℕ) → IsPowerOfTwo n → is_power_of_two n ≡ true
+test_from_power n p =
+    let count = ones_cat p.0 1 0 (pow_pos p.0) in
+    let parts : 1 * 2 ^ p.0 + 0 ≡ n = omega (arith, p.1) in
+    let one : count_ones n ≡ 1 = omega (arith, rw parts at count, ones_of_one, ones_of_zero) in
+    rw one refl
+
+pub power_decides : (what : Collective) (n : ℕ) (b : Bool) → what ≡ Allreduce → n < 2 ^ 32 → b ≡ is_power_of_two n → (b ≡ true → HasPower what n) × (HasPower what n → b ≡ true)
+power_decides what n b is small test = rw (is, test) (power_from_test n small, test_from_power n)

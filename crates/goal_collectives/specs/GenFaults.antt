@@ -1,0 +1,19 @@
+-- When a collective has no schedule, and why.
+use Rattle.std.specs.Prelude.{ℕ, ◌≡◌, ◌<◌, ◌≤◌, ◌⊎◌}
+use Rattle.goal_blocks.specs.declared.collective.Collective.{Collective}
+use Rattle.goal_blocks.specs.Generated.{most_ranks, HasRoot, HasPower, IsPossible}
+use Rattle.goal_collectives.specs.declared.fault.GenFault.{GenFault}
+use Rattle.goal_collectives.specs.declared.fault.GenFault.TheVariants.{Ranks, Root, NotPowerOfTwo, NoMemory}
+
+-- there is a rank, and there are not too many
+pub record AreRanksWithin (what : Collective) (ranks : ℕ) : Type 0 where
+  pub some_rank : 0 < ranks
+  pub few_ranks : ranks ≤ most_ranks what
+
+-- The first of the faults that there is: that of the ranks comes before that of the root, that before that of the power.
+-- Only where there is none can memory run out.
+abbrev pub IsGenFault : Collective → ℕ → GenFault → Type 0
+IsGenFault what ranks (Ranks limit) = (limit ≡ most_ranks what) × ((ranks ≡ 0) ⊎ (most_ranks what < ranks))
+IsGenFault what ranks Root = AreRanksWithin what ranks × (HasRoot what ranks → ⊥)
+IsGenFault what ranks NotPowerOfTwo = AreRanksWithin what ranks × HasRoot what ranks × (HasPower what ranks → ⊥)
+IsGenFault what ranks NoMemory = IsPossible what ranks
