@@ -9,6 +9,7 @@ pub mod Scan
 pub mod State
 pub mod Stands
 pub mod Open
+pub mod Found
 -- What only the code keeps.
 pub mod Sound
 pub mod Steps

@@ -2,6 +2,7 @@
 use Rattle.std.specs.Prelude.{◌≡◌, ℕ, ◌+◌, ◌<◌, ◌≤◌, List, [], ◌∷◌, length, take, drop, false}
 use Rattle.goal_lexer.specs.declared.mode.Mode.{Mode}
 use Rattle.goal_lexer.specs.declared.mode.Mode.TheVariants.{Between, Failed}
+use Rattle.goal_lexer.specs.declared.tokens.Token.{Token}
 use Rattle.goal_lexer.specs.declared.scanning.Step.{Step}
 use Rattle.goal_lexer.specs.declared.scanning.Stop.{Stop}
 use Rattle.goal_lexer.specs.declared.scanning.Step.TheVariants as step
@@ -11,23 +12,23 @@ use Rattle.goal_lexer.specs.Scan.{next, scan, closing}
 use Rattle.goal_lexer.specs.Sound.{IsSound}
 use Rattle.goal_lexer.specs.Stands.{begins_run}
 
--- what a step says of what was open, the byte's place, the byte, and what is open then
-abbrev pub StepsTo : Step → Mode → ℕ → ℕ → Mode → Type 0
-StepsTo step.Nothing old place byte new = (next old place byte ≡ (new, [])) × IsSound new
-StepsTo (step.Run token) old place byte new =
+-- what a step says of what was open, the byte's place, the byte, what is open then, and the token that it ends
+abbrev pub StepsTo : Step → Mode → ℕ → ℕ → Mode → Token → Type 0
+StepsTo step.Nothing old place byte new token = (next old place byte ≡ (new, [])) × IsSound new
+StepsTo step.Run old place byte new token =
     (is_run_byte byte ≡ false) × (closing place old ≡ token ∷ []) × (new ≡ Between) × (token.end ≡ place)
-StepsTo (step.Sign token) old place byte new =
+StepsTo step.Sign old place byte new token =
     (next old place byte ≡ (new, token ∷ [])) × (new ≡ Between) × (token.end ≡ place + 1)
-StepsTo (step.Fault at) old place byte new = (next old place byte ≡ (Failed at, [])) × (new ≡ Failed at)
+StepsTo (step.Fault at) old place byte new token = (next old place byte ≡ (Failed at, [])) × (new ≡ Failed at)
 
--- what a stop says of what was open, the piece's place, the piece, and what is open then
-abbrev pub StopsAt : Stop → Mode → ℕ → List ℕ → Mode → Type 0
-StopsAt stop.Piece old place piece new = (scan old place piece ≡ (new, [])) × IsSound new
-StopsAt (stop.Run taken token) old place piece new =
+-- what a stop says of what was open, the piece's place, the piece, what is open then, and the token that ends there
+abbrev pub StopsAt : Stop → Mode → ℕ → List ℕ → Mode → Token → Type 0
+StopsAt stop.Piece old place piece new token = (scan old place piece ≡ (new, [])) × IsSound new
+StopsAt (stop.Run taken) old place piece new token =
     (taken < length piece) × (begins_run (drop taken piece) ≡ false) × (new ≡ Between)
     × ((run : Mode) × (scan old place (take taken piece) ≡ (run, [])) × (closing (place + taken) run ≡ token ∷ []))
     × (token.end ≡ place + taken)
-StopsAt (stop.Sign taken token) old place piece new =
+StopsAt (stop.Sign taken) old place piece new token =
     (0 < taken) × (taken ≤ length piece) × (new ≡ Between)
     × (scan old place (take taken piece) ≡ (Between, token ∷ [])) × (token.end ≡ place + taken)
-StopsAt (stop.Fault at) old place piece new = (scan old place piece ≡ (Failed at, [])) × (new ≡ Failed at)
+StopsAt (stop.Fault at) old place piece new token = (scan old place piece ≡ (Failed at, [])) × (new ≡ Failed at)

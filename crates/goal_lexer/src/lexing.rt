@@ -3,11 +3,12 @@ ghost use Rattle.std.specs.Prelude.{◌≡◌, ℕ, ◌+◌, ◌<◌, ◌≤◌,
 ghost use Rattle.goal_lexer.specs.Sound.{IsSound};
 ghost use Rattle.goal_lexer.specs.Scan.{scanned, lexed};
 ghost use Rattle.goal_lexer.specs.Stands.{Stands, handed, begins_run};
+ghost use Rattle.goal_lexer.specs.Found.{found_token};
 ghost use Rattle.goal_lexer.specs.State.{LexState};
 
 use crate::mode::Mode;
 use crate::scanning::{Stop, take_piece};
-use crate::tokens::{LexFault, Lexed, Token};
+use crate::tokens::{LexFault, Lexed, Taken, Token};
 use crate::words::run_kind;
 use std::marker::Model;
 
@@ -91,39 +92,83 @@ impl Lexer {
         ensures failed { IfErr result (λ e. self.new.mode ≡ Mode.Failed e.at) }
         ensures again { (at : ℕ) → self.old.mode ≡ Mode.Failed at → (result ≡ Err (record { at = at })) × (self.new ≡ self.old) }
     {
+        let mut token = Token::nowhere();
+        match self.next_token_into(rest, &mut token) {
+            Ok(Taken { taken, found: true }) => Ok(Lexed {
+                taken,
+                token: Some(token),
+            }),
+            Ok(
+                Taken {
+                    taken,
+                    found: false,
+                },
+            ) => Ok(Lexed { taken, token: None }),
+            Err(fault) => Err(fault),
+        }
+    }
+
+    /// The same as [`Lexer::next_token`], with the token written to its place, so that none is moved. Where no token was
+    /// completed, what stands in the place says nothing.
+    ///
+    /// # Errors
+    ///
+    /// Those of [`Lexer::next_token`].
+    pub fn next_token_into(&mut self, rest: &[u8], token: &mut Token) -> Result<Taken, LexFault>
+        // The places are numbers of 64 bits.
+        requires place { self.old.place + length rest.now < 2 ^ 64 }
+
+        // What follows a run that was handed out is no more of that run.
+        requires apart { self.old.ends_run ≡ true → begins_run rest.now ≡ false }
+
+        ensures taken { IfOk result (λ l. l.taken ≤ length rest.now) }
+        ensures all { IfOk result (λ l. found_token l.found token.new ≡ None → l.taken ≡ length rest.now) }
+        ensures some { IfOk result (λ l. IsSome (found_token l.found token.new) → 0 < length rest.now) }
+        ensures place { IfOk result (λ l. self.new.place ≡ self.old.place + l.taken) }
+        ensures end { IfOk result (λ l. IfSome (found_token l.found token.new) (λ t. t.end ≡ self.new.place)) }
+        ensures apart_next { IfOk result (λ l. self.new.ends_run ≡ true → begins_run (drop l.taken rest.now) ≡ false) }
+        ensures left { IfOk result (λ l. 0 < length rest.now → self.new.ends_run ≡ true → l.taken < length rest.now) }
+
+        // A call on bytes takes one, or hands out the run that ended before them.
+        ensures moves { IfOk result (λ l. 0 < length rest.now → (0 < l.taken) ⊎ ((self.old.ends_run ≡ false) × (self.new.ends_run ≡ true))) }
+
+        // The text goes on by the bytes taken, and the tokens handed out by the token.
+        ensures stands { IfOk result (λ l. (text : List ℕ) → Stands self.old text → Stands self.new (text ++ take l.taken rest.now)) }
+        ensures handed { IfOk result (λ l. (text : List ℕ) → Stands self.old text → handed self.new (text ++ take l.taken rest.now) ≡ handed self.old text ++ option_to_list (found_token l.found token.new)) }
+
+        // The fault is that of each text that begins with the bytes given so far, and its tokens are those handed out.
+        ensures fault { IfErr result (λ e. (text : List ℕ) → Stands self.old text → scanned (text ++ rest.now) ≡ (Mode.Failed e.at, handed self.old text)) }
+        ensures every { IfErr result (λ e. (text more : List ℕ) → Stands self.old text → lexed (text ++ rest.now ++ more) ≡ (handed self.old text, Some e.at)) }
+        ensures failed { IfErr result (λ e. self.new.mode ≡ Mode.Failed e.at) }
+        ensures again { (at : ℕ) → self.old.mode ≡ Mode.Failed at → (result ≡ Err (record { at = at })) × (self.new ≡ self.old) }
+    {
         if let Mode::Failed { at } = self.mode {
             return Err(LexFault { at });
         }
         if rest.is_empty() {
-            return Ok(Lexed {
+            return Ok(Taken {
                 taken: 0,
-                token: None,
+                found: false,
             });
         }
-        match take_piece(&mut self.mode, self.place, rest) {
+        match take_piece(&mut self.mode, self.place, rest, token) {
             Stop::Piece => {
                 self.place += rest.len() as u64;
                 self.ends_run = false;
-                Ok(Lexed {
+                Ok(Taken {
                     taken: rest.len(),
-                    token: None,
+                    found: false,
                 })
             }
-            Stop::Run(taken, token) => {
+            Stop::Run(taken) => {
                 self.place += taken as u64;
                 self.ends_run = true;
-                Ok(Lexed {
-                    taken,
-                    token: Some(token),
-                })
+                Ok(Taken { taken, found: true })
             }
-            Stop::Sign(taken, token) => {
+            Stop::Sign(taken) => {
                 self.place += taken as u64;
                 self.ends_run = false;
-                Ok(Lexed {
-                    taken,
-                    token: Some(token),
-                })
+                Ok(Taken { taken, found: true })
             }
             Stop::Fault(at) => {
                 self.ends_run = false;
@@ -147,11 +192,13 @@ impl Lexer {
         let Lexer { mode, place, .. } = self;
         match mode {
             Mode::Between | Mode::LineComment { .. } => Ok(None),
-            Mode::Run { start, bytes, form } => Ok(Some(Token {
-                kind: run_kind(bytes.as_bytes(), form),
-                start,
-                end: place,
-            })),
+            Mode::Run { start, bytes, form } => {
+                let mut token = Token::nowhere();
+                run_kind(bytes.as_bytes(), form, &mut token.kind);
+                token.start = start;
+                token.end = place;
+                Ok(Some(token))
+            }
             Mode::Slash { start } | Mode::BlockComment { start, .. } => Err(LexFault { at: start }),
             Mode::Failed { at } => Err(LexFault { at }),
         }

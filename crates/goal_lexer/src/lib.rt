@@ -23,4 +23,4 @@ mod words;
 pub use labels::{Label, MOST_RUN_BYTES};
 pub use laws::{laws_of_lexers, laws_of_tokens};
 pub use lexing::Lexer;
-pub use tokens::{LexFault, Lexed, Token, TokenKind};
+pub use tokens::{LexFault, Lexed, Taken, Token, TokenKind};

@@ -17,9 +17,9 @@ pub(crate) enum Step {
     /// No token.
     Nothing,
     /// The run before it. The byte itself isn't taken.
-    Run(Token),
+    Run,
     /// The sign that it is.
-    Sign(Token),
+    Sign,
     /// All tokens: none begins at this place.
     Fault(u64),
 }
@@ -29,30 +29,30 @@ pub(crate) enum Stop {
     /// No token: the whole piece is taken.
     Piece,
     /// A run, after so many bytes.
-    Run(usize, Token),
+    Run(usize),
     /// A sign, after so many bytes, its own included.
-    Sign(usize, Token),
+    Sign(usize),
     /// All tokens: none begins at this place.
     Fault(u64),
 }
 
-/// The token of one byte at this place.
-fn sign(kind: TokenKind, place: u64) -> Step
+/// Writes the token of one byte at this place.
+fn sign(kind: TokenKind, place: u64, token: &mut Token) -> Step
     requires { place + 1 < 2 ^ 64 }
-    ensures { result ≡ Step.Sign (record { kind = kind; start = place; end = place + 1 }) }
+    ensures step { result ≡ Step.Sign }
+    ensures token { token.new ≡ record { kind = kind; start = place; end = place + 1 } }
 {
-    Step::Sign(Token {
-        kind,
-        start: place,
-        end: place + 1,
-    })
+    token.kind = kind;
+    token.start = place;
+    token.end = place + 1;
+    Step::Sign
 }
 
 /// Takes a byte where nothing is open.
-fn begin_at(mode: &mut Mode, place: u64, byte: u8) -> Step
+fn begin_at(mode: &mut Mode, place: u64, byte: u8, token: &mut Token) -> Step
     requires room { place + 1 < 2 ^ 64 }
     requires between { mode.old ≡ Mode.Between }
-    ensures { StepsTo result Mode.Between place byte mode.new }
+    ensures { StepsTo result Mode.Between place byte mode.new token.new }
 {
     if begins_word(byte) {
         *mode = Mode::Run {
@@ -71,11 +71,11 @@ fn begin_at(mode: &mut Mode, place: u64, byte: u8) -> Step
     } else if is_blank(byte) {
         Step::Nothing
     } else if byte == b'{' {
-        sign(TokenKind::Open, place)
+        sign(TokenKind::Open, place, token)
     } else if byte == b'}' {
-        sign(TokenKind::Close, place)
+        sign(TokenKind::Close, place, token)
     } else if byte == b':' {
-        sign(TokenKind::Colon, place)
+        sign(TokenKind::Colon, place, token)
     } else if byte == b'/' {
         *mode = Mode::Slash { start: place };
         Step::Nothing
@@ -98,23 +98,21 @@ fn form_with(form: Form, byte: u8) -> Option<Form>
     }
 }
 
-/// Takes one byte at this place.
-fn take_byte(mode: &mut Mode, place: u64, byte: u8) -> Step
+/// Takes one byte at this place. A token that it ends is written to its place.
+fn take_byte(mode: &mut Mode, place: u64, byte: u8, token: &mut Token) -> Step
     requires { place + 1 < 2 ^ 64 }
-    ensures { StepsTo result mode.old place byte mode.new }
+    ensures { StepsTo result mode.old place byte mode.new token.new }
 {
     match mode {
-        Mode::Between => begin_at(mode, place, byte),
+        Mode::Between => begin_at(mode, place, byte, token),
         Mode::Run { start, bytes, form } => {
             let start = *start;
             if !is_run_byte(byte) {
-                let kind = run_kind(bytes.as_bytes(), *form);
+                run_kind(bytes.as_bytes(), *form, &mut token.kind);
+                token.start = start;
+                token.end = place;
                 *mode = Mode::Between;
-                return Step::Run(Token {
-                    kind,
-                    start,
-                    end: place,
-                });
+                return Step::Run;
             }
             match form_with(*form, byte) {
                 Some(longer) if bytes.len() < MOST_RUN_BYTES => {
@@ -162,11 +160,12 @@ fn take_byte(mode: &mut Mode, place: u64, byte: u8) -> Step
     }
 }
 
-/// Takes the bytes of a piece, the first of which stands at this place, up to the end of a token.
-pub(crate) fn take_piece(mode: &mut Mode, place: u64, piece: &[u8]) -> Stop
+/// Takes the bytes of a piece, the first of which stands at this place, up to the end of a token, which is written to its
+/// place.
+pub(crate) fn take_piece(mode: &mut Mode, place: u64, piece: &[u8], token: &mut Token) -> Stop
     requires room { place + length piece.now < 2 ^ 64 }
     requires sound { IsSound mode.old }
-    ensures { StopsAt result mode.old place piece.now mode.new }
+    ensures { StopsAt result mode.old place piece.now mode.new token.new }
 {
     let mut taken = 0;
     while taken < piece.len() {
@@ -175,14 +174,14 @@ pub(crate) fn take_piece(mode: &mut Mode, place: u64, piece: &[u8]) -> Stop
             return Stop::Piece;
         }
         if let Mode::Between = mode {
-            if let Some((count, token)) = whole_run(place + taken as u64, &piece[taken..]) {
-                return Stop::Run(taken + count, token);
+            if let Some(count) = whole_run(place + taken as u64, &piece[taken..], token) {
+                return Stop::Run(taken + count);
             }
         }
-        match take_byte(mode, place + taken as u64, piece[taken]) {
+        match take_byte(mode, place + taken as u64, piece[taken], token) {
             Step::Nothing => taken += 1,
-            Step::Run(token) => return Stop::Run(taken, token),
-            Step::Sign(token) => return Stop::Sign(taken + 1, token),
+            Step::Run => return Stop::Run(taken),
+            Step::Sign => return Stop::Sign(taken + 1),
             Step::Fault(at) => return Stop::Fault(at),
         }
     }

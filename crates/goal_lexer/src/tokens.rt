@@ -1,5 +1,5 @@
 //! Tokens, what a call of the lexer answers, and its fault.
-ghost use Rattle.std.specs.Prelude.{◌++◌, Some, codes, decimal};
+ghost use Rattle.std.specs.Prelude.{◌≡◌, ◌++◌, Some, codes, decimal};
 
 use crate::labels::Label;
 use std::error::Error;
@@ -69,6 +69,19 @@ pub struct Token {
     pub end: u64,
 }
 
+impl Token {
+    /// A token that stands for none yet: a place for [`crate::Lexer::next_token_into`] to write to.
+    pub fn nowhere() -> Token
+        ensures { result.end ≡ 0 }
+    {
+        Token {
+            kind: TokenKind::Close,
+            start: 0,
+            end: 0,
+        }
+    }
+}
+
 /// What a call of `Lexer::next_token` took and found.
 #[derive(Clone, Copy, Debug, PartialEq, Eq)]
 pub struct Lexed {
@@ -76,6 +89,15 @@ pub struct Lexed {
     pub taken: usize,
     /// The token that was completed, or `None` where the whole piece was taken and none was.
     pub token: Option<Token>,
+}
+
+/// What a call of `Lexer::next_token_into` took, and whether it found a token.
+#[derive(Clone, Copy, Debug, PartialEq, Eq)]
+pub struct Taken {
+    /// How many bytes were taken from the front of the piece.
+    pub taken: usize,
+    /// Whether a token was completed. Where none was, the whole piece was taken.
+    pub found: bool,
 }
 
 /// No token, blank or comment begins at this place.

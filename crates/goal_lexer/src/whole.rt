@@ -37,10 +37,10 @@ fn form_of(run: &[u8]) -> Option<Form>
 }
 
 /// The run in front of a piece, the first byte of which stands at this place, where it ends inside the piece and is a
-/// token: how many bytes it has, and the token. Any other run, and what is no run, is none.
-pub(crate) fn whole_run(place: u64, piece: &[u8]) -> Option<(usize, Token)>
+/// token: how many bytes it has. The token is written to its place. Any other run, and what is no run, is none.
+pub(crate) fn whole_run(place: u64, piece: &[u8], token: &mut Token) -> Option<usize>
     requires { place + length piece.now < 2 ^ 64 }
-    ensures { IfSome result (λ r. IsWholeRun place piece.now r.0 r.1) }
+    ensures { IfSome result (λ count. IsWholeRun place piece.now count token.new) }
 {
     let count = count_run(piece);
     if count == 0 || count == piece.len() || count > MOST_RUN_BYTES {
@@ -48,10 +48,8 @@ pub(crate) fn whole_run(place: u64, piece: &[u8]) -> Option<(usize, Token)>
     }
     let run = &piece[..count];
     let form = form_of(run)?;
-    let token = Token {
-        kind: run_kind(run, form),
-        start: place,
-        end: place + count as u64,
-    };
-    Some((count, token))
+    run_kind(run, form, &mut token.kind);
+    token.start = place;
+    token.end = place + count as u64;
+    Some(count)
 }

@@ -15,132 +15,136 @@ fn spells(bytes: &[u8], word: &str) -> bool
     bytes == word.as_bytes()
 }
 
-/// The token of a word of two bytes.
-fn kind_of_two(word: &[u8]) -> TokenKind
+/// Writes the token of a word of two bytes.
+fn kind_of_two(word: &[u8], kind: &mut TokenKind)
     requires some { 0 < length word.now }
     requires most { length word.now ≤ 64 }
-    ensures { result ≡ kind_among (words_of_length 2 reserved_words) word.now }
+    ensures { kind.new ≡ kind_among (words_of_length 2 reserved_words) word.now }
 {
     if spells(word, "to") {
-        TokenKind::To
+        *kind = TokenKind::To;
     } else {
-        TokenKind::Label(Label::of(word))
+        *kind = TokenKind::Label(Label::of(word));
     }
 }
 
-/// The token of a word of three bytes.
-fn kind_of_three(word: &[u8]) -> TokenKind
+/// Writes the token of a word of three bytes.
+fn kind_of_three(word: &[u8], kind: &mut TokenKind)
     requires some { 0 < length word.now }
     requires most { length word.now ≤ 64 }
-    ensures { result ≡ kind_among (words_of_length 3 reserved_words) word.now }
+    ensures { kind.new ≡ kind_among (words_of_length 3 reserved_words) word.now }
 {
     if spells(word, "tag") {
-        TokenKind::Tag
+        *kind = TokenKind::Tag;
     } else if spells(word, "cpu") {
-        TokenKind::Cpu
+        *kind = TokenKind::Cpu;
     } else if spells(word, "nic") {
-        TokenKind::Nic
+        *kind = TokenKind::Nic;
     } else if spells(word, "any") {
-        TokenKind::Any
+        *kind = TokenKind::Any;
     } else {
-        TokenKind::Label(Label::of(word))
+        *kind = TokenKind::Label(Label::of(word));
     }
 }
 
-/// The token of a word of four bytes.
-fn kind_of_four(word: &[u8]) -> TokenKind
+/// Writes the token of a word of four bytes.
+fn kind_of_four(word: &[u8], kind: &mut TokenKind)
     requires some { 0 < length word.now }
     requires most { length word.now ≤ 64 }
-    ensures { result ≡ kind_among (words_of_length 4 reserved_words) word.now }
+    ensures { kind.new ≡ kind_among (words_of_length 4 reserved_words) word.now }
 {
     if spells(word, "rank") {
-        TokenKind::Rank
+        *kind = TokenKind::Rank;
     } else if spells(word, "calc") {
-        TokenKind::Calc
+        *kind = TokenKind::Calc;
     } else if spells(word, "send") {
-        TokenKind::Send
+        *kind = TokenKind::Send;
     } else if spells(word, "recv") {
-        TokenKind::Recv
+        *kind = TokenKind::Recv;
     } else if spells(word, "from") {
-        TokenKind::From
+        *kind = TokenKind::From;
     } else if spells(word, "adds") {
-        TokenKind::Adds
+        *kind = TokenKind::Adds;
     } else {
-        TokenKind::Label(Label::of(word))
+        *kind = TokenKind::Label(Label::of(word));
     }
 }
 
-/// The token of a word of five bytes.
-fn kind_of_five(word: &[u8]) -> TokenKind
+/// Writes the token of a word of five bytes.
+fn kind_of_five(word: &[u8], kind: &mut TokenKind)
     requires some { 0 < length word.now }
     requires most { length word.now ≤ 64 }
-    ensures { result ≡ kind_among (words_of_length 5 reserved_words) word.now }
+    ensures { kind.new ≡ kind_among (words_of_length 5 reserved_words) word.now }
 {
     if spells(word, "moves") {
-        TokenKind::Moves
+        *kind = TokenKind::Moves;
     } else {
-        TokenKind::Label(Label::of(word))
+        *kind = TokenKind::Label(Label::of(word));
     }
 }
 
-/// The token of a word of eight bytes.
-fn kind_of_eight(word: &[u8]) -> TokenKind
+/// Writes the token of a word of eight bytes.
+fn kind_of_eight(word: &[u8], kind: &mut TokenKind)
     requires some { 0 < length word.now }
     requires most { length word.now ≤ 64 }
-    ensures { result ≡ kind_among (words_of_length 8 reserved_words) word.now }
+    ensures { kind.new ≡ kind_among (words_of_length 8 reserved_words) word.now }
 {
     if spells(word, "requires") {
-        TokenKind::Requires
+        *kind = TokenKind::Requires;
     } else {
-        TokenKind::Label(Label::of(word))
+        *kind = TokenKind::Label(Label::of(word));
     }
 }
 
-/// The token of a word of nine bytes.
-fn kind_of_nine(word: &[u8]) -> TokenKind
+/// Writes the token of a word of nine bytes.
+fn kind_of_nine(word: &[u8], kind: &mut TokenKind)
     requires some { 0 < length word.now }
     requires most { length word.now ≤ 64 }
-    ensures { result ≡ kind_among (words_of_length 9 reserved_words) word.now }
+    ensures { kind.new ≡ kind_among (words_of_length 9 reserved_words) word.now }
 {
     if spells(word, "num_ranks") {
-        TokenKind::NumRanks
+        *kind = TokenKind::NumRanks;
     } else if spells(word, "irequires") {
-        TokenKind::Irequires
+        *kind = TokenKind::Irequires;
     } else {
-        TokenKind::Label(Label::of(word))
+        *kind = TokenKind::Label(Label::of(word));
     }
 }
 
-/// The reserved word that these bytes spell, or else a label.
-fn word_kind(word: &[u8]) -> TokenKind
+/// Writes the reserved word that these bytes spell, or else a label.
+fn word_kind(word: &[u8], kind: &mut TokenKind)
     requires some { 0 < length word.now }
     requires most { length word.now ≤ 64 }
-    ensures { result ≡ word_kind word.now }
+    ensures { kind.new ≡ word_kind word.now }
 {
     match word.len() {
-        2 => kind_of_two(word),
-        3 => kind_of_three(word),
-        4 => kind_of_four(word),
-        5 => kind_of_five(word),
-        8 => kind_of_eight(word),
-        9 => kind_of_nine(word),
-        _ => TokenKind::Label(Label::of(word)),
+        2 => kind_of_two(word, kind),
+        3 => kind_of_three(word, kind),
+        4 => kind_of_four(word, kind),
+        5 => kind_of_five(word, kind),
+        8 => kind_of_eight(word, kind),
+        9 => kind_of_nine(word, kind),
+        _ => *kind = TokenKind::Label(Label::of(word)),
     }
 }
 
-/// The token that a whole run of this form is.
-pub(crate) fn run_kind(run: &[u8], form: Form) -> TokenKind
+/// Writes the token that a whole run of this form is.
+pub(crate) fn run_kind(run: &[u8], form: Form, kind: &mut TokenKind)
     requires some { 0 < length run.now }
     requires most { length run.now ≤ 64 }
-    ensures { result ≡ run_kind form run.now }
+    ensures { kind.new ≡ run_kind form run.now }
 {
     match form {
-        Form::Word => word_kind(run),
-        Form::Digits => TokenKind::Number {
-            value: number_value(run),
-        },
-        Form::Sized => TokenKind::Size {
-            value: number_value(&run[..run.len() - 1]),
-        },
+        Form::Word => word_kind(run, kind),
+        Form::Digits => {
+            *kind = TokenKind::Number {
+                value: number_value(run),
+            }
+        }
+        Form::Sized => {
+            *kind = TokenKind::Size {
+                value: number_value(&run[..run.len() - 1]),
+            }
+        }
     }
 }

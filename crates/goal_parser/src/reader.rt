@@ -65,16 +65,18 @@ impl Reader {
         ensures stands { IfOk result (λ n. (text : List ℕ) → StandsFor self.old text → StandsFor self.new (text ++ take n rest.now)) }
         ensures fault { IfErr result (λ f. f ≢ TextFault.NoMemory → (text more : List ℕ) → StandsFor self.old text → text_fault (text ++ rest.now ++ more) ≡ Some f) }
     {
-        match self.lexer.next_token(rest) {
+        let mut token = Token::nowhere();
+        match self.lexer.next_token_into(rest, &mut token) {
             Err(fault) => Err(TextFault::Lex { at: fault.at }),
             Ok(lexed) => {
                 self.place += lexed.taken as u64;
-                match &lexed.token {
-                    Some(token) => match self.parser.take(token) {
+                if lexed.found {
+                    match self.parser.take(&token) {
                         Ok(()) => Ok(lexed.taken),
                         Err(fault) => Err(fault),
-                    },
-                    None => Ok(lexed.taken),
+                    }
+                } else {
+                    Ok(lexed.taken)
                 }
             }
         }

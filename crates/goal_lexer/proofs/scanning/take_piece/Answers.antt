@@ -75,7 +75,7 @@ returns-in-Sign c =
       omega arith,
       omega arith,
       between,
-      after_byte k ∙ c.in-Sign.ensures.0 ∙ ap (λ (m : Mode). (m, c.in-Sign.token ∷ [])) between,
+      after_byte k ∙ c.in-Sign.ensures.0 ∙ ap (λ (m : Mode). (m, c.take_byte.new.token ∷ [])) between,
       omega (arith, c.in-Sign.ensures.2),
     )
 
@@ -94,6 +94,6 @@ returns-in-Some c =
     scan_sliced c.args.mode.now c.loop-taken.mode c.take_stretch-taken.new.mode c.args.place piece c.loop-taken.taken c.take_stretch-taken.result
     was.within was.quiet c.take_stretch-taken.ensures.quiet in
     let found =
-    run_in_piece c.args.mode.now c.args.place n c.in-Some.count piece c.in-Some.token fits
+    run_in_piece c.args.mode.now c.args.place n c.in-Some.count piece c.whole_run.new.token fits
     (quiet ∙ ap (λ (m : Mode). (m, [])) c.in-Between.is) c.in-Some.ensures in
     (found.0, found.1, c.in-Between.is, found.2, found.3)

@@ -13,7 +13,7 @@ returns-in-Run-clause-ok c =
     let fields = c.self.inside in
     let kind = c.run_kind.ensures ∙ ap (run_kind c.in-Run.form) c.as_bytes.ensures.bytes in
     subst (λ (s : LexState). (text : List ℕ) → Stands s text →
-    lexed text ≡ (handed s text ++ record { kind = c.run_kind.result; start = c.in-Run.start; end = fields.place } ∷ [], None))
+    lexed text ≡ (handed s text ++ record { kind = c.run_kind.new.kind; start = c.in-Run.start; end = fields.place } ∷ [], None))
     c.self.view_is
     (λ text stands.
     finishes fields.mode fields.place fields.ends_run text stands

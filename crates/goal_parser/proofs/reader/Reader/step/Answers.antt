@@ -1,5 +1,6 @@
-use Rattle.std.proofs.Common.{◌≡◌, sym, ap, ◌∙◌, subst, List, [], ◌∷◌, ◌++◌, reverse, take, drop, option_to_list, Option}
+use Rattle.std.proofs.Common.{◌≡◌, sym, ap, ◌∙◌, subst, List, [], ◌∷◌, ◌++◌, reverse, take, drop, option_to_list, Bool}
 use Rattle.goal_lexer.specs.declared.tokens.Token.{Token}
+use Rattle.goal_lexer.specs.Found.{found_token}
 use Rattle.goal_lexer.specs.Scan.{lexed}
 use Rattle.goal_lexer.specs.Stands.{handed}
 use Rattle.goal_parser.specs.Reads.{first_fault}
@@ -14,9 +15,9 @@ returns-in-Err-clause-fault c = λ memory text more stood.
 pub returns-in-Ok-take-clause-stands : goal.returns-in-Ok-take-clause-stands
 returns-in-Ok-take-clause-stands c = λ text stood.
     let hs = handed c.args.self.now.lexer text in
-    let t = c.in-Some.token in
+    let t = c.next_token_into.new.token in
     let on = text ++ take c.in-Ok.lexed.taken c.args.rest.now in
-    let more : handed c.next_token.new.self on ≡ hs ++ t ∷ [] = c.in-Ok.ensures.handed text stood.lexer ∙ ap (λ (o : Option Token). hs ++ option_to_list o) c.in-Some.is in
+    let more : handed c.next_token_into.new.self on ≡ hs ++ t ∷ [] = c.in-Ok.ensures.handed text stood.lexer ∙ ap (λ (found : Bool). hs ++ option_to_list (found_token found t)) c.if-lexed.true in
     let kept = c.in-Ok-take.ensures.ok (reverse hs) stood.taken in
     record {
       lexer = c.in-Ok.ensures.stands text stood.lexer;
@@ -27,12 +28,12 @@ returns-in-Ok-take-clause-stands c = λ text stood.
 pub returns-in-Err-take-clause-fault : goal.returns-in-Err-take-clause-fault
 returns-in-Err-take-clause-fault c = λ memory text more stood.
     let hs = handed c.args.self.now.lexer text in
-    let t = c.in-Some.token in
+    let t = c.next_token_into.new.token in
     let n = c.in-Ok.lexed.taken in
     let rest = c.args.rest.now in
-    let lexer = c.next_token.new.self in
+    let lexer = c.next_token_into.new.self in
     let on = text ++ take n rest in
-    let tokens : handed lexer on ≡ hs ++ t ∷ [] = c.in-Ok.ensures.handed text stood.lexer ∙ ap (λ (o : Option Token). hs ++ option_to_list o) c.in-Some.is in
+    let tokens : handed lexer on ≡ hs ++ t ∷ [] = c.in-Ok.ensures.handed text stood.lexer ∙ ap (λ (found : Bool). hs ++ option_to_list (found_token found t)) c.if-lexed.true in
     let front = handed_front lexer on (drop n rest ++ more) (c.in-Ok.ensures.stands text stood.lexer)
     (λ ends. apart_more n rest more (c.in-Ok.ensures.left c.requires.some ends) (c.in-Ok.ensures.apart_next ends)) in
     fault_of_token (text ++ rest ++ more) hs front.0 t c.in-Err-take.fault

@@ -7,8 +7,8 @@ use Rattle.goal_lexer.specs.Scan.{Scanned, scan, scanned, closing}
 use Rattle.goal_lexer.specs.State.{LexState}
 use Rattle.goal_lexer.specs.Stands.{Stands, handed}
 use Rattle.goal_lexer.proofs.StandsLaws.{went_view, place_on, stands_on, stands_past_run, run_was_open, fault_of_every}
-use Rattle.goal_lexer.proofs.lexing.Lexer.next_token.Goals as goal
-use Rattle.goal_lexer.proofs.lexing.Lexer.next_token.Goals.{After-take_piece}
+use Rattle.goal_lexer.proofs.lexing.Lexer.next_token_into.Goals as goal
+use Rattle.goal_lexer.proofs.lexing.Lexer.next_token_into.Goals.{After-take_piece}
 
 -- the piece has a byte
 nonempty : (c : After-take_piece) → 0 < length c.args.rest.now
@@ -86,13 +86,13 @@ returns-in-Run-clause-stands c text stands =
     let said = c.in-Run.ensures in
     subst (λ (m : Mode). Stands (record { mode = m; place = c.self.inside.place + c.in-Run.taken; ends_run = true }) (text ++ take c.in-Run.taken c.args.rest.now))
     (sym said.2)
-    (run_stands k c.in-Run.taken c.in-Run.token said.3.0 (omega (arith, said.0)) said.3.1 said.3.2 text stands).0
+    (run_stands k c.in-Run.taken c.take_piece.new.token said.3.0 (omega (arith, said.0)) said.3.1 said.3.2 text stands).0
 
 pub returns-in-Run-clause-handed : goal.returns-in-Run-clause-handed
 returns-in-Run-clause-handed c text stands =
     let k = (goal.at.returns-in-Run-clause-handed c).After-take_piece in
     let said = c.in-Run.ensures in
-    (run_stands k c.in-Run.taken c.in-Run.token said.3.0 (omega (arith, said.0)) said.3.1 said.3.2 text stands).1
+    (run_stands k c.in-Run.taken c.take_piece.new.token said.3.0 (omega (arith, said.0)) said.3.1 said.3.2 text stands).1
 
 -- it took a byte, or no run was handed out before
 took_or_not : (ends : Bool) (taken : ℕ) → (ends ≡ true → 0 < taken) → (0 < taken) ⊎ ((ends ≡ false) × (true ≡ true))
@@ -106,7 +106,7 @@ returns-in-Run-clause-moves c some =
     let taken = c.in-Run.taken in
     let same = ap (λ (s : LexState). s.ends_run) c.self.view_is in
     took_or_not c.args.self.now.ends_run taken
-    (λ ends. omega (arith, length-take taken c.args.rest.now, run_took k taken c.in-Run.token said.3.0 said.3.1 said.3.2 (same ∙ ends)))
+    (λ ends. omega (arith, length-take taken c.args.rest.now, run_took k taken c.take_piece.new.token said.3.0 said.3.1 said.3.2 (same ∙ ends)))
 
 pub returns-in-Sign-clause-stands : goal.returns-in-Sign-clause-stands
 returns-in-Sign-clause-stands c text stands =
@@ -117,9 +117,9 @@ returns-in-Sign-clause-stands c text stands =
     let some : 0 < length (take c.in-Sign.taken rest) = omega (arith, said.0, said.1) in
     subst (λ (m : Mode). Stands (record { mode = m; place = c.self.inside.place + c.in-Sign.taken; ends_run = false }) (text ++ take c.in-Sign.taken rest))
     (sym said.2)
-    (stands_on Between (c.self.inside.place + c.in-Sign.taken) text (take c.in-Sign.taken rest) (handed c.args.self.now text ++ c.in-Sign.token ∷ [])
+    (stands_on Between (c.self.inside.place + c.in-Sign.taken) text (take c.in-Sign.taken rest) (handed c.args.self.now text ++ c.take_piece.new.token ∷ [])
     (at_place k c.in-Sign.taken said.1 text stands)
-    (went k c.in-Sign.taken Between (c.in-Sign.token ∷ []) (λ _. some) said.3 text stands)
+    (went k c.in-Sign.taken Between (c.take_piece.new.token ∷ []) (λ _. some) said.3 text stands)
     tt)
 
 pub returns-in-Sign-clause-handed : goal.returns-in-Sign-clause-handed
@@ -129,7 +129,7 @@ returns-in-Sign-clause-handed c text stands =
     let said = c.in-Sign.ensures in
     let long = length-take c.in-Sign.taken rest in
     let some : 0 < length (take c.in-Sign.taken rest) = omega (arith, said.0, said.1) in
-    ap (λ (r : Scanned). r.1) (went k c.in-Sign.taken Between (c.in-Sign.token ∷ []) (λ _. some) said.3 text stands)
+    ap (λ (r : Scanned). r.1) (went k c.in-Sign.taken Between (c.take_piece.new.token ∷ []) (λ _. some) said.3 text stands)
 
 -- the text and the whole piece are at fault
 fault_there : (c : After-take_piece) (at : ℕ) →
