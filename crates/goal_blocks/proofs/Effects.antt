@@ -1,6 +1,6 @@
 -- What the end of an operation does to stores and payloads, and that two operations that touch no slot of each
 -- other's, neither of which takes the other's message, may end in either order.
-use Rattle.std.proofs.Common.{⊎_elim, ℕ, ◌≡◌, ◌==◌, ◌&&◌, ◌⊎◌, inl, inr, Bool, true, false, List, [], ◌∷◌, map, flat_map, Contains, Option, Some, None, if◌then◌else◌, refl, sym, ap, ◌∙◌, subst}
+use Rattle.std.proofs.Common.{⊎_elim, ℕ, zero, suc, ◌≡◌, ◌==◌, ◌&&◌, ◌⊎◌, inl, inr, Bool, true, false, List, [], ◌∷◌, map, flat_map, Contains, Option, Some, None, if◌then◌else◌, refl, sym, ap, ◌∙◌, subst, arith}
 use Rattle.std.proofs.lemmas.Bool.{and_parts, cases_eq, eqb-true}
 use Rattle.goal_graph.specs.declared.action.OpId.{OpId}
 use Rattle.goal_graph.specs.declared.plan.Kind.{Kind}
@@ -16,6 +16,11 @@ pub mem_contains : {A : Type 0} (x : A) (xs : List A) → Mem x xs → Contains 
 mem_contains x [] m = absurd m
 mem_contains x (y ∷ ys) (inl e) = contains_first y ys x e
 mem_contains x (y ∷ ys) (inr m) = contains_more y ys x (mem_contains x ys m)
+
+pub contains_mem : {A : Type 0} (x : A) (xs : List A) → Contains xs x → Mem x xs
+contains_mem x [] (k, b, e) = absurd (omega (arith, b))
+contains_mem x (y ∷ ys) (zero, b, e) = inl e
+contains_mem x (y ∷ ys) (suc k, b, e) = inr (contains_mem x ys (k, omega (arith, b), e))
 
 pub cases_mem : (k : ℕ) (ks : List ℕ) → Mem k ks ⊎ (Mem k ks → ⊥)
 cases_mem k [] = inr (λ m. m)

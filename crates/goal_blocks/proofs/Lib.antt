@@ -19,3 +19,8 @@ pub mod Effects
 pub mod Ends
 pub mod Right
 pub mod BcastOfTwo
+pub mod Least
+pub mod Faults
+pub mod EndsBefore
+pub mod NoFault
+pub mod OneFault

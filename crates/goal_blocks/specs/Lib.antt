@@ -15,3 +15,4 @@ pub mod MadeRooted
 pub mod Generated
 pub mod Steps
 pub mod Certified
+pub mod Faults

@@ -3,6 +3,7 @@ ghost use Rattle.goal_blocks.specs.Matched.{ChannelsAreApart, MatchedEndsInItsPa
 ghost use Rattle.goal_blocks.specs.Walk.{OneWalk, SomeWalk};
 ghost use Rattle.goal_blocks.specs.Certification.{CertifiedEndsEverywhere, CertifiedConflictsInOneOrder, MatchedHoldsAsTheWalk, CertifiedIsRightEverywhere};
 ghost use Rattle.goal_blocks.specs.Certified.{BcastOfTwoIsCertified};
+ghost use Rattle.goal_blocks.specs.Faults.{FaultExcludesCertified, FaultlessIsCertified, OneFirstFault};
 ghost use Rattle.goal_blocks.specs.Race.{OrderIsKept, ConflictsComeInOneOrder};
 
 /// The laws of schedules without wildcards, in which each send has one receive of its channel and each receive one
@@ -49,4 +50,16 @@ pub fn laws_of_certified_schedules()
     ensures bcast_of_two_is_certified { BcastOfTwoIsCertified }
     ensures certified_ends_everywhere { CertifiedEndsEverywhere }
     ensures certified_conflicts_in_one_order { CertifiedConflictsInOneOrder }
+{}
+
+/// The laws of the faults for which a schedule is not certified, for every start of the slots and whatever is wanted of
+/// them:
+///
+/// - `fault_excludes_certified`: a schedule that has one of the nine faults is not certified.
+/// - `faultless_is_certified`: an accepted schedule that has no first fault is certified.
+/// - `one_first_fault`: a schedule has at most one first fault.
+pub fn laws_of_faults()
+    ensures fault_excludes_certified { FaultExcludesCertified }
+    ensures faultless_is_certified { FaultlessIsCertified }
+    ensures one_first_fault { OneFirstFault }
 {}

@@ -1,14 +1,18 @@
 //! What a schedule does to the slots of its ranks, and when that is right whatever comes first.
 #![tactic(auto)]
 
+mod cert_fault;
 mod collective;
 mod generated;
 mod laws;
 mod positions;
 mod steps;
 
+pub use cert_fault::CertFault;
 pub use collective::{Collective, Contribution};
 pub use generated::laws_of_made_schedules;
-pub use laws::{laws_of_certified_schedules, laws_of_matched_schedules, laws_of_races};
+pub use laws::{
+    laws_of_certified_schedules, laws_of_faults, laws_of_matched_schedules, laws_of_races,
+};
 pub use positions::{ahead, back, digits, power};
 pub use steps::{Effect, Formula, Needs, Step, before_round, plans_of};
