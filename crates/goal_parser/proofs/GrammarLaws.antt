@@ -1,8 +1,11 @@
 -- A text that says plans is sentences, and its plans are what these say.
-use Rattle.std.proofs.Common.{◌≡◌, ◌≢◌, ℕ, ◌+◌, ◌<◌, Bool, true, false, ◌||◌, List, [], ◌∷◌, ◌++◌, map, length, reverse, replicate, slice_set, nat_eq, Option, Some, None, is_none, unwrap_or, refl, sym, ap, subst, ◌∙◌, arith, append_assoc, length-append}
+use Rattle.std.proofs.Common.{◌≡◌, ◌≢◌, ℕ, ◌+◌, ◌<◌, Bool, true, false, ◌||◌, List, [], ◌∷◌, ◌++◌, map, length, reverse, replicate, slice_set, nat_eq, nat_lt, bytes_eq, cond, not, add-zero, ◌≤◌, Option, Some, None, is_none, is_some, unwrap_or, refl, sym, ap, subst, ◌∙◌, arith, append_assoc, length-append}
 use Rattle.std.specs.Prelude.{⊤, ◌==◌, if◌then◌else◌, slice_index_or}
-use Rattle.std.specs.List.{flat_map, list_any}
-use Rattle.std.specs.Option.{option_or}
+use Rattle.std.specs.List.{AllByRecursion, All, flat_map, list_any, count_by}
+use Rattle.std.specs.Option.{option_or, option_map}
+use Rattle.std.proofs.lemmas.List.Elements.{All-append, All-from_recursion}
+use Rattle.std.proofs.lemmas.List.Sums.{sum_by-append, sum_by-cons}
+use Rattle.std.proofs.lemmas.Slice.Eq.{bytes_eq-Decides}
 use Rattle.std.proofs.lemmas.Bool.{true≢false}
 use Rattle.std.proofs.lemmas.Bool.Decides.{nat_tests}
 use Rattle.std.proofs.lemmas.List.{append-nil, map-append, flat_map_more, length-replicate, get_or-replicate, length-set, get_or-set_same, get_or-set_other, reverse-append}
@@ -31,17 +34,19 @@ use Rattle.goal_parser.specs.Actions.{begun, option_with, draft_with, draft_of, 
 use Rattle.goal_parser.specs.Items.{Definition, NamedDep, NamedNote, ends_action, ended_ops, ops_with, ops_of, head_with, head_of, defined_with, defined_of, define, dep_ended, deps_with, deps_of, note_ended, notes_with, notes_of, dep_by, note_by}
 use Rattle.goal_parser.specs.Plans.{empty_plan, plans_with, plans_of}
 use Rattle.goal_parser.specs.Reads.{first_fault, last_fault, text_fault, text_plans, reading, reads, plans, faulty}
-use Rattle.goal_parser.specs.declared.faults.TextFault.TheVariants.{Syntax, Repeat}
+use Rattle.goal_parser.specs.declared.faults.TextFault.TheVariants.{Syntax, Rank, Repeat, UnknownLabel}
 use Rattle.goal_parser.specs.declared.counts.Counts.{Counts}
-use Rattle.goal_parser.specs.Ranks.{ranks_of}
+use Rattle.goal_parser.specs.Ranks.{ranks_with, ranks_of}
 use Rattle.goal_parser.specs.Counts.{counts_of}
-use Rattle.goal_parser.specs.Items.{used_of}
-use Rattle.goal_parser.specs.Faults.{fault_by, token_fault, syntax_fault, number_fault, rank_fault, option_fault, label_fault, count_fault, unknown_fault}
+use Rattle.goal_parser.specs.Items.{defined_as, is_defined, first_outside, first_unknown, dep_uses, note_uses, used_with, used_of}
+use Rattle.goal_parser.specs.Faults.{fault_by, token_fault, syntax_fault, number_fault, rank_fault, rank_fault_of, fault_if, option_fault, defined_fault, label_fault, label_fault_of, count_fault, unknown_fault, unknown_fault_of}
 use Rattle.goal_parser.proofs.ParserLaws.{none_first, none_second, not_so, rank_passes}
-use Rattle.goal_parser.specs.Grammar.{Amount, plain, marked, Setting, tag, cpu, nic, Item, calc, send, recv, requires, irequires, moves, adds, Block, Written, number_or_any, amount_token, setting_tokens, label_tokens, item_tokens, block_tokens, text_tokens, amount, tag_of, cpu_of, nic_of, op_said, defined_before, defined_by, definitions, dep_said, note_said, plan_said, rank_said, AreSaid, IsWritten}
+use Rattle.goal_parser.specs.Grammar.{Amount, plain, marked, Setting, tag, cpu, nic, Item, calc, send, recv, requires, irequires, moves, adds, Block, Written, number_or_any, amount_token, setting_tokens, label_tokens, item_tokens, block_tokens, text_tokens, amount, tag_of, cpu_of, nic_of, op_said, defined_before, defined_by, definitions, dep_said, note_said, plan_said, rank_said, AreSaid, used_by, is_tag, is_cpu, is_nic, AreGivenOnce, HasOptionsOnce, KeepsRules, AreRight, IsWritten}
 
 -- what is kept of the tokens so far, but for the newest action and the newest head
 record Kept : Type 0 where
+  ranks : ℕ
+  used : List Mention
   blocks : List ℕ
   rank : ℕ
   ops : List Op
@@ -52,6 +57,8 @@ record Kept : Type 0 where
 
 abbrev kept_of : List Token → Kept
 kept_of before = record {
+  ranks = ranks_of before;
+  used = used_of before;
   blocks = blocks_of before;
   rank = rank_of before;
   ops = ops_of before;
@@ -68,8 +75,10 @@ plan_with s draft kept = record {
   notes = map (note_by kept.defined) kept.notes;
 }
 
-abbrev kept_with : State → TokenKind → Draft → ItemHead → Kept → Kept
-kept_with s k draft head kept = record {
+abbrev kept_with : State → TokenKind → ℕ → Draft → ItemHead → Kept → Kept
+kept_with s k at draft head kept = record {
+  ranks = ranks_with s k kept.ranks;
+  used = used_with s k at head kept.used;
   blocks = blocks_with s k kept.blocks;
   rank = rank_with s k kept.rank;
   ops = ops_with s k (op_of draft) kept.ops;
@@ -122,6 +131,31 @@ definitions-push n (x ∷ xs) item =
     ∙ ap (λ (m : ℕ). defined_by x n ++ (definitions next xs ++ defined_by item m)) same
     ∙ sym (append_assoc (defined_by x n) (definitions next xs) (defined_by item (n + length (op_said x ++ flat_map op_said xs))))
 
+-- one more at most
+All-push : {X : Type 0} (P : X → Type 0) (xs : List X) (x : X) → All P xs → P x → All P (xs ++ x ∷ [])
+All-push P xs x all one = All-append P xs (x ∷ []) all (All-from_recursion P (x ∷ []) (one, tt))
+
+count_none : {X : Type 0} (p : X → Bool) (x : X) (xs : List X) → p x ≡ false → count_by p xs ≡ 0 → count_by p (x ∷ xs) ≡ 0
+count_none p x xs is none =
+    let same : 0 + count_by p xs ≡ 0 = omega arith in
+    sum_by-cons (λ y. cond (p y) 1 0) x xs ∙ ap (λ (t : Bool). cond t 1 0 + count_by p xs) is ∙ same
+
+count_one : {X : Type 0} (p : X → Bool) (xs : List X) (x : X) → (p x ≡ true → count_by p xs ≡ 0) → count_by p xs ≤ 1 → count_by p (xs ++ x ∷ []) ≤ 1
+count_one p xs x none few =
+    let whole : count_by p (xs ++ x ∷ []) ≡ count_by p xs + cond (p x) 1 0 =
+    sum_by-append (λ y. cond (p y) 1 0) xs (x ∷ []) ∙ ap (λ (n : ℕ). count_by p xs + n) (sum_by-cons (λ y. cond (p y) 1 0) x [] ∙ add-zero (cond (p x) 1 0)) in
+    subst (λ (n : ℕ). n ≤ 1) (sym whole) (by (p x) refl)
+  where
+    by : (b : Bool) → p x ≡ b → count_by p xs + cond b 1 0 ≤ 1
+    by true is = let e = none is in omega arith
+    by false is = omega arith
+
+abbrev labels_in : List Mention → List (List ℕ)
+labels_in us = map (λ (u : Mention). u.label) us
+
+abbrev is_label : List ℕ → Definition → Bool
+is_label label d = bytes_eq label d.label
+
 abbrev ranks_in : List Block → List ℕ
 ranks_in bs = map (λ (b : Block). b.rank) bs
 
@@ -129,6 +163,7 @@ ranks_in bs = map (λ (b : Block). b.rank) bs
 record IsClear (kept : Kept) : Type 0 where
   ops : kept.ops ≡ []
   defined : kept.defined ≡ []
+  used : kept.used ≡ []
   deps : kept.deps ≡ []
   notes : kept.notes ≡ []
 
@@ -136,6 +171,8 @@ record IsClear (kept : Kept) : Type 0 where
 record Out (kept : Kept) (ks part : List TokenKind) : Type 0 where
   written : Written
   spelled : ks ≡ text_tokens written ++ part
+  right : AreRight written
+  ranks : kept.ranks ≡ written.ranks
   said : AreSaid written kept.plans
   blocks : kept.blocks ≡ ranks_in written.blocks
   clear : IsClear kept
@@ -143,6 +180,9 @@ record Out (kept : Kept) (ks part : List TokenKind) : Type 0 where
 record Opened (kept : Kept) (ks : List TokenKind) : Type 0 where
   written : Written
   spelled : ks ≡ text_tokens written ++ token.Rank ∷ token.Number kept.rank ∷ []
+  right : AreRight written
+  ranks : kept.ranks ≡ written.ranks
+  below : kept.rank < written.ranks
   said : AreSaid written kept.plans
   blocks : kept.blocks ≡ ranks_in written.blocks ++ kept.rank ∷ []
   new : list_any (nat_eq kept.rank) (ranks_in written.blocks) ≡ false
@@ -153,6 +193,9 @@ record In (kept : Kept) (ks part : List TokenKind) (label : Option (List ℕ)) :
   written : Written
   items : List Item
   spelled : ks ≡ text_tokens written ++ token.Rank ∷ token.Number kept.rank ∷ token.Open ∷ (flat_map item_tokens items ++ part)
+  right : AreRight written
+  ranks : kept.ranks ≡ written.ranks
+  below : kept.rank < written.ranks
   said : AreSaid written kept.plans
   blocks : kept.blocks ≡ ranks_in written.blocks ++ kept.rank ∷ []
   new : list_any (nat_eq kept.rank) (ranks_in written.blocks) ≡ false
@@ -160,6 +203,9 @@ record In (kept : Kept) (ks part : List TokenKind) (label : Option (List ℕ)) :
   defined : kept.defined ≡ definitions 0 items ++ defined_before label (length kept.ops)
   deps : kept.deps ≡ flat_map dep_named items
   notes : kept.notes ≡ flat_map note_named items
+  used : labels_in kept.used ≡ flat_map used_by items
+  once : (label : List ℕ) → count_by (is_label label) kept.defined ≤ 1
+  options : All HasOptionsOnce items
 
 module _ (kept : Kept) (ks part : List TokenKind) (label : Option (List ℕ)) (inside : In kept ks part label) where
   -- a token more of the item
@@ -174,6 +220,9 @@ module _ (kept : Kept) (ks part : List TokenKind) (label : Option (List ℕ)) (i
         spelled = ap (λ (xs : List TokenKind). xs ++ k ∷ []) inside.spelled
             ∙ append_assoc front (open_block ++ (items ++ part)) (k ∷ [])
             ∙ ap (λ (xs : List TokenKind). front ++ (open_block ++ xs)) (append_assoc items part (k ∷ []) ∙ ap (λ (xs : List TokenKind). items ++ xs) same);
+        right = inside.right;
+        ranks = inside.ranks;
+        below = inside.below;
         said = inside.said;
         blocks = inside.blocks;
         new = inside.new;
@@ -181,14 +230,17 @@ module _ (kept : Kept) (ks part : List TokenKind) (label : Option (List ℕ)) (i
         defined = inside.defined;
         deps = inside.deps;
         notes = inside.notes;
+        used = inside.used;
+        once = inside.once;
+        options = inside.options;
       }
 
   -- the item is complete
-  complete : (item : Item) (ops : List Op) (deps : List NamedDep) (notes : List NamedNote) → part ≡ item_tokens item →
+  complete : (item : Item) (ops : List Op) (deps : List NamedDep) (notes : List NamedNote) (used : List Mention) → part ≡ item_tokens item →
       ops ≡ kept.ops ++ op_said item → deps ≡ kept.deps ++ dep_named item → notes ≡ kept.notes ++ note_named item →
-      ((n : ℕ) → defined_before label n ≡ defined_by item n) →
-      In (record { blocks = kept.blocks; rank = kept.rank; ops = ops; defined = kept.defined; deps = deps; notes = notes; plans = kept.plans }) ks [] None
-  complete item ops deps notes whole same_ops same_deps same_notes same_label =
+      ((n : ℕ) → defined_before label n ≡ defined_by item n) → labels_in used ≡ labels_in kept.used ++ used_by item → HasOptionsOnce item →
+      In (record { ranks = kept.ranks; used = used; blocks = kept.blocks; rank = kept.rank; ops = ops; defined = kept.defined; deps = deps; notes = notes; plans = kept.plans }) ks [] None
+  complete item ops deps notes used whole same_ops same_deps same_notes same_label same_used once =
       let items = inside.items in
       let front = text_tokens inside.written in
       let open_block = token.Rank ∷ token.Number kept.rank ∷ token.Open ∷ [] in
@@ -199,6 +251,9 @@ module _ (kept : Kept) (ks part : List TokenKind) (label : Option (List ℕ)) (i
         spelled = inside.spelled
             ∙ ap (λ (xs : List TokenKind). front ++ (open_block ++ xs))
             (ap (λ (xs : List TokenKind). flat_map item_tokens items ++ xs) whole ∙ flat_more item_tokens items item ∙ sym (append-nil (flat_map item_tokens (items ++ item ∷ []))));
+        right = inside.right;
+        ranks = inside.ranks;
+        below = inside.below;
         said = inside.said;
         blocks = inside.blocks;
         new = inside.new;
@@ -208,6 +263,9 @@ module _ (kept : Kept) (ks part : List TokenKind) (label : Option (List ℕ)) (i
             ∙ sym (definitions-push 0 items item) ∙ sym (append-nil (definitions 0 (items ++ item ∷ [])));
         deps = same_deps ∙ ap (λ (xs : List NamedDep). xs ++ dep_named item) inside.deps ∙ flat_more dep_named items item;
         notes = same_notes ∙ ap (λ (xs : List NamedNote). xs ++ note_named item) inside.notes ∙ flat_more note_named items item;
+        used = same_used ∙ ap (λ (xs : List (List ℕ)). xs ++ used_by item) inside.used ∙ flat_more used_by items item;
+        once = inside.once;
+        options = All-push HasOptionsOnce items item inside.options once;
       }
 
 -- an option's word, and the option with its number
@@ -222,10 +280,9 @@ number_setting option.Cpu n = cpu n
 number_setting option.Nic n = nic n
 
 abbrev is_of : OptionWord → Setting → Bool
-is_of option.Tag (tag n) = true
-is_of option.Cpu (cpu n) = true
-is_of option.Nic (nic n) = true
-is_of _ _ = false
+is_of option.Tag s = is_tag s
+is_of option.Cpu s = is_cpu s
+is_of option.Nic s = is_nic s
 
 abbrev gives : OptionWord → List Setting → Bool
 gives o [] = false
@@ -309,11 +366,11 @@ At state.Send3 kept draft head ks =
     × In kept ks (label_tokens label ++ token.Send ∷ amount_token size ∷ token.To ∷ []) label × (draft ≡ drafted action.Send (amount size) None [] o)
 At state.Send4 kept draft head ks =
     (label : Option (List ℕ)) × (o : OptionWord) × (size : Amount) × (to : ℕ) × (ss : List Setting)
-    × In kept ks (item_tokens (send label size to ss)) label × (draft ≡ drafted action.Send (amount size) (Some to) ss o)
+    × In kept ks (item_tokens (send label size to ss)) label × (draft ≡ drafted action.Send (amount size) (Some to) ss o) × AreGivenOnce ss
 At state.Send5 kept draft head ks =
     (label : Option (List ℕ)) × (o : OptionWord) × (size : Amount) × (to : ℕ) × (ss : List Setting) × (w : OptionWord)
     × In kept ks (item_tokens (send label size to ss) ++ option_token w ∷ []) label × (gives w ss ≡ false)
-    × (draft ≡ mark w (drafted action.Send (amount size) (Some to) ss o))
+    × (draft ≡ mark w (drafted action.Send (amount size) (Some to) ss o)) × AreGivenOnce ss
 At state.Recv1 kept draft head ks = (label : Option (List ℕ)) × (o : OptionWord) × In kept ks (label_tokens label ++ token.Recv ∷ []) label × (draft ≡ begun action.Recv o)
 At state.Recv2 kept draft head ks =
     (label : Option (List ℕ)) × (o : OptionWord) × (size : Amount)
@@ -323,15 +380,15 @@ At state.Recv3 kept draft head ks =
     × In kept ks (label_tokens label ++ token.Recv ∷ amount_token size ∷ token.From ∷ []) label × (draft ≡ drafted action.Recv (amount size) None [] o)
 At state.Recv4 kept draft head ks =
     (label : Option (List ℕ)) × (o : OptionWord) × (size : Amount) × (from : Option ℕ) × (ss : List Setting)
-    × In kept ks (item_tokens (recv label size from ss)) label × (draft ≡ drafted action.Recv (amount size) from ss o)
+    × In kept ks (item_tokens (recv label size from ss)) label × (draft ≡ drafted action.Recv (amount size) from ss o) × AreGivenOnce ss
 At state.Recv5 kept draft head ks =
     (label : Option (List ℕ)) × (o : OptionWord) × (size : Amount) × (from : Option ℕ) × (ss : List Setting)
     × In kept ks (item_tokens (recv label size from ss) ++ token.Tag ∷ []) label × (gives option.Tag ss ≡ false)
-    × (draft ≡ mark option.Tag (drafted action.Recv (amount size) from ss o))
+    × (draft ≡ mark option.Tag (drafted action.Recv (amount size) from ss o)) × AreGivenOnce ss
 At state.Recv6 kept draft head ks =
     (label : Option (List ℕ)) × (o : OptionWord) × (size : Amount) × (from : Option ℕ) × (ss : List Setting) × (w : OptionWord)
     × In kept ks (item_tokens (recv label size from ss) ++ option_token w ∷ []) label × (gives w ss ≡ false)
-    × (draft ≡ mark w (drafted action.Recv (amount size) from ss o))
+    × (draft ≡ mark w (drafted action.Recv (amount size) from ss o)) × AreGivenOnce ss
 
 -- the plan of a rank, with a block more
 either_way : (a b : Bool) → (a || b) ≡ false → (a ≡ false) × (b ≡ false)
@@ -369,6 +426,39 @@ said_more w ps b plan said new same =
         let there : rank ≢ b.rank = grind (arith, nat_tests) in
         get_or-set_other ps b.rank rank plan empty_plan there ∙ said.each rank below ∙ sym (rank_of_other w.blocks b rank is)
 
+-- the rules, with a block more
+none_of_rank : (bs : List Block) (rank : ℕ) → list_any (nat_eq rank) (ranks_in bs) ≡ false → count_by (λ (b : Block). rank == b.rank) bs ≡ 0
+none_of_rank [] rank new = refl
+none_of_rank (b ∷ bs) rank new =
+    let parts = either_way (nat_eq rank b.rank) (list_any (nat_eq rank) (ranks_in bs)) new in
+    count_none (λ (c : Block). rank == c.rank) b bs parts.0 (none_of_rank bs rank parts.1)
+
+right_more : (w : Written) (b : Block) → AreRight w → b.rank < w.ranks → list_any (nat_eq b.rank) (ranks_in w.blocks) ≡ false → KeepsRules b →
+    AreRight (record { ranks = w.ranks; blocks = w.blocks ++ b ∷ [] })
+right_more w b right below new keeps =
+    record {
+      ranks = All-push (λ (c : Block). c.rank < w.ranks) w.blocks b right.ranks below;
+      once = λ rank. count_one (λ (c : Block). rank == c.rank) w.blocks b
+          (λ is. let same : b.rank ≡ rank = grind (arith, nat_tests) in none_of_rank w.blocks rank (subst (λ (r : ℕ). list_any (nat_eq r) (ranks_in w.blocks) ≡ false) same new))
+          (right.once rank);
+      blocks = All-push KeepsRules w.blocks b right.blocks keeps;
+    }
+
+-- the labels that are used pass the test
+used_pass : (test : List ℕ → Bool) (us : List Mention) → first_outside test us ≡ None → AllByRecursion (λ (l : List ℕ). test l ≡ true) (labels_in us)
+unfolding first_outside
+used_pass test [] none = tt
+used_pass test (u ∷ us) none = by (test u.label) refl none (used_pass test us)
+  where
+    by : (b : Bool) → test u.label ≡ b → (if b then first_outside test us else Some u.at) ≡ None →
+        (first_outside test us ≡ None → AllByRecursion (λ (l : List ℕ). test l ≡ true) (labels_in us)) → (test u.label ≡ true) × AllByRecursion (λ (l : List ℕ). test l ≡ true) (labels_in us)
+    by true is rest more = (is, more rest)
+    by false is rest more = cc
+
+none_found : (o : Option ℕ) → option_map UnknownLabel o ≡ None → o ≡ None
+none_found None none = refl
+none_found (Some at) none = cc
+
 -- an item begins where no action is open, or a block ends
 module _ (kept : Kept) (draft : Draft) (head : ItemHead) (ks : List TokenKind) (inside : In kept ks [] None) where
   plan_is : plan_with state.Item draft kept ≡ plan_said inside.items
@@ -384,9 +474,21 @@ module _ (kept : Kept) (draft : Draft) (head : ItemHead) (ks : List TokenKind) (
       ∙ ap (λ (ds : List Definition). flat_map (note_said ds) items) labels in
       λ i. record { ops = inside.ops i; deps = deps i; notes = notes i }
 
-  closed : Out (kept_with state.Item token.Close draft head kept) (ks ++ token.Close ∷ []) []
-  unfolding blocks_with rank_with ops_with ends_action defined_with deps_with notes_with plans_with
-  closed =
+  rules_kept : first_unknown kept.defined kept.used ≡ None → KeepsRules (record { rank = kept.rank; items = inside.items })
+  rules_kept found =
+      let items = inside.items in
+      let labels : kept.defined ≡ definitions 0 items = inside.defined ∙ append-nil (definitions 0 items) in
+      let pass = All-from_recursion (λ (l : List ℕ). is_defined kept.defined l ≡ true) (labels_in kept.used) (used_pass (is_defined kept.defined) kept.used found) in
+      record {
+        once = λ label. subst (λ (ds : List Definition). count_by (is_label label) ds ≤ 1) labels (inside.once label);
+        defined = subst (λ (ds : List Definition). All (λ (l : List ℕ). is_defined ds l ≡ true) (flat_map used_by items)) labels
+            (subst (All (λ (l : List ℕ). is_defined kept.defined l ≡ true)) inside.used pass);
+        options = inside.options;
+      }
+
+  closed : (at : ℕ) → first_unknown kept.defined kept.used ≡ None → Out (kept_with state.Item token.Close at draft head kept) (ks ++ token.Close ∷ []) []
+  unfolding ranks_with used_with blocks_with rank_with ops_with ends_action defined_with deps_with notes_with plans_with
+  closed at found =
       let w = inside.written in
       let block : Block = record { rank = kept.rank; items = inside.items } in
       let front = text_tokens w in
@@ -398,24 +500,28 @@ module _ (kept : Kept) (draft : Draft) (head : ItemHead) (ks : List TokenKind) (
             ∙ append_assoc front (open_block ++ (items ++ [])) (token.Close ∷ [])
             ∙ ap (λ (xs : List TokenKind). front ++ (open_block ++ (xs ++ token.Close ∷ []))) (append-nil items)
             ∙ ap (λ (xs : List TokenKind). token.NumRanks ∷ token.Number w.ranks ∷ xs) (flat_more block_tokens w.blocks block ∙ sym (append-nil (flat_map block_tokens (w.blocks ++ block ∷ []))));
+        right = right_more w block inside.right inside.below inside.new (rules_kept found);
+        ranks = inside.ranks;
         said = said_more w kept.plans block (plan_with state.Item draft kept) inside.said inside.new plan_is;
         blocks = inside.blocks ∙ sym (map-append (λ (b : Block). b.rank) w.blocks (block ∷ []));
-        clear = record { ops = refl; defined = refl; deps = refl; notes = refl };
+        clear = record { ops = refl; defined = refl; used = refl; deps = refl; notes = refl };
       }
 
-  step_item : (k : TokenKind) (at : ℕ) → is_none (item_entry k) ≡ false →
-      At (unwrap_or (item_entry k) state.Item) (kept_with state.Item k draft head kept) (draft_with state.Item k draft) (head_with state.Item k at head) (ks ++ k ∷ [])
-  unfolding blocks_with rank_with draft_with head_with ops_with ends_action defined_with deps_with notes_with plans_with
-  step_item token.Close at known = closed
-  step_item (token.Label label) at known = (label, (at, refl), stay kept ks [] None inside (token.Label label) (token.Label label ∷ []) refl)
-  step_item token.Calc at known = (None, draft.option, stay kept ks [] None inside token.Calc (token.Calc ∷ []) refl, refl)
-  step_item token.Send at known = (None, draft.option, stay kept ks [] None inside token.Send (token.Send ∷ []) refl, refl)
-  step_item token.Recv at known = (None, draft.option, stay kept ks [] None inside token.Recv (token.Recv ∷ []) refl, refl)
-  step_item _ at known = absurd (true≢false known)
+  step_item : (k : TokenKind) (at : ℕ) → is_none (item_entry k) ≡ false → unknown_fault_of kept.defined kept.used k ≡ None →
+      At (unwrap_or (item_entry k) state.Item) (kept_with state.Item k at draft head kept) (draft_with state.Item k draft) (head_with state.Item k at head) (ks ++ k ∷ [])
+  unfolding ranks_with used_with blocks_with rank_with draft_with head_with ops_with ends_action defined_with deps_with notes_with plans_with
+  step_item token.Close at known found = closed at (none_found (first_unknown kept.defined kept.used) found)
+  step_item (token.Label label) at known found = (label, (at, refl), stay kept ks [] None inside (token.Label label) (token.Label label ∷ []) refl)
+  step_item token.Calc at known found = (None, draft.option, stay kept ks [] None inside token.Calc (token.Calc ∷ []) refl, refl)
+  step_item token.Send at known found = (None, draft.option, stay kept ks [] None inside token.Send (token.Send ∷ []) refl, refl)
+  step_item token.Recv at known found = (None, draft.option, stay kept ks [] None inside token.Recv (token.Recv ∷ []) refl, refl)
+  step_item _ at known found = absurd (true≢false known)
 
 -- the same behind an action, which then is complete
 abbrev with_op : Draft → Kept → Kept
 with_op draft kept = record {
+  ranks = kept.ranks;
+  used = kept.used;
   blocks = kept.blocks;
   rank = kept.rank;
   ops = kept.ops ++ op_of draft ∷ [];
@@ -426,35 +532,35 @@ with_op draft kept = record {
 }
 
 module _ (kept : Kept) (draft : Draft) (head : ItemHead) (ks : List TokenKind) (inside : In (with_op draft kept) ks [] None) where
-  step_calc : (k : TokenKind) (at : ℕ) → is_none (item_entry k) ≡ false →
-      At (unwrap_or (item_entry k) state.Calc2) (kept_with state.Calc2 k draft head kept) (draft_with state.Calc2 k draft) (head_with state.Calc2 k at head) (ks ++ k ∷ [])
-  unfolding blocks_with rank_with draft_with head_with ops_with ends_action defined_with deps_with notes_with plans_with
-  step_calc token.Close at known = step_item (with_op draft kept) draft head ks inside token.Close at refl
-  step_calc (token.Label label) at known = step_item (with_op draft kept) draft head ks inside (token.Label label) at refl
-  step_calc token.Calc at known = step_item (with_op draft kept) draft head ks inside token.Calc at refl
-  step_calc token.Send at known = step_item (with_op draft kept) draft head ks inside token.Send at refl
-  step_calc token.Recv at known = step_item (with_op draft kept) draft head ks inside token.Recv at refl
-  step_calc _ at known = absurd (true≢false known)
+  step_calc : (k : TokenKind) (at : ℕ) → is_none (item_entry k) ≡ false → unknown_fault_of kept.defined kept.used k ≡ None →
+      At (unwrap_or (item_entry k) state.Calc2) (kept_with state.Calc2 k at draft head kept) (draft_with state.Calc2 k draft) (head_with state.Calc2 k at head) (ks ++ k ∷ [])
+  unfolding ranks_with used_with blocks_with rank_with draft_with head_with ops_with ends_action defined_with deps_with notes_with plans_with
+  step_calc token.Close at known found = step_item (with_op draft kept) draft head ks inside token.Close at refl found
+  step_calc (token.Label label) at known found = step_item (with_op draft kept) draft head ks inside (token.Label label) at refl found
+  step_calc token.Calc at known found = step_item (with_op draft kept) draft head ks inside token.Calc at refl found
+  step_calc token.Send at known found = step_item (with_op draft kept) draft head ks inside token.Send at refl found
+  step_calc token.Recv at known found = step_item (with_op draft kept) draft head ks inside token.Recv at refl found
+  step_calc _ at known found = absurd (true≢false known)
 
-  step_send : (k : TokenKind) (at : ℕ) → is_none (item_entry k) ≡ false →
-      At (unwrap_or (item_entry k) state.Send4) (kept_with state.Send4 k draft head kept) (draft_with state.Send4 k draft) (head_with state.Send4 k at head) (ks ++ k ∷ [])
-  unfolding blocks_with rank_with draft_with head_with ops_with ends_action defined_with deps_with notes_with plans_with
-  step_send token.Close at known = step_item (with_op draft kept) draft head ks inside token.Close at refl
-  step_send (token.Label label) at known = step_item (with_op draft kept) draft head ks inside (token.Label label) at refl
-  step_send token.Calc at known = step_item (with_op draft kept) draft head ks inside token.Calc at refl
-  step_send token.Send at known = step_item (with_op draft kept) draft head ks inside token.Send at refl
-  step_send token.Recv at known = step_item (with_op draft kept) draft head ks inside token.Recv at refl
-  step_send _ at known = absurd (true≢false known)
+  step_send : (k : TokenKind) (at : ℕ) → is_none (item_entry k) ≡ false → unknown_fault_of kept.defined kept.used k ≡ None →
+      At (unwrap_or (item_entry k) state.Send4) (kept_with state.Send4 k at draft head kept) (draft_with state.Send4 k draft) (head_with state.Send4 k at head) (ks ++ k ∷ [])
+  unfolding ranks_with used_with blocks_with rank_with draft_with head_with ops_with ends_action defined_with deps_with notes_with plans_with
+  step_send token.Close at known found = step_item (with_op draft kept) draft head ks inside token.Close at refl found
+  step_send (token.Label label) at known found = step_item (with_op draft kept) draft head ks inside (token.Label label) at refl found
+  step_send token.Calc at known found = step_item (with_op draft kept) draft head ks inside token.Calc at refl found
+  step_send token.Send at known found = step_item (with_op draft kept) draft head ks inside token.Send at refl found
+  step_send token.Recv at known found = step_item (with_op draft kept) draft head ks inside token.Recv at refl found
+  step_send _ at known found = absurd (true≢false known)
 
-  step_recv : (k : TokenKind) (at : ℕ) → is_none (item_entry k) ≡ false →
-      At (unwrap_or (item_entry k) state.Recv4) (kept_with state.Recv4 k draft head kept) (draft_with state.Recv4 k draft) (head_with state.Recv4 k at head) (ks ++ k ∷ [])
-  unfolding blocks_with rank_with draft_with head_with ops_with ends_action defined_with deps_with notes_with plans_with
-  step_recv token.Close at known = step_item (with_op draft kept) draft head ks inside token.Close at refl
-  step_recv (token.Label label) at known = step_item (with_op draft kept) draft head ks inside (token.Label label) at refl
-  step_recv token.Calc at known = step_item (with_op draft kept) draft head ks inside token.Calc at refl
-  step_recv token.Send at known = step_item (with_op draft kept) draft head ks inside token.Send at refl
-  step_recv token.Recv at known = step_item (with_op draft kept) draft head ks inside token.Recv at refl
-  step_recv _ at known = absurd (true≢false known)
+  step_recv : (k : TokenKind) (at : ℕ) → is_none (item_entry k) ≡ false → unknown_fault_of kept.defined kept.used k ≡ None →
+      At (unwrap_or (item_entry k) state.Recv4) (kept_with state.Recv4 k at draft head kept) (draft_with state.Recv4 k draft) (head_with state.Recv4 k at head) (ks ++ k ∷ [])
+  unfolding ranks_with used_with blocks_with rank_with draft_with head_with ops_with ends_action defined_with deps_with notes_with plans_with
+  step_recv token.Close at known found = step_item (with_op draft kept) draft head ks inside token.Close at refl found
+  step_recv (token.Label label) at known found = step_item (with_op draft kept) draft head ks inside (token.Label label) at refl found
+  step_recv token.Calc at known found = step_item (with_op draft kept) draft head ks inside token.Calc at refl found
+  step_recv token.Send at known found = step_item (with_op draft kept) draft head ks inside token.Send at refl found
+  step_recv token.Recv at known found = step_item (with_op draft kept) draft head ks inside token.Recv at refl found
+  step_recv _ at known found = absurd (true≢false known)
 
 -- an option that the action has not given before
 tag_now : (ss : List Setting) (n : Option ℕ) → gives option.Tag ss ≡ false → tag_of (ss ++ tag n ∷ []) ≡ n
@@ -564,6 +670,34 @@ module _ (a : Action) (size : ℕ) (peer : Option ℕ) (ss : List Setting) (o : 
   settled option.Cpu n new = with_cpu n new
   settled option.Nic n new = with_nic n new
 
+-- each option once
+none_given : AreGivenOnce []
+none_given = record { tags = omega arith; cpus = omega arith; nics = omega arith }
+
+gives_none : (w : OptionWord) (ss : List Setting) → gives w ss ≡ false → count_by (is_of w) ss ≡ 0
+gives_none w [] new = refl
+gives_none w (s ∷ ss) new =
+    let parts = either_way (is_of w s) (gives w ss) new in
+    count_none (is_of w) s ss parts.0 (gives_none w ss parts.1)
+
+given_by : (x : Setting) (ss : List Setting) → AreGivenOnce ss → (is_tag x ≡ true → count_by is_tag ss ≡ 0) → (is_cpu x ≡ true → count_by is_cpu ss ≡ 0) →
+    (is_nic x ≡ true → count_by is_nic ss ≡ 0) → AreGivenOnce (ss ++ x ∷ [])
+given_by x ss given tags cpus nics = record {
+  tags = count_one is_tag ss x tags given.tags;
+  cpus = count_one is_cpu ss x cpus given.cpus;
+  nics = count_one is_nic ss x nics given.nics;
+}
+
+given_tag : (n : Option ℕ) (ss : List Setting) → gives option.Tag ss ≡ false → AreGivenOnce ss → AreGivenOnce (ss ++ tag n ∷ [])
+given_tag n ss new given = given_by (tag n) ss given (λ is. gives_none option.Tag ss new) (λ is. absurd (true≢false (sym is))) (λ is. absurd (true≢false (sym is)))
+
+given_more : (w : OptionWord) (n : ℕ) (ss : List Setting) → gives w ss ≡ false → AreGivenOnce ss → AreGivenOnce (ss ++ number_setting w n ∷ [])
+given_more option.Tag n ss new given = given_tag (Some n) ss new given
+given_more option.Cpu n ss new given =
+    given_by (cpu n) ss given (λ is. absurd (true≢false (sym is))) (λ is. gives_none option.Cpu ss new) (λ is. absurd (true≢false (sym is)))
+given_more option.Nic n ss new given =
+    given_by (nic n) ss given (λ is. absurd (true≢false (sym is))) (λ is. absurd (true≢false (sym is))) (λ is. gives_none option.Nic ss new)
+
 setting_is : (w : OptionWord) (n : ℕ) → option_token w ∷ token.Number n ∷ [] ≡ setting_tokens (number_setting w n)
 setting_is option.Tag n = refl
 setting_is option.Cpu n = refl
@@ -588,72 +722,102 @@ calc_op nanos (Some n) o = refl
 -- an action is complete
 module _ (kept : Kept) (draft : Draft) (ks : List TokenKind) (label : Option (List ℕ)) where
   acted : (item : Item) → In kept ks (item_tokens item) label → op_of draft ∷ [] ≡ op_said item → [] ≡ dep_named item → [] ≡ note_named item →
-      ((n : ℕ) → defined_before label n ≡ defined_by item n) → In (with_op draft kept) ks [] None
-  acted item inside same no_dep no_note same_label =
-      complete kept ks (item_tokens item) label inside item (kept.ops ++ op_of draft ∷ []) kept.deps kept.notes refl
+      ((n : ℕ) → defined_before label n ≡ defined_by item n) → [] ≡ used_by item → HasOptionsOnce item → In (with_op draft kept) ks [] None
+  acted item inside same no_dep no_note same_label no_use once =
+      complete kept ks (item_tokens item) label inside item (kept.ops ++ op_of draft ∷ []) kept.deps kept.notes kept.used refl
       (ap (λ (os : List Op). kept.ops ++ os) same)
       (sym (append-nil kept.deps) ∙ ap (λ (ds : List NamedDep). kept.deps ++ ds) no_dep)
       (sym (append-nil kept.notes) ∙ ap (λ (ns : List NamedNote). kept.notes ++ ns) no_note)
       same_label
+      (sym (append-nil (labels_in kept.used)) ∙ ap (λ (ls : List (List ℕ)). labels_in kept.used ++ ls) no_use) once
+
+-- a rank that is given by this token is below the number of ranks
+abbrev IsBelow : State → ℕ → TokenKind → Type 0
+IsBelow state.Block ranks (token.Number n) = n < ranks
+IsBelow _ ranks _ = ⊤
+
+-- the tests of ranks and labels that a token passes
+record Fits (s : State) (kept : Kept) (head : ItemHead) (k : TokenKind) : Type 0 where
+  new : IsNewRank s kept.blocks k
+  below : IsBelow s kept.ranks k
+  fresh : label_fault_of kept.defined head.subject k ≡ None
+  found : unknown_fault_of kept.defined kept.used k ≡ None
 
 -- what a token makes of what the tokens before it are, where it passes these tests
 abbrev Steps : State → Type 0
 Steps s = (k : TokenKind) (at : ℕ) (kept : Kept) (draft : Draft) (head : ItemHead) (ks : List TokenKind) →
-    is_none (entry s k) ≡ false → has_option k draft ≡ false → IsNewRank s kept.blocks k → At s kept draft head ks →
-    At (behind s k) (kept_with s k draft head kept) (draft_with s k draft) (head_with s k at head) (ks ++ k ∷ [])
+    is_none (entry s k) ≡ false → has_option k draft ≡ false → Fits s kept head k → At s kept draft head ks →
+    At (behind s k) (kept_with s k at draft head kept) (draft_with s k draft) (head_with s k at head) (ks ++ k ∷ [])
+
+none_written : (n : ℕ) → AreRight (record { ranks = n; blocks = [] })
+none_written n = record {
+  ranks = All-from_recursion (λ (b : Block). b.rank < n) [] tt;
+  once = λ rank. omega arith;
+  blocks = All-from_recursion KeepsRules [] tt;
+}
 
 empty_said : (n : ℕ) → AreSaid (record { ranks = n; blocks = [] }) (replicate n empty_plan)
 empty_said n = record { ranks = length-replicate n empty_plan; each = λ rank below. get_or-replicate n rank empty_plan empty_plan below }
 
 step_start : Steps state.Start
-unfolding entry blocks_with rank_with draft_with head_with ops_with ends_action defined_with deps_with notes_with plans_with
-step_start token.NumRanks at kept draft head ks known once new here = (ap (λ (xs : List TokenKind). xs ++ token.NumRanks ∷ []) here.0, here.1, here.2)
-step_start _ at kept draft head ks known once new here = absurd (true≢false known)
+unfolding entry ranks_with used_with blocks_with rank_with draft_with head_with ops_with ends_action defined_with deps_with notes_with plans_with
+step_start token.NumRanks at kept draft head ks known once fits here = (ap (λ (xs : List TokenKind). xs ++ token.NumRanks ∷ []) here.0, here.1, here.2)
+step_start _ at kept draft head ks known once fits here = absurd (true≢false known)
 
 step_ranks : Steps state.Ranks
-unfolding entry blocks_with rank_with draft_with head_with ops_with ends_action defined_with deps_with notes_with plans_with
-step_ranks (token.Number n) at kept draft head ks known once new here =
+unfolding entry ranks_with used_with blocks_with rank_with draft_with head_with ops_with ends_action defined_with deps_with notes_with plans_with
+step_ranks (token.Number n) at kept draft head ks known once fits here =
     record {
       written = record { ranks = n; blocks = [] };
       spelled = ap (λ (xs : List TokenKind). xs ++ token.Number n ∷ []) here.0;
+      right = none_written n;
+      ranks = refl;
       said = empty_said n;
       blocks = here.2;
-      clear = record { ops = here.1.ops; defined = here.1.defined; deps = here.1.deps; notes = here.1.notes };
+      clear = record { ops = here.1.ops; defined = here.1.defined; used = here.1.used; deps = here.1.deps; notes = here.1.notes };
     }
-step_ranks _ at kept draft head ks known once new here = absurd (true≢false known)
+step_ranks _ at kept draft head ks known once fits here = absurd (true≢false known)
 
 step_top : Steps state.Top
-unfolding entry blocks_with rank_with draft_with head_with ops_with ends_action defined_with deps_with notes_with plans_with
-step_top token.Rank at kept draft head ks known once new here =
+unfolding entry ranks_with used_with blocks_with rank_with draft_with head_with ops_with ends_action defined_with deps_with notes_with plans_with
+step_top token.Rank at kept draft head ks known once fits here =
     record {
       written = here.written;
       spelled = ap (λ (xs : List TokenKind). xs ++ token.Rank ∷ []) here.spelled ∙ append_assoc (text_tokens here.written) [] (token.Rank ∷ []);
+      right = here.right;
+      ranks = here.ranks;
       said = here.said;
       blocks = here.blocks;
       clear = here.clear;
     }
-step_top _ at kept draft head ks known once new here = absurd (true≢false known)
+step_top _ at kept draft head ks known once fits here = absurd (true≢false known)
 
 step_block : Steps state.Block
-unfolding entry blocks_with rank_with draft_with head_with ops_with ends_action defined_with deps_with notes_with plans_with
-step_block (token.Number n) at kept draft head ks known once new here =
+unfolding entry ranks_with used_with blocks_with rank_with draft_with head_with ops_with ends_action defined_with deps_with notes_with plans_with
+step_block (token.Number n) at kept draft head ks known once fits here =
     record {
       written = here.written;
       spelled = ap (λ (xs : List TokenKind). xs ++ token.Number n ∷ []) here.spelled ∙ append_assoc (text_tokens here.written) (token.Rank ∷ []) (token.Number n ∷ []);
       said = here.said;
       blocks = ap (λ (bs : List ℕ). bs ++ n ∷ []) here.blocks;
-      new = subst (λ (bs : List ℕ). list_any (nat_eq n) bs ≡ false) here.blocks new;
-      clear = record { ops = here.clear.ops; defined = here.clear.defined; deps = here.clear.deps; notes = here.clear.notes };
+      new = subst (λ (bs : List ℕ). list_any (nat_eq n) bs ≡ false) here.blocks fits.new;
+      right = here.right;
+      ranks = here.ranks;
+      below = subst (λ (r : ℕ). n < r) here.ranks fits.below;
+      clear = record { ops = here.clear.ops; defined = here.clear.defined; used = here.clear.used; deps = here.clear.deps; notes = here.clear.notes };
     }
-step_block _ at kept draft head ks known once new here = absurd (true≢false known)
+step_block _ at kept draft head ks known once fits here = absurd (true≢false known)
 
 step_open : Steps state.Open
-unfolding entry blocks_with rank_with draft_with head_with ops_with ends_action defined_with deps_with notes_with plans_with
-step_open token.Open at kept draft head ks known once new here =
+unfolding entry ranks_with used_with blocks_with rank_with draft_with head_with ops_with ends_action defined_with deps_with notes_with plans_with
+step_open token.Open at kept draft head ks known once fits here =
     record {
       written = here.written;
       items = [];
       spelled = ap (λ (xs : List TokenKind). xs ++ token.Open ∷ []) here.spelled ∙ append_assoc (text_tokens here.written) (token.Rank ∷ token.Number kept.rank ∷ []) (token.Open ∷ []);
+      right = here.right;
+      ranks = here.ranks;
+      below = here.below;
       said = here.said;
       blocks = here.blocks;
       new = here.new;
@@ -661,19 +825,43 @@ step_open token.Open at kept draft head ks known once new here =
       defined = here.clear.defined;
       deps = here.clear.deps;
       notes = here.clear.notes;
+      used = ap labels_in here.clear.used;
+      once = λ label. subst (λ (ds : List Definition). count_by (is_label label) ds ≤ 1) (sym here.clear.defined) (omega arith);
+      options = All-from_recursion HasOptionsOnce [] tt;
     }
-step_open _ at kept draft head ks known once new here = absurd (true≢false known)
+step_open _ at kept draft head ks known once fits here = absurd (true≢false known)
+
+-- a label that is not defined yet
+not_among : (ds : List Definition) (label : List ℕ) → is_defined ds label ≡ false → count_by (is_label label) ds ≡ 0
+unfolding defined_as
+not_among [] label new = refl
+not_among (d ∷ ds) label new = by (bytes_eq label d.label) refl new (not_among ds label)
+  where
+    by : (b : Bool) → bytes_eq label d.label ≡ b → is_some (if b then Some d.op else defined_as ds label) ≡ false → (is_defined ds label ≡ false → count_by (is_label label) ds ≡ 0) →
+        count_by (is_label label) (d ∷ ds) ≡ 0
+    by true is none more = absurd (true≢false none)
+    by false is none more = count_none (is_label label) d ds is (more none)
+
+defined_once : (ds : List Definition) (label : List ℕ) (op : ℕ) → ((other : List ℕ) → count_by (is_label other) ds ≤ 1) → is_defined ds label ≡ false →
+    (other : List ℕ) → count_by (is_label other) (ds ++ record { label = label; op = op } ∷ []) ≤ 1
+defined_once ds label op once new other =
+    count_one (is_label other) ds (record { label = label; op = op })
+    (λ is. not_among ds other (subst (λ (l : List ℕ). is_defined ds l ≡ false) (sym ((bytes_eq-Decides other label).0 is)) new))
+    (once other)
 
 module _ (label : List ℕ) (kept : Kept) (ks : List TokenKind) (inside : In kept ks (token.Label label ∷ []) None) where
   -- a colon defines the label
-  defines : (subject : Option Mention) (at : ℕ) → subject ≡ Some (record { label = label; at = at }) →
+  defines : (subject : Option Mention) (at : ℕ) → subject ≡ Some (record { label = label; at = at }) → defined_fault kept.defined subject ≡ None →
       In (record kept { defined = define subject (length kept.ops) kept.defined }) (ks ++ token.Colon ∷ []) (token.Label label ∷ token.Colon ∷ []) (Some label)
-  defines subject at is =
+  defines subject at is fresh =
       let stayed = stay kept ks (token.Label label ∷ []) None inside token.Colon (token.Label label ∷ token.Colon ∷ []) refl in
       record {
         written = stayed.written;
         items = stayed.items;
         spelled = stayed.spelled;
+        right = stayed.right;
+        ranks = stayed.ranks;
+        below = stayed.below;
         said = stayed.said;
         blocks = stayed.blocks;
         new = stayed.new;
@@ -682,78 +870,95 @@ module _ (label : List ℕ) (kept : Kept) (ks : List TokenKind) (inside : In kep
             ∙ ap (λ (ds : List Definition). ds ++ record { label = label; op = length kept.ops } ∷ []) (stayed.defined ∙ append-nil (definitions 0 stayed.items));
         deps = stayed.deps;
         notes = stayed.notes;
+        used = stayed.used;
+        once = λ other. subst (λ (s : Option Mention). count_by (is_label other) (define s (length kept.ops) kept.defined) ≤ 1) (sym is)
+            (defined_once kept.defined label (length kept.ops) stayed.once
+            (not_so (is_defined kept.defined label) (Repeat at) (subst (λ (s : Option Mention). defined_fault kept.defined s ≡ None) is fresh)) other);
+        options = stayed.options;
       }
 
 step_word : Steps state.Word
-unfolding entry blocks_with rank_with draft_with head_with ops_with ends_action defined_with deps_with notes_with plans_with
-step_word token.Colon at kept draft head ks known once new here = (here.0, defines here.0 kept ks here.2 head.subject here.1.0 here.1.1)
-step_word token.Requires at kept draft head ks known once new here = (here.0, here.1, tt, stay kept ks (token.Label here.0 ∷ []) None here.2 token.Requires (token.Label here.0 ∷ token.Requires ∷ []) refl)
-step_word token.Irequires at kept draft head ks known once new here = (here.0, here.1, tt, stay kept ks (token.Label here.0 ∷ []) None here.2 token.Irequires (token.Label here.0 ∷ token.Irequires ∷ []) refl)
-step_word token.Moves at kept draft head ks known once new here = (here.0, here.1, tt, stay kept ks (token.Label here.0 ∷ []) None here.2 token.Moves (token.Label here.0 ∷ token.Moves ∷ []) refl)
-step_word token.Adds at kept draft head ks known once new here = (here.0, here.1, tt, stay kept ks (token.Label here.0 ∷ []) None here.2 token.Adds (token.Label here.0 ∷ token.Adds ∷ []) refl)
-step_word _ at kept draft head ks known once new here = absurd (true≢false known)
+unfolding entry ranks_with used_with blocks_with rank_with draft_with head_with ops_with ends_action defined_with deps_with notes_with plans_with
+step_word token.Colon at kept draft head ks known once fits here = (here.0, defines here.0 kept ks here.2 head.subject here.1.0 here.1.1 fits.fresh)
+step_word token.Requires at kept draft head ks known once fits here = (here.0, here.1, tt, stay kept ks (token.Label here.0 ∷ []) None here.2 token.Requires (token.Label here.0 ∷ token.Requires ∷ []) refl)
+step_word token.Irequires at kept draft head ks known once fits here = (here.0, here.1, tt, stay kept ks (token.Label here.0 ∷ []) None here.2 token.Irequires (token.Label here.0 ∷ token.Irequires ∷ []) refl)
+step_word token.Moves at kept draft head ks known once fits here = (here.0, here.1, tt, stay kept ks (token.Label here.0 ∷ []) None here.2 token.Moves (token.Label here.0 ∷ token.Moves ∷ []) refl)
+step_word token.Adds at kept draft head ks known once fits here = (here.0, here.1, tt, stay kept ks (token.Label here.0 ∷ []) None here.2 token.Adds (token.Label here.0 ∷ token.Adds ∷ []) refl)
+step_word _ at kept draft head ks known once fits here = absurd (true≢false known)
 
 -- a dependency and a note are complete
 module _ (kept : Kept) (ks : List TokenKind) (label : List ℕ) (subject : Option Mention) (at : ℕ) (is : subject ≡ Some (record { label = label; at = at })) where
-  depends : (earlier : List ℕ) (v : Verb) → IsOrder v → In kept ks (token.Label label ∷ verb_token v ∷ token.Label earlier ∷ []) None →
-      In (record kept { deps = dep_ended state.Label subject v earlier kept.deps }) ks [] None
-  depends earlier verb.Requires order inside =
-      complete kept ks (item_tokens (requires label earlier)) None inside (requires label earlier) kept.ops (dep_ended state.Label subject verb.Requires earlier kept.deps) kept.notes refl
-      (sym (append-nil kept.ops)) (ap (λ (s : Option Mention). dep_ended state.Label s verb.Requires earlier kept.deps) is) (sym (append-nil kept.notes)) (λ n. refl)
-  depends earlier verb.Irequires order inside =
-      complete kept ks (item_tokens (irequires label earlier)) None inside (irequires label earlier) kept.ops (dep_ended state.Label subject verb.Irequires earlier kept.deps) kept.notes refl
-      (sym (append-nil kept.ops)) (ap (λ (s : Option Mention). dep_ended state.Label s verb.Irequires earlier kept.deps) is) (sym (append-nil kept.notes)) (λ n. refl)
-  depends earlier _ order inside = absurd order
+  uses_one : labels_in (note_uses state.Note3 subject kept.used) ≡ labels_in kept.used ++ label ∷ []
+  uses_one =
+      ap (λ (s : Option Mention). labels_in (note_uses state.Note3 s kept.used)) is ∙ map-append (λ (u : Mention). u.label) kept.used (record { label = label; at = at } ∷ [])
+
+  uses_two : (earlier : List ℕ) (place : ℕ) →
+      labels_in (dep_uses state.Label subject (record { label = earlier; at = place }) kept.used) ≡ labels_in kept.used ++ label ∷ earlier ∷ []
+  uses_two earlier place =
+      ap (λ (s : Option Mention). labels_in (dep_uses state.Label s (record { label = earlier; at = place }) kept.used)) is
+      ∙ map-append (λ (u : Mention). u.label) (kept.used ++ record { label = label; at = at } ∷ []) (record { label = earlier; at = place } ∷ [])
+      ∙ ap (λ (ls : List (List ℕ)). ls ++ earlier ∷ []) (map-append (λ (u : Mention). u.label) kept.used (record { label = label; at = at } ∷ []))
+      ∙ append_assoc (labels_in kept.used) (label ∷ []) (earlier ∷ [])
+
+  depends : (earlier : List ℕ) (place : ℕ) (v : Verb) → IsOrder v → In kept ks (token.Label label ∷ verb_token v ∷ token.Label earlier ∷ []) None →
+      In (record kept { used = dep_uses state.Label subject (record { label = earlier; at = place }) kept.used; deps = dep_ended state.Label subject v earlier kept.deps }) ks [] None
+  depends earlier place verb.Requires order inside =
+      complete kept ks (item_tokens (requires label earlier)) None inside (requires label earlier) kept.ops (dep_ended state.Label subject verb.Requires earlier kept.deps) kept.notes (dep_uses state.Label subject (record { label = earlier; at = place }) kept.used) refl
+      (sym (append-nil kept.ops)) (ap (λ (s : Option Mention). dep_ended state.Label s verb.Requires earlier kept.deps) is) (sym (append-nil kept.notes)) (λ n. refl) (uses_two earlier place) tt
+  depends earlier place verb.Irequires order inside =
+      complete kept ks (item_tokens (irequires label earlier)) None inside (irequires label earlier) kept.ops (dep_ended state.Label subject verb.Irequires earlier kept.deps) kept.notes (dep_uses state.Label subject (record { label = earlier; at = place }) kept.used) refl
+      (sym (append-nil kept.ops)) (ap (λ (s : Option Mention). dep_ended state.Label s verb.Irequires earlier kept.deps) is) (sym (append-nil kept.notes)) (λ n. refl) (uses_two earlier place) tt
+  depends earlier place _ order inside = absurd order
 
   notes_on : (low n : ℕ) (v : Verb) → IsNote v → In kept ks (token.Label label ∷ verb_token v ∷ token.Number low ∷ token.To ∷ token.Number n ∷ []) None →
-      In (record kept { notes = note_ended state.Note3 subject v low n kept.notes }) ks [] None
+      In (record kept { used = note_uses state.Note3 subject kept.used; notes = note_ended state.Note3 subject v low n kept.notes }) ks [] None
   notes_on low n verb.Moves note inside =
-      complete kept ks (item_tokens (moves label low n)) None inside (moves label low n) kept.ops kept.deps (note_ended state.Note3 subject verb.Moves low n kept.notes) refl
-      (sym (append-nil kept.ops)) (sym (append-nil kept.deps)) (ap (λ (s : Option Mention). note_ended state.Note3 s verb.Moves low n kept.notes) is) (λ n. refl)
+      complete kept ks (item_tokens (moves label low n)) None inside (moves label low n) kept.ops kept.deps (note_ended state.Note3 subject verb.Moves low n kept.notes) (note_uses state.Note3 subject kept.used) refl
+      (sym (append-nil kept.ops)) (sym (append-nil kept.deps)) (ap (λ (s : Option Mention). note_ended state.Note3 s verb.Moves low n kept.notes) is) (λ n. refl) uses_one tt
   notes_on low n verb.Adds note inside =
-      complete kept ks (item_tokens (adds label low n)) None inside (adds label low n) kept.ops kept.deps (note_ended state.Note3 subject verb.Adds low n kept.notes) refl
-      (sym (append-nil kept.ops)) (sym (append-nil kept.deps)) (ap (λ (s : Option Mention). note_ended state.Note3 s verb.Adds low n kept.notes) is) (λ n. refl)
+      complete kept ks (item_tokens (adds label low n)) None inside (adds label low n) kept.ops kept.deps (note_ended state.Note3 subject verb.Adds low n kept.notes) (note_uses state.Note3 subject kept.used) refl
+      (sym (append-nil kept.ops)) (sym (append-nil kept.deps)) (ap (λ (s : Option Mention). note_ended state.Note3 s verb.Adds low n kept.notes) is) (λ n. refl) uses_one tt
   notes_on low n _ note inside = absurd note
 
 step_label : Steps state.Label
-unfolding entry blocks_with rank_with draft_with head_with ops_with ends_action defined_with deps_with notes_with plans_with
-step_label (token.Label earlier) at kept draft head ks known once new here =
-    depends kept (ks ++ token.Label earlier ∷ []) here.0 head.subject here.1.0 here.1.1 earlier head.verb here.2
+unfolding entry ranks_with used_with blocks_with rank_with draft_with head_with ops_with ends_action defined_with deps_with notes_with plans_with
+step_label (token.Label earlier) at kept draft head ks known once fits here =
+    depends kept (ks ++ token.Label earlier ∷ []) here.0 head.subject here.1.0 here.1.1 earlier at head.verb here.2
     (stay kept ks (token.Label here.0 ∷ verb_token head.verb ∷ []) None here.3 (token.Label earlier) (token.Label here.0 ∷ verb_token head.verb ∷ token.Label earlier ∷ []) refl)
-step_label _ at kept draft head ks known once new here = absurd (true≢false known)
+step_label _ at kept draft head ks known once fits here = absurd (true≢false known)
 
 step_note1 : Steps state.Note1
-unfolding entry blocks_with rank_with draft_with head_with ops_with ends_action defined_with deps_with notes_with plans_with
-step_note1 (token.Number n) at kept draft head ks known once new here = (here.0, here.1, here.2, stay kept ks (token.Label here.0 ∷ verb_token head.verb ∷ []) None here.3 (token.Number n) (token.Label here.0 ∷ verb_token head.verb ∷ token.Number n ∷ []) refl)
-step_note1 _ at kept draft head ks known once new here = absurd (true≢false known)
+unfolding entry ranks_with used_with blocks_with rank_with draft_with head_with ops_with ends_action defined_with deps_with notes_with plans_with
+step_note1 (token.Number n) at kept draft head ks known once fits here = (here.0, here.1, here.2, stay kept ks (token.Label here.0 ∷ verb_token head.verb ∷ []) None here.3 (token.Number n) (token.Label here.0 ∷ verb_token head.verb ∷ token.Number n ∷ []) refl)
+step_note1 _ at kept draft head ks known once fits here = absurd (true≢false known)
 
 step_note2 : Steps state.Note2
-unfolding entry blocks_with rank_with draft_with head_with ops_with ends_action defined_with deps_with notes_with plans_with
-step_note2 token.To at kept draft head ks known once new here = (here.0, here.1, here.2, stay kept ks (token.Label here.0 ∷ verb_token head.verb ∷ token.Number head.low ∷ []) None here.3 token.To (token.Label here.0 ∷ verb_token head.verb ∷ token.Number head.low ∷ token.To ∷ []) refl)
-step_note2 _ at kept draft head ks known once new here = absurd (true≢false known)
+unfolding entry ranks_with used_with blocks_with rank_with draft_with head_with ops_with ends_action defined_with deps_with notes_with plans_with
+step_note2 token.To at kept draft head ks known once fits here = (here.0, here.1, here.2, stay kept ks (token.Label here.0 ∷ verb_token head.verb ∷ token.Number head.low ∷ []) None here.3 token.To (token.Label here.0 ∷ verb_token head.verb ∷ token.Number head.low ∷ token.To ∷ []) refl)
+step_note2 _ at kept draft head ks known once fits here = absurd (true≢false known)
 
 step_note3 : Steps state.Note3
-unfolding entry blocks_with rank_with draft_with head_with ops_with ends_action defined_with deps_with notes_with plans_with
-step_note3 (token.Number n) at kept draft head ks known once new here =
+unfolding entry ranks_with used_with blocks_with rank_with draft_with head_with ops_with ends_action defined_with deps_with notes_with plans_with
+step_note3 (token.Number n) at kept draft head ks known once fits here =
     notes_on kept (ks ++ token.Number n ∷ []) here.0 head.subject here.1.0 here.1.1 head.low n head.verb here.2
     (stay kept ks (token.Label here.0 ∷ verb_token head.verb ∷ token.Number head.low ∷ token.To ∷ []) None here.3 (token.Number n) (token.Label here.0 ∷ verb_token head.verb ∷ token.Number head.low ∷ token.To ∷ token.Number n ∷ []) refl)
-step_note3 _ at kept draft head ks known once new here = absurd (true≢false known)
+step_note3 _ at kept draft head ks known once fits here = absurd (true≢false known)
 
 step_action : Steps state.Action
-unfolding entry blocks_with rank_with draft_with head_with ops_with ends_action defined_with deps_with notes_with plans_with
-step_action token.Calc at kept draft head ks known once new here = (Some here.0, draft.option, stay kept ks (token.Label here.0 ∷ token.Colon ∷ []) (Some here.0) here.1 token.Calc (token.Label here.0 ∷ token.Colon ∷ token.Calc ∷ []) refl, refl)
-step_action token.Send at kept draft head ks known once new here = (Some here.0, draft.option, stay kept ks (token.Label here.0 ∷ token.Colon ∷ []) (Some here.0) here.1 token.Send (token.Label here.0 ∷ token.Colon ∷ token.Send ∷ []) refl, refl)
-step_action token.Recv at kept draft head ks known once new here = (Some here.0, draft.option, stay kept ks (token.Label here.0 ∷ token.Colon ∷ []) (Some here.0) here.1 token.Recv (token.Label here.0 ∷ token.Colon ∷ token.Recv ∷ []) refl, refl)
-step_action _ at kept draft head ks known once new here = absurd (true≢false known)
+unfolding entry ranks_with used_with blocks_with rank_with draft_with head_with ops_with ends_action defined_with deps_with notes_with plans_with
+step_action token.Calc at kept draft head ks known once fits here = (Some here.0, draft.option, stay kept ks (token.Label here.0 ∷ token.Colon ∷ []) (Some here.0) here.1 token.Calc (token.Label here.0 ∷ token.Colon ∷ token.Calc ∷ []) refl, refl)
+step_action token.Send at kept draft head ks known once fits here = (Some here.0, draft.option, stay kept ks (token.Label here.0 ∷ token.Colon ∷ []) (Some here.0) here.1 token.Send (token.Label here.0 ∷ token.Colon ∷ token.Send ∷ []) refl, refl)
+step_action token.Recv at kept draft head ks known once fits here = (Some here.0, draft.option, stay kept ks (token.Label here.0 ∷ token.Colon ∷ []) (Some here.0) here.1 token.Recv (token.Label here.0 ∷ token.Colon ∷ token.Recv ∷ []) refl, refl)
+step_action _ at kept draft head ks known once fits here = absurd (true≢false known)
 
 step_calc1 : Steps state.Calc1
-unfolding entry blocks_with rank_with draft_with head_with ops_with ends_action defined_with deps_with notes_with plans_with
-step_calc1 (token.Number n) at kept draft head ks known once new here = (here.0, here.1, n, None, stay kept ks (label_tokens here.0 ++ token.Calc ∷ []) here.0 here.2 (token.Number n) (label_tokens here.0 ++ token.Calc ∷ token.Number n ∷ []) (append_assoc (label_tokens here.0) (token.Calc ∷ []) ((token.Number n) ∷ [])), ap (λ (d : Draft). record d { size = n }) here.3)
-step_calc1 _ at kept draft head ks known once new here = absurd (true≢false known)
+unfolding entry ranks_with used_with blocks_with rank_with draft_with head_with ops_with ends_action defined_with deps_with notes_with plans_with
+step_calc1 (token.Number n) at kept draft head ks known once fits here = (here.0, here.1, n, None, stay kept ks (label_tokens here.0 ++ token.Calc ∷ []) here.0 here.2 (token.Number n) (label_tokens here.0 ++ token.Calc ∷ token.Number n ∷ []) (append_assoc (label_tokens here.0) (token.Calc ∷ []) ((token.Number n) ∷ [])), ap (λ (d : Draft). record d { size = n }) here.3)
+step_calc1 _ at kept draft head ks known once fits here = absurd (true≢false known)
 
 step_calc2 : Steps state.Calc2
-unfolding entry blocks_with rank_with draft_with head_with ops_with ends_action defined_with deps_with notes_with plans_with
-step_calc2 token.Cpu at kept draft head ks known once new here = by here.3 here.4 here.5
+unfolding entry ranks_with used_with blocks_with rank_with draft_with head_with ops_with ends_action defined_with deps_with notes_with plans_with
+step_calc2 token.Cpu at kept draft head ks known once fits here = by here.3 here.4 here.5
   where
     by : (c : Option ℕ) → In kept ks (item_tokens (calc here.0 here.2 c)) here.0 → draft ≡ drafted action.Calc here.2 None (cpu_settings c) here.1 →
         At state.Calc3 kept (record draft { has_cpu = true; option = option.Cpu }) head (ks ++ token.Cpu ∷ [])
@@ -766,45 +971,45 @@ step_calc2 token.Cpu at kept draft head ks known once new here = by here.3 here.
       ap (mark option.Cpu) is,
     )
     by (Some n) inside is = absurd (true≢false (sym (ap (λ (d : Draft). d.has_cpu) is) ∙ once))
-step_calc2 k at kept draft head ks known once new here =
+step_calc2 k at kept draft head ks known once fits here =
     step_calc kept draft head ks
-    (acted kept draft ks here.0 (calc here.0 here.2 here.3) here.4 (ap (λ (d : Draft). op_of d ∷ []) here.5 ∙ calc_op here.2 here.3 here.1) refl refl (λ n. refl))
-    k at known
+    (acted kept draft ks here.0 (calc here.0 here.2 here.3) here.4 (ap (λ (d : Draft). op_of d ∷ []) here.5 ∙ calc_op here.2 here.3 here.1) refl refl (λ n. refl) refl tt)
+    k at known fits.found
 
 step_calc3 : Steps state.Calc3
-unfolding entry blocks_with rank_with draft_with head_with ops_with ends_action defined_with deps_with notes_with plans_with
-step_calc3 (token.Number n) at kept draft head ks known once new here = (here.0, option.Cpu, here.2, Some n, stay kept ks (label_tokens here.0 ++ token.Calc ∷ token.Number here.2 ∷ token.Cpu ∷ []) here.0 here.3 (token.Number n) (label_tokens here.0 ++ token.Calc ∷ token.Number here.2 ∷ token.Cpu ∷ token.Number n ∷ []) (append_assoc (label_tokens here.0) (token.Calc ∷ token.Number here.2 ∷ token.Cpu ∷ []) ((token.Number n) ∷ [])), ap (λ (d : Draft). option_with d.option n d) here.4)
-step_calc3 _ at kept draft head ks known once new here = absurd (true≢false known)
+unfolding entry ranks_with used_with blocks_with rank_with draft_with head_with ops_with ends_action defined_with deps_with notes_with plans_with
+step_calc3 (token.Number n) at kept draft head ks known once fits here = (here.0, option.Cpu, here.2, Some n, stay kept ks (label_tokens here.0 ++ token.Calc ∷ token.Number here.2 ∷ token.Cpu ∷ []) here.0 here.3 (token.Number n) (label_tokens here.0 ++ token.Calc ∷ token.Number here.2 ∷ token.Cpu ∷ token.Number n ∷ []) (append_assoc (label_tokens here.0) (token.Calc ∷ token.Number here.2 ∷ token.Cpu ∷ []) ((token.Number n) ∷ [])), ap (λ (d : Draft). option_with d.option n d) here.4)
+step_calc3 _ at kept draft head ks known once fits here = absurd (true≢false known)
 
 step_send1 : Steps state.Send1
-unfolding entry blocks_with rank_with draft_with head_with ops_with ends_action defined_with deps_with notes_with plans_with
-step_send1 (token.Number n) at kept draft head ks known once new here = (here.0, here.1, plain n, stay kept ks (label_tokens here.0 ++ token.Send ∷ []) here.0 here.2 (token.Number n) (label_tokens here.0 ++ token.Send ∷ token.Number n ∷ []) (append_assoc (label_tokens here.0) (token.Send ∷ []) ((token.Number n) ∷ [])), ap (λ (d : Draft). record d { size = n }) here.3)
-step_send1 (token.Size n) at kept draft head ks known once new here = (here.0, here.1, marked n, stay kept ks (label_tokens here.0 ++ token.Send ∷ []) here.0 here.2 (token.Size n) (label_tokens here.0 ++ token.Send ∷ token.Size n ∷ []) (append_assoc (label_tokens here.0) (token.Send ∷ []) ((token.Size n) ∷ [])), ap (λ (d : Draft). record d { size = n }) here.3)
-step_send1 _ at kept draft head ks known once new here = absurd (true≢false known)
+unfolding entry ranks_with used_with blocks_with rank_with draft_with head_with ops_with ends_action defined_with deps_with notes_with plans_with
+step_send1 (token.Number n) at kept draft head ks known once fits here = (here.0, here.1, plain n, stay kept ks (label_tokens here.0 ++ token.Send ∷ []) here.0 here.2 (token.Number n) (label_tokens here.0 ++ token.Send ∷ token.Number n ∷ []) (append_assoc (label_tokens here.0) (token.Send ∷ []) ((token.Number n) ∷ [])), ap (λ (d : Draft). record d { size = n }) here.3)
+step_send1 (token.Size n) at kept draft head ks known once fits here = (here.0, here.1, marked n, stay kept ks (label_tokens here.0 ++ token.Send ∷ []) here.0 here.2 (token.Size n) (label_tokens here.0 ++ token.Send ∷ token.Size n ∷ []) (append_assoc (label_tokens here.0) (token.Send ∷ []) ((token.Size n) ∷ [])), ap (λ (d : Draft). record d { size = n }) here.3)
+step_send1 _ at kept draft head ks known once fits here = absurd (true≢false known)
 
 step_send2 : Steps state.Send2
-unfolding entry blocks_with rank_with draft_with head_with ops_with ends_action defined_with deps_with notes_with plans_with
-step_send2 token.To at kept draft head ks known once new here = (here.0, here.1, here.2, stay kept ks (label_tokens here.0 ++ token.Send ∷ amount_token here.2 ∷ []) here.0 here.3 token.To (label_tokens here.0 ++ token.Send ∷ amount_token here.2 ∷ token.To ∷ []) (append_assoc (label_tokens here.0) (token.Send ∷ amount_token here.2 ∷ []) (token.To ∷ [])), here.4)
-step_send2 _ at kept draft head ks known once new here = absurd (true≢false known)
+unfolding entry ranks_with used_with blocks_with rank_with draft_with head_with ops_with ends_action defined_with deps_with notes_with plans_with
+step_send2 token.To at kept draft head ks known once fits here = (here.0, here.1, here.2, stay kept ks (label_tokens here.0 ++ token.Send ∷ amount_token here.2 ∷ []) here.0 here.3 token.To (label_tokens here.0 ++ token.Send ∷ amount_token here.2 ∷ token.To ∷ []) (append_assoc (label_tokens here.0) (token.Send ∷ amount_token here.2 ∷ []) (token.To ∷ [])), here.4)
+step_send2 _ at kept draft head ks known once fits here = absurd (true≢false known)
 
 step_send3 : Steps state.Send3
-unfolding entry blocks_with rank_with draft_with head_with ops_with ends_action defined_with deps_with notes_with plans_with
-step_send3 (token.Number n) at kept draft head ks known once new here = (here.0, here.1, here.2, n, [], stay kept ks (label_tokens here.0 ++ token.Send ∷ amount_token here.2 ∷ token.To ∷ []) here.0 here.3 (token.Number n) (label_tokens here.0 ++ token.Send ∷ amount_token here.2 ∷ token.To ∷ token.Number n ∷ []) (append_assoc (label_tokens here.0) (token.Send ∷ amount_token here.2 ∷ token.To ∷ []) ((token.Number n) ∷ [])), ap (λ (d : Draft). record d { peer = Some n }) here.4)
-step_send3 _ at kept draft head ks known once new here = absurd (true≢false known)
+unfolding entry ranks_with used_with blocks_with rank_with draft_with head_with ops_with ends_action defined_with deps_with notes_with plans_with
+step_send3 (token.Number n) at kept draft head ks known once fits here = (here.0, here.1, here.2, n, [], stay kept ks (label_tokens here.0 ++ token.Send ∷ amount_token here.2 ∷ token.To ∷ []) here.0 here.3 (token.Number n) (label_tokens here.0 ++ token.Send ∷ amount_token here.2 ∷ token.To ∷ token.Number n ∷ []) (append_assoc (label_tokens here.0) (token.Send ∷ amount_token here.2 ∷ token.To ∷ []) ((token.Number n) ∷ [])), ap (λ (d : Draft). record d { peer = Some n }) here.4, none_given)
+step_send3 _ at kept draft head ks known once fits here = absurd (true≢false known)
 
 step_send4 : Steps state.Send4
-unfolding entry blocks_with rank_with draft_with head_with ops_with ends_action defined_with deps_with notes_with plans_with
-step_send4 token.Tag at kept draft head ks known once new here = (here.0, here.1, here.2, here.3, here.4, option.Tag, stay kept ks (item_tokens (send here.0 here.2 here.3 here.4)) here.0 here.5 token.Tag (item_tokens (send here.0 here.2 here.3 here.4) ++ token.Tag ∷ []) refl, sym (ap (λ (d : Draft). d.has_tag) here.6) ∙ once, ap (mark option.Tag) here.6)
-step_send4 token.Cpu at kept draft head ks known once new here = (here.0, here.1, here.2, here.3, here.4, option.Cpu, stay kept ks (item_tokens (send here.0 here.2 here.3 here.4)) here.0 here.5 token.Cpu (item_tokens (send here.0 here.2 here.3 here.4) ++ token.Cpu ∷ []) refl, sym (ap (λ (d : Draft). d.has_cpu) here.6) ∙ once, ap (mark option.Cpu) here.6)
-step_send4 token.Nic at kept draft head ks known once new here = (here.0, here.1, here.2, here.3, here.4, option.Nic, stay kept ks (item_tokens (send here.0 here.2 here.3 here.4)) here.0 here.5 token.Nic (item_tokens (send here.0 here.2 here.3 here.4) ++ token.Nic ∷ []) refl, sym (ap (λ (d : Draft). d.has_nic) here.6) ∙ once, ap (mark option.Nic) here.6)
-step_send4 k at kept draft head ks known once new here =
+unfolding entry ranks_with used_with blocks_with rank_with draft_with head_with ops_with ends_action defined_with deps_with notes_with plans_with
+step_send4 token.Tag at kept draft head ks known once fits here = (here.0, here.1, here.2, here.3, here.4, option.Tag, stay kept ks (item_tokens (send here.0 here.2 here.3 here.4)) here.0 here.5 token.Tag (item_tokens (send here.0 here.2 here.3 here.4) ++ token.Tag ∷ []) refl, sym (ap (λ (d : Draft). d.has_tag) here.6) ∙ once, ap (mark option.Tag) here.6, here.7)
+step_send4 token.Cpu at kept draft head ks known once fits here = (here.0, here.1, here.2, here.3, here.4, option.Cpu, stay kept ks (item_tokens (send here.0 here.2 here.3 here.4)) here.0 here.5 token.Cpu (item_tokens (send here.0 here.2 here.3 here.4) ++ token.Cpu ∷ []) refl, sym (ap (λ (d : Draft). d.has_cpu) here.6) ∙ once, ap (mark option.Cpu) here.6, here.7)
+step_send4 token.Nic at kept draft head ks known once fits here = (here.0, here.1, here.2, here.3, here.4, option.Nic, stay kept ks (item_tokens (send here.0 here.2 here.3 here.4)) here.0 here.5 token.Nic (item_tokens (send here.0 here.2 here.3 here.4) ++ token.Nic ∷ []) refl, sym (ap (λ (d : Draft). d.has_nic) here.6) ∙ once, ap (mark option.Nic) here.6, here.7)
+step_send4 k at kept draft head ks known once fits here =
     step_send kept draft head ks
-    (acted kept draft ks here.0 (send here.0 here.2 here.3 here.4) here.5 (ap (λ (d : Draft). op_of d ∷ []) here.6) refl refl (λ n. refl))
-    k at known
+    (acted kept draft ks here.0 (send here.0 here.2 here.3 here.4) here.5 (ap (λ (d : Draft). op_of d ∷ []) here.6) refl refl (λ n. refl) refl here.7)
+    k at known fits.found
 
 step_send5 : Steps state.Send5
-unfolding entry blocks_with rank_with draft_with head_with ops_with ends_action defined_with deps_with notes_with plans_with
-step_send5 (token.Number n) at kept draft head ks known once new here = (
+unfolding entry ranks_with used_with blocks_with rank_with draft_with head_with ops_with ends_action defined_with deps_with notes_with plans_with
+step_send5 (token.Number n) at kept draft head ks known once fits here = (
   here.0,
   here.5,
   here.2,
@@ -813,39 +1018,40 @@ step_send5 (token.Number n) at kept draft head ks known once new here = (
   stay kept ks (item_tokens (send here.0 here.2 here.3 here.4) ++ option_token here.5 ∷ []) here.0 here.6 (token.Number n) (item_tokens (send here.0 here.2 here.3 (here.4 ++ number_setting here.5 n ∷ [])))
       (longer_by (label_tokens here.0) (token.Send ∷ amount_token here.2 ∷ token.To ∷ token.Number here.3 ∷ []) here.4 (number_setting here.5 n) (option_token here.5) (token.Number n) (setting_is here.5 n)),
   ap (λ (d : Draft). option_with d.option n d) here.8 ∙ settled action.Send (amount here.2) (Some here.3) here.4 here.1 here.5 n here.7,
+  given_more here.5 n here.4 here.7 here.9,
 )
-step_send5 _ at kept draft head ks known once new here = absurd (true≢false known)
+step_send5 _ at kept draft head ks known once fits here = absurd (true≢false known)
 
 step_recv1 : Steps state.Recv1
-unfolding entry blocks_with rank_with draft_with head_with ops_with ends_action defined_with deps_with notes_with plans_with
-step_recv1 (token.Number n) at kept draft head ks known once new here = (here.0, here.1, plain n, stay kept ks (label_tokens here.0 ++ token.Recv ∷ []) here.0 here.2 (token.Number n) (label_tokens here.0 ++ token.Recv ∷ token.Number n ∷ []) (append_assoc (label_tokens here.0) (token.Recv ∷ []) ((token.Number n) ∷ [])), ap (λ (d : Draft). record d { size = n }) here.3)
-step_recv1 (token.Size n) at kept draft head ks known once new here = (here.0, here.1, marked n, stay kept ks (label_tokens here.0 ++ token.Recv ∷ []) here.0 here.2 (token.Size n) (label_tokens here.0 ++ token.Recv ∷ token.Size n ∷ []) (append_assoc (label_tokens here.0) (token.Recv ∷ []) ((token.Size n) ∷ [])), ap (λ (d : Draft). record d { size = n }) here.3)
-step_recv1 _ at kept draft head ks known once new here = absurd (true≢false known)
+unfolding entry ranks_with used_with blocks_with rank_with draft_with head_with ops_with ends_action defined_with deps_with notes_with plans_with
+step_recv1 (token.Number n) at kept draft head ks known once fits here = (here.0, here.1, plain n, stay kept ks (label_tokens here.0 ++ token.Recv ∷ []) here.0 here.2 (token.Number n) (label_tokens here.0 ++ token.Recv ∷ token.Number n ∷ []) (append_assoc (label_tokens here.0) (token.Recv ∷ []) ((token.Number n) ∷ [])), ap (λ (d : Draft). record d { size = n }) here.3)
+step_recv1 (token.Size n) at kept draft head ks known once fits here = (here.0, here.1, marked n, stay kept ks (label_tokens here.0 ++ token.Recv ∷ []) here.0 here.2 (token.Size n) (label_tokens here.0 ++ token.Recv ∷ token.Size n ∷ []) (append_assoc (label_tokens here.0) (token.Recv ∷ []) ((token.Size n) ∷ [])), ap (λ (d : Draft). record d { size = n }) here.3)
+step_recv1 _ at kept draft head ks known once fits here = absurd (true≢false known)
 
 step_recv2 : Steps state.Recv2
-unfolding entry blocks_with rank_with draft_with head_with ops_with ends_action defined_with deps_with notes_with plans_with
-step_recv2 token.From at kept draft head ks known once new here = (here.0, here.1, here.2, stay kept ks (label_tokens here.0 ++ token.Recv ∷ amount_token here.2 ∷ []) here.0 here.3 token.From (label_tokens here.0 ++ token.Recv ∷ amount_token here.2 ∷ token.From ∷ []) (append_assoc (label_tokens here.0) (token.Recv ∷ amount_token here.2 ∷ []) (token.From ∷ [])), here.4)
-step_recv2 _ at kept draft head ks known once new here = absurd (true≢false known)
+unfolding entry ranks_with used_with blocks_with rank_with draft_with head_with ops_with ends_action defined_with deps_with notes_with plans_with
+step_recv2 token.From at kept draft head ks known once fits here = (here.0, here.1, here.2, stay kept ks (label_tokens here.0 ++ token.Recv ∷ amount_token here.2 ∷ []) here.0 here.3 token.From (label_tokens here.0 ++ token.Recv ∷ amount_token here.2 ∷ token.From ∷ []) (append_assoc (label_tokens here.0) (token.Recv ∷ amount_token here.2 ∷ []) (token.From ∷ [])), here.4)
+step_recv2 _ at kept draft head ks known once fits here = absurd (true≢false known)
 
 step_recv3 : Steps state.Recv3
-unfolding entry blocks_with rank_with draft_with head_with ops_with ends_action defined_with deps_with notes_with plans_with
-step_recv3 (token.Number n) at kept draft head ks known once new here = (here.0, here.1, here.2, Some n, [], stay kept ks (label_tokens here.0 ++ token.Recv ∷ amount_token here.2 ∷ token.From ∷ []) here.0 here.3 (token.Number n) (label_tokens here.0 ++ token.Recv ∷ amount_token here.2 ∷ token.From ∷ token.Number n ∷ []) (append_assoc (label_tokens here.0) (token.Recv ∷ amount_token here.2 ∷ token.From ∷ []) ((token.Number n) ∷ [])), ap (λ (d : Draft). record d { peer = Some n }) here.4)
-step_recv3 token.Any at kept draft head ks known once new here = (here.0, here.1, here.2, None, [], stay kept ks (label_tokens here.0 ++ token.Recv ∷ amount_token here.2 ∷ token.From ∷ []) here.0 here.3 token.Any (label_tokens here.0 ++ token.Recv ∷ amount_token here.2 ∷ token.From ∷ token.Any ∷ []) (append_assoc (label_tokens here.0) (token.Recv ∷ amount_token here.2 ∷ token.From ∷ []) (token.Any ∷ [])), ap (λ (d : Draft). record d { peer = None }) here.4)
-step_recv3 _ at kept draft head ks known once new here = absurd (true≢false known)
+unfolding entry ranks_with used_with blocks_with rank_with draft_with head_with ops_with ends_action defined_with deps_with notes_with plans_with
+step_recv3 (token.Number n) at kept draft head ks known once fits here = (here.0, here.1, here.2, Some n, [], stay kept ks (label_tokens here.0 ++ token.Recv ∷ amount_token here.2 ∷ token.From ∷ []) here.0 here.3 (token.Number n) (label_tokens here.0 ++ token.Recv ∷ amount_token here.2 ∷ token.From ∷ token.Number n ∷ []) (append_assoc (label_tokens here.0) (token.Recv ∷ amount_token here.2 ∷ token.From ∷ []) ((token.Number n) ∷ [])), ap (λ (d : Draft). record d { peer = Some n }) here.4, none_given)
+step_recv3 token.Any at kept draft head ks known once fits here = (here.0, here.1, here.2, None, [], stay kept ks (label_tokens here.0 ++ token.Recv ∷ amount_token here.2 ∷ token.From ∷ []) here.0 here.3 token.Any (label_tokens here.0 ++ token.Recv ∷ amount_token here.2 ∷ token.From ∷ token.Any ∷ []) (append_assoc (label_tokens here.0) (token.Recv ∷ amount_token here.2 ∷ token.From ∷ []) (token.Any ∷ [])), ap (λ (d : Draft). record d { peer = None }) here.4, none_given)
+step_recv3 _ at kept draft head ks known once fits here = absurd (true≢false known)
 
 step_recv4 : Steps state.Recv4
-unfolding entry blocks_with rank_with draft_with head_with ops_with ends_action defined_with deps_with notes_with plans_with
-step_recv4 token.Tag at kept draft head ks known once new here = (here.0, here.1, here.2, here.3, here.4, stay kept ks (item_tokens (recv here.0 here.2 here.3 here.4)) here.0 here.5 token.Tag (item_tokens (recv here.0 here.2 here.3 here.4) ++ token.Tag ∷ []) refl, sym (ap (λ (d : Draft). d.has_tag) here.6) ∙ once, ap (mark option.Tag) here.6)
-step_recv4 token.Cpu at kept draft head ks known once new here = (here.0, here.1, here.2, here.3, here.4, option.Cpu, stay kept ks (item_tokens (recv here.0 here.2 here.3 here.4)) here.0 here.5 token.Cpu (item_tokens (recv here.0 here.2 here.3 here.4) ++ token.Cpu ∷ []) refl, sym (ap (λ (d : Draft). d.has_cpu) here.6) ∙ once, ap (mark option.Cpu) here.6)
-step_recv4 token.Nic at kept draft head ks known once new here = (here.0, here.1, here.2, here.3, here.4, option.Nic, stay kept ks (item_tokens (recv here.0 here.2 here.3 here.4)) here.0 here.5 token.Nic (item_tokens (recv here.0 here.2 here.3 here.4) ++ token.Nic ∷ []) refl, sym (ap (λ (d : Draft). d.has_nic) here.6) ∙ once, ap (mark option.Nic) here.6)
-step_recv4 k at kept draft head ks known once new here =
+unfolding entry ranks_with used_with blocks_with rank_with draft_with head_with ops_with ends_action defined_with deps_with notes_with plans_with
+step_recv4 token.Tag at kept draft head ks known once fits here = (here.0, here.1, here.2, here.3, here.4, stay kept ks (item_tokens (recv here.0 here.2 here.3 here.4)) here.0 here.5 token.Tag (item_tokens (recv here.0 here.2 here.3 here.4) ++ token.Tag ∷ []) refl, sym (ap (λ (d : Draft). d.has_tag) here.6) ∙ once, ap (mark option.Tag) here.6, here.7)
+step_recv4 token.Cpu at kept draft head ks known once fits here = (here.0, here.1, here.2, here.3, here.4, option.Cpu, stay kept ks (item_tokens (recv here.0 here.2 here.3 here.4)) here.0 here.5 token.Cpu (item_tokens (recv here.0 here.2 here.3 here.4) ++ token.Cpu ∷ []) refl, sym (ap (λ (d : Draft). d.has_cpu) here.6) ∙ once, ap (mark option.Cpu) here.6, here.7)
+step_recv4 token.Nic at kept draft head ks known once fits here = (here.0, here.1, here.2, here.3, here.4, option.Nic, stay kept ks (item_tokens (recv here.0 here.2 here.3 here.4)) here.0 here.5 token.Nic (item_tokens (recv here.0 here.2 here.3 here.4) ++ token.Nic ∷ []) refl, sym (ap (λ (d : Draft). d.has_nic) here.6) ∙ once, ap (mark option.Nic) here.6, here.7)
+step_recv4 k at kept draft head ks known once fits here =
     step_recv kept draft head ks
-    (acted kept draft ks here.0 (recv here.0 here.2 here.3 here.4) here.5 (ap (λ (d : Draft). op_of d ∷ []) here.6) refl refl (λ n. refl))
-    k at known
+    (acted kept draft ks here.0 (recv here.0 here.2 here.3 here.4) here.5 (ap (λ (d : Draft). op_of d ∷ []) here.6) refl refl (λ n. refl) refl here.7)
+    k at known fits.found
 
 step_recv5 : Steps state.Recv5
-unfolding entry blocks_with rank_with draft_with head_with ops_with ends_action defined_with deps_with notes_with plans_with
-step_recv5 (token.Number n) at kept draft head ks known once new here = (
+unfolding entry ranks_with used_with blocks_with rank_with draft_with head_with ops_with ends_action defined_with deps_with notes_with plans_with
+step_recv5 (token.Number n) at kept draft head ks known once fits here = (
   here.0,
   option.Tag,
   here.2,
@@ -854,8 +1060,9 @@ step_recv5 (token.Number n) at kept draft head ks known once new here = (
   stay kept ks (item_tokens (recv here.0 here.2 here.3 here.4) ++ option_token option.Tag ∷ []) here.0 here.5 (token.Number n) (item_tokens (recv here.0 here.2 here.3 (here.4 ++ number_setting option.Tag n ∷ [])))
       (longer_by (label_tokens here.0) (token.Recv ∷ amount_token here.2 ∷ token.From ∷ number_or_any here.3 ∷ []) here.4 (number_setting option.Tag n) (option_token option.Tag) (token.Number n) (setting_is option.Tag n)),
   ap (λ (d : Draft). option_with d.option n d) here.7 ∙ settled action.Recv (amount here.2) here.3 here.4 here.1 option.Tag n here.6,
+  given_more option.Tag n here.4 here.6 here.8,
 )
-step_recv5 token.Any at kept draft head ks known once new here = (
+step_recv5 token.Any at kept draft head ks known once fits here = (
   here.0,
   option.Tag,
   here.2,
@@ -864,12 +1071,13 @@ step_recv5 token.Any at kept draft head ks known once new here = (
   stay kept ks (item_tokens (recv here.0 here.2 here.3 here.4) ++ token.Tag ∷ []) here.0 here.5 token.Any (item_tokens (recv here.0 here.2 here.3 (here.4 ++ tag None ∷ [])))
       (longer_by (label_tokens here.0) (token.Recv ∷ amount_token here.2 ∷ token.From ∷ number_or_any here.3 ∷ []) here.4 (tag None) token.Tag token.Any refl),
   ap (λ (d : Draft). record d { tag = None }) here.7 ∙ with_tag action.Recv (amount here.2) here.3 here.4 here.1 None here.6,
+  given_tag None here.4 here.6 here.8,
 )
-step_recv5 _ at kept draft head ks known once new here = absurd (true≢false known)
+step_recv5 _ at kept draft head ks known once fits here = absurd (true≢false known)
 
 step_recv6 : Steps state.Recv6
-unfolding entry blocks_with rank_with draft_with head_with ops_with ends_action defined_with deps_with notes_with plans_with
-step_recv6 (token.Number n) at kept draft head ks known once new here = (
+unfolding entry ranks_with used_with blocks_with rank_with draft_with head_with ops_with ends_action defined_with deps_with notes_with plans_with
+step_recv6 (token.Number n) at kept draft head ks known once fits here = (
   here.0,
   here.5,
   here.2,
@@ -878,8 +1086,9 @@ step_recv6 (token.Number n) at kept draft head ks known once new here = (
   stay kept ks (item_tokens (recv here.0 here.2 here.3 here.4) ++ option_token here.5 ∷ []) here.0 here.6 (token.Number n) (item_tokens (recv here.0 here.2 here.3 (here.4 ++ number_setting here.5 n ∷ [])))
       (longer_by (label_tokens here.0) (token.Recv ∷ amount_token here.2 ∷ token.From ∷ number_or_any here.3 ∷ []) here.4 (number_setting here.5 n) (option_token here.5) (token.Number n) (setting_is here.5 n)),
   ap (λ (d : Draft). option_with d.option n d) here.8 ∙ settled action.Recv (amount here.2) here.3 here.4 here.1 here.5 n here.7,
+  given_more here.5 n here.4 here.7 here.9,
 )
-step_recv6 _ at kept draft head ks known once new here = absurd (true≢false known)
+step_recv6 _ at kept draft head ks known once fits here = absurd (true≢false known)
 
 step : (s : State) → Steps s
 unfolding entry
@@ -888,7 +1097,7 @@ step state.Ranks = step_ranks
 step state.Top = step_top
 step state.Block = step_block
 step state.Open = step_open
-step state.Item = λ k at kept draft head ks known once new here. step_item kept draft head ks here k at known
+step state.Item = λ k at kept draft head ks known once fits here. step_item kept draft head ks here k at known fits.found
 step state.Word = step_word
 step state.Label = step_label
 step state.Note1 = step_note1
@@ -911,26 +1120,45 @@ step state.Recv5 = step_recv5
 step state.Recv6 = step_recv6
 
 -- the tests that a token passes
-record Passes (s : State) (draft : Draft) (blocks : List ℕ) (k : TokenKind) : Type 0 where
+record Passes (s : State) (draft : Draft) (ranks : ℕ) (blocks : List ℕ) (ds : List Definition) (subject : Option Mention) (us : List Mention) (k : TokenKind) : Type 0 where
   known : is_none (entry s k) ≡ false
   once : has_option k draft ≡ false
   new_rank : IsNewRank s blocks k
+  below : IsBelow s ranks k
+  fresh : label_fault_of ds subject k ≡ None
+  found : unknown_fault_of ds us k ≡ None
+
+so : (b : Bool) (f : TextFault) → fault_if (not b) f ≡ None → b ≡ true
+so true f h = refl
+so false f h = cc
+
+below_passes : (s : State) (ranks : ℕ) (blocks : List ℕ) (k : TokenKind) (at : ℕ) → rank_fault_of s ranks blocks k at ≡ None → IsBelow s ranks k
+below_passes state.Block ranks blocks (token.Number n) at h =
+    let is = so (nat_lt n ranks) (Rank at) (none_first (fault_if (not (nat_lt n ranks)) (Rank at)) (fault_if (list_any (nat_eq n) blocks) (Repeat at)) h) in
+    let below : n < ranks = grind (arith, nat_tests) in below
+below_passes _ ranks blocks _ at h = tt
 
 module _ (s : State) (draft : Draft) (ranks : ℕ) (blocks : List ℕ) (ds : List Definition) (subject : Option Mention) (counts : Counts) (us : List Mention) (t : Token) where
-  passes_of : fault_by s draft ranks blocks ds subject counts us t ≡ None → Passes s draft blocks t.kind
-  unfolding fault_by syntax_fault option_fault
+  passes_of : fault_by s draft ranks blocks ds subject counts us t ≡ None → Passes s draft ranks blocks ds subject us t.kind
+  unfolding fault_by syntax_fault rank_fault option_fault label_fault unknown_fault
   passes_of h =
-      let labels = option_or (label_fault ds subject t) (option_or (count_fault counts t) (unknown_fault ds us t)) in
+      let last = option_or (count_fault counts t) (unknown_fault ds us t) in
+      let labels = option_or (label_fault ds subject t) last in
       let options = option_or (option_fault draft t) labels in
       let numbered = option_or (rank_fault s ranks blocks t) options in
       let sized = option_or (number_fault s draft.option t) numbered in
       let behind_syntax = none_second (syntax_fault s t) sized h in
       let behind_number = none_second (number_fault s draft.option t) numbered behind_syntax in
       let behind_rank = none_second (rank_fault s ranks blocks t) options behind_number in
+      let behind_option = none_second (option_fault draft t) labels behind_rank in
+      let rank_passed = none_first (rank_fault s ranks blocks t) options behind_number in
       record {
         known = not_so (is_none (entry s t.kind)) (Syntax t.start) (none_first (syntax_fault s t) sized h);
         once = not_so (has_option t.kind draft) (Repeat t.start) (none_first (option_fault draft t) labels behind_rank);
-        new_rank = rank_passes s ranks blocks t (none_first (rank_fault s ranks blocks t) options behind_number);
+        new_rank = rank_passes s ranks blocks t rank_passed;
+        below = below_passes s ranks blocks t.kind t.start rank_passed;
+        fresh = none_first (label_fault ds subject t) last behind_option;
+        found = none_second (count_fault counts t) (unknown_fault ds us t) (none_second (label_fault ds subject t) last behind_option);
       }
 
 -- what tokens that fail no test are
@@ -938,10 +1166,11 @@ abbrev AtEnd : List Token → List TokenKind → Type 0
 AtEnd before ks = At (state_of before) (kept_of before) (draft_of before) (head_of before) ks
 
 one_more : (before : List Token) (t : Token) (ks : List TokenKind) → token_fault before t ≡ None → AtEnd before ks → AtEnd (t ∷ before) (ks ++ t.kind ∷ [])
-unfolding token_fault state_of draft_of head_of blocks_of rank_of ops_of defined_of deps_of notes_of plans_of
+unfolding token_fault state_of draft_of head_of ranks_of used_of blocks_of rank_of ops_of defined_of deps_of notes_of plans_of
 one_more before t ks passed here =
     let passes = passes_of (state_of before) (draft_of before) (ranks_of before) (blocks_of before) (defined_of before) (head_of before).subject (counts_of before) (used_of before) t passed in
-    step (state_of before) t.kind t.start (kept_of before) (draft_of before) (head_of before) ks passes.known passes.once passes.new_rank here
+    let fits : Fits (state_of before) (kept_of before) (head_of before) t.kind = record { new = passes.new_rank; below = passes.below; fresh = passes.fresh; found = passes.found } in
+    step (state_of before) t.kind t.start (kept_of before) (draft_of before) (head_of before) ks passes.known passes.once fits here
 
 all_more : (before tokens : List Token) (ks : List TokenKind) → first_fault before tokens ≡ None → AtEnd before ks →
     AtEnd (reverse tokens ++ before) (ks ++ map (λ (t : Token). t.kind) tokens)
@@ -957,8 +1186,8 @@ all_more before (t ∷ tokens) ks passed here =
     (subst (AtEnd (reverse tokens ++ t ∷ before)) (append_assoc ks (t.kind ∷ []) kinds) rest)
 
 at_start : AtEnd [] []
-unfolding state_of blocks_of ops_of defined_of deps_of notes_of
-at_start = (refl, record { ops = refl; defined = refl; deps = refl; notes = refl }, refl)
+unfolding state_of used_of blocks_of ops_of defined_of deps_of notes_of
+at_start = (refl, record { ops = refl; defined = refl; used = refl; deps = refl; notes = refl }, refl)
 
 -- where the text may end
 at_last : (o : Option ℕ) (s : State) (place : ℕ) (kept : Kept) (draft : Draft) (head : ItemHead) (ks : List TokenKind) → last_fault o s place ≡ None →
@@ -976,7 +1205,7 @@ of_text text passed =
     let last = last_fault (lexed text).1 (state_of before) (length text) in
     let here = subst (λ (l : List Token). AtEnd l kinds) (append-nil before) (all_more [] tokens [] (none_first (first_fault [] tokens) last passed) at_start) in
     let out = at_last (lexed text).1 (state_of before) (length text) (kept_of before) (draft_of before) (head_of before) kinds (none_second (first_fault [] tokens) last passed) here in
-    record { written = out.written; spelled = out.spelled ∙ append-nil (text_tokens out.written); said = out.said }
+    record { written = out.written; right = out.right; spelled = out.spelled ∙ append-nil (text_tokens out.written); said = out.said }
 
 of_reading : (tokens : List Token) (fault : Option TextFault) (said ps : List Plan) → (fault ≡ None → IsWritten tokens said) → reading fault said ≡ plans ps → IsWritten tokens ps
 of_reading tokens None said ps h is = subst (IsWritten tokens) (same said ps is) (h refl)

@@ -1,6 +1,6 @@
 -- The sentences of a text as one writes them: their tokens, and what they mean.
-use Rattle.std.specs.Prelude.{◌≡◌, ℕ, ◌+◌, ◌<◌, ◌==◌, List, [], ◌∷◌, ◌++◌, Option, Some, None, length, map, unwrap_or, slice_index_or, if◌then◌else◌}
-use Rattle.std.specs.List.{flat_map}
+use Rattle.std.specs.Prelude.{◌≡◌, ℕ, ◌+◌, ◌<◌, ◌≤◌, ◌==◌, Bool, true, false, List, [], ◌∷◌, ◌++◌, Option, Some, None, length, map, unwrap_or, slice_index_or, bytes_eq, if◌then◌else◌, All, ⊤}
+use Rattle.std.specs.List.{flat_map, count_by}
 use Rattle.goal_lexer.specs.declared.tokens.Token.{Token}
 use Rattle.goal_lexer.specs.declared.tokens.TokenKind.{TokenKind}
 use Rattle.goal_lexer.specs.declared.tokens.TokenKind.TheVariants as token
@@ -11,7 +11,7 @@ use Rattle.goal_graph.specs.declared.plan.When.TheVariants.{AfterEnd, AfterStart
 use Rattle.goal_graph.specs.declared.plan.Note.{Note}
 use Rattle.goal_graph.specs.declared.plan.Note.TheVariants as note
 use Rattle.goal_graph.specs.Schedule.{Plan}
-use Rattle.goal_parser.specs.Items.{Definition, op_number}
+use Rattle.goal_parser.specs.Items.{Definition, is_defined, op_number}
 use Rattle.goal_parser.specs.Plans.{empty_plan}
 
 -- a size: `10` or `10b`
@@ -165,8 +165,54 @@ pub record AreSaid (w : Written) (ps : List Plan) : Type 0 where
   pub ranks : length ps ≡ w.ranks
   pub each : (rank : ℕ) → rank < w.ranks → slice_index_or ps rank empty_plan ≡ rank_said w.blocks rank
 
--- the tokens are those of sentences, and the plans are what these say
+-- The rules that sentences keep.
+
+-- the labels that a dependency or a note uses
+abbrev pub used_by : Item → List (List ℕ)
+used_by (requires later earlier) = later ∷ earlier ∷ []
+used_by (irequires later earlier) = later ∷ earlier ∷ []
+used_by (moves label first last) = label ∷ []
+used_by (adds label from to) = label ∷ []
+used_by _ = []
+
+abbrev pub is_tag : Setting → Bool
+is_tag (tag n) = true
+is_tag _ = false
+
+abbrev pub is_cpu : Setting → Bool
+is_cpu (cpu n) = true
+is_cpu _ = false
+
+abbrev pub is_nic : Setting → Bool
+is_nic (nic n) = true
+is_nic _ = false
+
+-- each option is given once at most
+pub record AreGivenOnce (settings : List Setting) : Type 0 where
+  pub tags : count_by is_tag settings ≤ 1
+  pub cpus : count_by is_cpu settings ≤ 1
+  pub nics : count_by is_nic settings ≤ 1
+
+abbrev pub HasOptionsOnce : Item → Type 0
+HasOptionsOnce (send label size to settings) = AreGivenOnce settings
+HasOptionsOnce (recv label size from settings) = AreGivenOnce settings
+HasOptionsOnce _ = ⊤
+
+-- a block defines each label once at most, and each label that it uses, and its actions give each option once at most
+pub record KeepsRules (b : Block) : Type 0 where
+  pub once : (label : List ℕ) → count_by (λ (d : Definition). bytes_eq label d.label) (definitions 0 b.items) ≤ 1
+  pub defined : All (λ (label : List ℕ). is_defined (definitions 0 b.items) label ≡ true) (flat_map used_by b.items)
+  pub options : All HasOptionsOnce b.items
+
+-- the blocks are of ranks that there are, one of each at most, and keep their rules
+pub record AreRight (w : Written) : Type 0 where
+  pub ranks : All (λ (b : Block). b.rank < w.ranks) w.blocks
+  pub once : (rank : ℕ) → count_by (λ (b : Block). rank == b.rank) w.blocks ≤ 1
+  pub blocks : All KeepsRules w.blocks
+
+-- the tokens are those of sentences that keep the rules, and the plans are what these say
 pub record IsWritten (tokens : List Token) (ps : List Plan) : Type 0 where
   pub written : Written
   pub spelled : map (λ (t : Token). t.kind) tokens ≡ text_tokens written
+  pub right : AreRight written
   pub said : AreSaid written ps

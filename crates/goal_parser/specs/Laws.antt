@@ -25,6 +25,6 @@ pub record AreWithinLimits (ps : List Plan) : Type 0 where
 abbrev pub KeepLimits : Type 0
 KeepLimits = (text : List ℕ) (ps : List Plan) → reads text ≡ plans ps → AreWithinLimits ps
 
--- the tokens of a text that says plans are sentences, and its plans are what the sentences say
+-- the tokens of a text that says plans are sentences that keep the rules, and its plans are what the sentences say
 abbrev pub SayPlans : Type 0
 SayPlans = (text : List ℕ) (ps : List Plan) → reads text ≡ plans ps → IsWritten (lexed text).0 ps

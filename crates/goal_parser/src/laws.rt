@@ -4,8 +4,9 @@ ghost use Rattle.goal_parser.specs.Laws.{KeepLimits, SayPlans};
 /// The laws of texts:
 ///
 /// - `keep_limits`: the plans that a text says have counts and values within their limits;
-/// - `say_plans`: a text that says plans is sentences, the actions, dependencies and notes of a block for each rank, and
-///   operation, dependency and note number i of a rank are what number i of its block's actions, dependencies and notes says.
+/// - `say_plans`: a text that says plans is sentences that keep the rules of ranks, labels and options: a block for each
+///   rank at most, of actions, dependencies and notes. Operation, dependency and note number i of a rank are what number i
+///   of its block's actions, dependencies and notes says.
 pub fn laws_of_texts()
     ensures keep_limits { KeepLimits }
     ensures say_plans { SayPlans }
