@@ -24,3 +24,4 @@ pub mod Faults
 pub mod EndsBefore
 pub mod NoFault
 pub mod OneFault
+pub mod Ring

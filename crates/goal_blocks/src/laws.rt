@@ -4,6 +4,7 @@ ghost use Rattle.goal_blocks.specs.Walk.{OneWalk, SomeWalk};
 ghost use Rattle.goal_blocks.specs.Certification.{CertifiedEndsEverywhere, CertifiedConflictsInOneOrder, MatchedHoldsAsTheWalk, CertifiedIsRightEverywhere};
 ghost use Rattle.goal_blocks.specs.Certified.{BcastOfTwoIsCertified};
 ghost use Rattle.goal_blocks.specs.Faults.{FaultExcludesCertified, FaultlessIsCertified, OneFirstFault};
+ghost use Rattle.goal_blocks.specs.Positions.{AheadAndBack};
 ghost use Rattle.goal_blocks.specs.Race.{OrderIsKept, ConflictsComeInOneOrder};
 
 /// The laws of schedules without wildcards, in which each send has one receive of its channel and each receive one
@@ -62,4 +63,11 @@ pub fn laws_of_faults()
     ensures fault_excludes_certified { FaultExcludesCertified }
     ensures faultless_is_certified { FaultlessIsCertified }
     ensures one_first_fault { OneFirstFault }
+{}
+
+/// The law of places in a ring, which says that the two ends of a message around it agree:
+///
+/// - `ahead_and_back`: the rank that is s ahead of r has r as the one that is s back, and the other way round.
+pub fn laws_of_positions()
+    ensures ahead_and_back { AheadAndBack }
 {}

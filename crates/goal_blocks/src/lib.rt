@@ -12,7 +12,8 @@ pub use cert_fault::CertFault;
 pub use collective::{Collective, Contribution};
 pub use generated::laws_of_made_schedules;
 pub use laws::{
-    laws_of_certified_schedules, laws_of_faults, laws_of_matched_schedules, laws_of_races,
+    laws_of_certified_schedules, laws_of_faults, laws_of_matched_schedules, laws_of_positions,
+    laws_of_races,
 };
 pub use positions::{ahead, back, digits, power};
 pub use steps::{Effect, Formula, Needs, Step, before_round, plans_of};

@@ -1,0 +1,38 @@
+-- Going ahead in a ring and going back undo each other.
+use Rattle.std.proofs.Common.{ℕ, ◌+◌, ◌-◌, ◌<◌, ◌≤◌, ◌≡◌, ◌⊎◌, inl, inr, ⊎_elim, Bool, true, false, nat_lt, if◌then◌else◌, refl, arith, ltb-true}
+use Rattle.std.proofs.lemmas.Bool.{both_ways, cases_lt, lt-ltb}
+use Rattle.goal_blocks.specs.Positions.{ahead, back}
+
+-- which branch an `if` takes
+branches : (a b x y : ℕ) → ((a < b) × ((if nat_lt a b then x else y) ≡ x)) ⊎ ((b ≤ a) × ((if nat_lt a b then x else y) ≡ y))
+branches a b x y = go (nat_lt a b) refl
+  where
+    go : (t : Bool) → nat_lt a b ≡ t → ((a < b) × ((if t then x else y) ≡ x)) ⊎ ((b ≤ a) × ((if t then x else y) ≡ y))
+    go true e = inl (ltb-true a b e, refl)
+    go false e = inr (⊎_elim (λ p. absurd (both_ways _ e (lt-ltb a b p))) (λ p. p) (cases_lt a b), refl)
+
+ahead_is : (ranks v s : ℕ) → ((v + s < ranks) × (ahead ranks v s ≡ v + s)) ⊎ ((ranks ≤ v + s) × (ahead ranks v s ≡ v + s - ranks))
+unfolding ahead
+ahead_is ranks v s = branches (v + s) ranks (v + s) (v + s - ranks)
+
+back_is : (ranks r s : ℕ) → ((r < s) × (back ranks r s ≡ r + ranks - s)) ⊎ ((s ≤ r) × (back ranks r s ≡ r - s))
+unfolding back
+back_is ranks r s = branches r s (r + ranks - s) (r - s)
+
+pub back_ahead : (ranks r s : ℕ) → r < ranks → s ≤ ranks → back ranks (ahead ranks r s) s ≡ r
+back_ahead ranks r s p q = go (ahead_is ranks r s) (back_is ranks (ahead ranks r s) s)
+  where
+    go : ((r + s < ranks) × (ahead ranks r s ≡ r + s)) ⊎ ((ranks ≤ r + s) × (ahead ranks r s ≡ r + s - ranks)) → ((ahead ranks r s < s) × (back ranks (ahead ranks r s) s ≡ ahead ranks r s + ranks - s)) ⊎ ((s ≤ ahead ranks r s) × (back ranks (ahead ranks r s) s ≡ ahead ranks r s - s)) → back ranks (ahead ranks r s) s ≡ r
+    go (inl (a, e)) (inl (b, f)) = omega (arith, p, q, a, e, b, f)
+    go (inl (a, e)) (inr (b, f)) = omega (arith, p, q, a, e, b, f)
+    go (inr (a, e)) (inl (b, f)) = omega (arith, p, q, a, e, b, f)
+    go (inr (a, e)) (inr (b, f)) = omega (arith, p, q, a, e, b, f)
+
+pub ahead_back : (ranks r s : ℕ) → r < ranks → s ≤ ranks → ahead ranks (back ranks r s) s ≡ r
+ahead_back ranks r s p q = go (back_is ranks r s) (ahead_is ranks (back ranks r s) s)
+  where
+    go : ((r < s) × (back ranks r s ≡ r + ranks - s)) ⊎ ((s ≤ r) × (back ranks r s ≡ r - s)) → ((back ranks r s + s < ranks) × (ahead ranks (back ranks r s) s ≡ back ranks r s + s)) ⊎ ((ranks ≤ back ranks r s + s) × (ahead ranks (back ranks r s) s ≡ back ranks r s + s - ranks)) → ahead ranks (back ranks r s) s ≡ r
+    go (inl (a, e)) (inl (b, f)) = omega (arith, p, q, a, e, b, f)
+    go (inl (a, e)) (inr (b, f)) = omega (arith, p, q, a, e, b, f)
+    go (inr (a, e)) (inl (b, f)) = omega (arith, p, q, a, e, b, f)
+    go (inr (a, e)) (inr (b, f)) = omega (arith, p, q, a, e, b, f)
