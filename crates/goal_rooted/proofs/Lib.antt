@@ -1,0 +1,2 @@
+pub mod LowPowers
+pub mod RootedCases

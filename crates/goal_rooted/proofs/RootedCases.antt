@@ -1,0 +1,165 @@
+-- The formulas, case by case.
+use Rattle.std.proofs.Common.{◌≡◌, ◌≢◌, ℕ, zero, suc, ◌+◌, ◌-◌, ◌*◌, ◌/◌, ◌%◌, ◌^◌, ◌<◌, ◌≤◌, eqb, ltb, leb, true, false, [], ◌∷◌, refl, ap, arith, min}
+use Rattle.std.specs.List.{range_with_len}
+use Rattle.std.proofs.Math.Nat.{le_trans}
+use Rattle.std.proofs.lemmas.Bool.Decides.{nat_tests}
+use Rattle.goal_blocks.specs.declared.collective.Collective.{Collective}
+use Rattle.goal_blocks.specs.declared.collective.Collective.TheVariants.{Bcast, Barrier, Allgather, Allreduce, Alltoall, Reduce, Gather, Scatter, ReduceScatter, Scan}
+use Rattle.goal_blocks.specs.Generated.{most_ranks}
+use Rattle.goal_blocks.specs.Entries.{slot, sending, receiving, summing}
+use Rattle.goal_blocks.specs.Positions.{ahead, back, digits, low, rounds, parent, upward, span, share}
+use Rattle.goal_blocks.specs.Made.{before_round}
+use Rattle.goal_blocks.specs.MadeRooted.{earlier_sum, reduce_in, gather_in, give_in, scatter_in, reduce_scatter_in, scan_in}
+use Rattle.goal_blocks.proofs.ForCallers.{child_below, rounds_few}
+
+-- the tree
+
+pub rounds_of_root : (ranks v : ℕ) → v ≡ 0 → digits (ranks - 1 - v) ≡ rounds ranks v
+unfolding rounds
+rounds_of_root ranks zero e = ap digits (omega arith)
+rounds_of_root ranks (suc w) e = absurd (omega arith)
+
+pub rounds_of_other : (ranks v : ℕ) → 0 < v → min (low v) (digits (ranks - 1 - v)) ≡ rounds ranks v
+unfolding rounds
+rounds_of_other ranks v some =
+    let e : eqb v 0 ≡ false = grind (arith, nat_tests) in
+    rw e refl
+
+-- a virtual rank has one parent at most
+pub upward_few : (v : ℕ) → upward v ≤ 1
+upward_few v = grind (arith, nat_tests)
+
+-- a round of a virtual rank is below 16, and its child is a virtual rank
+pub record IsChild (ranks v j : ℕ) : Type 0 where
+  pub few : j < 16
+  pub child : v + 2 ^ j < ranks
+
+pub child_of : (ranks v j : ℕ) → ranks ≤ 65536 → v < ranks → j < rounds ranks v → IsChild ranks v j
+child_of ranks v j few inside lt =
+    record { few = omega (arith, rounds_few ranks few v); child = child_below ranks few v j inside lt }
+
+pub in_one_span : (ranks x y : ℕ) → x ≤ y → record { lo = x; hi = y } ∷ [] ≡ span ranks x y
+in_one_span ranks x y le =
+    let t : leb x y ≡ true = grind (arith, nat_tests) in
+    rw t refl
+
+pub in_two_spans : (ranks x y : ℕ) → y < x → record { lo = x; hi = ranks - 1 } ∷ record { lo = 0; hi = y } ∷ [] ≡ span ranks x y
+in_two_spans ranks x y lt =
+    let t : leb x y ≡ false = grind (arith, nat_tests) in
+    rw t refl
+
+pub share_is : (ranks root v s x y : ℕ) → x ≡ ahead ranks v root → y ≡ ahead ranks (min (v + s) ranks - 1) root → span ranks x y ≡ share ranks root v s
+unfolding share
+share_is ranks root v s x y a b = rw (a, b) refl
+
+module _ (ranks root bytes v : ℕ) where
+  pub reduce_sends : (i : ℕ) → rounds ranks v ≤ i / 2 → sending bytes (parent ranks root v) (low v) (earlier_sum (rounds ranks v)) (slot 0) ≡ reduce_in ranks root bytes v i
+  unfolding reduce_in
+  reduce_sends i le =
+      let t : ltb (i / 2) (rounds ranks v) ≡ false = grind (arith, nat_tests) in
+      rw t refl
+
+  pub reduce_hears : (i : ℕ) → i / 2 < rounds ranks v → i % 2 ≡ 0 → receiving bytes (ahead ranks (v + 2 ^ (i / 2)) root) (i / 2) (slot (i / 2 + 1)) ≡ reduce_in ranks root bytes v i
+  unfolding reduce_in
+  reduce_hears i lt even =
+      let t : ltb (i / 2) (rounds ranks v) ≡ true = grind (arith, nat_tests) in
+      rw (t, even) refl
+
+  pub reduce_sums : (i : ℕ) → i / 2 < rounds ranks v → i % 2 ≢ 0 → summing ((i / 2 + i / 2) ∷ earlier_sum (i / 2)) (i / 2 + 1) 0 ≡ reduce_in ranks root bytes v i
+  unfolding reduce_in
+  reduce_sums i lt odd =
+      let t : ltb (i / 2) (rounds ranks v) ≡ true = grind (arith, nat_tests) in
+      let one : i % 2 ≡ 1 = omega arith in
+      rw (t, one) refl
+
+  pub gather_sends : (i : ℕ) → rounds ranks v ≤ i → sending bytes (parent ranks root v) (low v) (range_with_len 0 (rounds ranks v)) (share ranks root v (2 ^ low v)) ≡ gather_in ranks root bytes v i
+  unfolding gather_in
+  gather_sends i le =
+      let t : ltb i (rounds ranks v) ≡ false = grind (arith, nat_tests) in
+      rw t refl
+
+  pub gather_hears : (i : ℕ) → i < rounds ranks v → receiving bytes (ahead ranks (v + 2 ^ i) root) i (share ranks root (v + 2 ^ i) (2 ^ i)) ≡ gather_in ranks root bytes v i
+  unfolding gather_in
+  gather_hears i lt =
+      let t : ltb i (rounds ranks v) ≡ true = grind (arith, nat_tests) in
+      rw t refl
+
+module _ (ranks root bytes : ℕ) where
+  pub scatter_gives_first : (v i : ℕ) → v ≡ 0 → give_in ranks root bytes v (rounds ranks v - 1 - i) [] ≡ scatter_in ranks root bytes v i
+  unfolding scatter_in
+  scatter_gives_first zero i e = refl
+  scatter_gives_first (suc w) i e = absurd (omega arith)
+
+  pub scatter_takes : (v i : ℕ) → 0 < v → i ≡ 0 → receiving bytes (parent ranks root v) (low v) (share ranks root v (2 ^ low v)) ≡ scatter_in ranks root bytes v i
+  unfolding scatter_in
+  scatter_takes zero i some e = absurd (omega arith)
+  scatter_takes (suc w) zero some e = refl
+  scatter_takes (suc w) (suc i) some e = absurd (omega arith)
+
+  pub scatter_gives : (v i : ℕ) → 0 < v → 0 < i → give_in ranks root bytes v (rounds ranks v - 1 - (i - 1)) (0 ∷ []) ≡ scatter_in ranks root bytes v i
+  unfolding scatter_in
+  scatter_gives zero i some e = absurd (omega arith)
+  scatter_gives (suc w) zero some e = absurd (omega arith)
+  scatter_gives (suc w) (suc i) some e =
+      let same : rounds ranks (suc w) - 1 - (suc i - 1) ≡ rounds ranks (suc w) - 1 - i = omega arith in
+      ap (λ (j : ℕ). give_in ranks root bytes (suc w) j (0 ∷ [])) same
+
+module _ (ranks bytes r i : ℕ) where
+  pub part_sends : i % 3 ≡ 0 → sending bytes (ahead ranks r 1) (i / 3) (before_round (i / 3)) (slot (back ranks r (i / 3 + 1))) ≡ reduce_scatter_in ranks bytes r i
+  unfolding reduce_scatter_in
+  part_sends e = rw e refl
+
+  pub part_receives : i % 3 ≡ 1 → receiving bytes (back ranks r 1) (i / 3) (slot (ranks + back ranks r (i / 3 + 2))) ≡ reduce_scatter_in ranks bytes r i
+  unfolding reduce_scatter_in
+  part_receives e = rw e refl
+
+  pub part_sums : i % 3 ≢ 0 → i % 3 ≢ 1 → summing ((3 * (i / 3) + 1) ∷ []) (ranks + back ranks r (i / 3 + 2)) (back ranks r (i / 3 + 2)) ≡ reduce_scatter_in ranks bytes r i
+  unfolding reduce_scatter_in
+  part_sums a b =
+      let e : i % 3 ≡ 2 = omega arith in
+      rw e refl
+
+module _ (bytes : ℕ) where
+  pub scan_begins : (r i : ℕ) → r ≡ 0 → sending bytes 1 0 [] (slot 0) ≡ scan_in bytes r i
+  unfolding scan_in
+  scan_begins zero i e = refl
+  scan_begins (suc w) i e = absurd (omega arith)
+
+  pub scan_takes : (r i : ℕ) → 0 < r → i ≡ 0 → receiving bytes (r - 1) 0 (slot 1) ≡ scan_in bytes r i
+  unfolding scan_in
+  scan_takes zero i some e = absurd (omega arith)
+  scan_takes (suc w) zero some e =
+      let same : suc w - 1 ≡ w = omega arith in
+      rw same refl
+  scan_takes (suc w) (suc i) some e = absurd (omega arith)
+
+  pub scan_sums : (r i : ℕ) → 0 < r → i ≡ 1 → summing (0 ∷ []) 1 0 ≡ scan_in bytes r i
+  unfolding scan_in
+  scan_sums zero i some e = absurd (omega arith)
+  scan_sums (suc w) zero some e = absurd (omega arith)
+  scan_sums (suc w) (suc zero) some e = refl
+  scan_sums (suc w) (suc (suc i)) some e = absurd (omega arith)
+
+  pub scan_gives : (r i : ℕ) → 0 < r → 1 < i → sending bytes (r + 1) 0 (1 ∷ []) (slot 0) ≡ scan_in bytes r i
+  unfolding scan_in
+  scan_gives zero i some e = absurd (omega arith)
+  scan_gives (suc w) zero some e = absurd (omega arith)
+  scan_gives (suc w) (suc zero) some e = absurd (omega arith)
+  scan_gives (suc w) (suc (suc i)) some e = refl
+
+-- no collective may have more than 65536 ranks
+pub most_ranks_few : (what : Collective) → most_ranks what ≤ 65536
+most_ranks_few (Bcast root) = omega arith
+most_ranks_few Barrier = omega arith
+most_ranks_few Allgather = omega arith
+most_ranks_few Allreduce = omega arith
+most_ranks_few Alltoall = omega arith
+most_ranks_few (Reduce root) = omega arith
+most_ranks_few (Gather root) = omega arith
+most_ranks_few (Scatter root) = omega arith
+most_ranks_few ReduceScatter = omega arith
+most_ranks_few Scan = omega arith
+
+-- so a virtual rank has at most 16 children
+pub rounds_within : (what : Collective) (ranks v : ℕ) → ranks ≤ most_ranks what → rounds ranks v ≤ 16
+rounds_within what ranks v few = rounds_few ranks (le_trans few (most_ranks_few what)) v
