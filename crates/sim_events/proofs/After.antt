@@ -18,14 +18,14 @@ use Rattle.sim_params.specs.Costs.{CostModel, flight, flight_one, is_eager}
 use Rattle.sim_params.specs.Times.{mate, cpu_hold, start, paired_at, time_of, time, Possible}
 use Rattle.sim_params.specs.Run.{IsRun}
 use Rattle.sim_params.proofs.ForCallers.{start_kept, start_now, end_kept, end_last, paired_at_kept, since_kept, since_new, run_each, run_interleaving}
-use Rattle.sim_events.specs.Engine.{start_told, end_told}
-use Rattle.sim_events.specs.Turns.{time_told}
-use Rattle.sim_events.specs.Mirrors.{paired_told, there_told}
+use Rattle.sim_events.specs.Engine.{start_known, end_known}
+use Rattle.sim_events.specs.Enabled.{time_known}
+use Rattle.sim_events.specs.Represents.{paired_known, there_known}
 
--- a number that is told alike
-told_alike : (b c : Bool) (m n : ℕ) → c ≡ b → (b ≡ true → n ≡ m) → (if c then Some n else None) ≡ (if b then Some m else None)
-told_alike true c m n e same = subst (λ c. (if c then Some n else None) ≡ Some m) (sym e) (ap Some (same refl))
-told_alike false c m n e same = subst (λ c. (if c then Some n else None) ≡ None) (sym e) refl
+-- a number that is known alike
+known_alike : (b c : Bool) (m n : ℕ) → c ≡ b → (b ≡ true → n ≡ m) → (if c then Some n else None) ≡ (if b then Some m else None)
+known_alike true c m n e same = subst (λ c. (if c then Some n else None) ≡ Some m) (sym e) (ap Some (same refl))
+known_alike false c m n e same = subst (λ c. (if c then Some n else None) ≡ None) (sym e) refl
 
 module _ (plans : List Plan) (costs : CostModel) (h : List Timed) (a : Timed) where
   -- the newest action is another one: of another operation, of another class
@@ -50,20 +50,20 @@ module _ (plans : List Plan) (costs : CostModel) (h : List Timed) (a : Timed) wh
       subst (λ (d : Class). happened d a.op (plain h) ≡ false) e (allowed_fresh plans (is_eager plans costs) (plain h) a.class a.op p.allowed)
 
   -- the start
-  pub start_same : (x : OpId) → is_act (first_class (kind_at plans x)) x (plain_act a) ≡ false → start_told plans costs (a ∷ h) x ≡ start_told plans costs h x
+  pub start_same : (x : OpId) → is_act (first_class (kind_at plans x)) x (plain_act a) ≡ false → start_known plans costs (a ∷ h) x ≡ start_known plans costs h x
   start_same x e =
-      told_alike _ _ _ _ (happened_same (first_class (kind_at plans x)) x e) (start_kept plans costs a h x)
+      known_alike _ _ _ _ (happened_same (first_class (kind_at plans x)) x e) (start_kept plans costs a h x)
 
-  pub start_new : Possible plans costs h a → a.class ≡ first_class (kind_at plans a.op) → start_told plans costs (a ∷ h) a.op ≡ Some a.time
+  pub start_new : Possible plans costs h a → a.class ≡ first_class (kind_at plans a.op) → start_known plans costs (a ∷ h) a.op ≡ Some a.time
   start_new p e =
       cond-true _ _ _ (happened_this (first_class (kind_at plans a.op)) e) ∙ ap Some (start_now plans costs a h p e)
 
   -- the end
-  pub end_same : IsRun plans costs h → (x : OpId) → is_act (last_class (is_eager plans costs x) (kind_at plans x)) x (plain_act a) ≡ false → end_told plans costs (a ∷ h) x ≡ end_told plans costs h x
+  pub end_same : IsRun plans costs h → (x : OpId) → is_act (last_class (is_eager plans costs x) (kind_at plans x)) x (plain_act a) ≡ false → end_known plans costs (a ∷ h) x ≡ end_known plans costs h x
   end_same run x e =
-      told_alike _ _ _ _ (happened_same (last_class (is_eager plans costs x) (kind_at plans x)) x e) (end_kept plans costs a h x (run_each plans costs h run))
+      known_alike _ _ _ _ (happened_same (last_class (is_eager plans costs x) (kind_at plans x)) x e) (end_kept plans costs a h x (run_each plans costs h run))
 
-  pub end_new : Possible plans costs h a → a.class ≡ last_class (is_eager plans costs a.op) (kind_at plans a.op) → end_told plans costs (a ∷ h) a.op ≡ Some (a.time + cpu_hold plans costs h a.class a.op (kind_at plans a.op))
+  pub end_new : Possible plans costs h a → a.class ≡ last_class (is_eager plans costs a.op) (kind_at plans a.op) → end_known plans costs (a ∷ h) a.op ≡ Some (a.time + cpu_hold plans costs h a.class a.op (kind_at plans a.op))
   end_new p e =
       cond-true _ _ _ (happened_this (last_class (is_eager plans costs a.op) (kind_at plans a.op)) e) ∙ ap Some (end_last plans costs a h p e)
 
@@ -72,7 +72,7 @@ module _ (plans : List Plan) (costs : CostModel) (h : List Timed) (a : Timed) wh
   arriving_of l x k =
       if not (happened Arrive x (plain l)) && may plans (is_eager plans costs) (plain l) Arrive x k then Some (time_of plans costs l Arrive x k) else None
 
-  arriving_is : (l : List Timed) (x : OpId) (k : Option Kind) → kind_at plans x ≡ k → time_told plans costs l Arrive x ≡ arriving_of l x k
+  arriving_is : (l : List Timed) (x : OpId) (k : Option Kind) → kind_at plans x ≡ k → time_known plans costs l Arrive x ≡ arriving_of l x k
   unfolding allowed time
   arriving_is l x k e = ap (arriving_of l x) e
 
@@ -82,24 +82,24 @@ module _ (plans : List Plan) (costs : CostModel) (h : List Timed) (a : Timed) wh
   abbrev travel : OpId → ℕ
   travel x = if is_eager plans costs x then flight plans costs x else flight_one plans costs x
 
-  pub arriving_same : (x : OpId) → is_act Arrive x (plain_act a) ≡ false → is_act Begin x (plain_act a) ≡ false → time_told plans costs (a ∷ h) Arrive x ≡ time_told plans costs h Arrive x
+  pub arriving_same : (x : OpId) → is_act Arrive x (plain_act a) ≡ false → is_act Begin x (plain_act a) ≡ false → time_known plans costs (a ∷ h) Arrive x ≡ time_known plans costs h Arrive x
   arriving_same x e f = go (kind_at plans x) refl
     where
-      go : (k : Option Kind) → kind_at plans x ≡ k → time_told plans costs (a ∷ h) Arrive x ≡ time_told plans costs h Arrive x
+      go : (k : Option Kind) → kind_at plans x ≡ k → time_known plans costs (a ∷ h) Arrive x ≡ time_known plans costs h Arrive x
       go (Some (Send bytes to tag)) k =
           let send : IsSend plans x = record { bytes = bytes; to = to; tag = tag; kind = k } in
-          let same : arriving_of (a ∷ h) x (Some (Send bytes to tag)) ≡ arriving_of h x (Some (Send bytes to tag)) = told_alike (not (happened Arrive x (plain h)) && happened Begin x (plain h)) (not (happened Arrive x (plain (a ∷ h))) && happened Begin x (plain (a ∷ h))) (start plans costs h x + travel x) (start plans costs (a ∷ h) x + travel x) (ap₂ (λ (b c : Bool). not b && c) (happened_same Arrive x e) (happened_same Begin x f)) (λ t. ap (λ (n : ℕ). n + travel x) (start_kept plans costs a h x (started_send plans (plain h) x send ∙ (and_parts (not (happened Arrive x (plain h))) (happened Begin x (plain h)) t).1))) in
+          let same : arriving_of (a ∷ h) x (Some (Send bytes to tag)) ≡ arriving_of h x (Some (Send bytes to tag)) = known_alike (not (happened Arrive x (plain h)) && happened Begin x (plain h)) (not (happened Arrive x (plain (a ∷ h))) && happened Begin x (plain (a ∷ h))) (start plans costs h x + travel x) (start plans costs (a ∷ h) x + travel x) (ap₂ (λ (b c : Bool). not b && c) (happened_same Arrive x e) (happened_same Begin x f)) (λ t. ap (λ (n : ℕ). n + travel x) (start_kept plans costs a h x (started_send plans (plain h) x send ∙ (and_parts (not (happened Arrive x (plain h))) (happened Begin x (plain h)) t).1))) in
           arriving_is (a ∷ h) x _ k ∙ same ∙ sym (arriving_is h x _ k)
       go (Some (Calc nanos)) k = arriving_is (a ∷ h) x _ k ∙ never _ _ ∙ sym (never _ _) ∙ sym (arriving_is h x _ k)
       go (Some (Recv room from tag)) k = arriving_is (a ∷ h) x _ k ∙ never _ _ ∙ sym (never _ _) ∙ sym (arriving_is h x _ k)
       go None k = arriving_is (a ∷ h) x _ k ∙ never _ _ ∙ sym (never _ _) ∙ sym (arriving_is h x _ k)
 
   -- a calc never arrives
-  pub arriving_calc : (x : OpId) → IsCalc plans x → time_told plans costs (a ∷ h) Arrive x ≡ time_told plans costs h Arrive x
+  pub arriving_calc : (x : OpId) → IsCalc plans x → time_known plans costs (a ∷ h) Arrive x ≡ time_known plans costs h Arrive x
   arriving_calc x k = arriving_is (a ∷ h) x _ k.kind ∙ never _ _ ∙ sym (never _ _) ∙ sym (arriving_is h x _ k.kind)
 
   -- a send that begins is under way
-  pub arriving_begun : IsRun plans costs h → Possible plans costs h a → a.class ≡ Begin → IsSend plans a.op → time_told plans costs (a ∷ h) Arrive a.op ≡ Some (a.time + (if is_eager plans costs a.op then flight plans costs a.op else flight_one plans costs a.op))
+  pub arriving_begun : IsRun plans costs h → Possible plans costs h a → a.class ≡ Begin → IsSend plans a.op → time_known plans costs (a ∷ h) Arrive a.op ≡ Some (a.time + (if is_eager plans costs a.op then flight plans costs a.op else flight_one plans costs a.op))
   arriving_begun run p e s =
       let not_begun = fresh Begin p e in
       let not_arrived : happened Arrive a.op (plain h) ≡ false = false_from_ne_true _ (λ t. both_ways _ not_begun (arrived_begun plans (is_eager plans costs) (plain h) a.op (run_interleaving plans costs h run) t)) in
@@ -109,30 +109,30 @@ module _ (plans : List Plan) (costs : CostModel) (h : List Timed) (a : Timed) wh
       arriving_is (a ∷ h) a.op _ s.kind ∙ cond-true _ _ _ under_way ∙ ap (λ (n : ℕ). Some (n + travel a.op)) (start_now plans costs a h p first)
 
   -- what has arrived is not
-  pub arriving_arrived : a.class ≡ Arrive → time_told plans costs (a ∷ h) Arrive a.op ≡ None
+  pub arriving_arrived : a.class ≡ Arrive → time_known plans costs (a ∷ h) Arrive a.op ≡ None
   arriving_arrived e =
       arriving_is (a ∷ h) a.op (kind_at plans a.op) refl ∙ cond-false _ _ _ (and_left _ _ (ap not (happened_this Arrive e)))
 
   -- the bytes that are handed over
-  pub there_same : (x : OpId) → is_act Data x (plain_act a) ≡ false → there_told plans costs (a ∷ h) x ≡ there_told plans costs h x
+  pub there_same : (x : OpId) → is_act Data x (plain_act a) ≡ false → there_known plans costs (a ∷ h) x ≡ there_known plans costs h x
   there_same x e =
-      told_alike _ _ _ _ (happened_same Data x e) (λ t. ap (λ (n : ℕ). n + flight plans costs x) (since_kept (happened Data x) a h t))
+      known_alike _ _ _ _ (happened_same Data x e) (λ t. ap (λ (n : ℕ). n + flight plans costs x) (since_kept (happened Data x) a h t))
 
-  pub there_new : Possible plans costs h a → a.class ≡ Data → there_told plans costs (a ∷ h) a.op ≡ Some (a.time + flight plans costs a.op)
+  pub there_new : Possible plans costs h a → a.class ≡ Data → there_known plans costs (a ∷ h) a.op ≡ Some (a.time + flight plans costs a.op)
   there_new p e =
       cond-true _ _ _ (happened_this Data e) ∙ ap (λ (n : ℕ). Some (n + flight plans costs a.op)) (since_new (happened Data a.op) a h (fresh Data p e) (happened_this Data e))
 
   -- the partner
-  pub paired_same : (x : OpId) → mate plans costs (a ∷ h) x ≡ mate plans costs h x → paired_told plans costs (a ∷ h) x ≡ paired_told plans costs h x
+  pub paired_same : (x : OpId) → mate plans costs (a ∷ h) x ≡ mate plans costs h x → paired_known plans costs (a ∷ h) x ≡ paired_known plans costs h x
   paired_same x e = go (mate plans costs h x) refl
     where
-      go : (o : Option OpId) → mate plans costs h x ≡ o → paired_told plans costs (a ∷ h) x ≡ paired_told plans costs h x
+      go : (o : Option OpId) → mate plans costs h x ≡ o → paired_known plans costs (a ∷ h) x ≡ paired_known plans costs h x
       go None s =
           ap (option_map (λ (y : OpId). record { with = y; at = paired_at plans costs (a ∷ h) x })) (e ∙ s) ∙ sym (ap (option_map (λ (y : OpId). record { with = y; at = paired_at plans costs h x })) s)
       go (Some m) s =
           ap₂ (λ (n : ℕ) (o : Option OpId). option_map (λ (y : OpId). record { with = y; at = n }) o) (paired_at_kept plans costs a h x (is_some_from _ m s)) e
 
-  pub paired_new : (x y : OpId) → mate plans costs h x ≡ None → mate plans costs (a ∷ h) x ≡ Some y → paired_told plans costs (a ∷ h) x ≡ Some (record { with = y; at = a.time })
+  pub paired_new : (x y : OpId) → mate plans costs h x ≡ None → mate plans costs (a ∷ h) x ≡ Some y → paired_known plans costs (a ∷ h) x ≡ Some (record { with = y; at = a.time })
   paired_new x y e f =
       let before : is_paired (pairs plans (plain h)) x ≡ false = ap is_some e in
       let now : is_paired (pairs plans (plain (a ∷ h))) x ≡ true = ap is_some f in

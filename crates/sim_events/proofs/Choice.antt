@@ -14,35 +14,35 @@ use Rattle.goal_graph.proofs.ForCallers.{not_send_receive, not_receive_calc, not
 use Rattle.sim_params.specs.Costs.{CostModel, is_eager}
 use Rattle.sim_params.specs.Laws.{at_its_time}
 use Rattle.sim_params.proofs.ForCallers.{possible_at}
-use Rattle.sim_events.specs.Turns.{turn_told}
-use Rattle.sim_events.specs.Queue.{IsTurnOf}
+use Rattle.sim_events.specs.Enabled.{enabled_action}
+use Rattle.sim_events.specs.Queue.{IsEnabledActionOf}
 
 module _ (plans : List Plan) (costs : CostModel) (h : List Timed) (x : OpId) where
   abbrev pub Can : Class → Type 0
   Can c = allowed plans (is_eager plans costs) (plain h) c x ≡ true
 
-  abbrev pub IsTurn : Option Timed → Type 0
-  IsTurn r = IsTurnOf plans costs h x r
+  abbrev pub IsEnabledAction : Option Timed → Type 0
+  IsEnabledAction r = IsEnabledActionOf plans costs h x r
 
-  -- where no other class is allowed, the turn of that class is the turn
-  turn_of_class : (c : Class) → ((d : Class) → Can d → d ≡ c) → IsTurn (turn_told plans costs h c x)
-  turn_of_class c only = go (cases_Bool (allowed plans (is_eager plans costs) (plain h) c x))
+  -- where no other class is allowed, the enabled action of that class is the one of x
+  enabled_of_class : (c : Class) → ((d : Class) → Can d → d ≡ c) → IsEnabledAction (enabled_action plans costs h c x)
+  enabled_of_class c only = go (cases_Bool (allowed plans (is_eager plans costs) (plain h) c x))
     where
-      go : (Can c) ⊎ (allowed plans (is_eager plans costs) (plain h) c x ≡ false) → IsTurn (turn_told plans costs h c x)
+      go : (Can c) ⊎ (allowed plans (is_eager plans costs) (plain h) c x ≡ false) → IsEnabledAction (enabled_action plans costs h c x)
       go (inl t) =
-          subst IsTurn (sym (cond-true _ (Some (at_its_time plans costs h c x)) None t)) (refl, possible_at plans costs h c x t)
+          subst IsEnabledAction (sym (cond-true _ (Some (at_its_time plans costs h c x)) None t)) (refl, possible_at plans costs h c x t)
       go (inr f) =
-          subst IsTurn (sym (cond-false _ (Some (at_its_time plans costs h c x)) None f)) (λ d. false_from_ne_true _ (λ t. both_ways _ f (subst Can (only d t) t)))
+          subst IsEnabledAction (sym (cond-false _ (Some (at_its_time plans costs h c x)) None f)) (λ d. false_from_ne_true _ (λ t. both_ways _ f (subst Can (only d t) t)))
 
-  -- where that class is allowed, its turn is the turn
-  first_of : (c : Class) (rest : Option Timed) → ((Can c → ⊥) → IsTurn rest) → IsTurn (option_or (turn_told plans costs h c x) rest)
+  -- where that class is allowed, its enabled action is the one of x
+  first_of : (c : Class) (rest : Option Timed) → ((Can c → ⊥) → IsEnabledAction rest) → IsEnabledAction (option_or (enabled_action plans costs h c x) rest)
   first_of c rest other = go (cases_Bool (allowed plans (is_eager plans costs) (plain h) c x))
     where
-      go : (Can c) ⊎ (allowed plans (is_eager plans costs) (plain h) c x ≡ false) → IsTurn (option_or (turn_told plans costs h c x) rest)
+      go : (Can c) ⊎ (allowed plans (is_eager plans costs) (plain h) c x ≡ false) → IsEnabledAction (option_or (enabled_action plans costs h c x) rest)
       go (inl t) =
-          subst (λ (o : Option Timed). IsTurn (option_or o rest)) (sym (cond-true _ (Some (at_its_time plans costs h c x)) None t)) (refl, possible_at plans costs h c x t)
+          subst (λ (o : Option Timed). IsEnabledAction (option_or o rest)) (sym (cond-true _ (Some (at_its_time plans costs h c x)) None t)) (refl, possible_at plans costs h c x t)
       go (inr f) =
-          subst (λ (o : Option Timed). IsTurn (option_or o rest)) (sym (cond-false _ (Some (at_its_time plans costs h c x)) None f)) (other (λ t. both_ways _ f t))
+          subst (λ (o : Option Timed). IsEnabledAction (option_or o rest)) (sym (cond-false _ (Some (at_its_time plans costs h c x)) None f)) (other (λ t. both_ways _ f t))
 
   -- the classes of each kind
   calc_class : IsCalc plans x → (c : Class) → Can c → c ≡ Begin
@@ -66,21 +66,21 @@ module _ (plans : List Plan) (costs : CostModel) (h : List Timed) (x : OpId) whe
   receive_class k p Post e = absurd (p e)
   receive_class k p Serve e = refl
 
-  pub calc_choice : IsCalc plans x → (r : Option Timed) → r ≡ turn_told plans costs h Begin x → IsTurn r
-  calc_choice k r e = subst IsTurn (sym e) (turn_of_class Begin (calc_class k))
+  pub calc_choice : IsCalc plans x → (r : Option Timed) → r ≡ enabled_action plans costs h Begin x → IsEnabledAction r
+  calc_choice k r e = subst IsEnabledAction (sym e) (enabled_of_class Begin (calc_class k))
 
   or_assoc : (a b c : Option Timed) → option_or (option_or a b) c ≡ option_or a (option_or b c)
   or_assoc None b c = refl
   or_assoc (Some a) b c = refl
 
-  pub send_choice : IsSend plans x → (a b d r s : Option Timed) → a ≡ turn_told plans costs h Begin x → b ≡ turn_told plans costs h Arrive x → d ≡ turn_told plans costs h Data x → s ≡ option_or a b → r ≡ option_or s d → IsTurn r
+  pub send_choice : IsSend plans x → (a b d r s : Option Timed) → a ≡ enabled_action plans costs h Begin x → b ≡ enabled_action plans costs h Arrive x → d ≡ enabled_action plans costs h Data x → s ≡ option_or a b → r ≡ option_or s d → IsEnabledAction r
   send_choice k a b d r s ae be de se re =
-      let turn = first_of Begin (option_or (turn_told plans costs h Arrive x) (turn_told plans costs h Data x)) (λ nb. first_of Arrive (turn_told plans costs h Data x) (λ na. turn_of_class Data (send_class k nb na))) in
-      let parts : r ≡ option_or (turn_told plans costs h Begin x) (option_or (turn_told plans costs h Arrive x) (turn_told plans costs h Data x)) = re ∙ ap (λ (o : Option Timed). option_or o d) se ∙ or_assoc a b d ∙ (λ i. option_or (ae i) (option_or (be i) (de i))) in
-      subst IsTurn (sym parts) turn
+      let enabled = first_of Begin (option_or (enabled_action plans costs h Arrive x) (enabled_action plans costs h Data x)) (λ nb. first_of Arrive (enabled_action plans costs h Data x) (λ na. enabled_of_class Data (send_class k nb na))) in
+      let parts : r ≡ option_or (enabled_action plans costs h Begin x) (option_or (enabled_action plans costs h Arrive x) (enabled_action plans costs h Data x)) = re ∙ ap (λ (o : Option Timed). option_or o d) se ∙ or_assoc a b d ∙ (λ i. option_or (ae i) (option_or (be i) (de i))) in
+      subst IsEnabledAction (sym parts) enabled
 
-  pub receive_choice : IsReceive plans x → (a b r : Option Timed) → a ≡ turn_told plans costs h Post x → b ≡ turn_told plans costs h Serve x → r ≡ option_or a b → IsTurn r
+  pub receive_choice : IsReceive plans x → (a b r : Option Timed) → a ≡ enabled_action plans costs h Post x → b ≡ enabled_action plans costs h Serve x → r ≡ option_or a b → IsEnabledAction r
   receive_choice k a b r ae be re =
-      let turn = first_of Post (turn_told plans costs h Serve x) (λ np. turn_of_class Serve (receive_class k np)) in
-      let parts : r ≡ option_or (turn_told plans costs h Post x) (turn_told plans costs h Serve x) = re ∙ (λ i. option_or (ae i) (be i)) in
-      subst IsTurn (sym parts) turn
+      let enabled = first_of Post (enabled_action plans costs h Serve x) (λ np. enabled_of_class Serve (receive_class k np)) in
+      let parts : r ≡ option_or (enabled_action plans costs h Post x) (enabled_action plans costs h Serve x) = re ∙ (λ i. option_or (ae i) (be i)) in
+      subst IsEnabledAction (sym parts) enabled

@@ -21,7 +21,7 @@ use Rattle.sim_params.proofs.ForCallers.{run_each, start_kept, end_kept}
 use Rattle.sim_match.proofs.ForCallers.{slice_get_written, slice_get_elsewhere}
 use Rattle.sim_events.specs.declared.cursor.Cursor.{Cursor}
 use Rattle.sim_events.specs.Engine.{View}
-use Rattle.sim_events.specs.Turns.{moment_told, ready_told}
+use Rattle.sim_events.specs.Enabled.{moment_known, ready_known}
 use Rattle.sim_events.specs.Cursors.{is_there, there_at, IsCursorOf, AreCursors}
 use Rattle.sim_events.proofs.Ready.{moment_is}
 
@@ -40,7 +40,7 @@ module _ (plans : List Plan) (costs : CostModel) (h : List Timed) (x : OpId) whe
   cursor_start = record { within = omega arith; met = refl; ready = refl }
 
   -- a moment that is there
-  moment_there : (d : Need) (m : ℕ) → moment_told plans costs h d.when (needed x d) ≡ Some m → (is_there plans costs h x d ≡ true) × (there_at plans costs h x d ≡ m)
+  moment_there : (d : Need) (m : ℕ) → moment_known plans costs h d.when (needed x d) ≡ Some m → (is_there plans costs h x d ≡ true) × (there_at plans costs h x d ≡ m)
   moment_there d m e = go (is_there plans costs h x d) refl (sym (moment_is plans costs h x d) ∙ e)
     where
       go : (b : Bool) → is_there plans costs h x d ≡ b → (if b then Some (there_at plans costs h x d) else None) ≡ Some m → (is_there plans costs h x d ≡ true) × (there_at plans costs h x d ≡ m)
@@ -49,7 +49,7 @@ module _ (plans : List Plan) (costs : CostModel) (h : List Timed) (x : OpId) whe
 
   -- one need more is met
   pub cursor_more : (items : List Need) → items ≡ needs plans x → (c : Cursor) (k : ℕ) (d : Need) (r : Option ℕ) (m n : ℕ) → c.at ≡ k → k < length items → IsCursorOf plans costs h x c
-      → r ≡ moment_told plans costs h (get_or items k d).when (needed x (get_or items k d)) → r ≡ Some m → n ≡ max c.ready m → IsCursorOf plans costs h x (record { at = k + 1; ready = n })
+      → r ≡ moment_known plans costs h (get_or items k d).when (needed x (get_or items k d)) → r ≡ Some m → n ≡ max c.ready m → IsCursorOf plans costs h x (record { at = k + 1; ready = n })
   unfolding greatest
   cursor_more items are c k d r m n at l cur e f rise = record {
     within = omega (arith, l, ap length are);
@@ -61,15 +61,15 @@ module _ (plans : List Plan) (costs : CostModel) (h : List Timed) (x : OpId) whe
       within = subst (λ (ds : List Need). k < length ds) are l
 
       there : (is_there plans costs h x (get_or (needs plans x) k d) ≡ true) × (there_at plans costs h x (get_or (needs plans x) k d) ≡ m)
-      there = moment_there (get_or (needs plans x) k d) m (sym (subst (λ (ds : List Need). r ≡ moment_told plans costs h (get_or ds k d).when (needed x (get_or ds k d))) are e) ∙ f)
+      there = moment_there (get_or (needs plans x) k d) m (sym (subst (λ (ds : List Need). r ≡ moment_known plans costs h (get_or ds k d).when (needed x (get_or ds k d))) are e) ∙ f)
 
       split : greatest (there_at plans costs h x) (take k (needs plans x) ++ get_or (needs plans x) k d ∷ []) ≡ max (greatest (there_at plans costs h x) (take k (needs plans x))) (max (there_at plans costs h x (get_or (needs plans x) k d)) 0)
       split = greatest-append (there_at plans costs h x) (take k (needs plans x)) (get_or (needs plans x) k d ∷ [])
 
   -- past all needs
-  pub cursor_told : (items : List Need) → items ≡ needs plans x → (c : Cursor) → IsCursorOf plans costs h x c → length items ≤ c.at → Some c.ready ≡ ready_told plans costs h x
+  pub cursor_knows : (items : List Need) → items ≡ needs plans x → (c : Cursor) → IsCursorOf plans costs h x c → length items ≤ c.at → Some c.ready ≡ ready_known plans costs h x
   unfolding is_ready ready
-  cursor_told items are c cur l =
+  cursor_knows items are c cur l =
       let all : take c.at (needs plans x) ≡ needs plans x = take_all c.at (needs plans x) (omega (arith, l, ap length are)) in
       ap Some (cur.ready ∙ ap (greatest (there_at plans costs h x)) all) ∙ sym (ap (λ b. if b then Some (greatest (there_at plans costs h x) (needs plans x)) else None) (sym (ap (list_all (is_there plans costs h x)) all) ∙ cur.met))
 

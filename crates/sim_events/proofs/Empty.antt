@@ -13,24 +13,24 @@ use Rattle.sim_params.specs.Times.{cpu, tx, rx, time}
 use Rattle.sim_match.specs.PostsAndArrivals.{PostsAndArrivals}
 use Rattle.sim_resources.specs.FreeTimes.{Holds, free_at, cpu_free, tx_free, rx_free, unheld, SameFreeTimes}
 use Rattle.sim_events.specs.declared.entry.Entry.{Entry}
-use Rattle.sim_events.specs.Engine.{start_told, end_told}
-use Rattle.sim_events.specs.Turns.{time_told}
-use Rattle.sim_events.specs.Mirrors.{paired_told, there_told, entry_told, AreFreeTimes, KnowsPostsAndArrivals}
+use Rattle.sim_events.specs.Engine.{start_known, end_known}
+use Rattle.sim_events.specs.Enabled.{time_known}
+use Rattle.sim_events.specs.Represents.{paired_known, there_known, entry_known, AreFreeTimes, KnowsPostsAndArrivals}
 
 abbrev pub blank : Entry
 blank = record { start = None; end = None; arriving = None; paired = None; there = None }
 
 module _ (plans : List Plan) (costs : CostModel) where
   module _ (x : OpId) where
-    no_start : start_told plans costs [] x ≡ None
+    no_start : start_known plans costs [] x ≡ None
     unfolding plain happened
     no_start = refl
 
-    no_end : end_told plans costs [] x ≡ None
+    no_end : end_known plans costs [] x ≡ None
     unfolding plain happened
     no_end = refl
 
-    no_arrival : time_told plans costs [] Arrive x ≡ None
+    no_arrival : time_known plans costs [] Arrive x ≡ None
     unfolding plain happened allowed
     no_arrival = go (kind_at plans x)
       where
@@ -40,17 +40,17 @@ module _ (plans : List Plan) (costs : CostModel) where
         go (Some (Recv room from tag)) = refl
         go None = refl
 
-    no_partner : paired_told plans costs [] x ≡ None
+    no_partner : paired_known plans costs [] x ≡ None
     unfolding plain pairs partner
     no_partner = refl
 
-    no_bytes : there_told plans costs [] x ≡ None
+    no_bytes : there_known plans costs [] x ≡ None
     unfolding plain happened
     no_bytes = refl
 
-    -- nothing is told of any operation
-    pub nothing_told : entry_told plans costs [] x ≡ blank
-    nothing_told =
+    -- nothing is known of any operation
+    pub nothing_known : entry_known plans costs [] x ≡ blank
+    nothing_known =
         λ i. record { start = no_start i; end = no_end i; arriving = no_arrival i; paired = no_partner i; there = no_bytes i }
 
     cpu_first : cpu_free (unheld plans) x ≡ cpu plans costs [] x

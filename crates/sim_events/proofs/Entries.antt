@@ -18,10 +18,10 @@ use Rattle.sim_resources.proofs.ForCallers.{send_is_op, receive_is_op}
 use Rattle.sim_match.specs.PostsAndArrivals.{is_post_or_arrival, is_post_or_arrival_class, send_for, receive_for}
 use Rattle.sim_events.specs.declared.entry.Entry.{Entry}
 use Rattle.sim_events.specs.declared.entry.Pairing.{Pairing}
-use Rattle.sim_events.specs.Engine.{start_told, end_told}
-use Rattle.sim_events.specs.Turns.{time_told}
+use Rattle.sim_events.specs.Engine.{start_known, end_known}
+use Rattle.sim_events.specs.Enabled.{time_known}
 use Rattle.sim_events.specs.Tables.{with_entry, with_pairing, with_partner}
-use Rattle.sim_events.specs.Mirrors.{entry_told, paired_told, there_told}
+use Rattle.sim_events.specs.Represents.{entry_known, paired_known, there_known}
 use Rattle.sim_events.proofs.Tables.{same_tables}
 use Rattle.sim_events.proofs.After.{other_op, other_class, start_same, start_new, end_same, end_new, arriving_same, arriving_calc, arriving_begun, arriving_arrived, there_same, there_new, paired_same, paired_new}
 use Rattle.sim_events.proofs.Pairings.{none_made, other_makes_none, post_none, post_some, arrive_none, arrive_some}
@@ -65,10 +65,10 @@ pair_written y m at e f g differ here there others = written m _ first g second 
 
 module _ (plans : List Plan) (costs : CostModel) (h : List Timed) (a : Timed) (run : IsRun plans costs h) (possible : Possible plans costs h a) where
   abbrev before : OpId → Entry
-  before = entry_told plans costs h
+  before = entry_known plans costs h
 
   abbrev after : OpId → Entry
-  after = entry_told plans costs (a ∷ h)
+  after = entry_known plans costs (a ∷ h)
 
   -- an operation that has the partner that it had, and that another action was of
   other_same : (x : OpId) → mate plans costs (a ∷ h) x ≡ mate plans costs h x → same_op a.op x ≡ false → after x ≡ before x
@@ -84,22 +84,22 @@ module _ (plans : List Plan) (costs : CostModel) (h : List Timed) (a : Timed) (r
   not_class c d x e f = other_class plans costs h a d x (ap (λ (c : Class). place c == place d) e ∙ f)
 
   module _ (e : Entry) (was : e ≡ before a.op) where
-    start_was : (c : Class) → a.class ≡ c → (c ≡ first_class (kind_at plans a.op) → ⊥) → start_told plans costs (a ∷ h) a.op ≡ e.start
+    start_was : (c : Class) → a.class ≡ c → (c ≡ first_class (kind_at plans a.op) → ⊥) → start_known plans costs (a ∷ h) a.op ≡ e.start
     start_was c same other =
         start_same plans costs h a a.op (another c (first_class (kind_at plans a.op)) a.op same other) ∙ ap (λ (d : Entry). d.start) (sym was)
 
-    end_was : (c : Class) → a.class ≡ c → (c ≡ last_class (is_eager plans costs a.op) (kind_at plans a.op) → ⊥) → end_told plans costs (a ∷ h) a.op ≡ e.end
+    end_was : (c : Class) → a.class ≡ c → (c ≡ last_class (is_eager plans costs a.op) (kind_at plans a.op) → ⊥) → end_known plans costs (a ∷ h) a.op ≡ e.end
     end_was c same other =
         end_same plans costs h a run a.op (another c (last_class (is_eager plans costs a.op) (kind_at plans a.op)) a.op same other) ∙ ap (λ (d : Entry). d.end) (sym was)
 
-    arriving_was : (c : Class) → a.class ≡ c → (place c == 0) ≡ false → (place c == 4) ≡ false → time_told plans costs (a ∷ h) Arrive a.op ≡ e.arriving
+    arriving_was : (c : Class) → a.class ≡ c → (place c == 0) ≡ false → (place c == 4) ≡ false → time_known plans costs (a ∷ h) Arrive a.op ≡ e.arriving
     arriving_was c same f g =
         arriving_same plans costs h a a.op (not_class c Arrive a.op same f) (not_class c Begin a.op same g) ∙ ap (λ (d : Entry). d.arriving) (sym was)
 
-    paired_was : mate plans costs (a ∷ h) a.op ≡ mate plans costs h a.op → paired_told plans costs (a ∷ h) a.op ≡ e.paired
+    paired_was : mate plans costs (a ∷ h) a.op ≡ mate plans costs h a.op → paired_known plans costs (a ∷ h) a.op ≡ e.paired
     paired_was m = paired_same plans costs h a a.op m ∙ ap (λ (d : Entry). d.paired) (sym was)
 
-    there_was : (c : Class) → a.class ≡ c → (place c == 2) ≡ false → there_told plans costs (a ∷ h) a.op ≡ e.there
+    there_was : (c : Class) → a.class ≡ c → (place c == 2) ≡ false → there_known plans costs (a ∷ h) a.op ≡ e.there
     there_was c same f =
         there_same plans costs h a a.op (not_class c Data a.op same f) ∙ ap (λ (d : Entry). d.there) (sym was)
 
@@ -115,7 +115,7 @@ module _ (plans : List Plan) (costs : CostModel) (h : List Timed) (a : Timed) (r
     unpaired c same f = none_made plans costs h a (other_makes_none plans costs h a (ap is_post_or_arrival_class same ∙ f))
 
     module _ (until : ℕ) (ends : until ≡ a.time + cpu_hold plans costs h a.class a.op (kind_at plans a.op)) where
-      end_now : a.class ≡ last_class (is_eager plans costs a.op) (kind_at plans a.op) → end_told plans costs (a ∷ h) a.op ≡ Some until
+      end_now : a.class ≡ last_class (is_eager plans costs a.op) (kind_at plans a.op) → end_known plans costs (a ∷ h) a.op ≡ Some until
       end_now last = end_new plans costs h a possible last ∙ ap Some (sym ends)
 
       -- a calc begins
@@ -158,7 +158,7 @@ module _ (plans : List Plan) (costs : CostModel) (h : List Timed) (a : Timed) (r
         differ f = cc
 
     -- a receive is posted: what is known of it but its partner
-    posted_entry : (p : Option Pairing) → a.class ≡ Post → IsReceive plans a.op → paired_told plans costs (a ∷ h) a.op ≡ p → after a.op ≡ record e { start = Some a.time; paired = p }
+    posted_entry : (p : Option Pairing) → a.class ≡ Post → IsReceive plans a.op → paired_known plans costs (a ∷ h) a.op ≡ p → after a.op ≡ record e { start = Some a.time; paired = p }
     posted_entry p c k pair =
         same_entry _ _ (start_new plans costs h a possible (c ∙ sym (first_of_receive plans a.op k))) (end_was Post c (λ f. differ (f ∙ last_of_receive plans (is_eager plans costs) a.op k))) (arriving_was Post c refl refl) pair (there_was Post c refl)
       where
@@ -166,7 +166,7 @@ module _ (plans : List Plan) (costs : CostModel) (h : List Timed) (a : Timed) (r
         differ f = cc
 
     -- a message or a request arrives: what is known of its send but its partner
-    arrived_entry : (p : Option Pairing) → a.class ≡ Arrive → IsSend plans a.op → paired_told plans costs (a ∷ h) a.op ≡ p → after a.op ≡ record e { arriving = None; paired = p }
+    arrived_entry : (p : Option Pairing) → a.class ≡ Arrive → IsSend plans a.op → paired_known plans costs (a ∷ h) a.op ≡ p → after a.op ≡ record e { arriving = None; paired = p }
     arrived_entry p c k pair =
         same_entry _ _ (start_was Arrive c (λ f. differ (f ∙ first_of_send plans a.op k))) (end_was Arrive c last) (arriving_arrived plans costs h a c) pair (there_was Arrive c refl)
       where

@@ -8,7 +8,7 @@ use Rattle.sim_params.specs.Costs.{CostModel}
 use Rattle.sim_params.specs.Times.{same_place, holds_cpu, holds_tx, holds_rx, cpu_hold, tx_hold, rx_hold, cpu, tx, rx}
 use Rattle.sim_resources.specs.declared.holds.Hold.{Hold}
 use Rattle.sim_resources.specs.FreeTimes.{Holds, shares_place, shares, free_at, hold, hold_cpu, hold_tx, hold_rx, SameFreeTimes}
-use Rattle.sim_events.specs.Mirrors.{AreFreeTimes}
+use Rattle.sim_events.specs.Represents.{AreFreeTimes}
 
 -- the two words for operations that use one cpu, or one interface, say the same
 shares_same : (place : Op → ℕ) (x y : OpId) (o p : Option Op) → shares_place place x o y p ≡ same_place place x o y p

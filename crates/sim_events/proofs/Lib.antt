@@ -18,7 +18,7 @@ pub mod HoldTimes
 pub mod Entries
 pub mod Performed
 pub mod Views
-pub mod TurnLemmas
+pub mod EnabledLemmas
 pub mod Choice
 pub mod Numbering
 pub mod Lifts

@@ -21,7 +21,7 @@ use Rattle.sim_params.proofs.ForCallers.{run_interleaving}
 use Rattle.sim_match.specs.PostsAndArrivals.{is_post_or_arrival, is_post_or_arrival_class, send_for, receive_for}
 use Rattle.sim_match.proofs.ForCallers.{send_for_filtered, receive_for_filtered}
 use Rattle.sim_events.specs.declared.entry.Pairing.{Pairing}
-use Rattle.sim_events.specs.Mirrors.{paired_told}
+use Rattle.sim_events.specs.Represents.{paired_known}
 
 unpaired : (ps : List Pair) (x : OpId) → is_paired ps x ≡ false → partner ps x ≡ None
 unpaired ps x e = go (partner ps x) refl
@@ -31,19 +31,19 @@ unpaired ps x e = go (partner ps x) refl
     go (Some y) s = absurd (both_ways _ e (is_some_from (partner ps x) y s))
 
 module _ (plans : List Plan) (costs : CostModel) (h : List Timed) (a : Timed) where
-  -- the partner that is told
-  pub told_mate : (x : OpId) (p : Pairing) → paired_told plans costs h x ≡ Some p → mate plans costs h x ≡ Some p.with
-  told_mate x p e = go (mate plans costs h x) refl e
+  -- the partner that is known
+  pub mate_of_known : (x : OpId) (p : Pairing) → paired_known plans costs h x ≡ Some p → mate plans costs h x ≡ Some p.with
+  mate_of_known x p e = go (mate plans costs h x) refl e
     where
       go : (o : Option OpId) → mate plans costs h x ≡ o → option_map (λ (y : OpId). record { with = y; at = paired_at plans costs h x }) o ≡ Some p → mate plans costs h x ≡ Some p.with
       go None s f = absurd (cc)
       go (Some y) s f = s ∙ ap (λ (q : Pairing). Some q.with) (same_Some (record { with = y; at = paired_at plans costs h x }) p f)
 
   -- a receive whose message is there has one
-  pub mate_told : (x : OpId) → is_served plans (is_eager plans costs) (plain h) (mate plans costs h x) ≡ true → (p : Pairing) × (paired_told plans costs h x ≡ Some p)
-  mate_told x e = go (mate plans costs h x) refl e
+  pub known_mate : (x : OpId) → is_served plans (is_eager plans costs) (plain h) (mate plans costs h x) ≡ true → (p : Pairing) × (paired_known plans costs h x ≡ Some p)
+  known_mate x e = go (mate plans costs h x) refl e
     where
-      go : (o : Option OpId) → mate plans costs h x ≡ o → is_served plans (is_eager plans costs) (plain h) o ≡ true → (p : Pairing) × (paired_told plans costs h x ≡ Some p)
+      go : (o : Option OpId) → mate plans costs h x ≡ o → is_served plans (is_eager plans costs) (plain h) o ≡ true → (p : Pairing) × (paired_known plans costs h x ≡ Some p)
       go None s f = absurd (both_ways false refl f)
       go (Some y) s f = (record { with = y; at = paired_at plans costs h x }, ap (option_map (λ (y : OpId). record { with = y; at = paired_at plans costs h x })) s)
 

@@ -12,7 +12,7 @@ use Rattle.sim_match.specs.PostsAndArrivals.{PostsAndArrivals}
 use Rattle.sim_resources.specs.FreeTimes.{Holds}
 use Rattle.sim_events.specs.declared.entry.Entry.{Entry}
 use Rattle.sim_events.specs.Engine.{View}
-use Rattle.sim_events.specs.Mirrors.{Mirrors, entry_told, KnowsPostsAndArrivals, AreFreeTimes}
+use Rattle.sim_events.specs.Represents.{Represents, entry_known, KnowsPostsAndArrivals, AreFreeTimes}
 use Rattle.sim_events.proofs.Places.{possible_exists}
 
 -- a slice of a whole list that is written back
@@ -30,13 +30,13 @@ pub next_at : {C : Type 0} (model : C → CostModel) (v w : View C) (a : Timed) 
 next_at {C} model v w a e = subst (λ (u : View C). IsNext u.plans (model u.costs) u.history a) (sym e)
 
 -- and what is known of an operation
-pub entry_is : {C : Type 0} (model : C → CostModel) (v w : View C) (x : OpId) (entry : Entry) → v ≡ w → entry ≡ entry_told w.plans (model w.costs) w.history x → entry ≡ entry_told v.plans (model v.costs) v.history x
-entry_is {C} model v w x entry e f = f ∙ ap (λ (u : View C). entry_told u.plans (model u.costs) u.history x) (sym e)
+pub entry_is : {C : Type 0} (model : C → CostModel) (v w : View C) (x : OpId) (entry : Entry) → v ≡ w → entry ≡ entry_known w.plans (model w.costs) w.history x → entry ≡ entry_known v.plans (model v.costs) v.history x
+entry_is {C} model v w x entry e f = f ∙ ap (λ (u : View C). entry_known u.plans (model u.costs) u.history x) (sym e)
 
-module _ (plans : List Plan) (costs : CostModel) (h : List Timed) (entries : List Entry) (matcher : PostsAndArrivals) (res : Holds) (room : ℕ) (m : Mirrors plans costs h entries matcher res room) where
+module _ (plans : List Plan) (costs : CostModel) (h : List Timed) (entries : List Entry) (matcher : PostsAndArrivals) (res : Holds) (room : ℕ) (m : Represents plans costs h entries matcher res room) where
   -- each operation has its entry
   pub each_entry : (lent : List Entry) → lent ≡ entries → length lent ≡ length (operations plans)
-  each_entry lent e = ap length (e ∙ m.told) ∙ length-map (operations plans) (entry_told plans costs h)
+  each_entry lent e = ap length (e ∙ m.known) ∙ length-map (operations plans) (entry_known plans costs h)
 
   -- the next action is one of an operation of the schedule, for each part of the engine
   pub is_op : (a : Timed) → IsNext plans costs h a → IsOp plans a.op
@@ -45,22 +45,22 @@ module _ (plans : List Plan) (costs : CostModel) (h : List Timed) (entries : Lis
   pub is_resource_op : (a : Timed) → IsNext plans costs h a → IsOp res.plans a.op
   is_resource_op a next = subst (λ (ps : List Plan). IsOp ps a.op) (sym m.free.same_plans) (is_op a next)
 
-module _ (plans : List Plan) (costs : CostModel) (items : List Timed) (entries : List Entry) (matcher : PostsAndArrivals) (res : Holds) (room : ℕ) (m : Mirrors plans costs (reverse items) entries matcher res room) (a : Timed) (next : IsNext plans costs (reverse items) a) where
+module _ (plans : List Plan) (costs : CostModel) (items : List Timed) (entries : List Entry) (matcher : PostsAndArrivals) (res : Holds) (room : ℕ) (m : Represents plans costs (reverse items) entries matcher res room) (a : Timed) (next : IsNext plans costs (reverse items) a) where
   -- there is room for the next action
   pub room_left : length items < room
   room_left = omega (arith, possible_room plans costs (reverse items) a m.run next.possible, length-reverse items, m.roomy)
 
-  pub performed : (new_items : List Timed) (lent written : List Entry) (new_matcher : PostsAndArrivals) (new_res : Holds) (new_room n : ℕ) → new_items ≡ items ++ a ∷ [] → new_room ≡ room → n ≡ length entries → lent ≡ entries → length written ≡ length lent → written ≡ map (entry_told plans costs (a ∷ reverse items)) (operations plans) → KnowsPostsAndArrivals plans costs (a ∷ reverse items) new_matcher → AreFreeTimes plans costs (a ∷ reverse items) new_res → Mirrors plans costs (reverse new_items) (take n (written ++ drop (length written) entries)) new_matcher new_res new_room
+  pub performed : (new_items : List Timed) (lent written : List Entry) (new_matcher : PostsAndArrivals) (new_res : Holds) (new_room n : ℕ) → new_items ≡ items ++ a ∷ [] → new_room ≡ room → n ≡ length entries → lent ≡ entries → length written ≡ length lent → written ≡ map (entry_known plans costs (a ∷ reverse items)) (operations plans) → KnowsPostsAndArrivals plans costs (a ∷ reverse items) new_matcher → AreFreeTimes plans costs (a ∷ reverse items) new_res → Represents plans costs (reverse new_items) (take n (written ++ drop (length written) entries)) new_matcher new_res new_room
   performed new_items lent written new_matcher new_res new_room n pushed rooms count same kept told posts_and_arrivals free =
       let table : take n (written ++ drop (length written) entries) ≡ written = written_back n written entries count (kept ∙ ap length same) in
       let list : a ∷ reverse items ≡ reverse new_items = sym (ap reverse pushed ∙ reverse_push items a) in
-      let after : Mirrors plans costs (a ∷ reverse items) (take n (written ++ drop (length written) entries)) new_matcher new_res new_room = record {
+      let after : Represents plans costs (a ∷ reverse items) (take n (written ++ drop (length written) entries)) new_matcher new_res new_room = record {
         accepted = m.accepted;
         within = m.within;
         run = (m.run, next);
-        told = table ∙ told;
+        known = table ∙ told;
         posts_and_arrivals = posts_and_arrivals;
         free = free;
         roomy = subst (λ (r : ℕ). 3 * length (operations plans) ≤ r) (sym rooms) m.roomy;
       } in
-      subst (λ (h : List Timed). Mirrors plans costs h (take n (written ++ drop (length written) entries)) new_matcher new_res new_room) list after
+      subst (λ (h : List Timed). Represents plans costs h (take n (written ++ drop (length written) entries)) new_matcher new_res new_room) list after

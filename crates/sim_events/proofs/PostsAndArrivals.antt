@@ -10,7 +10,7 @@ use Rattle.sim_params.specs.Costs.{CostModel, is_eager}
 use Rattle.sim_params.specs.Times.{Possible}
 use Rattle.sim_match.specs.PostsAndArrivals.{PostsAndArrivals, is_post_or_arrival_class, with_post, with_arrival}
 use Rattle.sim_match.proofs.ForCallers.{filtered_more, filtered_same, happened_filtered}
-use Rattle.sim_events.specs.Mirrors.{KnowsPostsAndArrivals}
+use Rattle.sim_events.specs.Represents.{KnowsPostsAndArrivals}
 
 module _ (plans : List Plan) (costs : CostModel) (h : List Timed) (a : Timed) (m : PostsAndArrivals) (before : KnowsPostsAndArrivals plans costs h m) where
   -- an action that is neither a post nor an arrival

@@ -25,7 +25,7 @@ use Rattle.sim_resources.proofs.ForCallers.{send_is_op, receive_is_op}
 use Rattle.sim_queue.specs.Groups.{Grouped}
 use Rattle.sim_queue.specs.Map.{key_at, IsEmptyMap, IsLeast}
 use Rattle.sim_events.specs.Stations.{AreStationed}
-use Rattle.sim_events.specs.Queue.{IsNamedIn, IsIdle, IsTurnOf, IsEarly, IsBoundOf, IsQueueBut, IsQueue, IsRefreshed, IsConcerned}
+use Rattle.sim_events.specs.Queue.{IsNamedIn, IsIdle, IsEnabledActionOf, IsEarly, IsBoundOf, IsQueueBut, IsQueue, IsRefreshed, IsConcerned}
 use Rattle.sim_events.proofs.After.{other_op}
 use Rattle.sim_events.proofs.Keys.{before_event}
 use Rattle.sim_events.proofs.Newly.{newly_allowed}
@@ -83,21 +83,21 @@ some_class test = go (cases_Bool (test Arrive)) (cases_Bool (test Serve)) (cases
 
 module _ (plans : List Plan) (costs : CostModel) where
   -- the possible action is a bound of itself
-  pub turn_bound : (h : List Timed) (x : OpId) (r : Option Timed) → IsTurnOf plans costs h x r → IsBoundOf plans costs h x r
-  turn_bound h x None t = t
-  turn_bound h x (Some a) t = record { op = t.0; allowed = t.1.allowed; not_later = omega (arith, t.1.time) }
+  pub enabled_bound : (h : List Timed) (x : OpId) (r : Option Timed) → IsEnabledActionOf plans costs h x r → IsBoundOf plans costs h x r
+  enabled_bound h x None t = t
+  enabled_bound h x (Some a) t = record { op = t.0; allowed = t.1.allowed; not_later = omega (arith, t.1.time) }
 
-  -- where some action of an operation is allowed it has a turn
-  pub turn_present : (h : List Timed) (x : OpId) (c : Class) (r : Option Timed) → IsTurnOf plans costs h x r → allowed plans (is_eager plans costs) (plain h) c x ≡ true → (a : Timed) × (r ≡ Some a)
-  turn_present h x c None t p = absurd (both_ways _ (t c) p)
-  turn_present h x c (Some a) t p = (a, refl)
+  -- where some action of an operation is allowed it has an enabled action
+  pub enabled_present : (h : List Timed) (x : OpId) (c : Class) (r : Option Timed) → IsEnabledActionOf plans costs h x r → allowed plans (is_eager plans costs) (plain h) c x ≡ true → (a : Timed) × (r ≡ Some a)
+  enabled_present h x c None t p = absurd (both_ways _ (t c) p)
+  enabled_present h x c (Some a) t p = (a, refl)
 
-  pub turn_some : (h : List Timed) (x : OpId) (a : Timed) (r : Option Timed) → IsTurnOf plans costs h x r → r ≡ Some a → (a.op ≡ x) × Possible plans costs h a
-  turn_some h x a r t e = subst (λ (o : Option Timed). IsTurnOf plans costs h x o) e t
+  pub enabled_some : (h : List Timed) (x : OpId) (a : Timed) (r : Option Timed) → IsEnabledActionOf plans costs h x r → r ≡ Some a → (a.op ≡ x) × Possible plans costs h a
+  enabled_some h x a r t e = subst (λ (o : Option Timed). IsEnabledActionOf plans costs h x o) e t
 
   -- it is of the class that its key names
-  pub turn_class : (h : List Timed) (e a : Timed) → IsRun plans costs h → IsEarly plans costs h e.op e → a.op ≡ e.op → Possible plans costs h a → a.class ≡ e.class
-  turn_class h e a run early o p =
+  pub enabled_class : (h : List Timed) (e a : Timed) → IsRun plans costs h → IsEarly plans costs h e.op e → a.op ≡ e.op → Possible plans costs h a → a.class ≡ e.class
+  enabled_class h e a run early o p =
       one_allowed plans (is_eager plans costs) (plain h) a.class e.class e.op (run_interleaving plans costs h run) (subst (λ (x : OpId). allowed plans (is_eager plans costs) (plain h) a.class x ≡ true) o p.allowed) early.allowed
 
   pub early_exists : (h : List Timed) (x : OpId) (e : Timed) → IsEarly plans costs h x e → IsOp plans e.op
@@ -272,12 +272,12 @@ module _ (plans : List Plan) (costs : CostModel) where
         go (Some k) e = absurd (none (at_its_time plans costs h k.class k.op) (possible_at plans costs h k.class k.op (key_found queue slot k q e).early.allowed))
 
   -- the key of an operation is that of its possible action
-  pub put_turn : (h : List Timed) (x : OpId) (known : List Plan) (slot : ℕ) (turn put : Option Timed) (old new : Grouped Timed) → known ≡ plans → slice_get (operations known) slot ≡ Some x → IsTurnOf plans costs h x turn → turn ≡ put → new ≡ record { keys = slice_set old.keys slot put; groups = old.groups } → IsRefreshed plans costs h x old new
-  put_turn h x known slot turn put old new same at is e set_there = record {
+  pub put_enabled : (h : List Timed) (x : OpId) (known : List Plan) (slot : ℕ) (enabled put : Option Timed) (old new : Grouped Timed) → known ≡ plans → slice_get (operations known) slot ≡ Some x → IsEnabledActionOf plans costs h x enabled → enabled ≡ put → new ≡ record { keys = slice_set old.keys slot put; groups = old.groups } → IsRefreshed plans costs h x old new
+  put_enabled h x known slot enabled put old new same at is e set_there = record {
     slot = slot;
     is_slot = ap (λ (ps : List Plan). slice_get (operations ps) slot) (sym same) ∙ at;
     key = put;
-    bound = subst (λ (k : Option Timed). IsBoundOf plans costs h x k) e (turn_bound h x turn is);
+    bound = subst (λ (k : Option Timed). IsBoundOf plans costs h x k) e (enabled_bound h x enabled is);
     put = set_there;
   }
 

@@ -14,7 +14,7 @@ use Rattle.goal_graph.specs.Action.{plain}
 use Rattle.goal_graph.specs.Allowed.{is_met, is_ready}
 use Rattle.sim_params.specs.Costs.{CostModel, is_eager}
 use Rattle.sim_params.specs.Times.{greatest, met_at, ready}
-use Rattle.sim_events.specs.Turns.{moment_told, ready_told}
+use Rattle.sim_events.specs.Enabled.{moment_known, ready_known}
 
 module _ (plans : List Plan) (costs : CostModel) (h : List Timed) (x : OpId) where
   -- the moment of a need, whether it is there, and both
@@ -28,7 +28,7 @@ module _ (plans : List Plan) (costs : CostModel) (h : List Timed) (x : OpId) whe
   unfoldable pub ready_from : ℕ → List Need → Option ℕ
   ready_from n ds = if list_all is_there ds then Some (max n (greatest there_at ds)) else None
 
-  pub ready_start : ready_from 0 (needs plans x) ≡ ready_told plans costs h x
+  pub ready_start : ready_from 0 (needs plans x) ≡ ready_known plans costs h x
   unfolding ready_from is_ready ready
   ready_start = ap (λ n. if list_all is_there (needs plans x) then Some n else None) (omega arith)
 
@@ -36,15 +36,15 @@ module _ (plans : List Plan) (costs : CostModel) (h : List Timed) (x : OpId) whe
   unfolding ready_from greatest
   ready_end n = ap Some (omega arith)
 
-  pub moment_is : (d : Need) → moment_told plans costs h d.when (needed x d) ≡ (if is_there d then Some (there_at d) else None)
+  pub moment_is : (d : Need) → moment_known plans costs h d.when (needed x d) ≡ (if is_there d then Some (there_at d) else None)
   moment_is d = go d.when
     where
-      go : (w : When) → moment_told plans costs h w (needed x d) ≡ (if is_met plans (is_eager plans costs) (plain h) w (needed x d) then Some (met_at plans costs h w (needed x d)) else None)
+      go : (w : When) → moment_known plans costs h w (needed x d) ≡ (if is_met plans (is_eager plans costs) (plain h) w (needed x d) then Some (met_at plans costs h w (needed x d)) else None)
       go AfterEnd = refl
       go AfterStart = refl
 
   -- a need that is there
-  pub ready_met : (n m : ℕ) (d : Need) (ds : List Need) → moment_told plans costs h d.when (needed x d) ≡ Some m → ready_from n (d ∷ ds) ≡ ready_from (max n m) ds
+  pub ready_met : (n m : ℕ) (d : Need) (ds : List Need) → moment_known plans costs h d.when (needed x d) ≡ Some m → ready_from n (d ∷ ds) ≡ ready_from (max n m) ds
   unfolding ready_from greatest
   ready_met n m d ds e = go (is_there d) (sym (moment_is d) ∙ e)
     where
@@ -55,7 +55,7 @@ module _ (plans : List Plan) (costs : CostModel) (h : List Timed) (x : OpId) whe
       go false f = absurd (cc)
 
   -- a need that is not
-  pub ready_unmet : (n : ℕ) (d : Need) (ds : List Need) → moment_told plans costs h d.when (needed x d) ≡ None → ready_from n (d ∷ ds) ≡ None
+  pub ready_unmet : (n : ℕ) (d : Need) (ds : List Need) → moment_known plans costs h d.when (needed x d) ≡ None → ready_from n (d ∷ ds) ≡ None
   unfolding ready_from
   ready_unmet n d ds e = go (is_there d) (sym (moment_is d) ∙ e)
     where
@@ -64,7 +64,7 @@ module _ (plans : List Plan) (costs : CostModel) (h : List Timed) (x : OpId) whe
       go false f = refl
 
   -- with a need that is not met it is not ready
-  pub missing_unready : (items : List Need) → items ≡ needs plans x → (k : ℕ) (d : Need) → k < length items → (r : Option ℕ) → r ≡ moment_told plans costs h (get_or items k d).when (needed x (get_or items k d)) → is_some r ≡ false → ready_told plans costs h x ≡ None
+  pub missing_unready : (items : List Need) → items ≡ needs plans x → (k : ℕ) (d : Need) → k < length items → (r : Option ℕ) → r ≡ moment_known plans costs h (get_or items k d).when (needed x (get_or items k d)) → is_some r ≡ false → ready_known plans costs h x ≡ None
   unfolding is_ready
   missing_unready items are k d l r e none =
       let absent : is_there (get_or items k d) ≡ false = go (is_there (get_or items k d)) (ap is_some (sym (moment_is (get_or items k d)) ∙ sym e) ∙ none) in
@@ -80,11 +80,11 @@ module _ (plans : List Plan) (costs : CostModel) (h : List Timed) (x : OpId) whe
     this_and_rest : (d : Need) → k < length items → drop k (needs plans x) ≡ get_or items k d ∷ drop (k + 1) (needs plans x)
     this_and_rest d l = subst (λ ds. drop k ds ≡ get_or items k d ∷ drop (k + 1) ds) are_needs (drop_more items k d l)
 
-    pub read_met : (d : Need) (r : Option ℕ) (m : ℕ) → k < length items → r ≡ moment_told plans costs h (get_or items k d).when (needed x (get_or items k d)) → r ≡ Some m → ready_from (max n m) (drop (k + 1) (needs plans x)) ≡ whole
+    pub read_met : (d : Need) (r : Option ℕ) (m : ℕ) → k < length items → r ≡ moment_known plans costs h (get_or items k d).when (needed x (get_or items k d)) → r ≡ Some m → ready_from (max n m) (drop (k + 1) (needs plans x)) ≡ whole
     read_met d r m l e f =
         sym (ap (ready_from n) (this_and_rest d l) ∙ ready_met n m (get_or items k d) (drop (k + 1) (needs plans x)) (sym e ∙ f)) ∙ so_far
 
-    pub read_unmet : (d : Need) (r : Option ℕ) → k < length items → r ≡ moment_told plans costs h (get_or items k d).when (needed x (get_or items k d)) → r ≡ None → None ≡ whole
+    pub read_unmet : (d : Need) (r : Option ℕ) → k < length items → r ≡ moment_known plans costs h (get_or items k d).when (needed x (get_or items k d)) → r ≡ None → None ≡ whole
     read_unmet d r l e f =
         sym (ap (ready_from n) (this_and_rest d l) ∙ ready_unmet n (get_or items k d) (drop (k + 1) (needs plans x)) (sym e ∙ f)) ∙ so_far
 

@@ -5,7 +5,7 @@ use Rattle.sim_params.specs.Run.{IsRun}
 use Rattle.sim_params.specs.Budget.{budget}
 use Rattle.sim_resources.specs.FreeTimes.{Holds}
 use Rattle.sim_events.specs.Engine.{View}
-use Rattle.sim_events.specs.Mirrors.{AreFreeTimes}
+use Rattle.sim_events.specs.Represents.{AreFreeTimes}
 
 module _ {C : Type 0} (model : C → CostModel) (v w : View C) where
   -- the free times, as those of the view

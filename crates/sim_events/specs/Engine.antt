@@ -22,10 +22,10 @@ IsEngineFault total (Budget sum) = (sum ≡ total) × (2 ^ 63 ≤ total)
 IsEngineFault total NoMemory = total < 2 ^ 63
 
 -- when x started, once it has
-abbrev pub start_told : List Plan → CostModel → List Timed → OpId → Option ℕ
-start_told plans costs h x = if has_started plans x (plain h) then Some (start plans costs h x) else None
+abbrev pub start_known : List Plan → CostModel → List Timed → OpId → Option ℕ
+start_known plans costs h x = if has_started plans x (plain h) then Some (start plans costs h x) else None
 
 -- when x ends, once that is known
-abbrev pub end_told : List Plan → CostModel → List Timed → OpId → Option ℕ
-end_told plans costs h x =
+abbrev pub end_known : List Plan → CostModel → List Timed → OpId → Option ℕ
+end_known plans costs h x =
     if has_ended plans (is_eager plans costs) x (plain h) then Some (end plans costs h x) else None

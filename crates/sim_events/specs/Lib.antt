@@ -3,7 +3,7 @@ pub mod Engine
 -- What only the code keeps.
 pub mod Queue
 pub mod Tables
-pub mod Turns
-pub mod Mirrors
+pub mod Enabled
+pub mod Represents
 pub mod Stations
 pub mod Cursors

@@ -35,9 +35,9 @@ module _ (plans : List Plan) where
     IsIdle x = (class : Class) → allowed plans (is_eager plans costs) (plain h) class x ≡ false
 
     -- the possible action of x, none where it has none
-    abbrev pub IsTurnOf : OpId → Option Timed → Type 0
-    IsTurnOf x None = IsIdle x
-    IsTurnOf x (Some a) = (a.op ≡ x) × Possible plans costs h a
+    abbrev pub IsEnabledActionOf : OpId → Option Timed → Type 0
+    IsEnabledActionOf x None = IsIdle x
+    IsEnabledActionOf x (Some a) = (a.op ≡ x) × Possible plans costs h a
 
     -- the possible action of x, at a time that is not later than its own
     pub record IsEarly (x : OpId) (e : Timed) : Type 0 where

@@ -10,7 +10,7 @@ ghost use Rattle.sim_params.specs.Budget.{budget};
 ghost use Rattle.sim_params.specs.Times.{mate};
 ghost use Rattle.sim_params.specs.Run.{IsNext, IsRun, IsFinished, IsCompleteRun};
 ghost use Rattle.sim_params.specs.Laws.{IsWithin};
-ghost use Rattle.sim_events.specs.Engine.{IsEngineFault, start_told, end_told};
+ghost use Rattle.sim_events.specs.Engine.{IsEngineFault, start_known, end_known};
 ghost use Rattle.sim_events.specs.Cursors.{AreCursors};
 
 use crate::cursor::Cursor;
@@ -168,8 +168,8 @@ impl<'a, C: Costs> Engine<'a, C> {
     /// What is known of an operation.
     pub fn record(&self, id: OpId) -> Record
         requires { IsOp self.now.plans id }
-        ensures start { result.start ≡ start_told self.now.plans (C.model self.now.costs) self.now.history id }
-        ensures end { result.end ≡ end_told self.now.plans (C.model self.now.costs) self.now.history id }
+        ensures start { result.start ≡ start_known self.now.plans (C.model self.now.costs) self.now.history id }
+        ensures end { result.end ≡ end_known self.now.plans (C.model self.now.costs) self.now.history id }
         ensures partner { result.partner ≡ mate self.now.plans (C.model self.now.costs) self.now.history id }
     {
         self.state.record(id)

@@ -9,7 +9,7 @@ ghost use Rattle.sim_queue.specs.Map.{IsEmptyMap, IsLeast};
 ghost use Rattle.sim_queue.specs.Floors.{waits_for_room};
 ghost use Rattle.sim_events.specs.Stations.{AreStationed};
 ghost use Rattle.sim_events.specs.Cursors.{IsCursorOf, AreCursors};
-ghost use Rattle.sim_events.specs.Queue.{IsEarly, IsQueue, IsQueueBut, IsRefreshed, IsConcerned, Waits, HasKey, IsTurnOf, lags};
+ghost use Rattle.sim_events.specs.Queue.{IsEarly, IsQueue, IsQueueBut, IsRefreshed, IsConcerned, Waits, HasKey, IsEnabledActionOf, lags};
 
 use crate::cursor::Cursor;
 use crate::state::State;
@@ -238,7 +238,7 @@ fn cursor_of<C: Costs>(state: &State<C>, cursors: &[Cursor], id: OpId) -> Cursor
 fn choice_from<C: Costs>(state: &State<C>, cursors: &mut [Cursor], id: OpId) -> Option<Timed>
     requires exists { IsOp state.now.plans id }
     requires cursors { AreCursors state.now.plans (C.model state.now.costs) state.now.history cursors.old }
-    ensures turn { IsTurnOf state.now.plans (C.model state.now.costs) state.now.history id result }
+    ensures enabled { IsEnabledActionOf state.now.plans (C.model state.now.costs) state.now.history id result }
     ensures cursors { AreCursors state.now.plans (C.model state.now.costs) state.now.history cursors.new }
 {
     let mut cursor = cursor_of(state, cursors, id);

@@ -10,8 +10,8 @@ ghost use Rattle.sim_params.specs.Budget.{budget};
 ghost use Rattle.sim_params.specs.Times.{mate};
 ghost use Rattle.sim_params.specs.Run.{IsNext, IsRun, IsFinished, IsCompleteRun};
 ghost use Rattle.sim_params.specs.Laws.{IsWithin};
-ghost use Rattle.sim_events.specs.Engine.{IsEngineFault, start_told, end_told};
-ghost use Rattle.sim_events.specs.Mirrors.{entry_told};
+ghost use Rattle.sim_events.specs.Engine.{IsEngineFault, start_known, end_known};
+ghost use Rattle.sim_events.specs.Represents.{entry_known};
 ghost use Rattle.sim_events.specs.Stations.{free};
 
 use crate::engine::{EngineFault, Record};
@@ -24,8 +24,8 @@ use sim_resources::Resources;
 use std::alloc::Global;
 use std::marker::Model;
 
+mod enabled;
 mod perform;
-mod turns;
 
 /// A schedule under way. Contracts see it as the plans of the schedule, the costs, and what has happened so far, newest
 /// first.
@@ -46,13 +46,13 @@ pub struct State<'a, C: Costs> {
 impl<'a, C: Costs> Model for State<'a, C> {
     ghost use Rattle.std.specs.Prelude.{reverse, vec_capacity};
     ghost use Rattle.sim_events.specs.Engine.{View};
-    ghost use Rattle.sim_events.specs.Mirrors.{Mirrors};
+    ghost use Rattle.sim_events.specs.Represents.{Represents};
 
     ghost Value = { View C };
 
     ghost view = { λ e. record { plans = e.sched.now; costs = e.costs; history = reverse e.history.items } };
 
-    ghost invariant = { λ e. Mirrors e.sched.now (C.model e.costs) (reverse e.history.items) e.entries.items e.matcher e.resources (vec_capacity e.history) };
+    ghost invariant = { λ e. Represents e.sched.now (C.model e.costs) (reverse e.history.items) e.entries.items e.matcher e.resources (vec_capacity e.history) };
 }
 
 impl<'a, C: Costs + Drop> State<'a, C> {
@@ -98,8 +98,8 @@ impl<'a, C: Costs> State<'a, C> {
     /// What is known of an operation.
     pub fn record(&self, id: OpId) -> Record
         requires { IsOp self.now.plans id }
-        ensures start { result.start ≡ start_told self.now.plans (C.model self.now.costs) self.now.history id }
-        ensures end { result.end ≡ end_told self.now.plans (C.model self.now.costs) self.now.history id }
+        ensures start { result.start ≡ start_known self.now.plans (C.model self.now.costs) self.now.history id }
+        ensures end { result.end ≡ end_known self.now.plans (C.model self.now.costs) self.now.history id }
         ensures partner { result.partner ≡ mate self.now.plans (C.model self.now.costs) self.now.history id }
     {
         let entry = self.entry(id);
@@ -161,7 +161,7 @@ impl<'a, C: Costs> State<'a, C> {
     // What is known of an operation.
     fn entry(&self, id: OpId) -> Entry
         requires { IsOp self.now.plans id }
-        ensures { result ≡ entry_told self.now.plans (C.model self.now.costs) self.now.history id }
+        ensures { result ≡ entry_known self.now.plans (C.model self.now.costs) self.now.history id }
     {
         read(self.sched, &self.entries, id)
     }

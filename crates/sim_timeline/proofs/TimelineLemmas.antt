@@ -12,7 +12,7 @@ use Rattle.goal_graph.specs.Allowed.{has_started, has_ended}
 use Rattle.sim_params.specs.Costs.{CostModel, is_eager}
 use Rattle.sim_params.specs.Times.{greatest, end, start}
 use Rattle.sim_params.specs.Stuck.{lacks_end}
-use Rattle.sim_events.specs.Engine.{start_told, end_told}
+use Rattle.sim_events.specs.Engine.{start_known, end_known}
 use Rattle.sim_timeline.specs.Timeline.{IsSummary, is_unread_send, is_unread, end_or_zero, operation_line, summary_line, first_line, line_by, line_of}
 
 -- the greatest of a list and one more
@@ -43,18 +43,18 @@ started false n = refl
 
 module _ (plans : List Plan) (costs : CostModel) (h : List Timed) where
   unread_found : (x : OpId) (o : Op) → op_at plans x ≡ Some o
-      → is_unread_send (Some o.kind) (start_told plans costs h x) (partner (pairs plans (plain h)) x) ≡ is_unread plans costs h x
+      → is_unread_send (Some o.kind) (start_known plans costs h x) (partner (pairs plans (plain h)) x) ≡ is_unread plans costs h x
   unread_found x o found =
-      ap (λ (k : Option Kind). is_unread_send k (start_told plans costs h x) (partner (pairs plans (plain h)) x)) (sym (kind_found plans x o found))
+      ap (λ (k : Option Kind). is_unread_send k (start_known plans costs h x) (partner (pairs plans (plain h)) x)) (sym (kind_found plans x o found))
       ∙ rw (started (has_started plans x (plain h)) (start plans costs h x)) refl
 
   -- the summary of operations and one more
   pub summary_more : (xs : List OpId) (x : OpId) (o : Op) (stuck unread finish : ℕ) → IsSummary plans costs h xs stuck unread finish
       → op_at plans x ≡ Some o
       → IsSummary plans costs h (xs ++ x ∷ [])
-      (stuck + cond (is_some (end_told plans costs h x)) 0 1)
-      (unread + cond (is_unread_send (Some o.kind) (start_told plans costs h x) (partner (pairs plans (plain h)) x)) 1 0)
-      (max finish (unwrap_or (end_told plans costs h x) 0))
+      (stuck + cond (is_some (end_known plans costs h x)) 0 1)
+      (unread + cond (is_unread_send (Some o.kind) (start_known plans costs h x) (partner (pairs plans (plain h)) x)) 1 0)
+      (max finish (unwrap_or (end_known plans costs h x) 0))
   summary_more xs x o stuck unread finish s found = record {
     stuck_is = rw (s.stuck_is, no_end (has_ended plans (is_eager plans costs) x (plain h)) (end plans costs h x)) (sym (count_by-append_one (lacks_end plans costs h) xs x));
     unread_is = rw (s.unread_is, unread_found x o found) (sym (count_by-append_one (is_unread plans costs h) xs x));
@@ -69,6 +69,6 @@ module _ (plans : List Plan) (costs : CostModel) (h : List Timed) where
 
   -- the line of an operation that is there
   pub line_is : (x : OpId) (o : Op) → op_at plans x ≡ Some o
-      → operation_line x o.kind (start_told plans costs h x) (end_told plans costs h x) (partner (pairs plans (plain h)) x) ≡ line_of plans costs h x
+      → operation_line x o.kind (start_known plans costs h x) (end_known plans costs h x) (partner (pairs plans (plain h)) x) ≡ line_of plans costs h x
   unfolding line_of
   line_is x o found = ap (line_by plans costs h x) (sym (kind_found plans x o found))

@@ -15,7 +15,7 @@ use Rattle.goal_graph.specs.Allowed.{has_started, has_ended}
 use Rattle.sim_params.specs.Costs.{CostModel, is_eager}
 use Rattle.sim_params.specs.Times.{end, greatest}
 use Rattle.sim_params.specs.Stuck.{lacks_end}
-use Rattle.sim_events.specs.Engine.{start_told, end_told}
+use Rattle.sim_events.specs.Engine.{start_known, end_known}
 
 abbrev pub match_text : Option OpId → List ℕ
 match_text None = codes " match -"
@@ -78,7 +78,7 @@ module _ (plans : List Plan) (costs : CostModel) (h : List Timed) where
   abbrev pub line_by : OpId → Option Kind → List ℕ
   line_by x None = []
   line_by x (Some kind) =
-      operation_line x kind (start_told plans costs h x) (end_told plans costs h x) (partner (pairs plans (plain h)) x)
+      operation_line x kind (start_known plans costs h x) (end_known plans costs h x) (partner (pairs plans (plain h)) x)
 
   -- the line of an operation
   unfoldable pub line_of : OpId → List ℕ

@@ -14,8 +14,8 @@ use Rattle.sim_params.specs.Costs.{CostModel, over, cost_of, is_eager}
 use Rattle.sim_params.specs.Times.{cpu_hold, at_partner, mate, end, ready}
 use Rattle.sim_params.specs.Run.{IsRun}
 use Rattle.sim_params.proofs.ForCallers.{run_interleaving, kind_of}
-use Rattle.sim_events.specs.Engine.{end_told}
-use Rattle.sim_events.specs.Turns.{ready_told}
+use Rattle.sim_events.specs.Engine.{end_known}
+use Rattle.sim_events.specs.Enabled.{ready_known}
 use Rattle.sim_waits.specs.Waits.{ended, wait}
 use Rattle.sim_waits.specs.WaitKeys.{wait_told}
 
@@ -47,7 +47,7 @@ module _ (plans : List Plan) (costs : CostModel) (h : List Timed) (x : OpId) whe
   hold_recv room from tag m k e = ap (at_partner (over plans costs)) e ∙ ap hold_of (sym k)
 
   -- what has no end has no wait
-  pub wait_none : None ≡ end_told plans costs h x → None ≡ wait_told plans costs h x
+  pub wait_none : None ≡ end_known plans costs h x → None ≡ wait_told plans costs h x
   wait_none = go (ended plans costs h x)
     where
       go : (b : Bool) → ◌≡◌ {A = Option ℕ} None (if b then Some (end plans costs h x) else None) → ◌≡◌ {A = Option ℕ} None (if b then Some (wait plans costs h x) else None)
@@ -55,7 +55,7 @@ module _ (plans : List Plan) (costs : CostModel) (h : List Timed) (x : OpId) whe
       go false e = refl
 
   -- what has an end has that one
-  pub end_is : (n : ℕ) → Some n ≡ end_told plans costs h x → (ended plans costs h x ≡ true) × (n ≡ end plans costs h x)
+  pub end_is : (n : ℕ) → Some n ≡ end_known plans costs h x → (ended plans costs h x ≡ true) × (n ≡ end plans costs h x)
   end_is n = go (ended plans costs h x) refl
     where
       go : (b : Bool) → ended plans costs h x ≡ b → Some n ≡ (if b then Some (end plans costs h x) else None) → (ended plans costs h x ≡ true) × (n ≡ end plans costs h x)
@@ -68,14 +68,14 @@ module _ (plans : List Plan) (costs : CostModel) (h : List Timed) (x : OpId) whe
       started_ready plans (is_eager plans costs) (plain h) x walk (ended_started plans (is_eager plans costs) (plain h) x walk e)
 
   -- what has ended was ready
-  pub never_unready : (n : ℕ) → IsRun plans costs h → Some n ≡ end_told plans costs h x → None ≡ ready_told plans costs h x → None ≡ wait_told plans costs h x
+  pub never_unready : (n : ℕ) → IsRun plans costs h → Some n ≡ end_known plans costs h x → None ≡ ready_known plans costs h x → None ≡ wait_told plans costs h x
   never_unready n run e r = go (is_ready plans (is_eager plans costs) (plain h) x) (ended_ready run (end_is n e).0) r
     where
       go : (b : Bool) → b ≡ true → ◌≡◌ {A = Option ℕ} None (if b then Some (ready plans costs h x) else None) → None ≡ wait_told plans costs h x
       go true s f = absurd (cc)
       go false s f = absurd (cc)
 
-  ready_is : (m : ℕ) → Some m ≡ ready_told plans costs h x → m ≡ ready plans costs h x
+  ready_is : (m : ℕ) → Some m ≡ ready_known plans costs h x → m ≡ ready plans costs h x
   ready_is m = go (is_ready plans (is_eager plans costs) (plain h) x)
     where
       go : (b : Bool) → Some m ≡ (if b then Some (ready plans costs h x) else None) → m ≡ ready plans costs h x
@@ -83,10 +83,10 @@ module _ (plans : List Plan) (costs : CostModel) (h : List Timed) (x : OpId) whe
       go false e = absurd (cc)
 
   -- the end less the hold is the time of the last action
-  pub hold_within : (n held : ℕ) → Some n ≡ end_told plans costs h x → held ≡ hold_of (kind_at plans x) → held ≤ n
+  pub hold_within : (n held : ℕ) → Some n ≡ end_known plans costs h x → held ≡ hold_of (kind_at plans x) → held ≤ n
   hold_within n held e s = omega (arith, (end_is n e).1, s)
 
-  pub wait_is : (n held m w : ℕ) → Some n ≡ end_told plans costs h x → held ≡ hold_of (kind_at plans x) → Some m ≡ ready_told plans costs h x → w ≡ (n - held) - m → Some w ≡ wait_told plans costs h x
+  pub wait_is : (n held m w : ℕ) → Some n ≡ end_known plans costs h x → held ≡ hold_of (kind_at plans x) → Some m ≡ ready_known plans costs h x → w ≡ (n - held) - m → Some w ≡ wait_told plans costs h x
   unfolding wait
   wait_is n held m w e s r t =
       let last : w ≡ wait plans costs h x = omega (arith, (end_is n e).1, s, ready_is m r, t) in

@@ -5,7 +5,7 @@ ghost use Rattle.goal_graph.specs.Fault.{IsOp};
 ghost use Rattle.goal_graph.specs.Allowed.{last_class};
 ghost use Rattle.sim_params.specs.Costs.{over, is_eager};
 ghost use Rattle.sim_params.specs.Times.{cpu_hold};
-ghost use Rattle.sim_events.specs.Turns.{moment_told, ready_told};
+ghost use Rattle.sim_events.specs.Enabled.{moment_known, ready_known};
 ghost use Rattle.sim_waits.specs.WaitKeys.{wait_told};
 
 use goal_graph::{Kind, OpId, When};
@@ -55,7 +55,7 @@ fn over<C: Costs>(engine: &Engine<'_, C>, id: OpId) -> u64
 // When all that an operation needs is there, once it is.
 fn ready<C: Costs>(engine: &Engine<'_, C>, id: OpId) -> Option<u64>
     requires { IsOp engine.now.plans id }
-    ensures { result ≡ ready_told engine.now.plans (C.model engine.now.costs) engine.now.history id }
+    ensures { result ≡ ready_known engine.now.plans (C.model engine.now.costs) engine.now.history id }
 {
     let mut ready: u64 = 0;
     for need in engine.sched().needs(id) {
@@ -74,7 +74,7 @@ fn ready<C: Costs>(engine: &Engine<'_, C>, id: OpId) -> Option<u64>
 // The moment of an operation that a dependency waits for, once it is there.
 fn moment<C: Costs>(engine: &Engine<'_, C>, when: When, id: OpId) -> Option<u64>
     requires { IsOp engine.now.plans id }
-    ensures { result ≡ moment_told engine.now.plans (C.model engine.now.costs) engine.now.history when id }
+    ensures { result ≡ moment_known engine.now.plans (C.model engine.now.costs) engine.now.history when id }
 {
     let record = engine.record(id);
     match when {

@@ -1,4 +1,4 @@
-use Rattle.sim_events.proofs.Queue.{turn_present, turn_some, turn_class, early_exists}
+use Rattle.sim_events.proofs.Queue.{enabled_present, enabled_some, enabled_class, early_exists}
 use Rattle.sim_events.proofs.follow.action_of.Goals as goal
 
 pub cursor_of-cursor-requires-clause-exists : goal.cursor_of-cursor-requires-clause-exists
@@ -14,18 +14,18 @@ unreachable-requires g c =
     let plans = c.args.state.now.plans in
     let costs = g.C.Costs.model c.args.state.now.costs in
     let h = c.args.state.now.history in
-    let found = turn_present plans costs h c.args.early.op c.args.early.class c.choice.result c.choice.ensures.turn c.requires.early.allowed in
+    let found = enabled_present plans costs h c.args.early.op c.args.early.class c.choice.result c.choice.ensures.enabled c.requires.early.allowed in
     c.in_default.not-Some found.0 found.1
 
 pub returns-clause-possible : goal.returns-clause-possible
-returns-clause-possible g c = (turn_some _ _ _ c.args.early.op c.in-Some.action c.choice.result c.choice.ensures.turn c.in-Some.is).1
+returns-clause-possible g c = (enabled_some _ _ _ c.args.early.op c.in-Some.action c.choice.result c.choice.ensures.enabled c.in-Some.is).1
 
 pub returns-clause-class : goal.returns-clause-class
 returns-clause-class g c =
-    let turn = turn_some _ _ _ c.args.early.op c.in-Some.action c.choice.result c.choice.ensures.turn c.in-Some.is in
-    turn_class _ _ _ c.args.early c.in-Some.action c.known.ensures.run c.requires.early turn.0 turn.1
+    let enabled = enabled_some _ _ _ c.args.early.op c.in-Some.action c.choice.result c.choice.ensures.enabled c.in-Some.is in
+    enabled_class _ _ _ c.args.early c.in-Some.action c.known.ensures.run c.requires.early enabled.0 enabled.1
 
 pub returns-clause-op : goal.returns-clause-op
 returns-clause-op g c =
-    let turn = turn_some _ _ _ c.args.early.op c.in-Some.action c.choice.result c.choice.ensures.turn c.in-Some.is in
-    turn.0
+    let enabled = enabled_some _ _ _ c.args.early.op c.in-Some.action c.choice.result c.choice.ensures.enabled c.in-Some.is in
+    enabled.0

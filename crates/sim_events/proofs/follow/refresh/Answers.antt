@@ -1,7 +1,7 @@
 use Rattle.std.proofs.Common.{List, Some, length, ap, ◌∙◌, sym, arith}
 use Rattle.goal_graph.specs.declared.action.Timed.{Timed}
 use Rattle.goal_graph.specs.Schedule.{Plan, operations}
-use Rattle.sim_events.proofs.Queue.{put_turn}
+use Rattle.sim_events.proofs.Queue.{put_enabled}
 use Rattle.sim_events.proofs.follow.refresh.Goals as goal
 
 pub put-requires : goal.put-requires
@@ -10,8 +10,8 @@ put-requires g c =
 
 pub returns-in-Some-clause-queue : goal.returns-in-Some-clause-queue
 returns-in-Some-clause-queue g c =
-    put_turn _ _ _ c.args.id _ c.index-slot.result _ _ _ _ c.sched.ensures c.index-slot.ensures.index c.choice_from.ensures.turn (c.in-Some.is ∙ ap (λ (a : Timed). Some a) (sym c.key_of.ensures)) c.put.ensures
+    put_enabled _ _ _ c.args.id _ c.index-slot.result _ _ _ _ c.sched.ensures c.index-slot.ensures.index c.choice_from.ensures.enabled (c.in-Some.is ∙ ap (λ (a : Timed). Some a) (sym c.key_of.ensures)) c.put.ensures
 
 pub returns-in-None-clause-queue : goal.returns-in-None-clause-queue
 returns-in-None-clause-queue g c =
-    put_turn _ _ _ c.args.id _ c.index-slot.result _ _ _ _ c.sched.ensures c.index-slot.ensures.index c.choice_from.ensures.turn c.in-None.is c.drop_slot.ensures
+    put_enabled _ _ _ c.args.id _ c.index-slot.result _ _ _ _ c.sched.ensures c.index-slot.ensures.index c.choice_from.ensures.enabled c.in-None.is c.drop_slot.ensures

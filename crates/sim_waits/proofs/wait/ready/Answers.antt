@@ -3,7 +3,7 @@ use Rattle.goal_graph.specs.declared.plan.Need.{Need}
 use Rattle.goal_graph.specs.declared.plan.When.TheVariants.{AfterEnd}
 use Rattle.goal_graph.specs.Schedule.{Plan, needs, needed}
 use Rattle.goal_graph.specs.Fault.{IsOp}
-use Rattle.sim_events.specs.Turns.{ready_told}
+use Rattle.sim_events.specs.Enabled.{ready_known}
 use Rattle.sim_events.proofs.ForCallers.{ready_from, ready_start, read_met, read_unmet, read_all}
 use Rattle.sim_waits.proofs.wait.ready.Goals as goal
 
@@ -22,16 +22,16 @@ moment-requires g c =
 pub returns-in-None : goal.returns-in-None
 returns-in-None g c =
     let items = c.needs-need-items.ensures.needs ∙ ap (λ (ps : List Plan). needs ps c.args.id) c.sched.ensures in
-    read_unmet c.args.engine.now.plans (g.C.Costs.model c.args.engine.now.costs) c.args.engine.now.history c.args.id c.needs-need-items.result.now items c.loop-need.need-index c.loop-need.ready (ready_told c.args.engine.now.plans (g.C.Costs.model c.args.engine.now.costs) c.args.engine.now.history c.args.id) c.loop-need.invariant none c.moment.result c.loop-need-test.true c.moment.ensures c.in-None.is
+    read_unmet c.args.engine.now.plans (g.C.Costs.model c.args.engine.now.costs) c.args.engine.now.history c.args.id c.needs-need-items.result.now items c.loop-need.need-index c.loop-need.ready (ready_known c.args.engine.now.plans (g.C.Costs.model c.args.engine.now.costs) c.args.engine.now.history c.args.id) c.loop-need.invariant none c.moment.result c.loop-need-test.true c.moment.ensures c.in-None.is
 
 pub loop-need-preserved : goal.loop-need-preserved
 loop-need-preserved g c =
     let items = c.needs-need-items.ensures.needs ∙ ap (λ (ps : List Plan). needs ps c.args.id) c.sched.ensures in
     let rest = drop (c.loop-need.need-index + 1) (needs c.args.engine.now.plans c.args.id) in
-    let met = read_met c.args.engine.now.plans (g.C.Costs.model c.args.engine.now.costs) c.args.engine.now.history c.args.id c.needs-need-items.result.now items c.loop-need.need-index c.loop-need.ready (ready_told c.args.engine.now.plans (g.C.Costs.model c.args.engine.now.costs) c.args.engine.now.history c.args.id) c.loop-need.invariant none c.moment.result c.in-Some.at c.loop-need-test.true c.moment.ensures c.in-Some.is in
+    let met = read_met c.args.engine.now.plans (g.C.Costs.model c.args.engine.now.costs) c.args.engine.now.history c.args.id c.needs-need-items.result.now items c.loop-need.need-index c.loop-need.ready (ready_known c.args.engine.now.plans (g.C.Costs.model c.args.engine.now.costs) c.args.engine.now.history c.args.id) c.loop-need.invariant none c.moment.result c.in-Some.at c.loop-need-test.true c.moment.ensures c.in-Some.is in
     ap (λ n. ready_from c.args.engine.now.plans (g.C.Costs.model c.args.engine.now.costs) c.args.engine.now.history c.args.id n rest) c.max-ready.ensures ∙ met
 
 pub returns : goal.returns
 returns g c =
     let items = c.needs-need-items.ensures.needs ∙ ap (λ (ps : List Plan). needs ps c.args.id) c.sched.ensures in
-    read_all c.args.engine.now.plans (g.C.Costs.model c.args.engine.now.costs) c.args.engine.now.history c.args.id c.needs-need-items.result.now items c.loop-need.need-index c.loop-need.ready (ready_told c.args.engine.now.plans (g.C.Costs.model c.args.engine.now.costs) c.args.engine.now.history c.args.id) c.loop-need.invariant c.loop-need-test.false
+    read_all c.args.engine.now.plans (g.C.Costs.model c.args.engine.now.costs) c.args.engine.now.history c.args.id c.needs-need-items.result.now items c.loop-need.need-index c.loop-need.ready (ready_known c.args.engine.now.plans (g.C.Costs.model c.args.engine.now.costs) c.args.engine.now.history c.args.id) c.loop-need.invariant c.loop-need-test.false

@@ -6,7 +6,7 @@ use Rattle.goal_graph.specs.Action.{plain}
 use Rattle.goal_graph.specs.Laws.{IsSend}
 use Rattle.sim_params.specs.Times.{holds_cpu, holds_tx, holds_rx}
 use Rattle.sim_match.specs.PostsAndArrivals.{is_post_or_arrival, receive_for}
-use Rattle.sim_events.specs.Mirrors.{entry_told}
+use Rattle.sim_events.specs.Represents.{entry_known}
 use Rattle.sim_events.proofs.Entries.{arrived, receiver_exists}
 use Rattle.sim_events.proofs.Fits.{arrives}
 use Rattle.sim_events.proofs.FreeTimes.{free_same}
@@ -64,7 +64,7 @@ invariant_of-self g c =
     let was = entry_is g.C.Costs.model _ _ a.op c.entry-entry.result c.self.view_is c.entry-entry.ensures in
     let kind = arrives plans costs h a m.run next.possible c.requires.class in
     let taken : c.arrive-partner.result ≡ receive_for plans (filter is_post_or_arrival (plain h)) a.op = c.arrive-partner.ensures.taken ∙ (λ i. receive_for (m.posts_and_arrivals.same_plans i) (m.posts_and_arrivals.events i) a.op) in
-    let told = c.write_met.ensures (entry_told plans costs h) (c.deref_mut.ensures.value ∙ m.told) ∙ arrived plans costs h a m.run next.possible c.entry-entry.result was c.arrive-partner.result c.requires.class kind taken in
+    let told = c.write_met.ensures (entry_known plans costs h) (c.deref_mut.ensures.value ∙ m.known) ∙ arrived plans costs h a m.run next.possible c.entry-entry.result was c.arrive-partner.result c.requires.class kind taken in
     let posts_and_arrivals = arrival_known plans costs h a c.self.inside.matcher m.posts_and_arrivals c.arrive-partner.new.self c.requires.class c.arrive-partner.ensures.actions in
     let free = free_same plans costs h a c.self.inside.resources m.free (ap holds_cpu c.requires.class) (ap (λ (k : Class). holds_tx k (kind_at plans a.op)) c.requires.class) (ap holds_rx c.requires.class) in
     performed plans costs c.self.inside.history.items c.self.inside.entries.items c.self.inside.matcher c.self.inside.resources (vec_capacity c.self.inside.history) m a next c.push_reserved.new.self.items c.deref_mut.result.now c.write_met.new.entries c.arrive-partner.new.self c.self.inside.resources (vec_capacity c.push_reserved.new.self) c.self.inside.entries.len c.push_reserved.ensures.items c.push_reserved.ensures.capacity c.self.inside.entries.ok.0 c.deref_mut.ensures.value c.write_met.auto.entries told posts_and_arrivals free

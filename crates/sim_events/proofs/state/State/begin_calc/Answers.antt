@@ -5,7 +5,7 @@ use Rattle.goal_graph.specs.Laws.{IsCalc}
 use Rattle.sim_params.specs.Times.{holds_cpu, holds_rx}
 use Rattle.sim_match.specs.PostsAndArrivals.{is_post_or_arrival_class}
 use Rattle.sim_events.specs.Engine.{View}
-use Rattle.sim_events.specs.Mirrors.{entry_told}
+use Rattle.sim_events.specs.Represents.{entry_known}
 use Rattle.sim_events.proofs.Entries.{calc_begun}
 use Rattle.sim_events.proofs.Fits.{cpu_fits}
 use Rattle.sim_events.proofs.FreeTimes.{free_calc}
@@ -56,7 +56,7 @@ invariant_of-self g c =
     let calc : IsCalc plans a.op = record { nanos = c.args.nanos; kind = kind } in
     let was = entry_is g.C.Costs.model _ _ a.op c.entry-entry.result c.self.view_is c.entry-entry.ensures in
     let until = ap (λ (n : ℕ). a.time + n) (sym (cpu_of_calc plans costs h a.class a.op c.args.nanos c.requires.class kind)) in
-    let told = c.write.ensures (entry_told plans costs h) (c.deref_mut.ensures.value ∙ m.told) ∙ calc_begun plans costs h a m.run next.possible c.entry-entry.result was _ until c.requires.class calc in
+    let told = c.write.ensures (entry_known plans costs h) (c.deref_mut.ensures.value ∙ m.known) ∙ calc_begun plans costs h a m.run next.possible c.entry-entry.result was _ until c.requires.class calc in
     let posts_and_arrivals = other_action plans costs h a c.self.inside.matcher m.posts_and_arrivals (ap is_post_or_arrival_class c.requires.class) in
     let free = free_calc plans costs h a c.self.inside.resources m.free c.hold_cpu.new.self _ (ap holds_cpu c.requires.class) until c.hold_cpu.ensures (tx_of_calc plans costs h a.class a.op c.args.nanos c.requires.class kind) (ap holds_rx c.requires.class) in
     performed plans costs c.self.inside.history.items c.self.inside.entries.items c.self.inside.matcher c.self.inside.resources (vec_capacity c.self.inside.history) m a next c.push_reserved.new.self.items c.deref_mut.result.now c.write.new.entries c.self.inside.matcher c.hold_cpu.new.self (vec_capacity c.push_reserved.new.self) c.self.inside.entries.len c.push_reserved.ensures.items c.push_reserved.ensures.capacity c.self.inside.entries.ok.0 c.deref_mut.ensures.value c.write.auto.entries told posts_and_arrivals free

@@ -4,7 +4,7 @@ use Rattle.sim_params.specs.Costs.{is_eager}
 use Rattle.sim_params.specs.Times.{holds_cpu, holds_rx}
 use Rattle.sim_match.specs.PostsAndArrivals.{is_post_or_arrival_class}
 use Rattle.sim_events.specs.Engine.{View}
-use Rattle.sim_events.specs.Mirrors.{entry_told}
+use Rattle.sim_events.specs.Represents.{entry_known}
 use Rattle.sim_events.proofs.Entries.{request_begun}
 use Rattle.sim_events.proofs.Fits.{cpu_fits, tx_fits, flight_of_request}
 use Rattle.sim_events.proofs.FreeTimes.{free_send}
@@ -63,7 +63,7 @@ invariant_of-self g c =
     let large = subst (λ (v : View _). is_eager v.plans (g.C.Costs.model v.costs) a.op ≡ false) (sym c.self.view_is) c.requires.large in
     let until = ap (λ (n : ℕ). a.time + n) (sym (cpu_of_request plans costs h a.class a.op send c.requires.class large)) in
     let sent = ap (λ (n : ℕ). a.time + n) (sym (tx_of_request plans costs h a.class a.op send c.requires.class large)) in
-    let told = c.write.ensures (entry_told plans costs h) (c.deref_mut.ensures.value ∙ m.told) ∙ request_begun plans costs h a m.run next.possible c.entry-entry.result was c.request-arrive.result c.requires.class send large c.request-arrive.ensures.arrive in
+    let told = c.write.ensures (entry_known plans costs h) (c.deref_mut.ensures.value ∙ m.known) ∙ request_begun plans costs h a m.run next.possible c.entry-entry.result was c.request-arrive.result c.requires.class send large c.request-arrive.ensures.arrive in
     let posts_and_arrivals = other_action plans costs h a c.self.inside.matcher m.posts_and_arrivals (ap is_post_or_arrival_class c.requires.class) in
     let free = free_send plans costs h a c.self.inside.resources m.free c.request-arrive.new.res _ (ap holds_cpu c.requires.class) until _ c.request-arrive.ensures.holds (sends_at_begin plans costs h a.class a.op send c.requires.class) sent (ap holds_rx c.requires.class) in
     performed plans costs c.self.inside.history.items c.self.inside.entries.items c.self.inside.matcher c.self.inside.resources (vec_capacity c.self.inside.history) m a next c.push_reserved.new.self.items c.deref_mut.result.now c.write.new.entries c.self.inside.matcher c.request-arrive.new.res (vec_capacity c.push_reserved.new.self) c.self.inside.entries.len c.push_reserved.ensures.items c.push_reserved.ensures.capacity c.self.inside.entries.ok.0 c.deref_mut.ensures.value c.write.auto.entries told posts_and_arrivals free

@@ -30,17 +30,17 @@ serve_of-requires g c =
     let is = sym (ap (λ (plans : List Plan). op_at plans c.args.id) c.sched.ensures) ∙ c.op.ensures.op in
     record { room = c.in-Recv.bytes; from = c.in-Recv.from; tag = c.in-Recv.tag; kind = kind_from_op _ c.args.id c.op.result.now (Recv c.in-Recv.bytes c.in-Recv.from c.in-Recv.tag) is c.in-Recv.is }
 
-pub returns-in-Calc-clause-turn : goal.returns-in-Calc-clause-turn
-returns-in-Calc-clause-turn g c =
+pub returns-in-Calc-clause-enabled : goal.returns-in-Calc-clause-enabled
+returns-in-Calc-clause-enabled g c =
     let is = sym (ap (λ (plans : List Plan). op_at plans c.args.id) c.sched.ensures) ∙ c.op.ensures.op in
-    calc_choice _ _ _ c.args.id (record { nanos = c.in-Calc.nanos; kind = kind_from_op _ c.args.id c.op.result.now (Calc c.in-Calc.nanos) is c.in-Calc.is }) c.begin_of_calc.result c.begin_of_calc.ensures.turn
+    calc_choice _ _ _ c.args.id (record { nanos = c.in-Calc.nanos; kind = kind_from_op _ c.args.id c.op.result.now (Calc c.in-Calc.nanos) is c.in-Calc.is }) c.begin_of_calc.result c.begin_of_calc.ensures.enabled
 
-pub returns-in-Send-clause-turn : goal.returns-in-Send-clause-turn
-returns-in-Send-clause-turn g c =
+pub returns-in-Send-clause-enabled : goal.returns-in-Send-clause-enabled
+returns-in-Send-clause-enabled g c =
     let is = sym (ap (λ (plans : List Plan). op_at plans c.args.id) c.sched.ensures) ∙ c.op.ensures.op in
-    send_choice _ _ _ c.args.id (record { bytes = c.in-Send.bytes; to = c.in-Send.to; tag = c.in-Send.tag; kind = kind_from_op _ c.args.id c.op.result.now (Send c.in-Send.bytes c.in-Send.to c.in-Send.tag) is c.in-Send.is }) c.begin_of_send.result c.arrival.result c.hand_over_of.result c.or-in-Send.result c.or.result c.begin_of_send.ensures.turn c.arrival.ensures c.hand_over_of.ensures c.or.ensures c.or-in-Send.ensures
+    send_choice _ _ _ c.args.id (record { bytes = c.in-Send.bytes; to = c.in-Send.to; tag = c.in-Send.tag; kind = kind_from_op _ c.args.id c.op.result.now (Send c.in-Send.bytes c.in-Send.to c.in-Send.tag) is c.in-Send.is }) c.begin_of_send.result c.arrival.result c.hand_over_of.result c.or-in-Send.result c.or.result c.begin_of_send.ensures.enabled c.arrival.ensures c.hand_over_of.ensures c.or.ensures c.or-in-Send.ensures
 
-pub returns-in-Recv-clause-turn : goal.returns-in-Recv-clause-turn
-returns-in-Recv-clause-turn g c =
+pub returns-in-Recv-clause-enabled : goal.returns-in-Recv-clause-enabled
+returns-in-Recv-clause-enabled g c =
     let is = sym (ap (λ (plans : List Plan). op_at plans c.args.id) c.sched.ensures) ∙ c.op.ensures.op in
-    receive_choice _ _ _ c.args.id (record { room = c.in-Recv.bytes; from = c.in-Recv.from; tag = c.in-Recv.tag; kind = kind_from_op _ c.args.id c.op.result.now (Recv c.in-Recv.bytes c.in-Recv.from c.in-Recv.tag) is c.in-Recv.is }) c.post_of.result c.serve_of.result c.or-in-Recv.result c.post_of.ensures.turn c.serve_of.ensures c.or-in-Recv.ensures
+    receive_choice _ _ _ c.args.id (record { room = c.in-Recv.bytes; from = c.in-Recv.from; tag = c.in-Recv.tag; kind = kind_from_op _ c.args.id c.op.result.now (Recv c.in-Recv.bytes c.in-Recv.from c.in-Recv.tag) is c.in-Recv.is }) c.post_of.result c.serve_of.result c.or-in-Recv.result c.post_of.ensures.enabled c.serve_of.ensures c.or-in-Recv.ensures

@@ -1,7 +1,7 @@
 use Rattle.std.proofs.Common.{◌+◌, ◌∙◌, ◌<◌, ℕ, length, reverse, vec_capacity, sym, ap, arith}
 use Rattle.sim_params.specs.Times.{holds_cpu, holds_rx}
 use Rattle.sim_match.specs.PostsAndArrivals.{is_post_or_arrival_class}
-use Rattle.sim_events.specs.Mirrors.{entry_told}
+use Rattle.sim_events.specs.Represents.{entry_known}
 use Rattle.sim_events.proofs.Entries.{data_sent}
 use Rattle.sim_events.proofs.Fits.{cpu_fits, tx_fits, sends, bytes_fit}
 use Rattle.sim_events.proofs.FreeTimes.{free_send}
@@ -59,7 +59,7 @@ invariant_of-self g c =
     let send = facts.0 in
     let until = c.data-sent.ensures.end ∙ ap (λ (n : ℕ). a.time + n) (sym (cpu_of_data plans costs h a.class a.op send c.requires.class)) in
     let sent = ap (λ (n : ℕ). a.time + n) (sym (tx_of_data plans costs h a.class a.op send c.requires.class)) in
-    let told = c.write.ensures (entry_told plans costs h) (c.deref_mut.ensures.value ∙ m.told) ∙ data_sent plans costs h a m.run next.possible c.entry-entry.result was _ until c.data-sent.result.available c.requires.class send facts.1 c.data-sent.ensures.available in
+    let told = c.write.ensures (entry_known plans costs h) (c.deref_mut.ensures.value ∙ m.known) ∙ data_sent plans costs h a m.run next.possible c.entry-entry.result was _ until c.data-sent.result.available c.requires.class send facts.1 c.data-sent.ensures.available in
     let posts_and_arrivals = other_action plans costs h a c.self.inside.matcher m.posts_and_arrivals (ap is_post_or_arrival_class c.requires.class) in
     let free = free_send plans costs h a c.self.inside.resources m.free c.data-sent.new.res _ (ap holds_cpu c.requires.class) until _ c.data-sent.ensures.holds (sends_at_data plans costs h a.class a.op send c.requires.class) sent (ap holds_rx c.requires.class) in
     performed plans costs c.self.inside.history.items c.self.inside.entries.items c.self.inside.matcher c.self.inside.resources (vec_capacity c.self.inside.history) m a next c.push_reserved.new.self.items c.deref_mut.result.now c.write.new.entries c.self.inside.matcher c.data-sent.new.res (vec_capacity c.push_reserved.new.self) c.self.inside.entries.len c.push_reserved.ensures.items c.push_reserved.ensures.capacity c.self.inside.entries.ok.0 c.deref_mut.ensures.value c.write.auto.entries told posts_and_arrivals free

@@ -3,7 +3,7 @@ use Rattle.sim_params.specs.Costs.{latency}
 use Rattle.sim_resources.proofs.ForCallers.{send_is_op}
 use Rattle.sim_events.specs.Engine.{View}
 use Rattle.sim_events.proofs.Views.{free_at_view, run_at_view, within_at_view}
-use Rattle.sim_events.proofs.TurnLemmas.{eager_data, handed_data, unpaired_data, paired_some, clears, data_turn, data_time}
+use Rattle.sim_events.proofs.EnabledLemmas.{eager_data, handed_data, unpaired_data, paired_some, clears, data_enabled, data_time}
 use Rattle.sim_events.proofs.state.State.hand_over_of.Goals.{then-is_eager-via-then-is_eager, then-is_eager-via-else-is_eager+then-is_some}
 use Rattle.sim_events.proofs.state.State.hand_over_of.Goals as goal
 
@@ -31,4 +31,4 @@ returns g c =
     let pairing = paired_some _ _ _ c.args.send c.entry-entry.result c.in_ok-at.field-0 c.entry-entry.ensures c.in_ok-at.was in
     let free = free_at_view g.C.Costs.model _ _ _ c.self.view_is c.self.invariant.free in
     let back = c.clear-cleared.ensures ∙ ap (λ (v : View _). c.in_ok-at.field-0.at + latency v.plans (g.C.Costs.model v.costs) c.args.send) c.self.view_is ∙ ap (λ n. n + latency c.args.self.now.plans (g.C.Costs.model c.args.self.now.costs) c.args.send) (sym pairing.at_is) in
-    data_turn _ _ _ c.args.send c.requires (sym c.is_eager.ensures ∙ c.if-is_eager.false) c.entry-entry.result c.entry-entry.ensures (sym c.is_some.ensures ∙ c.if-is_some.false) c.in_ok-at.field-0 pairing c.data_at.result (c.data_at.ensures ∙ ap₂ max back (ap₂ max (free.cpus c.args.send) (free.senders c.args.send)) ∙ sym (data_time _ _ _ c.args.send c.requires))
+    data_enabled _ _ _ c.args.send c.requires (sym c.is_eager.ensures ∙ c.if-is_eager.false) c.entry-entry.result c.entry-entry.ensures (sym c.is_some.ensures ∙ c.if-is_some.false) c.in_ok-at.field-0 pairing c.data_at.result (c.data_at.ensures ∙ ap₂ max back (ap₂ max (free.cpus c.args.send) (free.senders c.args.send)) ∙ sym (data_time _ _ _ c.args.send c.requires))

@@ -1,7 +1,7 @@
 use Rattle.std.proofs.Common.{List, ap, ◌∙◌}
 use Rattle.goal_graph.specs.Schedule.{Plan}
 use Rattle.sim_params.specs.Costs.{is_eager}
-use Rattle.sim_events.proofs.TurnLemmas.{eager_read}
+use Rattle.sim_events.proofs.EnabledLemmas.{eager_read}
 use Rattle.sim_events.proofs.state.State.is_eager.Goals as goal
 
 pub returns : goal.returns

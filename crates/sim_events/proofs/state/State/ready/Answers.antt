@@ -5,7 +5,7 @@ use Rattle.goal_graph.specs.Schedule.{needs, needed}
 use Rattle.goal_graph.specs.Fault.{IsOp}
 use Rattle.sim_events.specs.Engine.{View}
 use Rattle.sim_events.proofs.Ready.{missing_unready}
-use Rattle.sim_events.proofs.Cursors.{cursor_more, cursor_told}
+use Rattle.sim_events.proofs.Cursors.{cursor_more, cursor_knows}
 use Rattle.sim_events.proofs.state.State.ready.Goals as goal
 
 abbrev none : Need
@@ -29,4 +29,4 @@ loop-at-preserved g c =
 pub returns-clause-ready : goal.returns-clause-ready
 returns-clause-ready g c =
     let items = c.needs-needs.ensures.needs ∙ ap (λ (v : View _). needs v.plans c.args.id) c.self.view_is in
-    cursor_told c.args.self.now.plans (g.C.Costs.model c.args.self.now.costs) c.args.self.now.history c.args.id c.needs-needs.result.now items c.loop-at.cursor c.loop-at.invariant.1 (omega (arith, c.loop-at-test.false, c.loop-at.invariant.0))
+    cursor_knows c.args.self.now.plans (g.C.Costs.model c.args.self.now.costs) c.args.self.now.history c.args.id c.needs-needs.result.now items c.loop-at.cursor c.loop-at.invariant.1 (omega (arith, c.loop-at-test.false, c.loop-at.invariant.0))

@@ -6,14 +6,14 @@ use Rattle.goal_graph.proofs.ForCallers.{partner_is_send}
 use Rattle.sim_params.specs.Times.{holds_cpu, holds_tx, holds_rx}
 use Rattle.sim_match.specs.PostsAndArrivals.{is_post_or_arrival_class}
 use Rattle.sim_events.specs.declared.entry.Entry.{Entry}
-use Rattle.sim_events.specs.Mirrors.{entry_told}
+use Rattle.sim_events.specs.Represents.{entry_known}
 use Rattle.sim_events.proofs.Entries.{message_taken}
 use Rattle.sim_events.proofs.Fits.{cpu_fits, rx_fits, serves}
 use Rattle.sim_events.proofs.FreeTimes.{free_serve}
 use Rattle.sim_events.proofs.PostsAndArrivals.{other_action}
 use Rattle.sim_events.proofs.HoldTimes.{cpu_of_serve, rx_of_serve}
 use Rattle.sim_events.proofs.Places.{possible_exists}
-use Rattle.sim_events.proofs.Pairings.{told_mate, mate_told}
+use Rattle.sim_events.proofs.Pairings.{mate_of_known, known_mate}
 use Rattle.sim_events.proofs.Performed.{next_at, entry_is, each_entry, room_left, performed, is_op}
 use Rattle.sim_events.proofs.state.State.serve.Goals as goal
 
@@ -29,7 +29,7 @@ unreachable-requires g c =
     let a = c.args.action in
     let next = next_at g.C.Costs.model _ _ a c.self.view_is c.requires.next in
     let was = entry_is g.C.Costs.model _ _ a.op c.entry-entry.result c.self.view_is c.entry-entry.ensures in
-    let told = mate_told plans costs h a a.op (serves plans costs h a c.self.invariant.run next.possible c.requires.class).1 in
+    let told = known_mate plans costs h a a.op (serves plans costs h a c.self.invariant.run next.possible c.requires.class).1 in
     c.in_default.not-Some told.0 (ap (λ (e : Entry). e.paired) was ∙ told.1)
 
 pub serve-end-requires : goal.serve-end-requires
@@ -42,7 +42,7 @@ serve-end-requires g c =
     let next = next_at g.C.Costs.model _ _ a c.self.view_is c.requires.next in
     let was = entry_is g.C.Costs.model _ _ a.op c.entry-entry.result c.self.view_is c.entry-entry.ensures in
     let receive = (serves plans costs h a m.run next.possible c.requires.class).0 in
-    let partner = told_mate plans costs h a a.op c.in-Some.pairing (sym (ap (λ (e : Entry). e.paired) was) ∙ c.in-Some.is) in
+    let partner = mate_of_known plans costs h a a.op c.in-Some.pairing (sym (ap (λ (e : Entry). e.paired) was) ∙ c.in-Some.is) in
     record {
       same_schedule = m.free.same_plans;
       receives = receive;
@@ -75,10 +75,10 @@ invariant_of-self g c =
     let next = next_at g.C.Costs.model _ _ a c.self.view_is c.requires.next in
     let was = entry_is g.C.Costs.model _ _ a.op c.entry-entry.result c.self.view_is c.entry-entry.ensures in
     let receive = (serves plans costs h a m.run next.possible c.requires.class).0 in
-    let partner = told_mate plans costs h a a.op c.in-Some.pairing (sym (ap (λ (e : Entry). e.paired) was) ∙ c.in-Some.is) in
+    let partner = mate_of_known plans costs h a a.op c.in-Some.pairing (sym (ap (λ (e : Entry). e.paired) was) ∙ c.in-Some.is) in
     let until = c.serve-end.ensures.end ∙ ap (λ (n : ℕ). a.time + n) (sym (cpu_of_serve plans costs h a.class a.op receive c.in-Some.pairing.with partner c.requires.class)) in
     let received = ap (λ (n : ℕ). a.time + n) (sym (rx_of_serve plans costs h a.class a.op receive c.in-Some.pairing.with partner c.requires.class)) in
-    let told = c.write.ensures (entry_told plans costs h) (c.deref_mut.ensures.value ∙ m.told) ∙ message_taken plans costs h a m.run next.possible c.entry-entry.result was _ until c.requires.class receive in
+    let told = c.write.ensures (entry_known plans costs h) (c.deref_mut.ensures.value ∙ m.known) ∙ message_taken plans costs h a m.run next.possible c.entry-entry.result was _ until c.requires.class receive in
     let posts_and_arrivals = other_action plans costs h a c.self.inside.matcher m.posts_and_arrivals (ap is_post_or_arrival_class c.requires.class) in
     let free = free_serve plans costs h a c.self.inside.resources m.free c.serve-end.new.res _ (ap holds_cpu c.requires.class) until _ c.serve-end.ensures.holds (ap (λ (k : Class). holds_tx k (kind_at plans a.op)) c.requires.class) (ap holds_rx c.requires.class) received in
     performed plans costs c.self.inside.history.items c.self.inside.entries.items c.self.inside.matcher c.self.inside.resources (vec_capacity c.self.inside.history) m a next c.push_reserved.new.self.items c.deref_mut.result.now c.write.new.entries c.self.inside.matcher c.serve-end.new.res (vec_capacity c.push_reserved.new.self) c.self.inside.entries.len c.push_reserved.ensures.items c.push_reserved.ensures.capacity c.self.inside.entries.ok.0 c.deref_mut.ensures.value c.write.auto.entries told posts_and_arrivals free

@@ -1,7 +1,7 @@
 use Rattle.std.proofs.Common.{sym, ap₂, ◌∙◌, max}
 use Rattle.sim_resources.proofs.ForCallers.{receive_is_op}
 use Rattle.sim_events.proofs.Views.{free_at_view}
-use Rattle.sim_events.proofs.TurnLemmas.{ended_serve, unpaired_serve, absent_serve, paired_some, pairing_send, message_is, serve_turn, serve_time}
+use Rattle.sim_events.proofs.EnabledLemmas.{ended_serve, unpaired_serve, absent_serve, paired_some, pairing_send, message_is, serve_enabled, serve_time}
 use Rattle.sim_events.proofs.state.State.serve_of.Goals as goal
 
 pub entry-entry-requires : goal.entry-entry-requires
@@ -29,4 +29,4 @@ returns g c =
     let pairing = paired_some _ _ _ c.args.recv c.entry-entry.result c.in_ok-entry.field-0 c.entry-entry.ensures c.in_ok-entry.was in
     let free = free_at_view g.C.Costs.model _ _ _ c.self.view_is c.self.invariant.free in
     let there = message_is _ _ _ c.args.recv c.in_ok-entry.field-0 pairing c.message_there.result c.in_ok-there.there c.message_there.ensures c.in_ok-there.was in
-    serve_turn _ _ _ c.args.recv c.requires c.entry-entry.result c.entry-entry.ensures (sym c.is_some.ensures ∙ c.if-is_some.false) c.in_ok-there.there c.serve_at.result there (c.serve_at.ensures ∙ ap₂ max (sym there.when) (ap₂ max (free.cpus c.args.recv) (free.receivers c.args.recv)) ∙ sym (serve_time _ _ _ c.args.recv c.requires))
+    serve_enabled _ _ _ c.args.recv c.requires c.entry-entry.result c.entry-entry.ensures (sym c.is_some.ensures ∙ c.if-is_some.false) c.in_ok-there.there c.serve_at.result there (c.serve_at.ensures ∙ ap₂ max (sym there.when) (ap₂ max (free.cpus c.args.recv) (free.receivers c.args.recv)) ∙ sym (serve_time _ _ _ c.args.recv c.requires))

@@ -11,24 +11,24 @@ use Rattle.goal_graph.specs.Allowed.{is_ready, allowed}
 use Rattle.sim_params.specs.Costs.{CostModel, is_eager}
 use Rattle.sim_params.specs.Times.{ready, time}
 use Rattle.sim_params.specs.Laws.{at_its_time}
-use Rattle.sim_events.specs.Engine.{start_told, end_told}
+use Rattle.sim_events.specs.Engine.{start_known, end_known}
 
 -- the moment of x that a dependency waits for, once it is there
-abbrev pub moment_told : List Plan → CostModel → List Timed → When → OpId → Option ℕ
-moment_told plans costs h AfterEnd x = end_told plans costs h x
-moment_told plans costs h AfterStart x = start_told plans costs h x
+abbrev pub moment_known : List Plan → CostModel → List Timed → When → OpId → Option ℕ
+moment_known plans costs h AfterEnd x = end_known plans costs h x
+moment_known plans costs h AfterStart x = start_known plans costs h x
 
 -- when all that x needs is there, once it is
-abbrev pub ready_told : List Plan → CostModel → List Timed → OpId → Option ℕ
-ready_told plans costs h x =
+abbrev pub ready_known : List Plan → CostModel → List Timed → OpId → Option ℕ
+ready_known plans costs h x =
     if is_ready plans (is_eager plans costs) (plain h) x then Some (ready plans costs h x) else None
 
 -- when the action of that class of x happens, while it is allowed
-abbrev pub time_told : List Plan → CostModel → List Timed → Class → OpId → Option ℕ
-time_told plans costs h class x =
+abbrev pub time_known : List Plan → CostModel → List Timed → Class → OpId → Option ℕ
+time_known plans costs h class x =
     if allowed plans (is_eager plans costs) (plain h) class x then Some (time plans costs h class x) else None
 
 -- that action at its time, while it is allowed
-abbrev pub turn_told : List Plan → CostModel → List Timed → Class → OpId → Option Timed
-turn_told plans costs h class x =
+abbrev pub enabled_action : List Plan → CostModel → List Timed → Class → OpId → Option Timed
+enabled_action plans costs h class x =
     if allowed plans (is_eager plans costs) (plain h) class x then Some (at_its_time plans costs h class x) else None

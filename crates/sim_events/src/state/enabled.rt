@@ -4,10 +4,10 @@ ghost use Rattle.goal_graph.specs.declared.action.Class.TheVariants.{Arrive, Ser
 ghost use Rattle.goal_graph.specs.Fault.{IsOp};
 ghost use Rattle.goal_graph.specs.Laws.{IsCalc, IsSend, IsReceive};
 ghost use Rattle.sim_params.specs.Costs.{is_eager};
-ghost use Rattle.sim_events.specs.Mirrors.{message_told};
+ghost use Rattle.sim_events.specs.Represents.{message_known};
 ghost use Rattle.sim_events.specs.Cursors.{IsCursorOf};
-ghost use Rattle.sim_events.specs.Queue.{IsTurnOf};
-ghost use Rattle.sim_events.specs.Turns.{moment_told, ready_told, turn_told};
+ghost use Rattle.sim_events.specs.Queue.{IsEnabledActionOf};
+ghost use Rattle.sim_events.specs.Enabled.{moment_known, ready_known, enabled_action};
 
 use super::State;
 use crate::cursor::Cursor;
@@ -24,7 +24,7 @@ impl<'a, C: Costs> State<'a, C> {
     pub fn choice(&self, id: OpId, cursor: &mut Cursor) -> Option<Timed>
         requires op { IsOp self.now.plans id }
         requires cursor { IsCursorOf self.now.plans (C.model self.now.costs) self.now.history id cursor.old }
-        ensures turn { IsTurnOf self.now.plans (C.model self.now.costs) self.now.history id result }
+        ensures enabled { IsEnabledActionOf self.now.plans (C.model self.now.costs) self.now.history id result }
         ensures cursor { IsCursorOf self.now.plans (C.model self.now.costs) self.now.history id cursor.new }
     {
         match self.sched().op(id).kind {
@@ -41,7 +41,7 @@ impl<'a, C: Costs> State<'a, C> {
     fn begin_of_calc(&self, calc: OpId, cursor: &mut Cursor) -> Option<Timed>
         requires op { IsCalc self.now.plans calc }
         requires cursor { IsCursorOf self.now.plans (C.model self.now.costs) self.now.history calc cursor.old }
-        ensures turn { result ≡ turn_told self.now.plans (C.model self.now.costs) self.now.history Begin calc }
+        ensures enabled { result ≡ enabled_action self.now.plans (C.model self.now.costs) self.now.history Begin calc }
         ensures cursor { IsCursorOf self.now.plans (C.model self.now.costs) self.now.history calc cursor.new }
     {
         if self.entry(calc).start.is_some() {
@@ -59,7 +59,7 @@ impl<'a, C: Costs> State<'a, C> {
     fn begin_of_send(&self, send: OpId, cursor: &mut Cursor) -> Option<Timed>
         requires op { IsSend self.now.plans send }
         requires cursor { IsCursorOf self.now.plans (C.model self.now.costs) self.now.history send cursor.old }
-        ensures turn { result ≡ turn_told self.now.plans (C.model self.now.costs) self.now.history Begin send }
+        ensures enabled { result ≡ enabled_action self.now.plans (C.model self.now.costs) self.now.history Begin send }
         ensures cursor { IsCursorOf self.now.plans (C.model self.now.costs) self.now.history send cursor.new }
     {
         if self.entry(send).start.is_some() {
@@ -76,7 +76,7 @@ impl<'a, C: Costs> State<'a, C> {
     // The Arrive of a send that is under way.
     fn arrival(&self, send: OpId) -> Option<Timed>
         requires { IsOp self.now.plans send }
-        ensures { result ≡ turn_told self.now.plans (C.model self.now.costs) self.now.history Arrive send }
+        ensures { result ≡ enabled_action self.now.plans (C.model self.now.costs) self.now.history Arrive send }
     {
         let time = self.entry(send).arriving?;
         Some(Timed {
@@ -89,7 +89,7 @@ impl<'a, C: Costs> State<'a, C> {
     // The Data of a large send: once its clearance is back, and its cpu and its interface are free.
     fn hand_over_of(&self, send: OpId) -> Option<Timed>
         requires { IsSend self.now.plans send }
-        ensures { result ≡ turn_told self.now.plans (C.model self.now.costs) self.now.history Data send }
+        ensures { result ≡ enabled_action self.now.plans (C.model self.now.costs) self.now.history Data send }
     {
         let entry = self.entry(send);
         if self.is_eager(send) || entry.there.is_some() {
@@ -108,7 +108,7 @@ impl<'a, C: Costs> State<'a, C> {
     fn post_of(&self, recv: OpId, cursor: &mut Cursor) -> Option<Timed>
         requires op { IsReceive self.now.plans recv }
         requires cursor { IsCursorOf self.now.plans (C.model self.now.costs) self.now.history recv cursor.old }
-        ensures turn { result ≡ turn_told self.now.plans (C.model self.now.costs) self.now.history Post recv }
+        ensures enabled { result ≡ enabled_action self.now.plans (C.model self.now.costs) self.now.history Post recv }
         ensures cursor { IsCursorOf self.now.plans (C.model self.now.costs) self.now.history recv cursor.new }
     {
         if self.entry(recv).start.is_some() {
@@ -125,7 +125,7 @@ impl<'a, C: Costs> State<'a, C> {
     // The Serve of a receive: once its message is there, and its cpu and its interface are free.
     fn serve_of(&self, recv: OpId) -> Option<Timed>
         requires { IsReceive self.now.plans recv }
-        ensures { result ≡ turn_told self.now.plans (C.model self.now.costs) self.now.history Serve recv }
+        ensures { result ≡ enabled_action self.now.plans (C.model self.now.costs) self.now.history Serve recv }
     {
         let entry = self.entry(recv);
         if entry.end.is_some() {
@@ -142,7 +142,7 @@ impl<'a, C: Costs> State<'a, C> {
     // When the message of its partner is there for a receive, once it is.
     fn message_there(&self, pairing: Pairing) -> Option<u64>
         requires { IsSend self.now.plans pairing.with }
-        ensures { result ≡ message_told self.now.plans (C.model self.now.costs) self.now.history pairing }
+        ensures { result ≡ message_known self.now.plans (C.model self.now.costs) self.now.history pairing }
     {
         if self.is_eager(pairing.with) {
             return Some(pairing.at);
@@ -163,7 +163,7 @@ impl<'a, C: Costs> State<'a, C> {
     fn ready(&self, id: OpId, cursor: &mut Cursor) -> Option<u64>
         requires op { IsOp self.now.plans id }
         requires cursor { IsCursorOf self.now.plans (C.model self.now.costs) self.now.history id cursor.old }
-        ensures ready { result ≡ ready_told self.now.plans (C.model self.now.costs) self.now.history id }
+        ensures ready { result ≡ ready_known self.now.plans (C.model self.now.costs) self.now.history id }
         ensures cursor { IsCursorOf self.now.plans (C.model self.now.costs) self.now.history id cursor.new }
     {
         let needs = self.sched.needs(id);
@@ -189,7 +189,7 @@ impl<'a, C: Costs> State<'a, C> {
     // The moment of an operation that a dependency waits for, once it is there.
     fn moment(&self, when: When, id: OpId) -> Option<u64>
         requires { IsOp self.now.plans id }
-        ensures { result ≡ moment_told self.now.plans (C.model self.now.costs) self.now.history when id }
+        ensures { result ≡ moment_known self.now.plans (C.model self.now.costs) self.now.history when id }
     {
         let entry = self.entry(id);
         match when {

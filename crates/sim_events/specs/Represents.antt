@@ -15,30 +15,30 @@ use Rattle.sim_match.specs.PostsAndArrivals.{PostsAndArrivals, is_post_or_arriva
 use Rattle.sim_resources.specs.FreeTimes.{Holds, cpu_free, tx_free, rx_free}
 use Rattle.sim_events.specs.declared.entry.Entry.{Entry}
 use Rattle.sim_events.specs.declared.entry.Pairing.{Pairing}
-use Rattle.sim_events.specs.Engine.{start_told, end_told}
-use Rattle.sim_events.specs.Turns.{time_told}
+use Rattle.sim_events.specs.Engine.{start_known, end_known}
+use Rattle.sim_events.specs.Enabled.{time_known}
 
 module _ (plans : List Plan) (costs : CostModel) (h : List Timed) where
   -- the operation that x is paired with, and since when, once it is
-  abbrev pub paired_told : OpId → Option Pairing
-  paired_told x = option_map (λ (y : OpId). record { with = y; at = paired_at plans costs h x }) (mate plans costs h x)
+  abbrev pub paired_known : OpId → Option Pairing
+  paired_known x = option_map (λ (y : OpId). record { with = y; at = paired_at plans costs h x }) (mate plans costs h x)
 
   -- when the bytes that x hands over are at its receive, once it has handed them over
-  abbrev pub there_told : OpId → Option ℕ
-  there_told x = if happened Data x (plain h) then Some (since (happened Data x) h + flight plans costs x) else None
+  abbrev pub there_known : OpId → Option ℕ
+  there_known x = if happened Data x (plain h) then Some (since (happened Data x) h + flight plans costs x) else None
 
   -- when the message of its partner is there for a receive, once it is
-  abbrev pub message_told : Pairing → Option ℕ
-  message_told p = if is_eager plans costs p.with then Some p.at else there_told p.with
+  abbrev pub message_known : Pairing → Option ℕ
+  message_known p = if is_eager plans costs p.with then Some p.at else there_known p.with
 
   -- what is kept of x
-  abbrev pub entry_told : OpId → Entry
-  entry_told x = record {
-    start = start_told plans costs h x;
-    end = end_told plans costs h x;
-    arriving = time_told plans costs h Arrive x;
-    paired = paired_told x;
-    there = there_told x;
+  abbrev pub entry_known : OpId → Entry
+  entry_known x = record {
+    start = start_known plans costs h x;
+    end = end_known plans costs h x;
+    arriving = time_known plans costs h Arrive x;
+    paired = paired_known x;
+    there = there_known x;
   }
 
   -- the cpus and interfaces of the schedule are free when the history says so
@@ -54,11 +54,11 @@ module _ (plans : List Plan) (costs : CostModel) (h : List Timed) where
     pub events : matcher.actions ≡ filter is_post_or_arrival (plain h)
 
   -- There is an entry for each operation, in their order, and room for every action of a run.
-  pub record Mirrors (entries : List Entry) (matcher : PostsAndArrivals) (res : Holds) (room : ℕ) : Type 0 where
+  pub record Represents (entries : List Entry) (matcher : PostsAndArrivals) (res : Holds) (room : ℕ) : Type 0 where
     pub accepted : IsAccepted plans
     pub within : budget plans costs < 2 ^ 63
     pub run : IsRun plans costs h
-    pub told : entries ≡ map entry_told (operations plans)
+    pub known : entries ≡ map entry_known (operations plans)
     pub posts_and_arrivals : KnowsPostsAndArrivals matcher
     pub free : AreFreeTimes res
     pub roomy : 3 * length (operations plans) ≤ room
