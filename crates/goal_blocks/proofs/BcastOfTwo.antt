@@ -34,16 +34,16 @@ use Rattle.goal_blocks.specs.Generated.{made}
 use Rattle.goal_blocks.specs.Certified.{IsCertifiedFor, BcastOfTwoIsCertified}
 use Rattle.goal_blocks.proofs.SomeWalk.{NoneOf, takes_first, nothing_left}
 
-abbrev two : List Plan
+abbrev pub two : List Plan
 two =
     record { ops = record { kind = Send 8 1 0; cpu = 0; nic = 0 } ∷ []; deps = []; notes = Moves 0 0 0 ∷ [] }
     ∷ record { ops = record { kind = Recv 8 (Some 0) (Some 0); cpu = 0; nic = 0 } ∷ []; deps = []; notes = Moves 0 0 0 ∷ [] }
     ∷ []
 
-abbrev s : OpId
+abbrev pub s : OpId
 s = record { rank = 0; op = 0 }
 
-abbrev r : OpId
+abbrev pub r : OpId
 r = record { rank = 1; op = 0 }
 
 is_send : IsSend two s
@@ -73,7 +73,7 @@ unfolding kind_at op_at
 receive_is x m =
     ⊎_elim (λ e. absurd (let f = sym (ap (λ (y : OpId). kind_at two y) e) ∙ m.kind in cc f)) (λ e. e) (only x _ m.kind)
 
-small : IsSmall two
+pub small : IsSmall two
 small = record { operations = counts; slots = names; moves = omega arith }
   where
     low : (k : ℕ) (d : Note) → k < 1 → NamesLowSlots (slice_index_or (Moves 0 0 0 ∷ []) k d)
@@ -90,7 +90,7 @@ small = record { operations = counts; slots = names; moves = omega arith }
     names (suc zero) d l = low
     names (suc (suc k)) d l = absurd (omega (arith, l))
 
-no_wildcard : HasNoWildcard two
+pub no_wildcard : HasNoWildcard two
 unfolding kind_at op_at
 no_wildcard x room from tag e =
     ⊎_elim (λ p. absurd (let f = sym (ap (λ (y : OpId). kind_at two y) p) ∙ e in cc f)) (λ p. let f : ◌≡◌ {A = Option Kind} (Some (Recv 8 (Some 0) (Some 0))) (Some (Recv room from tag)) = sym (ap (λ (y : OpId). kind_at two y) p) ∙ e in (ap (λ (k : Option Kind). is_source k) (sym f), ap (λ (k : Option Kind). is_tag k) (sym f))) (only x _ e)
@@ -103,7 +103,7 @@ no_wildcard x room from tag e =
     is_tag (Some (Recv room from tag)) = is_some tag
     is_tag _ = true
 
-no_double_channel : HasNoDoubleChannel two
+pub no_double_channel : HasNoDoubleChannel two
 no_double_channel = record {
   sends = λ m n c p q e f. send_is m p ∙ sym (send_is n q);
   receives = λ x y c p q e f. receive_is x p ∙ sym (receive_is y q);
@@ -113,13 +113,13 @@ one_channel : AreOfOneChannel two s r
 unfolding channel kind_at op_at
 one_channel = record { is_send = is_send; is_receive = is_receive; shared = record { source = 0; target = 1; tag = 0 }; of_send = refl; of_receive = refl }
 
-no_unpaired : HasNoUnpaired two
+pub no_unpaired : HasNoUnpaired two
 no_unpaired = record {
   sends = λ m p. (r, subst (λ (x : OpId). AreOfOneChannel two x r) (sym (send_is m p)) one_channel);
   receives = λ x p. (s, subst (λ (y : OpId). AreOfOneChannel two s y) (sym (receive_is x p)) one_channel);
 }
 
-lengths : HasEqualLengths two
+pub lengths : HasEqualLengths two
 unfolding slots notes_at slots_from
 lengths m x one =
     ap (λ (y : OpId). length (slots two y)) (send_is m one.is_send) ∙ sym (ap (λ (y : OpId). length (slots two y)) (receive_is x one.is_receive))
@@ -141,7 +141,7 @@ writing x k c = go (kind_at two x) refl c
     go None e c = absurd (omega (arith, c.1))
     go (Some kind) e c = only x kind e
 
-no_race : HasNoRace two
+pub no_race : HasNoRace two
 no_race x y c =
     absurd (go (touching x c.slot c.is_touched) (writing y c.slot c.is_written))
   where
@@ -153,22 +153,22 @@ no_race x y c =
     go (inr e) (inl f) =
         let a = ap (λ (z : OpId). z.rank) e in let b = ap (λ (z : OpId). z.rank) f in let same = c.one_rank in omega (arith, a, b, same)
 
-abbrev act : Class → OpId → Act
+abbrev pub act : Class → OpId → Act
 act c x = record { class = c; op = x }
 
-abbrev begun : List Act
+abbrev pub begun : List Act
 begun = act Begin s ∷ []
 
-abbrev arrived : List Act
+abbrev pub arrived : List Act
 arrived = act Arrive s ∷ begun
 
-abbrev posted : List Act
+abbrev pub posted : List Act
 posted = act Post r ∷ arrived
 
-abbrev handed : List Act
+abbrev pub handed : List Act
 handed = act Data s ∷ posted
 
-abbrev served : List Act
+abbrev pub served : List Act
 served = act Serve r ∷ handed
 
 runs : IsInterleaving two no_send served
@@ -229,18 +229,18 @@ none_left x m d =
     of_receive Post = refl
     of_receive Begin = refl
 
-is_walk : IsWalk two served
+pub is_walk : IsWalk two served
 is_walk = record {
   complete = record { each = runs; none_left = nothing_left two served none_left };
   in_order = in_order;
 }
 
-all_end : AllEnd two no_send served
+pub all_end : AllEnd two no_send served
 unfolding happened kind_at op_at
 all_end x is_op =
     ⊎_elim (λ e. subst (λ (z : OpId). has_ended two no_send z served ≡ true) (sym e) refl) (λ e. subst (λ (z : OpId). has_ended two no_send z served ≡ true) (sym e) refl) (listed x ((listed_places two x).1 is_op))
 
-matched : IsMatched two
+unfoldable pub matched : IsMatched two
 matched = record {
   no_wildcard = no_wildcard;
   no_double_channel = no_double_channel;
@@ -262,18 +262,18 @@ unfolding sum_below
 two_ranks f a b = omega (arith, a, b)
 
 -- a store with at most one contribution in the first slot of each rank, and else none
-record IsThin (store : Store) : Type 0 where
-  first : (x : ℕ) → x < 2 → length (store x 0) ≤ 1
-  others : (x k : ℕ) → x < 2 → length (store x (suc k)) ≡ 0
+pub record IsThin (store : Store) : Type 0 where
+  pub first : (x : ℕ) → x < 2 → length (store x 0) ≤ 1
+  pub others : (x k : ℕ) → x < 2 → length (store x (suc k)) ≡ 0
 
-thin_light : (h : List Act) (held : Held) → IsThin held.store → carried two h held ≤ 1 → weight two h held ≤ 2 ^ 24
+pub thin_light : (h : List Act) (held : Held) → IsThin held.store → carried two h held ≤ 1 → weight two h held ≤ 2 ^ 24
 unfolding weight stored
 thin_light h held thin few =
     let each : (x : ℕ) → x < 2 → sum_below 65536 (λ k. length (held.store x k)) ≤ 1 = λ x l. one_slot 65536 (λ k. length (held.store x k)) (thin.first x l) (λ k. thin.others x k l) in
     let sum = two_ranks (λ x. sum_below 65536 (λ k. length (held.store x k))) (each 0 (omega arith)) (each 1 (omega arith)) in
     omega (arith, sum, few)
 
-later : (k : ℕ) → (suc k == 0) ≡ false
+pub later : (k : ℕ) → (suc k == 0) ≡ false
 later k = ne_eqb (suc k) 0 (λ e. omega (arith, e))
 
 thin_start : IsThin start

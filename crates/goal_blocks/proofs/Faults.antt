@@ -28,7 +28,7 @@ module _ (plans : List Plan) where
   of_rank P all rank p e =
       subst P (get_or_from_slice_get plans rank p p e) (all rank p (slice_get_within plans rank p e))
 
-  large_not_small : (rank : ℕ) → IsSmall plans → IsLarge plans rank → ⊥
+  pub large_not_small : (rank : ℕ) → IsSmall plans → IsLarge plans rank → ⊥
   unfolding ops_at notes_at
   large_not_small rank small (too_many many) = go (slice_get plans rank) refl many
     where
@@ -44,7 +44,7 @@ module _ (plans : List Plan) where
   large_not_small rank small (too_much inside much) =
       let all = sum_by-take-le (λ (p : Plan). sum_by moved_count p.notes) plans (rank + 1) in let few = small.moves in omega (arith, all, few, much)
 
-  wildcard_not : (x : OpId) → HasNoWildcard plans → IsWildcard plans x → ⊥
+  pub wildcard_not : (x : OpId) → HasNoWildcard plans → IsWildcard plans x → ⊥
   wildcard_not x none w =
       let both = none x w.room w.from w.tag w.kind in
       ⊎_elim (λ e. both_ways _ e both.0) (λ e. both_ways _ e both.1) w.any
@@ -53,15 +53,15 @@ module _ (plans : List Plan) where
   before_itself y x (inl l) e = let ranks = ap (λ (z : OpId). z.rank) e in omega (arith, l, ranks)
   before_itself y x (inr l) e = let ops = ap (λ (z : OpId). z.op) e in let lower = l.1 in omega (arith, lower, ops)
 
-  double_not : (y x : OpId) → HasNoDoubleChannel plans → AreDouble plans y x → ⊥
+  pub double_not : (y x : OpId) → HasNoDoubleChannel plans → AreDouble plans y x → ⊥
   double_not y x none d =
       before_itself y x d.in_order (⊎_elim (λ s. none.sends y x d.shared s.0 s.1 d.of_first d.of_second) (λ r. none.receives y x d.shared r.0 r.1 d.of_first d.of_second) d.alike)
 
-  unpaired_not : (x : OpId) → HasNoUnpaired plans → IsUnpaired plans x → ⊥
+  pub unpaired_not : (x : OpId) → HasNoUnpaired plans → IsUnpaired plans x → ⊥
   unpaired_not x none (inl u) = let found = none.sends x u.0 in u.1 found.0 found.1
   unpaired_not x none (inr u) = let found = none.receives x u.0 in u.1 found.0 found.1
 
-  race_not : (a : RaceAt) → HasNoRace plans → IsRace plans a → ⊥
+  pub race_not : (a : RaceAt) → HasNoRace plans → IsRace plans a → ⊥
   race_not a none r =
       ⊎_elim (λ w. ⊎_elim r.not_after r.not_before (none (second_of a) (first_of a) (record { one_rank = refl; two = other; slot = a.slot; is_touched = r.second_touches; is_written = w }))) (λ w. ⊎_elim r.not_before r.not_after (none (first_of a) (second_of a) (record { one_rank = refl; two = same; slot = a.slot; is_touched = r.first_touches; is_written = w }))) r.one_writes
     where

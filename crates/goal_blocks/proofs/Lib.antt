@@ -25,3 +25,4 @@ pub mod EndsBefore
 pub mod NoFault
 pub mod OneFault
 pub mod Ring
+mod FaultExamples
