@@ -1,6 +1,5 @@
 -- Stations are numbered one after the other.
 use Rattle.std.proofs.Common.{◌≡◌, ◌⊎◌, ◌==◌, ◌&&◌, ◌+◌, ◌<◌, ◌≤◌, ℕ, Bool, true, false, All, List, [], ◌∷◌, ◌++◌, length, Option, Some, None, slice_get, if◌then◌else◌, refl, sym, ap, ◌∙◌, subst, arith, inl, inr, append-nil}
-use Rattle.std.specs.List.{list_any}
 use Rattle.std.proofs.lemmas.Bool.{both_ways, and_parts, eqb-true, cases_lt}
 use Rattle.std.proofs.lemmas.List.{length-append}
 use Rattle.std.proofs.lemmas.List.Elements.{All-push}
@@ -10,7 +9,7 @@ use Rattle.goal_graph.specs.declared.plan.Op.{Op}
 use Rattle.goal_graph.specs.Schedule.{Plan, op_at, operations}
 use Rattle.sim_resources.proofs.ForCallers.{get_kept, get_last}
 use Rattle.sim_events.specs.declared.station.Station.{Station}
-use Rattle.sim_events.specs.Stations.{station_of, AreStationed, same_choice, same_station, HasStation}
+use Rattle.sim_events.specs.Stations.{station_of, AreStationed, same_choice, same_station, HasNumber, HasStation}
 
 same_choice_true : (a b : Option ℕ) → same_choice a b ≡ true → a ≡ b
 same_choice_true None None e = refl
@@ -71,17 +70,10 @@ module _ (plans : List Plan) where
             last : slice_get (numbers ++ number ∷ []) (length numbers) ≡ Some number
             last = get_last numbers number
 
-    pub numbered_more : (number : ℕ) (k : Station) (after : List Station) → after ≡ (if list_any (same_station (station_of x o)) keys then keys else keys ++ station_of x o ∷ []) → number < length after → slice_get after number ≡ Some k → same_station (station_of x o) k ≡ true → AreNumberedTo (n + 1) after (numbers ++ number ∷ [])
-    numbered_more number k after grown l there same = go (list_any (same_station (station_of x o)) keys) grown
-      where
-        by : (more : List Station) → after ≡ keys ++ more → AreNumberedTo (n + 1) after (numbers ++ number ∷ [])
-        by more e =
-            let its : slice_get after number ≡ Some (station_of x o) = there ∙ ap Some (sym (same_station_true (station_of x o) k same)) in
-            subst (λ ks. AreNumberedTo (n + 1) ks (numbers ++ number ∷ [])) (sym e) (longer more number (subst (λ (ks : List Station). number < length ks) e l) (subst (λ (ks : List Station). slice_get ks number ≡ Some (station_of x o)) e its))
-
-        go : (b : Bool) → after ≡ (if b then keys else keys ++ station_of x o ∷ []) → AreNumberedTo (n + 1) after (numbers ++ number ∷ [])
-        go true e = by [] (e ∙ sym (append-nil keys))
-        go false e = by (station_of x o ∷ []) e
+    pub numbered_more : (number : ℕ) (after : List Station) → HasNumber keys after (station_of x o) number → AreNumberedTo (n + 1) after (numbers ++ number ∷ [])
+    numbered_more number after has =
+        let is : slice_get (keys ++ has.more) number ≡ Some (station_of x o) = subst (λ (ks : List Station). slice_get ks number ≡ Some (station_of x o)) has.grown has.is in
+        subst (λ (ks : List Station). AreNumberedTo (n + 1) ks (numbers ++ number ∷ [])) (sym has.grown) (longer has.more number (slice_get_within (keys ++ has.more) number (station_of x o) is) is)
 
   pub numbered_all : (n : ℕ) (keys : List Station) (numbers : List ℕ) → AreNumberedTo n keys numbers → length (operations plans) ≤ n → AreStationed plans numbers
   numbered_all n keys numbers to all = record {

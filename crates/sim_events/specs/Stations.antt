@@ -1,5 +1,5 @@
 -- What an operation waits for before it works: its cpu and, where it sends or receives, that side of its interface.
-use Rattle.std.specs.Prelude.{ℕ, ◌≡◌, ◌&&◌, ◌==◌, Bool, true, false, List, Option, Some, None, max, slice_get}
+use Rattle.std.specs.Prelude.{ℕ, ◌≡◌, ◌≤◌, ◌&&◌, ◌==◌, ◌++◌, Bool, true, false, List, length, Option, Some, None, max, slice_get}
 use Rattle.goal_graph.specs.declared.action.OpId.{OpId}
 use Rattle.goal_graph.specs.declared.action.Timed.{Timed}
 use Rattle.goal_graph.specs.declared.plan.Kind.{Kind}
@@ -54,6 +54,13 @@ same_choice (Some k) (Some n) = k == n
 
 abbrev pub same_station : Station → Station → Bool
 same_station p q = (p.rank == q.rank) && ((p.cpu == q.cpu) && (same_choice p.sends q.sends && same_choice p.receives q.receives))
+
+-- the station has this number among those that are seen after it; those seen before keep theirs
+pub record HasNumber (before after : List Station) (station : Station) (number : ℕ) : Type 0 where
+  pub more : List Station
+  pub grown : after ≡ before ++ more
+  pub by_one : length more ≤ 1
+  pub is : slice_get after number ≡ Some station
 
 module _ (plans : List Plan) (keys : List Station) (numbers : List ℕ) where
   pub record HasStation (i : ℕ) (x : OpId) : Type 0 where

@@ -1,31 +1,29 @@
-use Rattle.std.proofs.Common.{◌≡◌, ◌≤◌, Bool, true, false, if◌then◌else◌, ◌∷◌, [], ◌++◌, List, length, get_or, Some, slice_get, ap, subst, arith}
-use Rattle.std.specs.List.{list_any}
+use Rattle.std.proofs.Common.{◌≡◌, ◌≤◌, List, length, get_or, Some, slice_get, ap, subst, arith}
+use Rattle.std.proofs.lemmas.List.{length-append}
 use Rattle.std.proofs.lemmas.Option.{slice_get-get_or}
 use Rattle.goal_graph.specs.declared.action.OpId.{OpId}
 use Rattle.goal_graph.specs.Schedule.{operations}
 use Rattle.sim_events.specs.declared.station.Station.{Station}
-use Rattle.sim_events.specs.Stations.{same_station}
+use Rattle.sim_events.specs.Stations.{HasNumber}
 use Rattle.sim_events.proofs.Numbering.{numbered_none, numbered_more, numbered_all}
 use Rattle.sim_events.proofs.station.stations.Goals as goal
 
-at_most_one : (b : Bool) → (if b then 1 else 0) ≤ 1
-at_most_one true = omega arith
-at_most_one false = omega arith
-
 pub loop-id-init : goal.loop-id-init
 loop-id-init c = record {
-  numbered = rw (c.new-keys.ensures.empty, c.in_ok-numbers.ensures.items) (numbered_none _);
-  few = omega (arith, c.new-keys.ensures.len);
+  numbered = rw (c.new-seen.ensures.items, c.in_ok-numbers.ensures.items) (numbered_none _);
+  few = omega (arith, ap length c.new-seen.ensures.items);
+  places = omega (arith, c.in_ok-places.ensures.len);
 }
 
 pub loop-id-preserved : goal.loop-id-preserved
 loop-id-preserved c =
     let this : OpId = get_or c.operations-id-items.result.now c.loop-id.id-index (record { rank = 0; op = 0 }) in
     let at : slice_get (operations c.args.sched.now) c.loop-id.id-index ≡ Some this = subst (λ (xs : List OpId). slice_get xs c.loop-id.id-index ≡ Some this) c.operations-id-items.ensures.all (slice_get-get_or c.operations-id-items.result.now c.loop-id.id-index (record { rank = 0; op = 0 }) (omega arith)) in
-    let stored = c.in_ok-number.ensures.stored in
+    let has = subst (λ (s : Station). HasNumber c.loop-id.seen.items c.number_of.new.seen.items s c.in_ok-number.number) c.of-station.ensures c.in_ok-number.ensures.number in
     record {
-      numbered = rw c.in_ok-push.ensures.items (numbered_more c.args.sched.now c.loop-id.id-index c.loop-id.keys.keys c.loop-id.numbers.items c.loop-id.invariant.numbered this c.op.result.now at c.op.ensures.op c.in_ok-number.number stored.0 c.insert_full.new.self.keys (subst (λ (s : Station). c.insert_full.new.self.keys ≡ (if list_any (same_station s) c.loop-id.keys.keys then c.loop-id.keys.keys else c.loop-id.keys.keys ++ s ∷ [])) c.of.ensures c.in_ok-number.ensures.keys) c.in_ok-number.ensures.within stored.1 (subst (λ (s : Station). same_station s stored.0 ≡ true) c.of.ensures stored.2));
-      few = omega (arith, c.in_ok-number.ensures.len, c.loop-id.invariant.few, at_most_one c.in_ok-number.field-0-1);
+      numbered = rw c.in_ok-push.ensures.items (numbered_more c.args.sched.now c.loop-id.id-index c.loop-id.seen.items c.loop-id.numbers.items c.loop-id.invariant.numbered this c.op.result.now at c.op.ensures.op c.in_ok-number.number c.number_of.new.seen.items has);
+      few = omega (arith, c.loop-id.invariant.few, has.by_one, ap length has.grown, length-append c.loop-id.seen.items has.more);
+      places = c.in_ok-number.ensures.places;
     }
 
 pub returns-clause-each : goal.returns-clause-each
@@ -37,7 +35,7 @@ returns-clause-within c = λ k d l. omega (arith, c.loop-id.invariant.numbered.w
 
 pub returns-clause-stationed : goal.returns-clause-stationed
 returns-clause-stationed c =
-    numbered_all c.args.sched.now c.loop-id.id-index c.loop-id.keys.keys c.loop-id.numbers.items c.loop-id.invariant.numbered (omega (arith, ap length c.operations-id-items.ensures.all, c.loop-id-test.false))
+    numbered_all c.args.sched.now c.loop-id.id-index c.loop-id.seen.items c.loop-id.numbers.items c.loop-id.invariant.numbered (omega (arith, ap length c.operations-id-items.ensures.all, c.loop-id-test.false))
 
 pub returns-clause-few : goal.returns-clause-few
 returns-clause-few c =

@@ -1,10 +1,10 @@
-use Rattle.std.proofs.Common.{◌≤◌}
-use Rattle.indexmap.specs.IndexSet.{index_set_len}
+use Rattle.std.proofs.Common.{◌≡◌, ◌≤◌, length}
 use Rattle.sim_events.proofs.Numbering.{AreNumberedTo}
 use Rattle.sim_events.proofs.station.stations.Given as goal
 
 abbrev pub invariant-loop-id : goal.invariant-loop-id
 invariant-loop-id l = record {
-  numbered : AreNumberedTo l.sched l.id-index l.keys.keys l.numbers.items;
-  few : index_set_len l.keys ≤ l.id-index;
+  numbered : AreNumberedTo l.sched l.id-index l.seen.items l.numbers.items;
+  few : length l.seen.items ≤ l.id-index;
+  places : length l.places.items ≡ 131328;
 }
