@@ -5,3 +5,4 @@ pub mod ParserLaws
 pub mod ReaderLaws
 pub mod LimitLaws
 pub mod GrammarLaws
+pub mod OneReading

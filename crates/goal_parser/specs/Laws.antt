@@ -4,7 +4,7 @@ use Rattle.goal_graph.specs.declared.plan.Op.{Op}
 use Rattle.goal_graph.specs.Schedule.{Plan}
 use Rattle.goal_graph.specs.Fault.{value_fits, AreCountsWithin}
 use Rattle.goal_lexer.specs.Scan.{lexed}
-use Rattle.goal_parser.specs.Grammar.{IsWritten}
+use Rattle.goal_parser.specs.Grammar.{Written, text_tokens, IsWritten}
 use Rattle.goal_parser.specs.Reads.{reads, plans}
 
 -- the size or duration of an operation is within its limit
@@ -28,3 +28,7 @@ KeepLimits = (text : List ℕ) (ps : List Plan) → reads text ≡ plans ps → 
 -- the tokens of a text that says plans are sentences that keep the rules, and its plans are what the sentences say
 abbrev pub SayPlans : Type 0
 SayPlans = (text : List ℕ) (ps : List Plan) → reads text ≡ plans ps → IsWritten (lexed text).0 ps
+
+-- sentences are told by their tokens: there is one reading only
+abbrev pub HaveOneReading : Type 0
+HaveOneReading = (w v : Written) → text_tokens w ≡ text_tokens v → w ≡ v
