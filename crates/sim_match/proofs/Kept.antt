@@ -1,5 +1,5 @@
 -- What a match table keeps, after one more post or arrival.
-use Rattle.std.proofs.Common.{ℕ, zero, suc, ◌+◌, ◌<◌, ◌≡◌, ◌&&◌, ◌||◌, Bool, true, false, not, if◌then◌else◌, inl, inr, List, [], ◌∷◌, ◌++◌, length, Option, Some, None, All, filter, find, map, reverse, take, drop, get_or, slice_get, slice_set, count_by, vec_capacity, refl, arith, sym, ap, ◌∙◌, subst, eq-eqb, append-nil}
+use Rattle.std.proofs.Common.{ℕ, zero, suc, ◌+◌, ◌<◌, ◌≡◌, ◌&&◌, ◌||◌, Bool, true, false, not, if◌then◌else◌, inl, inr, List, [], ◌∷◌, ◌++◌, length, Option, Some, None, All, filter, find, map, reverse, take, drop, get_or, slice_get, slice_set, count_by, refl, arith, sym, ap, ◌∙◌, subst, eq-eqb, append-nil}
 use Rattle.std.specs.Option.{IfSome, option_map}
 use Rattle.std.specs.List.{list_any}
 use Rattle.std.proofs.lemmas.Bool.{cases_eq, ne_eqb}
@@ -16,13 +16,12 @@ use Rattle.goal_graph.specs.Matching.{Pair, pair_of, fits, is_paired, new_pair, 
 use Rattle.goal_graph.specs.Laws.{IsSend, IsReceive}
 use Rattle.goal_graph.proofs.ForCallers.{pairs_same, paired_stays}
 use Rattle.sim_match.specs.declared.match_table.Event.{Event}
-use Rattle.sim_match.specs.declared.pattern_lists.PatternLists.{PatternLists}
 use Rattle.sim_match.specs.declared.pattern.Pattern.{Pattern}
 use Rattle.sim_match.specs.declared.match_list.MatchEntry.{MatchEntry}
 use Rattle.sim_match.specs.PostsAndArrivals.{send_for, receive_for}
 use Rattle.sim_match.specs.Patterns.{same_number, list_of, lists_for, in_list, for_list, IsListed}
-use Rattle.sim_match.specs.MatchLists.{is_marked, entries_of, earlier, IsReady, IsFirst, IsPushed}
-use Rattle.sim_match.specs.Matcher.{act_of, actions_of, IsNew, ArePaired, IsMatchList, receives_of, sends_of, AreLists, Mirrors, IsJoined}
+use Rattle.sim_match.specs.MatchLists.{is_marked, entries_of, earlier, IsReady, IsFirst, pushed}
+use Rattle.sim_match.specs.Matcher.{act_of, PatternLists, actions_of, IsNew, ArePaired, IsMatchList, receives_of, sends_of, AreLists, Mirrors, IsJoined}
 use Rattle.sim_match.proofs.Ops.{post_suits, arrival_suits, actions_fewer}
 use Rattle.sim_match.proofs.Pairs.{in_pair, paired_more, pairs_with}
 use Rattle.sim_match.proofs.Written.{slice_get_written, slice_get_elsewhere}
@@ -176,12 +175,12 @@ module _ (plans : List Plan) (keys : List Pattern) (lists : List PatternLists) (
         pub post_ready : IsReady plans marks w.sends
         post_ready = match_list_ready _ _ _ w.sends (old).sends plans marks m.marked (sends_exist list) m.all_marks
 
-        pub post_room : length w.receives.entries.items < vec_capacity w.receives.entries
+        pub post_room : length w.receives.entries < w.receives.room
         post_room =
             let fewer = entries_fewer plans h m.actions (in_list plans keys list) Post x (post_suits plans x r) fresh here in
             omega (arith, fewer, ap length (old).receives.entries, (old).receives.room)
 
-        module _ (v : PatternLists) (met : Option MatchEntry) (first : IsFirst (is_marked (operations plans) marks) w.sends v.sends met) (pushed : IsPushed (entry plans keys h x) w.receives v.receives) where
+        module _ (v : PatternLists) (met : Option MatchEntry) (first : IsFirst (is_marked (operations plans) marks) w.sends v.sends met) (grown : v.receives ≡ pushed w.receives (entry plans keys h x)) where
           post_met : met ≡ find (λ (e : MatchEntry). not (paired e.op) && fits plans x e.op) (entries_of Arrive h)
           post_met =
               match_list_found _ _ _ w.sends (old).sends plans marks m.marked v.sends met first ∙ find_filter (λ (e : MatchEntry). for_list plans keys list e.op) (λ (e : MatchEntry). not (paired e.op)) (entries_of Arrive h) ∙ find_agree (λ (e : MatchEntry). not (paired e.op) && for_list plans keys list e.op) (λ (e : MatchEntry). not (paired e.op) && fits plans x e.op) (λ e. ap (λ (b : Bool). not (paired e.op) && b) (sym (fits_list plans keys x e.op list r is))) (entries_of Arrive h)
@@ -201,7 +200,7 @@ module _ (plans : List Plan) (keys : List Pattern) (lists : List PatternLists) (
 
           post_here : AreLists plans keys (is_paired (pairs plans (post_of plans keys h x ∷ h))) list (receives_of plans keys (post_of plans keys h x ∷ h) list) (sends_of plans keys (post_of plans keys h x ∷ h) list) v
           post_here = record {
-            receives = subst (λ (es : List MatchEntry). IsMatchList es (is_paired (pairs plans (post_of plans keys h x ∷ h))) (count_by (in_list plans keys list) (operations plans)) v.receives) (sym (receives_more plans keys h x list here)) (match_list_later _ _ _ v.receives (match_list_pushed _ _ _ w.receives (old).receives (entry plans keys h x) v.receives pushed) _ later);
+            receives = subst (λ (es : List MatchEntry). IsMatchList es (is_paired (pairs plans (post_of plans keys h x ∷ h))) (count_by (in_list plans keys list) (operations plans)) v.receives) (sym (receives_more plans keys h x list here)) (match_list_later _ _ _ v.receives (subst (IsMatchList (receives_of plans keys h list ++ entry plans keys h x ∷ []) paired (count_by (in_list plans keys list) (operations plans))) (sym grown) (match_list_pushed _ _ _ w.receives (old).receives (entry plans keys h x))) _ later);
             sends = subst (λ (es : List MatchEntry). IsMatchList es (is_paired (pairs plans (post_of plans keys h x ∷ h))) (count_by (for_list plans keys list) (operations plans)) v.sends) (sym (sends_same plans keys h x list)) (match_list_later _ _ _ v.sends (match_list_kept _ _ _ w.sends (old).sends plans marks m.marked v.sends met first) _ later);
           }
 
@@ -306,17 +305,17 @@ module _ (plans : List Plan) (keys : List Pattern) (lists : List PatternLists) (
           unfolding for_list
           for_it = list_any_at (same_number (Some i)) numbers k d inside (ap (same_number (Some i)) is ∙ eq-eqb i i refl)
 
-          pub join_room : length w.sends.entries.items < vec_capacity w.sends.entries
+          pub join_room : length w.sends.entries < w.sends.room
           join_room =
               let fewer = entries_fewer plans h m.actions (for_list plans keys i) Arrive y (arrival_suits plans y s) fresh for_it in
               let match_list = sends_were in
               omega (arith, fewer, ap length match_list.entries, match_list.room)
 
-          module _ (v : PatternLists) (first : Option MatchEntry) (f : IsFirst (is_marked (operations plans) marks) w.receives v.receives first) (pushed : IsPushed (entry plans keys h y) w.sends v.sends) where
+          module _ (v : PatternLists) (first : Option MatchEntry) (f : IsFirst (is_marked (operations plans) marks) w.receives v.receives first) (grown : v.sends ≡ pushed w.sends (entry plans keys h y)) where
             join_here : AreLists plans keys paired i (receives_of plans keys h i) (joins (take (k + 1) (lists_for plans keys y)) i) v
             join_here = record {
               receives = match_list_kept _ _ _ w.receives (was).receives plans marks m.marked v.receives first f;
-              sends = subst (λ (b : Bool). IsMatchList (sends_of plans keys h i ++ (if b then entry plans keys h y ∷ [] else [])) paired (count_by (for_list plans keys i) (operations plans)) v.sends) (sym seen) (match_list_pushed _ _ _ w.sends sends_were (entry plans keys h y) v.sends pushed);
+              sends = subst (λ (b : Bool). IsMatchList (sends_of plans keys h i ++ (if b then entry plans keys h y ∷ [] else [])) paired (count_by (for_list plans keys i) (operations plans)) v.sends) (sym seen) (subst (IsMatchList (sends_of plans keys h i ++ entry plans keys h y ∷ []) paired (count_by (for_list plans keys i) (operations plans))) (sym grown) (match_list_pushed _ _ _ w.sends sends_were (entry plans keys h y)));
             }
               where
                 seen : list_any (same_number (Some i)) (take (k + 1) numbers) ≡ true

@@ -5,6 +5,8 @@ pub mod Written
 pub mod Finding
 pub mod PatternLemmas
 mod Searching
+pub mod Packing
+pub mod Sides
 pub mod Marks
 pub mod Entries
 pub mod MatchListLemmas

@@ -1,14 +1,13 @@
 -- Match lists: what one keeps when its first entry is looked for, when an entry is added, and when more is paired.
-use Rattle.std.proofs.Common.{ℕ, ◌≤◌, ◌≡◌, Bool, true, false, not, List, [], ◌∷◌, ◌++◌, length, take, find, get_or, slice_get, Option, Some, None, ◌<◌, All, refl, arith, sym, ap, ◌∙◌, subst}
-use Rattle.std.proofs.lemmas.Option.{slice_get_read, slice_get_past}
+use Rattle.std.proofs.Common.{ℕ, ◌≤◌, ◌≡◌, Bool, true, false, not, List, [], ◌∷◌, ◌++◌, length, take, find, get_or, Option, Some, None, ◌<◌, All, refl, arith, sym, ap, ◌∙◌, subst}
+use Rattle.std.proofs.lemmas.Option.{slice_get_read, slice_get_past, slice_get-get_or, get_or_from_slice_get}
 use Rattle.std.proofs.lemmas.List.{take-append-le, length-append, length-take, get_or-take, take_all}
 use Rattle.std.proofs.lemmas.List.Elements.{All-weaker}
 use Rattle.goal_graph.specs.declared.action.OpId.{OpId}
 use Rattle.goal_graph.specs.Schedule.{Plan, operations}
 use Rattle.goal_graph.specs.Fault.{IsOp}
 use Rattle.sim_match.specs.declared.match_list.MatchEntry.{MatchEntry}
-use Rattle.sim_match.specs.declared.match_list.MatchList.{MatchList}
-use Rattle.sim_match.specs.MatchLists.{is_marked, IsReady, IsFirst, IsPushed}
+use Rattle.sim_match.specs.MatchLists.{MatchList, is_marked, IsReady, IsFirst, pushed}
 use Rattle.sim_match.specs.Matcher.{IsMatchList}
 use Rattle.sim_match.proofs.Finding.{find_agree, find_at_place, find_none}
 
@@ -26,10 +25,10 @@ module _ (es : List MatchEntry) (paired : OpId → Bool) (room : ℕ) (old : Mat
     module _ (new : MatchList) (first : Option MatchEntry) (f : IsFirst (is_marked (operations plans) marks) old new first) where
       pub match_list_kept : IsMatchList es paired room new
       match_list_kept = record {
-        entries = rw f.entries is.entries;
+        entries = f.entries ∙ is.entries;
         within = subst (λ (xs : List MatchEntry). new.head ≤ length xs) is.entries f.within;
         skipped = All-weaker (λ (e : MatchEntry). is_marked (operations plans) marks e.op ≡ true) (λ (e : MatchEntry). paired e.op ≡ true) (λ e t. sym (marked e.op) ∙ t) (take new.head es) (subst (λ (xs : List MatchEntry). All (λ (e : MatchEntry). is_marked (operations plans) marks e.op ≡ true) (take new.head xs)) is.entries f.skipped);
-        room = rw f.entries is.room;
+        room = omega (arith, f.room, is.room);
       }
 
       pub match_list_found : first ≡ find (λ (e : MatchEntry). not (paired e.op)) es
@@ -37,14 +36,14 @@ module _ (es : List MatchEntry) (paired : OpId → Bool) (room : ℕ) (old : Mat
           f.found ∙ ap (find (λ (e : MatchEntry). not (is_marked (operations plans) marks e.op))) is.entries ∙ find_agree (λ (e : MatchEntry). not (is_marked (operations plans) marks e.op)) (λ (e : MatchEntry). not (paired e.op)) (λ e. ap not (marked e.op)) es
 
   -- an entry more
-  pub match_list_pushed : (e : MatchEntry) (new : MatchList) → IsPushed e old new → IsMatchList (es ++ e ∷ []) paired room new
-  match_list_pushed e new p =
+  pub match_list_pushed : (e : MatchEntry) → IsMatchList (es ++ e ∷ []) paired room (pushed old e)
+  match_list_pushed e =
       let longer = length-append es (e ∷ []) in
       record {
-        entries = p.entries ∙ ap (λ (xs : List MatchEntry). xs ++ e ∷ []) is.entries;
-        within = omega (arith, is.within, p.head, longer);
-        skipped = subst (λ (n : ℕ). All (λ (f : MatchEntry). paired f.op ≡ true) (take n (es ++ e ∷ []))) (sym p.head) (subst (All (λ (f : MatchEntry). paired f.op ≡ true)) (sym (take-append-le old.head es (e ∷ []) is.within)) is.skipped);
-        room = omega (arith, is.room, p.room);
+        entries = ap (λ (xs : List MatchEntry). xs ++ e ∷ []) is.entries;
+        within = omega (arith, is.within, longer);
+        skipped = subst (All (λ (f : MatchEntry). paired f.op ≡ true)) (sym (take-append-le old.head es (e ∷ []) is.within)) is.skipped;
+        room = is.room;
       }
 
   -- more is paired
@@ -57,38 +56,34 @@ module _ (es : List MatchEntry) (paired : OpId → Bool) (room : ℕ) (old : Mat
   }
 
 -- the first entry that is not marked
-module _ (marked : OpId → Bool) (old now : MatchList) (i : ℕ) (head : now.head ≡ i) (same : now.entries ≡ old.entries) (skipped : All (λ (e : MatchEntry). marked e.op ≡ true) (take i old.entries.items)) where
-  entries : now.entries.items ≡ old.entries.items
-  entries = rw same refl
-
-  passed : All (λ (e : MatchEntry). marked e.op ≡ true) (take now.head old.entries.items)
-  passed = subst (λ (n : ℕ). All (λ (e : MatchEntry). marked e.op ≡ true) (take n old.entries.items)) (sym head) skipped
-
-  pub first_there : (e : MatchEntry) → i < length now.entries.items → e ≡ get_or now.entries.items i e → marked e.op ≡ false → IsFirst marked old (record { entries = now.entries; head = now.head }) (Some e)
-  first_there e inside read waits =
-      let long = ap length entries in
-      let at : e ≡ get_or old.entries.items i e = read ∙ ap (λ (xs : List MatchEntry). get_or xs i e) entries in
-      record {
-        found = ap (λ (f : MatchEntry). Some f) at ∙ sym (find_at_place (λ (f : MatchEntry). not (marked f.op)) old.entries.items i e (omega (arith, inside, long)) (ap (λ (f : MatchEntry). not (marked f.op)) (sym at) ∙ ap not waits) (λ k b. ap not (before k e b (omega (arith, inside, long, b)))));
-        entries = same;
-        within = omega (arith, head, inside, long);
-        at_head = ap (slice_get old.entries.items) head ∙ slice_get_read old.entries.items (length old.entries.items) i e refl (omega (arith, inside, long)) at;
-        skipped = passed;
-      }
+module _ (marked : OpId → Bool) (es : List MatchEntry) (i head room : ℕ) (skipped : All (λ (e : MatchEntry). marked e.op ≡ true) (take i es)) where
+  pub first_there : (e : MatchEntry) → i < length es → e ≡ get_or es i e → marked e.op ≡ false → IsFirst marked (record { entries = es; head = head; room = room }) (record { entries = es; head = i; room = room }) (Some e)
+  first_there e inside read waits = record {
+    found = ap (λ (f : MatchEntry). Some f) read ∙ sym (find_at_place (λ (f : MatchEntry). not (marked f.op)) es i e inside (ap (λ (f : MatchEntry). not (marked f.op)) (sym read) ∙ ap not waits) (λ k b. ap not (before k e b (omega (arith, inside, b)))));
+    entries = refl;
+    room = refl;
+    within = omega (arith, inside);
+    at_head = slice_get_read es (length es) i e refl inside read;
+    skipped = skipped;
+  }
     where
-      before : (k : ℕ) (d : MatchEntry) → k < i → k < length old.entries.items → marked (get_or old.entries.items k d).op ≡ true
+      before : (k : ℕ) (d : MatchEntry) → k < i → k < length es → marked (get_or es k d).op ≡ true
       before k d b inside =
-          let short = length-take i old.entries.items in
-          subst (λ (f : MatchEntry). marked f.op ≡ true) (get_or-take i old.entries.items k d b) (skipped k d (omega (arith, b, inside, short)))
+          let short = length-take i es in
+          subst (λ (f : MatchEntry). marked f.op ≡ true) (get_or-take i es k d b) (skipped k d (omega (arith, b, inside, short)))
 
   -- or none
-  pub first_none : i ≡ length now.entries.items → IsFirst marked old now None
-  first_none at_end =
-      let long = ap length entries in
-      record {
-        found = sym (find_none (λ (f : MatchEntry). not (marked f.op)) old.entries.items (All-weaker (λ (e : MatchEntry). marked e.op ≡ true) (λ (e : MatchEntry). not (marked e.op) ≡ false) (λ e t. ap not t) old.entries.items (subst (All (λ (e : MatchEntry). marked e.op ≡ true)) (take_all i old.entries.items (omega (arith, at_end, long))) skipped)));
-        entries = same;
-        within = omega (arith, head, at_end, long);
-        at_head = slice_get_past old.entries.items now.head (omega (arith, head, at_end, long));
-        skipped = passed;
-      }
+  pub first_none : i ≡ length es → IsFirst marked (record { entries = es; head = head; room = room }) (record { entries = es; head = i; room = room }) None
+  first_none at_end = record {
+    found = sym (find_none (λ (f : MatchEntry). not (marked f.op)) es (All-weaker (λ (e : MatchEntry). marked e.op ≡ true) (λ (e : MatchEntry). not (marked e.op) ≡ false) (λ e t. ap not t) es (subst (All (λ (e : MatchEntry). marked e.op ≡ true)) (take_all i es (omega (arith, at_end))) skipped)));
+    entries = refl;
+    room = refl;
+    within = omega (arith, at_end);
+    at_head = slice_get_past es i (omega (arith, at_end));
+    skipped = skipped;
+  }
+
+-- an entry that is read, whatever stands for one that is not there
+pub read_any : (es : List MatchEntry) (i : ℕ) (d : MatchEntry) → i < length es → get_or es i d ≡ get_or es i (get_or es i d)
+read_any es i d inside =
+    sym (get_or_from_slice_get es i (get_or es i d) (get_or es i d) (slice_get-get_or es i d inside))

@@ -1,11 +1,23 @@
 -- The capacity of each list.
-use Rattle.std.specs.Prelude.{ℕ, ◌≡◌, ◌<◌, ◌+◌, false, List, length, Option, Some, take, slice_get, count_by, if◌then◌else◌}
+use Rattle.std.specs.Prelude.{ℕ, ◌≡◌, ◌<◌, ◌+◌, false, List, [], length, Option, Some, take, slice_get, count_by, if◌then◌else◌}
 use Rattle.std.specs.List.{list_any}
 use Rattle.goal_graph.specs.declared.action.OpId.{OpId}
 use Rattle.goal_graph.specs.Schedule.{Plan}
 use Rattle.sim_match.specs.declared.pattern.Pattern.{Pattern}
 use Rattle.sim_match.specs.declared.capacities.Capacity.{Capacity}
+use Rattle.sim_match.specs.declared.capacities.Side.{Side}
+use Rattle.sim_match.specs.declared.capacities.Side.TheVariants.{Receives, Sends}
+use Rattle.sim_match.specs.MatchLists.{MatchList}
 use Rattle.sim_match.specs.Patterns.{same_number, in_list, for_list}
+
+-- how many of a side there are
+abbrev pub room_of : Side → Capacity → ℕ
+room_of Receives c = c.receives
+room_of Sends c = c.sends
+
+-- a list with room for them
+abbrev pub empty_list : Side → Capacity → MatchList
+empty_list side c = record { entries = []; head = 0; room = room_of side c }
 
 -- no number stands twice
 abbrev pub AreOnce : List (Option ℕ) → Type 0

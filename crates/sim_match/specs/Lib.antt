@@ -3,6 +3,6 @@ pub mod Waiting
 pub mod Patterns
 pub mod MatchLists
 pub mod Capacities
-pub mod PatternLists
+pub mod Packed
 pub mod Matcher
 pub mod Laws

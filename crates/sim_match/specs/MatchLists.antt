@@ -1,12 +1,24 @@
 -- Marks of operations, entries of posts and arrivals, and match lists.
-use Rattle.std.specs.Prelude.{◌≡◌, ◌≤◌, ◌==◌, ◌||◌, not, Bool, true, false, List, [], ◌∷◌, ◌++◌, length, take, find, All, Option, Some, None, nat_lt, if◌then◌else◌, slice_get, vec_capacity}
+use Rattle.std.specs.Prelude.{ℕ, ◌≡◌, ◌≤◌, ◌==◌, ◌||◌, not, Bool, true, false, List, [], ◌∷◌, ◌++◌, length, take, find, All, Option, Some, None, nat_lt, if◌then◌else◌, slice_get}
 use Rattle.goal_graph.specs.declared.action.OpId.{OpId}
 use Rattle.goal_graph.specs.declared.action.Class.{Class}
 use Rattle.goal_graph.specs.Schedule.{Plan, operations}
 use Rattle.goal_graph.specs.Fault.{IsOp}
 use Rattle.goal_graph.specs.Action.{Act, place, same_op}
 use Rattle.sim_match.specs.declared.match_list.MatchEntry.{MatchEntry}
-use Rattle.sim_match.specs.declared.match_list.MatchList.{MatchList}
+
+-- a match list: its entries, oldest first, of which those before the head are skipped, and room for so many
+pub record MatchList : Type 0 where
+  pub entries : List MatchEntry
+  pub head : ℕ
+  pub room : ℕ
+
+-- with one entry more, with the head at a place
+abbrev pub pushed : MatchList → MatchEntry → MatchList
+pushed w entry = record { entries = w.entries ++ entry ∷ []; head = w.head; room = w.room }
+
+abbrev pub skipped_to : MatchList → ℕ → MatchList
+skipped_to w n = record { entries = w.entries; head = n; room = w.room }
 
 -- the mark of x, of the marks of these operations
 abbrev pub is_marked : List OpId → List Bool → OpId → Bool
@@ -32,22 +44,17 @@ entries_of class (a ∷ h) =
 
 -- a match list of operations, each with its mark, of which those before the head are marked
 pub record IsReady (plans : List Plan) (marks : List Bool) (match_list : MatchList) : Type 0 where
-  pub exist : All (λ (e : MatchEntry). IsOp plans e.op) match_list.entries.items
+  pub exist : All (λ (e : MatchEntry). IsOp plans e.op) match_list.entries
   pub long : length (operations plans) ≤ length marks
-  pub within : match_list.head ≤ length match_list.entries.items
-  pub skipped : All (λ (e : MatchEntry). is_marked (operations plans) marks e.op ≡ true) (take match_list.head match_list.entries.items)
+  pub within : match_list.head ≤ length match_list.entries
+  pub skipped : All (λ (e : MatchEntry). is_marked (operations plans) marks e.op ≡ true) (take match_list.head match_list.entries)
 
 -- The first entry that is not marked is found. The head stands at it, or at the end where there is none, so that each
 -- entry is skipped once in all.
 pub record IsFirst (marked : OpId → Bool) (old new : MatchList) (first : Option MatchEntry) : Type 0 where
-  pub found : first ≡ find (λ (e : MatchEntry). not (marked e.op)) old.entries.items
+  pub found : first ≡ find (λ (e : MatchEntry). not (marked e.op)) old.entries
   pub entries : new.entries ≡ old.entries
-  pub within : new.head ≤ length old.entries.items
-  pub at_head : slice_get old.entries.items new.head ≡ first
-  pub skipped : All (λ (e : MatchEntry). marked e.op ≡ true) (take new.head old.entries.items)
-
--- one entry more
-pub record IsPushed (entry : MatchEntry) (old new : MatchList) : Type 0 where
-  pub entries : new.entries.items ≡ old.entries.items ++ entry ∷ []
-  pub head : new.head ≡ old.head
-  pub room : vec_capacity new.entries ≡ vec_capacity old.entries
+  pub room : new.room ≡ old.room
+  pub within : new.head ≤ length old.entries
+  pub at_head : slice_get old.entries new.head ≡ first
+  pub skipped : All (λ (e : MatchEntry). marked e.op ≡ true) (take new.head old.entries)

@@ -12,14 +12,12 @@ use Rattle.goal_graph.specs.Laws.{has_class}
 use Rattle.sim_match.specs.declared.match_table.Event.{Event}
 use Rattle.sim_match.specs.declared.match_table.Event.TheVariants as event
 use Rattle.sim_match.specs.declared.match_table.MatchTable.{MatchTable}
-use Rattle.sim_match.specs.declared.pattern_lists.PatternLists.{PatternLists}
 use Rattle.sim_match.specs.declared.pattern.Pattern.{Pattern}
 use Rattle.sim_match.specs.declared.match_list.MatchEntry.{MatchEntry}
-use Rattle.sim_match.specs.declared.match_list.MatchList.{MatchList}
 use Rattle.sim_match.specs.PostsAndArrivals.{is_post_or_arrival}
 use Rattle.sim_match.specs.Waiting.{is_message}
 use Rattle.sim_match.specs.Patterns.{same_number, list_of, in_list, for_list, AreListed}
-use Rattle.sim_match.specs.MatchLists.{is_marked, entries_of}
+use Rattle.sim_match.specs.MatchLists.{MatchList, is_marked, entries_of}
 
 -- what is kept of a post, of an arrival
 abbrev pub act_of : Event → Act
@@ -46,12 +44,22 @@ abbrev pub ArePaired : List OpId → OpId → Option MatchEntry → List Bool �
 ArePaired ops x met old new =
     (y : OpId) → MatchOption met (is_marked ops new y ≡ is_marked ops old y) (λ (e : MatchEntry). is_marked ops new y ≡ ((is_marked ops old y || same_op x y) || same_op e.op y))
 
+-- the lists of one pattern: its receives, and the sends that they fit
+pub record PatternLists : Type 0 where
+  pub receives : MatchList
+  pub sends : MatchList
+
+abbrev pub side_by_side : List MatchList → List MatchList → List PatternLists
+side_by_side [] ss = []
+side_by_side (r ∷ rs) [] = []
+side_by_side (r ∷ rs) (s ∷ ss) = record { receives = r; sends = s } ∷ side_by_side rs ss
+
 -- a match list has these entries, skips none that waits, and has room for so many
 pub record IsMatchList (es : List MatchEntry) (paired : OpId → Bool) (count : ℕ) (match_list : MatchList) : Type 0 where
-  pub entries : match_list.entries.items ≡ es
+  pub entries : match_list.entries ≡ es
   pub within : match_list.head ≤ length es
   pub skipped : All (λ (e : MatchEntry). paired e.op ≡ true) (take match_list.head es)
-  pub room : count ≤ vec_capacity match_list.entries
+  pub room : count ≤ match_list.room
 
 module _ (plans : List Plan) (keys : List Pattern) where
   -- the receives of a list that were posted, the sends for it that have arrived
@@ -86,6 +94,6 @@ module _ (plans : List Plan) (keys : List Pattern) where
     pub found : met ≡ find (λ (e : MatchEntry). not (is_paired (pairs plans h) e.op) && list_any (same_number (list_of plans keys e.op)) numbers) (entries_of Post h)
 
 -- what a match table keeps
-abbrev pub IsKept : List Plan → MatchTable → Type 0
-IsKept plans table =
-    Mirrors plans table.patterns table.lists.items table.marks.items (actions_of table.events.items) (vec_capacity table.events)
+pub record IsKept (plans : List Plan) (table : MatchTable) : Type 0 where
+  pub as_many : length table.receives ≡ length table.sends
+  pub mirrors : Mirrors plans table.patterns (side_by_side table.receives table.sends) table.marks.items (actions_of table.events.items) (vec_capacity table.events)

@@ -5,7 +5,7 @@ ghost use Rattle.goal_graph.specs.Fault.{IsOp};
 ghost use Rattle.sim_match.specs.declared.capacities.Capacity.{Capacity};
 ghost use Rattle.sim_match.specs.Waiting.{is_message, is_message_kind};
 ghost use Rattle.sim_match.specs.Patterns.{AreListed};
-ghost use Rattle.sim_match.specs.Capacities.{AreCapacities, AreCounted, AreOnce, AreWithin};
+ghost use Rattle.sim_match.specs.Capacities.{room_of, AreCapacities, AreCounted, AreOnce, AreWithin};
 
 use crate::pattern::{Patterns, list_of_receive, lists_for};
 use goal_graph::{Kind, OpId, Sched};
@@ -16,6 +16,25 @@ use std::alloc::{AllocError, Global};
 pub struct Capacity {
     pub receives: usize,
     pub sends: usize,
+}
+
+/// Whether the receives of the lists are meant, or their sends.
+#[derive(Clone, Copy, Debug, PartialEq, Eq)]
+pub enum Side {
+    Receives,
+    Sends,
+}
+
+impl Side {
+    /// How many of this side a list has room for.
+    pub fn room(self, capacity: &Capacity) -> usize
+        ensures { result ≡ room_of self capacity.now }
+    {
+        match self {
+            Side::Receives => capacity.receives,
+            Side::Sends => capacity.sends,
+        }
+    }
 }
 
 // Counts a send in each of these lists.

@@ -4,10 +4,10 @@
 mod capacities;
 mod laws;
 mod match_list;
+mod match_lists;
 mod match_table;
 mod matcher;
 mod pattern;
-mod pattern_lists;
 #[cfg(test)]
 mod tests;
 

@@ -8,12 +8,12 @@ ghost use Rattle.goal_graph.specs.declared.action.Class.TheVariants.{Post, Arriv
 ghost use Rattle.goal_graph.specs.Action.{happened};
 ghost use Rattle.sim_match.specs.PostsAndArrivals.{send_for, receive_for};
 ghost use Rattle.sim_match.specs.Patterns.{lists_for};
-ghost use Rattle.sim_match.specs.Matcher.{actions_of, ArePaired, IsJoined, IsKept};
+ghost use Rattle.sim_match.specs.Matcher.{actions_of, side_by_side, ArePaired, IsJoined, IsKept};
 
-use crate::capacities::{capacities, message_count};
+use crate::capacities::{Side, capacities, message_count};
 use crate::match_list::{MatchEntry, earlier, mark};
+use crate::match_lists::MatchLists;
 use crate::pattern::{Patterns, list_of_receive, lists_for};
-use crate::pattern_lists::{PatternLists, empty_lists};
 use goal_base::NoMemory;
 use goal_graph::{Kind, OpId, Sched};
 use std::alloc::Global;
@@ -25,12 +25,13 @@ pub enum Event {
     Arrive(OpId),
 }
 
-/// The posts and arrivals so far, oldest first, and for each pattern of the schedule its lists. An operation is marked
-/// once it is paired.
+/// The posts and arrivals so far, oldest first, and for each pattern of the schedule its lists: the receives of the
+/// pattern, and the sends that they fit. An operation is marked once it is paired.
 #[derive(Drop)]
 pub struct MatchTable {
     pub patterns: Patterns,
-    pub lists: Vec<PatternLists>,
+    pub receives: MatchLists,
+    pub sends: MatchLists,
     pub marks: Vec<bool>,
     pub events: Vec<Event>,
 }
@@ -74,12 +75,14 @@ impl MatchTable {
         sched.known();
         let patterns = Patterns::of(alloc, sched)?;
         let capacities = capacities(alloc, sched, &patterns)?;
-        let lists = empty_lists(alloc, &capacities)?;
+        let receives = MatchLists::new(alloc, &capacities, Side::Receives)?;
+        let sends = MatchLists::new(alloc, &capacities, Side::Sends)?;
         let marks = vec![in alloc; false; sched.count() as usize]?;
         let events = Vec::with_capacity(alloc, message_count(sched))?;
         Ok(MatchTable {
             patterns,
-            lists,
+            receives,
+            sends,
             marks,
             events,
         })
@@ -100,7 +103,8 @@ impl MatchTable {
         };
         self.events.push_reserved(Event::Post(recv));
         let list = list_of_receive(&self.patterns, sched, recv);
-        let met = self.lists[list].post(sched, &self.marks, entry);
+        self.receives.push(list, entry);
+        let met = self.sends.first(list, sched, &self.marks);
         pair(sched, &mut self.marks, recv, met)
     }
 
@@ -109,8 +113,9 @@ impl MatchTable {
         requires kept { IsKept sched.now self.old }
         requires send { IsSend sched.now send }
         requires fresh { happened Arrive send (actions_of self.old.events.items) ≡ false }
-        ensures joined { IsJoined sched.now self.old.patterns (actions_of self.old.events.items) send (lists_for sched.now self.old.patterns send) self.new.lists.items result }
+        ensures joined { IsJoined sched.now self.old.patterns (actions_of self.old.events.items) send (lists_for sched.now self.old.patterns send) (side_by_side self.new.receives self.new.sends) result }
         ensures patterns { self.new.patterns ≡ self.old.patterns }
+        ensures as_many { length self.new.receives ≡ length self.new.sends }
         ensures marks { self.new.marks ≡ self.old.marks }
         ensures events { self.new.events ≡ self.old.events }
     {
@@ -122,7 +127,8 @@ impl MatchTable {
         for number in lists_of_send(&self.patterns, sched, send) {
             match number {
                 Some(list) => {
-                    let first = self.lists[list].arrive(sched, &self.marks, entry);
+                    self.sends.push(list, entry);
+                    let first = self.receives.first(list, sched, &self.marks);
                     met = earlier(met, first);
                 }
                 None => {}

@@ -4,25 +4,28 @@ use Rattle.sim_match.proofs.match_table.MatchTable.arrive.Goals as goal
 
 pub push_reserved-requires : goal.push_reserved-requires
 push_reserved-requires c =
-    let room = arrival_event_room _ _ _ _ _ _ c.requires.kept c.args.send c.requires.send c.requires.fresh in
+    let room = arrival_event_room _ _ _ _ _ _ c.requires.kept.mirrors c.args.send c.requires.send c.requires.fresh in
     rw c.join-met.ensures.events (omega (arith, room, length-actions_of c.args.self.now.events.items, c.args.self.now.events.ok.0))
 
 pub pair-requires-clause-op : goal.pair-requires-clause-op
 pair-requires-clause-op c =
-    arrival_exists _ _ _ _ _ _ c.requires.kept c.args.send c.requires.send c.requires.fresh
+    arrival_exists _ _ _ _ _ _ c.requires.kept.mirrors c.args.send c.requires.send c.requires.fresh
 
 pub pair-requires-clause-other : goal.pair-requires-clause-other
 pair-requires-clause-other c =
-    arrival_met_exists _ _ _ _ _ _ c.requires.kept c.args.send c.requires.send c.requires.fresh _ _ c.join-met.ensures.joined
+    arrival_met_exists _ _ _ _ _ _ c.requires.kept.mirrors c.args.send c.requires.send c.requires.fresh _ _ c.join-met.ensures.joined
 
 pub returns-clause-kept : goal.returns-clause-kept
 returns-clause-kept c =
     let changes = rw (c.deref_mut.ensures.value, c.join-met.ensures.marks) at c.pair.ensures.paired in
     let long = rw (c.deref_mut.ensures.value, c.join-met.ensures.marks) at c.pair.ensures.long in
     let back = whole_back c.join-met.new.self.marks.len c.pair.new.marks c.join-met.new.self.marks.items (rw c.deref_mut.ensures.value at c.pair.ensures.long) (omega (arith, c.join-met.new.self.marks.ok.0)) in
-    let kept = arrival_keeps _ _ _ _ _ _ c.requires.kept c.args.send c.requires.send c.requires.fresh _ _ c.join-met.ensures.joined c.pair.new.marks changes long in
-    rw (back, c.push_reserved.ensures.items, c.push_reserved.ensures.capacity, c.join-met.ensures.patterns, c.join-met.ensures.events, actions_of-push) kept
+    let kept = arrival_keeps _ _ _ _ _ _ c.requires.kept.mirrors c.args.send c.requires.send c.requires.fresh _ _ c.join-met.ensures.joined c.pair.new.marks changes long in
+    record {
+      as_many = c.join-met.ensures.as_many;
+      mirrors = rw (back, c.push_reserved.ensures.items, c.push_reserved.ensures.capacity, c.join-met.ensures.patterns, c.join-met.ensures.events, actions_of-push) kept;
+    }
 
 pub returns-clause-taken : goal.returns-clause-taken
 returns-clause-taken c =
-    c.pair.ensures.answer ∙ arrival_answers _ _ _ _ _ _ c.requires.kept c.args.send c.requires.send c.requires.fresh _ _ c.join-met.ensures.joined
+    c.pair.ensures.answer ∙ arrival_answers _ _ _ _ _ _ c.requires.kept.mirrors c.args.send c.requires.send c.requires.fresh _ _ c.join-met.ensures.joined

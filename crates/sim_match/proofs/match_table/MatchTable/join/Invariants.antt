@@ -1,11 +1,12 @@
-use Rattle.std.proofs.Common.{◌≡◌, take}
+use Rattle.std.proofs.Common.{◌≡◌, length, take}
 use Rattle.sim_match.specs.Patterns.{lists_for}
-use Rattle.sim_match.specs.Matcher.{actions_of, IsJoined}
+use Rattle.sim_match.specs.Matcher.{actions_of, side_by_side, IsJoined}
 use Rattle.sim_match.proofs.match_table.MatchTable.join.Given as goal
 
 abbrev pub invariant-loop-number : goal.invariant-loop-number
 invariant-loop-number l = record {
-  joined : IsJoined l.sched l.fn.self.patterns (actions_of l.fn.self.events.items) l.fn.send (take l.number-index (lists_for l.sched l.fn.self.patterns l.fn.send)) l.self.lists.items l.met;
+  joined : IsJoined l.sched l.fn.self.patterns (actions_of l.fn.self.events.items) l.fn.send (take l.number-index (lists_for l.sched l.fn.self.patterns l.fn.send)) (side_by_side l.self.receives l.self.sends) l.met;
+  as_many : length l.self.receives ≡ length l.self.sends;
   patterns : l.self.patterns ≡ l.fn.self.patterns;
   marks : l.self.marks ≡ l.fn.self.marks;
   events : l.self.events ≡ l.fn.self.events;

@@ -1,4 +1,7 @@
-use Rattle.std.proofs.Common.{◌≡◌, false, length, replicate, rules, arith}
+use Rattle.std.proofs.Common.{◌≡◌, ◌∙◌, false, length, replicate, rules, arith, ap, sym}
+use Rattle.std.proofs.lemmas.List.{length-map}
+use Rattle.sim_match.specs.declared.capacities.Side.TheVariants.{Receives, Sends}
+use Rattle.sim_match.specs.Capacities.{empty_list}
 use Rattle.goal_graph.specs.Schedule.{operations}
 use Rattle.sim_match.proofs.Begun.{begins}
 use Rattle.sim_match.proofs.match_table.MatchTable.new.Goals as goal
@@ -6,5 +9,10 @@ use Rattle.sim_match.proofs.match_table.MatchTable.new.Goals as goal
 pub returns-clause-kept : goal.returns-clause-kept
 returns-clause-kept c =
     let unmarked : c.in_ok-marks.marks.items ≡ replicate (length (operations c.args.sched.now)) false = rw c.count.ensures.count at (c.in_ok-marks.ensures.items_if_clones_equal (search rules)) in
-    let kept = begins _ _ _ _ _ _ c.known.ensures.accepted c.in_ok-patterns.ensures c.in_ok-capacities.ensures (rw c.deref.ensures.value at c.in_ok-lists.ensures) unmarked (omega (arith, c.message_count.ensures, c.in_ok-events.ensures.exact)) in
-    rw c.in_ok-events.ensures.items kept
+    let kept = begins _ _ _ _ _ c.known.ensures.accepted c.in_ok-patterns.ensures c.in_ok-capacities.ensures unmarked (omega (arith, c.message_count.ensures, c.in_ok-events.ensures.exact)) in
+    let receives = ap length (rw c.deref.ensures.value at c.in_ok-receives.ensures) ∙ length-map c.in_ok-capacities.capacities.items (empty_list Receives) in
+    let sends = ap length (rw c.deref-2.ensures.value at c.in_ok-sends.ensures) ∙ length-map c.in_ok-capacities.capacities.items (empty_list Sends) in
+    record {
+      as_many = receives ∙ sym sends;
+      mirrors = rw (c.in_ok-events.ensures.items, c.in_ok-receives.ensures, c.in_ok-sends.ensures, c.deref.ensures.value, c.deref-2.ensures.value) kept;
+    }

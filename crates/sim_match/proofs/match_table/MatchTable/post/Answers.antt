@@ -1,46 +1,87 @@
-use Rattle.std.proofs.Common.{ℕ, ◌≡◌, length, arith, ◌∙◌, subst}
-use Rattle.sim_match.specs.MatchLists.{IsPushed}
-use Rattle.sim_match.specs.Matcher.{actions_of}
-use Rattle.sim_match.proofs.Kept.{length-actions_of, actions_of-push, whole_back, post_event_room, post_exists, post_ready, post_room, post_met_exists, post_answers, post_keeps}
+use Rattle.std.proofs.Common.{ℕ, ◌≡◌, length, arith, ap, ap₂, ◌∙◌}
+use Rattle.std.proofs.lemmas.List.{length-set}
+use Rattle.sim_match.specs.MatchLists.{pushed}
+use Rattle.sim_match.specs.Matcher.{actions_of, side_by_side}
+use Rattle.sim_match.proofs.Kept.{length-actions_of, actions_of-push, whole_back, post_event_room, post_exists, post_within, post_ready, post_room, post_met_exists, post_answers, post_keeps}
+use Rattle.sim_match.proofs.Sides.{sides_length, sides_read, sides_set, there_is}
 use Rattle.sim_match.proofs.match_table.MatchTable.post.Goals as goal
 
 pub push_reserved-requires : goal.push_reserved-requires
 push_reserved-requires c =
-    let room = post_event_room _ _ _ _ _ _ c.requires.kept c.args.recv c.requires.receive c.requires.fresh in
+    let room = post_event_room _ _ _ _ _ _ c.requires.kept.mirrors c.args.recv c.requires.receive c.requires.fresh in
     omega (arith, room, length-actions_of c.args.self.now.events.items, c.args.self.now.events.ok.0)
 
-pub post-met-requires-clause-ready : goal.post-met-requires-clause-ready
-post-met-requires-clause-ready c =
-    let ready = post_ready _ _ _ _ _ _ c.requires.kept c.args.recv c.requires.receive c.requires.fresh c.list_of_receive-list.result c.list_of_receive-list.ensures.list _ c.index_mut.ensures.value in
-    rw c.deref.ensures.value ready
+pub push-requires-clause-within : goal.push-requires-clause-within
+push-requires-clause-within c =
+    let within = post_within _ _ _ _ _ _ c.requires.kept.mirrors c.args.recv c.requires.receive c.requires.fresh c.list_of_receive-list.result c.list_of_receive-list.ensures.list in
+    let long = sides_length c.args.self.now.receives c.args.self.now.sends c.requires.kept.as_many in
+    omega (arith, within, long)
 
-pub post-met-requires-clause-room : goal.post-met-requires-clause-room
-post-met-requires-clause-room c =
-    let room = post_room _ _ _ _ _ _ c.requires.kept c.args.recv c.requires.receive c.requires.fresh c.list_of_receive-list.result c.list_of_receive-list.ensures.list _ c.index_mut.ensures.value in
-    omega (arith, room, c.index_mut.result.now.receives.entries.ok.0)
+pub push-requires-clause-room : goal.push-requires-clause-room
+push-requires-clause-room c = λ w e.
+    let within = post_within _ _ _ _ _ _ c.requires.kept.mirrors c.args.recv c.requires.receive c.requires.fresh c.list_of_receive-list.result c.list_of_receive-list.ensures.list in
+    let long = sides_length c.args.self.now.receives c.args.self.now.sends c.requires.kept.as_many in
+    let r = there_is c.args.self.now.receives c.list_of_receive-list.result (omega (arith, within, long)) in
+    let s = there_is c.args.self.now.sends c.list_of_receive-list.result (omega (arith, within, long, c.requires.kept.as_many)) in
+    post_room _ _ _ _ _ _ c.requires.kept.mirrors c.args.recv c.requires.receive c.requires.fresh c.list_of_receive-list.result c.list_of_receive-list.ensures.list (record { receives = w; sends = s.0 }) (sides_read c.args.self.now.receives c.args.self.now.sends c.list_of_receive-list.result w s.0 e s.1)
+
+pub first-met-requires-clause-within : goal.first-met-requires-clause-within
+first-met-requires-clause-within c =
+    let within = post_within _ _ _ _ _ _ c.requires.kept.mirrors c.args.recv c.requires.receive c.requires.fresh c.list_of_receive-list.result c.list_of_receive-list.ensures.list in
+    let long = sides_length c.args.self.now.receives c.args.self.now.sends c.requires.kept.as_many in
+    omega (arith, within, long, c.requires.kept.as_many)
+
+pub first-met-requires-clause-ready : goal.first-met-requires-clause-ready
+first-met-requires-clause-ready c = λ w e.
+    let within = post_within _ _ _ _ _ _ c.requires.kept.mirrors c.args.recv c.requires.receive c.requires.fresh c.list_of_receive-list.result c.list_of_receive-list.ensures.list in
+    let long = sides_length c.args.self.now.receives c.args.self.now.sends c.requires.kept.as_many in
+    let r = there_is c.args.self.now.receives c.list_of_receive-list.result (omega (arith, within, long)) in
+    let s = there_is c.args.self.now.sends c.list_of_receive-list.result (omega (arith, within, long, c.requires.kept.as_many)) in
+    rw c.deref.ensures.value (post_ready _ _ _ _ _ _ c.requires.kept.mirrors c.args.recv c.requires.receive c.requires.fresh c.list_of_receive-list.result c.list_of_receive-list.ensures.list (record { receives = r.0; sends = w }) (sides_read c.args.self.now.receives c.args.self.now.sends c.list_of_receive-list.result r.0 w r.1 e))
 
 pub pair-requires-clause-op : goal.pair-requires-clause-op
 pair-requires-clause-op c =
-    post_exists _ _ _ _ _ _ c.requires.kept c.args.recv c.requires.receive c.requires.fresh
+    post_exists _ _ _ _ _ _ c.requires.kept.mirrors c.args.recv c.requires.receive c.requires.fresh
 
 pub pair-requires-clause-other : goal.pair-requires-clause-other
 pair-requires-clause-other c =
+    let within = post_within _ _ _ _ _ _ c.requires.kept.mirrors c.args.recv c.requires.receive c.requires.fresh c.list_of_receive-list.result c.list_of_receive-list.ensures.list in
+    let long = sides_length c.args.self.now.receives c.args.self.now.sends c.requires.kept.as_many in
+    let r = there_is c.args.self.now.receives c.list_of_receive-list.result (omega (arith, within, long)) in
+    let s = there_is c.args.self.now.sends c.list_of_receive-list.result (omega (arith, within, long, c.requires.kept.as_many)) in
     let at : c.len.result ≡ length (actions_of c.args.self.now.events.items) = omega (arith, c.len.ensures, length-actions_of c.args.self.now.events.items, c.args.self.now.events.ok.0) in
-    let pushed = subst (λ (n : ℕ). IsPushed (record { op = c.args.recv; at = n }) c.index_mut.result.now.receives c.post-met.new.self.receives) at c.post-met.ensures.pushed in
-    post_met_exists _ _ _ _ _ _ c.requires.kept c.args.recv c.requires.receive c.requires.fresh c.list_of_receive-list.result c.list_of_receive-list.ensures.list _ c.index_mut.ensures.value _ _ (rw c.deref.ensures.value at c.post-met.ensures.first) pushed
+    let first = c.first-met.ensures s.0 s.1 in
+    let grown = ap (λ (n : ℕ). pushed r.0 (record { op = c.args.recv; at = n })) at in
+    post_met_exists _ _ _ _ _ _ c.requires.kept.mirrors c.args.recv c.requires.receive c.requires.fresh c.list_of_receive-list.result c.list_of_receive-list.ensures.list (record { receives = r.0; sends = s.0 }) (sides_read c.args.self.now.receives c.args.self.now.sends c.list_of_receive-list.result r.0 s.0 r.1 s.1) (record { receives = pushed r.0 (record { op = c.args.recv; at = c.len.result }); sends = record { entries = s.0.entries; head = first.0; room = s.0.room } }) c.first-met.result (rw c.deref.ensures.value at first.2) grown
 
 pub returns-clause-kept : goal.returns-clause-kept
 returns-clause-kept c =
+    let within = post_within _ _ _ _ _ _ c.requires.kept.mirrors c.args.recv c.requires.receive c.requires.fresh c.list_of_receive-list.result c.list_of_receive-list.ensures.list in
+    let long = sides_length c.args.self.now.receives c.args.self.now.sends c.requires.kept.as_many in
+    let r = there_is c.args.self.now.receives c.list_of_receive-list.result (omega (arith, within, long)) in
+    let s = there_is c.args.self.now.sends c.list_of_receive-list.result (omega (arith, within, long, c.requires.kept.as_many)) in
     let at : c.len.result ≡ length (actions_of c.args.self.now.events.items) = omega (arith, c.len.ensures, length-actions_of c.args.self.now.events.items, c.args.self.now.events.ok.0) in
-    let pushed = subst (λ (n : ℕ). IsPushed (record { op = c.args.recv; at = n }) c.index_mut.result.now.receives c.post-met.new.self.receives) at c.post-met.ensures.pushed in
+    let first = c.first-met.ensures s.0 s.1 in
+    let grown = ap (λ (n : ℕ). pushed r.0 (record { op = c.args.recv; at = n })) at in
     let changes = rw c.deref_mut.ensures.value at c.pair.ensures.paired in
-    let long = rw c.deref_mut.ensures.value at c.pair.ensures.long in
-    let back = whole_back c.args.self.now.marks.len c.pair.new.marks c.args.self.now.marks.items long (omega (arith, c.args.self.now.marks.ok.0)) in
-    let kept = post_keeps _ _ _ _ _ _ c.requires.kept c.args.recv c.requires.receive c.requires.fresh c.list_of_receive-list.result c.list_of_receive-list.ensures.list _ c.index_mut.ensures.value _ _ (rw c.deref.ensures.value at c.post-met.ensures.first) pushed c.pair.new.marks changes long in
-    rw (back, c.push_reserved.ensures.items, c.push_reserved.ensures.capacity, actions_of-push) kept
+    let marked = rw c.deref_mut.ensures.value at c.pair.ensures.long in
+    let back = whole_back c.args.self.now.marks.len c.pair.new.marks c.args.self.now.marks.items marked (omega (arith, c.args.self.now.marks.ok.0)) in
+    let kept = post_keeps _ _ _ _ _ _ c.requires.kept.mirrors c.args.recv c.requires.receive c.requires.fresh c.list_of_receive-list.result c.list_of_receive-list.ensures.list (record { receives = r.0; sends = s.0 }) (sides_read c.args.self.now.receives c.args.self.now.sends c.list_of_receive-list.result r.0 s.0 r.1 s.1) (record { receives = pushed r.0 (record { op = c.args.recv; at = c.len.result }); sends = record { entries = s.0.entries; head = first.0; room = s.0.room } }) c.first-met.result (rw c.deref.ensures.value at first.2) grown c.pair.new.marks changes marked in
+    let sides = ap₂ side_by_side (c.push.ensures r.0 r.1) first.1 ∙ sides_set c.args.self.now.receives c.args.self.now.sends c.list_of_receive-list.result _ _ in
+    let more = ap length (c.push.ensures r.0 r.1) ∙ length-set c.args.self.now.receives c.list_of_receive-list.result _ in
+    let less = ap length first.1 ∙ length-set c.args.self.now.sends c.list_of_receive-list.result _ in
+    record {
+      as_many = omega (arith, more, less, c.requires.kept.as_many);
+      mirrors = rw (sides, back, c.push_reserved.ensures.items, c.push_reserved.ensures.capacity, actions_of-push) kept;
+    }
 
 pub returns-clause-taken : goal.returns-clause-taken
 returns-clause-taken c =
+    let within = post_within _ _ _ _ _ _ c.requires.kept.mirrors c.args.recv c.requires.receive c.requires.fresh c.list_of_receive-list.result c.list_of_receive-list.ensures.list in
+    let long = sides_length c.args.self.now.receives c.args.self.now.sends c.requires.kept.as_many in
+    let r = there_is c.args.self.now.receives c.list_of_receive-list.result (omega (arith, within, long)) in
+    let s = there_is c.args.self.now.sends c.list_of_receive-list.result (omega (arith, within, long, c.requires.kept.as_many)) in
     let at : c.len.result ≡ length (actions_of c.args.self.now.events.items) = omega (arith, c.len.ensures, length-actions_of c.args.self.now.events.items, c.args.self.now.events.ok.0) in
-    let pushed = subst (λ (n : ℕ). IsPushed (record { op = c.args.recv; at = n }) c.index_mut.result.now.receives c.post-met.new.self.receives) at c.post-met.ensures.pushed in
-    c.pair.ensures.answer ∙ post_answers _ _ _ _ _ _ c.requires.kept c.args.recv c.requires.receive c.requires.fresh c.list_of_receive-list.result c.list_of_receive-list.ensures.list _ c.index_mut.ensures.value _ _ (rw c.deref.ensures.value at c.post-met.ensures.first) pushed
+    let first = c.first-met.ensures s.0 s.1 in
+    let grown = ap (λ (n : ℕ). pushed r.0 (record { op = c.args.recv; at = n })) at in
+    c.pair.ensures.answer ∙ post_answers _ _ _ _ _ _ c.requires.kept.mirrors c.args.recv c.requires.receive c.requires.fresh c.list_of_receive-list.result c.list_of_receive-list.ensures.list (record { receives = r.0; sends = s.0 }) (sides_read c.args.self.now.receives c.args.self.now.sends c.list_of_receive-list.result r.0 s.0 r.1 s.1) (record { receives = pushed r.0 (record { op = c.args.recv; at = c.len.result }); sends = record { entries = s.0.entries; head = first.0; room = s.0.room } }) c.first-met.result (rw c.deref.ensures.value at first.2) grown

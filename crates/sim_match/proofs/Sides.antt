@@ -1,0 +1,37 @@
+-- Receives and sends side by side.
+use Rattle.std.proofs.Common.{ℕ, zero, suc, ◌<◌, ◌≡◌, List, [], ◌∷◌, length, Some, map, slice_get, slice_set, get_or, refl, arith, sym, ap}
+use Rattle.std.proofs.lemmas.Option.{none-some, same_Some, get_or_from_slice_get}
+use Rattle.sim_match.specs.MatchLists.{MatchList}
+use Rattle.sim_match.specs.Matcher.{PatternLists, side_by_side}
+
+pub sides_length : (rs ss : List MatchList) → length rs ≡ length ss → length (side_by_side rs ss) ≡ length rs
+sides_length [] ss many = refl
+sides_length (r ∷ rs) [] many = absurd (omega (arith, many))
+sides_length (r ∷ rs) (s ∷ ss) many = ap suc (sides_length rs ss (omega (arith, many)))
+
+pub there_is : {X : Type 0} (xs : List X) (l : ℕ) → l < length xs → (x : X) × (slice_get xs l ≡ Some x)
+there_is [] l b = absurd (omega arith)
+there_is (x ∷ xs) zero b = (x, refl)
+there_is (x ∷ xs) (suc l) b = there_is xs l (omega arith)
+
+sides_get : (rs ss : List MatchList) (l : ℕ) (r s : MatchList) → slice_get rs l ≡ Some r → slice_get ss l ≡ Some s → slice_get (side_by_side rs ss) l ≡ Some (record { receives = r; sends = s })
+sides_get [] ss l r s e f = absurd (none-some r e)
+sides_get (x ∷ rs) [] l r s e f = absurd (none-some s f)
+sides_get (x ∷ rs) (y ∷ ss) zero r s e f = λ i. Some (record { receives = same_Some x r e i; sends = same_Some y s f i })
+sides_get (x ∷ rs) (y ∷ ss) (suc l) r s e f = sides_get rs ss l r s e f
+
+pub sides_read : (rs ss : List MatchList) (l : ℕ) (r s : MatchList) → slice_get rs l ≡ Some r → slice_get ss l ≡ Some s → record { receives = r; sends = s } ≡ get_or (side_by_side rs ss) l (record { receives = r; sends = s })
+sides_read rs ss l r s e f =
+    sym (get_or_from_slice_get (side_by_side rs ss) l (record { receives = r; sends = s }) (record { receives = r; sends = s }) (sides_get rs ss l r s e f))
+
+pub sides_set : (rs ss : List MatchList) (l : ℕ) (r s : MatchList) → side_by_side (slice_set rs l r) (slice_set ss l s) ≡ slice_set (side_by_side rs ss) l (record { receives = r; sends = s })
+sides_set [] ss l r s = refl
+sides_set (x ∷ rs) [] zero r s = refl
+sides_set (x ∷ rs) [] (suc l) r s = refl
+sides_set (x ∷ rs) (y ∷ ss) zero r s = refl
+sides_set (x ∷ rs) (y ∷ ss) (suc l) r s =
+    ap (λ (ws : List PatternLists). record { receives = x; sends = y } ∷ ws) (sides_set rs ss l r s)
+
+pub sides_map : {X : Type 0} (f g : X → MatchList) (xs : List X) → side_by_side (map f xs) (map g xs) ≡ map (λ x. record { receives = f x; sends = g x }) xs
+sides_map f g [] = refl
+sides_map f g (x ∷ xs) = ap (λ (ws : List PatternLists). record { receives = f x; sends = g x } ∷ ws) (sides_map f g xs)

@@ -1,0 +1,32 @@
+use Rattle.std.proofs.Common.{ℕ, ◌<◌, ◌≡◌, true, None, length, arith, sym, ◌∙◌, subst}
+use Rattle.std.proofs.lemmas.List.Elements.{All-more}
+use Rattle.goal_graph.specs.Schedule.{operations}
+use Rattle.sim_match.specs.declared.match_list.MatchEntry.{MatchEntry}
+use Rattle.sim_match.specs.MatchLists.{is_marked, IsFirst}
+use Rattle.sim_match.proofs.MatchListLemmas.{first_there, first_none, read_any}
+use Rattle.sim_match.proofs.match_list.first_that_waits.Goals as goal
+
+pub loop-at-init : goal.loop-at-init
+loop-at-init c = (c.requires 0).skipped
+
+pub is_marked-requires-clause-op : goal.is_marked-requires-clause-op
+is_marked-requires-clause-op c = (c.requires 0).exist c.loop-at.at _ (omega arith)
+
+pub is_marked-requires-clause-long : goal.is_marked-requires-clause-long
+is_marked-requires-clause-long c = (c.requires 0).long
+
+pub returns-then-not-is_marked : goal.returns-then-not-is_marked
+returns-then-not-is_marked c = λ room.
+    let inside : c.loop-at.at < length c.args.entries.now = omega arith in
+    first_there (is_marked (operations c.args.sched.now) c.args.marks.now) c.args.entries.now c.loop-at.at c.args.head room c.loop-at.invariant _ inside (read_any c.args.entries.now c.loop-at.at _ inside) (sym c.is_marked.ensures ∙ c.if-not-is_marked.true)
+
+pub loop-at-preserved : goal.loop-at-preserved
+loop-at-preserved c =
+    let inside : c.loop-at.at < length c.args.entries.now = omega arith in
+    All-more (λ (e : MatchEntry). is_marked (operations c.args.sched.now) c.args.marks.now e.op ≡ true) c.args.entries.now c.loop-at.at _ inside c.loop-at.invariant (sym c.is_marked.ensures ∙ c.if-not-is_marked.false)
+
+pub returns : goal.returns
+returns c = λ room.
+    let low = c.loop-at.auto.at-end (omega (arith, (c.requires 0).within)) in
+    let at_end : c.loop-at.at ≡ length c.args.entries.now = omega (arith, c.loop-at-test.false, low) in
+    subst (λ (n : ℕ). IsFirst (is_marked (operations c.args.sched.now) c.args.marks.now) (record { entries = c.args.entries.now; head = c.args.head; room = room }) (record { entries = c.args.entries.now; head = n; room = room }) None) at_end (first_none (is_marked (operations c.args.sched.now) c.args.marks.now) c.args.entries.now c.loop-at.at c.args.head room c.loop-at.invariant at_end)

@@ -1,0 +1,109 @@
+// Match lists, one after another in one vector of entries.
+ghost use Rattle.std.specs.Prelude.{ℕ, ◌≡◌, ◌<◌, Some, length, map, slice_get, slice_set, IfOk};
+ghost use Rattle.goal_graph.specs.Schedule.{operations};
+ghost use Rattle.sim_match.specs.MatchLists.{MatchList, is_marked, IsReady, IsFirst, pushed, skipped_to};
+ghost use Rattle.sim_match.specs.Capacities.{empty_list};
+
+use crate::capacities::{Capacity, Side};
+use crate::match_list::{MatchEntry, first_that_waits};
+use goal_base::NoMemory;
+use goal_graph::{OpId, Sched};
+use std::alloc::Global;
+use std::marker::Model;
+
+/// Where a match list stands among the entries: from `start` on, so many of them; it has room up to `end`. Those before
+/// the head are skipped.
+#[derive(Clone, Copy, Debug)]
+pub struct Span {
+    pub start: u32,
+    pub len: u32,
+    pub head: u32,
+    pub end: u32,
+}
+
+/// Match lists by number. Contracts see the list of them.
+#[derive(Drop)]
+pub struct MatchLists {
+    spans: Vec<Span>,
+    entries: Vec<MatchEntry>,
+}
+
+impl Model for MatchLists {
+    ghost use Rattle.std.specs.Prelude.{List, map};
+    ghost use Rattle.sim_match.specs.MatchLists.{MatchList};
+
+    ghost Value = { List MatchList };
+
+    ghost use Rattle.sim_match.specs.Packed.{list_at, ArePacked};
+
+    ghost view = { λ m. map (list_at m.entries.items) m.spans.items };
+
+    ghost invariant = { λ m. ArePacked m.spans.items m.entries.items };
+}
+
+impl MatchLists {
+    /// Empty lists with room for so many. They take all their memory here.
+    pub fn new(alloc: Global, capacities: &[Capacity], side: Side) -> Result<MatchLists, NoMemory>
+        ensures { IfOk result (λ lists. lists ≡ map (empty_list side) capacities.now) }
+    {
+        let mut spans = Vec::with_capacity(alloc, capacities.len())?;
+        let mut end: u32 = 0;
+        for capacity in capacities {
+            let room = side.room(capacity);
+            if room > (u32::MAX - end) as usize {
+                return Err(NoMemory);
+            }
+            let start = end;
+            end += room as u32;
+            spans.push_reserved(Span {
+                start,
+                len: 0,
+                head: 0,
+                end,
+            });
+        }
+        let none = MatchEntry {
+            op: OpId { rank: 0, op: 0 },
+            at: 0,
+        };
+        let entries = vec![in alloc; none; end as usize]?;
+        Ok(MatchLists { spans, entries })
+    }
+
+    /// An entry is added to a list.
+    pub fn push(&mut self, list: usize, entry: MatchEntry)
+        requires within { list < length self.old }
+        requires room { (w : MatchList) → slice_get self.old list ≡ Some w → length w.entries < w.room }
+        ensures { (w : MatchList) → slice_get self.old list ≡ Some w → self.new ≡ slice_set self.old list (pushed w entry) }
+    {
+        let span = self.spans[list];
+        self.entries[(span.start + span.len) as usize] = entry;
+        self.spans[list] = Span {
+            start: span.start,
+            len: span.len + 1,
+            head: span.head,
+            end: span.end,
+        };
+    }
+
+    /// The first of a list that waits. Each entry is skipped once in all calls.
+    pub fn first(&mut self, list: usize, sched: &Sched, marks: &[bool]) -> Option<MatchEntry>
+        requires within { list < length self.old }
+        requires ready { (w : MatchList) → slice_get self.old list ≡ Some w → IsReady sched.now marks.now w }
+        ensures { (w : MatchList) → slice_get self.old list ≡ Some w
+            → (n : ℕ) × (self.new ≡ slice_set self.old list (skipped_to w n))
+            × IsFirst (is_marked (operations sched.now) marks.now) w (skipped_to w n) result }
+    {
+        let span = self.spans[list];
+        let start = span.start as usize;
+        let entries = &self.entries[start..start + span.len as usize];
+        let (head, first) = first_that_waits(entries, span.head as usize, sched, marks);
+        self.spans[list] = Span {
+            start: span.start,
+            len: span.len,
+            head: head as u32,
+            end: span.end,
+        };
+        first
+    }
+}
