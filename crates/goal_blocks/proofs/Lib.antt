@@ -8,6 +8,7 @@ pub mod Trees
 pub mod RootedFits
 pub mod MadeAccepted
 pub mod PlanBy
+pub mod EntryFacts
 pub mod ForCallers
 pub mod Matched
 pub mod Race

@@ -27,7 +27,7 @@ range_more n =
     ∙ map_range_more (λ x. x) n
     ∙ ap (λ xs. xs ++ n ∷ []) (map_itself (range_with_len 0 n))
 
-flat_map_range_more : {X : Type 0} (f : ℕ → List X) (n : ℕ) → flat_map f (range_with_len 0 (n + 1)) ≡ flat_map f (range_with_len 0 n) ++ f n
+pub flat_map_range_more : {X : Type 0} (f : ℕ → List X) (n : ℕ) → flat_map f (range_with_len 0 (n + 1)) ≡ flat_map f (range_with_len 0 n) ++ f n
 flat_map_range_more f n =
     ap (λ xs. flat_map f xs) (range_more n)
     ∙ flat_map-append f (range_with_len 0 n) (n ∷ [])
