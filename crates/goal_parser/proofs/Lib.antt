@@ -6,3 +6,4 @@ pub mod ReaderLaws
 pub mod LimitLaws
 pub mod GrammarLaws
 pub mod OneReading
+pub mod NoLimits

@@ -64,3 +64,13 @@ IsFaultOf (plans ps) found = IsFaultOfPlans ps found
 abbrev pub fault_of_plans : PlanFault → TextFault
 fault_of_plans plan.NoMemory = fault.NoMemory
 fault_of_plans f = fault.Plan f
+
+-- the rule is that of a limit
+abbrev pub IsLimitRule : PlanFault → Type 0
+IsLimitRule (plan.Count found limit) = Unit {0}
+IsLimitRule (plan.Value rank op) = Unit {0}
+IsLimitRule _ = ⊥
+
+abbrev pub IsLimitFault : TextFault → Type 0
+IsLimitFault (fault.Plan rule) = IsLimitRule rule
+IsLimitFault _ = ⊥

@@ -1,7 +1,7 @@
 //! From a text to its schedule.
 ghost use Rattle.std.specs.Prelude.{◌≡◌, ◌≢◌, IfOk, IfErr};
 ghost use Rattle.goal_graph.specs.Fault.{IsAccepted};
-ghost use Rattle.goal_parser.specs.Reads.{reads, plans, IsFaultOf, fault_of_plans};
+ghost use Rattle.goal_parser.specs.Reads.{reads, plans, IsFaultOf, IsLimitFault, fault_of_plans};
 
 use crate::faults::TextFault;
 use crate::reader::Reader;
@@ -18,19 +18,10 @@ fn fault_of_plans(fault: PlanFault) -> TextFault
     }
 }
 
-/// The schedule of a text.
-///
-/// # Errors
-///
-/// The first fault of the text: that of the first token, in the text's order, that fails a test; the byte where no
-/// token can be taken, or the end of the text, count as a last token. Where the text has no such fault, the first
-/// fault of its plans. And want of memory.
-pub fn read_text(alloc: Global, text: &[u8]) -> Result<Sched, TextFault>
-    // The plans are those of the text, and they are a schedule.
+/// The schedule of a text, or the first fault.
+fn schedule_of(alloc: Global, text: &[u8]) -> Result<Sched, TextFault>
     ensures ok { IfOk result (λ sched. reads text.now ≡ plans sched) }
     ensures accepted { IfOk result (λ sched. IsAccepted sched) }
-
-    // The fault is that of the text, or else that of its plans.
     ensures fault { IfErr result (λ fault. fault ≢ TextFault.NoMemory → IsFaultOf (reads text.now) fault) }
 {
     let mut reader = Reader::new(alloc);
@@ -46,4 +37,25 @@ pub fn read_text(alloc: Global, text: &[u8]) -> Result<Sched, TextFault>
         Ok(sched) => Ok(sched),
         Err(fault) => Err(fault_of_plans(fault)),
     }
+}
+
+/// The schedule of a text.
+///
+/// # Errors
+///
+/// The first fault of the text: that of the first token, in the text's order, that fails a test; the byte where no
+/// token can be taken, or the end of the text, count as a last token. Where the text has no such fault, the first
+/// fault of its plans, which is neither `Count` nor `Value`. And want of memory.
+pub fn read_text(alloc: Global, text: &[u8]) -> Result<Sched, TextFault>
+    // The plans are those of the text, and they are a schedule.
+    ensures ok { IfOk result (λ sched. reads text.now ≡ plans sched) }
+    ensures accepted { IfOk result (λ sched. IsAccepted sched) }
+
+    // The fault is that of the text, or else that of its plans.
+    ensures fault { IfErr result (λ fault. fault ≢ TextFault.NoMemory → IsFaultOf (reads text.now) fault) }
+
+    // A text that says plans keeps the limits of counts and values.
+    ensures limits { IfErr result (λ fault. IsLimitFault fault → ⊥) }
+{
+    schedule_of(alloc, text)
 }
