@@ -69,7 +69,21 @@ fn written_and_read(alloc: Global, sched: &Sched) -> Result<Sched, FileFault>
 fn the_message_is_read(rt: HostRuntime) -> Result<(), Fail> {
     let alloc = rt.alloc();
     let sched = decode(alloc, &MESSAGE).ok().ok_or("the bytes are a file")?;
-    assert_eq!(rt; sched.count(), 2);
+    let send = Kind::Send {
+        bytes: 10,
+        to: 1,
+        tag: 0,
+    };
+    let recv = Kind::Recv {
+        bytes: 10,
+        from: Some(0),
+        tag: Some(0),
+    };
+    let mut kinds = Vec::new(alloc);
+    for id in sched.operations() {
+        kinds.push(sched.op(*id).kind)?;
+    }
+    assert_eq!(rt; kinds.as_slice(), [send, recv].as_slice());
     let again = written_and_read(alloc, &sched)
         .ok()
         .ok_or("the file is read again")?;
