@@ -14,11 +14,11 @@ use Rattle.goal_cli.specs.declared.answer.Refusal.TheVariants as refusal
 abbrev pub at_text : List ℕ → ℕ → List ℕ
 at_text words at = words ++ decimal at
 
--- The first rule that plans break. What is read, as a text or as a compiled file, keeps the limits of counts and values,
--- so their words are never met.
+-- The first rule that plans break. What is read, as a text or as a compiled file, keeps the limits of counts and values:
+-- `read_text` and `decode` never answer these two, and so they have no words, as want of memory has none.
 abbrev pub plan_words : PlanFault → List ℕ
-plan_words (plan.Count found limit) = codes "plan: count"
-plan_words (plan.Value rank op) = codes "plan: value " ++ pair_text rank op
+plan_words (plan.Count found limit) = []
+plan_words (plan.Value rank op) = []
 plan_words (plan.Peer rank op) = codes "plan: peer " ++ pair_text rank op
 plan_words (plan.DepRange rank dep) = codes "plan: dependency " ++ pair_text rank dep
 plan_words (plan.NoteMisfit rank note) = codes "plan: note " ++ pair_text rank note

@@ -73,13 +73,11 @@ fn put_plan_fault(out: &mut TextOut, fault: PlanFault) -> Result<(), NoMemory>
     ensures { OnOk result (out.new ≡ out.old ++ plan_words fault) }
 {
     match fault {
-        PlanFault::Count { .. } => out.word("plan: count"),
-        PlanFault::Value { rank, op } => put_pair(out, "plan: value ", rank, op),
         PlanFault::Peer { rank, op } => put_pair(out, "plan: peer ", rank, op),
         PlanFault::DepRange { rank, dep } => put_pair(out, "plan: dependency ", rank, dep),
         PlanFault::NoteMisfit { rank, note } => put_pair(out, "plan: note ", rank, note),
         PlanFault::Cycle { rank, op } => put_pair(out, "plan: cycle ", rank, op),
-        PlanFault::NoMemory => Ok(()),
+        PlanFault::Count { .. } | PlanFault::Value { .. } | PlanFault::NoMemory => Ok(()),
     }
 }
 
