@@ -9,6 +9,8 @@ pub mod RootedFits
 pub mod MadeAccepted
 pub mod PlanBy
 pub mod EntryFacts
+pub mod MessagesPaired
+pub mod MadePaired
 pub mod ForCallers
 pub mod Matched
 pub mod Race

@@ -14,5 +14,6 @@ pub mod Made
 pub mod MadeRooted
 pub mod Generated
 pub mod Steps
+pub mod Messages
 pub mod Certified
 pub mod Faults
