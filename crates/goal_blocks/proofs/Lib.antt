@@ -11,6 +11,7 @@ pub mod PlanBy
 pub mod EntryFacts
 pub mod MessagesPaired
 pub mod MadePaired
+pub mod BcastPaired
 pub mod ForCallers
 pub mod Matched
 pub mod Race

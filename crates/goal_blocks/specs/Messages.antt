@@ -4,9 +4,9 @@ use Rattle.goal_graph.specs.declared.action.OpId.{OpId}
 use Rattle.goal_graph.specs.declared.plan.Kind.TheVariants.{Calc, Send, Recv}
 use Rattle.goal_blocks.specs.Channels.{HasNoWildcard, HasNoDoubleChannel, HasNoUnpaired}
 use Rattle.goal_graph.specs.Schedule.{Plan}
-use Rattle.goal_blocks.specs.declared.collective.Collective.TheVariants.{Allgather, Scan}
+use Rattle.goal_blocks.specs.declared.collective.Collective.TheVariants.{Bcast, Allgather, Scan}
 use Rattle.goal_blocks.specs.Entries.{Entry}
-use Rattle.goal_blocks.specs.Generated.{made}
+use Rattle.goal_blocks.specs.Generated.{made, IsPossible}
 
 -- each message of M is sent by one entry and received by another, with the same tag; every other entry is a calc; and two
 -- messages between the same ranks with one tag are one
@@ -26,7 +26,10 @@ pub record AreChannelsPaired (plans : List Plan) : Type 0 where
 
 -- The laws. The function `laws_of_made_schedules` ensures each.
 
--- the channels of an allgather and of a scan are paired, for all ranks
+-- the channels of a broadcast are paired, and those of an allgather and of a scan
+abbrev pub BcastIsPaired : Type 0
+BcastIsPaired = (root ranks bytes : ℕ) → IsPossible (Bcast root) ranks → AreChannelsPaired (made (Bcast root) ranks bytes)
+
 abbrev pub AllgatherIsPaired : Type 0
 AllgatherIsPaired = (ranks bytes : ℕ) → AreChannelsPaired (made Allgather ranks bytes)
 

@@ -2,7 +2,7 @@
 // nothing, and a proof cites a law by a call.
 ghost use Rattle.goal_blocks.specs.Fitting.{FittingIsAccepted};
 ghost use Rattle.goal_blocks.specs.Generated.{MadeIsAccepted};
-ghost use Rattle.goal_blocks.specs.Messages.{AllgatherIsPaired, ScanIsPaired};
+ghost use Rattle.goal_blocks.specs.Messages.{BcastIsPaired, AllgatherIsPaired, ScanIsPaired};
 
 use crate::collective::Collective;
 
@@ -48,11 +48,12 @@ impl Collective {
 ///   have notes that fit, and of which there are not too many. So nobody waits for himself in it.
 /// - `made_is_accepted`: the schedule of each of the ten collectives is accepted, for all ranks, roots and sizes within
 ///   the limits.
-/// - `allgather_is_paired`, `scan_is_paired`: in an allgather and in a scan, for all ranks, each send has exactly one
-///   receive of its channel, and each receive one send.
+/// - `bcast_is_paired`, `allgather_is_paired`, `scan_is_paired`: in a broadcast, an allgather and a scan each send has
+///   exactly one receive of its channel, and each receive one send.
 pub fn laws_of_made_schedules()
     ensures fitting_is_accepted { FittingIsAccepted }
     ensures made_is_accepted { MadeIsAccepted }
+    ensures bcast_is_paired { BcastIsPaired }
     ensures allgather_is_paired { AllgatherIsPaired }
     ensures scan_is_paired { ScanIsPaired }
 {}

@@ -1,6 +1,7 @@
 -- Each law is a lemma.
 use Rattle.goal_blocks.proofs.Fitting.{fitting_accepted}
 use Rattle.goal_blocks.proofs.MadeAccepted.{made_accepted}
+use Rattle.goal_blocks.proofs.BcastPaired.{bcast_paired}
 use Rattle.goal_blocks.proofs.MadePaired.{allgather_paired, scan_paired}
 use Rattle.goal_blocks.proofs.generated.laws_of_made_schedules.Goals as goal
 
@@ -9,6 +10,9 @@ returns-clause-fitting_is_accepted c = λ ranks count e fit. fitting_accepted ra
 
 pub returns-clause-made_is_accepted : goal.returns-clause-made_is_accepted
 returns-clause-made_is_accepted c = λ what ranks bytes possible small. made_accepted what ranks bytes possible small
+
+pub returns-clause-bcast_is_paired : goal.returns-clause-bcast_is_paired
+returns-clause-bcast_is_paired c = λ root ranks bytes possible. bcast_paired ranks root bytes possible.root possible.few_ranks
 
 pub returns-clause-allgather_is_paired : goal.returns-clause-allgather_is_paired
 returns-clause-allgather_is_paired c = λ ranks bytes. allgather_paired ranks bytes
