@@ -1,5 +1,6 @@
 pub mod WaitLemmas
 pub mod OneReport
+pub mod ExactWait
 pub mod RankLemmas
 pub mod FillLemmas
 pub mod WaitOrder

@@ -1,12 +1,12 @@
 -- A run has one report.
-use Rattle.std.proofs.Common.{◌≡◌, ◌⊎◌, inl, inr, ℕ, zero, suc, ◌<◌, ◌≤◌, List, [], ◌∷◌, length, All, AllPairs, Contains, get_or, refl, sym, ap, ◌∙◌, subst, arith}
+use Rattle.std.proofs.Common.{◌≡◌, ◌⊎◌, inl, inr, ℕ, zero, suc, ◌≤◌, List, [], ◌∷◌, length, All, AllPairs, Contains, refl, sym, ap, ◌∙◌, subst, arith}
 use Rattle.std.proofs.lemmas.List.Elements.{All-contains}
 use Rattle.goal_graph.specs.declared.action.OpId.{OpId}
 use Rattle.goal_graph.specs.declared.action.Timed.{Timed}
 use Rattle.goal_graph.specs.Schedule.{Plan}
 use Rattle.goal_graph.specs.Order.{IsBefore}
 use Rattle.sim_params.specs.Costs.{CostModel}
-use Rattle.sim_waits.specs.Waits.{wait, HasWaited, GoesFirst, AreGreatest}
+use Rattle.sim_waits.specs.Waits.{HasWaited, GoesFirst, AreGreatest}
 use Rattle.sim_waits.specs.WaitsText.{waits_text, IsWaitsText}
 
 module _ {X : Type 0} (R : X → X → Type 0) (asymmetric : (x y : X) → R x y → R y x → ⊥) where

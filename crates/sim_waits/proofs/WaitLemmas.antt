@@ -1,5 +1,5 @@
 -- How long the last action of an operation holds its cpu, and its wait as it is computed.
-use Rattle.std.proofs.Common.{◌≡◌, ℕ, ◌-◌, ◌≤◌, Bool, true, false, List, Option, Some, None, if◌then◌else◌, refl, sym, ap, ◌∙◌, subst, arith}
+use Rattle.std.proofs.Common.{◌≡◌, ℕ, ◌-◌, Bool, true, false, List, Option, Some, None, if◌then◌else◌, refl, sym, ap, ◌∙◌, subst, arith}
 use Rattle.std.proofs.lemmas.Option.{same_Some}
 use Rattle.goal_graph.specs.declared.action.OpId.{OpId}
 use Rattle.goal_graph.specs.declared.action.Timed.{Timed}
@@ -81,10 +81,6 @@ module _ (plans : List Plan) (costs : CostModel) (h : List Timed) (x : OpId) whe
       go : (b : Bool) → Some m ≡ (if b then Some (ready plans costs h x) else None) → m ≡ ready plans costs h x
       go true e = same_Some m (ready plans costs h x) e
       go false e = absurd (cc)
-
-  -- the end less the hold is the time of the last action
-  pub hold_within : (n held : ℕ) → Some n ≡ end_known plans costs h x → held ≡ hold_of (kind_at plans x) → held ≤ n
-  hold_within n held e s = omega (arith, (end_is n e).1, s)
 
   pub wait_is : (n held m w : ℕ) → Some n ≡ end_known plans costs h x → held ≡ hold_of (kind_at plans x) → Some m ≡ ready_known plans costs h x → w ≡ (n - held) - m → Some w ≡ wait_told plans costs h x
   unfolding wait

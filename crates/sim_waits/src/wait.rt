@@ -8,6 +8,7 @@ ghost use Rattle.sim_params.specs.Times.{cpu_hold};
 ghost use Rattle.sim_events.specs.Enabled.{moment_known, ready_known};
 ghost use Rattle.sim_waits.specs.WaitKeys.{wait_told};
 
+use crate::laws::laws_of_waits;
 use goal_graph::{Kind, OpId, When};
 use sim_events::Engine;
 use sim_params::Costs;
@@ -18,9 +19,10 @@ pub fn wait<C: Costs>(engine: &Engine<'_, C>, id: OpId) -> Option<u64>
     ensures { result ≡ wait_told engine.now.plans (C.model engine.now.costs) engine.now.history id }
 {
     engine.known();
+    laws_of_waits();
     let end = engine.record(id).end?;
     let ready = ready(engine, id)?;
-    Some((end - last_hold(engine, id)).saturating_sub(ready))
+    Some(end - last_hold(engine, id) - ready)
 }
 
 // How long the last action of an operation holds its cpu.

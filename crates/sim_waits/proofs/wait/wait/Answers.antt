@@ -1,4 +1,4 @@
-use Rattle.std.proofs.Common.{sym, ◌∙◌}
+use Rattle.std.proofs.Common.{refl, sym, ◌∙◌}
 use Rattle.sim_waits.proofs.WaitLemmas.{never_unready, wait_is}
 use Rattle.sim_waits.proofs.wait.wait.Goals as goal
 
@@ -8,4 +8,4 @@ returns-in_err-ready g c =
 
 pub returns : goal.returns
 returns g c =
-    wait_is c.args.engine.now.plans (g.C.Costs.model c.args.engine.now.costs) c.args.engine.now.history c.args.id c.in_ok-end.end c.last_hold.result c.in_ok-ready.ready c.saturating_sub.result (sym c.in_ok-end.was ∙ c.record.ensures.end) c.last_hold.ensures (sym c.in_ok-ready.was ∙ c.ready.ensures) c.saturating_sub.ensures
+    wait_is c.args.engine.now.plans (g.C.Costs.model c.args.engine.now.costs) c.args.engine.now.history c.args.id c.in_ok-end.end c.last_hold.result c.in_ok-ready.ready _ (sym c.in_ok-end.was ∙ c.record.ensures.end) c.last_hold.ensures (sym c.in_ok-ready.was ∙ c.ready.ensures) refl
