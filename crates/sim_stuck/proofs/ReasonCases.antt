@@ -1,9 +1,10 @@
 -- The reason of an operation, as it is looked for: first among its needs, then among the operations that have not
 -- started.
-use Rattle.std.proofs.Common.{◌≡◌, ◌||◌, Bool, not, List, All, Option, Some, None, find, filter, refl, sym, ap, ◌∙◌, subst}
+use Rattle.std.proofs.Common.{◌≡◌, ◌||◌, Bool, not, List, All, AllPairs, Option, Some, None, find, filter, refl, sym, ap, ◌∙◌, subst}
 use Rattle.std.specs.Option.{option_map}
 use Rattle.std.proofs.lemmas.Option.{same_Some}
 use Rattle.std.proofs.lemmas.List.Elements.{All-filter}
+use Rattle.std.proofs.lemmas.List.Kept.{AllPairs-filter}
 use Rattle.goal_graph.specs.declared.action.OpId.{OpId}
 use Rattle.goal_graph.specs.declared.action.Why.TheVariants as why
 use Rattle.goal_graph.specs.declared.plan.Need.{Need}
@@ -12,8 +13,11 @@ use Rattle.goal_graph.specs.Action.{Act}
 use Rattle.goal_graph.specs.Matching.{fits}
 use Rattle.goal_graph.specs.Allowed.{has_started, is_met}
 use Rattle.goal_graph.specs.Fault.{IsOp}
-use Rattle.goal_graph.proofs.ForCallers.{listed_exist}
+use Rattle.goal_graph.specs.Order.{IsBefore}
+use Rattle.goal_graph.proofs.ForCallers.{listed_exist, operations_in_order}
 use Rattle.sim_params.specs.Stuck.{first_unmet, first_absent, partner_or_alone, reason_by, reason}
+use Rattle.sim_stuck.specs.declared.partner.Firsts.{Firsts}
+use Rattle.sim_stuck.specs.Patterns.{AreFirsts}
 use Rattle.sim_stuck.proofs.Kept.{find_kept}
 
 abbrev pub is_unstarted : List Plan → List Act → OpId → Bool
@@ -35,14 +39,20 @@ module _ (plans : List Plan) (eager : OpId → Bool) (h : List Act) where
         go (Some d) e = ap why.Op (same_Some y (needed x d) e)
 
     -- where all is there, the first that fits among those that have not started is
-    pub met_reason : (read : List Plan) (ids : List OpId) (r : Option OpId) → read ≡ plans → ids ≡ filter (is_unstarted plans h) (operations plans)
+    pub met_reason : (read : List Plan) (firsts : Firsts) (r : Option OpId) → read ≡ plans → AreFirsts plans (filter (is_unstarted plans h) (operations plans)) firsts
         → None ≡ option_map (needed x) (first_unmet plans eager h x)
-        → r ≡ find (λ (y : OpId). fits read x y || fits read y x) ids
+        → ((ids : List OpId) → AllPairs IsBefore ids → AreFirsts read ids firsts → r ≡ find (λ (y : OpId). fits read x y || fits read y x) ids)
         → partner_or_alone plans eager r ≡ reason plans eager h x
     unfolding reason first_absent
-    met_reason read ids r same is e f =
-        ap (partner_or_alone plans eager) (f ∙ ap (λ (ps : List Plan). find (λ (y : OpId). fits ps x y || fits ps y x) ids) same ∙ ap (find (λ (y : OpId). fits plans x y || fits plans y x)) is ∙ find_kept (λ (y : OpId). fits plans x y || fits plans y x) (is_unstarted plans h) (operations plans)) ∙ go (first_unmet plans eager h x) e
+    met_reason read firsts r same are e f =
+        ap (partner_or_alone plans eager) (found ∙ ap (λ (ps : List Plan). find (λ (y : OpId). fits ps x y || fits ps y x) absent) same ∙ find_kept (λ (y : OpId). fits plans x y || fits plans y x) (is_unstarted plans h) (operations plans)) ∙ go (first_unmet plans eager h x) e
       where
+        absent : List OpId
+        absent = filter (is_unstarted plans h) (operations plans)
+
+        found : r ≡ find (λ (y : OpId). fits read x y || fits read y x) absent
+        found = f absent (AllPairs-filter IsBefore (is_unstarted plans h) (operations plans) (operations_in_order plans)) (subst (λ (ps : List Plan). AreFirsts ps absent firsts) (sym same) are)
+
         go : (o : Option Need) → None ≡ option_map (needed x) o → partner_or_alone plans eager (first_absent plans eager h x) ≡ reason_by plans eager h x o
         go None e = refl
         go (Some d) e = absurd (cc e)
@@ -51,3 +61,8 @@ module _ (plans : List Plan) (eager : OpId → Bool) (h : List Act) where
 pub unstarted_exist : (plans read : List Plan) (h : List Act) (ids : List OpId) → read ≡ plans → ids ≡ filter (is_unstarted plans h) (operations plans) → All (IsOp read) ids
 unstarted_exist plans read h ids same is =
     subst (λ (xs : List OpId). All (IsOp read) xs) (sym is) (subst (λ (ps : List Plan). All (IsOp ps) (filter (is_unstarted plans h) (operations plans))) (sym same) (All-filter (is_unstarted plans h) (IsOp plans) (operations plans) (listed_exist plans plans (operations plans) refl refl)))
+
+-- the first of them, by pattern
+pub firsts_of_unstarted : (plans read : List Plan) (h : List Act) (ids : List OpId) (firsts : Firsts) → read ≡ plans → ids ≡ filter (is_unstarted plans h) (operations plans) → AreFirsts read ids firsts → AreFirsts plans (filter (is_unstarted plans h) (operations plans)) firsts
+firsts_of_unstarted plans read h ids firsts same is are =
+    subst (λ (xs : List OpId). AreFirsts plans xs firsts) is (subst (λ (ps : List Plan). AreFirsts ps ids firsts) same are)

@@ -4,6 +4,7 @@
 
 mod lines;
 mod partner;
+mod pattern;
 mod reasons;
 mod stuck;
 

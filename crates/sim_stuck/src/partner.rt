@@ -1,68 +1,115 @@
-// Which operations fit one another.
-ghost use Rattle.std.specs.Prelude.{◌≡◌, ◌||◌, Some, All, find};
+//! The first operations that fit one another.
+ghost use Rattle.std.specs.Prelude.{◌≡◌, ◌||◌, List, Some, cond, All, AllPairs, IfOk, OnOk, find};
+ghost use Rattle.std.specs.BTreeMap.{get};
+ghost use Rattle.goal_graph.specs.declared.action.OpId.{OpId};
 ghost use Rattle.goal_graph.specs.Fault.{IsOp};
-ghost use Rattle.goal_graph.specs.Matching.{accepts, fits, fits_kinds};
+ghost use Rattle.goal_graph.specs.Matching.{fits};
+ghost use Rattle.goal_graph.specs.Order.{IsBefore};
+ghost use Rattle.sim_stuck.specs.declared.pattern.Pattern.{Pattern};
+ghost use Rattle.sim_stuck.specs.Patterns.{pattern_cmp, is_for, is_by, least, AreFirsts};
 
+use crate::pattern::{Pattern, patterns_for};
+use goal_base::NoMemory;
 use goal_graph::{Kind, OpId, Sched};
+use std::alloc::Global;
+use std::collections::BTreeMap;
 
-/// The first of the operations that fits another: one of the two is a send and the other a receive that takes its
-/// message.
-pub fn first_that_fits(sched: &Sched, ids: &[OpId], id: OpId) -> Option<OpId>
-    requires op { IsOp sched.now id }
-    requires ids { All (IsOp sched.now) ids.now }
-    ensures { result ≡ find (λ y. fits sched.now id y || fits sched.now y id) ids.now }
-{
-    for other in ids {
-        if are_fit(sched, id, *other) {
-            return Some(*other);
+/// Of a list of operations, the first send for each pattern and the first receive of each.
+#[derive(Drop)]
+pub struct Firsts {
+    pub sends: BTreeMap<Pattern, OpId>,
+    pub receives: BTreeMap<Pattern, OpId>,
+}
+
+impl Firsts {
+    /// The first of these operations, by pattern. `NoMemory` where memory ran out.
+    pub fn of(alloc: Global, sched: &Sched, ids: &[OpId]) -> Result<Firsts, NoMemory>
+        requires { All (IsOp sched.now) ids.now }
+        ensures { IfOk result (AreFirsts sched.now ids.now) }
+    {
+        let mut firsts = Firsts {
+            sends: BTreeMap::new(alloc),
+            receives: BTreeMap::new(alloc),
+        };
+        let mut left = ids.len();
+        while left > 0 {
+            left -= 1;
+            let id = ids[left];
+            firsts.put(id, sched.op(id).kind)?;
+        }
+        Ok(firsts)
+    }
+
+    // Puts an operation of that kind before the others.
+    fn put(&mut self, id: OpId, kind: Kind) -> Result<(), NoMemory>
+        ensures sends { OnOk result ((q : Pattern) → get pattern_cmp self.new.sends q
+            ≡ cond (is_for q id (Some kind)) (Some id) (get pattern_cmp self.old.sends q)) }
+        ensures receives { OnOk result ((q : Pattern) → get pattern_cmp self.new.receives q
+            ≡ cond (is_by q id (Some kind)) (Some id) (get pattern_cmp self.old.receives q)) }
+    {
+        match kind {
+            Kind::Recv { from, tag, .. } => {
+                let rank = id.rank;
+                self.receives.insert(Pattern { rank, from, tag }, id)?;
+            }
+            Kind::Send { to, tag, .. } => {
+                let [exact, any_tag, any_source, any] = patterns_for(id.rank, to, tag);
+                self.sends.insert(exact, id)?;
+                self.sends.insert(any_tag, id)?;
+                self.sends.insert(any_source, id)?;
+                self.sends.insert(any, id)?;
+            }
+            Kind::Calc { .. } => {}
+        }
+        Ok(())
+    }
+
+    /// The first of the operations that fits another: one of the two is a send and the other a receive that takes its
+    /// message.
+    pub fn first_that_fits(&self, sched: &Sched, id: OpId) -> Option<OpId>
+        requires { IsOp sched.now id }
+        ensures { (ids : List OpId) → AllPairs IsBefore ids → AreFirsts sched.now ids self.now
+            → result ≡ find (λ y. fits sched.now id y || fits sched.now y id) ids }
+    {
+        match sched.op(id).kind {
+            Kind::Recv { from, tag, .. } => {
+                let rank = id.rank;
+                self.sends.get(&Pattern { rank, from, tag }).copied()
+            }
+            Kind::Send { to, tag, .. } => self.first_receive(id.rank, to, tag),
+            Kind::Calc { .. } => None,
         }
     }
-    None
-}
 
-// Whether one of two operations is a send and the other a receive that takes its message.
-fn are_fit(sched: &Sched, id: OpId, other: OpId) -> bool
-    requires id { IsOp sched.now id }
-    requires other { IsOp sched.now other }
-    ensures { result ≡ (fits sched.now id other || fits sched.now other id) }
-{
-    takes(sched, id, other) || takes(sched, other, id)
-}
+    // The first receive of a pattern.
+    fn receive_by(&self, pattern: Pattern) -> Option<OpId>
+        ensures { result ≡ get pattern_cmp self.now.receives pattern }
+    {
+        self.receives.get(&pattern).copied()
+    }
 
-// Whether a receive takes the message of a send.
-fn takes(sched: &Sched, recv: OpId, send: OpId) -> bool
-    requires receive { IsOp sched.now recv }
-    requires send { IsOp sched.now send }
-    ensures { result ≡ fits sched.now recv send }
-{
-    takes_kind(recv, sched.op(recv).kind, send, sched.op(send).kind)
-}
-
-// Whether the receive `recv`, of the kind `room`, takes the message of `send`, of the kind `message`.
-fn takes_kind(recv: OpId, room: Kind, send: OpId, message: Kind) -> bool
-    ensures { result ≡ fits_kinds recv (Some room) send (Some message) }
-{
-    match room {
-        Kind::Recv {
-            from,
-            tag: wanted,
-            ..
-        } => match message {
-            Kind::Send { to, tag, .. } => {
-                to == recv.rank && accepts(from, send.rank) && accepts(wanted, tag)
-            }
-            Kind::Calc { .. } | Kind::Recv { .. } => false,
-        },
-        Kind::Calc { .. } | Kind::Send { .. } => false,
+    // The first receive for a message.
+    fn first_receive(&self, source: u32, to: u32, tag: u32) -> Option<OpId>
+        ensures { result ≡ least
+            (least (get pattern_cmp self.now.receives (record { rank = to; from = Some source; tag = Some tag }))
+            (get pattern_cmp self.now.receives (record { rank = to; from = Some source; tag = None })))
+            (least (get pattern_cmp self.now.receives (record { rank = to; from = None; tag = Some tag }))
+            (get pattern_cmp self.now.receives (record { rank = to; from = None; tag = None }))) }
+    {
+        let [exact, any_tag, any_source, any] = patterns_for(source, to, tag);
+        let of_source = least(self.receive_by(exact), self.receive_by(any_tag));
+        let of_any_source = least(self.receive_by(any_source), self.receive_by(any));
+        least(of_source, of_any_source)
     }
 }
 
-// A wildcard, or the number itself.
-fn accepts(pattern: Option<u32>, number: u32) -> bool
-    ensures { result ≡ accepts pattern number }
+// The lesser of two operations.
+fn least(a: Option<OpId>, b: Option<OpId>) -> Option<OpId>
+    ensures { result ≡ least a b }
 {
-    match pattern {
-        None => true,
-        Some(wanted) => wanted == number,
+    match (a, b) {
+        (Some(first), Some(second)) if second < first => b,
+        (None, _) => b,
+        _ => a,
     }
 }

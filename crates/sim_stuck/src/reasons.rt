@@ -8,9 +8,10 @@ ghost use Rattle.goal_graph.specs.Allowed.{has_started, has_ended, is_met};
 ghost use Rattle.sim_params.specs.Costs.{is_eager};
 ghost use Rattle.sim_params.specs.Run.{IsFinished};
 ghost use Rattle.sim_params.specs.Stuck.{first_unmet};
+ghost use Rattle.sim_stuck.specs.Patterns.{AreFirsts};
 ghost use Rattle.sim_stuck.specs.StuckList.{stuck_list, reason_of, IsInOrder, NamesListed, ListsStuck, AloneAreAlone};
 
-use crate::partner::first_that_fits;
+use crate::partner::Firsts;
 use goal_base::NoMemory;
 use goal_graph::{OpId, Sched, Stuck, When, Why};
 use sim_events::Engine;
@@ -28,8 +29,7 @@ use std::alloc::{AllocError, Global};
 /// - `named`: an operation that a reason names is listed itself.
 /// - `alone`: each operation that fits one that is alone has started, and is paired with another.
 ///
-/// For each stuck operation that has all it needs, it looks through the operations that have not started up to the first
-/// that fits. `NoMemory` where memory ran out.
+/// The first operation that fits is found by pattern, in logarithmic time. `NoMemory` where memory ran out.
 pub fn explain<C: Costs>(
     alloc: Global,
     sched: &Sched,
@@ -48,12 +48,13 @@ pub fn explain<C: Costs>(
 {
     engine.known();
     let absent = unstarted(alloc, engine)?;
+    let firsts = Firsts::of(alloc, engine.sched(), &absent)?;
     let mut list = Vec::new(alloc);
     for id in sched.operations() {
         if !has_ended(engine, *id) {
             list.push(Stuck {
                 op: *id,
-                why: reason(engine, &absent, *id),
+                why: reason(engine, &firsts, *id),
             })?;
         }
     }
@@ -74,17 +75,18 @@ fn unstarted<C: Costs>(alloc: Global, engine: &Engine<'_, C>) -> Result<Vec<OpId
     Ok(ids)
 }
 
-// The reason of an operation that has no end; `absent` are the operations that have not started.
-fn reason<C: Costs>(engine: &Engine<'_, C>, absent: &[OpId], id: OpId) -> Why
+// The reason of an operation that has no end; `firsts` are of the operations that have not started.
+fn reason<C: Costs>(engine: &Engine<'_, C>, firsts: &Firsts, id: OpId) -> Why
     requires op { IsOp engine.now.plans id }
-    requires absent { absent.now
-        ≡ filter (λ x. not (has_started engine.now.plans x (plain engine.now.history))) (operations engine.now.plans) }
+    requires firsts { AreFirsts engine.now.plans
+        (filter (λ x. not (has_started engine.now.plans x (plain engine.now.history))) (operations engine.now.plans))
+        firsts.now }
     ensures { result ≡ reason_of engine.now.plans (C.model engine.now.costs) engine.now.history id }
 {
     if let Some(unmet) = first_unmet(engine, id) {
         return Why::Op(unmet);
     }
-    match first_that_fits(engine.sched(), absent, id) {
+    match firsts.first_that_fits(engine.sched(), id) {
         Some(partner) => Why::Partner(partner),
         None => Why::Alone,
     }

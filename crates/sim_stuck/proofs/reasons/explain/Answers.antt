@@ -1,5 +1,16 @@
+use Rattle.std.proofs.Common.{◌∙◌}
+use Rattle.goal_graph.specs.Action.{plain}
+use Rattle.sim_stuck.proofs.ReasonCases.{unstarted_exist, firsts_of_unstarted}
 use Rattle.sim_stuck.proofs.ListFacts.{list_is, list_stuck, list_order, list_named, list_alone}
 use Rattle.sim_stuck.proofs.reasons.explain.Goals as goal
+
+pub of-requires : goal.of-requires
+of-requires g c =
+    unstarted_exist c.args.engine.now.plans c.sched.result.now (plain c.args.engine.now.history) c.deref.result.now c.sched.ensures (c.deref.ensures.value ∙ c.in_ok-absent.ensures)
+
+pub reason-requires-clause-firsts : goal.reason-requires-clause-firsts
+reason-requires-clause-firsts g c =
+    firsts_of_unstarted c.args.engine.now.plans c.sched.result.now (plain c.args.engine.now.history) c.deref.result.now c.in_ok-firsts.firsts c.sched.ensures (c.deref.ensures.value ∙ c.in_ok-absent.ensures) c.in_ok-firsts.ensures
 
 pub returns-clause-list : goal.returns-clause-list
 returns-clause-list g c =
