@@ -1,6 +1,7 @@
 //! From a text to its schedule.
 ghost use Rattle.std.specs.Prelude.{◌≡◌, ◌≢◌, IfOk, IfErr};
 ghost use Rattle.goal_graph.specs.Fault.{IsAccepted};
+ghost use Rattle.goal_graph.specs.Widths.{AreInWidth};
 ghost use Rattle.goal_parser.specs.Reads.{reads, plans, IsFaultOf, IsLimitFault, fault_of_plans};
 
 use crate::faults::TextFault;
@@ -22,6 +23,7 @@ fn fault_of_plans(fault: PlanFault) -> TextFault
 fn schedule_of(alloc: Global, text: &[u8]) -> Result<Sched, TextFault>
     ensures ok { IfOk result (λ sched. reads text.now ≡ plans sched) }
     ensures accepted { IfOk result (λ sched. IsAccepted sched) }
+    ensures widths { IfOk result (λ sched. AreInWidth sched) }
     ensures fault { IfErr result (λ fault. fault ≢ TextFault.NoMemory → IsFaultOf (reads text.now) fault) }
 {
     let mut reader = Reader::new(alloc);
@@ -34,7 +36,10 @@ fn schedule_of(alloc: Global, text: &[u8]) -> Result<Sched, TextFault>
         Err(fault) => return Err(fault),
     };
     match Sched::build(alloc, plans) {
-        Ok(sched) => Ok(sched),
+        Ok(sched) => {
+            let _plans = sched.plans();
+            Ok(sched)
+        }
         Err(fault) => Err(fault_of_plans(fault)),
     }
 }
@@ -50,6 +55,9 @@ pub fn read_text(alloc: Global, text: &[u8]) -> Result<Sched, TextFault>
     // The plans are those of the text, and they are a schedule.
     ensures ok { IfOk result (λ sched. reads text.now ≡ plans sched) }
     ensures accepted { IfOk result (λ sched. IsAccepted sched) }
+
+    // So it has a compiled file, which is read as it.
+    ensures widths { IfOk result (λ sched. AreInWidth sched) }
 
     // The fault is that of the text, or else that of its plans.
     ensures fault { IfErr result (λ fault. fault ≢ TextFault.NoMemory → IsFaultOf (reads text.now) fault) }
