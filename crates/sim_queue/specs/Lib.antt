@@ -1,5 +1,6 @@
 -- What a reader must believe.
 pub mod Map
+pub mod Row
 -- What only the code keeps.
 pub mod Scan
 pub mod Heap

@@ -4,6 +4,7 @@
 mod floor_queue;
 mod groups;
 mod queue;
+mod row;
 mod sift;
 mod slot_heap;
 #[cfg(test)]
@@ -13,5 +14,6 @@ mod vec_queue;
 pub use floor_queue::FloorQueue;
 pub use groups::{Groups, Home};
 pub use queue::EventQueue;
+pub use row::row_28;
 pub use slot_heap::SlotHeap;
 pub use vec_queue::VecQueue;
