@@ -2,7 +2,7 @@ use Rattle.std.proofs.Common.{◌≡◌, ◌<◌, Some, length, slice_get, refl,
 use Rattle.std.proofs.lemmas.Option.{slice_get_read}
 use Rattle.goal_graph.specs.Schedule.{Plan}
 use Rattle.sim_params.proofs.ForCallers.{is_op_at}
-use Rattle.sim_events.proofs.tests.known.Goals as goal
+use Rattle.sim_events.proofs.tests.told.Goals as goal
 
 pub record-start-requires : goal.record-start-requires
 record-start-requires g c =
