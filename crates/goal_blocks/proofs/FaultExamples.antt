@@ -13,7 +13,7 @@ use Rattle.goal_graph.specs.Laws.{IsSend, IsReceive}
 use Rattle.goal_graph.specs.Order.{IsBefore, IsLess}
 use Rattle.goal_blocks.specs.declared.collective.Collective.TheVariants.{Bcast}
 use Rattle.goal_blocks.specs.declared.cert_fault.CertFault.{CertFault}
-use Rattle.goal_blocks.specs.declared.cert_fault.CertFault.TheVariants.{TooLarge, Wildcard, DoubleChannel, Unpaired, Lengths, Race, Stalls, Weight, Wrong}
+use Rattle.goal_blocks.specs.declared.cert_fault.CertFault.TheVariants.{TooLarge, Wildcard, DoubleChannel, Unpaired, Lengths, Race, Stalls, Weight, Wrong, NoMemory}
 use Rattle.goal_blocks.specs.Collectives.{initial, is_value, wanted}
 use Rattle.goal_blocks.specs.Channels.{channel}
 use Rattle.goal_blocks.specs.Slots.{slots_from, notes_at, slots}
@@ -99,6 +99,7 @@ wrong_root = record { has = record { holds = (omega arith, holds); none_less = n
     none_before (Stalls op) l has = excludes two other (λ r k v. true) (Stalls op) has certified
     none_before (Weight total) l has = excludes two other (λ r k v. true) (Weight total) has certified
     none_before (Wrong rank slot) l has = absurd (omega (arith, l))
+    none_before NoMemory l has = has
 
 -- nothing is less than the first operation
 first_op : (y : OpId) → IsLess (op_key y) (0 ∷ 0 ∷ []) → ⊥

@@ -13,7 +13,7 @@ use Rattle.goal_graph.specs.Schedule.{Plan, kind_at, ops_at}
 use Rattle.goal_graph.specs.Action.{Act}
 use Rattle.goal_graph.specs.Order.{IsBefore}
 use Rattle.goal_blocks.specs.declared.cert_fault.CertFault.{CertFault}
-use Rattle.goal_blocks.specs.declared.cert_fault.CertFault.TheVariants.{TooLarge, Wildcard, DoubleChannel, Unpaired, Lengths, Race, Stalls, Weight, Wrong}
+use Rattle.goal_blocks.specs.declared.cert_fault.CertFault.TheVariants.{TooLarge, Wildcard, DoubleChannel, Unpaired, Lengths, Race, Stalls, Weight, Wrong, NoMemory}
 use Rattle.goal_blocks.specs.Channels.{HasNoWildcard, HasNoDoubleChannel, HasNoUnpaired}
 use Rattle.goal_blocks.specs.Slots.{notes_at}
 use Rattle.goal_blocks.specs.Race.{HasNoRace}
@@ -102,3 +102,4 @@ module _ (plans : List Plan) where
     excludes wanted (Wrong rank slot) has certified =
         let stall = certified.matched.no_stall in
         both_ways _ (has.holds.1 stall.walk stall.is_walk) (certified.right rank slot has.holds.0)
+    excludes wanted NoMemory has certified = has

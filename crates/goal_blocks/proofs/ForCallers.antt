@@ -4,3 +4,10 @@ pub use Rattle.goal_blocks.proofs.RingAndTree.{ahead_below, back_below, digits_f
 pub use Rattle.goal_blocks.proofs.Trees.{child_below, rounds_few}
 pub use Rattle.goal_blocks.proofs.EntryFacts.{kind_there, kind_only, needs_there, slots_there, adds_there}
 pub use Rattle.goal_blocks.proofs.MessagesPaired.{messages_paired}
+pub use Rattle.goal_blocks.proofs.Right.{certified_right}
+pub use Rattle.goal_blocks.proofs.NoFault.{small_from, wildcard_from, double_from, unpaired_from, lengths_from, race_from, light_from, cases_order, faultless}
+pub use Rattle.goal_blocks.proofs.Least.{below, none_holds}
+pub use Rattle.goal_blocks.proofs.EndsBefore.{search_in, cases_before}
+pub use Rattle.goal_blocks.proofs.Channels.{fits_channel, channel_fits, channels_apart}
+pub use Rattle.goal_blocks.proofs.Walk.{one_walk}
+pub use Rattle.goal_blocks.proofs.SomeWalk.{IsFirst, takes_first, nothing_left, some_walk}

@@ -34,7 +34,7 @@ use Rattle.goal_blocks.proofs.Least.{below, none_holds}
 use Rattle.goal_blocks.proofs.SomeWalk.{some_walk}
 use Rattle.goal_blocks.proofs.Walk.{one_walk}
 
-cases_order : (x y : OpId) → IsBefore x y ⊎ (IsBefore y x ⊎ (x ≡ y))
+pub cases_order : (x y : OpId) → IsBefore x y ⊎ (IsBefore y x ⊎ (x ≡ y))
 cases_order x y =
     ⊎_elim (λ l. inl (inl l)) (λ g. ⊎_elim (λ l. inr (inl (inl l))) (λ h. let e : x.rank ≡ y.rank = omega (arith, g, h) in ⊎_elim (λ l. inl (inr (e, l))) (λ i. ⊎_elim (λ l. inr (inl (inr (sym e, l)))) (λ j. let f : x.op ≡ y.op = omega (arith, i, j) in inr (inr (λ k. record { rank = e k; op = f k }))) (cases_lt y.op x.op)) (cases_lt x.op y.op)) (cases_lt y.rank x.rank)) (cases_lt x.rank y.rank)
 
@@ -54,14 +54,14 @@ module _ (plans : List Plan) where
   moves_small (p ∷ ps) none =
       ⊎_elim (λ over. absurd (none (length ps) (omega arith) (subst (λ (qs : List Plan). 2 ^ 24 < sum_by (λ (p : Plan). sum_by moved_count p.notes) qs) (sym (take_all (length ps + 1) (p ∷ ps) (omega arith))) over))) (λ few. few) (cases_lt (2 ^ 24) (sum_by (λ (p : Plan). sum_by moved_count p.notes) (p ∷ ps)))
 
-  small_from : ((rank : ℕ) → IsLarge plans rank → ⊥) → IsSmall plans
+  pub small_from : ((rank : ℕ) → IsLarge plans rank → ⊥) → IsSmall plans
   small_from none = record {
     operations = λ k d l. ⊎_elim (λ over. absurd (none k (too_many (subst (λ (n : ℕ). 2048 < n) (sym (ap length (ops_at_some plans k (get_or plans k d) (slice_get-get_or plans k d l)))) over)))) (λ few. few) (cases_lt 2048 (length (get_or plans k d).ops));
     slots = λ k d l j e m. ⊎_elim (λ low. low) (λ high. absurd (none k (too_high (get_or (get_or plans k d).notes j e) (subst (λ (ns : List Note). Contains ns (get_or (get_or plans k d).notes j e)) (sym (notes_of_rank k d l)) (All-contains_itself (get_or plans k d).notes j e m)) high))) (cases_low (get_or (get_or plans k d).notes j e));
     moves = moves_small plans (λ rank l over. none rank (too_much l over));
   }
 
-  wildcard_from : ((x : OpId) → IsWildcard plans x → ⊥) → HasNoWildcard plans
+  pub wildcard_from : ((x : OpId) → IsWildcard plans x → ⊥) → HasNoWildcard plans
   wildcard_from none x room from tag e = (known (is_some from) refl, told (is_some tag) refl)
     where
       known : (b : Bool) → is_some from ≡ b → b ≡ true
@@ -72,13 +72,13 @@ module _ (plans : List Plan) where
       told true f = refl
       told false f = absurd (none x (record { room = room; from = from; tag = tag; kind = e; any = inr f }))
 
-  double_from : ((y x : OpId) → AreDouble plans y x → ⊥) → HasNoDoubleChannel plans
+  pub double_from : ((y x : OpId) → AreDouble plans y x → ⊥) → HasNoDoubleChannel plans
   double_from none = record {
     sends = λ m n c p q e f. ⊎_elim (λ b. absurd (none m n (record { in_order = b; alike = inl (p, q); shared = c; of_first = e; of_second = f }))) (λ r. ⊎_elim (λ b. absurd (none n m (record { in_order = b; alike = inl (q, p); shared = c; of_first = f; of_second = e }))) (λ s. s) r) (cases_order m n);
     receives = λ m n c p q e f. ⊎_elim (λ b. absurd (none m n (record { in_order = b; alike = inr (p, q); shared = c; of_first = e; of_second = f }))) (λ r. ⊎_elim (λ b. absurd (none n m (record { in_order = b; alike = inr (q, p); shared = c; of_first = f; of_second = e }))) (λ s. s) r) (cases_order m n);
   }
 
-  unpaired_from : HasNoWildcard plans → ((x : OpId) → IsUnpaired plans x → ⊥) → HasNoUnpaired plans
+  pub unpaired_from : HasNoWildcard plans → ((x : OpId) → IsUnpaired plans x → ⊥) → HasNoUnpaired plans
   unpaired_from known none = record {
     sends = λ m p. ⊎_elim (λ found. (found.0, fits_channel plans found.0 m known found.2)) (λ nothing. absurd (none m (inl (p, λ y one. nothing y (kind_listed plans y _ one.is_receive.kind) (channel_fits plans y m one))))) (search_in (λ (x : OpId). fits plans x m ≡ true) (operations plans) (λ x c. cases_fit x m));
     receives = λ x p. ⊎_elim (λ found. (found.0, fits_channel plans x found.0 known found.2)) (λ nothing. absurd (none x (inr (p, λ m one. nothing m (kind_listed plans m _ one.is_send.kind) (channel_fits plans x m one))))) (search_in (λ (m : OpId). fits plans x m ≡ true) (operations plans) (λ m c. cases_fit x m));
@@ -87,7 +87,7 @@ module _ (plans : List Plan) where
       cases_fit : (x m : OpId) → (fits plans x m ≡ true) ⊎ (fits plans x m ≡ true → ⊥)
       cases_fit x m = ⊎_elim (λ e. inl e) (λ e. inr (λ f. both_ways _ e f)) (cases_Bool (fits plans x m))
 
-  lengths_from : ((m x : OpId) → HaveOtherLengths plans m x → ⊥) → HasEqualLengths plans
+  pub lengths_from : ((m x : OpId) → HaveOtherLengths plans m x → ⊥) → HasEqualLengths plans
   lengths_from none m x one =
       ⊎_elim (λ e. e) (λ differ. absurd (none m x (record { one = one; differ = differ }))) (cases_eq (length (slots plans m)) (length (slots plans x)))
 
@@ -110,7 +110,7 @@ module _ (plans : List Plan) where
         same : y ≡ record { rank = x.rank; op = y.op }
         same = λ i. record { rank = sym e i; op = y.op }
 
-    race_from : IsAccepted plans → HasNoRace plans
+    pub race_from : IsAccepted plans → HasNoRace plans
     race_from accepted x y c =
         ⊎_elim (λ b. inl b) (λ nb. ⊎_elim (λ b. inr b) (λ na. absurd (neither nb na)) (cases_before plans y (depth_x).bound x (depth_x).below)) (cases_before plans x (depth_y).bound y (depth_y).below)
       where
@@ -140,7 +140,7 @@ module _ (plans : List Plan) where
         let adds_are = adds_light h (held_after plans no_send first h) a.op (kind_at plans a.op) (λ n much. none n (inr (light, inl much))) in
         (light, adds_are, ⊎_elim (λ over. absurd (none (weight plans (a ∷ h) (held_after plans no_send first (a ∷ h))) (inr (light, inr (adds_are, refl, over))))) (λ few. few) (cases_lt (2 ^ 24) (weight plans (a ∷ h) (held_after plans no_send first (a ∷ h)))))
 
-    light_from : (h : List Act) → ((total : ℕ) → IsFirstTooHeavy plans first h total → ⊥) → IsLight plans first h
+    pub light_from : (h : List Act) → ((total : ℕ) → IsFirstTooHeavy plans first h total → ⊥) → IsLight plans first h
     light_from [] none =
         ⊎_elim (λ over. absurd (none (weight plans [] (held_after plans no_send first [])) (refl, over))) (λ few. few) (cases_lt (2 ^ 24) (weight plans [] (held_after plans no_send first [])))
     light_from (a ∷ h) none = light_more a h (light_from h (λ n heavy. none n (inl heavy))) none

@@ -8,7 +8,7 @@ use Rattle.goal_graph.specs.Schedule.{Plan, kind_at}
 use Rattle.goal_graph.specs.Action.{Act}
 use Rattle.goal_graph.specs.Order.{IsLess}
 use Rattle.goal_blocks.specs.declared.cert_fault.CertFault.{CertFault}
-use Rattle.goal_blocks.specs.declared.cert_fault.CertFault.TheVariants.{TooLarge, Wildcard, DoubleChannel, Unpaired, Lengths, Race, Stalls, Weight, Wrong}
+use Rattle.goal_blocks.specs.declared.cert_fault.CertFault.TheVariants.{TooLarge, Wildcard, DoubleChannel, Unpaired, Lengths, Race, Stalls, Weight, Wrong, NoMemory}
 use Rattle.goal_blocks.specs.Walk.{no_send}
 use Rattle.goal_blocks.specs.Values.{Value, Store, Held, held_after}
 use Rattle.goal_blocks.specs.Weight.{weight_within}
@@ -84,6 +84,7 @@ module _ (plans : List Plan) (first : Store) where
     same_fault (Wrong r s) (Wrong q t) e a b =
         let same = one_least 2 slot_key (λ a. refl) (IsWrong plans first wanted) (record { rank = r; slot = s }) (record { rank = q; slot = t }) a b in
         λ i. Wrong (at 0 (same i)) (at 1 (same i))
+    same_fault NoMemory NoMemory e a b = absurd a
     same_fault _ _ e a b = absurd (omega (arith, e))
 
     pub one_fault : (f g : CertFault) → IsCertificationFault plans first wanted f → IsCertificationFault plans first wanted g → f ≡ g

@@ -12,7 +12,7 @@ use Rattle.goal_graph.specs.Order.{IsBefore, IsLess}
 use Rattle.goal_graph.specs.Fault.{IsOp, IsAccepted}
 use Rattle.goal_graph.specs.Laws.{IsSend, IsReceive}
 use Rattle.goal_blocks.specs.declared.cert_fault.CertFault.{CertFault}
-use Rattle.goal_blocks.specs.declared.cert_fault.CertFault.TheVariants.{TooLarge, Wildcard, DoubleChannel, Unpaired, Lengths, Race, Stalls, Weight, Wrong}
+use Rattle.goal_blocks.specs.declared.cert_fault.CertFault.TheVariants.{TooLarge, Wildcard, DoubleChannel, Unpaired, Lengths, Race, Stalls, Weight, Wrong, NoMemory}
 use Rattle.goal_blocks.specs.Channels.{Channel, channel, AreOfOneChannel}
 use Rattle.goal_blocks.specs.Slots.{notes_at, slots, written, touched}
 use Rattle.goal_blocks.specs.Race.{EndsBefore}
@@ -140,6 +140,8 @@ HasFault plans first wanted (Weight total) =
     (w : List Act) → IsWalk plans w → IsFirstTooHeavy plans first w total
 HasFault plans first wanted (Wrong rank slot) =
     IsLeast slot_key (IsWrong plans first wanted) (record { rank = rank; slot = slot })
+-- want of memory is no fault of a schedule
+HasFault plans first wanted NoMemory = ⊥
 
 -- the place of a kind of fault in the order in which they are told
 abbrev pub fault_place : CertFault → ℕ
@@ -152,6 +154,7 @@ fault_place (Race rank lower higher slot) = 5
 fault_place (Stalls op) = 6
 fault_place (Weight total) = 7
 fault_place (Wrong rank slot) = 8
+fault_place NoMemory = 9
 
 -- the first fault of a schedule
 pub record IsCertificationFault (plans : List Plan) (first : Store) (wanted : ℕ → ℕ → Value → Bool) (fault : CertFault) : Type 0 where

@@ -1,5 +1,9 @@
 // Why a schedule is not certified.
+ghost use Rattle.std.specs.Prelude.{◌≡◌};
+ghost use Rattle.goal_blocks.specs.declared.cert_fault.CertFault.TheVariants.{NoMemory};
+
 use goal_graph::OpId;
+use std::alloc::{AllocError, AllocFailed};
 
 /// Why a schedule is not certified for a collective, in the order in which the first fault is told. Of each kind the
 /// least is told: by rank and number of the operation, or by the numbers in the order of the fields.
@@ -48,4 +52,22 @@ pub enum CertFault {
         rank: u32,
         slot: u32,
     },
+    /// Memory ran out: nothing is said of the schedule.
+    NoMemory,
+}
+
+impl From<AllocError> for CertFault {
+    ghost from_gives = { λ _ fault. fault ≡ NoMemory };
+
+    fn from(_error: AllocError) -> CertFault {
+        CertFault::NoMemory
+    }
+}
+
+impl<T: Drop> From<AllocFailed<T>> for CertFault {
+    ghost from_gives = { λ _ fault. fault ≡ NoMemory };
+
+    fn from(_error: AllocFailed<T>) -> CertFault {
+        CertFault::NoMemory
+    }
 }

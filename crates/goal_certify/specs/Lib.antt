@@ -1,0 +1,2 @@
+-- What only the code keeps.
+pub mod Stages

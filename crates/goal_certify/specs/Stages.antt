@@ -1,0 +1,30 @@
+-- Certification looks for the faults in stages, each of which looks for some kinds of faults that follow one another in
+-- the order in which they are told.
+use Rattle.std.specs.Prelude.{ℕ, ◌≡◌, ◌<◌, ◌≤◌, ◌⊎◌, Bool, List}
+use Rattle.goal_graph.specs.Schedule.{Plan}
+use Rattle.goal_blocks.specs.declared.cert_fault.CertFault.{CertFault}
+use Rattle.goal_blocks.specs.declared.cert_fault.CertFault.TheVariants.{NoMemory}
+use Rattle.goal_blocks.specs.Values.{Value, Store}
+use Rattle.goal_blocks.specs.Faults.{HasFault, fault_place}
+
+-- the schedule has no fault of a kind whose place is at least `from` and below `end`
+abbrev pub HasNone : List Plan → Store → (ℕ → ℕ → Value → Bool) → ℕ → ℕ → Type 0
+HasNone plans first wanted from end =
+    (fault : CertFault) → from ≤ fault_place fault → fault_place fault < end → HasFault plans first wanted fault → ⊥
+
+-- a fault of one of these kinds, and no fault of an earlier one of them
+pub record IsFirstOf (plans : List Plan) (first : Store) (wanted : ℕ → ℕ → Value → Bool) (from end : ℕ) (fault : CertFault) : Type 0 where
+  pub has : HasFault plans first wanted fault
+  pub not_under : from ≤ fault_place fault
+  pub under : fault_place fault < end
+  pub none_before : HasNone plans first wanted from (fault_place fault)
+
+-- The answers of a stage whose kinds of faults say nothing of the values of slots: none of these kinds,
+abbrev pub IsFree : List Plan → ℕ → ℕ → Type 0
+IsFree plans from end =
+    (first : Store) (wanted : ℕ → ℕ → Value → Bool) → HasNone plans first wanted from end
+
+-- or the first fault, or want of memory.
+abbrev pub IsStopped : List Plan → ℕ → ℕ → CertFault → Type 0
+IsStopped plans from end fault =
+    (fault ≡ NoMemory) ⊎ ((first : Store) (wanted : ℕ → ℕ → Value → Bool) → IsFirstOf plans first wanted from end fault)
