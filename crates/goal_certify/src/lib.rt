@@ -1,2 +1,4 @@
 //! Whether a schedule does what a collective wants, in every interleaving: the first fault of it, or none.
 #![tactic(auto)]
+
+mod sizes;
