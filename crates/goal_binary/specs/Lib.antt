@@ -7,3 +7,7 @@ pub mod FaultWords
 pub mod Fields
 pub mod Reading
 pub mod Meaning
+-- What the clauses cite of lower crates.
+pub use Rattle.goal_graph.specs.Fault
+pub use Rattle.goal_graph.specs.Schedule
+pub use Rattle.goal_graph.specs.Widths

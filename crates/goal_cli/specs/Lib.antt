@@ -4,3 +4,15 @@ pub mod Input
 pub mod Output
 pub mod Refusal
 pub mod Answer
+-- What the clauses cite of lower crates.
+pub use Rattle.goal_base.specs.Device
+pub use Rattle.goal_base.specs.Text
+pub use Rattle.goal_binary.specs.File
+pub use Rattle.goal_graph.specs.Schedule
+pub use Rattle.goal_print.specs.Canonical
+pub use Rattle.goal_words.specs.Words
+pub use Rattle.sim_events.specs.Engine
+pub use Rattle.sim_params.specs.Budget
+pub use Rattle.sim_params.specs.Costs
+pub use Rattle.sim_params.specs.Numbers
+pub use Rattle.sim_params.specs.Run

@@ -1,1 +1,8 @@
 pub mod GenFaults
+-- What the clauses cite of lower crates.
+pub use Rattle.goal_blocks.specs.Collectives
+pub use Rattle.goal_blocks.specs.Generated
+pub use Rattle.goal_blocks.specs.Made
+pub use Rattle.goal_blocks.specs.Positions
+pub use Rattle.goal_blocks.specs.Steps
+pub use Rattle.goal_graph.specs.Fault

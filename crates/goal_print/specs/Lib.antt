@@ -2,3 +2,5 @@
 pub mod Canonical
 -- Laws.
 pub mod Laws
+-- What the clauses cite of lower crates.
+pub use Rattle.goal_parser.specs.Reads

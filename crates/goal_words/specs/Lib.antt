@@ -1,3 +1,5 @@
 -- What a reader must believe.
 pub mod Options
 pub mod Words
+-- What the clauses cite of lower crates.
+pub use Rattle.sim_params.specs.Numbers

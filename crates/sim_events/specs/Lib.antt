@@ -7,3 +7,17 @@ pub mod Enabled
 pub mod Represents
 pub mod Stations
 pub mod Cursors
+-- What the clauses cite of lower crates.
+pub use Rattle.goal_graph.specs.Action
+pub use Rattle.goal_graph.specs.Fault
+pub use Rattle.goal_graph.specs.Interleaving
+pub use Rattle.goal_graph.specs.Schedule
+pub use Rattle.sim_order.specs.Events
+pub use Rattle.sim_params.specs.Budget
+pub use Rattle.sim_params.specs.Costs
+pub use Rattle.sim_params.specs.Run
+pub use Rattle.sim_params.specs.Times
+pub use Rattle.sim_queue.specs.Floors
+pub use Rattle.sim_queue.specs.Map
+pub use Rattle.goal_graph.specs.Laws as ScheduleLaws
+pub use Rattle.sim_params.specs.Laws as RunLaws

@@ -6,3 +6,9 @@ pub mod Capacities
 pub mod Packed
 pub mod Matcher
 pub mod Laws
+-- What the clauses cite of lower crates.
+pub use Rattle.goal_graph.specs.Action
+pub use Rattle.goal_graph.specs.Fault
+pub use Rattle.goal_graph.specs.Matching
+pub use Rattle.goal_graph.specs.Schedule
+pub use Rattle.goal_graph.specs.Laws as ScheduleLaws

@@ -11,3 +11,5 @@ pub mod Bounds
 pub mod Shares
 -- Laws.
 pub mod Laws
+-- What the clauses cite of lower crates.
+pub use Rattle.goal_graph.specs.Fault

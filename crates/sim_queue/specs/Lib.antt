@@ -6,3 +6,5 @@ pub mod Scan
 pub mod Heap
 pub mod Groups
 pub mod Floors
+-- What the clauses cite of lower crates.
+pub use Rattle.sim_order.specs.Events

@@ -1,0 +1,4 @@
+-- What the clauses cite of lower crates.
+pub use Rattle.goal_graph.specs.Laws
+pub use Rattle.sim_params.specs.Costs
+pub use Rattle.sim_resources.specs.FreeTimes
