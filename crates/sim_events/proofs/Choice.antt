@@ -1,5 +1,5 @@
 -- The possible action of one operation, class by class.
-use Rattle.std.proofs.Common.{◌≡◌, ◌⊎◌, true, false, List, Option, Some, None, inl, inr, refl, sym, ap, ◌∙◌, subst}
+use Rattle.std.proofs.Common.{◌≡◌, ◌⊎◌, true, false, List, Option, Some, None, is_some, inl, inr, refl, sym, ap, ◌∙◌, subst}
 use Rattle.std.specs.Option.{option_or}
 use Rattle.std.proofs.lemmas.Bool.{cond-true, cond-false, cases_Bool, both_ways, false_from_ne_true}
 use Rattle.goal_graph.specs.declared.action.OpId.{OpId}
@@ -16,6 +16,15 @@ use Rattle.sim_params.specs.Laws.{at_its_time}
 use Rattle.sim_params.proofs.ForCallers.{possible_at}
 use Rattle.sim_events.specs.Enabled.{enabled_action}
 use Rattle.sim_events.specs.Queue.{IsEnabledActionOf}
+
+-- the first of two that is there
+pub or_first : (a b : Option Timed) → is_some a ≡ true → a ≡ option_or a b
+or_first None b e = absurd (both_ways false refl e)
+or_first (Some x) b e = refl
+
+pub or_last : (a b : Option Timed) → is_some a ≡ false → b ≡ option_or a b
+or_last None b e = refl
+or_last (Some x) b e = absurd (both_ways true e refl)
 
 module _ (plans : List Plan) (costs : CostModel) (h : List Timed) (x : OpId) where
   abbrev pub Can : Class → Type 0

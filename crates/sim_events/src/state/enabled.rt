@@ -29,12 +29,41 @@ impl<'a, C: Costs> State<'a, C> {
     {
         match self.sched().op(id).kind {
             Kind::Calc { .. } => self.begin_of_calc(id, cursor),
-            Kind::Send { .. } => self
-                .begin_of_send(id, cursor)
-                .or(self.arrival(id))
-                .or(self.hand_over_of(id)),
-            Kind::Recv { .. } => self.post_of(id, cursor).or(self.serve_of(id)),
+            Kind::Send { .. } => self.choice_of_send(id, cursor),
+            Kind::Recv { .. } => self.choice_of_receive(id, cursor),
         }
+    }
+
+    // The possible action of a send, if it has one.
+    fn choice_of_send(&self, send: OpId, cursor: &mut Cursor) -> Option<Timed>
+        requires op { IsSend self.now.plans send }
+        requires cursor { IsCursorOf self.now.plans (C.model self.now.costs) self.now.history send cursor.old }
+        ensures enabled { IsEnabledActionOf self.now.plans (C.model self.now.costs) self.now.history send result }
+        ensures cursor { IsCursorOf self.now.plans (C.model self.now.costs) self.now.history send cursor.new }
+    {
+        let begin = self.begin_of_send(send, cursor);
+        if begin.is_some() {
+            return begin;
+        }
+        let arrival = self.arrival(send);
+        if arrival.is_some() {
+            return arrival;
+        }
+        self.hand_over_of(send)
+    }
+
+    // The possible action of a receive, if it has one.
+    fn choice_of_receive(&self, recv: OpId, cursor: &mut Cursor) -> Option<Timed>
+        requires op { IsReceive self.now.plans recv }
+        requires cursor { IsCursorOf self.now.plans (C.model self.now.costs) self.now.history recv cursor.old }
+        ensures enabled { IsEnabledActionOf self.now.plans (C.model self.now.costs) self.now.history recv result }
+        ensures cursor { IsCursorOf self.now.plans (C.model self.now.costs) self.now.history recv cursor.new }
+    {
+        let post = self.post_of(recv, cursor);
+        if post.is_some() {
+            return post;
+        }
+        self.serve_of(recv)
     }
 
     // The Begin of a calc: once it is ready and its cpu is free.

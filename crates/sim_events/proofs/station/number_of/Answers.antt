@@ -1,8 +1,7 @@
-use Rattle.std.proofs.Common.{◌≡◌, ◌≤◌, ℕ, [], ◌∷◌, ◌++◌, List, length, Some, slice_get, sym, ◌∙◌, ap, subst, arith, append-nil}
+use Rattle.std.proofs.Common.{◌≡◌, ℕ, [], ◌∷◌, ◌++◌, List, length, Some, slice_get, sym, ◌∙◌, ap, subst, arith, append-nil}
 use Rattle.std.proofs.lemmas.Option.{slice_get-get_or}
 use Rattle.sim_resources.proofs.ForCallers.{get_last}
 use Rattle.sim_events.specs.declared.station.Station.{Station}
-use Rattle.sim_events.specs.Stations.{HasNumber}
 use Rattle.sim_events.proofs.Numbering.{same_station_true}
 use Rattle.sim_events.proofs.station.number_of.Goals as goal
 

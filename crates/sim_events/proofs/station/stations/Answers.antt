@@ -1,4 +1,4 @@
-use Rattle.std.proofs.Common.{◌≡◌, ◌≤◌, List, length, get_or, Some, slice_get, ap, subst, arith}
+use Rattle.std.proofs.Common.{◌≡◌, List, length, get_or, Some, slice_get, ap, subst, arith}
 use Rattle.std.proofs.lemmas.List.{length-append}
 use Rattle.std.proofs.lemmas.Option.{slice_get-get_or}
 use Rattle.goal_graph.specs.declared.action.OpId.{OpId}
