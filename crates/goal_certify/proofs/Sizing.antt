@@ -1,7 +1,6 @@
 -- Which ranks are too large.
-use Rattle.std.proofs.Common.{⊎_elim, ℕ, ◌+◌, ◌*◌, ◌^◌, ◌<◌, ◌≤◌, ◌≡◌, ◌⊎◌, inl, inr, List, [], ◌∷◌, length, take, get_or, slice_get, Contains, All, Option, Some, None, refl, sym, ap, ◌∙◌, subst, arith}
+use Rattle.std.proofs.Common.{⊎_elim, ℕ, ◌+◌, ◌*◌, ◌^◌, ◌<◌, ◌≤◌, ◌≡◌, ◌⊎◌, inl, inr, List, [], length, take, get_or, slice_get, Contains, All, Some, refl, sym, ap, subst, arith}
 use Rattle.std.specs.List.{sum_by, Any}
-use Rattle.std.specs.Option.{option_map}
 use Rattle.std.proofs.lemmas.Bool.{cases_lt}
 use Rattle.std.proofs.lemmas.List.Elements.{All-contains}
 use Rattle.std.proofs.lemmas.Option.{slice_get_past, slice_get_read, slice_get_within, get_or_from_slice_get}
@@ -16,14 +15,14 @@ use Rattle.goal_graph.proofs.ForCallers.{lengths-le, ops_at_some}
 use Rattle.goal_blocks.specs.declared.cert_fault.CertFault.TheVariants.{TooLarge}
 use Rattle.goal_blocks.specs.Slots.{notes_at}
 use Rattle.goal_blocks.specs.Certification.{NamesLowSlots, moved_count}
-use Rattle.goal_blocks.specs.Faults.{IsLeast, rank_key, IsLarge, too_many, too_high, too_much}
+use Rattle.goal_blocks.specs.Faults.{IsLarge, too_many, too_high, too_much}
 use Rattle.goal_certify.specs.Stages.{IsStopped}
 use Rattle.goal_certify.proofs.StageLemmas.{stopped_by}
 
 abbrev pub moved_of : Plan → ℕ
 moved_of p = sum_by moved_count p.notes
 
-notes_at_some : (plans : List Plan) (rank : ℕ) (p : Plan) → slice_get plans rank ≡ Some p → notes_at plans rank ≡ p.notes
+pub notes_at_some : (plans : List Plan) (rank : ℕ) (p : Plan) → slice_get plans rank ≡ Some p → notes_at plans rank ≡ p.notes
 unfolding notes_at
 notes_at_some plans rank p e = rw e refl
 

@@ -1,5 +1,5 @@
 -- How the answers of stages join, what a stage without a fault says of the schedule, and what makes such an answer.
-use Rattle.std.proofs.Common.{⊎_elim, ℕ, ◌+◌, ◌<◌, ◌≤◌, ◌≡◌, ◌⊎◌, inl, inr, Bool, true, List, [], refl, arith}
+use Rattle.std.proofs.Common.{⊎_elim, ℕ, ◌+◌, ◌≤◌, ◌≡◌, inl, inr, Bool, true, List, [], Result, Ok, Err, OnOk, IfErr, refl, arith}
 use Rattle.std.proofs.lemmas.Bool.{cases_lt}
 use Rattle.goal_graph.specs.declared.action.OpId.{OpId}
 use Rattle.goal_graph.specs.Schedule.{Plan}
@@ -55,6 +55,15 @@ module _ (plans : List Plan) where
   stopped_sooner a b c fault le (inl e) = inl e
   stopped_sooner a b c fault le (inr is) =
       inr (λ first wanted. first_sooner first wanted a b c fault le (is first wanted))
+
+  -- the answer of a stage after one that has no fault
+  pub answer_free : {T : Type 0} (r : Result T CertFault) (a b c : ℕ) → IsFree plans a b → OnOk r (IsFree plans b c) → OnOk r (IsFree plans a c)
+  answer_free (Ok x) a b c lower upper = free_joined a b c lower upper
+  answer_free (Err fault) a b c lower upper = tt
+
+  pub answer_stopped : {T : Type 0} (r : Result T CertFault) (a b c : ℕ) → a ≤ b → IsFree plans a b → IfErr r (IsStopped plans b c) → IfErr r (IsStopped plans a c)
+  answer_stopped (Ok x) a b c le free stopped = tt
+  answer_stopped (Err fault) a b c le free stopped = stopped_later a b c fault le free stopped
 
   -- a fault of the one kind that a stage looks for is its first
   pub stopped_by : (n : ℕ) (fault : CertFault) → fault_place fault ≡ n → ((first : Store) (wanted : ℕ → ℕ → Value → Bool) → HasFault plans first wanted fault) → IsStopped plans n (n + 1) fault

@@ -1,2 +1,3 @@
 -- What only the code keeps.
 pub mod Stages
+pub mod Ends

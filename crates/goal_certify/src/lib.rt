@@ -1,4 +1,7 @@
 //! Whether a schedule does what a collective wants, in every interleaving: the first fault of it, or none.
 #![tactic(auto)]
 
+mod channels;
+mod ends;
 mod sizes;
+mod slot_counts;

@@ -1,11 +1,11 @@
 -- Ranks are tried in order.
-use Rattle.std.proofs.Common.{◌<◌, ◌≤◌, ◌^◌, ◌+◌, All, List, length, take, sym, ap, ◌∙◌, subst, arith}
-use Rattle.std.specs.List.{sum_by, Any}
+use Rattle.std.proofs.Common.{◌≤◌, ◌^◌, All, List, length, sym, ap, ◌∙◌, subst, arith}
+use Rattle.std.specs.List.{Any}
 use Rattle.goal_graph.specs.declared.plan.Note.{Note}
 use Rattle.goal_graph.specs.Schedule.{Plan}
 use Rattle.goal_blocks.specs.Certification.{NamesLowSlots}
 use Rattle.goal_certify.proofs.StageLemmas.{free_large}
-use Rattle.goal_certify.proofs.Sizing.{moved_of, none_more_below, none_large, stopped_by_ops, stopped_by_note, stopped_by_moves, rank_read, moves_more, few_notes}
+use Rattle.goal_certify.proofs.Sizing.{none_more_below, none_large, stopped_by_ops, stopped_by_note, stopped_by_moves, rank_read, moves_more, few_notes}
 use Rattle.goal_certify.proofs.sizes.check_sizes.Goals as goal
 
 pub returns-then-len-gt-MOST_OPS-clause-fault : goal.returns-then-len-gt-MOST_OPS-clause-fault

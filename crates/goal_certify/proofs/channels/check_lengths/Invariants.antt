@@ -1,0 +1,8 @@
+use Rattle.goal_graph.specs.declared.action.OpId.{OpId}
+use Rattle.goal_blocks.specs.Faults.{HaveOtherLengths}
+use Rattle.goal_certify.proofs.InOrder.{NoneSoFar}
+use Rattle.goal_certify.proofs.channels.check_lengths.Given as goal
+
+-- the operations so far have no such fault
+abbrev pub invariant-loop-id : goal.invariant-loop-id
+invariant-loop-id l = NoneSoFar l.sched (λ x. (recv : OpId) × HaveOtherLengths l.sched x recv) l.id-index

@@ -1,0 +1,46 @@
+-- The ends of channels: that of its sends, and that of its receives.
+use Rattle.std.specs.Prelude.{◌≡◌, true, false, not, List, Contains, Option, Some, None, All}
+use Rattle.std.specs.declared.cmp.Ordering.{Ordering}
+use Rattle.std.specs.Ordering.{nat_cmp, bool_cmp, ordering_then}
+use Rattle.goal_graph.specs.declared.action.OpId.{OpId}
+use Rattle.goal_graph.specs.declared.plan.Kind.{Kind}
+use Rattle.goal_graph.specs.declared.plan.Kind.TheVariants.{Send, Recv}
+use Rattle.goal_graph.specs.Schedule.{Plan, kind_at}
+use Rattle.goal_graph.specs.Order.{IsBefore}
+use Rattle.goal_certify.specs.declared.ends.End.{End}
+use Rattle.goal_certify.specs.declared.ends.Entry.{Entry}
+
+-- the end at which an operation x of that kind stands; a calc has none, and neither has a receive with a wildcard
+abbrev pub end_in : OpId → Option Kind → Option End
+end_in x (Some (Send bytes to tag)) = Some (record { source = x.rank; target = to; tag = tag; is_send = true })
+end_in x (Some (Recv room (Some from) (Some tag))) =
+    Some (record { source = from; target = x.rank; tag = tag; is_send = false })
+end_in x _ = None
+
+unfoldable pub end_of : List Plan → OpId → Option End
+end_of plans x = end_in x (kind_at plans x)
+
+-- the other end of its channel
+abbrev pub other_end : End → End
+other_end e = record e { is_send = not e.is_send }
+
+-- the orders of ends, and of the operations that stand at them
+abbrev pub end_cmp : End → End → Ordering
+end_cmp d e =
+    ordering_then (nat_cmp d.source e.source) (ordering_then (nat_cmp d.target e.target) (ordering_then (nat_cmp d.tag e.tag) (bool_cmp d.is_send e.is_send)))
+
+abbrev pub op_cmp : OpId → OpId → Ordering
+op_cmp x y = ordering_then (nat_cmp x.rank y.rank) (nat_cmp x.op y.op)
+
+abbrev pub entry_cmp : Entry → Entry → Ordering
+entry_cmp a b = ordering_then (end_cmp a.end b.end) (op_cmp a.op b.op)
+
+-- the entries are those of the operations at ends
+pub record AreEndsOf (plans : List Plan) (entries : List Entry) : Type 0 where
+  pub listed : (x : OpId) (e : End) → end_of plans x ≡ Some e → Contains entries (record { end = e; op = x })
+  pub right : All (λ (a : Entry). end_of plans a.op ≡ Some a.end) entries
+
+-- x is the least operation at that end
+pub record IsFirstAt (entries : List Entry) (e : End) (x : OpId) : Type 0 where
+  pub listed : Contains entries (record { end = e; op = x })
+  pub none_before : (y : OpId) → IsBefore y x → Contains entries (record { end = e; op = y }) → ⊥
