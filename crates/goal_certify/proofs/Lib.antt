@@ -5,3 +5,12 @@ pub mod EndLemmas
 pub mod EndSearch
 pub mod Passes
 pub mod Counting
+pub mod Tables
+pub mod Places
+pub mod Newly
+pub mod Walked
+pub mod Performed
+pub mod Cursors
+pub mod Choice
+pub mod Queue
+pub mod Steps

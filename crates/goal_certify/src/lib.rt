@@ -5,3 +5,4 @@ mod channels;
 mod ends;
 mod sizes;
 mod slot_counts;
+mod walk;

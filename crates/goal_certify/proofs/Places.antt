@@ -1,0 +1,32 @@
+-- Operations exist.
+use Rattle.std.proofs.Common.{◌≡◌, true, List, Option, None, Some, is_some, slice_get, refl, sym, subst}
+use Rattle.std.proofs.lemmas.Option.{slice_get_within, get_or_from_slice_get}
+use Rattle.goal_graph.specs.declared.action.OpId.{OpId}
+use Rattle.goal_graph.specs.declared.action.Class.{Class}
+use Rattle.goal_graph.specs.Schedule.{Plan, op_at, operations}
+use Rattle.goal_graph.specs.declared.plan.Op.{Op}
+use Rattle.goal_graph.specs.Action.{Act}
+use Rattle.goal_graph.specs.Fault.{IsOp}
+use Rattle.goal_graph.proofs.ForCallers.{listed_op, allowed_listed}
+use Rattle.goal_blocks.specs.Walk.{no_send}
+use Rattle.goal_certify.specs.WalkQueue.{may_act}
+
+-- what stands in the list of operations exists
+pub listed_exists : (plans : List Plan) (i : _) (x : OpId) → slice_get (operations plans) i ≡ Some x → IsOp plans x
+listed_exists plans i x e =
+    let a = listed_op plans x (i, slice_get_within (operations plans) i x e, get_or_from_slice_get (operations plans) i x x e) in
+    subst (λ o. is_some o ≡ true) (sym a.is) refl
+
+-- an action that may happen is one of an operation
+pub allowed_exists : (plans : List Plan) (h : List Act) (c : Class) (x : OpId) → may_act plans h c x ≡ true → IsOp plans x
+allowed_exists plans h c x e =
+    let a = listed_op plans x (allowed_listed plans no_send h c x e) in
+    subst (λ o. is_some o ≡ true) (sym a.is) refl
+
+-- the operation that exists
+pub the_op : (plans : List Plan) (x : OpId) → IsOp plans x → (o : Op) × (op_at plans x ≡ Some o)
+the_op plans x e = go (op_at plans x) refl e
+  where
+    go : (q : Option Op) → op_at plans x ≡ q → is_some q ≡ true → (o : Op) × (op_at plans x ≡ Some o)
+    go None s f = absurd (cc)
+    go (Some o) s f = (o, s)

@@ -1,0 +1,67 @@
+-- Tables that have an entry for each item of a list.
+use Rattle.std.proofs.Common.{◌≡◌, ◌≢◌, false, ℕ, zero, suc, ◌<◌, List, [], ◌∷◌, length, map, set, replicate, get_or, Some, slice_get, refl, sym, ap, ap₂, ◌∙◌, inl, inr, arith}
+use Rattle.std.specs.Option.{option_map}
+use Rattle.std.proofs.lemmas.Bool.{cases_order, cond-true, cond-false, false_from_ne_true}
+use Rattle.std.proofs.lemmas.Option.{same_Some, slice_get-map, slice_get_within, get_or_from_slice_get}
+use Rattle.goal_graph.specs.declared.action.OpId.{OpId}
+use Rattle.goal_graph.specs.Schedule.{Plan, operations}
+use Rattle.goal_graph.specs.Action.{same_op}
+use Rattle.goal_graph.proofs.ForCallers.{same_op_true, same_op_itself, operations_differ}
+use Rattle.goal_certify.specs.declared.walk.entry.Entry.{Entry}
+use Rattle.goal_certify.specs.Walked.{with_entry}
+
+-- the entry of an item
+pub entry_at : {X Y : Type 0} (f : X → Y) (xs : List X) (i : ℕ) (x : X) → slice_get xs i ≡ Some x → slice_get (map f xs) i ≡ Some (f x)
+entry_at f xs i x e = slice_get-map f xs i ∙ ap (option_map f) e
+
+pub entry_of : {X Y : Type 0} (f : X → Y) (xs : List X) (i : ℕ) (x : X) (d : Y) → slice_get xs i ≡ Some x → get_or (map f xs) i d ≡ f x
+entry_of f xs i x d e = get_or_from_slice_get (map f xs) i (f x) d (entry_at f xs i x e)
+
+-- two tables with equal entries are equal
+pub same_tables : {X Y : Type 0} (f g : X → Y) (xs : List X) → ((i : ℕ) (x : X) → slice_get xs i ≡ Some x → f x ≡ g x) → map f xs ≡ map g xs
+same_tables f g [] same = refl
+same_tables f g (x ∷ xs) same = ap₂ (λ y ys. y ∷ ys) (same 0 x refl) (same_tables f g xs (λ i y e. same (suc i) y e))
+
+-- one entry is written, and the others stay
+pub written_table : {X Y : Type 0} (f g : X → Y) (xs : List X) (j : ℕ) (y : X) → slice_get xs j ≡ Some y → ((i : ℕ) (x : X) → slice_get xs i ≡ Some x → i ≢ j → f x ≡ g x) → set (map f xs) j (g y) ≡ map g xs
+written_table f g [] j y e same = refl
+written_table f g (x ∷ xs) zero y e same =
+    ap₂ (λ z zs. z ∷ zs) (ap g (sym (same_Some x y e))) (same_tables f g xs (λ i z s. same (suc i) z s (omega arith)))
+written_table f g (x ∷ xs) (suc j) y e same =
+    ap₂ (λ z zs. z ∷ zs) (same 0 x refl (omega arith)) (written_table f g xs j y e (λ i z s d. same (suc i) z s (omega arith)))
+
+-- an operation stands at one place
+pub one_place : (plans : List Plan) (i j : ℕ) (x : OpId) → slice_get (operations plans) i ≡ Some x → slice_get (operations plans) j ≡ Some x → i ≡ j
+one_place plans i j x e f = elim (cases_order i j) [ inl same ↦ same | inr (inl l) ↦ absurd (go i j l e f) | inr (inr l) ↦ absurd (go j i l f e) ]
+  where
+    go : (i j : ℕ) → i < j → slice_get (operations plans) i ≡ Some x → slice_get (operations plans) j ≡ Some x → ⊥
+    go i j l e f =
+        operations_differ plans i j x l (slice_get_within (operations plans) j x f) (get_or_from_slice_get (operations plans) i x x e ∙ sym (get_or_from_slice_get (operations plans) j x x f))
+
+-- operations at two places differ
+pub other_place : (plans : List Plan) (i j : ℕ) (x y : OpId) → slice_get (operations plans) i ≡ Some x → slice_get (operations plans) j ≡ Some y → i ≢ j → x ≢ y
+other_place plans i j x y e f d s = d (one_place plans i j y (e ∙ ap Some s) f)
+
+-- what is read from a table
+pub read_entry : {X Y : Type 0} (f : X → Y) (xs : List X) (i : ℕ) (x : X) (ys : List Y) (v : Y) → ys ≡ map f xs → slice_get xs i ≡ Some x → v ≡ get_or ys i v → v ≡ f x
+read_entry f xs i x ys v table e read = read ∙ ap (λ zs. get_or zs i v) table ∙ entry_of f xs i x v e
+
+pub within_table : {X Y : Type 0} (f : X → Y) (xs : List X) (i : ℕ) (x : X) (ys : List Y) → ys ≡ map f xs → slice_get xs i ≡ Some x → i < length ys
+within_table f xs i x ys table e = slice_get_within ys i (f x) (ap (λ zs. slice_get zs i) table ∙ entry_at f xs i x e)
+
+-- a table whose entries are all one value
+pub replicated_table : {X Y : Type 0} (f : X → Y) (v : Y) (xs : List X) → ((x : X) → f x ≡ v) → replicate (length xs) v ≡ map f xs
+replicated_table f v [] same = refl
+replicated_table f v (x ∷ xs) same = ap₂ (λ y ys. y ∷ ys) (sym (same x)) (replicated_table f v xs same)
+
+-- the operations, and as many entries as were asked for
+pub fresh_table : {Y : Type 0} (f : OpId → Y) (v : Y) (xs : List OpId) (n : ℕ) (ys : List Y) → n ≡ length xs → ys ≡ replicate n v → ((x : OpId) → f x ≡ v) → ys ≡ map f xs
+fresh_table f v xs n ys e made same = made ∙ ap (λ k. replicate k v) e ∙ replicated_table f v xs same
+
+-- the entry of an operation is written
+pub written_entry : (plans : List Plan) (j : ℕ) (y : OpId) (v : Entry) (f : OpId → Entry) → slice_get (operations plans) j ≡ Some y → set (map f (operations plans)) j v ≡ map (with_entry y v f) (operations plans)
+written_entry plans j y v f e =
+    ap (set (map f (operations plans)) j) (sym (cond-true (same_op y y) v (f y) (same_op_itself y))) ∙ written_table f (with_entry y v f) (operations plans) j y e (λ i x s d. sym (cond-false (same_op x y) v (f x) (not_same x (other_place plans i j x y s e d))))
+  where
+    not_same : (x : OpId) → x ≢ y → same_op x y ≡ false
+    not_same x d = false_from_ne_true (same_op x y) (λ t. d (same_op_true x y t))

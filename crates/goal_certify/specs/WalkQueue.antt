@@ -1,0 +1,91 @@
+-- Which operations may act next, in a queue by their places in the order of all, and how far their needs have been
+-- looked at.
+use Rattle.std.specs.Prelude.{ℕ, ◌≡◌, ◌≤◌, ◌⊎◌, Bool, true, false, List, length, take, Option, Some, None, Contains, slice_get, slice_set}
+use Rattle.std.specs.List.{list_all}
+use Rattle.goal_graph.specs.declared.action.OpId.{OpId}
+use Rattle.goal_graph.specs.declared.action.Class.{Class}
+use Rattle.goal_graph.specs.declared.plan.Need.{Need}
+use Rattle.goal_graph.specs.Schedule.{Plan, needs, needed, waiting_on, operations}
+use Rattle.goal_graph.specs.Action.{Act}
+use Rattle.goal_graph.specs.Matching.{pairs, partner}
+use Rattle.goal_graph.specs.Allowed.{is_met, allowed}
+use Rattle.goal_blocks.specs.Walk.{no_send, TakesFirst}
+use Rattle.sim_order.specs.declared.order.Counted.{Counted}
+use Rattle.sim_queue.specs.Map.{key_at}
+
+-- the place of an operation as its key
+abbrev pub Place : Type 0
+Place = Counted ℕ
+
+abbrev pub place_key : ℕ → Place
+place_key slot = record { 0 = slot }
+
+-- y is named in a list of needs of x's rank
+pub record IsNamedIn (needs : List Need) (x y : OpId) : Type 0 where
+  pub need : Need
+  pub listed : Contains needs need
+  pub named : y ≡ needed x need
+
+module _ (plans : List Plan) where
+  -- y needs x
+  abbrev pub Waits : OpId → OpId → Type 0
+  Waits x y = IsNamedIn (waiting_on plans x) x y
+
+  module _ (h : List Act) where
+    abbrev pub may_act : Class → OpId → Bool
+    may_act class x = allowed plans no_send h class x
+
+    -- no action of x may happen
+    abbrev pub IsIdle : OpId → Type 0
+    IsIdle x = (class : Class) → may_act class x ≡ false
+
+    -- the class of the action of x that may happen, none where none may
+    abbrev pub IsChoice : OpId → Option Class → Type 0
+    IsChoice x None = IsIdle x
+    IsChoice x (Some class) = may_act class x ≡ true
+
+    -- an operation that may act has its place as its key, any other has none
+    abbrev pub IsKeyOf : ℕ → OpId → Option Place → Type 0
+    IsKeyOf slot x None = IsIdle x
+    IsKeyOf slot x (Some k) = (k.0 ≡ slot) × ((class : Class) × (may_act class x ≡ true))
+
+    -- each operation has its key in its slot, but those that are due
+    pub record IsQueueBut (Due : ℕ → OpId → Type 0) (keys : List (Option Place)) : Type 0 where
+      pub each : length keys ≡ length (operations plans)
+      pub bounds : (slot : ℕ) (x : OpId) → slice_get (operations plans) slot ≡ Some x → IsKeyOf slot x (key_at keys slot) ⊎ Due slot x
+
+    -- each operation has its key in its slot
+    abbrev pub IsQueue : List (Option Place) → Type 0
+    IsQueue keys = IsQueueBut (λ slot x. ⊥) keys
+
+    -- the slot of x has got the key of x, and the others are as they were
+    pub record IsRefreshed (x : OpId) (old new : List (Option Place)) : Type 0 where
+      pub slot : ℕ
+      pub is_slot : slice_get (operations plans) slot ≡ Some x
+      pub key : Option Place
+      pub bound : IsKeyOf slot x key
+      pub put : new ≡ slice_set old slot key
+
+    -- an action of x may let one of y happen: y is x, or its partner, or needs it
+    abbrev pub IsConcerned : OpId → OpId → Type 0
+    IsConcerned x y = (y ≡ x) ⊎ ((partner (pairs plans h) x ≡ Some y) ⊎ Waits x y)
+
+    -- whether the moment that x waits for by this need is there
+    abbrev pub is_there : OpId → Need → Bool
+    is_there x d = is_met plans no_send h d.when (needed x d)
+
+    -- the needs of x before the cursor are met
+    pub record IsCursorOf (x : OpId) (cursor : ℕ) : Type 0 where
+      pub within : cursor ≤ length (needs plans x)
+      pub met : list_all (is_there x) (take cursor (needs plans x)) ≡ true
+
+    -- there is a cursor for each operation, in their order
+    pub record AreCursors (cursors : List ℕ) : Type 0 where
+      pub each : length cursors ≡ length (operations plans)
+      pub are : (slot : ℕ) (x : OpId) (c : ℕ) → slice_get (operations plans) slot ≡ Some x → slice_get cursors slot ≡ Some c → IsCursorOf x c
+
+    -- what a walker keeps of its history, each action of which was the first of those that might happen
+    pub record Follows (keys : List (Option Place)) (cursors : List ℕ) : Type 0 where
+      pub queue : IsQueue keys
+      pub are_cursors : AreCursors cursors
+      pub in_order : TakesFirst plans h

@@ -1,0 +1,92 @@
+-- What a walker keeps of what has happened so far.
+use Rattle.std.specs.Prelude.{ℕ, ◌≡◌, ◌≤◌, ◌*◌, Bool, true, List, ◌∷◌, filter, map, length, reverse, Option, Some, None, if◌then◌else◌}
+use Rattle.goal_graph.specs.declared.action.OpId.{OpId}
+use Rattle.goal_graph.specs.declared.action.Class.{Class}
+use Rattle.goal_graph.specs.declared.action.Class.TheVariants.{Arrive, Serve, Data, Post, Begin}
+use Rattle.goal_graph.specs.Schedule.{Plan, operations}
+use Rattle.goal_graph.specs.Action.{Act, same_op, happened}
+use Rattle.goal_graph.specs.Matching.{pairs, partner}
+use Rattle.goal_graph.specs.Fault.{IsAccepted}
+use Rattle.goal_graph.specs.Interleaving.{IsInterleaving}
+use Rattle.goal_blocks.specs.Walk.{no_send}
+use Rattle.sim_match.specs.PostsAndArrivals.{PostsAndArrivals, is_post_or_arrival, is_post_or_arrival_class, send_for, receive_for}
+use Rattle.goal_certify.specs.declared.walk.action.Action.{Action}
+use Rattle.goal_certify.specs.declared.walk.entry.Entry.{Entry}
+
+-- the plans of the schedule, and what has happened so far, newest first
+pub record Walked : Type 0 where
+  pub plans : List Plan
+  pub history : List Act
+
+abbrev pub act_of : Action → Act
+act_of a = record { class = a.class; op = a.op }
+
+-- after one action more
+abbrev pub with_action : Walked → Action → Walked
+with_action w a = record { plans = w.plans; history = act_of a ∷ w.history }
+
+-- actions that are kept oldest first
+abbrev pub acts : List Action → List Act
+acts items = map act_of (reverse items)
+
+-- whether the action of that class has happened, by what is kept of its operation
+abbrev pub is_done : Entry → Class → Bool
+is_done e Arrive = e.arrived
+is_done e Serve = e.served
+is_done e Data = e.sent
+is_done e Post = e.posted
+is_done e Begin = e.begun
+
+-- it has happened too
+abbrev pub with_class : Class → Entry → Entry
+with_class Arrive e = record e { arrived = true }
+with_class Serve e = record e { served = true }
+with_class Data e = record e { sent = true }
+with_class Post e = record e { posted = true }
+with_class Begin e = record e { begun = true }
+
+-- the entry of y is this one, and the others are those of f
+abbrev pub with_entry : OpId → Entry → (OpId → Entry) → OpId → Entry
+with_entry y entry f x = if same_op x y then entry else f x
+
+-- the entry of y says that it is paired with m, and the others are those of f
+abbrev pub with_pairing : OpId → OpId → (OpId → Entry) → OpId → Entry
+with_pairing y m f = with_entry y (record (f y) { paired = Some m }) f
+
+-- where y has a partner, the entries of the two say that they are paired
+abbrev pub with_partner : OpId → Option OpId → (OpId → Entry) → OpId → Entry
+with_partner y None f = f
+with_partner y (Some m) f = with_pairing m y (with_pairing y m f)
+
+-- the operation that the rule of matching pairs with x, where the action of that class of x is the next
+abbrev pub met : List Plan → List Act → Class → OpId → Option OpId
+met plans h Arrive x = receive_for plans h x
+met plans h Serve x = None
+met plans h Data x = None
+met plans h Post x = send_for plans h x
+met plans h Begin x = None
+
+-- the posts and arrivals, where an action of that class of x is the next
+abbrev pub more_met : List Act → Class → OpId → List Act
+more_met h class x = if is_post_or_arrival_class class then record { class = class; op = x } ∷ h else h
+
+module _ (plans : List Plan) (h : List Act) where
+  -- what is kept of x
+  abbrev pub entry_known : OpId → Entry
+  entry_known x = record {
+    arrived = happened Arrive x h;
+    served = happened Serve x h;
+    sent = happened Data x h;
+    posted = happened Post x h;
+    begun = happened Begin x h;
+    paired = partner (pairs plans h) x;
+  }
+
+  -- there is an entry for each operation, in their order, and room for every action
+  pub record Represents (entries : List Entry) (matcher : PostsAndArrivals) (room : ℕ) : Type 0 where
+    pub accepted : IsAccepted plans
+    pub allowed_each : IsInterleaving plans no_send h
+    pub known : entries ≡ map entry_known (operations plans)
+    pub same_plans : matcher.plans ≡ plans
+    pub events : matcher.actions ≡ filter is_post_or_arrival h
+    pub roomy : 3 * length (operations plans) ≤ room

@@ -1,0 +1,139 @@
+// The walk: one run without times in which no send is eager, and the first of the actions that may happen is always the
+// next.
+ghost use Rattle.std.specs.Prelude.{◌≡◌, ◌<◌, [], true, IfSome, IfNone, IfOk};
+ghost use Rattle.goal_graph.specs.Action.{Act};
+ghost use Rattle.goal_graph.specs.Matching.{pairs, partner};
+ghost use Rattle.goal_graph.specs.Allowed.{allowed, has_ended};
+ghost use Rattle.goal_graph.specs.Fault.{IsOp, IsAccepted};
+ghost use Rattle.goal_graph.specs.Interleaving.{IsInterleaving};
+ghost use Rattle.goal_blocks.specs.Walk.{no_send, ComesFirst, TakesFirst, IsWalk};
+ghost use Rattle.goal_certify.specs.Walked.{act_of, with_action};
+
+use goal_base::NoMemory;
+use goal_graph::{OpId, Sched, When};
+use sim_order::Steps;
+use std::alloc::Global;
+use std::marker::{Brand, Model};
+use std::sync::ledger::{Blank, Ledger};
+
+mod action;
+mod entry;
+mod follow;
+mod state;
+
+use action::Action;
+use follow::{Queue, fill, follow, next};
+use state::State;
+
+/// Walks through a schedule. Contracts see it as the plans of the schedule and what has happened so far, newest first.
+#[derive(Drop)]
+pub struct Walker<'a> {
+    // what has happened, and what is known of each operation
+    state: State<'a>,
+    // which operations may act
+    queue: Queue,
+    // how far the needs of each operation have been looked at
+    cursors: Vec<usize>,
+}
+
+impl<'a> Model for Walker<'a> {
+    ghost use Rattle.goal_certify.specs.Walked.{Walked};
+    ghost use Rattle.goal_certify.specs.WalkQueue.{Follows};
+
+    ghost Value = { Walked };
+
+    ghost view = { λ w. w.state };
+
+    ghost invariant = { λ w. Follows w.state.plans w.state.history w.queue w.cursors.items };
+}
+
+impl<'a> Walker<'a> {
+    /// A walker before its first step. It takes all memory of the walk; no later call takes any.
+    pub fn new(alloc: Global, sched: &'a Sched) -> Result<Walker<'a>, NoMemory>
+        ensures plans { IfOk result (λ w. w.plans ≡ sched.now) }
+        ensures empty { IfOk result (λ w. w.history ≡ []) }
+    {
+        let state = State::new(alloc, sched)?;
+        let mut queue = Queue::new(alloc, sched.count())?;
+        let mut cursors = vec![in alloc; 0; sched.count() as usize]?;
+        fill::<Brand>(Blank::new(1), &state, &mut queue, &mut cursors);
+        Ok(Walker {
+            state,
+            queue,
+            cursors,
+        })
+    }
+
+    /// Lets the next action happen and answers it: the first of those that may. Where none may it answers None, what has
+    /// happened is the walk, and nothing changes.
+    pub fn next(&mut self) -> Option<Action>
+        ensures allowed { IfSome result (λ a. allowed self.old.plans no_send self.old.history a.class a.op ≡ true) }
+        ensures first { IfSome result (λ a. (b : Act) → allowed self.old.plans no_send self.old.history b.class b.op ≡ true → ComesFirst (act_of a) b) }
+        ensures after { IfSome result (λ a. self.new ≡ with_action self.old a) }
+        ensures walk { IfNone result (IsWalk self.old.plans self.old.history) }
+        ensures same { IfNone result (self.new ≡ self.old) }
+    {
+        self.next_counted::<Brand>(Blank::new(1))
+    }
+
+    /// The operation that another is paired with, once it is.
+    pub fn partner(&self, id: OpId) -> Option<OpId>
+        requires { IsOp self.now.plans id }
+        ensures { result ≡ partner (pairs self.now.plans self.now.history) id }
+    {
+        self.state.partner(id)
+    }
+
+    /// Whether an operation has an end.
+    pub fn has_ended(&self, id: OpId) -> bool
+        requires { IsOp self.now.plans id }
+        ensures { result ≡ has_ended self.now.plans no_send id self.now.history }
+    {
+        self.state.is_met(When::AfterEnd, id)
+    }
+
+    /// The schedule.
+    pub fn sched(&self) -> &'a Sched
+        ensures { result.now ≡ self.now.plans }
+    {
+        self.state.sched()
+    }
+
+    /// What holds of every walker: its schedule is accepted, what has happened is an interleaving, and each action was
+    /// the first of those that might happen.
+    pub fn known(&self)
+        ensures accepted { IsAccepted self.now.plans }
+        ensures each { IsInterleaving self.now.plans no_send self.now.history }
+        ensures first { TakesFirst self.now.plans self.now.history }
+    {
+        self.state.known();
+    }
+
+    // A step whose comparisons are counted.
+    fn next_counted<L: Ledger>(&mut self, blank: Blank) -> Option<Action>
+        requires name { blank.name ≡ L.name }
+        requires parts { blank.parts ≡ L.parts }
+        requires some { 0 < blank.parts }
+        ensures allowed { IfSome result (λ a. allowed self.old.plans no_send self.old.history a.class a.op ≡ true) }
+        ensures first { IfSome result (λ a. (b : Act) → allowed self.old.plans no_send self.old.history b.class b.op ≡ true → ComesFirst (act_of a) b) }
+        ensures after { IfSome result (λ a. self.new ≡ with_action self.old a) }
+        ensures walk { IfNone result (IsWalk self.old.plans self.old.history) }
+        ensures same { IfNone result (self.new ≡ self.old) }
+    {
+        let mut steps = Steps::<L>::new(blank);
+        self.known();
+        let action = next(&self.state, &self.queue, &self.cursors, &mut steps)?;
+        self.state.perform(action);
+        follow(
+            &self.state,
+            &mut self.queue,
+            &mut self.cursors,
+            action.op,
+            &mut steps,
+        );
+        Some(action)
+    }
+}
+
+#[cfg(test)]
+mod tests;

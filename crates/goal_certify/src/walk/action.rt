@@ -1,0 +1,10 @@
+// An action that has happened, or may.
+
+use goal_graph::{Class, OpId};
+
+/// A class of action, of one operation; for `Arrive` and `Data` that is the send.
+#[derive(Clone, Copy, Debug, PartialEq, Eq)]
+pub struct Action {
+    pub class: Class,
+    pub op: OpId,
+}

@@ -1,0 +1,111 @@
+// What a walker keeps of each operation, in a table in the order of all operations.
+ghost use Rattle.std.specs.Prelude.{◌≡◌, length, map, IfSome};
+ghost use Rattle.goal_graph.specs.declared.action.OpId.{OpId};
+ghost use Rattle.goal_graph.specs.Schedule.{operations};
+ghost use Rattle.goal_graph.specs.Fault.{IsOp};
+ghost use Rattle.goal_certify.specs.declared.walk.entry.Entry.{Entry};
+ghost use Rattle.goal_certify.specs.Walked.{is_done, with_class, with_entry, with_pairing, with_partner};
+
+use goal_graph::{Class, OpId, Sched};
+
+/// Which actions of an operation have happened, and the operation that it is paired with.
+#[derive(Clone, Copy, Debug, PartialEq, Eq)]
+pub struct Entry {
+    pub arrived: bool,
+    pub served: bool,
+    pub sent: bool,
+    pub posted: bool,
+    pub begun: bool,
+    pub paired: Option<OpId>,
+}
+
+/// Of an operation that has done nothing.
+pub const BLANK: Entry = Entry {
+    arrived: false,
+    served: false,
+    sent: false,
+    posted: false,
+    begun: false,
+    paired: None,
+};
+
+/// Whether the action of this class has happened.
+pub fn is_done(entry: Entry, class: Class) -> bool
+    ensures { result ≡ is_done entry class }
+{
+    match class {
+        Class::Arrive => entry.arrived,
+        Class::Serve => entry.served,
+        Class::Data => entry.sent,
+        Class::Post => entry.posted,
+        Class::Begin => entry.begun,
+    }
+}
+
+/// The entry once the action of this class has happened too.
+pub fn with_class(entry: Entry, class: Class) -> Entry
+    ensures { result ≡ with_class class entry }
+{
+    let mut entry = entry;
+    match class {
+        Class::Arrive => entry.arrived = true,
+        Class::Serve => entry.served = true,
+        Class::Data => entry.sent = true,
+        Class::Post => entry.posted = true,
+        Class::Begin => entry.begun = true,
+    }
+    entry
+}
+
+/// The entry of an operation.
+pub fn read(sched: &Sched, entries: &[Entry], id: OpId) -> Entry
+    requires exists { IsOp sched.now id }
+    requires each { length entries.now ≡ length (operations sched.now) }
+    ensures { (f : OpId → Entry) → entries.now ≡ map f (operations sched.now) → result ≡ f id }
+{
+    entries[sched.index(id) as usize]
+}
+
+/// Writes the entry of an operation.
+pub fn write(sched: &Sched, entries: &mut [Entry], id: OpId, entry: Entry)
+    requires exists { IsOp sched.now id }
+    requires each { length entries.old ≡ length (operations sched.now) }
+    ensures { (f : OpId → Entry) → entries.old ≡ map f (operations sched.now) → entries.new ≡ map (with_entry id entry f) (operations sched.now) }
+{
+    entries[sched.index(id) as usize] = entry;
+}
+
+/// Writes that two operations are paired.
+pub fn pair(sched: &Sched, entries: &mut [Entry], id: OpId, with: OpId)
+    requires exists { IsOp sched.now id }
+    requires other { IsOp sched.now with }
+    requires each { length entries.old ≡ length (operations sched.now) }
+    ensures { (f : OpId → Entry) → entries.old ≡ map f (operations sched.now) → entries.new ≡ map (with_pairing with id (with_pairing id with f)) (operations sched.now) }
+{
+    let first = read(sched, entries, id);
+    let paired = Some(with);
+    write(sched, entries, id, Entry { paired, ..first });
+    let second = read(sched, entries, with);
+    let paired = Some(id);
+    write(sched, entries, with, Entry { paired, ..second });
+}
+
+/// Writes the entry of an operation and, where it has a partner, that the two are paired.
+pub fn write_met(
+    sched: &Sched,
+    entries: &mut [Entry],
+    id: OpId,
+    entry: Entry,
+    partner: Option<OpId>,
+)
+    requires exists { IsOp sched.now id }
+    requires other { IfSome partner (IsOp sched.now) }
+    requires each { length entries.old ≡ length (operations sched.now) }
+    ensures { (f : OpId → Entry) → entries.old ≡ map f (operations sched.now) → entries.new ≡ map (with_partner id partner (with_entry id entry f)) (operations sched.now) }
+{
+    write(sched, entries, id, entry);
+    let Some(with) = partner else {
+        return;
+    };
+    pair(sched, entries, id, with);
+}

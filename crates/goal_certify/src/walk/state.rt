@@ -1,0 +1,273 @@
+// What has happened so far, and what may happen next of each operation.
+ghost use Rattle.std.specs.Prelude.{◌≡◌, [], true, false, Some, IfOk};
+ghost use Rattle.goal_graph.specs.declared.action.Class.TheVariants.{Arrive, Serve, Data, Post, Begin};
+ghost use Rattle.goal_graph.specs.Action.{happened};
+ghost use Rattle.goal_graph.specs.Schedule.{kind_at};
+ghost use Rattle.goal_graph.specs.Matching.{pairs, partner};
+ghost use Rattle.goal_graph.specs.Allowed.{first_class, last_class, is_met, is_ready};
+ghost use Rattle.goal_graph.specs.Fault.{IsOp, IsAccepted};
+ghost use Rattle.goal_graph.specs.Interleaving.{IsInterleaving};
+ghost use Rattle.goal_graph.specs.Laws.{IsSend, IsReceive};
+ghost use Rattle.goal_blocks.specs.Walk.{no_send};
+ghost use Rattle.sim_match.specs.PostsAndArrivals.{is_post_or_arrival_class};
+ghost use Rattle.goal_certify.specs.Walked.{entry_known, with_action, met, more_met};
+ghost use Rattle.goal_certify.specs.WalkQueue.{may_act, IsChoice, IsCursorOf};
+
+use super::action::Action;
+use super::entry::{BLANK, Entry, is_done, read, with_class, write_met};
+use goal_base::NoMemory;
+use goal_graph::{Class, Kind, OpId, Sched, When};
+use sim_match::Matcher;
+use std::alloc::Global;
+use std::marker::Model;
+
+/// A schedule under way, none of whose sends is eager. Contracts see it as the plans of the schedule and what has
+/// happened so far, newest first.
+#[derive(Drop)]
+pub struct State<'a> {
+    sched: &'a Sched,
+    // what has happened, oldest first
+    history: Vec<Action>,
+    // what is known of each operation, in the order of all
+    entries: Vec<Entry>,
+    // who is paired with whom
+    matcher: Matcher<'a>,
+}
+
+impl<'a> Model for State<'a> {
+    ghost use Rattle.std.specs.Prelude.{vec_capacity};
+    ghost use Rattle.goal_certify.specs.Walked.{Walked, acts, Represents};
+
+    ghost Value = { Walked };
+
+    ghost view = { λ s. record { plans = s.sched.now; history = acts s.history.items } };
+
+    ghost invariant = { λ s. Represents s.sched.now (acts s.history.items) s.entries.items s.matcher (vec_capacity s.history) };
+}
+
+impl<'a> State<'a> {
+    /// A schedule before its first action. It takes all memory of the walk; no later call takes any.
+    pub fn new(alloc: Global, sched: &'a Sched) -> Result<State<'a>, NoMemory>
+        ensures plans { IfOk result (λ s. s.plans ≡ sched.now) }
+        ensures empty { IfOk result (λ s. s.history ≡ []) }
+    {
+        let _plans = sched.plans();
+        let count = sched.count() as usize;
+        let history = Vec::with_capacity(alloc, 3 * count)?;
+        let entries = vec![in alloc; BLANK; count]?;
+        let matcher = Matcher::new(alloc, sched)?;
+        Ok(State {
+            sched,
+            history,
+            entries,
+            matcher,
+        })
+    }
+
+    /// The schedule.
+    pub fn sched(&self) -> &'a Sched
+        ensures { result.now ≡ self.now.plans }
+    {
+        self.sched
+    }
+
+    /// What holds of every state: its schedule is accepted, and what has happened is an interleaving.
+    pub fn known(&self)
+        ensures accepted { IsAccepted self.now.plans }
+        ensures each { IsInterleaving self.now.plans no_send self.now.history }
+    {
+        let _sched = &self.sched;
+    }
+
+    // What is known of an operation.
+    fn entry(&self, id: OpId) -> Entry
+        requires { IsOp self.now.plans id }
+        ensures { result ≡ entry_known self.now.plans self.now.history id }
+    {
+        read(self.sched, &self.entries, id)
+    }
+
+    /// The operation that another is paired with, once it is.
+    pub fn partner(&self, id: OpId) -> Option<OpId>
+        requires { IsOp self.now.plans id }
+        ensures { result ≡ partner (pairs self.now.plans self.now.history) id }
+    {
+        self.entry(id).paired
+    }
+
+    /// Whether the moment of an operation that a dependency waits for is there.
+    pub fn is_met(&self, when: When, id: OpId) -> bool
+        requires { IsOp self.now.plans id }
+        ensures { result ≡ is_met self.now.plans no_send self.now.history when id }
+    {
+        let kind = self.sched().op(id).kind;
+        let class = match when {
+            When::AfterEnd => last_class(kind),
+            When::AfterStart => first_class(kind),
+        };
+        is_done(self.entry(id), class)
+    }
+
+    /// The class of the action of an operation that may happen next, if one may. While it has not started its cursor
+    /// goes on to the first need that is not met, or past all: the next call looks from there on.
+    pub fn choice(&self, id: OpId, cursor: &mut usize) -> Option<Class>
+        requires op { IsOp self.now.plans id }
+        requires cursor { IsCursorOf self.now.plans self.now.history id cursor.old }
+        ensures choice { IsChoice self.now.plans self.now.history id result }
+        ensures cursor { IsCursorOf self.now.plans self.now.history id cursor.new }
+    {
+        let kind = self.sched().op(id).kind;
+        let first = first_class(kind);
+        if self.may_start(id, first, cursor) {
+            return Some(first);
+        }
+        match kind {
+            Kind::Calc { .. } => None,
+            Kind::Send { .. } => self.choice_of_send(id),
+            Kind::Recv { .. } => self.choice_of_receive(id),
+        }
+    }
+
+    // The same of a send that may not begin.
+    fn choice_of_send(&self, send: OpId) -> Option<Class>
+        requires send { IsSend self.now.plans send }
+        requires begun { may_act self.now.plans self.now.history Begin send ≡ false }
+        ensures { IsChoice self.now.plans self.now.history send result }
+    {
+        if self.may_arrive(send) {
+            return Some(Class::Arrive);
+        }
+        if self.may_hand_over(send) {
+            return Some(Class::Data);
+        }
+        None
+    }
+
+    // The same of a receive that may not be posted.
+    fn choice_of_receive(&self, recv: OpId) -> Option<Class>
+        requires receive { IsReceive self.now.plans recv }
+        requires posted { may_act self.now.plans self.now.history Post recv ≡ false }
+        ensures { IsChoice self.now.plans self.now.history recv result }
+    {
+        if self.may_serve(recv) {
+            return Some(Class::Serve);
+        }
+        None
+    }
+
+    // Whether an operation may start: once it is ready, and only once.
+    fn may_start(&self, id: OpId, first: Class, cursor: &mut usize) -> bool
+        requires op { IsOp self.now.plans id }
+        requires first { first ≡ first_class (kind_at self.now.plans id) }
+        requires cursor { IsCursorOf self.now.plans self.now.history id cursor.old }
+        ensures may { result ≡ may_act self.now.plans self.now.history first id }
+        ensures cursor { IsCursorOf self.now.plans self.now.history id cursor.new }
+    {
+        if is_done(self.entry(id), first) {
+            return false;
+        }
+        self.is_ready(id, cursor)
+    }
+
+    // Whether a send may arrive: once it has begun.
+    fn may_arrive(&self, send: OpId) -> bool
+        requires { IsSend self.now.plans send }
+        ensures { result ≡ may_act self.now.plans self.now.history Arrive send }
+    {
+        let entry = self.entry(send);
+        !entry.arrived && entry.begun
+    }
+
+    // Whether a send may hand over its bytes: once it is paired.
+    fn may_hand_over(&self, send: OpId) -> bool
+        requires { IsSend self.now.plans send }
+        ensures { result ≡ may_act self.now.plans self.now.history Data send }
+    {
+        let entry = self.entry(send);
+        !entry.sent && entry.paired.is_some()
+    }
+
+    // Whether a receive may take its message: once its send has handed it over.
+    fn may_serve(&self, recv: OpId) -> bool
+        requires { IsReceive self.now.plans recv }
+        ensures { result ≡ may_act self.now.plans self.now.history Serve recv }
+    {
+        let entry = self.entry(recv);
+        let Some(send) = entry.paired else {
+            return false;
+        };
+        !entry.served && self.entry(send).sent
+    }
+
+    // Whether all that an operation needs is there. Its cursor goes on as far as needs are met.
+    fn is_ready(&self, id: OpId, cursor: &mut usize) -> bool
+        requires op { IsOp self.now.plans id }
+        requires cursor { IsCursorOf self.now.plans self.now.history id cursor.old }
+        ensures ready { result ≡ is_ready self.now.plans no_send self.now.history id }
+        ensures cursor { IsCursorOf self.now.plans self.now.history id cursor.new }
+    {
+        let needs = self.sched.needs(id);
+        for at in *cursor..needs.len() {
+            let need = needs[at];
+            let needed = OpId {
+                rank: id.rank,
+                op: need.op,
+            };
+            if !self.is_met(need.when, needed) {
+                return false;
+            }
+            *cursor = at + 1;
+        }
+        true
+    }
+
+    /// Lets an action happen.
+    pub fn perform(&mut self, action: Action)
+        requires { may_act self.old.plans self.old.history action.class action.op ≡ true }
+        ensures { self.new ≡ with_action self.old action }
+    {
+        let sched = self.sched;
+        let entry = self.entry(action.op);
+        let partner = meet(&mut self.matcher, action);
+        let done = with_class(entry, action.class);
+        write_met(sched, &mut self.entries, action.op, done, partner);
+        self.history.push_reserved(action);
+    }
+}
+
+// Tells the matcher of an action. Answers the operation that it pairs with that of the action.
+fn meet(matcher: &mut Matcher, action: Action) -> Option<OpId>
+    requires receive { action.class ≡ Post → IsReceive matcher.old.plans action.op }
+    requires send { action.class ≡ Arrive → IsSend matcher.old.plans action.op }
+    requires fresh { is_post_or_arrival_class action.class ≡ true → happened action.class action.op matcher.old.actions ≡ false }
+    ensures plans { matcher.new.plans ≡ matcher.old.plans }
+    ensures actions { matcher.new.actions ≡ more_met matcher.old.actions action.class action.op }
+    ensures met { result ≡ met matcher.old.plans matcher.old.actions action.class action.op }
+{
+    match action.class {
+        Class::Post => matcher.post(action.op),
+        Class::Arrive => matcher.arrive(action.op),
+        Class::Serve | Class::Data | Class::Begin => None,
+    }
+}
+
+// The class of the action from which the start of an operation of this kind is counted.
+fn first_class(kind: Kind) -> Class
+    ensures { result ≡ first_class (Some kind) }
+{
+    match kind {
+        Kind::Calc { .. } | Kind::Send { .. } => Class::Begin,
+        Kind::Recv { .. } => Class::Post,
+    }
+}
+
+// The class of the action from which its end is counted.
+fn last_class(kind: Kind) -> Class
+    ensures { result ≡ last_class false (Some kind) }
+{
+    match kind {
+        Kind::Calc { .. } => Class::Begin,
+        Kind::Send { .. } => Class::Data,
+        Kind::Recv { .. } => Class::Serve,
+    }
+}
