@@ -8,19 +8,6 @@ use Rattle.goal_parser.specs.declared.sentence.State.{State}
 use Rattle.goal_parser.specs.Items.{IsInside, ops_with, ended_ops}
 use Rattle.goal_parser.specs.Plans.{plan_ended}
 
-pub inside : (k : TokenKind) → (k ≡ token.Close → ⊥) → IsInside k
-inside token.Close h = h refl
-inside _ h = tt
-
-pub ops_inside : (s : State) (k : TokenKind) (op : Op) (ops : List Op) → IsInside k → ops_with s k op ops ≡ ended_ops s k op ops
-unfolding ops_with
-ops_inside s token.Close op ops h = absurd h
-ops_inside s _ op ops h = refl
-
-pub plan_inside : (k : TokenKind) (plan : Plan) → IsInside k → None ≡ plan_ended k plan
-plan_inside token.Close plan h = absurd h
-plan_inside _ plan h = refl
-
 replicate-suc : {A : Type 0} (n : ℕ) (x : A) → replicate (suc n) x ≡ replicate n x ++ x ∷ []
 replicate-suc zero x = refl
 replicate-suc (suc n) x = ap (λ l. x ∷ l) (replicate-suc n x)

@@ -2,6 +2,7 @@ pub mod SlotLaws
 pub mod NameLaws
 pub mod BlockLaws
 pub mod ParserLaws
+pub mod KindLaws
 pub mod ReaderLaws
 pub mod LimitLaws
 pub mod GrammarLaws

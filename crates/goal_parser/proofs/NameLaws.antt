@@ -11,10 +11,8 @@ use Rattle.goal_parser.specs.declared.head.Mention.{Mention}
 use Rattle.goal_parser.specs.declared.head.Verb.{Verb}
 use Rattle.goal_parser.specs.declared.head.Verb.TheVariants as verb
 use Rattle.goal_parser.specs.declared.names.Names.{Names}
-use Rattle.goal_parser.specs.Items.{Definition, NamedDep, NamedNote, is_defined, op_number, when_of, dep_by, note_by, note_as}
+use Rattle.goal_parser.specs.Items.{Definition, NamedDep, NamedNote, op_number, when_of, dep_by, note_by, note_as}
 use Rattle.goal_parser.specs.Slots.{Entries, op_in, op_by, op_at, dep_at, note_at, label_at, IsSlot, IsDep, IsNote, Keeps, Grows, NamesHold}
-use Rattle.goal_parser.specs.Faults.{fault_if, defined_fault}
-use Rattle.goal_parser.specs.declared.faults.TextFault.TheVariants.{Repeat}
 use Rattle.goal_parser.proofs.SlotLaws.{label_of_entry}
 
 pub AllZip-more : {A B : Type 0} (R : A → B → Type 0) (xs : List A) (ys : List B) (x : A) (y : B) → AllZip R xs ys → R x y → AllZip R (xs ++ x ∷ []) (ys ++ y ∷ [])
@@ -92,13 +90,6 @@ NamesHold-note old new ds us deps notes s v slot first second grows keeps is sam
           (AllZip-weaker (IsNote es) (IsNote fs) (IsNote-grows es fs grows) old.notes.items notes holds.notes)
           (record { slot = slot; subject = is; is = refl }));
     }
-
-pub fresh_subject : (ds : List Definition) (subject : Mention) → defined_fault ds (Some subject) ≡ None → is_defined ds subject.label ≡ false
-fresh_subject ds subject h = by (is_defined ds subject.label) h
-  where
-    by : (b : Bool) → fault_if b (Repeat subject.at) ≡ None → b ≡ false
-    by true h = cc
-    by false h = refl
 
 -- numbers of operations
 

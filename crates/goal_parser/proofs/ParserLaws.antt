@@ -54,34 +54,6 @@ pub rank_passes : (s : State) (ranks : ℕ) (blocks : List ℕ) (t : Token) → 
 unfolding rank_fault
 rank_passes s ranks blocks t h = new_rank s ranks blocks t.kind t.start h
 
--- the label before a colon is new, where a token fails no test
-pub label_passes : (s : State) (draft : Draft) (ranks : ℕ) (blocks : List ℕ) (ds : List Definition) (subject : Option Mention) (counts : Counts) (us : List Mention) (t : Token)
-    → fault_by s draft ranks blocks ds subject counts us t ≡ None → label_fault ds subject t ≡ None
-unfolding fault_by
-label_passes s draft ranks blocks ds subject counts us t h =
-    let last = option_or (count_fault counts t) (unknown_fault ds us t) in
-    let labels = option_or (label_fault ds subject t) last in
-    let options = option_or (option_fault draft t) labels in
-    let numbered = option_or (rank_fault s ranks blocks t) options in
-    none_first (label_fault ds subject t) last
-    (none_second (option_fault draft t) labels
-    (none_second (rank_fault s ranks blocks t) options
-    (none_second (number_fault s draft.option t) numbered
-    (none_second (syntax_fault s t) (option_or (number_fault s draft.option t) numbered) h))))
-
-pub if_none : {A : Type 0} (o : Option A) (P : Type 0) → (o ≡ None → P) → IfNone o P
-if_none None P h = h refl
-if_none (Some x) P h = tt
-
--- the first of some tests, where the first of them passes, and where it fails
-pub passed : {A : Type 0} (a b c : Option A) → None ≡ a → c ≡ b → c ≡ option_or a b
-passed None b c e h = h
-passed (Some x) b c e h = cc
-
-pub met : {A : Type 0} (x : A) (a b : Option A) → Some x ≡ a → Some x ≡ option_or a b
-met x None b h = cc
-met x (Some y) b h = h
-
 -- the first test that a token fails is told from what a parser keeps
 pub fault_taken : (parser : Parser) (before : List Token) (t : Token) (fault : Option TextFault) → HasTaken parser before
     → fault ≡ fault_by parser.state parser.draft parser.ranks.count parser.ranks.blocks.keys (defined_of before) parser.head.subject parser.counts (used_of before) t

@@ -14,9 +14,9 @@ use Rattle.indexmap.proofs.SetLemmas.{keys_insert_entry}
 use Rattle.goal_parser.specs.declared.labels.Slot.{Slot}
 use Rattle.goal_parser.specs.declared.head.Mention.{Mention}
 use Rattle.goal_parser.specs.Items.{Definition, defined_as, is_defined, first_outside, first_unknown}
-use Rattle.goal_parser.specs.Slots.{Entries, op_in, place_in, op_by, first_by, label_at, Keeps, Grows}
+use Rattle.goal_parser.specs.Slots.{Entries, op_in, op_by, first_by, label_at, Keeps, Grows}
 
-option_or-none : {A : Type 0} (a : Option A) → option_or a None ≡ a
+pub option_or-none : {A : Type 0} (a : Option A) → option_or a None ≡ a
 option_or-none None = refl
 option_or-none (Some x) = refl
 
@@ -64,16 +64,19 @@ module _ (eq : List ℕ → List ℕ → Bool) (x : List ℕ) (v : Slot) where
       by true h rest = cc
       by false h rest = ap (λ l. e ∷ l) (rest h)
 
-  -- a label that is there keeps its place
-  first_by-present : (test : List ℕ → Bool) (es : Entries) (s : Slot) → lookup (eq x) es ≡ Some s → v.at ≡ s.at → first_by test (insert_entry eq es x v) ≡ first_by test es
+  -- a label that passes the test counts for nothing
+  first_by-present : (test : List ℕ → Bool) (es : Entries) (s : Slot) → ((q : List ℕ) → eq x q ≡ true → q ≡ x) → lookup (eq x) es ≡ Some s → test x ≡ true
+      → first_by test (insert_entry eq es x v) ≡ first_by test es
   unfolding first_by
-  first_by-present test [] s there same = cc
-  first_by-present test (e ∷ es) s there same = by (eq x e.0) there (λ h. first_by-present test es s h same)
+  first_by-present test [] s exact there passes = cc
+  first_by-present test (e ∷ es) s exact there passes = by (eq x e.0) refl there (λ h. first_by-present test es s exact h passes)
     where
-      by : (b : Bool) → cond b (Some e.1) (lookup (eq x) es) ≡ Some s → (lookup (eq x) es ≡ Some s → first_by test (insert_entry eq es x v) ≡ first_by test es)
+      by : (b : Bool) → eq x e.0 ≡ b → cond b (Some e.1) (lookup (eq x) es) ≡ Some s → (lookup (eq x) es ≡ Some s → first_by test (insert_entry eq es x v) ≡ first_by test es)
           → first_by test (if b then (e.0, v) ∷ es else e ∷ insert_entry eq es x v) ≡ first_by test (e ∷ es)
-      by true h rest = let k : e.1 ≡ s = cc in ap (λ a. if test e.0 then first_by test es else Some a) (same ∙ sym (ap (λ (z : Slot). z.at) k))
-      by false h rest = ap (λ r. if test e.0 then r else Some e.1.at) (rest h)
+      by true q h rest =
+          let passed : test e.0 ≡ true = ap test (exact e.0 q) ∙ passes in
+          ap (λ (b : Bool). if b then first_by test es else Some v.at) passed ∙ sym (ap (λ (b : Bool). if b then first_by test es else Some e.1.at) passed)
+      by false q h rest = ap (λ r. if test e.0 then r else Some e.1.at) (rest h)
 
   -- where its label fails a test, some label fails it
   first_by-some : (test : List ℕ → Bool) (es : Entries) (s : Slot) → ((q : List ℕ) → eq x q ≡ true → q ≡ x) → lookup (eq x) es ≡ Some s → test x ≡ false → is_some (first_by test es) ≡ true
@@ -200,11 +203,11 @@ defined_now ds x op = ap is_some (defined_as-append ds (record { label = x; op =
     by (Some n) = refl
 
 -- a label is defined
-pub Keeps-defined : (es fs : Entries) (ds : List Definition) (us : List Mention) (x : List ℕ) (op at place : ℕ) → place ≡ place_in (lookup (bytes_eq x) es) at
+pub Keeps-defined : (es fs : Entries) (ds : List Definition) (us : List Mention) (x : List ℕ) (op place : ℕ)
     → fs ≡ insert_entry bytes_eq es x (record { op = Some op; at = place }) → ((q : List ℕ) → lookup (bytes_eq q) fs ≡ cond (bytes_eq x q) (Some (record { op = Some op; at = place })) (lookup (bytes_eq q) es))
     → Keeps es ds us → is_defined ds x ≡ false → Keeps fs (ds ++ record { label = x; op = op } ∷ []) us
 unfolding op_by
-Keeps-defined es fs ds us x op at place placed put updated k fresh = record {
+Keeps-defined es fs ds us x op place put updated k fresh = record {
   numbers = λ q. ap op_in (updated q) ∙ by q (bytes_eq x q) refl ∙ sym (defined_as-append ds (record { label = x; op = op }) q);
   firsts = λ test all. ap (first_by test) put
       ∙ firsts test (lookup (bytes_eq x) es) refl (all x (defined_now ds x op))
@@ -226,7 +229,12 @@ Keeps-defined es fs ds us x op at place placed put updated k fresh = record {
         ∙ ap (λ b. option_or (first_by test es) (if b then None else Some place)) passes
         ∙ option_or-none (first_by test es)
     firsts test (Some s) h passes =
-        first_by-present bytes_eq x (record { op = Some op; at = place }) test es s h (placed ∙ ap (λ o. place_in o at) h)
+        first_by-present bytes_eq x (record { op = Some op; at = place }) test es s (exact x) h passes
+
+-- what was known of a label that is defined now
+pub defined_before : (es : Entries) (ds : List Definition) (us : List Mention) (x : List ℕ) (o : Option Slot) → Keeps es ds us → o ≡ lookup (bytes_eq x) es → is_defined ds x ≡ is_some (op_in o)
+unfolding op_by
+defined_before es ds us x o keeps was = ap is_some (sym (keeps.numbers x) ∙ ap op_in (sym was))
 
 -- the first label that isn't defined
 

@@ -28,14 +28,18 @@ abbrev pub low_head : State → ℕ → ItemHead → ItemHead
 low_head state.Note1 n head = record head { low = n }
 low_head _ n head = head
 
+-- the verb of a dependency or a note
+abbrev pub verb_head : TokenKind → ItemHead → ItemHead
+verb_head token.Requires head = record head { verb = verb.Requires }
+verb_head token.Irequires head = record head { verb = verb.Irequires }
+verb_head token.Moves head = record head { verb = verb.Moves }
+verb_head token.Adds head = record head { verb = verb.Adds }
+verb_head _ head = head
+
 unfoldable pub head_with : State → TokenKind → ℕ → ItemHead → ItemHead
 head_with s (token.Label label) at head = label_head s (record { label = label; at = at }) head
-head_with s token.Requires at head = record head { verb = verb.Requires }
-head_with s token.Irequires at head = record head { verb = verb.Irequires }
-head_with s token.Moves at head = record head { verb = verb.Moves }
-head_with s token.Adds at head = record head { verb = verb.Adds }
 head_with s (token.Number n) at head = low_head s n head
-head_with s _ at head = head
+head_with s kind at head = verb_head kind head
 
 -- The label that the newest item begins with, the newest verb, and the newest first slot. The newest token stands first.
 unfoldable pub head_of : List Token → ItemHead

@@ -17,10 +17,6 @@ abbrev pub op_in : Option Slot → Option ℕ
 op_in None = None
 op_in (Some slot) = slot.op
 
-abbrev pub place_in : Option Slot → ℕ → ℕ
-place_in None at = at
-place_in (Some slot) at = slot.at
-
 -- the number of a label's operation, if the label is defined
 unfoldable pub op_by : Entries → List ℕ → Option ℕ
 op_by entries label = op_in (lookup (bytes_eq label) entries)

@@ -1,19 +1,15 @@
 //! The block that is read.
-ghost use Rattle.std.specs.Prelude.{◌≡◌, ℕ, List, [], ◌∷◌, ◌++◌, IfOk, OnOk, map, length, Some, None};
+ghost use Rattle.std.specs.Prelude.{◌≡◌, List, [], IfOk, OnOk, map};
 ghost use Rattle.goal_parser.specs.declared.head.Mention.{Mention};
 ghost use Rattle.goal_parser.specs.Actions.{op_of};
-ghost use Rattle.goal_parser.specs.Items.{Definition, NamedDep, NamedNote, begins_item, ends_action, ended_ops, ops_with, defined_with, used_with, deps_with, notes_with, dep_by, note_by};
-ghost use Rattle.goal_parser.specs.Plans.{plan_ended};
-ghost use Rattle.goal_parser.specs.Numbers.{IsWithin};
-ghost use Rattle.goal_parser.specs.Faults.{label_fault};
+ghost use Rattle.goal_parser.specs.Items.{Definition, NamedDep, NamedNote, begins_item, ends_action, ended_ops, dep_by, note_by};
 ghost use Rattle.goal_parser.specs.Slots.{NamesHold};
 
 use crate::draft::Draft;
-use crate::head::ItemHead;
 use crate::names::Names;
 use crate::sentence::State;
 use goal_graph::{Op, RankPlan};
-use goal_lexer::{Token, TokenKind};
+use goal_lexer::TokenKind;
 use std::alloc::{AllocError, Global};
 use std::mem;
 
@@ -52,7 +48,7 @@ fn ends_action(state: State, kind: &TokenKind) -> bool
 }
 
 /// Adds the operation of the action that ends at this token, if one does.
-fn end_action(
+pub fn end_action(
     ops: &mut Vec<Op>,
     state: State,
     kind: &TokenKind,
@@ -95,39 +91,19 @@ impl Block {
         Ok(RankPlan { ops, deps, notes })
     }
 
-    /// Takes a token that stands in this state. The answer is the plan of the block where the token ends it.
-    #[tactic(auto, unfolding(crate::specs::Items::ops_with))]
-    pub fn take(
+    /// Ends the block in this state, and leaves an empty one. The answer is its plan.
+    pub fn close(
         &mut self,
         alloc: Global,
         state: State,
-        token: &Token,
         draft: &Draft,
-        head: &ItemHead,
-    ) -> Result<Option<RankPlan>, AllocError>
-        requires { IsWithin state token.now.kind }
-        ensures ops { OnOk result (self.new.ops.items ≡ ops_with state token.now.kind (op_of draft.now) self.old.ops.items) }
-        ensures names { OnOk result ((ds : List Definition) (us : List Mention) (deps : List NamedDep) (notes : List NamedNote) → NamesHold self.old.names ds us deps notes → label_fault ds head.now.subject token.now ≡ None →
-            NamesHold self.new.names (defined_with token.now.kind head.now.subject (length self.old.ops.items) ds) (used_with state token.now.kind token.now.start head.now us)
-            (deps_with state token.now.kind head.now deps) (notes_with state token.now.kind head.now notes)) }
+    ) -> Result<RankPlan, AllocError>
+        ensures ops { OnOk result (self.new.ops.items ≡ []) }
+        ensures names { OnOk result (NamesHold self.new.names [] [] [] []) }
         ensures plan { IfOk result (λ plan. (ds : List Definition) (us : List Mention) (deps : List NamedDep) (notes : List NamedNote) → NamesHold self.old.names ds us deps notes →
-            plan ≡ plan_ended token.now.kind (record { ops = ended_ops state TokenKind.Close (op_of draft.now) self.old.ops.items; deps = map (dep_by ds) deps; notes = map (note_by ds) notes })) }
+            plan ≡ record { ops = ended_ops state TokenKind.Close (op_of draft.now) self.old.ops.items; deps = map (dep_by ds) deps; notes = map (note_by ds) notes }) }
     {
-        match &token.kind {
-            TokenKind::Close => {
-                let block = mem::replace(self, Block::new(alloc));
-                let plan = block.finish(state, draft)?;
-                Ok(Some(plan))
-            }
-            kind => {
-                // More operations than 32 bits can number count as want of memory.
-                let Ok(op) = u32::try_from(self.ops.len()) else {
-                    return Err(AllocError);
-                };
-                self.names.take(state, token, head, op)?;
-                end_action(&mut self.ops, state, kind, draft)?;
-                Ok(None)
-            }
-        }
+        let block = mem::replace(self, Block::new(alloc));
+        block.finish(state, draft)
     }
 }

@@ -1,11 +1,9 @@
 //! How many operations, dependencies and notes a text has begun.
 ghost use Rattle.std.specs.Prelude.{◌≡◌, false};
-ghost use Rattle.goal_parser.specs.Faults.{count_fault};
 ghost use Rattle.goal_parser.specs.Counts.{counts_with, is_too_many};
 
-use crate::faults::TextFault;
 use goal_base::{MAX_DEPS, MAX_NOTES, MAX_OPS};
-use goal_lexer::{Token, TokenKind};
+use goal_lexer::TokenKind;
 
 /// How many of each the whole text has begun so far.
 #[derive(Clone, Copy, Debug, PartialEq, Eq)]
@@ -30,18 +28,17 @@ impl Counts {
         }
     }
 
-    /// Why the token is refused, if it begins one operation, dependency or note more than a schedule may have.
-    #[tactic(auto, unfolding(crate::specs::Counts::is_too_many, crate::specs::Faults::count_fault))]
-    pub fn fault(&self, token: &Token) -> Option<TextFault>
-        ensures { result ≡ count_fault self.now token.now }
+    /// Whether the word begins one operation, dependency or note more than a schedule may have.
+    #[tactic(auto, unfolding(crate::specs::Counts::is_too_many))]
+    pub fn is_too_many(&self, kind: &TokenKind) -> bool
+        ensures { result ≡ is_too_many kind.now self.now }
     {
-        let is_too_many = match &token.kind {
+        match kind {
             TokenKind::Calc | TokenKind::Send | TokenKind::Recv => self.ops >= MAX_OPS,
             TokenKind::Requires | TokenKind::Irequires => self.deps >= MAX_DEPS,
             TokenKind::Moves | TokenKind::Adds => self.notes >= MAX_NOTES,
             _ => false,
-        };
-        is_too_many.then_some(TextFault::TooMany { at: token.start })
+        }
     }
 
     /// Counts what the token begins.

@@ -1,10 +1,10 @@
 //! The label and the verb that an item of a block begins with.
-ghost use Rattle.std.specs.Prelude.{◌≡◌};
-ghost use Rattle.goal_parser.specs.Items.{label_head, low_head, head_with};
+ghost use Rattle.std.specs.Prelude.{◌≡◌, Some};
+ghost use Rattle.goal_parser.specs.Items.{low_head, verb_head};
 ghost use Rattle.goal_parser.specs.Numbers.{IsWithin};
 
 use crate::sentence::State;
-use goal_lexer::{Label, Token, TokenKind};
+use goal_lexer::{Label, TokenKind};
 
 /// A label with its place in the text.
 #[derive(Clone, Copy, Debug, PartialEq, Eq)]
@@ -51,19 +51,16 @@ impl ItemHead {
         }
     }
 
-    /// Takes a label.
-    fn take_label(&mut self, state: State, mention: Mention)
-        ensures { self.new ≡ label_head state mention self.old }
+    /// Begins an item with a label, of which the first byte stands at this place.
+    pub fn begin(&mut self, label: &Label, at: u64)
+        ensures { self.new ≡ record self.old { subject = Some (record { label = label.now; at = at }) } }
     {
-        match state {
-            State::Label => {}
-            _ => self.subject = Some(mention),
-        }
+        self.subject = Some(Mention { label: *label, at });
     }
 
     /// Takes a number.
     #[tactic(auto, unfolding(crate::specs::Numbers::is_within))]
-    fn take_number(&mut self, state: State, value: u64)
+    pub fn take_number(&mut self, state: State, value: u64)
         requires { IsWithin state (TokenKind.Number value) }
         ensures { self.new ≡ low_head state value self.old }
     {
@@ -73,25 +70,15 @@ impl ItemHead {
         }
     }
 
-    /// Takes a token that stands in this state.
-    #[tactic(auto, unfolding(crate::specs::Items::head_with))]
-    pub fn take(&mut self, state: State, token: &Token)
-        requires within { IsWithin state token.now.kind }
-        ensures taken { self.new ≡ head_with state token.now.kind token.now.start self.old }
+    /// Takes a verb. Another word leaves what was given.
+    pub fn take_verb(&mut self, kind: &TokenKind)
+        ensures { self.new ≡ verb_head kind.now self.old }
     {
-        match &token.kind {
-            TokenKind::Label(label) => self.take_label(
-                state,
-                Mention {
-                    label: *label,
-                    at: token.start,
-                },
-            ),
+        match kind {
             TokenKind::Requires => self.verb = Verb::Requires,
             TokenKind::Irequires => self.verb = Verb::Irequires,
             TokenKind::Moves => self.verb = Verb::Moves,
             TokenKind::Adds => self.verb = Verb::Adds,
-            TokenKind::Number { value } => self.take_number(state, *value),
             _ => {}
         }
     }

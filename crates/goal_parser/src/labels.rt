@@ -1,10 +1,11 @@
 //! The labels of a block.
-ghost use Rattle.std.specs.Prelude.{◌≡◌, ℕ, ◌<◌, List, [], ◌∷◌, ◌++◌, Some, None, IfOk, OnOk, false, length, bytes_eq, slice_get, IfSome};
-ghost use Rattle.std.specs.Map.{lookup};
-ghost use Rattle.goal_parser.specs.Items.{Definition, is_defined, first_unknown};
+ghost use Rattle.std.specs.Prelude.{◌≡◌, ◌≢◌, ◌<◌, List, [], ◌∷◌, ◌++◌, Some, None, IfOk, IfErr, OnOk, length};
+ghost use Rattle.goal_parser.specs.Items.{Definition, first_unknown};
 ghost use Rattle.goal_parser.specs.declared.head.Mention.{Mention};
-ghost use Rattle.goal_parser.specs.Slots.{Keeps, Grows, op_by, place_in, label_at, op_at};
+ghost use Rattle.goal_parser.specs.Faults.{defined_fault};
+ghost use Rattle.goal_parser.specs.Slots.{Keeps, Grows, op_in, label_at, op_at};
 
+use crate::faults::TextFault;
 use crate::head::Mention;
 use goal_lexer::Label;
 use indexmap::IndexMap;
@@ -15,8 +16,18 @@ use std::alloc::{AllocError, Global};
 pub struct Slot {
     /// The number of its operation, once it is defined.
     pub op: Option<u32>,
-    /// The place where it stood first.
+    /// The place where it stood first, as long as it isn't defined.
     pub at: u64,
+}
+
+/// The number of a slot's operation, if there is a slot and it has one.
+fn op_in(slot: Option<Slot>) -> Option<u32>
+    ensures { result ≡ op_in slot }
+{
+    match slot {
+        Some(slot) => slot.op,
+        None => None,
+    }
 }
 
 /// The labels of a block, in the order in which they stood first.
@@ -37,69 +48,50 @@ impl Labels {
         }
     }
 
-    /// The number of a label's operation, if the label is defined.
-    #[tactic(auto, unfolding(crate::specs::Slots::op_by))]
-    pub fn number(&self, label: &Label) -> Option<u32>
-        ensures { result ≡ op_by self.now.slots.entries label.now }
-    {
-        match self.slots.get(label) {
-            Some(slot) => slot.op,
-            None => None,
-        }
-    }
-
-    /// Where a label stood first, if it stood in the block before, or else where it stands now.
-    fn first_place(&self, mention: &Mention) -> u64
-        ensures { result ≡ place_in (lookup (bytes_eq mention.now.label) self.now.slots.entries) mention.now.at }
-    {
-        match self.slots.get(&mention.label) {
-            Some(slot) => slot.at,
-            None => mention.at,
-        }
-    }
-
-    /// Defines a label that isn't defined: it stands before the operation of this number.
-    pub fn define(&mut self, mention: &Mention, op: u32) -> Result<(), AllocError>
-        ensures kept { OnOk result ((ds : List Definition) (us : List Mention) → Keeps self.old.slots.entries ds us → is_defined ds mention.now.label ≡ false →
-            Keeps self.new.slots.entries (ds ++ record { label = mention.now.label; op = op } ∷ []) us) }
+    /// Defines a label: it stands before the operation of this number.
+    ///
+    /// # Errors
+    ///
+    /// `Repeat` where the label is defined already, and want of memory.
+    pub fn define(&mut self, mention: &Mention, op: u32) -> Result<(), TextFault>
+        ensures ok { OnOk result ((ds : List Definition) (us : List Mention) → Keeps self.old.slots.entries ds us →
+            (defined_fault ds (Some mention.now) ≡ None) × Keeps self.new.slots.entries (ds ++ record { label = mention.now.label; op = op } ∷ []) us) }
         ensures grows { OnOk result (Grows self.old.slots.entries self.new.slots.entries) }
+        ensures fault { IfErr result (λ f. f ≢ TextFault.NoMemory → (ds : List Definition) (us : List Mention) → Keeps self.old.slots.entries ds us → defined_fault ds (Some mention.now) ≡ Some f) }
     {
-        let at = self.first_place(mention);
-        self.slots.insert(mention.label, Slot { op: Some(op), at })?;
-        Ok(())
+        let at = mention.at;
+        let before = self.slots.insert(mention.label, Slot { op: Some(op), at })?;
+        match op_in(before) {
+            Some(_) => Err(TextFault::Repeat { at }),
+            None => Ok(()),
+        }
     }
 
     /// The index of a label that is used here, with a slot of its own from now on.
-    fn place(&mut self, mention: &Mention) -> Result<usize, AllocError>
+    fn place(&mut self, label: &Label, at: u64) -> Result<usize, AllocError>
         ensures kept { OnOk result ((ds : List Definition) (us : List Mention) → Keeps self.old.slots.entries ds us →
-            Keeps self.new.slots.entries ds (us ++ mention.now ∷ [])) }
+            Keeps self.new.slots.entries ds (us ++ record { label = label.now; at = at } ∷ [])) }
         ensures grows { OnOk result (Grows self.old.slots.entries self.new.slots.entries) }
         ensures within { IfOk result (λ slot. slot < length self.new.slots.entries) }
-        ensures label { IfOk result (λ slot. label_at self.new.slots.entries slot ≡ mention.now.label) }
+        ensures label { IfOk result (λ slot. label_at self.new.slots.entries slot ≡ label.now) }
     {
-        if let Some((slot, _, _)) = self.slots.get_full(&mention.label) {
+        if let Some((slot, _, _)) = self.slots.get_full(label) {
             return Ok(slot);
         }
         let slot = self.slots.len();
-        self.slots.insert(
-            mention.label,
-            Slot {
-                op: None,
-                at: mention.at,
-            },
-        )?;
+        self.slots.insert(*label, Slot { op: None, at })?;
         Ok(slot)
     }
 
     /// The slot of a label that is used here.
-    pub fn mention(&mut self, mention: &Mention) -> Result<u32, AllocError>
+    pub fn mention(&mut self, label: &Label, at: u64) -> Result<u32, AllocError>
         ensures kept { OnOk result ((ds : List Definition) (us : List Mention) → Keeps self.old.slots.entries ds us →
-            Keeps self.new.slots.entries ds (us ++ mention.now ∷ [])) }
+            Keeps self.new.slots.entries ds (us ++ record { label = label.now; at = at } ∷ [])) }
         ensures grows { OnOk result (Grows self.old.slots.entries self.new.slots.entries) }
         ensures within { IfOk result (λ slot. slot < length self.new.slots.entries) }
-        ensures label { IfOk result (λ slot. label_at self.new.slots.entries slot ≡ mention.now.label) }
+        ensures label { IfOk result (λ slot. label_at self.new.slots.entries slot ≡ label.now) }
     {
-        let slot = self.place(mention)?;
+        let slot = self.place(label, at)?;
         // More slots than 32 bits can number count as want of memory.
         match u32::try_from(slot) {
             Ok(slot) => Ok(slot),

@@ -13,7 +13,6 @@
 #![tactic(auto)]
 
 mod block;
-mod checks;
 mod counts;
 mod draft;
 mod faults;

@@ -1,16 +1,17 @@
 //! The labels of a block, and the dependencies and notes that name them.
-ghost use Rattle.std.specs.Prelude.{◌≡◌, ℕ, List, [], ◌∷◌, ◌++◌, IfOk, OnOk, map, Some, None};
+ghost use Rattle.std.specs.Prelude.{◌≡◌, ◌≢◌, List, [], IfErr, OnOk, map, Some, None};
 ghost use Rattle.goal_parser.specs.declared.head.Mention.{Mention};
-ghost use Rattle.goal_parser.specs.Items.{Definition, NamedDep, NamedNote, define, dep_ended, note_ended, dep_uses, note_uses, defined_with, used_with, deps_with, notes_with, when_of, note_as, IsInside};
-ghost use Rattle.goal_parser.specs.Slots.{NamesHold, IsNote, IsDep, dep_at, note_at};
+ghost use Rattle.goal_parser.specs.Items.{Definition, NamedDep, NamedNote, define, dep_ended, note_ended, dep_uses, note_uses, when_of, note_as};
+ghost use Rattle.goal_parser.specs.Slots.{Keeps, NamesHold, dep_at, note_at};
 ghost use Rattle.goal_parser.specs.Numbers.{IsWithin};
-ghost use Rattle.goal_parser.specs.Faults.{defined_fault, label_fault};
+ghost use Rattle.goal_parser.specs.Faults.{defined_fault};
 
+use crate::faults::TextFault;
 use crate::head::{ItemHead, Mention, Verb};
 use crate::labels::Labels;
 use crate::sentence::State;
 use goal_graph::{Dep, Note, When};
-use goal_lexer::{Label, Token, TokenKind};
+use goal_lexer::{Label, TokenKind};
 use std::alloc::{AllocError, Global};
 
 /// The labels of a block, and its dependencies and notes with slots of labels in place of operations.
@@ -64,49 +65,45 @@ impl Names {
         }
     }
 
-    /// Defines a label that the block hasn't defined: it stands before the operation of this number.
-    fn define(&mut self, subject: &Option<Mention>, op: u32) -> Result<(), AllocError>
-        ensures { OnOk result ((ds : List Definition) (us : List Mention) (deps : List NamedDep) (notes : List NamedNote) → NamesHold self.old ds us deps notes → defined_fault ds subject.now ≡ None →
-            NamesHold self.new (define subject.now op ds) us deps notes) }
+    /// Defines a label: it stands before the operation of this number.
+    ///
+    /// # Errors
+    ///
+    /// `Repeat` where the block has defined the label before, and want of memory.
+    pub fn define(&mut self, subject: &Option<Mention>, op: u32) -> Result<(), TextFault>
+        ensures ok { OnOk result ((ds : List Definition) (us : List Mention) (deps : List NamedDep) (notes : List NamedNote) → NamesHold self.old ds us deps notes →
+            (defined_fault ds subject.now ≡ None) × NamesHold self.new (define subject.now op ds) us deps notes) }
+        ensures fault { IfErr result (λ f. f ≢ TextFault.NoMemory → (ds : List Definition) (us : List Mention) → Keeps self.old.labels.slots.entries ds us → defined_fault ds subject.now ≡ Some f) }
     {
         match subject {
+            Some(subject) => self.labels.define(subject, op),
+            None => Ok(()),
+        }
+    }
+
+    /// Takes the second label of a dependency, of which the first byte stands at this place.
+    pub fn end_dep(&mut self, head: &ItemHead, label: &Label, at: u64) -> Result<(), AllocError>
+        ensures { OnOk result ((ds : List Definition) (us : List Mention) (deps : List NamedDep) (notes : List NamedNote) → NamesHold self.old ds us deps notes →
+            NamesHold self.new ds (dep_uses State.Label head.now.subject (record { label = label.now; at = at }) us) (dep_ended State.Label head.now.subject head.now.verb label.now deps) notes) }
+    {
+        match &head.subject {
             Some(subject) => {
-                self.labels.define(subject, op)?;
+                let later = self.labels.mention(&subject.label, subject.at)?;
+                let earlier = self.labels.mention(label, at)?;
+                self.deps.push(Dep {
+                    later,
+                    earlier,
+                    when: when_of(head.verb),
+                })?;
                 Ok(())
             }
             None => Ok(()),
         }
     }
 
-    /// Takes the second label of a dependency.
-    fn end_dep(
-        &mut self,
-        state: State,
-        subject: &Option<Mention>,
-        verb: Verb,
-        earlier: &Mention,
-    ) -> Result<(), AllocError>
-        ensures { OnOk result ((ds : List Definition) (us : List Mention) (deps : List NamedDep) (notes : List NamedNote) → NamesHold self.old ds us deps notes →
-            NamesHold self.new ds (dep_uses state subject.now earlier.now us) (dep_ended state subject.now verb earlier.now.label deps) notes) }
-    {
-        match (state, subject) {
-            (State::Label, Some(subject)) => {
-                let later = self.labels.mention(subject)?;
-                let earlier = self.labels.mention(earlier)?;
-                self.deps.push(Dep {
-                    later,
-                    earlier,
-                    when: when_of(verb),
-                })?;
-                Ok(())
-            }
-            _ => Ok(()),
-        }
-    }
-
     /// Takes the second number of a note.
     #[tactic(auto, unfolding(crate::specs::Numbers::is_within))]
-    fn end_note(&mut self, state: State, head: &ItemHead, second: u64) -> Result<(), AllocError>
+    pub fn end_note(&mut self, state: State, head: &ItemHead, second: u64) -> Result<(), AllocError>
         requires { IsWithin state (TokenKind.Number second) }
         ensures { OnOk result ((ds : List Definition) (us : List Mention) (deps : List NamedDep) (notes : List NamedNote) → NamesHold self.old ds us deps notes →
             NamesHold self.new ds (note_uses state head.now.subject us) deps (note_ended state head.now.subject head.now.verb head.now.low second notes)) }
@@ -114,44 +111,8 @@ impl Names {
         match (state, &head.subject) {
             (State::Note3, Some(subject)) => {
                 let second = second as u32;
-                let op = self.labels.mention(subject)?;
+                let op = self.labels.mention(&subject.label, subject.at)?;
                 self.notes.push(note_as(head.verb, op, head.low, second))?;
-                Ok(())
-            }
-            _ => Ok(()),
-        }
-    }
-
-    /// Takes a token that stands in this state, where the block has so many operations. It ends no block.
-    #[tactic(auto, unfolding(crate::specs::Items::defined_with, crate::specs::Items::used_with, crate::specs::Items::deps_with, crate::specs::Items::notes_with, crate::specs::Faults::label_fault))]
-    pub fn take(
-        &mut self,
-        state: State,
-        token: &Token,
-        head: &ItemHead,
-        op: u32,
-    ) -> Result<(), AllocError>
-        requires within { IsWithin state token.now.kind }
-        requires inside { IsInside token.now.kind }
-        ensures { OnOk result ((ds : List Definition) (us : List Mention) (deps : List NamedDep) (notes : List NamedNote) → NamesHold self.old ds us deps notes → label_fault ds head.now.subject token.now ≡ None →
-            NamesHold self.new (defined_with token.now.kind head.now.subject op ds) (used_with state token.now.kind token.now.start head.now us)
-            (deps_with state token.now.kind head.now deps) (notes_with state token.now.kind head.now notes)) }
-    {
-        match &token.kind {
-            TokenKind::Colon => {
-                self.define(&head.subject, op)?;
-                Ok(())
-            }
-            TokenKind::Label(label) => {
-                let earlier = Mention {
-                    label: *label,
-                    at: token.start,
-                };
-                self.end_dep(state, &head.subject, head.verb, &earlier)?;
-                Ok(())
-            }
-            TokenKind::Number { value } => {
-                self.end_note(state, head, *value)?;
                 Ok(())
             }
             _ => Ok(()),

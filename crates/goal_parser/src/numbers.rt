@@ -1,11 +1,10 @@
 //! The limits of the numbers of a text.
 ghost use Rattle.std.specs.Prelude.{◌≡◌};
-ghost use Rattle.goal_parser.specs.Numbers.{option_most, most, least, number_within, is_within};
+ghost use Rattle.goal_parser.specs.Numbers.{option_most, most, least, number_within};
 
 use crate::draft::OptionWord;
 use crate::sentence::State;
 use goal_base::{MAX_BYTES, MAX_NANOS, MAX_RANKS};
-use goal_lexer::TokenKind;
 
 /// The limit of an option's number.
 fn option_most(option: OptionWord) -> u64
@@ -41,21 +40,8 @@ fn least(state: State) -> u64
 }
 
 /// Whether the number is within the limits of its place.
-fn number_within(state: State, option: OptionWord, value: u64) -> bool
+pub fn number_within(state: State, option: OptionWord, value: u64) -> bool
     ensures { result ≡ number_within state option value }
 {
     least(state) <= value && value <= most(state, option)
-}
-
-/// Whether the token's number or size, if it has one, is within the limits of its place.
-#[tactic(auto, unfolding(crate::specs::Numbers::is_within))]
-pub fn is_within(state: State, option: OptionWord, kind: &TokenKind) -> bool
-    ensures { result ≡ is_within state option kind.now }
-{
-    match kind {
-        TokenKind::Number { value } | TokenKind::Size { value } => number_within(
-            state, option, *value,
-        ),
-        _ => true,
-    }
 }

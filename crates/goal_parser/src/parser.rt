@@ -1,22 +1,22 @@
 //! The parser: from tokens to plans.
-ghost use Rattle.std.specs.Prelude.{◌≡◌, ◌≢◌, List, [], ◌∷◌, None, Some, OnOk, IfErr, IfNone};
+ghost use Rattle.std.specs.Prelude.{◌≡◌, ◌≢◌, List, [], ◌∷◌, None, Some, OnOk, IfErr};
 ghost use Rattle.goal_lexer.specs.declared.tokens.Token.{Token};
-ghost use Rattle.goal_parser.specs.Faults.{token_fault, label_fault};
-ghost use Rattle.goal_parser.specs.Items.{defined_of, head_of};
-ghost use Rattle.goal_parser.specs.Taken.{HasTaken, Fits};
+ghost use Rattle.goal_parser.specs.Sentence.{entry};
+ghost use Rattle.goal_parser.specs.Faults.{token_fault};
+ghost use Rattle.goal_parser.specs.Taken.{HasTaken, IsAction, IsOption, IsVerb, IsPlain, Takes, Refuses};
 
-use crate::block::Block;
-use crate::checks::{label_fault, number_fault, option_fault, syntax_fault, unknown_fault};
+use crate::block::{Block, end_action};
 use crate::counts::Counts;
 use crate::draft::Draft;
 use crate::faults::TextFault;
 use crate::head::ItemHead;
+use crate::numbers::number_within;
 use crate::plans;
 use crate::ranks::Ranks;
-use crate::sentence::{State, next_state};
+use crate::sentence::{State, entry};
 use goal_graph::RankPlan;
-use goal_lexer::Token;
-use std::alloc::{AllocError, Global};
+use goal_lexer::{Label, Token, TokenKind};
+use std::alloc::Global;
 
 /// Takes the tokens of a text, one by one, up to the first that fails a test.
 #[derive(Drop)]
@@ -56,68 +56,209 @@ impl Parser {
         }
     }
 
-    /// The first test that the token fails, if it fails one.
-    fn fault(&self, token: &Token) -> Option<TextFault>
-        ensures fault { (before : List Token) → HasTaken self.now before → result ≡ token_fault before token.now }
-        ensures fits { IfNone result (Fits self.now token.now) }
-    {
-        let labels = &self.block.names.labels;
-        if let Some(fault) = syntax_fault(self.state, token) {
-            return Some(fault);
-        }
-        if let Some(fault) = number_fault(self.state, self.draft.option, token) {
-            return Some(fault);
-        }
-        if let Some(fault) = self.ranks.fault(self.state, token) {
-            return Some(fault);
-        }
-        if let Some(fault) = option_fault(&self.draft, token) {
-            return Some(fault);
-        }
-        if let Some(fault) = label_fault(labels, &self.head.subject, token) {
-            return Some(fault);
-        }
-        if let Some(fault) = self.counts.fault(token) {
-            return Some(fault);
-        }
-        unknown_fault(labels, token)
-    }
-
-    /// Keeps what a token gives that fails no test.
-    fn keep(&mut self, token: &Token) -> Result<(), AllocError>
-        requires fits { Fits self.old token.now }
-        ensures taken { OnOk result ((before : List Token) → HasTaken self.old before → label_fault (defined_of before) (head_of before).subject token.now ≡ None →
-            HasTaken self.new (token.now ∷ before)) }
+    /// Takes a number.
+    fn take_number(&mut self, next: State, token: &Token, value: u64) -> Result<(), TextFault>
+        requires next { entry self.old.state token.now.kind ≡ Some next }
+        requires number { token.now.kind ≡ TokenKind.Number value }
+        ensures ok { OnOk result (Takes self.old token.now self.new) }
+        ensures fault { IfErr result (λ f. f ≢ TextFault.NoMemory → Refuses self.old token.now f) }
     {
         let state = self.state;
-        let ended = self
-            .block
-            .take(self.alloc, state, token, &self.draft, &self.head)?;
-        plans::take(
-            &mut self.plans,
-            self.alloc,
-            state,
-            &token.kind,
-            self.ranks.present,
-            ended,
-        )?;
-        self.ranks.take(state, &token.kind)?;
-        self.counts.take(&token.kind);
-        self.head.take(state, token);
-        self.draft.take(state, &token.kind);
-        self.state = next_state(state, &token.kind);
+        if !number_within(state, self.draft.option, value) {
+            return Err(TextFault::Number { at: token.start });
+        }
+        self.state = next;
+        match state {
+            State::Ranks => {
+                self.plans = plans::empty_plans(self.alloc, value)?;
+                self.ranks.count = value;
+                Ok(())
+            }
+            State::Block => {
+                if let Some(fault) = self.ranks.fault(state, token) {
+                    return Err(fault);
+                }
+                self.ranks.take(value)?;
+                Ok(())
+            }
+            State::Note1 => {
+                self.head.take_number(state, value);
+                Ok(())
+            }
+            State::Note3 => {
+                self.block.names.end_note(state, &self.head, value)?;
+                Ok(())
+            }
+            _ => {
+                self.draft.take(state, &token.kind);
+                Ok(())
+            }
+        }
+    }
+
+    /// Takes a size.
+    fn take_size(&mut self, next: State, token: &Token, value: u64) -> Result<(), TextFault>
+        requires next { entry self.old.state token.now.kind ≡ Some next }
+        requires size { token.now.kind ≡ TokenKind.Size value }
+        ensures ok { OnOk result (Takes self.old token.now self.new) }
+        ensures fault { IfErr result (λ f. f ≢ TextFault.NoMemory → Refuses self.old token.now f) }
+    {
+        if !number_within(self.state, self.draft.option, value) {
+            return Err(TextFault::Number { at: token.start });
+        }
+        self.draft.take(self.state, &token.kind);
+        self.state = next;
         Ok(())
     }
 
-    /// Takes the next token.
+    /// Takes the word of an option.
+    fn take_option(&mut self, next: State, token: &Token) -> Result<(), TextFault>
+        requires next { entry self.old.state token.now.kind ≡ Some next }
+        requires option { IsOption token.now.kind }
+        ensures ok { OnOk result (Takes self.old token.now self.new) }
+        ensures fault { IfErr result (λ f. f ≢ TextFault.NoMemory → Refuses self.old token.now f) }
+    {
+        if self.draft.has_option(&token.kind) {
+            return Err(TextFault::Repeat { at: token.start });
+        }
+        self.draft.take(self.state, &token.kind);
+        self.state = next;
+        Ok(())
+    }
+
+    /// Takes a label.
+    fn take_label(&mut self, next: State, token: &Token, label: &Label) -> Result<(), TextFault>
+        requires next { entry self.old.state token.now.kind ≡ Some next }
+        requires label { token.now.kind ≡ TokenKind.Label label.now }
+        ensures ok { OnOk result (Takes self.old token.now self.new) }
+        ensures fault { IfErr result (λ f. f ≢ TextFault.NoMemory → Refuses self.old token.now f) }
+    {
+        let state = self.state;
+        self.state = next;
+        match state {
+            State::Label => {
+                self.block.names.end_dep(&self.head, label, token.start)?;
+                Ok(())
+            }
+            _ => {
+                end_action(&mut self.block.ops, state, &token.kind, &self.draft)?;
+                self.head.begin(label, token.start);
+                Ok(())
+            }
+        }
+    }
+
+    /// Takes a colon: it defines the label before it.
+    fn take_colon(&mut self, next: State, token: &Token) -> Result<(), TextFault>
+        requires next { entry self.old.state token.now.kind ≡ Some next }
+        requires colon { token.now.kind ≡ TokenKind.Colon }
+        ensures ok { OnOk result (Takes self.old token.now self.new) }
+        ensures fault { IfErr result (λ f. f ≢ TextFault.NoMemory → Refuses self.old token.now f) }
+    {
+        // More operations than 32 bits can number count as want of memory.
+        let Ok(op) = u32::try_from(self.block.ops.len()) else {
+            return Err(TextFault::NoMemory);
+        };
+        self.state = next;
+        self.block.names.define(&self.head.subject, op)
+    }
+
+    /// Takes the word that an action begins with.
+    fn take_action(&mut self, next: State, token: &Token) -> Result<(), TextFault>
+        requires next { entry self.old.state token.now.kind ≡ Some next }
+        requires action { IsAction token.now.kind }
+        ensures ok { OnOk result (Takes self.old token.now self.new) }
+        ensures fault { IfErr result (λ f. f ≢ TextFault.NoMemory → Refuses self.old token.now f) }
+    {
+        if self.counts.is_too_many(&token.kind) {
+            return Err(TextFault::TooMany { at: token.start });
+        }
+        end_action(&mut self.block.ops, self.state, &token.kind, &self.draft)?;
+        self.counts.take(&token.kind);
+        self.draft.take(self.state, &token.kind);
+        self.state = next;
+        Ok(())
+    }
+
+    /// Takes the word behind the label of a dependency or a note.
+    fn take_verb(&mut self, next: State, token: &Token) -> Result<(), TextFault>
+        requires next { entry self.old.state token.now.kind ≡ Some next }
+        requires verb { IsVerb token.now.kind }
+        ensures ok { OnOk result (Takes self.old token.now self.new) }
+        ensures fault { IfErr result (λ f. f ≢ TextFault.NoMemory → Refuses self.old token.now f) }
+    {
+        if self.counts.is_too_many(&token.kind) {
+            return Err(TextFault::TooMany { at: token.start });
+        }
+        self.counts.take(&token.kind);
+        self.head.take_verb(&token.kind);
+        self.state = next;
+        Ok(())
+    }
+
+    /// Takes the sign that ends a block.
+    fn take_close(&mut self, next: State, token: &Token) -> Result<(), TextFault>
+        requires next { entry self.old.state token.now.kind ≡ Some next }
+        requires close { token.now.kind ≡ TokenKind.Close }
+        ensures ok { OnOk result (Takes self.old token.now self.new) }
+        ensures fault { IfErr result (λ f. f ≢ TextFault.NoMemory → Refuses self.old token.now f) }
+    {
+        if let Some(at) = self.block.names.labels.first_unknown() {
+            return Err(TextFault::UnknownLabel { at });
+        }
+        let plan = self.block.close(self.alloc, self.state, &self.draft)?;
+        plans::put(&mut self.plans, self.ranks.present, plan);
+        self.state = next;
+        Ok(())
+    }
+
+    /// Takes a word or a sign that nothing is kept of but the state behind it.
+    fn take_plain(&mut self, next: State, token: &Token)
+        requires next { entry self.old.state token.now.kind ≡ Some next }
+        requires plain { IsPlain token.now.kind }
+        ensures { Takes self.old token.now self.new }
+    {
+        self.state = next;
+    }
+
+    /// Takes the word `any`.
+    fn take_any(&mut self, next: State, token: &Token)
+        requires next { entry self.old.state token.now.kind ≡ Some next }
+        requires any { token.now.kind ≡ TokenKind.Any }
+        ensures { Takes self.old token.now self.new }
+    {
+        self.draft.take(self.state, &token.kind);
+        self.state = next;
+    }
+
+    /// Takes the next token. Only the tests that its kind can fail are made, in their order.
     pub fn take(&mut self, token: &Token) -> Result<(), TextFault>
         ensures ok { OnOk result ((before : List Token) → HasTaken self.old before → (token_fault before token.now ≡ None) × HasTaken self.new (token.now ∷ before)) }
         ensures fault { IfErr result (λ f. f ≢ TextFault.NoMemory → (before : List Token) → HasTaken self.old before → token_fault before token.now ≡ Some f) }
     {
-        match self.fault(token) {
-            Some(fault) => Err(fault),
-            None => {
-                self.keep(token)?;
+        let Some(next) = entry(self.state, &token.kind) else {
+            return Err(TextFault::Syntax { at: token.start });
+        };
+        match &token.kind {
+            TokenKind::Number { value } => self.take_number(next, token, *value),
+            TokenKind::Size { value } => self.take_size(next, token, *value),
+            TokenKind::Label(label) => self.take_label(next, token, label),
+            TokenKind::Colon => self.take_colon(next, token),
+            TokenKind::Close => self.take_close(next, token),
+            TokenKind::Tag | TokenKind::Cpu | TokenKind::Nic => self.take_option(next, token),
+            TokenKind::Calc | TokenKind::Send | TokenKind::Recv => self.take_action(next, token),
+            TokenKind::Requires | TokenKind::Irequires | TokenKind::Moves | TokenKind::Adds =>
+                self.take_verb(next, token),
+            TokenKind::Any => {
+                self.take_any(next, token);
+                Ok(())
+            }
+            TokenKind::NumRanks
+            | TokenKind::Rank
+            | TokenKind::To
+            | TokenKind::From
+            | TokenKind::Open => {
+                self.take_plain(next, token);
                 Ok(())
             }
         }

@@ -1,7 +1,6 @@
 //! The number of ranks, and the ranks of the blocks.
-ghost use Rattle.std.specs.Prelude.{◌≡◌, ◌≤◌, ◌++◌, [], ◌∷◌, None, OnOk, nat_eq, IfOk};
+ghost use Rattle.std.specs.Prelude.{◌≡◌, ◌≤◌, ◌++◌, [], ◌∷◌, None, OnOk, nat_eq, IfOk, false};
 ghost use Rattle.std.specs.List.{list_any};
-ghost use Rattle.goal_parser.specs.Ranks.{ranks_with, blocks_with, rank_with, IsNewRank};
 ghost use Rattle.goal_parser.specs.Faults.{numbered_rank_fault, rank_fault};
 
 use crate::faults::TextFault;
@@ -64,25 +63,15 @@ impl Ranks {
         }
     }
 
-    /// Takes a token that stands in this state and isn't refused as a rank.
-    #[tactic(auto, unfolding(crate::specs::Ranks::ranks_with, crate::specs::Ranks::blocks_with, crate::specs::Ranks::rank_with))]
-    pub fn take(&mut self, state: State, kind: &TokenKind) -> Result<(), AllocError>
-        requires new { IsNewRank state self.old.blocks.keys kind.now }
-        ensures count { OnOk result (self.new.count ≡ ranks_with state kind.now self.old.count) }
-        ensures present { OnOk result (self.new.present ≡ rank_with state kind.now self.old.present) }
-        ensures blocks { OnOk result (self.new.blocks.keys ≡ blocks_with state kind.now self.old.blocks.keys) }
+    /// Takes the rank of a new block, which had none before.
+    pub fn take(&mut self, value: u64) -> Result<(), AllocError>
+        requires new { list_any (nat_eq value) self.old.blocks.keys ≡ false }
+        ensures count { OnOk result (self.new.count ≡ self.old.count) }
+        ensures present { OnOk result (self.new.present ≡ value) }
+        ensures blocks { OnOk result (self.new.blocks.keys ≡ self.old.blocks.keys ++ value ∷ []) }
     {
-        match (state, kind) {
-            (State::Ranks, TokenKind::Number { value }) => {
-                self.count = *value;
-                Ok(())
-            }
-            (State::Block, TokenKind::Number { value }) => {
-                self.present = *value;
-                self.blocks.insert(*value)?;
-                Ok(())
-            }
-            _ => Ok(()),
-        }
+        self.present = value;
+        self.blocks.insert(value)?;
+        Ok(())
     }
 }

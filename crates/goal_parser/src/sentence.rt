@@ -1,5 +1,5 @@
 //! The sentences of a text: which token may follow.
-ghost use Rattle.std.specs.Prelude.{◌≡◌, unwrap_or};
+ghost use Rattle.std.specs.Prelude.{◌≡◌};
 ghost use Rattle.goal_parser.specs.Sentence.{item_entry, entry};
 
 use goal_lexer::TokenKind;
@@ -123,11 +123,4 @@ pub fn entry(state: State, kind: &TokenKind) -> Option<State>
         (State::Item | State::Calc2 | State::Send4 | State::Recv4, kind) => item_entry(kind),
         _ => None,
     }
-}
-
-/// The state behind a token: the same where there is no entry.
-pub fn next_state(state: State, kind: &TokenKind) -> State
-    ensures { result ≡ unwrap_or (entry state kind.now) state }
-{
-    entry(state, kind).unwrap_or(state)
 }

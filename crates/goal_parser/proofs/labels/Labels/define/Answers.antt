@@ -1,12 +1,29 @@
-use Rattle.std.proofs.Common.{Some}
-use Rattle.goal_parser.proofs.SlotLaws.{Keeps-defined, Grows-insert}
+use Rattle.std.proofs.Common.{◌≡◌, ◌∙◌, sym, ap, Bool, false, true, Some, None, is_some, rules, ℕ, Option}
+use Rattle.goal_parser.specs.Items.{is_defined}
+use Rattle.goal_parser.specs.Slots.{op_in}
+use Rattle.goal_parser.specs.Faults.{fault_if}
+use Rattle.goal_parser.specs.declared.faults.TextFault.TheVariants.{Repeat}
+use Rattle.goal_parser.proofs.SlotLaws.{Keeps-defined, Grows-insert, defined_before}
 use Rattle.goal_parser.proofs.labels.Labels.define.Goals as goal
 
-pub returns-clause-kept : goal.returns-clause-kept
-returns-clause-kept c = λ ds us keeps fresh.
-    Keeps-defined c.args.self.now.slots.entries c.insert.new.self.entries ds us c.args.mention.now.label c.args.op c.args.mention.now.at c.first_place-at.result
-    c.first_place-at.ensures c.in_ok-insert.ensures.entries c.in_ok-insert.ensures.updates.0 keeps fresh
+pub returns-in-None-clause-ok : goal.returns-in-None-clause-ok
+returns-in-None-clause-ok c = λ ds us keeps.
+    let es = c.args.self.now.slots.entries in
+    let label = c.args.mention.now.label in
+    let at = c.args.mention.now.at in
+    let before = c.in_ok-before.before in
+    let fresh : is_defined ds label ≡ false = defined_before es ds us label before keeps (search (rules)) ∙ ap (λ (o : Option ℕ). is_some o) (sym c.op_in.ensures ∙ c.in-None.is) in (
+      ap (λ (b : Bool). fault_if b (Repeat at)) fresh,
+      Keeps-defined es c.insert.new.self.entries ds us label c.args.op at c.in_ok-before.ensures.entries c.in_ok-before.ensures.updates.0 keeps fresh,
+    )
 
-pub returns-clause-grows : goal.returns-clause-grows
-returns-clause-grows c =
-    Grows-insert c.args.self.now.slots.entries c.insert.new.self.entries c.args.mention.now.label (record { op = Some c.args.op; at = c.first_place-at.result }) c.in_ok-insert.ensures.entries
+pub returns-in-None-clause-grows : goal.returns-in-None-clause-grows
+returns-in-None-clause-grows c =
+    Grows-insert c.args.self.now.slots.entries c.insert.new.self.entries c.args.mention.now.label (record { op = Some c.args.op; at = c.args.mention.now.at }) c.in_ok-before.ensures.entries
+
+pub returns-in-Some-clause-fault : goal.returns-in-Some-clause-fault
+returns-in-Some-clause-fault c = λ memory ds us keeps.
+    let es = c.args.self.now.slots.entries in
+    let label = c.args.mention.now.label in
+    let defined : is_defined ds label ≡ true = defined_before es ds us label c.in_ok-before.before keeps (search (rules)) ∙ ap (λ (o : Option ℕ). is_some o) (sym c.op_in.ensures ∙ c.in-Some.is) in
+    ap (λ (b : Bool). fault_if b (Repeat c.args.mention.now.at)) defined
