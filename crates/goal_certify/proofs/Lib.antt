@@ -14,3 +14,10 @@ pub mod Cursors
 pub mod Choice
 pub mod Queue
 pub mod Steps
+mod Rows
+mod Depth
+mod Before
+mod Touches
+mod Table
+mod OpenPairs
+mod LeastSlot

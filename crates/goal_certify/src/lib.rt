@@ -3,6 +3,7 @@
 
 mod channels;
 mod ends;
+mod races;
 mod sizes;
 mod slot_counts;
 mod walk;

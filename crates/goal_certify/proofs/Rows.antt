@@ -1,0 +1,205 @@
+-- What writes of words do to rows of bits.
+use Rattle.std.proofs.Common.{◌≡◌, ◌≢◌, ℕ, ◌+◌, ◌*◌, ◌/◌, ◌%◌, ◌^◌, ◌-◌, ◌<◌, ◌≤◌, ◌⊎◌, Bool, true, false, eqb, List, ◌++◌, length, replicate, get_or, set, refl, sym, ap, ◌∙◌, inl, inr, ⊎_elim, arith, w64, eq-eqb, ne_eqb, get_or-set_same, get_or-set_other, true≢false}
+use Rattle.std.proofs.lemmas.Bool.{cases_eq, cases_lt}
+use Rattle.std.proofs.Math.ListN.{get_or-append}
+use Rattle.std.proofs.Math.Seq.{get_or-append_right}
+use Rattle.std.proofs.lemmas.List.{get_or-replicate, get_or_past, length-replicate}
+use Rattle.std.proofs.lemmas.Nat.Bits.{bit_at_set_same, bit_at_set_other, bit_at-zero, bit_at_or, bit_at-lt}
+use Rattle.std.specs.Prelude.{bit_or}
+use Rattle.std.specs.Int.{bit_at}
+use Rattle.goal_certify.specs.Rows.{has}
+
+-- a bit of a word
+abbrev bit : ℕ → ℕ → Bool
+bit word k = eqb (bit_at word (k % 64)) 1
+
+bit_or_cases : (a b i : ℕ) → eqb (bit_at (bit_or a b) i) 1 ≡ true → (eqb (bit_at a i) 1 ≡ true) ⊎ (eqb (bit_at b i) 1 ≡ true)
+bit_or_cases a b i h =
+    elim (cases_eq (bit_at a i) 1) [
+      | inl one ↦ inl (eq-eqb (bit_at a i) 1 one)
+      | inr other ↦
+          elim (cases_eq (bit_at b i) 1) [
+            | inl one ↦ inr (eq-eqb (bit_at b i) 1 one)
+            | inr none ↦
+                let x : bit_at a i < 2 = bit_at-lt a i in
+                let y : bit_at b i < 2 = bit_at-lt b i in
+                let e : bit_at (bit_or a b) i ≢ 1 = omega (arith, bit_at_or a b i) in
+                absurd (true≢false (sym h ∙ ne_eqb _ 1 e))
+          ]
+    ]
+
+is_one : (a : ℕ) → eqb a 1 ≡ true → a ≡ 1
+is_one a h = ⊎_elim (λ e. e) (λ n. absurd (true≢false (sym h ∙ ne_eqb a 1 n))) (cases_eq a 1)
+
+bit_or_left : (a b i : ℕ) → eqb (bit_at a i) 1 ≡ true → eqb (bit_at (bit_or a b) i) 1 ≡ true
+bit_or_left a b i h =
+    let x : bit_at a i ≡ 1 = is_one _ h in
+    let y : bit_at b i < 2 = bit_at-lt b i in
+    eq-eqb _ 1 (omega (arith, bit_at_or a b i))
+
+bit_or_right : (a b i : ℕ) → eqb (bit_at b i) 1 ≡ true → eqb (bit_at (bit_or a b) i) 1 ≡ true
+bit_or_right a b i h =
+    let x : bit_at b i ≡ 1 = is_one _ h in
+    let y : bit_at a i < 2 = bit_at-lt a i in
+    eq-eqb _ 1 (omega (arith, bit_at_or a b i))
+
+-- the words of the row have the bits of those words too, and the other words are the same
+pub record IsJoined (old new : List ℕ) (row : ℕ) (others : List ℕ) (other places : ℕ) : Type 0 where
+  pub done : (j : ℕ) → j < places → get_or new (32 * row + j) 0 ≡ bit_or (get_or old (32 * row + j) 0) (get_or others (32 * other + j) 0)
+  pub rest : (j : ℕ) → (32 * row ≤ j → j < 32 * row + places → ⊥) → get_or new j 0 ≡ get_or old j 0
+
+pub joined_none : (old : List ℕ) (row : ℕ) (others : List ℕ) (other : ℕ) → IsJoined old old row others other 0
+joined_none old row others other = record { done = λ j h. absurd (omega arith); rest = λ j out. refl }
+
+pub joined_more : (old now : List ℕ) (row : ℕ) (others : List ℕ) (other place word : ℕ) → 32 * row + place < length now → word ≡ get_or others (32 * other + place) 0 → IsJoined old now row others other place → IsJoined old (set now (32 * row + place) (bit_or (get_or now (32 * row + place) 0) word)) row others other (place + 1)
+joined_more old now row others other place word inside read j = record { done = done; rest = rest }
+  where
+    i : ℕ
+    i = 32 * row + place
+
+    done : (k : ℕ) → k < place + 1 → get_or (set now (32 * row + place) (bit_or (get_or now (32 * row + place) 0) word)) (32 * row + k) 0 ≡ bit_or (get_or old (32 * row + k) 0) (get_or others (32 * other + k) 0)
+    done k h =
+        elim (cases_eq k place) [
+          | inl same ↦
+              rw same
+              (get_or-set_same now (32 * row + place) _ 0 inside
+              ∙ ap (λ w. bit_or w word) (j.rest (32 * row + place) (λ a b. omega arith))
+              ∙ ap (bit_or (get_or old (32 * row + place) 0)) read)
+          | inr other_place ↦
+              get_or-set_other now (32 * row + place) (32 * row + k) _ 0 (omega arith) ∙ j.done k (omega arith)
+        ]
+
+    rest : (k : ℕ) → (32 * row ≤ k → k < 32 * row + (place + 1) → ⊥) → get_or (set now (32 * row + place) (bit_or (get_or now (32 * row + place) 0) word)) k 0 ≡ get_or old k 0
+    rest k out =
+        elim (cases_eq k (32 * row + place)) [
+          | inl same ↦ absurd (out (omega arith) (omega arith))
+          | inr apart ↦
+              get_or-set_other now (32 * row + place) k _ 0 apart ∙ j.rest k (λ a b. out a (omega arith))
+        ]
+
+module _ (old new : List ℕ) (row : ℕ) (others : List ℕ) (other places : ℕ) (all : places ≡ 32) (j : IsJoined old new row others other places) where
+  pub joined_adds : (k : ℕ) → k < 2048 → has others other k ≡ true → has new row k ≡ true
+  unfolding has
+  joined_adds k small h =
+      ap (λ w. bit w k) (j.done (k / 64) (omega arith)) ∙ bit_or_right _ _ (k % 64) h
+
+  pub joined_keeps : (r k : ℕ) → k < 2048 → has old r k ≡ true → has new r k ≡ true
+  unfolding has
+  joined_keeps r k small h =
+      elim (cases_eq r row) [
+        | inl same ↦ rw same (ap (λ w. bit w k) (j.done (k / 64) (omega arith)) ∙ bit_or_left _ _ (k % 64) (rw same at h))
+        | inr apart ↦ ap (λ w. bit w k) (j.rest (32 * r + k / 64) (λ a b. omega arith)) ∙ h
+      ]
+
+  pub joined_no_more : (r k : ℕ) → k < 2048 → has new r k ≡ true → (has old r k ≡ true) ⊎ ((r ≡ row) × (has others other k ≡ true))
+  unfolding has
+  joined_no_more r k small h =
+      elim (cases_eq r row) [
+        | inl same ↦
+            elim (bit_or_cases _ _ (k % 64) (sym (ap (λ w. bit w k) (j.done (k / 64) (omega arith))) ∙ (rw same at h))) [
+              | inl left ↦ inl (rw same left)
+              | inr right ↦ inr (same, right)
+            ]
+        | inr apart ↦ inl (sym (ap (λ w. bit w k) (j.rest (32 * r + k / 64) (λ a b. omega arith))) ∙ h)
+      ]
+
+-- one bit more
+module _ (old : List ℕ) (row number : ℕ) (inside : 32 * row + 32 ≤ length old) (few : number < 2048) where
+  abbrev with_bit : List ℕ
+  with_bit = set old (32 * row + number / 64) (bit_or (get_or old (32 * row + number / 64) 0) (1 * 2 ^ (number % 64) % 2 ^ 64))
+
+  pub put_adds : has with_bit row number ≡ true
+  unfolding has
+  put_adds =
+      ap (λ w. bit w number) (get_or-set_same old (32 * row + number / 64) _ 0 (omega arith))
+      ∙ eq-eqb _ 1 (bit_at_set_same w64 _ (number % 64) (omega arith))
+
+  put_other : (r k : ℕ) → k < 2048 → (r ≡ row → k ≡ number → ⊥) → has with_bit r k ≡ has old r k
+  unfolding has
+  put_other r k small apart =
+      elim (cases_eq (32 * r + k / 64) (32 * row + number / 64)) [
+        | inl same ↦
+            ap (λ i. bit (get_or with_bit i 0) k) same
+            ∙ ap (λ w. bit w k) (get_or-set_same old (32 * row + number / 64) _ 0 (omega arith))
+            ∙ ap (λ b. eqb b 1) (bit_at_set_other w64 _ (number % 64) (omega arith) (k % 64) (λ e. apart (omega arith) (omega arith)))
+            ∙ ap (λ i. bit (get_or old i 0) k) (sym same)
+        | inr other ↦ ap (λ w. bit w k) (get_or-set_other old (32 * row + number / 64) (32 * r + k / 64) _ 0 other)
+      ]
+
+  pub put_keeps : (r k : ℕ) → k < 2048 → has old r k ≡ true → has with_bit r k ≡ true
+  put_keeps r k small h =
+      elim (cases_eq r row) [
+        | inl same_row ↦
+            elim (cases_eq k number) [
+              | inl same ↦ rw (same_row, same) put_adds
+              | inr apart ↦ put_other r k small (λ a b. apart b) ∙ h
+            ]
+        | inr apart ↦ put_other r k small (λ a b. apart a) ∙ h
+      ]
+
+  pub put_no_more : (r k : ℕ) → k < 2048 → has with_bit r k ≡ true → (has old r k ≡ true) ⊎ ((r ≡ row) × (k ≡ number))
+  put_no_more r k small h =
+      elim (cases_eq r row) [
+        | inl same_row ↦
+            elim (cases_eq k number) [
+              | inl same ↦ inr (same_row, same)
+              | inr apart ↦ inl (sym (put_other r k small (λ a b. apart b)) ∙ h)
+            ]
+        | inr apart ↦ inl (sym (put_other r k small (λ a b. apart a)) ∙ h)
+      ]
+
+-- the first words of the row are 0, and the other words are the same
+pub record IsCleared (old new : List ℕ) (row places : ℕ) : Type 0 where
+  pub done : (j : ℕ) → j < places → get_or new (32 * row + j) 0 ≡ 0
+  pub rest : (j : ℕ) → (32 * row ≤ j → j < 32 * row + places → ⊥) → get_or new j 0 ≡ get_or old j 0
+
+pub cleared_none : (old : List ℕ) (row : ℕ) → IsCleared old old row 0
+cleared_none old row = record { done = λ j h. absurd (omega arith); rest = λ j out. refl }
+
+pub cleared_more : (old now : List ℕ) (row place : ℕ) → 32 * row + place < length now → IsCleared old now row place → IsCleared old (set now (32 * row + place) 0) row (place + 1)
+cleared_more old now row place inside j = record {
+  done = λ k h.
+      elim (cases_eq k place) [
+        | inl same ↦ rw same (get_or-set_same now (32 * row + place) 0 0 inside)
+        | inr other ↦ get_or-set_other now (32 * row + place) (32 * row + k) 0 0 (omega arith) ∙ j.done k (omega arith)
+      ];
+  rest = λ k out.
+      elim (cases_eq k (32 * row + place)) [
+        | inl same ↦ absurd (out (omega arith) (omega arith))
+        | inr apart ↦ get_or-set_other now (32 * row + place) k 0 0 apart ∙ j.rest k (λ a b. out a (omega arith))
+      ];
+}
+
+pub cleared_less : (old new : List ℕ) (row places : ℕ) → places ≡ 32 → IsCleared old new row places → (r k : ℕ) → k < 2048 → has new r k ≡ true → (has old r k ≡ true) × (r ≢ row)
+unfolding has
+cleared_less old new row places all j r k small h =
+    elim (cases_eq r row) [
+      | inl same ↦
+          let none : get_or new (32 * r + k / 64) 0 ≡ 0 = rw same (j.done (k / 64) (omega arith)) in
+          absurd (true≢false (sym h ∙ ap (λ w. bit w k) none ∙ ap (λ b. eqb b 1) (bit_at-zero (k % 64))))
+      | inr apart ↦ (sym (ap (λ w. bit w k) (j.rest (32 * r + k / 64) (λ a b. omega arith))) ∙ h, apart)
+    ]
+
+-- words of 0 past the end add nothing
+zeros : (n i : ℕ) → get_or {A = ℕ} (replicate n 0) i 0 ≡ 0
+zeros n i =
+    elim (cases_lt i n) [
+      | inl inside ↦ get_or-replicate n i 0 0 inside
+      | inr past ↦ get_or_past (replicate n 0) i 0 (omega (arith, length-replicate {A = ℕ} n 0))
+    ]
+
+pub has_zeros : (n r k : ℕ) → has (replicate n 0) r k ≡ false
+unfolding has
+has_zeros n r k =
+    ap (λ w. bit w k) (zeros n (32 * r + k / 64)) ∙ ap (λ b. eqb b 1) (bit_at-zero (k % 64))
+
+more_zeros : (words : List ℕ) (n i : ℕ) → get_or (words ++ replicate n 0) i 0 ≡ get_or words i 0
+more_zeros words n i =
+    elim (cases_lt i (length words)) [
+      | inl inside ↦ get_or-append words (replicate n 0) 0 i inside
+      | inr past ↦ get_or-append_right words (replicate n 0) i 0 past ∙ zeros n (i - length words) ∙ sym (get_or_past words i 0 past)
+    ]
+
+pub has_more_zeros : (words : List ℕ) (n r k : ℕ) → has (words ++ replicate n 0) r k ≡ has words r k
+unfolding has
+has_more_zeros words n r k = ap (λ w. bit w k) (more_zeros words n (32 * r + k / 64))

@@ -1,0 +1,127 @@
+// Races: two operations of a rank touch one slot, one of them writes it, and neither is before the other.
+//
+// Needs never leave a rank, so it goes rank by rank. `before` makes for each operation a row of bits: those that end
+// before it starts. `table` makes for each slot the row of the operations that touch it and of those that write it, and
+// from these for each operation the row of those with which it shares a slot that one of the two writes. `search` takes
+// the least pair in these rows, and its least slot.
+ghost use Rattle.std.specs.Prelude.{◌≡◌, ◌<◌, ◌≤◌, true, false, length, OnOk, IfOk, IfErr};
+ghost use Rattle.goal_graph.specs.Schedule.{ops_at};
+ghost use Rattle.goal_blocks.specs.Certification.{IsSmall};
+ghost use Rattle.goal_certify.specs.Stages.{IsFree, IsStopped};
+ghost use Rattle.goal_certify.specs.Touches.{AreTouches};
+ghost use Rattle.goal_certify.specs.Table.{AreEmpty, AreMarked};
+ghost use Rattle.goal_certify.specs.Races.{IsFirstOfRank};
+
+mod before;
+mod rows;
+mod search;
+mod table;
+mod touches;
+
+use before::rows_before;
+use goal_blocks::CertFault;
+use goal_graph::Sched;
+use search::{first_open, least_slot};
+use std::alloc::{AllocError, Global};
+use table::{mark, shared_rows, wipe};
+use touches::{Touch, touches_of_rank};
+
+/// Whether two operations of a rank race.
+///
+/// # Errors
+///
+/// The least race, or want of memory.
+pub fn check_races(alloc: Global, sched: &Sched) -> Result<(), CertFault>
+    requires small { IsSmall sched.now }
+    ensures free { OnOk result (IsFree sched.now 5 6) }
+    ensures fault { IfErr result (λ fault. IsStopped sched.now 5 6 fault) }
+{
+    let mut touchers = Vec::new(alloc);
+    let mut writers = Vec::new(alloc);
+    let ranks = sched.plans().len() as u32;
+    for rank in 0..ranks {
+        let found = race_in_rank(alloc, sched, rank, &mut touchers, &mut writers)?;
+        if let Some(
+            RankRace {
+                first,
+                second,
+                slot,
+            },
+        ) = found
+        {
+            return Err(CertFault::Race {
+                rank,
+                first,
+                second,
+                slot,
+            });
+        }
+    }
+    Ok(())
+}
+
+/// Two operations of a rank and a slot.
+#[derive(Clone, Copy, Debug, PartialEq, Eq)]
+pub(crate) struct RankRace {
+    pub first: u32,
+    pub second: u32,
+    pub slot: u32,
+}
+
+// The least race of a rank, if there is one. The rows of the slots are empty before and after.
+fn race_in_rank(
+    alloc: Global,
+    sched: &Sched,
+    rank: u32,
+    touchers: &mut Vec<u64>,
+    writers: &mut Vec<u64>,
+) -> Result<Option<RankRace>, AllocError>
+    requires small { IsSmall sched.now }
+    requires rank { rank < length sched.now }
+    requires touchers { AreEmpty touchers.old.items }
+    requires writers { AreEmpty writers.old.items }
+    ensures race { IfOk result (IsFirstOfRank sched.now rank) }
+    ensures touchers { OnOk result (AreEmpty touchers.new.items) }
+    ensures writers { OnOk result (AreEmpty writers.new.items) }
+{
+    let plan = &sched.plans()[rank as usize];
+    let touches = touches_of_rank(alloc, plan)?;
+    mark(touchers, &touches, false)?;
+    mark(writers, &touches, true)?;
+    let found = find_race(alloc, sched, rank, &touches, touchers, writers)?;
+    wipe(touchers, &touches, false);
+    wipe(writers, &touches, true);
+    Ok(found)
+}
+
+// The least race of a rank with these touches, if there is one.
+fn find_race(
+    alloc: Global,
+    sched: &Sched,
+    rank: u32,
+    touches: &[Touch],
+    touchers: &[u64],
+    writers: &[u64],
+) -> Result<Option<RankRace>, AllocError>
+    requires rank { rank < length sched.now }
+    requires few { length (ops_at sched.now rank) ≤ 2048 }
+    requires touches { AreTouches sched.now rank touches.now }
+    requires touchers { AreMarked false touches.now touchers.now }
+    requires writers { AreMarked true touches.now writers.now }
+    ensures { IfOk result (IsFirstOfRank sched.now rank) }
+{
+    let count = sched.op_count(rank);
+    let before = rows_before(alloc, sched, rank)?;
+    let shared = shared_rows(alloc, touches, touchers, writers, count as usize)?;
+    let Some(pair) = first_open(&before, &shared, count) else {
+        return Ok(None);
+    };
+    match least_slot(touches, touchers, writers, pair) {
+        Some(slot) => Ok(Some(RankRace {
+            first: pair.first,
+            second: pair.second,
+            slot,
+        })),
+        None => unreachable!(),
+    }
+}

@@ -1,0 +1,102 @@
+// Which operations of a rank end before each of them starts.
+ghost use Rattle.std.specs.Prelude.{ℕ, ◌≡◌, ◌+◌, ◌*◌, ◌<◌, ◌≤◌, ◌⊎◌, true, false, length, All, IfOk, slice_index_or};
+ghost use Rattle.goal_graph.specs.declared.plan.When.TheVariants.{AfterEnd};
+ghost use Rattle.goal_graph.specs.Schedule.{needs, ops_at};
+ghost use Rattle.goal_graph.specs.Fault.{IsOp, is_below};
+ghost use Rattle.goal_blocks.specs.Race.{EndsBefore};
+ghost use Rattle.goal_certify.specs.Rows.{has};
+ghost use Rattle.goal_certify.specs.Before.{op_id, AreRows};
+
+use crate::races::rows::{WORDS, join_within, put};
+use goal_graph::{Need, OpId, Sched, When};
+use std::alloc::{AllocError, Global};
+
+/// For each operation of the rank a row of those that end before it starts.
+pub(crate) fn rows_before(alloc: Global, sched: &Sched, rank: u32) -> Result<Vec<u64>, AllocError>
+    requires rank { rank < length sched.now }
+    requires few { length (ops_at sched.now rank) ≤ 2048 }
+    ensures room { IfOk result (λ rows. length rows.items ≡ 32 * length (ops_at sched.now rank)) }
+    ensures rows { IfOk result (λ rows. AreRows sched.now rank rows.items (λ op. op < length (ops_at sched.now rank))) }
+{
+    let count = sched.op_count(rank) as usize;
+    let mut rows = vec![in alloc; 0; WORDS * count]?;
+    let mut done = vec![in alloc; false; count]?;
+    fill_all(sched, rank, &mut rows, &mut done);
+    Ok(rows)
+}
+
+// The rows of all operations of the rank are done.
+fn fill_all(sched: &Sched, rank: u32, rows: &mut [u64], done: &mut [bool])
+    requires rank { rank < length sched.now }
+    requires few { length (ops_at sched.now rank) ≤ 2048 }
+    requires room { length rows.old ≡ 32 * length (ops_at sched.now rank) }
+    requires marks { length done.old ≡ length (ops_at sched.now rank) }
+    requires rows { AreRows sched.now rank rows.old (λ k. slice_index_or done.old k false ≡ true) }
+    ensures rows { AreRows sched.now rank rows.new (λ op. op < length (ops_at sched.now rank)) }
+{
+    sched.known();
+    let count = sched.op_count(rank);
+    for op in 0..count {
+        fill(sched, OpId { rank, op }, count, rows, done);
+    }
+}
+
+// The row of an operation is done, after those of what it needs. Its depth is below `depth`.
+fn fill(sched: &Sched, id: OpId, depth: u32, rows: &mut [u64], done: &mut [bool])
+    requires exists { IsOp sched.now id }
+    requires depth { is_below sched.now depth id ≡ true }
+    requires few { length (ops_at sched.now id.rank) ≤ 2048 }
+    requires room { length rows.old ≡ 32 * length (ops_at sched.now id.rank) }
+    requires marks { length done.old ≡ length (ops_at sched.now id.rank) }
+    requires rows { AreRows sched.now id.rank rows.old (λ k. slice_index_or done.old k false ≡ true) }
+    ensures rows { AreRows sched.now id.rank rows.new (λ k. slice_index_or done.new k false ≡ true) }
+    ensures done { slice_index_or done.new id.op false ≡ true }
+    ensures kept { (k : ℕ) → slice_index_or done.old k false ≡ true → slice_index_or done.new k false ≡ true }
+{
+    let op = id.op as usize;
+    if done[op] {
+        return;
+    }
+    for need in sched.needs(id) {
+        let needed = OpId {
+            rank: id.rank,
+            op: need.op,
+        };
+        fill(sched, needed, depth - 1, rows, done);
+    }
+    gather(sched, id, rows, done);
+    done[op] = true;
+}
+
+// The row of an operation gets what the rows of its needs have, and those that it needs to end.
+fn gather(sched: &Sched, id: OpId, rows: &mut [u64], done: &[bool])
+    requires exists { IsOp sched.now id }
+    requires few { length (ops_at sched.now id.rank) ≤ 2048 }
+    requires room { length rows.old ≡ 32 * length (ops_at sched.now id.rank) }
+    requires rows { AreRows sched.now id.rank rows.old (λ k. slice_index_or done.now k false ≡ true) }
+    requires needs { All (λ d. slice_index_or done.now d.op false ≡ true) (needs sched.now id) }
+    ensures rows { AreRows sched.now id.rank rows.new (λ k. slice_index_or done.now k false ≡ true) }
+    ensures row { (k : ℕ) → k < 2048 → EndsBefore sched.now (op_id id.rank k) id → has rows.new id.op k ≡ true }
+{
+    for need in sched.needs(id) {
+        take(rows, id.op as usize, *need);
+    }
+}
+
+// The row gets what the row of what is needed has, and what is needed where its end is.
+fn take(rows: &mut [u64], op: usize, need: Need)
+    requires op { 32 * op + 32 ≤ length rows.old }
+    requires needed { 32 * need.op + 32 ≤ length rows.old }
+    requires few { need.op < 2048 }
+    ensures adds { (k : ℕ) → k < 2048 → has rows.old need.op k ≡ true → has rows.new op k ≡ true }
+    ensures ends { need.when ≡ AfterEnd → has rows.new op need.op ≡ true }
+    ensures keeps { (r k : ℕ) → k < 2048 → has rows.old r k ≡ true → has rows.new r k ≡ true }
+    ensures no_more { (r k : ℕ) → k < 2048 → has rows.new r k ≡ true → (has rows.old r k ≡ true)
+        ⊎ ((r ≡ op) × ((has rows.old need.op k ≡ true) ⊎ ((need.when ≡ AfterEnd) × (k ≡ need.op)))) }
+{
+    join_within(rows, op, need.op as usize);
+    match need.when {
+        When::AfterEnd => put(rows, op, need.op),
+        When::AfterStart => {}
+    }
+}

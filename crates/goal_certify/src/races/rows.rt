@@ -1,0 +1,83 @@
+// Rows of bits, one after another: each row is a set of numbers below 2,048.
+ghost use Rattle.std.specs.Prelude.{ℕ, ◌≡◌, ◌≢◌, ◌+◌, ◌*◌, ◌<◌, ◌≤◌, ◌⊎◌, true, length, OnOk};
+ghost use Rattle.goal_certify.specs.Rows.{has};
+
+use std::alloc::AllocError;
+
+/// A row has so many words of 64 bits.
+pub(crate) const WORDS: usize = 32;
+
+/// Whether the row has the number.
+pub(crate) fn is_in(rows: &[u64], row: usize, number: u32) -> bool
+    requires row { 32 * row + 32 ≤ length rows.now }
+    requires number { number < 2048 }
+    ensures { result ≡ has rows.now row number }
+{
+    let word = rows[WORDS * row + number as usize / 64];
+    (word >> (number % 64)) & 1 == 1
+}
+
+/// The row gets the number.
+pub(crate) fn put(rows: &mut [u64], row: usize, number: u32)
+    requires row { 32 * row + 32 ≤ length rows.old }
+    requires number { number < 2048 }
+    ensures adds { has rows.new row number ≡ true }
+    ensures keeps { (r k : ℕ) → k < 2048 → has rows.old r k ≡ true → has rows.new r k ≡ true }
+    ensures no_more { (r k : ℕ) → k < 2048 → has rows.new r k ≡ true
+        → (has rows.old r k ≡ true) ⊎ ((r ≡ row) × (k ≡ number)) }
+{
+    rows[WORDS * row + number as usize / 64] |= 1 << (number % 64);
+}
+
+/// The row gets what a row of other ones has.
+pub(crate) fn join(rows: &mut [u64], row: usize, others: &[u64], other: usize)
+    requires row { 32 * row + 32 ≤ length rows.old }
+    requires other { 32 * other + 32 ≤ length others.now }
+    ensures adds { (k : ℕ) → k < 2048 → has others.now other k ≡ true → has rows.new row k ≡ true }
+    ensures keeps { (r k : ℕ) → k < 2048 → has rows.old r k ≡ true → has rows.new r k ≡ true }
+    ensures no_more { (r k : ℕ) → k < 2048 → has rows.new r k ≡ true
+        → (has rows.old r k ≡ true) ⊎ ((r ≡ row) × (has others.now other k ≡ true)) }
+{
+    for place in 0..WORDS {
+        rows[WORDS * row + place] |= others[WORDS * other + place];
+    }
+}
+
+/// The row gets what another one of these rows has.
+pub(crate) fn join_within(rows: &mut [u64], row: usize, other: usize)
+    requires row { 32 * row + 32 ≤ length rows.old }
+    requires other { 32 * other + 32 ≤ length rows.old }
+    ensures adds { (k : ℕ) → k < 2048 → has rows.old other k ≡ true → has rows.new row k ≡ true }
+    ensures keeps { (r k : ℕ) → k < 2048 → has rows.old r k ≡ true → has rows.new r k ≡ true }
+    ensures no_more { (r k : ℕ) → k < 2048 → has rows.new r k ≡ true
+        → (has rows.old r k ≡ true) ⊎ ((r ≡ row) × (has rows.old other k ≡ true)) }
+{
+    for place in 0..WORDS {
+        let word = rows[WORDS * other + place];
+        rows[WORDS * row + place] |= word;
+    }
+}
+
+/// The row is empty.
+pub(crate) fn clear(rows: &mut [u64], row: usize)
+    requires { 32 * row + 32 ≤ length rows.old }
+    ensures { (r k : ℕ) → k < 2048 → has rows.new r k ≡ true → (has rows.old r k ≡ true) × (r ≢ row) }
+{
+    for place in 0..WORDS {
+        rows[WORDS * row + place] = 0;
+    }
+}
+
+/// There are rows up to this one. New ones are empty.
+pub(crate) fn make_room(rows: &mut Vec<u64>, row: usize) -> Result<(), AllocError>
+    requires { row < 65536 }
+    ensures room { OnOk result (32 * row + 32 ≤ length rows.new.items) }
+    ensures grown { OnOk result (length rows.old.items ≤ length rows.new.items) }
+    ensures same { OnOk result ((r k : ℕ) → has rows.new.items r k ≡ has rows.old.items r k) }
+{
+    let words = WORDS * row + WORDS;
+    if rows.len() < words {
+        rows.resize(words, 0)?;
+    }
+    Ok(())
+}

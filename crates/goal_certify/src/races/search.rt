@@ -1,0 +1,115 @@
+// The least pair of operations that race, and their least slot.
+ghost use Rattle.std.specs.Prelude.{◌≡◌, ◌+◌, ◌*◌, ◌<◌, ◌≤◌, true, false, length, All};
+ghost use Rattle.goal_certify.specs.Table.{meets, AreMarked};
+ghost use Rattle.goal_certify.specs.Races.{is_open, IsNextOpen, IsFirstOpen, IsLeastSlot, lesser, least_with};
+
+use crate::races::rows::is_in;
+use crate::races::touches::Touch;
+
+/// Two operations of a rank, the lesser first.
+#[derive(Clone, Copy, Debug, PartialEq, Eq)]
+pub(crate) struct Pair {
+    pub first: u32,
+    pub second: u32,
+}
+
+/// The least pair of operations that share a slot which one writes, and of which neither ends before the other starts.
+pub(crate) fn first_open(before: &[u64], shared: &[u64], count: u32) -> Option<Pair>
+    requires few { count ≤ 2048 }
+    requires before { length before.now ≡ 32 * count }
+    requires shared { length shared.now ≡ 32 * count }
+    ensures { IsFirstOpen before.now shared.now count result }
+{
+    for first in 0..count {
+        if let Some(second) = next_open(before, shared, first, count) {
+            return Some(Pair { first, second });
+        }
+    }
+    None
+}
+
+// The least second operation of such a pair, above the first one.
+fn next_open(before: &[u64], shared: &[u64], first: u32, count: u32) -> Option<u32>
+    requires few { count ≤ 2048 }
+    requires first { first < count }
+    requires before { length before.now ≡ 32 * count }
+    requires shared { length shared.now ≡ 32 * count }
+    ensures { IsNextOpen before.now shared.now first count result }
+{
+    for second in first + 1..count {
+        if is_open(before, shared, first, second) {
+            return Some(second);
+        }
+    }
+    None
+}
+
+fn is_open(before: &[u64], shared: &[u64], first: u32, second: u32) -> bool
+    requires few { (first < 2048) × (second < 2048) }
+    requires before { (32 * first + 32 ≤ length before.now) × (32 * second + 32 ≤ length before.now) }
+    requires shared { 32 * first + 32 ≤ length shared.now }
+    ensures { result ≡ is_open before.now shared.now first second }
+{
+    is_in(shared, first as usize, second)
+        && !is_in(before, second as usize, first)
+        && !is_in(before, first as usize, second)
+}
+
+/// The least slot that both touch and one of them writes.
+pub(crate) fn least_slot(
+    touches: &[Touch],
+    touchers: &[u64],
+    writers: &[u64],
+    pair: Pair,
+) -> Option<u32>
+    requires second { pair.second < 2048 }
+    requires touchers { AreMarked false touches.now touchers.now }
+    requires writers { AreMarked true touches.now writers.now }
+    ensures { IsLeastSlot touchers.now writers.now touches.now pair result }
+{
+    let mut least = None;
+    for touch in touches {
+        least = least_with(least, *touch, touchers, writers, pair);
+    }
+    least
+}
+
+// The least slot with one touch more.
+fn least_with(
+    least: Option<u32>,
+    touch: Touch,
+    touchers: &[u64],
+    writers: &[u64],
+    pair: Pair,
+) -> Option<u32>
+    requires second { pair.second < 2048 }
+    requires touchers { 32 * touch.slot + 32 ≤ length touchers.now }
+    requires writers { 32 * touch.slot + 32 ≤ length writers.now }
+    ensures { result ≡ least_with touchers.now writers.now pair least touch }
+{
+    if touch.op == pair.first && is_met(touch, touchers, writers, pair.second) {
+        return Some(lesser(least, touch.slot));
+    }
+    least
+}
+
+// Whether the operation touches the slot of the touch, and one of the two writes it.
+fn is_met(touch: Touch, touchers: &[u64], writers: &[u64], op: u32) -> bool
+    requires op { op < 2048 }
+    requires touchers { 32 * touch.slot + 32 ≤ length touchers.now }
+    requires writers { 32 * touch.slot + 32 ≤ length writers.now }
+    ensures { result ≡ meets touchers.now writers.now touch op }
+{
+    let others = if touch.writes { touchers } else { writers };
+    is_in(others, touch.slot as usize, op)
+}
+
+// The lesser one of two slots, of which the first may be missing.
+fn lesser(least: Option<u32>, slot: u32) -> u32
+    ensures { result ≡ lesser least slot }
+{
+    match least {
+        Some(other) if other < slot => other,
+        _ => slot,
+    }
+}
