@@ -30,3 +30,4 @@ pub mod NoFault
 pub mod OneFault
 pub mod Ring
 mod FaultExamples
+pub mod Levels

@@ -18,7 +18,7 @@ use Rattle.goal_blocks.proofs.Channels.{fits_channel, channel_fits, channels_apa
 
 module _ (plans : List Plan) where
   -- what has a kind is an operation
-  kind_is_op : (x : OpId) (k : Kind) → kind_at plans x ≡ Some k → IsOp plans x
+  pub kind_is_op : (x : OpId) (k : Kind) → kind_at plans x ≡ Some k → IsOp plans x
   unfolding kind_at
   kind_is_op x k e = go (op_at plans x) refl e
     where

@@ -17,3 +17,4 @@ pub mod Steps
 pub mod Messages
 pub mod Certified
 pub mod Faults
+pub mod Levels

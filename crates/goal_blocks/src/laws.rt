@@ -1,6 +1,7 @@
 // The laws of matched and certified schedules and of races. Their functions do nothing: a proof cites a law by a call.
 ghost use Rattle.goal_blocks.specs.Matched.{ChannelsAreApart, MatchedEndsInItsPairs};
 ghost use Rattle.goal_blocks.specs.Walk.{OneWalk, SomeWalk};
+ghost use Rattle.goal_blocks.specs.Levels.{LevelsEnd};
 ghost use Rattle.goal_blocks.specs.Certification.{CertifiedEndsEverywhere, CertifiedConflictsInOneOrder, MatchedHoldsAsTheWalk, CertifiedIsRightEverywhere};
 ghost use Rattle.goal_blocks.specs.Certified.{BcastOfTwoIsCertified};
 ghost use Rattle.goal_blocks.specs.Faults.{FaultExcludesCertified, FaultlessIsCertified, OneFirstFault};
@@ -15,11 +16,15 @@ ghost use Rattle.goal_blocks.specs.Race.{OrderIsKept, ConflictsComeInOneOrder};
 ///   the pairs join each send with the receive of its channel and no others.
 /// - `one_walk`: a schedule, matched or not, has at most one walk.
 /// - `some_walk`: a schedule, matched or not, has a walk.
+/// - `levels_end`: where each send has one receive of its channel and each receive one send, and operations have levels
+///   such that what one needs has a lower one and a send and its receive have the same, each operation has an end in each
+///   complete interleaving, whatever is eager.
 pub fn laws_of_matched_schedules()
     ensures channels_are_apart { ChannelsAreApart }
     ensures matched_ends_in_its_pairs { MatchedEndsInItsPairs }
     ensures one_walk { OneWalk }
     ensures some_walk { SomeWalk }
+    ensures levels_end { LevelsEnd }
 {}
 
 /// The laws of the order of operations of one rank, whatever is eager:

@@ -3,6 +3,7 @@ use Rattle.goal_blocks.proofs.Channels.{channels_apart}
 use Rattle.goal_blocks.proofs.Matched.{ends_in_its_pairs}
 use Rattle.goal_blocks.proofs.Walk.{one_walk}
 use Rattle.goal_blocks.proofs.SomeWalk.{some_walk}
+use Rattle.goal_blocks.proofs.Levels.{levels_end}
 use Rattle.goal_blocks.proofs.laws.laws_of_matched_schedules.Goals as goal
 
 pub returns-clause-channels_are_apart : goal.returns-clause-channels_are_apart
@@ -16,3 +17,6 @@ returns-clause-one_walk c = λ plans v w walk other. one_walk plans v w walk oth
 
 pub returns-clause-some_walk : goal.returns-clause-some_walk
 returns-clause-some_walk c = λ plans. some_walk plans
+
+pub returns-clause-levels_end : goal.returns-clause-levels_end
+returns-clause-levels_end c = λ plans level eager h known single paired levels done. levels_end plans level eager h known single paired levels done

@@ -1,0 +1,96 @@
+-- Where there are levels, each operation has an end in each complete interleaving.
+use Rattle.std.proofs.Common.{⊎_elim, ℕ, ◌<◌, ◌≡◌, inl, inr, Bool, true, false, List, Option, Some, None, refl, sym, ap, ◌∙◌, subst, is_some}
+use Rattle.std.specs.Option.{option_map}
+use Rattle.std.proofs.lemmas.Bool.{both_ways, cases_Bool}
+use Rattle.goal_graph.specs.declared.action.OpId.{OpId}
+use Rattle.goal_graph.specs.declared.action.Class.TheVariants.{Post, Begin}
+use Rattle.goal_graph.specs.declared.plan.Kind.{Kind}
+use Rattle.goal_graph.specs.declared.plan.Kind.TheVariants.{Calc, Send, Recv}
+use Rattle.goal_graph.specs.declared.plan.Op.{Op}
+use Rattle.goal_graph.specs.declared.plan.When.{When}
+use Rattle.goal_graph.specs.declared.plan.When.TheVariants.{AfterEnd, AfterStart}
+use Rattle.goal_graph.specs.Schedule.{Plan, op_at, kind_at, needed}
+use Rattle.goal_graph.specs.Action.{Act, happened}
+use Rattle.goal_graph.specs.Matching.{fits}
+use Rattle.goal_graph.specs.Allowed.{has_started, has_ended, is_met, is_ready, may}
+use Rattle.goal_graph.specs.Interleaving.{IsCompleteInterleaving}
+use Rattle.goal_graph.specs.Fault.{IsOp}
+use Rattle.goal_graph.specs.Laws.{IsSend, IsReceive, IsApart, IsTaken}
+use Rattle.goal_graph.proofs.ForCallers.{allowed_from, started_send, started_receive, ended_started, ready_calc_ended, unready_need, fitting_taken, partner_of_receive, partners_met, fits_receive, not_send_receive}
+use Rattle.goal_blocks.specs.Channels.{AreOfOneChannel, HasNoWildcard, HasNoDoubleChannel, HasNoUnpaired}
+use Rattle.goal_blocks.specs.Walk.{AllEnd}
+use Rattle.goal_blocks.specs.Levels.{AreLevels}
+use Rattle.goal_blocks.proofs.Channels.{channel_fits, channels_apart}
+use Rattle.goal_blocks.proofs.Least.{below}
+use Rattle.goal_blocks.proofs.Matched.{kind_is_op}
+
+module _ (plans : List Plan) (level : OpId → ℕ) (eager : OpId → Bool) (h : List Act) (known : HasNoWildcard plans) (single : HasNoDoubleChannel plans) (paired : HasNoUnpaired plans) (levels : AreLevels plans level) (done : IsCompleteInterleaving plans eager h) where
+  -- all operations below a level have ended
+  abbrev AllBelow : ℕ → Type 0
+  AllBelow n = (y : OpId) → IsOp plans y → level y < n → has_ended plans eager y h ≡ true
+
+  met : (w : When) (y : OpId) → has_ended plans eager y h ≡ true → is_met plans eager h w y ≡ true
+  met AfterEnd y e = e
+  met AfterStart y e = ended_started plans eager h y done.each e
+
+  ready : (x : OpId) → IsOp plans x → AllBelow (level x) → is_ready plans eager h x ≡ true
+  ready x is_op all =
+      ⊎_elim (λ r. r) (λ r. let found = unready_need plans eager h x r in let low = levels.lower x found.0 is_op found.1 in absurd (both_ways _ found.2 (met found.0.when (needed x found.0) (all (needed x found.0) low.0 low.1)))) (cases_Bool (is_ready plans eager h x))
+
+  begun : (m : OpId) → IsSend plans m → is_ready plans eager h m ≡ true → has_started plans m h ≡ true
+  begun m k r =
+      started_send plans h m k ∙ ⊎_elim (λ e. e) (λ e. absurd (both_ways _ (done.none_left (record { class = Begin; op = m })) (allowed_from plans eager h Begin m e (subst (λ (k : Option Kind). may plans eager h Begin m k ≡ true) (sym k.kind) r)))) (cases_Bool (happened Begin m h))
+
+  posted : (x : OpId) → IsReceive plans x → is_ready plans eager h x ≡ true → has_started plans x h ≡ true
+  posted x k r =
+      started_receive plans h x k ∙ ⊎_elim (λ e. e) (λ e. absurd (both_ways _ (done.none_left (record { class = Post; op = x })) (allowed_from plans eager h Post x e (subst (λ (k : Option Kind). may plans eager h Post x k ≡ true) (sym k.kind) r)))) (cases_Bool (happened Post x h))
+
+  apart : IsApart plans
+  apart = channels_apart plans known single
+
+  module _ (m x : OpId) (one : AreOfOneChannel plans m x) where
+    fit : fits plans x m ≡ true
+    fit = channel_fits plans x m one
+
+    -- neither is taken by another
+    free_receive : IsTaken plans h x m → ⊥
+    free_receive t =
+        t.other (apart.one_send x t.taker m (partner_of_receive plans h x t.taker one.is_receive t.pair).fit fit)
+
+    free_send : IsTaken plans h m x → ⊥
+    free_send t =
+        ⊎_elim (λ met. t.other (apart.one_receive m t.taker x met.fit fit)) (λ met. not_send_receive plans m one.is_send (fits_receive plans m t.taker met.fit)) (partners_met plans h m t.taker t.pair)
+
+    both_end : is_ready plans eager h m ≡ true → is_ready plans eager h x ≡ true → (has_ended plans eager m h ≡ true) × (has_ended plans eager x h ≡ true)
+    both_end r s =
+        (⊎_elim (λ e. e) (λ e. absurd (⊎_elim (λ f. both_ways _ f (posted x one.is_receive s)) free_receive (fitting_taken plans eager h done m x r e (inr fit)))) (cases_Bool (has_ended plans eager m h)),
+         ⊎_elim (λ e. e) (λ e. absurd (⊎_elim (λ f. both_ways _ f (begun m one.is_send r)) free_send (fitting_taken plans eager h done x m s e (inl fit)))) (cases_Bool (has_ended plans eager x h)))
+
+  kind_of : (x : OpId) → IsOp plans x → (k : Kind) × (kind_at plans x ≡ Some k)
+  unfolding kind_at
+  kind_of x is_op = go (op_at plans x) refl is_op
+    where
+      go : (o : Option Op) → op_at plans x ≡ o → is_some o ≡ true → (k : Kind) × (option_map (λ (o : Op). o.kind) (op_at plans x) ≡ Some k)
+      go None e s = absurd (both_ways false refl s)
+      go (Some o) e s = (o.kind, ap (option_map (λ (o : Op). o.kind)) e)
+
+  -- each operation of a level ends, where all those of lower levels do
+  ends_at : (n : ℕ) → AllBelow n → (x : OpId) → IsOp plans x → level x ≡ n → has_ended plans eager x h ≡ true
+  ends_at n all x is_op e = go (kind_of x is_op).0 (kind_of x is_op).1
+    where
+      low : (y : OpId) → level y ≡ n → AllBelow (level y)
+      low y f z z_op l = all z z_op (subst (λ (k : ℕ). level z < k) f l)
+
+      go : (k : Kind) → kind_at plans x ≡ Some k → has_ended plans eager x h ≡ true
+      go (Calc nanos) k =
+          ready_calc_ended plans eager h done x (record { nanos = nanos; kind = k }) (ready x is_op (low x e))
+      go (Send bytes to tag) k =
+          let other = paired.sends x (record { bytes = bytes; to = to; tag = tag; kind = k }) in
+          (both_end x other.0 other.1 (ready x is_op (low x e)) (ready other.0 (kind_is_op plans other.0 _ other.1.is_receive.kind) (low other.0 (sym (levels.same x other.0 other.1) ∙ e)))).0
+      go (Recv room from tag) k =
+          let other = paired.receives x (record { room = room; from = from; tag = tag; kind = k }) in
+          (both_end other.0 x other.1 (ready other.0 (kind_is_op plans other.0 _ other.1.is_send.kind) (low other.0 (levels.same other.0 x other.1 ∙ e))) (ready x is_op (low x e))).1
+
+  pub levels_end : AllEnd plans eager h
+  levels_end x is_op =
+      below (λ n. (y : OpId) → IsOp plans y → level y ≡ n → has_ended plans eager y h ≡ true) (λ n before. ends_at n (λ z z_op l. before (level z) l z z_op refl)) (level x) x is_op refl
