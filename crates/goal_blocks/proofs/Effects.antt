@@ -33,7 +33,7 @@ cases_shared [] js = inr (λ k m n. m)
 cases_shared (k ∷ ks) js =
     ⊎_elim (λ m. inl (k, inl refl, m)) (λ n. ⊎_elim (λ s. inl (s.0, inr s.1, s.2)) (λ none. inr (λ j m l. ⊎_elim (λ e. n (subst (λ (i : ℕ). Mem i js) (sym e) l)) (λ o. none j o l) m)) (cases_shared ks js)) (cases_mem k js)
 
-map_same : (f g : ℕ → Value) (ks : List ℕ) → ((k : ℕ) → Mem k ks → f k ≡ g k) → map f ks ≡ map g ks
+pub map_same : (f g : ℕ → Value) (ks : List ℕ) → ((k : ℕ) → Mem k ks → f k ≡ g k) → map f ks ≡ map g ks
 map_same f g [] each = refl
 map_same f g (k ∷ ks) each =
     let first = each k (inl refl) in
@@ -119,7 +119,7 @@ module _ (plans : List Plan) where
     abbrev pub ended : OpId → Held → Held
     ended x held = effect x (kind_at plans x) held
 
-    store_keeps : (x : OpId) (s : Held) (r k : ℕ) → (r ≡ x.rank → Mem k (written plans x) → ⊥) → (ended x s).store r k ≡ s.store r k
+    pub store_keeps : (x : OpId) (s : Held) (r k : ℕ) → (r ≡ x.rank → Mem k (written plans x) → ⊥) → (ended x s).store r k ≡ s.store r k
     unfolding written read
     store_keeps x s r k apart = go (kind_at plans x) apart
       where
@@ -145,7 +145,7 @@ module _ (plans : List Plan) where
         go (Some (Recv room from tag)) n =
             write_same x.rank (slots plans x) (payload_from s (sender x)) s.store t.store r k e ∙ ap (λ (vs : List Value). write x.rank (slots plans x) vs t.store r k) payload
 
-    payload_keeps : (x : OpId) (s : Held) (n : OpId) → (x ≡ n → ⊥) → (ended x s).payload n ≡ s.payload n
+    pub payload_keeps : (x : OpId) (s : Held) (n : OpId) → (x ≡ n → ⊥) → (ended x s).payload n ≡ s.payload n
     unfolding read
     payload_keeps x s n differ = go (kind_at plans x)
       where

@@ -15,6 +15,7 @@ use Rattle.goal_graph.specs.Interleaving.{IsInterleaving}
 use Rattle.goal_graph.specs.Laws.{IsSend, IsReceive}
 use Rattle.goal_graph.specs.Fault.{IsOp}
 use Rattle.goal_graph.proofs.ForCallers.{place_same, is_act_class, is_act_op, is_act_from, happened_none, happened_cases, happened_stays, happened_new, allowed_fresh, allowed_serve, allowed_data, allowed_listed, listed_places, ended_started, arrived_begun, partner_of_receive, partner_is_send, partners_mutual, last_of_eager, last_of_large, last_of_receive}
+use Rattle.goal_blocks.specs.Channels.{AreOfOneChannel}
 use Rattle.goal_blocks.specs.Race.{EndsBefore}
 use Rattle.goal_blocks.specs.Values.{Store, Held, read, change, held_after, payload_from, write}
 use Rattle.goal_blocks.specs.Matched.{IsMatched}
@@ -101,6 +102,12 @@ module _ (plans : List Plan) where
     sender_of_receive : (x : OpId) → IsReceive plans x → sender x ≡ partner (pairs plans walk) x
     sender_of_receive x r = ap (λ (k : Option Kind). sender_in k (partner (pairs plans walk) x)) r.kind
 
+    -- it is the send of its channel
+    pub sender_of_channel : (m x : OpId) → AreOfOneChannel plans m x → sender x ≡ Some m
+    sender_of_channel m x one =
+        let there = ((ends_in_its_pairs plans no_send walk matched matched.no_stall.is_walk.complete).pairs m x).1 one in
+        sender_of_receive x one.is_receive ∙ partners_mutual plans no_send walk m x matched.no_stall.is_walk.complete.each there.0
+
     -- x ends before y in every interleaving
     abbrev pub Before : OpId → OpId → Type 0
     Before x y = (x ≡ y → ⊥) × (EndsBefore plans x y ⊎ (sender y ≡ Some x))
@@ -109,9 +116,7 @@ module _ (plans : List Plan) where
       -- a receive has one partner, whatever comes first
       partner_known : (h : List Act) (x m : OpId) → IsInterleaving plans eager h → IsReceive plans x → partner (pairs plans h) x ≡ Some m → sender x ≡ Some m
       partner_known h x m i r p =
-          let one = fits_channel plans x m matched.no_wildcard (partner_of_receive plans h x m r p).fit in
-          let there = ((ends_in_its_pairs plans no_send walk matched matched.no_stall.is_walk.complete).pairs m x).1 one in
-          sender_of_receive x r ∙ partners_mutual plans no_send walk m x matched.no_stall.is_walk.complete.each there.0
+          sender_of_channel m x (fits_channel plans x m matched.no_wildcard (partner_of_receive plans h x m r p).fit)
 
       -- where a receive takes its message, the send has ended
       sender_ended : (h : List Act) (x : OpId) → IsInterleaving plans eager h → allowed plans eager h Serve x ≡ true → (m : OpId) × (partner (pairs plans h) x ≡ Some m) × (sender x ≡ Some m) × (has_ended plans eager m h ≡ true)

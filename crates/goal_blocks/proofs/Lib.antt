@@ -31,3 +31,4 @@ pub mod OneFault
 pub mod Ring
 mod FaultExamples
 pub mod Levels
+pub mod Flow
