@@ -32,3 +32,4 @@ pub mod Ring
 mod FaultExamples
 pub mod Levels
 pub mod Flow
+pub mod Light
