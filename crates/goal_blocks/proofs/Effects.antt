@@ -1,6 +1,7 @@
 -- What the end of an operation does to stores and payloads, and that two operations that touch no slot of each
 -- other's, neither of which takes the other's message, may end in either order.
 use Rattle.std.proofs.Common.{⊎_elim, ℕ, zero, suc, ◌≡◌, ◌==◌, ◌&&◌, ◌⊎◌, inl, inr, Bool, true, false, List, [], ◌∷◌, map, flat_map, Contains, Option, Some, None, if◌then◌else◌, refl, sym, ap, ◌∙◌, subst, arith}
+use Rattle.std.proofs.Common.{eq-eqb}
 use Rattle.std.proofs.lemmas.Bool.{and_parts, cases_eq, eqb-true}
 use Rattle.goal_graph.specs.declared.action.OpId.{OpId}
 use Rattle.goal_graph.specs.declared.plan.Kind.{Kind}
@@ -40,7 +41,7 @@ map_same f g (k ∷ ks) each =
     let rest = map_same f g ks (λ j m. each j (inr m)) in
     λ i. first i ∷ rest i
 
-set_keeps : (rank slot : ℕ) (v : Value) (s : Store) (r k : ℕ) → (r ≡ rank → slot ≡ k → ⊥) → set_slot rank slot v s r k ≡ s r k
+pub set_keeps : (rank slot : ℕ) (v : Value) (s : Store) (r k : ℕ) → (r ≡ rank → slot ≡ k → ⊥) → set_slot rank slot v s r k ≡ s r k
 unfolding set_slot
 set_keeps rank slot v s r k apart = go ((r == rank) && (k == slot)) refl
   where
@@ -58,7 +59,12 @@ set_same rank slot v w s t r k e f = go ((r == rank) && (k == slot))
     go true = e
     go false = f
 
-write_keeps : (rank : ℕ) (ks : List ℕ) (vs : List Value) (s : Store) (r k : ℕ) → (r ≡ rank → Mem k ks → ⊥) → write rank ks vs s r k ≡ s r k
+-- a slot that is set holds the value
+pub set_itself : (rank slot : ℕ) (v : Value) (s : Store) → set_slot rank slot v s rank slot ≡ v
+unfolding set_slot
+set_itself rank slot v s = rw (eq-eqb rank rank refl, eq-eqb slot slot refl) refl
+
+pub write_keeps : (rank : ℕ) (ks : List ℕ) (vs : List Value) (s : Store) (r k : ℕ) → (r ≡ rank → Mem k ks → ⊥) → write rank ks vs s r k ≡ s r k
 unfolding write
 write_keeps rank [] vs s r k apart = refl
 write_keeps rank (j ∷ ks) [] s r k apart = refl
@@ -71,6 +77,16 @@ write_same rank [] vs s t r k e = e
 write_same rank (j ∷ ks) [] s t r k e = e
 write_same rank (j ∷ ks) (v ∷ vs) s t r k e =
     write_same rank ks vs (set_slot rank j v s) (set_slot rank j v t) r k (set_same rank j v v s t r k refl e)
+
+-- slots that are written by one rule hold what it gives
+pub write_map : (rank : ℕ) (ks : List ℕ) (f : ℕ → Value) (s : Store) (k : ℕ) → Mem k ks → write rank ks (map f ks) s rank k ≡ f k
+unfolding write
+write_map rank [] f s k m = absurd m
+write_map rank (j ∷ ks) f s k m =
+    ⊎_elim (λ n. write_map rank ks f (set_slot rank j (f j) s) k n) (λ none. write_keeps rank ks (map f ks) (set_slot rank j (f j) s) rank k (λ e n. none n) ∙ first (⊎_elim (λ e. e) (λ n. absurd (none n)) m)) (cases_mem k ks)
+  where
+    first : j ≡ k → set_slot rank j (f j) s rank k ≡ f k
+    first e = subst (λ (l : ℕ). set_slot rank j (f j) s rank l ≡ f l) e (set_itself rank j (f j) s)
 
 abbrev targets : List Adding → List ℕ
 targets more = map (λ (a : Adding). a.to) more

@@ -171,7 +171,7 @@ module _ (ranks : ℕ) (count : ℕ → ℕ) (e : ℕ → ℕ → Entry) where
     pub inside : x.op < count x.rank
     pub is : (e x.rank x.op).kind ≡ k
 
-  length_plans : length plans ≡ ranks
+  pub length_plans : length plans ≡ ranks
   unfolding made_by
   length_plans = length-map-range_with_len (λ (r : ℕ). plan_by (count r) (e r)) 0 ranks
 

@@ -1,15 +1,13 @@
 -- Where there are levels, each operation has an end in each complete interleaving.
-use Rattle.std.proofs.Common.{⊎_elim, ℕ, ◌<◌, ◌≡◌, inl, inr, Bool, true, false, List, Option, Some, None, refl, sym, ap, ◌∙◌, subst, is_some}
-use Rattle.std.specs.Option.{option_map}
+use Rattle.std.proofs.Common.{⊎_elim, ℕ, ◌<◌, ◌≡◌, inl, inr, Bool, true, List, Option, Some, refl, sym, ◌∙◌, subst}
 use Rattle.std.proofs.lemmas.Bool.{both_ways, cases_Bool}
 use Rattle.goal_graph.specs.declared.action.OpId.{OpId}
 use Rattle.goal_graph.specs.declared.action.Class.TheVariants.{Post, Begin}
 use Rattle.goal_graph.specs.declared.plan.Kind.{Kind}
 use Rattle.goal_graph.specs.declared.plan.Kind.TheVariants.{Calc, Send, Recv}
-use Rattle.goal_graph.specs.declared.plan.Op.{Op}
 use Rattle.goal_graph.specs.declared.plan.When.{When}
 use Rattle.goal_graph.specs.declared.plan.When.TheVariants.{AfterEnd, AfterStart}
-use Rattle.goal_graph.specs.Schedule.{Plan, op_at, kind_at, needed}
+use Rattle.goal_graph.specs.Schedule.{Plan, kind_at, needed}
 use Rattle.goal_graph.specs.Action.{Act, happened}
 use Rattle.goal_graph.specs.Matching.{fits}
 use Rattle.goal_graph.specs.Allowed.{has_started, has_ended, is_met, is_ready, may}
@@ -22,7 +20,7 @@ use Rattle.goal_blocks.specs.Walk.{AllEnd}
 use Rattle.goal_blocks.specs.Levels.{AreLevels}
 use Rattle.goal_blocks.proofs.Channels.{channel_fits, channels_apart}
 use Rattle.goal_blocks.proofs.Least.{below}
-use Rattle.goal_blocks.proofs.Matched.{kind_is_op}
+use Rattle.goal_blocks.proofs.Matched.{kind_is_op, op_has_kind}
 
 module _ (plans : List Plan) (level : OpId → ℕ) (eager : OpId → Bool) (h : List Act) (known : HasNoWildcard plans) (single : HasNoDoubleChannel plans) (paired : HasNoUnpaired plans) (levels : AreLevels plans level) (done : IsCompleteInterleaving plans eager h) where
   -- all operations below a level have ended
@@ -66,17 +64,9 @@ module _ (plans : List Plan) (level : OpId → ℕ) (eager : OpId → Bool) (h :
         (⊎_elim (λ e. e) (λ e. absurd (⊎_elim (λ f. both_ways _ f (posted x one.is_receive s)) free_receive (fitting_taken plans eager h done m x r e (inr fit)))) (cases_Bool (has_ended plans eager m h)),
          ⊎_elim (λ e. e) (λ e. absurd (⊎_elim (λ f. both_ways _ f (begun m one.is_send r)) free_send (fitting_taken plans eager h done x m s e (inl fit)))) (cases_Bool (has_ended plans eager x h)))
 
-  kind_of : (x : OpId) → IsOp plans x → (k : Kind) × (kind_at plans x ≡ Some k)
-  unfolding kind_at
-  kind_of x is_op = go (op_at plans x) refl is_op
-    where
-      go : (o : Option Op) → op_at plans x ≡ o → is_some o ≡ true → (k : Kind) × (option_map (λ (o : Op). o.kind) (op_at plans x) ≡ Some k)
-      go None e s = absurd (both_ways false refl s)
-      go (Some o) e s = (o.kind, ap (option_map (λ (o : Op). o.kind)) e)
-
   -- each operation of a level ends, where all those of lower levels do
   ends_at : (n : ℕ) → AllBelow n → (x : OpId) → IsOp plans x → level x ≡ n → has_ended plans eager x h ≡ true
-  ends_at n all x is_op e = go (kind_of x is_op).0 (kind_of x is_op).1
+  ends_at n all x is_op e = go (op_has_kind plans x is_op).0 (op_has_kind plans x is_op).1
     where
       low : (y : OpId) → level y ≡ n → AllBelow (level y)
       low y f z z_op l = all z z_op (subst (λ (k : ℕ). level z < k) f l)

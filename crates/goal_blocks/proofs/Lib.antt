@@ -33,3 +33,4 @@ mod FaultExamples
 pub mod Levels
 pub mod Flow
 pub mod Light
+pub mod Blueprint

@@ -1,5 +1,5 @@
 -- What is matched ends in its pairs, in each complete interleaving and whatever is eager.
-use Rattle.std.proofs.Common.{◌≡◌, Bool, false, List, Option, Some, None, refl, sym, ap, ◌∙◌, is_some}
+use Rattle.std.proofs.Common.{◌≡◌, Bool, true, false, List, Option, Some, None, refl, sym, ap, ◌∙◌, is_some}
 use Rattle.std.specs.Option.{option_map}
 use Rattle.std.proofs.lemmas.Bool.{both_ways}
 use Rattle.goal_graph.specs.declared.action.OpId.{OpId}
@@ -25,6 +25,15 @@ module _ (plans : List Plan) where
       go : (o : Option Op) → op_at plans x ≡ o → option_map (λ (o : Op). o.kind) o ≡ Some k → IsOp plans x
       go None p f = absurd (cc f)
       go (Some o) p f = ap is_some p
+
+  -- an operation has a kind
+  pub op_has_kind : (x : OpId) → IsOp plans x → (k : Kind) × (kind_at plans x ≡ Some k)
+  unfolding kind_at
+  op_has_kind x is_op = go (op_at plans x) refl is_op
+    where
+      go : (o : Option Op) → op_at plans x ≡ o → is_some o ≡ true → (k : Kind) × (option_map (λ (o : Op). o.kind) (op_at plans x) ≡ Some k)
+      go None e s = absurd (both_ways false refl s)
+      go (Some o) e s = (o.kind, ap (option_map (λ (o : Op). o.kind)) e)
 
   module _ (eager : OpId → Bool) (h : List Act) (matched : IsMatched plans) (done : IsCompleteInterleaving plans eager h) where
     apart : IsApart plans

@@ -37,11 +37,11 @@ module _ (ranks : ℕ) (count : ℕ → ℕ) (e : ℕ → ℕ → Entry) (M : Ty
   unfolding channel
   line_of_recv m = rw (kind_of_recv m) refl
 
-  one_channel : (m : M) → AreOfOneChannel plans (send m) (recv m)
+  pub one_channel : (m : M) → AreOfOneChannel plans (send m) (recv m)
   one_channel m = record { is_send = is_send m; is_receive = is_recv m; shared = line m; of_send = line_of_send m; of_receive = line_of_recv m }
 
   -- a send is that of a message, and so is a receive
-  message_of_send : (x : OpId) → IsSend plans x → (m : M) × (send m ≡ x)
+  pub message_of_send : (x : OpId) → IsSend plans x → (m : M) × (send m ≡ x)
   message_of_send x is =
       let there = kind_only ranks count e x _ is.kind in
       go (told.cases x there.in_rank there.inside) there.is
@@ -51,7 +51,7 @@ module _ (ranks : ℕ) (count : ℕ → ℕ) (e : ℕ → ℕ → Entry) (M : Ty
       go (inr (inl m)) k = m
       go (inr (inr m)) k = absurd (cc (sym (told.received m.0) ∙ subst (λ (y : OpId). (e y.rank y.op).kind ≡ Send is.bytes is.to is.tag) (sym m.1) k))
 
-  message_of_recv : (x : OpId) → IsReceive plans x → (m : M) × (recv m ≡ x)
+  pub message_of_recv : (x : OpId) → IsReceive plans x → (m : M) × (recv m ≡ x)
   message_of_recv x is =
       let there = kind_only ranks count e x _ is.kind in
       go (told.cases x there.in_rank there.inside) there.is
