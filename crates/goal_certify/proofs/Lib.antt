@@ -21,3 +21,4 @@ mod Touches
 mod Table
 mod OpenPairs
 mod LeastSlot
+pub mod Stalls

@@ -1,11 +1,13 @@
 -- A walker over one step, said of views.
-use Rattle.std.proofs.Common.{◌≡◌, true, List, Option, sym, subst}
+use Rattle.std.proofs.Common.{◌≡◌, ◌*◌, ◌-◌, ◌<◌, true, false, List, ◌∷◌, length, Option, Some, None, IfSome, IfNone, is_some, sym, ap, ◌∙◌, subst, arith}
 use Rattle.goal_graph.specs.Action.{Act}
+use Rattle.goal_graph.specs.Schedule.{operations}
+use Rattle.goal_graph.proofs.ForCallers.{happened_and_left}
 use Rattle.goal_graph.specs.Fault.{IsOp}
 use Rattle.goal_graph.specs.Interleaving.{IsInterleaving}
-use Rattle.goal_blocks.specs.Walk.{no_send, ComesFirst, TakesFirst}
+use Rattle.goal_blocks.specs.Walk.{no_send, ComesFirst, TakesFirst, IsWalk}
 use Rattle.goal_certify.specs.declared.walk.action.Action.{Action}
-use Rattle.goal_certify.specs.Walked.{Walked, act_of, with_action}
+use Rattle.goal_certify.specs.Walked.{Walked, act_of, with_action, IsLater}
 use Rattle.goal_certify.specs.WalkQueue.{Place, may_act, IsQueue, IsQueueBut, IsConcerned}
 use Rattle.goal_certify.proofs.Places.{allowed_exists}
 use Rattle.goal_certify.proofs.Queue.{queue_after}
@@ -24,3 +26,31 @@ module _ (old new : Walked) (a : Action) (after : new ≡ with_action old a) (ma
   -- each action was the first of those that might happen
   pub first_after : TakesFirst old.plans old.history → ((b : Act) → may_act old.plans old.history b.class b.op ≡ true → ComesFirst (act_of a) b) → TakesFirst new.plans new.history
   first_after before first = subst (λ (v : Walked). TakesFirst v.plans v.history) (sym after) (before, first)
+
+-- with each step fewer are left
+pub fewer_left : (old new : Walked) (r : Option Action) → is_some r ≡ true → IfSome r (λ a. new ≡ with_action old a) → IsInterleaving new.plans no_send new.history → 3 * length (operations new.plans) - length new.history < 3 * length (operations old.plans) - length old.history
+fewer_left old new None t after each = absurd (cc)
+fewer_left old new (Some a) t after each =
+    let most = happened_and_left new.plans no_send new.history each in
+    let plans = ap (λ (v : Walked). length (operations v.plans)) after in
+    let history = ap (λ (v : Walked). length v.history) after in
+    omega (arith, most, plans, history)
+
+-- and more has happened
+pub later_after : (old new : Walked) (r : Option Action) (h : List Act) → is_some r ≡ true → IfSome r (λ a. new ≡ with_action old a) → IsLater h old.history → IsLater h new.history
+later_after old new None h t after later = absurd (cc)
+later_after old new (Some a) h t after later =
+    (act_of a ∷ later.0, ap (λ (v : Walked). v.history) after ∙ ap (λ (l : List Act). act_of a ∷ l) later.1)
+
+pub plans_after : (old new : Walked) (r : Option Action) → is_some r ≡ true → IfSome r (λ a. new ≡ with_action old a) → new.plans ≡ old.plans
+plans_after old new None t after = absurd (cc)
+plans_after old new (Some a) t after = ap (λ (v : Walked). v.plans) after
+
+-- where nothing happens any more
+pub walk_at : (old new : Walked) (r : Option Action) → is_some r ≡ false → IfNone r (IsWalk old.plans old.history) → IfNone r (new ≡ old) → IsWalk new.plans new.history
+walk_at old new (Some a) t walk same = absurd (cc)
+walk_at old new None t walk same = subst (λ (v : Walked). IsWalk v.plans v.history) (sym same) walk
+
+pub same_at : (old new : Walked) (r : Option Action) → is_some r ≡ false → IfNone r (new ≡ old) → new ≡ old
+same_at old new (Some a) t same = absurd (cc)
+same_at old new None t same = same

@@ -1,5 +1,5 @@
 -- What a walker keeps of what has happened so far.
-use Rattle.std.specs.Prelude.{ℕ, ◌≡◌, ◌≤◌, ◌*◌, Bool, true, List, ◌∷◌, filter, map, length, reverse, Option, Some, None, if◌then◌else◌}
+use Rattle.std.specs.Prelude.{ℕ, ◌≡◌, ◌≤◌, ◌*◌, Bool, true, List, ◌∷◌, ◌++◌, filter, map, length, reverse, Option, Some, None, if◌then◌else◌}
 use Rattle.goal_graph.specs.declared.action.OpId.{OpId}
 use Rattle.goal_graph.specs.declared.action.Class.{Class}
 use Rattle.goal_graph.specs.declared.action.Class.TheVariants.{Arrive, Serve, Data, Post, Begin}
@@ -24,6 +24,10 @@ act_of a = record { class = a.class; op = a.op }
 -- after one action more
 abbrev pub with_action : Walked → Action → Walked
 with_action w a = record { plans = w.plans; history = act_of a ∷ w.history }
+
+-- the later list of actions begins with the other: it is that, and then more
+abbrev pub IsLater : List Act → List Act → Type 0
+IsLater h later = (more : List Act) × (later ≡ more ++ h)
 
 -- actions that are kept oldest first
 abbrev pub acts : List Action → List Act

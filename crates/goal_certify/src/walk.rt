@@ -7,7 +7,7 @@ ghost use Rattle.goal_graph.specs.Allowed.{allowed, has_ended};
 ghost use Rattle.goal_graph.specs.Fault.{IsOp, IsAccepted};
 ghost use Rattle.goal_graph.specs.Interleaving.{IsInterleaving};
 ghost use Rattle.goal_blocks.specs.Walk.{no_send, ComesFirst, TakesFirst, IsWalk};
-ghost use Rattle.goal_certify.specs.Walked.{act_of, with_action};
+ghost use Rattle.goal_certify.specs.Walked.{act_of, with_action, IsLater};
 
 use goal_base::NoMemory;
 use goal_graph::{OpId, Sched, When};
@@ -19,6 +19,7 @@ use std::sync::ledger::{Blank, Ledger};
 mod action;
 mod entry;
 mod follow;
+mod stalls;
 mod state;
 
 use action::Action;
@@ -72,8 +73,20 @@ impl<'a> Walker<'a> {
         ensures after { IfSome result (λ a. self.new ≡ with_action self.old a) }
         ensures walk { IfNone result (IsWalk self.old.plans self.old.history) }
         ensures same { IfNone result (self.new ≡ self.old) }
+        ensures each { IsInterleaving self.new.plans no_send self.new.history }
     {
-        self.next_counted::<Brand>(Blank::new(1))
+        let next = self.next_counted::<Brand>(Blank::new(1));
+        self.known();
+        next
+    }
+
+    /// Walks to the end: what has happened is then the walk.
+    pub fn finish(&mut self)
+        ensures plans { self.new.plans ≡ self.old.plans }
+        ensures walk { IsWalk self.new.plans self.new.history }
+        ensures later { IsLater self.old.history self.new.history }
+    {
+        'steps: while self.next().is_some() {}
     }
 
     /// The operation that another is paired with, once it is.
