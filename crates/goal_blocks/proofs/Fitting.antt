@@ -42,7 +42,7 @@ sum_by-map f g [] = refl
 sum_by-map f g (x ∷ xs) = rw (sum_by-cons f (g x) (map g xs), sum_by-cons (λ x. f (g x)) x xs, sum_by-map f g xs) refl
 
 -- items that have no fault one by one have none
-first_fault-of_none : {A : Type 0} (P : A → Type 0) (fault : ℕ → A → Option PlanFault) → ((n : ℕ) (x : A) → P x → fault n x ≡ None) → (n : ℕ) (xs : List A) → All P xs → first_fault fault n xs ≡ None
+pub first_fault-of_none : {A : Type 0} (P : A → Type 0) (fault : ℕ → A → Option PlanFault) → ((n : ℕ) (x : A) → P x → fault n x ≡ None) → (n : ℕ) (xs : List A) → All P xs → first_fault fault n xs ≡ None
 unfolding first_fault
 first_fault-of_none P fault none n [] h = refl
 first_fault-of_none P fault none n (x ∷ xs) h =

@@ -1,4 +1,5 @@
 pub mod GenFaults
+pub mod Probe
 -- What the clauses cite of lower crates.
 pub use Rattle.goal_blocks.specs.Collectives
 pub use Rattle.goal_blocks.specs.Generated

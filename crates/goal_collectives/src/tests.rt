@@ -1,6 +1,7 @@
-//! What no clause says: that the calls succeed. The counts are worked by hand from the rounds.
-use crate::{GenFault, generate};
+//! What no clause says: that the calls succeed. The counts are worked by hand from the rounds, the draws by another program.
+use crate::{GenFault, generate, probe_plan};
 use goal_blocks::Collective;
+use goal_graph::Kind;
 use std::test::Fail;
 
 // How many operations the schedule has, with messages of eight bytes.
@@ -44,5 +45,29 @@ fn no_schedule(rt: HostRuntime) -> Result<(), Fail> {
     assert_eq!(rt; fault, Some(GenFault::Root));
     let fault = generate(rt.alloc(), Collective::Allreduce, 6, 8).err();
     assert_eq!(rt; fault, Some(GenFault::NotPowerOfTwo));
+    Ok(())
+}
+
+#[test]
+fn probe_rounds(rt: HostRuntime) -> Result<(), Fail> {
+    let sched = probe_plan(rt.alloc(), 500, 1)
+        .ok()
+        .ok_or("there is memory")?;
+    assert_eq!(rt; sched.count(), 1_500);
+    // The first round is (22, 25, 1196, 92870).
+    let plan = sched.plans().get(22).ok_or("64 ranks")?;
+    assert_eq!(rt; plan.ops.len(), 24);
+    assert_eq!(rt; plan.deps.len(), 15);
+    let calc = plan.ops.first().ok_or("a calc")?;
+    assert_eq!(rt; calc.kind, Kind::Calc { nanos: 1_196 });
+    // The eighth, (17, 32, 607, 87538), has a receive from any source.
+    let plan = sched.plans().get(32).ok_or("64 ranks")?;
+    let receive = plan.ops.get(1).ok_or("a receive")?;
+    let kind = Kind::Recv {
+        bytes: 87_538,
+        from: None,
+        tag: Some(7),
+    };
+    assert_eq!(rt; receive.kind, kind);
     Ok(())
 }

@@ -1,0 +1,15 @@
+use Rattle.std.proofs.Common.{◌≡◌, refl}
+use Rattle.goal_graph.specs.Schedule.{Plan}
+use Rattle.goal_collectives.specs.Probe.{idle, idle_ranks}
+use Rattle.goal_collectives.proofs.ProbePlans.{pushed_idle}
+use Rattle.goal_collectives.proofs.probe.idle_ranks.Goals as goal
+
+pub loop-rank-init : goal.loop-rank-init
+unfolding idle_ranks
+loop-rank-init c = c.new-plans.ensures.items
+
+pub loop-rank-preserved : goal.loop-rank-preserved
+loop-rank-preserved c =
+    let p : Plan = record { ops = c.new.result.items; deps = c.new-in-loop-rank.result.items; notes = c.new-in-loop-rank-2.result.items } in
+    let none : p ≡ idle = rw (c.new.ensures.items, c.new-in-loop-rank.ensures.items, c.new-in-loop-rank-2.ensures.items) refl in
+    pushed_idle c.loop-rank._rank p c.loop-rank.plans.items c.push.new.self.items c.loop-rank.invariant none c.in_ok-push.ensures.items

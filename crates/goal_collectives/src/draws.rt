@@ -1,0 +1,57 @@
+// What a probe draws.
+ghost use Rattle.std.specs.Prelude.{◌≡◌, ◌<◌, ◌^◌};
+ghost use Rattle.goal_collectives.specs.Probe.{next_state, drawn, round_from};
+
+const MULTIPLIER: u64 = 6_364_136_223_846_793_005;
+
+const INCREMENT: u64 = 1_442_695_040_888_963_407;
+
+// A round: the rank of its calc and its send, the rank of its receive, the nanoseconds and the bytes.
+#[derive(Clone, Copy)]
+pub struct Round {
+    pub from: u32,
+    pub to: u32,
+    pub nanos: u64,
+    pub bytes: u64,
+}
+
+// The state of a row of draws, by a linear congruence modulo 2^64.
+#[derive(Drop)]
+pub struct Draws {
+    state: u64,
+}
+
+impl Draws {
+    // The draws from a seed.
+    pub fn new(seed: u64) -> Draws
+        ensures { result.state ≡ seed }
+    {
+        Draws { state: seed }
+    }
+
+    // The next draw.
+    fn draw(&mut self) -> u64
+        ensures state { self.new.state ≡ next_state self.old.state }
+        ensures drawn { result ≡ drawn self.new.state }
+    {
+        self.state = self.state.wrapping_mul(MULTIPLIER).wrapping_add(INCREMENT);
+        self.state >> 33
+    }
+
+    // The next round, by four draws.
+    pub fn round(&mut self) -> Round
+        ensures round { result ≡ round_from self.old.state }
+        ensures state { self.new.state ≡ next_state (next_state (next_state (next_state self.old.state))) }
+    {
+        let from = self.draw() % 64;
+        let to = self.draw() % 64;
+        let nanos = self.draw() % 10_000;
+        let bytes = self.draw() % 100_000;
+        Round {
+            from: from as u32,
+            to: to as u32,
+            nanos,
+            bytes,
+        }
+    }
+}
