@@ -108,7 +108,7 @@ module _ {K : Type 0} where
     heap_empty : (group : ℕ) → group < length counts → heap_at (map (no_keys {K = K}) counts) group ≡ no_keys {K = K} (slice_index counts group)
     heap_empty group l = get_or-map (no_keys {K = K}) counts group 0 [] l
 
-    none_at : (group place : ℕ) → key_at (heap_at (map (no_keys {K = K}) counts) group) place ≡ None
+    pub none_at : (group place : ℕ) → key_at (heap_at (map (no_keys {K = K}) counts) group) place ≡ None
     none_at group place = go (cases_lt group (length counts))
       where
         go : (group < length counts) ⊎ (length counts ≤ group) → key_at (heap_at (map (no_keys {K = K}) counts) group) place ≡ None

@@ -9,6 +9,7 @@ pub mod Changing
 pub mod Bounds
 pub mod Grouping
 pub mod Homes
+pub mod Ranking
 pub mod Floors
 pub mod FloorSteps
 pub mod FloorLeast

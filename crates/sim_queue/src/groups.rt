@@ -53,7 +53,10 @@ fn homes(alloc: Global, numbers: &[u32], counts: &mut [u32]) -> Result<Vec<Home>
 }
 
 // Heaps with so many slots each, none of which has a key.
-fn heaps<K: EventOrder + Copy>(alloc: Global, counts: &[u32]) -> Result<Vec<SlotHeap<K>>, NoMemory>
+pub fn heaps<K: EventOrder + Copy>(
+    alloc: Global,
+    counts: &[u32],
+) -> Result<Vec<SlotHeap<K>>, NoMemory>
     ensures { IfOk result (λ heaps. heaps.items ≡ map no_keys counts.now) }
 {
     let mut heaps = Vec::with_capacity(alloc, counts.len())?;

@@ -4,6 +4,7 @@
 mod floor_queue;
 mod groups;
 mod queue;
+mod ranked_queue;
 mod row;
 mod sift;
 mod slot_heap;
@@ -14,6 +15,7 @@ mod vec_queue;
 pub use floor_queue::FloorQueue;
 pub use groups::{Groups, Home};
 pub use queue::EventQueue;
+pub use ranked_queue::RankedQueue;
 pub use row::row_28;
 pub use slot_heap::SlotHeap;
 pub use vec_queue::VecQueue;

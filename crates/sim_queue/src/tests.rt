@@ -1,8 +1,10 @@
 // Twelve slots are put, four of them dropped.
 ghost use Rattle.std.specs.Prelude.{◌≡◌, ◌<◌, length};
 
-use crate::{EventQueue, SlotHeap, VecQueue};
+use crate::{EventQueue, RankedQueue, SlotHeap, VecQueue};
+use goal_graph::{Kind, Op, RankPlan, Sched};
 use sim_order::{Counted, Steps};
+use std::alloc::{AllocError, Global};
 use std::marker::Brand;
 use std::sync::ledger::{Blank, Ledger};
 use std::test::Fail;
@@ -57,6 +59,34 @@ fn the_least_of_a_heap(rt: HostRuntime) -> Result<(), Fail> {
     let none = least_alone::<SlotHeap<Counted<u64>>, Brand>(&queue, Blank::new(1));
     assert_eq!(rt; none, None);
     let least = least_of::<SlotHeap<Counted<u64>>, Brand>(&mut queue, Blank::new(1));
+    assert_eq!(rt; least, Some((11, Counted(5))));
+    Ok(())
+}
+
+// The plan of a rank that has so many calcs.
+fn calcs(alloc: Global, count: usize) -> Result<RankPlan, AllocError> {
+    let calc = Op {
+        kind: Kind::Calc { nanos: 1 },
+        cpu: 0,
+        nic: 0,
+    };
+    Ok(RankPlan {
+        ops: vec![in alloc; calc; count]?,
+        deps: Vec::new(alloc),
+        notes: Vec::new(alloc),
+    })
+}
+
+#[test]
+fn the_least_of_a_ranked_queue(rt: HostRuntime) -> Result<(), Fail> {
+    let alloc = rt.alloc();
+    let plans = vec![in alloc; calcs(alloc, 5)?, calcs(alloc, 0)?, calcs(alloc, 7)?]?;
+    let sched = Sched::build(alloc, plans)?;
+    let mut queue = RankedQueue::new(alloc, &sched)?;
+    let none = least_alone::<RankedQueue<Counted<u64>>, Brand>(&queue, Blank::new(1));
+    assert_eq!(rt; none, None);
+    assert_eq!(rt; sched.count(), 12);
+    let least = least_of::<RankedQueue<Counted<u64>>, Brand>(&mut queue, Blank::new(1));
     assert_eq!(rt; least, Some((11, Counted(5))));
     Ok(())
 }

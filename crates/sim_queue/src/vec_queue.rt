@@ -1,5 +1,5 @@
 // The plain queue.
-ghost use Rattle.std.specs.Prelude.{◌≡◌, ◌<◌, ◌^◌, Some, None, IfOk, length, replicate, slice_set, vec_len};
+ghost use Rattle.std.specs.Prelude.{◌≡◌, ◌<◌, ◌≤◌, ◌^◌, Some, None, IfOk, length, replicate, slice_set, vec_len};
 ghost use Rattle.sim_queue.specs.Scan.{lesser};
 
 use crate::EventQueue;
@@ -43,7 +43,8 @@ fn lesser<K: EventOrder + Copy, L: Ledger>(
     key: K,
     steps: &mut Steps<L>,
 ) -> (u32, K)
-    ensures { result ≡ lesser K.before best slot key }
+    ensures tells { result ≡ lesser K.before best slot key }
+    ensures onward { steps.old ≤ steps.new }
 {
     match best {
         Some((other, least)) => {

@@ -1,0 +1,333 @@
+-- A heap for each rank under a heap of ranks: where the operations stand, a key that is changed, and the least of all.
+use Rattle.std.proofs.Common.{◌≡◌, ◌≢◌, ◌⊎◌, ◌+◌, ◌-◌, ◌<◌, ◌≤◌, ◌^◌, ℕ, zero, suc, All, Bool, false, List, [], ◌∷◌, ◌++◌, length, map, set, take, sum, get_or, slice_get, slice_index, replicate, Option, Some, None, refl, sym, ap, ◌∙◌, subst, arith, inl, inr, length-append}
+use Rattle.std.proofs.lemmas.Bool.{cases_eq, cases_lt}
+use Rattle.std.proofs.lemmas.List.{get_or-set_same, get_or-set_other, length-set, length-map, get_or-map, get_or_past, get_or_append_left, get_or-append-add, get_or_push, length-replicate, map-append, take_more}
+use Rattle.std.proofs.lemmas.List.Elements.{All-get_or}
+use Rattle.std.proofs.lemmas.List.Sums.{sum_by-cons, sum-map}
+use Rattle.std.specs.Option.{option_map}
+use Rattle.std.proofs.lemmas.Option.{slice_get-get_or, slice_get_within, get_or_from_slice_get, slice_get-map, same_Some}
+use Rattle.goal_graph.specs.declared.action.OpId.{OpId}
+use Rattle.goal_graph.specs.declared.plan.Op.{Op}
+use Rattle.goal_graph.specs.Schedule.{Plan, ops_at, places_of_rank, places_from, operations}
+use Rattle.goal_graph.specs.Fault.{op_count, AreCountsWithin}
+use Rattle.goal_graph.proofs.ForCallers.{ops_at_some}
+use Rattle.sim_order.specs.Order.{IsOrder}
+use Rattle.sim_queue.specs.declared.groups.Home.{Home}
+use Rattle.sim_queue.specs.Map.{key_at, IsEmptyMap, IsLeast}
+use Rattle.sim_queue.specs.Groups.{Grouped, AreHomes, no_keys, heap_at, key_of_home, group_of_home}
+use Rattle.sim_queue.specs.Ranked.{size_of}
+use Rattle.sim_queue.specs.Ranks.{home_of, ranked, IsHeadOf, IsTold, IsRanked}
+use Rattle.sim_queue.proofs.Weak.{through}
+use Rattle.sim_queue.proofs.Grouping.{key_at_home, changed, still_housed}
+use Rattle.sim_queue.proofs.Homes.{none_of, none_at, empty_housed, empty_grouped}
+
+abbrev place : ℕ → ℕ → OpId
+place rank op = record { rank = rank; op = op }
+
+in_rank : (rank first : ℕ) (ops : List Op) (i : ℕ) (x : OpId) → slice_get (places_of_rank rank first ops) i ≡ Some x → (x.rank ≡ rank) × (x.op ≡ first + i) × (i < length ops)
+unfolding places_of_rank
+in_rank rank first [] i x e = absurd (cc)
+in_rank rank first (o ∷ os) zero x e =
+    let same : place rank first ≡ x = same_Some (place rank first) x e in
+    (sym (ap (λ (y : OpId). y.rank) same), omega (arith, ap (λ (y : OpId). y.op) same), omega arith)
+in_rank rank first (o ∷ os) (suc i) x e =
+    let rest = in_rank rank (first + 1) os i x e in
+    (rest.0, omega (arith, rest.1), omega (arith, rest.2))
+
+length-rank : (rank first : ℕ) (ops : List Op) → length (places_of_rank rank first ops) ≡ length ops
+unfolding places_of_rank
+length-rank rank first [] = refl
+length-rank rank first (o ∷ os) = ap suc (length-rank rank (first + 1) os)
+
+-- an operation that stands at a slot, where the ranks are numbered from the first on
+pub record IsPlaced (plans : List Plan) (first slot : ℕ) (x : OpId) : Type 0 where
+  pub rank : ℕ
+  pub rank_in : rank < length plans
+  pub is_rank : x.rank ≡ first + rank
+  pub op_in : x.op < slice_index (map size_of plans) rank
+  pub at : slot ≡ sum (take rank (map size_of plans)) + x.op
+
+placed_more : (first : ℕ) (p : Plan) (plans : List Plan) (slot : ℕ) (x : OpId) → ((m : ℕ) → slice_get (places_from (first + 1) plans) m ≡ Some x → IsPlaced plans (first + 1) m x) → slice_get (places_of_rank first 0 p.ops ++ places_from (first + 1) plans) slot ≡ Some x → IsPlaced (p ∷ plans) first slot x
+placed_more first p plans slot x rest e = go (cases_lt slot (length here))
+  where
+    here : List OpId
+    here = places_of_rank first 0 p.ops
+
+    there : List OpId
+    there = places_from (first + 1) plans
+
+    read : get_or (here ++ there) slot x ≡ x
+    read = get_or_from_slice_get (here ++ there) slot x x e
+
+    size : length here ≡ length p.ops
+    size = length-rank first 0 p.ops
+
+    go : (slot < length here) ⊎ (length here ≤ slot) → IsPlaced (p ∷ plans) first slot x
+    go (inl l) =
+        let r = in_rank first 0 p.ops slot x (slice_get-get_or here slot x l ∙ ap Some (sym (get_or_append_left here there x slot l) ∙ read)) in
+        record {
+          rank = 0;
+          rank_in = omega arith;
+          is_rank = omega (arith, r.0);
+          op_in = omega (arith, r.1, r.2);
+          at = omega (arith, r.1);
+        }
+    go (inr l) =
+        let m : ℕ = slot - length here in
+        let whole : length here + m ≡ slot = omega (arith, l) in
+        let m_in : m < length there = omega (arith, l, slice_get_within (here ++ there) slot x e, length-append here there) in
+        let r = rest m (slice_get-get_or there m x m_in ∙ ap Some (sym (get_or-append-add here there m x) ∙ ap (λ i. get_or (here ++ there) i x) whole ∙ read)) in
+        record {
+          rank = suc r.rank;
+          rank_in = omega (arith, r.rank_in);
+          is_rank = omega (arith, r.is_rank);
+          op_in = r.op_in;
+          at = omega (arith, r.at, whole, size, sum_by-cons (λ n. n) (length p.ops) (take r.rank (map size_of plans)));
+        }
+
+place_from : (first : ℕ) (plans : List Plan) (slot : ℕ) (x : OpId) → slice_get (places_from first plans) slot ≡ Some x → IsPlaced plans first slot x
+unfolding places_from
+place_from first [] slot x e = absurd (cc)
+place_from first (p ∷ plans) slot x e =
+    placed_more first p plans slot x (λ m f. place_from (first + 1) plans m x f) e
+
+length-places : (first : ℕ) (plans : List Plan) → length (places_from first plans) ≡ sum (map size_of plans)
+unfolding places_from
+length-places first [] = refl
+length-places first (p ∷ plans) =
+    omega (arith, length-append (places_of_rank first 0 p.ops) (places_from (first + 1) plans), length-rank first 0 p.ops, length-places (first + 1) plans, sum_by-cons (λ n. n) (length p.ops) (map size_of plans))
+
+-- so many operations fit
+pub few_in_all : (plans : List Plan) → AreCountsWithin plans → sum (map size_of plans) < 2 ^ 32
+unfolding op_count
+few_in_all plans counts = omega (arith, sum-map size_of plans, counts.ops)
+
+no_plan : Plan
+no_plan = record { ops = []; deps = []; notes = [] }
+
+-- the size of one rank more
+pub sizes_more : (plans : List Plan) (rank count : ℕ) (sizes new : List ℕ) → rank < length plans → sizes ≡ map size_of (take rank plans) → count ≡ length (ops_at plans rank) → new ≡ sizes ++ count ∷ [] → new ≡ map size_of (take (rank + 1) plans)
+sizes_more plans rank count sizes new l so_far is e =
+    let p : Plan = get_or plans rank no_plan in
+    let size : count ≡ size_of p = is ∙ ap length (ops_at_some plans rank p (slice_get-get_or plans rank no_plan l)) in
+    e ∙ ap (λ ns. ns ++ count ∷ []) so_far ∙ ap (λ n. map size_of (take rank plans) ++ n ∷ []) size ∙ sym (map-append size_of (take rank plans) (p ∷ [])) ∙ ap (map size_of) (sym (take_more plans rank no_plan l))
+
+-- the start of one rank more
+pub starts_more : (sizes starts new : List ℕ) (i next : ℕ) → length starts ≡ i → next ≡ sum (take i sizes) → ((rank : ℕ) → rank < i → slice_index starts rank ≡ sum (take rank sizes)) → new ≡ starts ++ next ∷ [] → (rank : ℕ) → rank < i + 1 → slice_index new rank ≡ sum (take rank sizes)
+starts_more sizes starts new i next each is old e rank l =
+    ap (λ xs. slice_index xs rank) e ∙ go (cases_lt rank i)
+  where
+    go : (rank < i) ⊎ (i ≤ rank) → slice_index (starts ++ next ∷ []) rank ≡ sum (take rank sizes)
+    go (inl b) = get_or_append_left starts (next ∷ []) 0 rank (omega (arith, b, each)) ∙ old rank b
+    go (inr b) =
+        let same : i ≡ rank = omega (arith, l, b) in
+        get_or_push starts next 0 rank (omega (arith, same, each)) ∙ is ∙ ap (λ k. sum (take k sizes)) same
+
+-- homes of all operations, and a queue in which none has a key
+module _ (plans : List Plan) (homes : List Home) (are : homes ≡ map home_of (operations plans)) where
+  pub few_homes : sum (map size_of plans) < 2 ^ 32 → length homes < 2 ^ 32
+  few_homes few = omega (arith, few, ap length are, length-map (operations plans) home_of, length-places 0 plans)
+
+  placed : (slot : ℕ) (home : Home) → slice_get homes slot ≡ Some home → IsPlaced plans 0 slot (place home.group home.place)
+  placed slot home e = go (slice_get (operations plans) slot) refl
+    where
+      at : slice_get (map home_of (operations plans)) slot ≡ Some home
+      at = sym (ap (λ hs. slice_get hs slot) are) ∙ e
+
+      go : (o : Option OpId) → slice_get (operations plans) slot ≡ o → IsPlaced plans 0 slot (place home.group home.place)
+      go None f =
+          let none : slice_get (map home_of (operations plans)) slot ≡ None = slice_get-map home_of (operations plans) slot ∙ ap (option_map home_of) f in
+          absurd (cc)
+      go (Some x) f =
+          let same : home_of x ≡ home = same_Some (home_of x) home (sym (slice_get-map home_of (operations plans) slot ∙ ap (option_map home_of) f) ∙ at) in
+          subst (λ (h : Home). IsPlaced plans 0 slot (place h.group h.place)) same (place_from 0 plans slot x f)
+
+  stands : (slot : ℕ) (home : Home) → slice_get homes slot ≡ Some home → slot ≡ sum (take home.group (map size_of plans)) + home.place
+  stands slot home e =
+      let p = placed slot home e in
+      let rank : p.rank ≡ home.group = omega (arith, p.is_rank) in
+      subst (λ g. slot ≡ sum (take g (map size_of plans)) + home.place) rank p.at
+
+  are_homes : AreHomes (map group_of_home homes) homes (map size_of plans)
+  are_homes = record {
+    groups = refl;
+    group_in =
+        λ slot home e.
+        let p = placed slot home e in
+        omega (arith, p.rank_in, p.is_rank, length-map plans size_of);
+    place_in =
+        λ slot home e.
+        let p = placed slot home e in
+        let rank : p.rank ≡ home.group = omega (arith, p.is_rank) in
+        subst (λ g. home.place < slice_index (map size_of plans) g) rank p.op_in;
+    apart = λ slot other home e f. stands slot home e ∙ sym (stands other home f);
+  }
+
+  module _ {K : Type 0} (before : K → K → Bool) (few : length homes < 2 ^ 32) (starts : List ℕ) (each : length starts ≡ length (map size_of plans)) (sums : (rank : ℕ) → rank < length (map size_of plans) → slice_index starts rank ≡ sum (take rank (map size_of plans))) where
+    abbrev empty : List (List (Option K))
+    empty = map (no_keys {K = K}) (map size_of plans)
+
+    abbrev no_heads : List (Option K)
+    no_heads = replicate (length (map size_of plans)) None
+
+    many : length empty ≡ length (map size_of plans)
+    many = length-map (map size_of plans) (no_keys {K = K})
+
+    none_ranked : IsRanked before homes starts empty no_heads
+    none_ranked = record {
+      housed = empty_housed (map group_of_home homes) homes (map size_of plans) are_homes few;
+      started = each ∙ sym many;
+      each = length-replicate {A = Option K} (length (map size_of plans)) None ∙ sym many;
+      found =
+          λ slot home e.
+          let start = sums home.group (are_homes.group_in slot home e) in
+          omega (arith, stands slot home e, start);
+      headed =
+          λ rank l.
+          subst (IsHeadOf before (heap_at empty rank)) (sym (none_of {K = K} (length (map size_of plans)) rank)) (λ p. none_at (map group_of_home homes) homes (map size_of plans) are_homes rank p);
+    }
+
+    pub new_ranked : (heaps : List (List (Option K))) (heads : List (Option K)) → heaps ≡ empty → heads ≡ no_heads → IsRanked before homes starts heaps heads
+    new_ranked heaps heads a b =
+        subst (λ hs. IsRanked before homes starts hs heads) (sym a) (subst (IsRanked before homes starts empty) (sym b) none_ranked)
+
+  empty_sizes : (K : Type 0) (counts : List ℕ) → map (λ (h : List (Option K)). length h) (map (no_keys {K = K}) counts) ≡ counts
+  empty_sizes K [] = refl
+  empty_sizes K (count ∷ counts) = rw (length-replicate {A = Option K} count None) (ap (λ ns. count ∷ ns) (empty_sizes K counts))
+
+  pub new_seen : {K : Type 0} (heaps : List (List (Option K))) → heaps ≡ map (no_keys {K = K}) (map size_of plans) → ranked homes heaps ≡ record { keys = replicate (length (operations plans)) None; sizes = map size_of plans }
+  new_seen {K = K} heaps a = ap (ranked homes) a ∙ none
+    where
+      keys : map (key_of_home (map (no_keys {K = K}) (map size_of plans))) homes ≡ replicate (length (operations plans)) None
+      keys =
+          ap (λ (q : Grouped K). q.keys) (empty_grouped {K = K} (map group_of_home homes) homes (map size_of plans) are_homes) ∙ ap (λ n. replicate n None) (length-map homes group_of_home ∙ ap length are ∙ length-map (operations plans) home_of)
+
+      none : ranked homes (map (no_keys {K = K}) (map size_of plans)) ≡ record { keys = replicate (length (operations plans)) None; sizes = map size_of plans }
+      none i = record { keys = keys i; sizes = empty_sizes K (map size_of plans) i }
+
+module _ {K : Type 0} where
+  -- a heap is changed for one of its length
+  same_sizes : (heaps : List (List (Option K))) (rank : ℕ) (new : List (Option K)) → length new ≡ length (heap_at heaps rank) → map (λ (h : List (Option K)). length h) (set heaps rank new) ≡ map (λ (h : List (Option K)). length h) heaps
+  same_sizes [] rank new e = refl
+  same_sizes (heap ∷ heaps) zero new e = ap (λ n. n ∷ map (λ (h : List (Option K)). length h) heaps) e
+  same_sizes (heap ∷ heaps) (suc rank) new e = ap (λ ns. length heap ∷ ns) (same_sizes heaps rank new e)
+
+  -- so many slots a rank has
+  pub size_within : (heaps : List (List (Option K))) (rank most : ℕ) → rank < length heaps → All (λ size. size ≤ most) (map (λ (h : List (Option K)). length h) heaps) → length (heap_at heaps rank) ≤ most
+  size_within heaps rank most l all =
+      let at = get_or-map (λ (h : List (Option K)). length h) heaps rank [] 0 l in
+      omega (arith, at, All-get_or (λ size. size ≤ most) (map (λ (h : List (Option K)). length h) heaps) rank 0 (rw (length-map heaps (λ (h : List (Option K)). length h)) l) all)
+
+  no_key : (k : K) → None ≡ Some k → ⊥
+  no_key k e = absurd (cc)
+
+  module _ (before : K → K → Bool) (homes : List Home) (starts : List ℕ) (heaps : List (List (Option K))) (heads : List (Option K)) (is : IsRanked before homes starts heaps heads) where
+    -- the key of one slot is changed, and the head of its rank told anew
+    module _ (slot : ℕ) (home : Home) (at : slice_get homes slot ≡ Some home) (value : Option K) (heap new : List (Option K)) (is_heap : heap ≡ heap_at heaps home.group) (is_new : new ≡ set heap home.place value) where
+      abbrev after : List (List (Option K))
+      after = set heaps home.group new
+
+      rank_in : home.group < length heaps
+      rank_in = is.housed.group_in slot home at
+
+      pub still_ranked : (new_heads : List (Option K)) → IsTold before (heap_at after home.group) heads new_heads home.group → IsRanked before homes starts after new_heads
+      still_ranked new_heads told = record {
+        housed = still_housed homes heaps is.housed slot home at value heap new is_heap is_new;
+        started = is.started ∙ sym (length-set heaps home.group new);
+        each = ap length told.put ∙ length-set heads home.group told.head ∙ is.each ∙ sym (length-set heaps home.group new);
+        found = is.found;
+        headed = λ rank l. go rank l (cases_eq rank home.group);
+      }
+        where
+          here : key_at new_heads home.group ≡ told.head
+          here =
+              ap (λ hs. key_at hs home.group) told.put ∙ get_or-set_same heads home.group told.head None (omega (arith, rank_in, is.each))
+
+          go : (rank : ℕ) → rank < length after → (rank ≡ home.group) ⊎ (rank ≢ home.group) → IsHeadOf before (heap_at after rank) (key_at new_heads rank)
+          go rank l (inl e) =
+              subst (λ r. IsHeadOf before (heap_at after r) (key_at new_heads r)) (sym e) (subst (IsHeadOf before (heap_at after home.group)) (sym here) told.is_head)
+          go rank l (inr n) =
+              let there : key_at new_heads rank ≡ key_at heads rank = ap (λ hs. key_at hs rank) told.put ∙ get_or-set_other heads home.group rank told.head None n in
+              let same : heap_at after rank ≡ heap_at heaps rank = get_or-set_other heaps home.group rank new [] n in
+              let was = is.headed rank (omega (arith, l, length-set heaps home.group new)) in
+              subst (λ h. IsHeadOf before h (key_at new_heads rank)) (sym same) (subst (IsHeadOf before (heap_at heaps rank)) (sym there) was)
+
+      pub changed_ranked : ranked homes after ≡ record { keys = set (ranked homes heaps).keys slot value; sizes = (ranked homes heaps).sizes }
+      changed_ranked i = record { keys = keys i; sizes = sizes i }
+        where
+          keys : map (key_of_home after) homes ≡ set (map (key_of_home heaps) homes) slot value
+          keys = ap (λ (q : Grouped K). q.keys) (changed homes heaps is.housed slot home at value heap new is_heap is_new)
+
+          sizes : map (λ (h : List (Option K)). length h) after ≡ map (λ (h : List (Option K)). length h) heaps
+          sizes =
+              same_sizes heaps home.group new (ap length is_new ∙ length-set heap home.place value ∙ ap length is_heap)
+
+    -- a slot that has a key has a home, and its rank a head
+    record HasHead (k : K) : Type 0 where
+      rank : ℕ
+      place : ℕ
+      head : K
+      at : key_at (heap_at heaps rank) place ≡ Some k
+      head_is : key_at heads rank ≡ Some head
+      least : before k head ≡ false
+
+    has_head : (slot : ℕ) (k : K) → key_at (ranked homes heaps).keys slot ≡ Some k → HasHead k
+    has_head slot k e = go (cases_lt slot (length homes))
+      where
+        told : (home : Home) → slice_get homes slot ≡ Some home → (head : Option K) → key_at heads home.group ≡ head → IsHeadOf before (heap_at heaps home.group) head → HasHead k
+        told home at None f empty =
+            absurd (no_key k (sym (empty home.place) ∙ sym (key_at_home homes heaps is.housed slot home at) ∙ e))
+        told home at (Some head) f least =
+            let there = sym (key_at_home homes heaps is.housed slot home at) ∙ e in
+            record { rank = home.group; place = home.place; head = head; at = there; head_is = f; least = least.1.least home.place k there }
+
+        go : (slot < length homes) ⊎ (length homes ≤ slot) → HasHead k
+        go (inl l) =
+            let home : Home = get_or homes slot (record { group = 0; place = 0 }) in
+            let at : slice_get homes slot ≡ Some home = slice_get-get_or homes slot (record { group = 0; place = 0 }) l in
+            told home at (key_at heads home.group) refl (is.headed home.group (is.housed.group_in slot home at))
+        go (inr l) =
+            let past : key_at (ranked homes heaps).keys slot ≡ None = get_or_past (ranked homes heaps).keys slot None (omega (arith, l, length-map homes (key_of_home heaps))) in
+            absurd (no_key k (sym past ∙ e))
+
+    pub empty_ranked : IsEmptyMap heads → IsEmptyMap (ranked homes heaps).keys
+    empty_ranked none slot = go (key_at (ranked homes heaps).keys slot) refl
+      where
+        go : (o : Option K) → key_at (ranked homes heaps).keys slot ≡ o → o ≡ None
+        go None e = refl
+        go (Some k) e = let h = has_head slot k e in absurd (no_key h.head (sym (none h.rank) ∙ h.head_is))
+
+    module _ (laws : IsOrder before) (rank : ℕ) (head : K) (least : IsLeast before heads rank head) where
+      pub top_in : rank < length heaps
+      top_in = go (cases_lt rank (length heads))
+        where
+          go : (rank < length heads) ⊎ (length heads ≤ rank) → rank < length heaps
+          go (inl l) = omega (arith, l, is.each)
+          go (inr l) = absurd (no_key head (sym (get_or_past heads rank None l) ∙ least.has))
+
+      top : (place : ℕ) × IsLeast before (heap_at heaps rank) place head
+      top = subst (IsHeadOf before (heap_at heaps rank)) least.has (is.headed rank top_in)
+
+      pub top_not_empty : IsEmptyMap (heap_at heaps rank) → ⊥
+      top_not_empty empty = no_key head (sym (empty top.0) ∙ top.1.has)
+
+      module _ (place : ℕ) (key : K) (least_here : IsLeast before (heap_at heaps rank) place key) where
+        slot_at : (slot : ℕ) × (slice_get homes slot ≡ Some (record { group = rank; place = place }))
+        slot_at = is.housed.inhabited rank place key least_here.has
+
+        pub top_slot : slice_index starts rank + place < length homes
+        top_slot =
+            omega (arith, is.found slot_at.0 (record { group = rank; place = place }) slot_at.1, slice_get_within homes slot_at.0 (record { group = rank; place = place }) slot_at.1)
+
+        pub least_of_all : IsLeast before (ranked homes heaps).keys (slice_index starts rank + place) key
+        least_of_all =
+            subst (λ s. IsLeast before (ranked homes heaps).keys s key) (is.found slot_at.0 (record { group = rank; place = place }) slot_at.1) (record {
+              has = key_at_home homes heaps is.housed slot_at.0 (record { group = rank; place = place }) slot_at.1 ∙ least_here.has;
+              least =
+                  λ other k e.
+                  let h = has_head other k e in
+                  through before laws k h.head key h.least (through before laws h.head head key (least.least h.rank h.head h.head_is) (least_here.least top.0 head top.1.has));
+            })
+
+        pub not_empty_ranked : IsEmptyMap (ranked homes heaps).keys → ⊥
+        not_empty_ranked empty = no_key key (sym (empty (slice_index starts rank + place)) ∙ least_of_all.has)
