@@ -28,6 +28,16 @@ cases_bool : (b : Bool) → (b ≡ true) ⊎ (b ≡ false)
 cases_bool true = inl refl
 cases_bool false = inr refl
 
+-- what is open shares a slot
+open_shared : (before shared : List ℕ) (x y : ℕ) → is_open before shared x y ≡ true → has shared x y ≡ false → ⊥
+open_shared before shared x y both none =
+    true≢false (sym (and_parts (has shared x y) (not (has before y x) && not (has before x y)) both).0 ∙ none)
+
+-- no operation above x and below the next one is open with x, where none was so far and those that are skipped share none
+pub none_skipped : (before shared : List ℕ) (x second next count : ℕ) → ((y : ℕ) → x < y → y < second → y < count → is_open before shared x y ≡ true → ⊥) → ((y : ℕ) → second ≤ y → y < next → has shared x y ≡ false) → (y : ℕ) → x < y → y < next → y < count → is_open before shared x y ≡ true → ⊥
+none_skipped before shared x second next count so_far skipped y low high within both =
+    ⊎_elim (λ passed. so_far y low passed within both) (λ from. open_shared before shared x y both (skipped y from high)) (cases_lt y second)
+
 module _ (plans : List Plan) (rank : ℕ) (touches : List Touch) (touchers writers : List ℕ) (known : AreTouches plans rank touches) (marked : AreMarked false touches touchers) (written_marked : AreMarked true touches writers) where
   -- both touch the slot, and one of them writes it
   abbrev Share : ℕ → ℕ → ℕ → Type 0

@@ -203,3 +203,9 @@ more_zeros words n i =
 pub has_more_zeros : (words : List ℕ) (n r k : ℕ) → has (words ++ replicate n 0) r k ≡ has words r k
 unfolding has
 has_more_zeros words n r k = ap (λ w. bit w k) (more_zeros words n (32 * r + k / 64))
+
+-- a word of 0 has no number
+pub no_word : (rows : List ℕ) (row k i : ℕ) → get_or rows i 0 ≡ 0 → 32 * row + k / 64 ≡ i → has rows row k ≡ false
+unfolding has
+no_word rows row k i none at =
+    ap (λ (j : ℕ). bit (get_or rows j 0) k) at ∙ ap (λ w. bit w k) none ∙ ap (λ b. eqb b 1) (bit_at-zero (k % 64))

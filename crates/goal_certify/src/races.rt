@@ -125,3 +125,6 @@ fn find_race(
         None => unreachable!(),
     }
 }
+
+#[cfg(test)]
+mod tests;

@@ -1,9 +1,10 @@
 // The least pair of operations that race, and their least slot.
-ghost use Rattle.std.specs.Prelude.{◌≡◌, ◌+◌, ◌*◌, ◌<◌, ◌≤◌, true, false, length, All};
+ghost use Rattle.std.specs.Prelude.{ℕ, ◌≡◌, ◌+◌, ◌*◌, ◌<◌, ◌≤◌, true, false, length, All};
+ghost use Rattle.goal_certify.specs.Rows.{has};
 ghost use Rattle.goal_certify.specs.Table.{meets, AreMarked};
 ghost use Rattle.goal_certify.specs.Races.{is_open, IsNextOpen, IsFirstOpen, IsLeastSlot, lesser, least_with};
 
-use crate::races::rows::is_in;
+use crate::races::rows::{WORDS, is_in};
 use crate::races::touches::Touch;
 
 /// Two operations of a rank, the lesser first.
@@ -36,12 +37,30 @@ fn next_open(before: &[u64], shared: &[u64], first: u32, count: u32) -> Option<u
     requires shared { length shared.now ≡ 32 * count }
     ensures { IsNextOpen before.now shared.now first count result }
 {
-    for second in first + 1..count {
-        if is_open(before, shared, first, second) {
-            return Some(second);
+    let mut second = first + 1;
+    while second < count {
+        let next = skip(shared, first, second);
+        if next < count && is_open(before, shared, first, next) {
+            return Some(next);
         }
+        second = next + 1;
     }
     None
+}
+
+// The operation itself, or the first one behind it whose bit stands in the next word, where the row has none in this one.
+fn skip(shared: &[u64], first: u32, second: u32) -> u32
+    requires second { second < 2048 }
+    requires shared { 32 * first + 32 ≤ length shared.now }
+    ensures above { second ≤ result }
+    ensures near { result ≤ second + 64 }
+    ensures none { (y : ℕ) → second ≤ y → y < result → has shared.now first y ≡ false }
+{
+    let place = second / 64;
+    if shared[WORDS * first as usize + place as usize] == 0 {
+        return 64 * (place + 1);
+    }
+    second
 }
 
 fn is_open(before: &[u64], shared: &[u64], first: u32, second: u32) -> bool
