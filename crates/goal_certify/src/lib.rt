@@ -1,9 +1,12 @@
 //! Whether a schedule does what a collective wants, in every interleaving: the first fault of it, or none.
 #![tactic(auto)]
 
+mod certifier;
 mod channels;
 mod ends;
 mod races;
 mod sizes;
 mod slot_counts;
+#[cfg(test)]
+mod tests;
 mod walk;

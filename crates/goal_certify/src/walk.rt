@@ -24,6 +24,7 @@ mod state;
 
 use action::Action;
 use follow::{Queue, fill, follow, next};
+pub use stalls::check_stalls;
 use state::State;
 
 /// Walks through a schedule. Contracts see it as the plans of the schedule and what has happened so far, newest first.

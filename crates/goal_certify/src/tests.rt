@@ -1,0 +1,120 @@
+// Small schedules of two ranks, each with the fault that it has first.
+use crate::channels::check_channels;
+use crate::sizes::check_sizes;
+use goal_blocks::CertFault;
+use goal_graph::{Kind, Note, Op, OpId, PlanFault, RankPlan, Sched};
+use std::alloc::Global;
+use std::test::Fail;
+
+fn send(bytes: u64, to: u32, tag: u32) -> Op {
+    Op {
+        kind: Kind::Send { bytes, to, tag },
+        cpu: 0,
+        nic: 0,
+    }
+}
+
+fn receive(from: Option<u32>, tag: Option<u32>) -> Op {
+    Op {
+        kind: Kind::Recv {
+            bytes: 8,
+            from,
+            tag,
+        },
+        cpu: 0,
+        nic: 0,
+    }
+}
+
+fn moves(lo: u32, hi: u32) -> Note {
+    Note::Moves { op: 0, lo, hi }
+}
+
+fn at(rank: u32, op: u32) -> OpId {
+    OpId { rank, op }
+}
+
+fn plan(alloc: Global, ops: &[Op], notes: &[Note]) -> Result<RankPlan, PlanFault> {
+    let ops = Vec::from_slice(alloc, ops)?;
+    let notes = Vec::from_slice(alloc, notes)?;
+    let deps = Vec::new(alloc);
+    Ok(RankPlan { ops, deps, notes })
+}
+
+fn two(alloc: Global, first: RankPlan, second: RankPlan) -> Result<Sched, PlanFault> {
+    let mut plans = Vec::new(alloc);
+    plans.push(first)?;
+    plans.push(second)?;
+    Sched::build(alloc, plans)
+}
+
+// The first fault of the schedule of two ranks.
+fn fault(alloc: Global, first: RankPlan, second: RankPlan) -> Result<Option<CertFault>, PlanFault> {
+    let sched = two(alloc, first, second)?;
+    match check_sizes(&sched) {
+        Err(fault) => Ok(Some(fault)),
+        Ok(()) => Ok(check_channels(alloc, &sched).err()),
+    }
+}
+
+// The first fault of a message of that many bytes and slots, with its receive of so many slots.
+fn message(
+    alloc: Global,
+    bytes: u64,
+    sent: u32,
+    received: u32,
+) -> Result<Option<CertFault>, PlanFault> {
+    let first = plan(alloc, &[send(bytes, 1, 7)], &[moves(1, sent)])?;
+    let second = plan(alloc, &[receive(Some(0), Some(7))], &[moves(1, received)])?;
+    fault(alloc, first, second)
+}
+
+#[test]
+fn tells_the_least_rank_that_is_too_large(rt: HostRuntime) -> Result<(), Fail> {
+    let fits = message(rt.alloc(), 8, 65_535, 65_535)?;
+    assert_eq!(rt; fits, None);
+    let high = message(rt.alloc(), 8, 65_535, 65_536)?;
+    assert_eq!(rt; high, Some(CertFault::TooLarge { rank: 1 }));
+    Ok(())
+}
+
+#[test]
+fn tells_the_first_wildcard_before_other_faults(rt: HostRuntime) -> Result<(), Fail> {
+    let sends = plan(rt.alloc(), &[send(8, 1, 0), send(8, 1, 0)], &[])?;
+    let receives = [receive(Some(0), Some(0)), receive(Some(0), None)];
+    let found = fault(rt.alloc(), sends, plan(rt.alloc(), &receives, &[])?)?;
+    assert_eq!(rt; found, Some(CertFault::Wildcard { op: at(1, 1) }));
+    Ok(())
+}
+
+#[test]
+fn tells_the_least_second_of_a_channel_and_its_first(rt: HostRuntime) -> Result<(), Fail> {
+    let sends = [send(8, 1, 1), send(8, 1, 0), send(8, 1, 0), send(8, 1, 1)];
+    let sends = plan(rt.alloc(), &sends, &[])?;
+    let found = fault(rt.alloc(), sends, plan(rt.alloc(), &[], &[])?)?;
+    let first = at(0, 1);
+    let second = at(0, 2);
+    assert_eq!(rt; found, Some(CertFault::DoubleChannel { first, second }));
+    Ok(())
+}
+
+#[test]
+fn tells_the_least_unpaired_operation(rt: HostRuntime) -> Result<(), Fail> {
+    let sends = plan(rt.alloc(), &[send(8, 1, 0), send(8, 1, 2)], &[])?;
+    let receives = [receive(Some(0), Some(1)), receive(Some(0), Some(0))];
+    let found = fault(rt.alloc(), sends, plan(rt.alloc(), &receives, &[])?)?;
+    assert_eq!(rt; found, Some(CertFault::Unpaired { op: at(0, 1) }));
+    Ok(())
+}
+
+// Slots count, and not bytes.
+#[test]
+fn tells_lengths_that_differ(rt: HostRuntime) -> Result<(), Fail> {
+    let alike = message(rt.alloc(), 100, 3, 3)?;
+    assert_eq!(rt; alike, None);
+    let longer = message(rt.alloc(), 8, 3, 4)?;
+    let send = at(0, 0);
+    let recv = at(1, 0);
+    assert_eq!(rt; longer, Some(CertFault::Lengths { send, recv }));
+    Ok(())
+}
