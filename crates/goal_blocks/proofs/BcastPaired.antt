@@ -27,22 +27,22 @@ top_digit v j small lt = go (cases_lt j (digits (v + 2 ^ j)))
     go (inr below) = absurd (omega (arith, digits_high (v + 2 ^ j) j small below))
 
 -- the number of the send of a round
-number : ℕ → ℕ → ℕ
+pub number : ℕ → ℕ → ℕ
 number zero j = j
 number (suc w) j = suc (j - digits (suc w))
 
 module _ (ranks root bytes : ℕ) (rooted : root < ranks) (few : ranks ≤ 65536) where
   -- in each round, each virtual rank below 2^round sends to the one that is 2^round above
-  record TreeHop : Type 0 where
-    from : ℕ
-    round : ℕ
-    early : digits from ≤ round
-    below : from + 2 ^ round < ranks
+  pub record TreeHop : Type 0 where
+    pub from : ℕ
+    pub round : ℕ
+    pub early : digits from ≤ round
+    pub below : from + 2 ^ round < ranks
 
-  abbrev tree_send : TreeHop → OpId
+  abbrev pub tree_send : TreeHop → OpId
   tree_send h = at (ahead ranks h.from root) (number h.from h.round)
 
-  abbrev tree_recv : TreeHop → OpId
+  abbrev pub tree_recv : TreeHop → OpId
   tree_recv h = at (ahead ranks (h.from + 2 ^ h.round) root) 0
 
   virtual : (v : ℕ) → v < ranks → back ranks (ahead ranks v root) root ≡ v
@@ -119,7 +119,7 @@ module _ (ranks root bytes : ℕ) (rooted : root < ranks) (few : ranks ≤ 65536
         same_place (ahead ranks (h.from + 2 ^ h.round) root) 0 (ahead ranks (k.from + 2 ^ k.round) root) 0 (ap (λ (v : ℕ). ahead ranks (v + 2 ^ h.round) root) same ∙ ap (λ (j : ℕ). ahead ranks (k.from + 2 ^ j) root) tag) refl,
       )
 
-  tree_messages : AreMessages ranks (λ r. bcast_count ranks (back ranks r root)) (λ r i. bcast_in ranks root bytes (back ranks r root) i) TreeHop bytes tree_send tree_recv (λ h. h.round)
+  pub tree_messages : AreMessages ranks (λ r. bcast_count ranks (back ranks r root)) (λ r i. bcast_in ranks root bytes (back ranks r root) i) TreeHop bytes tree_send tree_recv (λ h. h.round)
   tree_messages = record {
     send_there = λ h. (ahead_below ranks h.from root (from_inside h) (omega arith), rw (virtual h.from (from_inside h)) (number_below h.from h.round h.early h.below));
     recv_there = λ h. (ahead_below ranks (h.from + 2 ^ h.round) root h.below (omega arith), rw (virtual (h.from + 2 ^ h.round) h.below) (some_first (h.from + 2 ^ h.round) (omega (arith, pow_pos h.round))));

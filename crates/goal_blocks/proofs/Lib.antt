@@ -34,3 +34,5 @@ pub mod Levels
 pub mod Flow
 pub mod Light
 pub mod Blueprint
+pub mod Sizes
+pub mod BcastCertified

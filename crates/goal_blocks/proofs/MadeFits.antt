@@ -175,7 +175,7 @@ module _ (ranks bytes : ℕ) (small : bytes ≤ MAX_BYTES) where
         let low = digits_low (ranks - 1 - suc w) (digits (suc w) + i) (omega arith) (omega arith) in
         sending_slim ranks (suc i) bytes small 1 1 (ahead ranks (suc w + 2 ^ j) root) j (0 ∷ []) (slot 0) (ahead_below ranks (suc w + 2 ^ j) root (omega arith) (omega arith)) (All_one (λ (n : ℕ). n < suc i) 0 (omega arith)) (omega arith) (slot_in_order 0) (omega arith)
 
-    bcast_few : (v : ℕ) → v < ranks → bcast_count ranks v ≤ 16
+    pub bcast_few : (v : ℕ) → v < ranks → bcast_count ranks v ≤ 16
     unfolding bcast_count
     bcast_few zero in_rank = digits_few (ranks - 1) 16 (omega arith) (omega arith)
     bcast_few (suc w) in_rank =

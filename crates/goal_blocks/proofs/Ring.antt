@@ -11,11 +11,11 @@ branches a b x y = go (nat_lt a b) refl
     go true e = inl (ltb-true a b e, refl)
     go false e = inr (⊎_elim (λ p. absurd (both_ways _ e (lt-ltb a b p))) (λ p. p) (cases_lt a b), refl)
 
-ahead_is : (ranks v s : ℕ) → ((v + s < ranks) × (ahead ranks v s ≡ v + s)) ⊎ ((ranks ≤ v + s) × (ahead ranks v s ≡ v + s - ranks))
+pub ahead_is : (ranks v s : ℕ) → ((v + s < ranks) × (ahead ranks v s ≡ v + s)) ⊎ ((ranks ≤ v + s) × (ahead ranks v s ≡ v + s - ranks))
 unfolding ahead
 ahead_is ranks v s = branches (v + s) ranks (v + s) (v + s - ranks)
 
-back_is : (ranks r s : ℕ) → ((r < s) × (back ranks r s ≡ r + ranks - s)) ⊎ ((s ≤ r) × (back ranks r s ≡ r - s))
+pub back_is : (ranks r s : ℕ) → ((r < s) × (back ranks r s ≡ r + ranks - s)) ⊎ ((s ≤ r) × (back ranks r s ≡ r - s))
 unfolding back
 back_is ranks r s = branches r s (r + ranks - s) (r - s)
 
