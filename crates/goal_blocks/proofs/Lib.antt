@@ -36,3 +36,4 @@ pub mod Light
 pub mod Blueprint
 pub mod Sizes
 pub mod BcastCertified
+pub mod AllgatherCertified

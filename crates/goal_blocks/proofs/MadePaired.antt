@@ -22,16 +22,16 @@ same_place a b c d p q = ap (λ (n : ℕ). at n b) p ∙ ap (λ (n : ℕ). at c 
 
 -- the allgather: in each step but the last, each rank sends to the next one
 module _ (ranks bytes : ℕ) where
-  record RingHop : Type 0 where
-    from : ℕ
-    step : ℕ
-    inside : from < ranks
-    few : step < ranks - 1
+  pub record RingHop : Type 0 where
+    pub from : ℕ
+    pub step : ℕ
+    pub inside : from < ranks
+    pub few : step < ranks - 1
 
-  abbrev ring_send : RingHop → OpId
+  abbrev pub ring_send : RingHop → OpId
   ring_send h = at h.from (2 * h.step)
 
-  abbrev ring_recv : RingHop → OpId
+  abbrev pub ring_recv : RingHop → OpId
   ring_recv h = at (ahead ranks h.from 1) (2 * h.step + 1)
 
   ring_even : (r s i : ℕ) → i ≡ 2 * s → (allgather_in ranks bytes r i).kind ≡ Send bytes (ahead ranks r 1) s
@@ -54,7 +54,7 @@ module _ (ranks bytes : ℕ) where
   ring_cases x in_rank inside (suc d) odd =
       inr (inr (record { from = back ranks x.rank 1; step = x.op / 2; inside = back_below ranks x.rank 1 in_rank; few = omega arith }, same_place (ahead ranks (back ranks x.rank 1) 1) (2 * (x.op / 2) + 1) x.rank x.op (ahead_back ranks x.rank 1 in_rank (omega arith)) (omega arith)))
 
-  ring_messages : AreMessages ranks (λ r. 2 * (ranks - 1)) (λ r i. allgather_in ranks bytes r i) RingHop bytes ring_send ring_recv (λ h. h.step)
+  pub ring_messages : AreMessages ranks (λ r. 2 * (ranks - 1)) (λ r i. allgather_in ranks bytes r i) RingHop bytes ring_send ring_recv (λ h. h.step)
   ring_messages = record {
     send_there = λ h. let few = h.few in (h.inside, omega arith);
     recv_there = λ h. let few = h.few in (ahead_below ranks h.from 1 h.inside (omega arith), omega arith);
@@ -73,14 +73,14 @@ module _ (ranks bytes : ℕ) where
 
 -- the scan: each rank but the last sends to the next one
 module _ (ranks bytes : ℕ) where
-  record LineHop : Type 0 where
-    from : ℕ
-    below : from + 1 < ranks
+  pub record LineHop : Type 0 where
+    pub from : ℕ
+    pub below : from + 1 < ranks
 
-  abbrev line_send : LineHop → OpId
+  abbrev pub line_send : LineHop → OpId
   line_send h = at h.from (2 * upward h.from)
 
-  abbrev line_recv : LineHop → OpId
+  abbrev pub line_recv : LineHop → OpId
   line_recv h = at (h.from + 1) 0
 
   sends_one : (n : ℕ) → n < ranks → ◌≡◌ {A = ℕ} (if ltb n ranks then 1 else 0) 1
@@ -129,7 +129,7 @@ module _ (ranks bytes : ℕ) where
       let last = sends_few (suc w + 1) b (omega (arith, q, op, one)) in
       inr (inl (record { from = suc w; below = last.0 }, same_place (suc w) (2 * upward (suc w)) (suc w) (suc (suc b)) refl (omega (arith, last.1, one))))
 
-  line_messages : AreMessages ranks (λ r. scan_count ranks r) (λ r i. scan_in bytes r i) LineHop bytes line_send line_recv (λ h. 0)
+  pub line_messages : AreMessages ranks (λ r. scan_count ranks r) (λ r i. scan_in bytes r i) LineHop bytes line_send line_recv (λ h. 0)
   line_messages = record {
     send_there = λ h. let below = h.below in (omega arith, line_send_there h);
     recv_there = λ h. let below = h.below in (omega arith, line_recv_there h);
