@@ -37,3 +37,4 @@ pub mod Blueprint
 pub mod Sizes
 pub mod BcastCertified
 pub mod AllgatherCertified
+pub mod ScanCertified

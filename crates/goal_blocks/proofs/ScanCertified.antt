@@ -1,0 +1,339 @@
+-- The scan along a line is certified, for every number of ranks up to 2,048 and every size.
+use Rattle.std.proofs.Common.{⊎_elim, ℕ, zero, suc, ◌+◌, ◌*◌, ◌^◌, ◌<◌, ◌≤◌, ◌≡◌, ◌⊎◌, nat_lt, inl, inr, Bool, true, false, [], ◌∷◌, ◌++◌, map, length, All, Option, if◌then◌else◌, refl, sym, ◌∙◌, subst, arith, eq-eqb, add-one}
+use Rattle.std.specs.List.{range_with_len, sum_by}
+use Rattle.std.proofs.lemmas.Bool.{lt-ltb, ltb-true, ne_eqb}
+use Rattle.std.proofs.lemmas.List.Elements.{All-head, All-tail, All-map}
+use Rattle.std.proofs.lemmas.List.FromFn.{length-map-range_with_len}
+use Rattle.goal_graph.specs.declared.plan.Kind.TheVariants.{Calc, Recv}
+use Rattle.goal_graph.specs.declared.plan.Note.TheVariants.{Moves, Adds}
+use Rattle.goal_base.specs.declared.limits.TheConstants.{MAX_BYTES}
+use Rattle.goal_blocks.specs.declared.collective.Collective.TheVariants.{Scan}
+use Rattle.goal_blocks.specs.Slots.{Adding, slots_from}
+use Rattle.goal_blocks.specs.Values.{Contribution, Value, Store, is_lower, insert_one, merge}
+use Rattle.goal_blocks.specs.Weight.{sum_below}
+use Rattle.goal_blocks.specs.Certification.{NamesLowSlots, moved_count, IsSmall, IsCertified}
+use Rattle.goal_blocks.specs.Collectives.{single, of_each, initial, is_value, wanted}
+use Rattle.goal_blocks.specs.Certified.{IsCertifiedFor}
+use Rattle.goal_blocks.specs.Entries.{Entry, notes_of}
+use Rattle.goal_blocks.specs.Positions.{upward}
+use Rattle.goal_blocks.specs.MadeRooted.{scan_in, scan_count}
+use Rattle.goal_blocks.specs.Generated.{made}
+use Rattle.goal_blocks.proofs.Orders.{Mem}
+use Rattle.goal_blocks.proofs.PlanBy.{map_range_more}
+use Rattle.goal_blocks.proofs.Fitting.{All-range}
+use Rattle.goal_blocks.proofs.Slim.{All_one}
+use Rattle.goal_blocks.proofs.EntryFacts.{length_plans}
+use Rattle.goal_blocks.proofs.RingAndTree.{upward_some, upward_few}
+use Rattle.goal_blocks.proofs.MadeFits.{scan_fits}
+use Rattle.goal_blocks.proofs.MadePaired.{LineHop, line_send, line_recv, line_messages}
+use Rattle.goal_blocks.proofs.Sizes.{sum_below_few, sum_low_few, entries_small}
+use Rattle.goal_blocks.proofs.Totals.{sum_range_few}
+use Rattle.goal_blocks.proofs.Blueprint.{moved, touches, writes, Precedes, now, IsThere, Origin, Final, IsBlueprint, IsBounded, blueprint_certified}
+
+-- a contribution that is lower than none of a value comes last
+insert_last : (c : Contribution) (v : Value) → All (λ (d : Contribution). is_lower c d ≡ false) v → insert_one c v ≡ v ++ c ∷ []
+unfolding insert_one
+insert_last c [] all = refl
+insert_last c (d ∷ ds) all =
+    rw (All-head (λ (d : Contribution). is_lower c d ≡ false) d ds all, insert_last c ds (All-tail (λ (d : Contribution). is_lower c d ≡ false) d ds all)) refl
+
+-- the items of one rank more
+pub each_more : (n : ℕ) → merge (single n 0) (of_each n 0) ≡ of_each (n + 1) 0
+unfolding merge of_each
+each_more n =
+    insert_last (record { rank = n; item = 0 }) (of_each n 0) (All-map (λ (d : Contribution). is_lower (record { rank = n; item = 0 }) d ≡ false) (λ (q : ℕ). record { rank = q; item = 0 }) (range_with_len 0 n) (All-range (λ (q : ℕ). is_lower (record { rank = n; item = 0 }) (record { rank = q; item = 0 }) ≡ false) n (λ q l. rw (not_lower q l, ne_eqb n q (λ e. omega (arith, e, l))) refl))) ∙ sym (map_range_more (λ (q : ℕ). record { rank = q; item = 0 }) n)
+  where
+    not_lower : (q : ℕ) → q < n → nat_lt n q ≡ false
+    not_lower q l = go (nat_lt n q) refl
+      where
+        go : (b : Bool) → nat_lt n q ≡ b → b ≡ false
+        go true e = absurd (let m = ltb-true n q e in omega (arith, m, l))
+        go false e = refl
+
+pub length-of_each : (n item : ℕ) → length (of_each n item) ≡ n
+unfolding of_each
+length-of_each n item = length-map-range_with_len (λ (q : ℕ). record { rank = q; item = item }) 0 n
+
+each_one : of_each 1 0 ≡ single 0 0
+unfolding of_each
+each_one = refl
+
+pub is_itself : (v : Value) → is_value v v ≡ true
+unfolding is_value
+is_itself [] = refl
+is_itself (c ∷ v) = rw (eq-eqb c.rank c.rank refl, eq-eqb c.item c.item refl, is_itself v) refl
+
+-- what each operation finds in the slots that it reads, and leaves in those that it writes
+scan_finds : ℕ → ℕ → ℕ → Value
+scan_finds r (suc zero) zero = single r 0
+scan_finds r (suc zero) (suc k) = of_each r 0
+scan_finds r i k = of_each (r + 1) 0
+
+scan_leaves : ℕ → ℕ → ℕ → Value
+scan_leaves r zero k = of_each r 0
+scan_leaves r (suc i) k = of_each (r + 1) 0
+
+-- a message is at an odd level, and the calc after it at the even level above
+scan_level : ℕ → ℕ → ℕ
+scan_level zero i = 1
+scan_level (suc w) zero = 2 * w + 1
+scan_level (suc w) (suc zero) = 2 * suc w
+scan_level (suc w) (suc (suc b)) = 2 * suc w + 1
+
+module _ (ranks bytes : ℕ) (some : 0 < ranks) (few : ranks ≤ 2048) where
+  abbrev count : ℕ → ℕ
+  count r = scan_count ranks r
+
+  abbrev entry : ℕ → ℕ → Entry
+  entry r i = scan_in bytes r i
+
+  abbrev first : Store
+  first = initial Scan ranks
+
+  two_at_least : (w : ℕ) → 2 ≤ scan_count ranks (suc w)
+  unfolding scan_count
+  two_at_least w = let one = upward_some (suc w) (omega arith) in omega (arith, one)
+
+  sends_few : (b : Bool) → (if b then 1 else 0) ≤ 1
+  sends_few true = omega arith
+  sends_few false = omega arith
+
+  zero_few : scan_count ranks 0 ≤ 1
+  unfolding scan_count
+  zero_few = let up : upward 0 ≡ 0 = refl in let last = sends_few (nat_lt (0 + 1) ranks) in omega (arith, up, last)
+
+  count_few : (r : ℕ) → scan_count ranks r ≤ 3
+  unfolding scan_count
+  count_few r = let up = upward_few r in let last = sends_few (nat_lt (r + 1) ranks) in omega (arith, up, last)
+
+  lower : (r i k : ℕ) → Mem k (entry r i).needs → (k < count r) × (scan_level r k < scan_level r i)
+  unfolding scan_in scan_level
+  lower zero i k m = absurd m
+  lower (suc w) zero k m = absurd m
+  lower (suc w) (suc zero) k (inr m) = absurd m
+  lower (suc w) (suc zero) k (inl e) =
+      subst (λ (n : ℕ). (n < count (suc w)) × (scan_level (suc w) n < 2 * suc w)) e (let two = two_at_least w in omega (arith, two), omega arith)
+  lower (suc w) (suc (suc b)) k (inr m) = absurd m
+  lower (suc w) (suc (suc b)) k (inl e) =
+      subst (λ (n : ℕ). (n < count (suc w)) × (scan_level (suc w) n < 2 * suc w + 1)) e (let two = two_at_least w in omega (arith, two), omega arith)
+
+  -- which operation writes which slot
+  writers : (r j k : ℕ) → Mem k (writes (entry r j)) → (0 < r) × (((j ≡ 0) × (1 ≡ k)) ⊎ ((j ≡ 1) × (0 ≡ k)))
+  unfolding scan_in slots_from
+  writers zero j k m = absurd m
+  writers (suc w) zero k (inl e) = (omega arith, inl (refl, e))
+  writers (suc w) zero k (inr m) = absurd m
+  writers (suc w) (suc zero) k (inl e) = (omega arith, inr (refl, e))
+  writers (suc w) (suc zero) k (inr m) = absurd m
+  writers (suc w) (suc (suc b)) k m = absurd m
+
+  written_by : (w : ℕ) → Mem 1 (writes (entry (suc w) 0)) × Mem 0 (writes (entry (suc w) 1))
+  unfolding scan_in slots_from
+  written_by w = (inl refl, inl refl)
+
+  race : (r i j k : ℕ) → (i ≡ j → ⊥) → Mem k (touches (entry r i)) → Mem k (writes (entry r j)) → Precedes (entry r) i j ⊎ Precedes (entry r) j i
+  unfolding scan_in slots_from
+  race zero i j k differ t w = absurd w
+  race (suc v) zero zero k differ t w = absurd (differ refl)
+  race (suc v) (suc zero) zero k differ t w = inr (now (inl refl))
+  race (suc v) (suc (suc b)) zero k differ (inl e) (inl f) = absurd (omega (arith, e, f))
+  race (suc v) (suc (suc b)) zero k differ (inl e) (inr n) = absurd n
+  race (suc v) (suc (suc b)) zero k differ (inr n) w = absurd n
+  race (suc v) zero (suc zero) k differ (inl e) (inl f) = absurd (omega (arith, e, f))
+  race (suc v) zero (suc zero) k differ (inl e) (inr n) = absurd n
+  race (suc v) zero (suc zero) k differ (inr n) w = absurd n
+  race (suc v) (suc zero) (suc zero) k differ t w = absurd (differ refl)
+  race (suc v) (suc (suc b)) (suc zero) k differ t w = inr (now (inl refl))
+  race (suc v) i (suc (suc c)) k differ t w = absurd w
+
+  first_own : (r : ℕ) → r < ranks → first r 0 ≡ single r 0
+  unfolding initial
+  first_own r inside = rw (lt-ltb r ranks inside) refl
+
+  at_end : (r : ℕ) → r < ranks → wanted Scan ranks r 0 (of_each (r + 1) 0) ≡ true
+  unfolding wanted
+  at_end r inside = rw (lt-ltb r ranks inside) (is_itself (of_each (r + 1) 0))
+
+  elsewhere : (r k : ℕ) (v : Value) → wanted Scan ranks r (suc k) v ≡ true
+  unfolding wanted
+  elsewhere r k v = rw (ne_eqb (suc k) 0 (λ e. omega (arith, e))) (go (nat_lt r ranks))
+    where
+      go : (b : Bool) → (if b then true else true) ≡ true
+      go true = refl
+      go false = refl
+
+  source : (r i k : ℕ) → IsThere ranks count entry r i → ((room : ℕ) (from t : Option ℕ) → (entry r i).kind ≡ Recv room from t → ⊥) → Mem k (touches (entry r i)) → Origin ranks count entry first (wanted Scan ranks) scan_finds scan_leaves r i k
+  unfolding scan_in slots_from scan_finds scan_leaves
+  source zero i k there not_receive (inr n) = absurd n
+  source zero zero k there not_receive (inl e) =
+      inl (subst (λ (n : ℕ). first 0 n ≡ of_each 1 0) e (first_own 0 there.0 ∙ sym each_one), λ j l w. let v = (writers 0 j k w).0 in absurd (omega (arith, v)))
+  source zero (suc i) k there not_receive (inl e) =
+      let one = there.1 in absurd (let c = zero_few in omega (arith, one, c))
+  source (suc w) zero k there not_receive t = absurd (not_receive _ _ _ refl)
+  source (suc w) (suc zero) k there not_receive (inl e) =
+      inr (0, let two = two_at_least w in omega (arith, two), subst (λ (n : ℕ). Mem n (writes (entry (suc w) 0))) e (written_by w).0, now (inl refl), found k e, λ l m u. ⊎_elim (λ p. inl (inr p.0)) (λ p. let f = p.1 in absurd (omega (arith, e, f))) (writers (suc w) l k u).1)
+    where
+      found : (k : ℕ) → 1 ≡ k → scan_leaves (suc w) 0 k ≡ scan_finds (suc w) 1 k
+      found zero f = absurd (omega (arith, f))
+      found (suc n) f = refl
+  source (suc w) (suc zero) k there not_receive (inr (inl e)) =
+      inl (subst (λ (n : ℕ). first (suc w) n ≡ scan_finds (suc w) 1 n) e (first_own (suc w) there.0), λ l m u. ⊎_elim (λ p. let f = p.1 in absurd (omega (arith, e, f))) (λ p. inl p.0) (writers (suc w) l k u).1)
+  source (suc w) (suc zero) k there not_receive (inr (inr n)) = absurd n
+  source (suc w) (suc (suc b)) k there not_receive (inr n) = absurd n
+  source (suc w) (suc (suc b)) k there not_receive (inl e) =
+      inr (1, let two = two_at_least w in omega (arith, two), subst (λ (n : ℕ). Mem n (writes (entry (suc w) 1))) e (written_by w).1, now (inl refl), refl, λ l m u. ⊎_elim (λ p. let f = p.1 in absurd (omega (arith, e, f))) (λ p. inl (inr p.0)) (writers (suc w) l k u).1)
+
+  final : (r k : ℕ) → r < ranks → Final ranks count entry first (wanted Scan ranks) scan_finds scan_leaves r k
+  unfolding scan_leaves
+  final r (suc k) inside = inl (λ v. elsewhere r k v)
+  final zero zero inside =
+      inr (inl (λ j l w. let v = (writers 0 j 0 w).0 in omega (arith, v), subst (λ (v : Value). wanted Scan ranks 0 0 v ≡ true) (sym (first_own 0 inside ∙ sym each_one)) (at_end 0 inside)))
+  final (suc w) zero inside =
+      inr (inr (1, let two = two_at_least w in omega (arith, two), (written_by w).1, λ l m u. ⊎_elim (λ p. let f = p.1 in absurd (omega (arith, f))) (λ p. inl p.0) (writers (suc w) l 0 u).1, at_end (suc w) inside))
+
+  summed : (r i nanos : ℕ) → (entry r i).kind ≡ Calc nanos → (a : Adding) × ((entry r i).adds ≡ a ∷ []) × (merge (scan_finds r i a.to) (scan_finds r i a.from) ≡ scan_leaves r i a.to)
+  unfolding scan_in scan_finds scan_leaves
+  summed zero i nanos e = absurd (cc e)
+  summed (suc w) zero nanos e = absurd (cc e)
+  summed (suc w) (suc zero) nanos e = (record { from = 1; to = 0 }, refl, each_more (suc w))
+  summed (suc w) (suc (suc b)) nanos e = absurd (cc e)
+
+  same_level : (r : ℕ) → scan_level r (2 * upward r) ≡ scan_level (r + 1) 0
+  unfolding scan_level
+  same_level zero = omega arith
+  same_level (suc w) =
+      let two : 2 * upward (suc w) ≡ 2 = omega (arith, upward_some (suc w) (omega arith)) in
+      rw (two, add-one (suc w)) (omega arith)
+
+  kept : (r : ℕ) → map (scan_finds r (2 * upward r)) (moved (entry r (2 * upward r))) ≡ map (scan_leaves (r + 1) 0) (moved (entry (r + 1) 0))
+  unfolding scan_in slots_from scan_finds scan_leaves
+  kept zero = refl
+  kept (suc w) =
+      let two : 2 * upward (suc w) ≡ 2 = omega (arith, upward_some (suc w) (omega arith)) in
+      rw (two, add-one (suc w)) refl
+
+  blueprint : IsBlueprint ranks count entry first (wanted Scan ranks) scan_finds scan_leaves (LineHop ranks bytes) bytes (line_send ranks bytes) (line_recv ranks bytes) (λ h. 0) scan_level
+  blueprint = record {
+    messages = line_messages ranks bytes;
+    lower = λ r i k there m. lower r i k m;
+    same_level = λ h. same_level h.from;
+    race = λ r i j k inside l m differ t w. race r i j k differ t w;
+    source = source;
+    summed = λ r i nanos there k. summed r i nanos k;
+    kept = λ h. kept h.from;
+    final = final;
+  }
+
+  -- at most a contribution of each rank in two slots of a rank, and in its message
+  cap : ℕ → ℕ → ℕ
+  cap r zero = ranks
+  cap r (suc zero) = ranks
+  cap r (suc (suc k)) = 0
+
+  load : ℕ → ℕ → ℕ
+  load zero i = ranks
+  load (suc w) zero = 0
+  load (suc w) (suc zero) = 0
+  load (suc w) (suc (suc b)) = ranks
+
+  cap_sum : (r : ℕ) → sum_below 65536 (cap r) ≤ 2 * ranks
+  unfolding cap
+  cap_sum r = sum_low_few 65536 2 ranks (cap r) each none
+    where
+      each : (k : ℕ) → cap r k ≤ ranks
+      each zero = omega arith
+      each (suc zero) = omega arith
+      each (suc (suc k)) = omega arith
+
+      none : (k : ℕ) → 2 ≤ k → cap r k ≡ 0
+      none zero l = absurd (omega (arith, l))
+      none (suc zero) l = absurd (omega (arith, l))
+      none (suc (suc k)) l = refl
+
+  load_sum : (r : ℕ) → sum_by (load r) (range_with_len 0 (count r)) ≤ ranks
+  unfolding load
+  load_sum zero = at (scan_count ranks 0) zero_few
+    where
+      at : (n : ℕ) → n ≤ 1 → sum_by (load 0) (range_with_len 0 n) ≤ ranks
+      at zero l = omega arith
+      at (suc zero) l = omega arith
+      at (suc (suc n)) l = absurd (omega (arith, l))
+  load_sum (suc w) = at (scan_count ranks (suc w)) three_few
+    where
+      three_few : scan_count ranks (suc w) ≤ 3
+      three_few = count_few (suc w)
+
+      at : (n : ℕ) → n ≤ 3 → sum_by (load (suc w)) (range_with_len 0 n) ≤ ranks
+      at zero l = omega arith
+      at (suc zero) l = omega arith
+      at (suc (suc zero)) l = omega arith
+      at (suc (suc (suc zero))) l = omega arith
+      at (suc (suc (suc (suc n)))) l = absurd (omega (arith, l))
+
+  first_cap : (r k : ℕ) → length (first r k) ≤ cap r k
+  unfolding initial cap
+  first_cap r zero = go (nat_lt r ranks) refl
+    where
+      go : (b : Bool) → nat_lt r ranks ≡ b → length (if b then single r 0 else []) ≤ ranks
+      go true e = let inside = ltb-true r ranks e in omega (arith, inside)
+      go false e = omega arith
+  first_cap r (suc k) = rw (ne_eqb (suc k) 0 (λ e. omega (arith, e))) (go (nat_lt r ranks) (suc k))
+    where
+      go : (b : Bool) (n : ℕ) → length {A = Contribution} (if b then [] else []) ≤ cap r n
+      go true n = omega arith
+      go false n = omega arith
+
+  leaves_cap : (r i k : ℕ) → IsThere ranks count entry r i → Mem k (writes (entry r i)) → length (scan_leaves r i k) ≤ cap r k
+  unfolding scan_leaves cap
+  leaves_cap r i k there w = ⊎_elim (λ p. at_one p.0 p.1) (λ p. at_zero p.0 p.1) (writers r i k w).1
+    where
+      at_one : i ≡ 0 → 1 ≡ k → length (scan_leaves r i k) ≤ cap r k
+      at_one e f =
+          let size = length-of_each r 0 in
+          let inside = there.0 in
+          subst (λ (n : ℕ). length (scan_leaves r n k) ≤ cap r k) (sym e) (subst (λ (n : ℕ). length (of_each r 0) ≤ cap r n) f (omega (arith, size, inside)))
+
+      at_zero : i ≡ 1 → 0 ≡ k → length (scan_leaves r i k) ≤ cap r k
+      at_zero e f =
+          let size = length-of_each (r + 1) 0 in
+          let inside = there.0 in
+          subst (λ (n : ℕ). length (scan_leaves r n k) ≤ cap r k) (sym e) (subst (λ (n : ℕ). length (of_each (r + 1) 0) ≤ cap r n) f (omega (arith, size, inside)))
+
+  finds_load : (r : ℕ) → r + 1 < ranks → sum_by (λ (v : Value). length v) (map (scan_finds r (2 * upward r)) (moved (entry r (2 * upward r)))) ≤ load r (2 * upward r)
+  unfolding scan_in slots_from scan_finds load
+  finds_load zero inside = let size = length-of_each (0 + 1) 0 in omega (arith, size, inside)
+  finds_load (suc w) inside =
+      let two : 2 * upward (suc w) ≡ 2 = omega (arith, upward_some (suc w) (omega arith)) in
+      let size = length-of_each (suc w + 1) 0 in
+      rw two (omega (arith, size, inside))
+
+  total : sum_below ranks (λ r. sum_below 65536 (cap r)) + sum_by (λ r. sum_by (load r) (range_with_len 0 (count r))) (range_with_len 0 ranks) ≤ 2 ^ 24
+  total =
+      let stores = sum_below_few ranks 4096 (λ r. sum_below 65536 (cap r)) (λ r l. let s = cap_sum r in omega (arith, s, few)) in
+      let loads = sum_range_few (λ r. sum_by (load r) (range_with_len 0 (count r))) ranks 2048 (λ r l. let s = load_sum r in omega (arith, s, few)) in
+      omega (arith, stores, loads, few)
+
+  bounded : IsBounded ranks count entry first (wanted Scan ranks) scan_finds scan_leaves (LineHop ranks bytes) (line_send ranks bytes) cap load
+  bounded = record {
+    first_cap = first_cap;
+    leaves_cap = leaves_cap;
+    finds_load = λ h. finds_load h.from h.below;
+    total = total;
+  }
+
+  low_notes : (r i n : ℕ) → All NamesLowSlots (notes_of n (entry r i)) × (sum_by moved_count (notes_of n (entry r i)) ≤ 1)
+  unfolding scan_in
+  low_notes zero i n = (All_one NamesLowSlots (Moves n 0 0) (omega arith, omega arith), omega arith)
+  low_notes (suc w) zero n = (All_one NamesLowSlots (Moves n 1 1) (omega arith, omega arith), omega arith)
+  low_notes (suc w) (suc zero) n = (All_one NamesLowSlots (Adds n 1 0) (omega arith, omega arith), omega arith)
+  low_notes (suc w) (suc (suc b)) n = (All_one NamesLowSlots (Moves n 0 0) (omega arith, omega arith), omega arith)
+
+  small : bytes ≤ MAX_BYTES → IsSmall (made Scan ranks bytes)
+  unfolding made
+  small size =
+      entries_small ranks count entry 1 (λ r l. let three = count_few r in omega (arith, three)) (λ r i l m. (low_notes r i i).0) (λ r i l m. (low_notes r i i).1) (let ops = (scan_fits ranks bytes size some few).few_ops in omega (arith, ops))
+
+  pub scan_certified : bytes ≤ MAX_BYTES → IsCertifiedFor Scan (made Scan ranks bytes)
+  unfolding made
+  scan_certified size =
+      subst (λ (n : ℕ). IsCertified (made Scan ranks bytes) (initial Scan n) (wanted Scan n)) (sym (length_plans ranks count entry)) (blueprint_certified ranks count entry first (wanted Scan ranks) scan_finds scan_leaves (LineHop ranks bytes) bytes (line_send ranks bytes) (line_recv ranks bytes) (λ h. 0) scan_level blueprint cap load bounded (small size))
