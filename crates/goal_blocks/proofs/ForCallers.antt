@@ -12,3 +12,4 @@ pub use Rattle.goal_blocks.proofs.EndsBefore.{search_in, cases_before}
 pub use Rattle.goal_blocks.proofs.Channels.{fits_channel, channel_fits, channels_apart}
 pub use Rattle.goal_blocks.proofs.Walk.{one_walk}
 pub use Rattle.goal_blocks.proofs.SomeWalk.{IsFirst, takes_first, nothing_left, some_walk}
+pub use Rattle.goal_blocks.proofs.MadeCertified.{made_certified, made_right}

@@ -38,3 +38,4 @@ pub mod Sizes
 pub mod BcastCertified
 pub mod AllgatherCertified
 pub mod ScanCertified
+pub mod MadeCertified

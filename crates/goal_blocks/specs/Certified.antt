@@ -1,17 +1,38 @@
--- When a schedule is certified for a collective, and that there is such a schedule.
-use Rattle.std.specs.Prelude.{List, length}
+-- When a schedule is certified for a collective, and right everywhere; that there is such a schedule, and for which ranks the
+-- made ones are certified by proof.
+use Rattle.std.specs.Prelude.{ℕ, ◌≤◌, List, length}
+use Rattle.goal_base.specs.declared.limits.TheConstants.{MAX_BYTES}
 use Rattle.goal_graph.specs.Schedule.{Plan}
 use Rattle.goal_blocks.specs.declared.collective.Collective.{Collective}
-use Rattle.goal_blocks.specs.declared.collective.Collective.TheVariants.{Bcast}
+use Rattle.goal_blocks.specs.declared.collective.Collective.TheVariants.{Bcast, Allgather, Scan}
 use Rattle.goal_blocks.specs.Collectives.{initial, wanted}
-use Rattle.goal_blocks.specs.Certification.{IsCertified}
-use Rattle.goal_blocks.specs.Generated.{made}
+use Rattle.goal_blocks.specs.Certification.{IsCertified, IsRightEverywhere}
+use Rattle.goal_blocks.specs.Generated.{made, IsPossible}
 
 abbrev pub IsCertifiedFor : Collective → List Plan → Type 0
 IsCertifiedFor what plans = IsCertified plans (initial what (length plans)) (wanted what (length plans))
 
--- The law. The function `laws_of_certified_schedules` ensures it.
+-- it does what the collective wants in every complete interleaving, whatever is eager
+abbrev pub IsRightFor : Collective → List Plan → Type 0
+IsRightFor what plans = IsRightEverywhere plans (initial what (length plans)) (wanted what (length plans))
+
+-- The collectives whose made schedules are certified by proof, for each number of ranks that they may have.
+abbrev pub IsCertifiedByProof : Collective → Type 0
+IsCertifiedByProof (Bcast root) = Unit {0}
+IsCertifiedByProof Allgather = Unit {0}
+IsCertifiedByProof Scan = Unit {0}
+IsCertifiedByProof _ = ⊥
+
+-- The laws. The functions `laws_of_..` ensure each.
 
 -- the schedule that is made for a broadcast of 8 bytes from rank 0 to rank 1 is certified
 abbrev pub BcastOfTwoIsCertified : Type 0
 BcastOfTwoIsCertified = IsCertifiedFor (Bcast 0) (made (Bcast 0) 2 8)
+
+-- the made schedules of these collectives are certified, for all ranks, roots and sizes within the limits
+abbrev pub MadeIsCertified : Type 0
+MadeIsCertified = (what : Collective) (ranks bytes : ℕ) → IsPossible what ranks → bytes ≤ MAX_BYTES → IsCertifiedByProof what → IsCertifiedFor what (made what ranks bytes)
+
+-- and right everywhere
+abbrev pub MadeIsRight : Type 0
+MadeIsRight = (what : Collective) (ranks bytes : ℕ) → IsPossible what ranks → bytes ≤ MAX_BYTES → IsCertifiedByProof what → IsRightFor what (made what ranks bytes)

@@ -3,6 +3,7 @@
 ghost use Rattle.goal_blocks.specs.Fitting.{FittingIsAccepted};
 ghost use Rattle.goal_blocks.specs.Generated.{MadeIsAccepted};
 ghost use Rattle.goal_blocks.specs.Messages.{BcastIsPaired, AllgatherIsPaired, ScanIsPaired};
+ghost use Rattle.goal_blocks.specs.Certified.{MadeIsCertified, MadeIsRight};
 
 use crate::collective::Collective;
 
@@ -50,10 +51,14 @@ impl Collective {
 ///   the limits.
 /// - `bcast_is_paired`, `allgather_is_paired`, `scan_is_paired`: in a broadcast, an allgather and a scan each send has
 ///   exactly one receive of its channel, and each receive one send.
+/// - `made_is_certified`, `made_is_right`: the schedules of the broadcast, the allgather and the scan are certified and
+///   right everywhere, for all ranks, roots and sizes within the limits, without a check.
 pub fn laws_of_made_schedules()
     ensures fitting_is_accepted { FittingIsAccepted }
     ensures made_is_accepted { MadeIsAccepted }
     ensures bcast_is_paired { BcastIsPaired }
     ensures allgather_is_paired { AllgatherIsPaired }
     ensures scan_is_paired { ScanIsPaired }
+    ensures made_is_certified { MadeIsCertified }
+    ensures made_is_right { MadeIsRight }
 {}

@@ -2,6 +2,7 @@
 ghost use Rattle.std.specs.Prelude.{◌≡◌, ◌≢◌, ◌≤◌, false, OnOk, IfOk, IfErr, IsErrOf, IsOkUnless};
 ghost use Rattle.goal_graph.specs.Fault.{IsAccepted};
 ghost use Rattle.goal_blocks.specs.Collectives.{is_first};
+ghost use Rattle.goal_blocks.specs.Certified.{IsCertifiedByProof, IsCertifiedFor, IsRightFor};
 ghost use Rattle.goal_blocks.specs.Generated.{made, IsPossible};
 ghost use Rattle.goal_rooted.specs.RootedFaults.{IsRootedFault};
 
@@ -47,6 +48,10 @@ pub fn generate_rooted(
     // The schedule is that of the formula.
     ensures made { IfOk result (λ sched. sched ≡ made what ranks bytes) }
     ensures accepted { IfOk result (λ sched. IsAccepted sched) }
+
+    // Where that is proved of the collective, it is certified, and right in every interleaving.
+    ensures certified { IsCertifiedByProof what → IfOk result (λ sched. IsCertifiedFor what sched) }
+    ensures right { IsCertifiedByProof what → IfOk result (λ sched. IsRightFor what sched) }
 
     // A fault is told exactly where it is the first one; memory can only run out where there is none.
     ensures fault { IfErr result (λ fault. IsRootedFault what ranks fault) }

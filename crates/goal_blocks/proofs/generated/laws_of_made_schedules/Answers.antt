@@ -3,6 +3,7 @@ use Rattle.goal_blocks.proofs.Fitting.{fitting_accepted}
 use Rattle.goal_blocks.proofs.MadeAccepted.{made_accepted}
 use Rattle.goal_blocks.proofs.BcastPaired.{bcast_paired}
 use Rattle.goal_blocks.proofs.MadePaired.{allgather_paired, scan_paired}
+use Rattle.goal_blocks.proofs.MadeCertified.{made_certified, made_right}
 use Rattle.goal_blocks.proofs.generated.laws_of_made_schedules.Goals as goal
 
 pub returns-clause-fitting_is_accepted : goal.returns-clause-fitting_is_accepted
@@ -19,3 +20,9 @@ returns-clause-allgather_is_paired c = λ ranks bytes. allgather_paired ranks by
 
 pub returns-clause-scan_is_paired : goal.returns-clause-scan_is_paired
 returns-clause-scan_is_paired c = λ ranks bytes. scan_paired ranks bytes
+
+pub returns-clause-made_is_certified : goal.returns-clause-made_is_certified
+returns-clause-made_is_certified c = λ what ranks bytes possible small proved. made_certified what ranks bytes possible small proved
+
+pub returns-clause-made_is_right : goal.returns-clause-made_is_right
+returns-clause-made_is_right c = λ what ranks bytes possible small proved. made_right what ranks bytes possible small proved
