@@ -112,6 +112,7 @@ fn kind_of_nine(word: &[u8], kind: &mut TokenKind)
 }
 
 /// Writes the reserved word that these bytes spell, or else a label.
+#[inline(always)]
 fn word_kind(word: &[u8], kind: &mut TokenKind)
     requires some { 0 < length word.now }
     requires most { length word.now ≤ 64 }
@@ -129,6 +130,7 @@ fn word_kind(word: &[u8], kind: &mut TokenKind)
 }
 
 /// Writes the token that a whole run of this form is.
+#[inline(always)]
 pub(crate) fn run_kind(run: &[u8], form: Form, kind: &mut TokenKind)
     requires some { 0 < length run.now }
     requires most { length run.now ≤ 64 }

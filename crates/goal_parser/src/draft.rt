@@ -81,6 +81,7 @@ impl Draft {
     }
 
     /// Takes the number behind an option's word.
+    #[inline(always)]
     fn take_option(&mut self, value: u64)
         requires { value ≤ option_most self.old.option }
         ensures { self.new ≡ option_with self.old.option value self.old }
@@ -93,6 +94,7 @@ impl Draft {
     }
 
     /// Takes a number or a size.
+    #[inline(always)]
     fn take_number(&mut self, state: State, value: u64)
         requires { number_within state self.old.option value ≡ true }
         ensures { self.new ≡ number_with state value self.old }
@@ -117,6 +119,7 @@ impl Draft {
     }
 
     /// Takes a token that stands in this state.
+    #[inline(always)]
     #[tactic(auto, unfolding(crate::specs::Numbers::is_within, crate::specs::Actions::draft_with))]
     pub fn take(&mut self, state: State, kind: &TokenKind)
         requires within { is_within state self.old.option kind.now ≡ true }

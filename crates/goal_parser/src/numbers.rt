@@ -40,6 +40,7 @@ fn least(state: State) -> u64
 }
 
 /// Whether the number is within the limits of its place.
+#[inline(always)]
 pub fn number_within(state: State, option: OptionWord, value: u64) -> bool
     ensures { result ≡ number_within state option value }
 {

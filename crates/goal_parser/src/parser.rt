@@ -57,6 +57,7 @@ impl Parser {
     }
 
     /// Takes a number.
+    #[inline(always)]
     fn take_number(&mut self, next: State, token: &Token, value: u64) -> Result<(), TextFault>
         requires next { entry self.old.state token.now.kind ≡ Some next }
         requires number { token.now.kind ≡ TokenKind.Number value }
@@ -97,6 +98,7 @@ impl Parser {
     }
 
     /// Takes a size.
+    #[inline(always)]
     fn take_size(&mut self, next: State, token: &Token, value: u64) -> Result<(), TextFault>
         requires next { entry self.old.state token.now.kind ≡ Some next }
         requires size { token.now.kind ≡ TokenKind.Size value }
@@ -112,6 +114,7 @@ impl Parser {
     }
 
     /// Takes the word of an option.
+    #[inline(always)]
     fn take_option(&mut self, next: State, token: &Token) -> Result<(), TextFault>
         requires next { entry self.old.state token.now.kind ≡ Some next }
         requires option { IsOption token.now.kind }
@@ -127,6 +130,7 @@ impl Parser {
     }
 
     /// Takes a label.
+    #[inline(always)]
     fn take_label(&mut self, next: State, token: &Token, label: &Label) -> Result<(), TextFault>
         requires next { entry self.old.state token.now.kind ≡ Some next }
         requires label { token.now.kind ≡ TokenKind.Label label.now }
@@ -149,6 +153,7 @@ impl Parser {
     }
 
     /// Takes a colon: it defines the label before it.
+    #[inline(always)]
     fn take_colon(&mut self, next: State, token: &Token) -> Result<(), TextFault>
         requires next { entry self.old.state token.now.kind ≡ Some next }
         requires colon { token.now.kind ≡ TokenKind.Colon }
@@ -164,6 +169,7 @@ impl Parser {
     }
 
     /// Takes the word that an action begins with.
+    #[inline(always)]
     fn take_action(&mut self, next: State, token: &Token) -> Result<(), TextFault>
         requires next { entry self.old.state token.now.kind ≡ Some next }
         requires action { IsAction token.now.kind }
@@ -181,6 +187,7 @@ impl Parser {
     }
 
     /// Takes the word behind the label of a dependency or a note.
+    #[inline(always)]
     fn take_verb(&mut self, next: State, token: &Token) -> Result<(), TextFault>
         requires next { entry self.old.state token.now.kind ≡ Some next }
         requires verb { IsVerb token.now.kind }
@@ -213,6 +220,7 @@ impl Parser {
     }
 
     /// Takes a word or a sign that nothing is kept of but the state behind it.
+    #[inline(always)]
     fn take_plain(&mut self, next: State, token: &Token)
         requires next { entry self.old.state token.now.kind ≡ Some next }
         requires plain { IsPlain token.now.kind }
@@ -222,6 +230,7 @@ impl Parser {
     }
 
     /// Takes the word `any`.
+    #[inline(always)]
     fn take_any(&mut self, next: State, token: &Token)
         requires next { entry self.old.state token.now.kind ≡ Some next }
         requires any { token.now.kind ≡ TokenKind.Any }
@@ -232,6 +241,7 @@ impl Parser {
     }
 
     /// Takes the next token. Only the tests that its kind can fail are made, in their order.
+    #[inline(always)]
     pub fn take(&mut self, token: &Token) -> Result<(), TextFault>
         ensures ok { OnOk result ((before : List Token) → HasTaken self.old before → (token_fault before token.now ≡ None) × HasTaken self.new (token.now ∷ before)) }
         ensures fault { IfErr result (λ f. f ≢ TextFault.NoMemory → (before : List Token) → HasTaken self.old before → token_fault before token.now ≡ Some f) }

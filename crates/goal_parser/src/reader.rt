@@ -50,8 +50,10 @@ impl Reader {
         }
     }
 
-    /// Takes bytes from the front of `rest` up to the end of a token, and that token. The answer is how many.
-    fn step(&mut self, rest: &[u8]) -> Result<usize, TextFault>
+    /// Takes bytes from the front of `rest` up to the end of a token, and that token, which is written to its place. The
+    /// answer is how many.
+    #[inline(always)]
+    fn step(&mut self, rest: &[u8], token: &mut Token) -> Result<usize, TextFault>
         requires some { 0 < length rest.now }
         requires place { self.old.place + length rest.now < 2 ^ 64 }
         requires same { self.old.lexer.place ≡ self.old.place }
@@ -65,13 +67,12 @@ impl Reader {
         ensures stands { IfOk result (λ n. (text : List ℕ) → StandsFor self.old text → StandsFor self.new (text ++ take n rest.now)) }
         ensures fault { IfErr result (λ f. f ≢ TextFault.NoMemory → (text more : List ℕ) → StandsFor self.old text → text_fault (text ++ rest.now ++ more) ≡ Some f) }
     {
-        let mut token = Token::nowhere();
-        match self.lexer.next_token_into(rest, &mut token) {
+        match self.lexer.next_token_into(rest, token) {
             Err(fault) => Err(TextFault::Lex { at: fault.at }),
             Ok(lexed) => {
                 self.place += lexed.taken as u64;
                 if lexed.found {
-                    match self.parser.take(&token) {
+                    match self.parser.take(token) {
                         Ok(()) => Ok(lexed.taken),
                         Err(fault) => Err(fault),
                     }
@@ -93,9 +94,10 @@ impl Reader {
         ensures stands { OnOk result ((text : List ℕ) → StandsFor self.old text → StandsFor self.new (text ++ piece.now)) }
         ensures fault { IfErr result (λ f. f ≢ TextFault.NoMemory → (text more : List ℕ) → StandsFor self.old text → text_fault (text ++ piece.now ++ more) ≡ Some f) }
     {
+        let mut token = Token::nowhere();
         let mut at = 0;
         while at < piece.len() {
-            match self.step(&piece[at..]) {
+            match self.step(&piece[at..], &mut token) {
                 Ok(taken) => at += taken,
                 Err(fault) => return Err(fault),
             }

@@ -76,6 +76,7 @@ fn item_entry(kind: &TokenKind) -> Option<State>
 }
 
 /// The state behind a token of this kind, where there is one.
+#[inline(always)]
 #[tactic(auto, unfolding(crate::specs::Sentence::entry))]
 pub fn entry(state: State, kind: &TokenKind) -> Option<State>
     ensures { result ≡ entry state kind.now }
