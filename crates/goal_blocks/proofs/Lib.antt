@@ -39,3 +39,4 @@ pub mod BcastCertified
 pub mod AllgatherCertified
 pub mod ScanCertified
 pub mod MadeCertified
+pub mod AlltoallCertified

@@ -1,4 +1,4 @@
--- The made schedules of the broadcast, the allgather and the scan are certified, and so right everywhere.
+-- The made schedules of the broadcast, the allgather, the alltoall and the scan are certified, and so right everywhere.
 use Rattle.std.proofs.Common.{ℕ, ◌≤◌, length}
 use Rattle.goal_base.specs.declared.limits.TheConstants.{MAX_BYTES}
 use Rattle.goal_blocks.specs.declared.collective.Collective.{Collective}
@@ -9,20 +9,21 @@ use Rattle.goal_blocks.specs.Generated.{made, IsPossible}
 use Rattle.goal_blocks.proofs.Right.{certified_right}
 use Rattle.goal_blocks.proofs.BcastCertified.{bcast_certified}
 use Rattle.goal_blocks.proofs.AllgatherCertified.{allgather_certified}
+use Rattle.goal_blocks.proofs.AlltoallCertified.{alltoall_certified}
 use Rattle.goal_blocks.proofs.ScanCertified.{scan_certified}
 
-pub made_certified : (what : Collective) (ranks bytes : ℕ) → IsPossible what ranks → bytes ≤ MAX_BYTES → IsCertifiedByProof what → IsCertifiedFor what (made what ranks bytes)
+pub made_certified : (what : Collective) (ranks bytes : ℕ) → IsPossible what ranks → bytes ≤ MAX_BYTES → IsCertifiedByProof what ranks → IsCertifiedFor what (made what ranks bytes)
 made_certified (Bcast root) ranks bytes p small proved = bcast_certified ranks root bytes p.root p.few_ranks small
 made_certified Allgather ranks bytes p small proved = allgather_certified ranks bytes p.some_rank p.few_ranks small
 made_certified Scan ranks bytes p small proved = scan_certified ranks bytes p.some_rank p.few_ranks small
 made_certified Barrier ranks bytes p small proved = absurd proved
 made_certified Allreduce ranks bytes p small proved = absurd proved
-made_certified Alltoall ranks bytes p small proved = absurd proved
+made_certified Alltoall ranks bytes p small proved = alltoall_certified ranks bytes p.some_rank p.few_ranks small
 made_certified (Reduce root) ranks bytes p small proved = absurd proved
 made_certified (Gather root) ranks bytes p small proved = absurd proved
 made_certified (Scatter root) ranks bytes p small proved = absurd proved
 made_certified ReduceScatter ranks bytes p small proved = absurd proved
 
-pub made_right : (what : Collective) (ranks bytes : ℕ) → IsPossible what ranks → bytes ≤ MAX_BYTES → IsCertifiedByProof what → IsRightFor what (made what ranks bytes)
+pub made_right : (what : Collective) (ranks bytes : ℕ) → IsPossible what ranks → bytes ≤ MAX_BYTES → IsCertifiedByProof what ranks → IsRightFor what (made what ranks bytes)
 made_right what ranks bytes p small proved =
     certified_right (made what ranks bytes) (initial what (length (made what ranks bytes))) (wanted what (length (made what ranks bytes))) (made_certified what ranks bytes p small proved)

@@ -4,7 +4,7 @@ use Rattle.std.specs.Prelude.{ℕ, ◌≤◌, List, length}
 use Rattle.goal_base.specs.declared.limits.TheConstants.{MAX_BYTES}
 use Rattle.goal_graph.specs.Schedule.{Plan}
 use Rattle.goal_blocks.specs.declared.collective.Collective.{Collective}
-use Rattle.goal_blocks.specs.declared.collective.Collective.TheVariants.{Bcast, Allgather, Scan}
+use Rattle.goal_blocks.specs.declared.collective.Collective.TheVariants.{Bcast, Allgather, Alltoall, Scan}
 use Rattle.goal_blocks.specs.Collectives.{initial, wanted}
 use Rattle.goal_blocks.specs.Certification.{IsCertified, IsRightEverywhere}
 use Rattle.goal_blocks.specs.Generated.{made, IsPossible}
@@ -16,12 +16,13 @@ IsCertifiedFor what plans = IsCertified plans (initial what (length plans)) (wan
 abbrev pub IsRightFor : Collective → List Plan → Type 0
 IsRightFor what plans = IsRightEverywhere plans (initial what (length plans)) (wanted what (length plans))
 
--- The collectives whose made schedules are certified by proof, for each number of ranks that they may have.
-abbrev pub IsCertifiedByProof : Collective → Type 0
-IsCertifiedByProof (Bcast root) = Unit {0}
-IsCertifiedByProof Allgather = Unit {0}
-IsCertifiedByProof Scan = Unit {0}
-IsCertifiedByProof _ = ⊥
+-- The collectives, and numbers of ranks, whose made schedules are certified by proof.
+abbrev pub IsCertifiedByProof : Collective → ℕ → Type 0
+IsCertifiedByProof (Bcast root) ranks = Unit {0}
+IsCertifiedByProof Allgather ranks = Unit {0}
+IsCertifiedByProof Alltoall ranks = Unit {0}
+IsCertifiedByProof Scan ranks = Unit {0}
+IsCertifiedByProof _ ranks = ⊥
 
 -- The laws. The functions `laws_of_..` ensure each.
 
@@ -31,8 +32,8 @@ BcastOfTwoIsCertified = IsCertifiedFor (Bcast 0) (made (Bcast 0) 2 8)
 
 -- the made schedules of these collectives are certified, for all ranks, roots and sizes within the limits
 abbrev pub MadeIsCertified : Type 0
-MadeIsCertified = (what : Collective) (ranks bytes : ℕ) → IsPossible what ranks → bytes ≤ MAX_BYTES → IsCertifiedByProof what → IsCertifiedFor what (made what ranks bytes)
+MadeIsCertified = (what : Collective) (ranks bytes : ℕ) → IsPossible what ranks → bytes ≤ MAX_BYTES → IsCertifiedByProof what ranks → IsCertifiedFor what (made what ranks bytes)
 
 -- and right everywhere
 abbrev pub MadeIsRight : Type 0
-MadeIsRight = (what : Collective) (ranks bytes : ℕ) → IsPossible what ranks → bytes ≤ MAX_BYTES → IsCertifiedByProof what → IsRightFor what (made what ranks bytes)
+MadeIsRight = (what : Collective) (ranks bytes : ℕ) → IsPossible what ranks → bytes ≤ MAX_BYTES → IsCertifiedByProof what ranks → IsRightFor what (made what ranks bytes)

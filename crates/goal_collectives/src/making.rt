@@ -58,8 +58,8 @@ pub fn generate(alloc: Global, what: Collective, ranks: u32, bytes: u64) -> Resu
     ensures accepted { IfOk result (λ sched. IsAccepted sched) }
 
     // Where that is proved of the collective, it is certified, and right in every interleaving.
-    ensures certified { IsCertifiedByProof what → IfOk result (λ sched. IsCertifiedFor what sched) }
-    ensures right { IsCertifiedByProof what → IfOk result (λ sched. IsRightFor what sched) }
+    ensures certified { IsCertifiedByProof what ranks → IfOk result (λ sched. IsCertifiedFor what sched) }
+    ensures right { IsCertifiedByProof what ranks → IfOk result (λ sched. IsRightFor what sched) }
 
     // A fault is told exactly where it is the first one; memory can only run out where there is none.
     ensures fault { IfErr result (λ fault. IsGenFault what ranks fault) }

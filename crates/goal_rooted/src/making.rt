@@ -50,8 +50,8 @@ pub fn generate_rooted(
     ensures accepted { IfOk result (λ sched. IsAccepted sched) }
 
     // Where that is proved of the collective, it is certified, and right in every interleaving.
-    ensures certified { IsCertifiedByProof what → IfOk result (λ sched. IsCertifiedFor what sched) }
-    ensures right { IsCertifiedByProof what → IfOk result (λ sched. IsRightFor what sched) }
+    ensures certified { IsCertifiedByProof what ranks → IfOk result (λ sched. IsCertifiedFor what sched) }
+    ensures right { IsCertifiedByProof what ranks → IfOk result (λ sched. IsRightFor what sched) }
 
     // A fault is told exactly where it is the first one; memory can only run out where there is none.
     ensures fault { IfErr result (λ fault. IsRootedFault what ranks fault) }
