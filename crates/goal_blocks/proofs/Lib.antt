@@ -40,3 +40,11 @@ pub mod AllgatherCertified
 pub mod ScanCertified
 pub mod MadeCertified
 pub mod AlltoallCertified
+pub mod Sorted
+pub mod SlotSums
+pub mod StoreFacts
+pub mod Starts
+pub mod Wishes
+pub mod Writes
+pub mod SlotLists
+pub mod SlotRows

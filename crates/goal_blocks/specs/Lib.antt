@@ -18,3 +18,5 @@ pub mod Messages
 pub mod Certified
 pub mod Faults
 pub mod Levels
+pub mod Stored
+pub mod SlotTables

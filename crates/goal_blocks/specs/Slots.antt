@@ -7,6 +7,7 @@ use Rattle.goal_graph.specs.declared.plan.Kind.TheVariants.{Calc, Send, Recv}
 use Rattle.goal_graph.specs.declared.plan.Note.{Note}
 use Rattle.goal_graph.specs.declared.plan.Note.TheVariants.{Moves, Adds}
 use Rattle.goal_graph.specs.Schedule.{Plan, kind_at}
+pub use Rattle.goal_blocks.specs.declared.slots.Adding.{Adding}
 
 -- n slots, the first of which is given
 unfoldable pub slots_from : ℕ → ℕ → List ℕ
@@ -16,11 +17,6 @@ slots_from lo (suc n) = lo ∷ slots_from (lo + 1) n
 -- the notes of a rank, none where there is no such rank
 unfoldable pub notes_at : List Plan → ℕ → List Note
 notes_at plans rank = unwrap_or (option_map (λ (p : Plan). p.notes) (slice_get plans rank)) []
-
--- the value of the slot `from` is added to that of the slot `to`
-pub record Adding : Type 0 where
-  pub from : ℕ
-  pub to : ℕ
 
 abbrev pub moved_by : ℕ → Note → List ℕ
 moved_by op (Moves of lo hi) = if of == op then slots_from lo (hi + 1 - lo) else []

@@ -5,8 +5,13 @@ mod cert_fault;
 mod collective;
 mod generated;
 mod laws;
+mod merging;
 mod positions;
+mod slot_table;
+mod slots;
 mod steps;
+mod store;
+mod wanted;
 
 pub use cert_fault::CertFault;
 pub use collective::{Collective, Contribution};
@@ -16,4 +21,11 @@ pub use laws::{
     laws_of_races,
 };
 pub use positions::{ahead, back, digits, power};
+pub use slot_table::SlotTable;
+pub use slots::{Adding, Slots};
 pub use steps::{Effect, Formula, Needs, Step, before_round, plans_of};
+pub use store::{Payload, Store};
+pub use wanted::initial_size;
+
+#[cfg(test)]
+mod tests;

@@ -14,7 +14,8 @@ use Rattle.goal_graph.specs.declared.plan.Note.TheVariants.{Moves, Adds}
 use Rattle.goal_graph.specs.Schedule.{Plan, kind_at, op_at, ops_at}
 use Rattle.goal_graph.proofs.ForCallers.{contains_first, contains_more}
 use Rattle.goal_blocks.specs.Certification.{NamesLowSlots}
-use Rattle.goal_blocks.specs.Slots.{Adding, slots_from, notes_at, moved_by, added_by, slots, adds, written_in, touched_in, written, touched}
+use Rattle.goal_blocks.specs.declared.slots.Adding.{Adding}
+use Rattle.goal_blocks.specs.Slots.{slots_from, notes_at, moved_by, added_by, slots, adds, written_in, touched_in, written, touched}
 use Rattle.goal_certify.specs.declared.races.touches.Touch.{Touch}
 use Rattle.goal_certify.specs.Before.{op_id}
 use Rattle.goal_certify.specs.Touches.{moved, touches_in, noted, touches_of, AreTouches}

@@ -1,0 +1,15 @@
+use Rattle.std.proofs.Common.{ap, sym, ◌∙◌, arith}
+use Rattle.goal_blocks.specs.Values.{Value, set_slot}
+use Rattle.goal_blocks.specs.Stored.{values}
+use Rattle.goal_blocks.proofs.SlotSums.{set_nothing}
+use Rattle.goal_blocks.proofs.StoreFacts.{is_set_there}
+use Rattle.goal_blocks.proofs.store.Store.make_room.Goals as goal
+
+pub returns-then-contains_key-clause-is_set : goal.returns-then-contains_key-clause-is_set
+returns-then-contains_key-clause-is_set c =
+    is_set_there c.self.inside.what c.self.inside.ranks c.self.inside.written c.args.self.now c.self.view_is c.args.rank c.args.slot (sym c.contains_key.ensures ∙ c.if-contains_key.true)
+
+pub returns-clause-same : goal.returns-clause-same
+returns-clause-same c =
+    c.in_ok-put.ensures.set ∙ ap (λ (v : Value). set_slot c.args.rank c.args.slot v (values c.args.self.now)) c.in_ok-value.ensures.copy
+    ∙ set_nothing c.args.rank c.args.slot (values c.args.self.now)

@@ -1,0 +1,290 @@
+//! The values of all slots, as a schedule changes them.
+ghost use Rattle.std.specs.Prelude.{◌≡◌, ℕ, ◌+◌, ◌^◌, ◌<◌, ◌≤◌, false, true, length, map, All, IfOk, OnOk, OnErr, IfSome, IfNone, IsSome, None};
+ghost use Rattle.std.specs.List.{sum_by};
+ghost use Rattle.goal_blocks.specs.Values.{merge, set_slot, write};
+ghost use Rattle.goal_blocks.specs.Weight.{stored};
+ghost use Rattle.goal_blocks.specs.Collectives.{initial, wanted};
+ghost use Rattle.goal_blocks.specs.Faults.{SlotAt, IsLeast, slot_key};
+ghost use Rattle.goal_blocks.specs.Stored.{values, written_at, one_or_none, IsSorted, lists_of};
+
+use crate::collective::{Collective, Contribution};
+use crate::merging::merged;
+use crate::slots::Slots;
+use crate::wanted::{asked, first_of, initial_size, is_wanted};
+use goal_base::NoMemory;
+use std::alloc::{AllocError, Global};
+use std::collections::BTreeMap;
+use std::marker::Model;
+
+/// The values of some slots. Contracts see it as the list of these.
+#[derive(Drop)]
+pub struct Payload {
+    values: Vec<Vec<Contribution>>,
+}
+
+impl Model for Payload {
+    ghost use Rattle.std.specs.Prelude.{List, All};
+    ghost use Rattle.goal_blocks.specs.declared.collective.Contribution.{Contribution};
+    ghost use Rattle.goal_blocks.specs.Stored.{IsSorted, lists_of};
+
+    ghost Value = { List (List Contribution) };
+
+    ghost view = { λ p. lists_of p.values.items };
+
+    ghost invariant = { λ p. All IsSorted (lists_of p.values.items) };
+}
+
+/// The values of the slots of all ranks. Contracts see what it keeps, of which `values` is the value of each slot of
+/// each rank.
+#[derive(Drop)]
+pub struct Store {
+    alloc: Global,
+    what: Collective,
+    ranks: u32,
+    written: BTreeMap<(u32, u32), Vec<Contribution>>,
+    held: u64,
+}
+
+impl Model for Store {
+    ghost use Rattle.goal_blocks.specs.Stored.{Kept, IsSound, entries_of};
+
+    ghost Value = { Kept };
+
+    ghost view = { λ s. record { what = s.what; ranks = s.ranks; written = entries_of s.written.entries } };
+
+    ghost invariant = { λ s. IsSound (record { what = s.what; ranks = s.ranks; written = entries_of s.written.entries }) s.held };
+}
+
+// The list of one contribution, or of none.
+fn list_of(alloc: Global, first: Option<Contribution>) -> Result<Vec<Contribution>, AllocError>
+    ensures { IfOk result (λ v. v.items ≡ one_or_none first) }
+{
+    let mut list = Vec::new(alloc);
+    if let Some(one) = first {
+        list.push(one)?;
+    }
+    Ok(list)
+}
+
+impl Store {
+    /// The values of `ranks` ranks at the start.
+    pub fn new(alloc: Global, ranks: u32, what: Collective) -> Result<Store, NoMemory>
+        requires some { 1 ≤ ranks }
+        requires few { ranks ≤ 65536 }
+        requires light { stored ranks (initial what ranks) ≤ 2 ^ 24 }
+        ensures values { IfOk result (λ s. values s ≡ initial what ranks) }
+        ensures ranks { IfOk result (λ s. s.ranks ≡ ranks) }
+    {
+        Ok(Store {
+            alloc,
+            what,
+            ranks,
+            written: BTreeMap::new(alloc),
+            held: initial_size(ranks, what),
+        })
+    }
+
+    /// How many contributions all slots together have.
+    pub fn held(&self) -> u64
+        ensures { result ≡ stored self.now.ranks (values self.now) }
+    {
+        self.held
+    }
+
+    /// How many contributions the slot of the rank has.
+    pub fn size_at(&self, rank: u32, slot: u32) -> u64
+        requires rank { rank < self.now.ranks }
+        requires low { slot ≤ 65535 }
+        ensures size { result ≡ length (values self.now rank slot) }
+        ensures part { result ≤ stored self.now.ranks (values self.now) }
+    {
+        match self.written.get(&(rank, slot)) {
+            Some(value) => value.len() as u64,
+            None => match first_of(self.what, self.ranks, rank, slot) {
+                Some(_) => 1,
+                None => 0,
+            },
+        }
+    }
+
+    /// How many contributions `read` would copy.
+    pub fn payload_size(&self, rank: u32, slots: &Slots) -> u64
+        requires rank { rank < self.now.ranks }
+        requires low { All (λ k. k ≤ 65535) slots.now }
+        requires few { length slots.now ≤ 2 ^ 24 }
+        requires light { stored self.now.ranks (values self.now) ≤ 2 ^ 24 }
+        ensures { result ≡ sum_by (λ k. length (values self.now rank k)) slots.now }
+    {
+        let mut size = 0;
+        for slot in slots.as_slice() {
+            size += self.size_at(rank, *slot);
+        }
+        size
+    }
+
+    /// Copies the values of these slots of the rank. `NoMemory` where memory ran out.
+    pub fn read(&self, rank: u32, slots: &Slots) -> Result<Payload, NoMemory>
+        requires { rank < self.now.ranks }
+        ensures { IfOk result (λ p. p ≡ map (values self.now rank) slots.now) }
+    {
+        let mut copies = Vec::new(self.alloc);
+        for slot in slots.as_slice() {
+            copies.push(self.copy_at(rank, *slot)?)?;
+        }
+        Ok(Payload { values: copies })
+    }
+
+    /// Sets these slots of the rank to the values, in order: where a slot stands twice, the later value stays.
+    /// `NoMemory` where memory ran out; all values are then as they were.
+    pub fn write(&mut self, rank: u32, slots: &Slots, payload: Payload) -> Result<(), NoMemory>
+        requires rank { rank < self.old.ranks }
+        requires lengths { length slots.now ≡ length payload }
+        requires low { All (λ k. k ≤ 65535) slots.now }
+        requires light { stored self.old.ranks (values self.old) + sum_by (λ v. length v) payload ≤ 2 ^ 24 }
+        ensures written { OnOk result (values self.new ≡ write rank slots.now payload (values self.old)) }
+        ensures unchanged { OnErr result (values self.new ≡ values self.old) }
+        ensures ranks { self.new.ranks ≡ self.old.ranks }
+    {
+        for slot in slots.as_slice() {
+            self.make_room(rank, *slot)?;
+        }
+        self.fill(rank, slots.as_slice(), payload.values);
+        Ok(())
+    }
+
+    /// Adds the value of the slot `from` of the rank to that of its slot `to`. `NoMemory` where memory ran out; all
+    /// values are then as they were.
+    pub fn add(&mut self, rank: u32, from: u32, to: u32) -> Result<(), NoMemory>
+        requires rank { rank < self.old.ranks }
+        requires from { from ≤ 65535 }
+        requires to { to ≤ 65535 }
+        requires light { stored self.old.ranks (values self.old) ≤ 2 ^ 24 }
+        ensures added { OnOk result (values self.new
+            ≡ set_slot rank to (merge (values self.old rank to) (values self.old rank from)) (values self.old)) }
+        ensures unchanged { OnErr result (values self.new ≡ values self.old) }
+        ensures ranks { self.new.ranks ≡ self.old.ranks }
+    {
+        let own = self.copy_at(rank, to)?;
+        let other = self.copy_at(rank, from)?;
+        let sum = merged(self.alloc, &own, &other)?;
+        self.put(rank, to, sum)
+    }
+
+    /// The least rank and slot that does not hold what the collective wants of it, None where each slot does.
+    pub fn first_wrong(&self, what: Collective) -> Option<(u32, u32)>
+        ensures wrong { IfSome result (λ p. IsLeast slot_key
+            (λ (a : SlotAt). wanted what self.now.ranks a.rank a.slot (values self.now a.rank a.slot) ≡ false)
+            (record { rank = p.0; slot = p.1 })) }
+        ensures right { IfNone result ((rank slot : ℕ)
+            → wanted what self.now.ranks rank slot (values self.now rank slot) ≡ true) }
+    {
+        for rank in 0..self.ranks {
+            if let Some(slot) = self.first_wrong_of(what, rank) {
+                return Some((rank, slot));
+            }
+        }
+        None
+    }
+
+    // The least slot of the rank that does not hold what is wanted of it.
+    fn first_wrong_of(&self, what: Collective, rank: u32) -> Option<u32>
+        requires { rank < self.now.ranks }
+        ensures wrong { IfSome result (λ slot. wanted what self.now.ranks rank slot (values self.now rank slot) ≡ false) }
+        ensures first { IfSome result (λ slot. (k : ℕ) → k < slot
+            → wanted what self.now.ranks rank k (values self.now rank k) ≡ true) }
+        ensures right { IfNone result ((k : ℕ) → wanted what self.now.ranks rank k (values self.now rank k) ≡ true) }
+    {
+        let (from, to) = asked(what, self.ranks, rank);
+        for slot in from..to {
+            if !self.is_right(what, rank, slot) {
+                return Some(slot);
+            }
+        }
+        None
+    }
+
+    // Whether the slot holds what is wanted of it.
+    fn is_right(&self, what: Collective, rank: u32, slot: u32) -> bool
+        requires { rank < self.now.ranks }
+        ensures { result ≡ wanted what self.now.ranks rank slot (values self.now rank slot) }
+    {
+        match self.written.get(&(rank, slot)) {
+            Some(value) => is_wanted(what, self.ranks, rank, slot, value),
+            None => match first_of(self.what, self.ranks, rank, slot) {
+                Some(one) => is_wanted(what, self.ranks, rank, slot, &[one]),
+                None => is_wanted(what, self.ranks, rank, slot, &[]),
+            },
+        }
+    }
+
+    // A copy of the value of a slot.
+    fn copy_at(&self, rank: u32, slot: u32) -> Result<Vec<Contribution>, NoMemory>
+        ensures copy { IfOk result (λ v. v.items ≡ values self.now rank slot) }
+        ensures sorted { IfOk result (λ v. IsSorted v.items) }
+    {
+        match self.written.get(&(rank, slot)) {
+            Some(value) => Ok(Vec::from_slice(self.alloc, value)?),
+            None => {
+                let first = first_of(self.what, self.ranks, rank, slot);
+                Ok(list_of(self.alloc, first)?)
+            }
+        }
+    }
+
+    // Sets a slot. At `Err` it was not set before.
+    fn put(&mut self, rank: u32, slot: u32, value: Vec<Contribution>) -> Result<(), NoMemory>
+        requires rank { rank < self.old.ranks }
+        requires low { slot ≤ 65535 }
+        requires sorted { IsSorted value.items }
+        requires room { stored self.old.ranks (values self.old) + length value.items < 2 ^ 64 }
+        ensures set { OnOk result (values self.new ≡ set_slot rank slot value.items (values self.old)) }
+        ensures unchanged { OnErr result (values self.new ≡ values self.old) }
+        ensures absent { OnErr result (written_at self.old (rank, slot) ≡ None) }
+        ensures is_set { OnOk result (IsSome (written_at self.new (rank, slot))) }
+        ensures still { (k : ℕ) → IsSome (written_at self.old (rank, k)) → IsSome (written_at self.new (rank, k)) }
+        ensures ranks { self.new.ranks ≡ self.old.ranks }
+    {
+        let held = self.held - self.size_at(rank, slot) + value.len() as u64;
+        self.written.insert((rank, slot), value)?;
+        self.held = held;
+        Ok(())
+    }
+
+    // Sets a slot that is not set yet to what it holds.
+    fn make_room(&mut self, rank: u32, slot: u32) -> Result<(), NoMemory>
+        requires rank { rank < self.old.ranks }
+        requires low { slot ≤ 65535 }
+        requires light { stored self.old.ranks (values self.old) ≤ 2 ^ 24 }
+        ensures same { values self.new ≡ values self.old }
+        ensures is_set { OnOk result (IsSome (written_at self.new (rank, slot))) }
+        ensures still { (k : ℕ) → IsSome (written_at self.old (rank, k)) → IsSome (written_at self.new (rank, k)) }
+        ensures ranks { self.new.ranks ≡ self.old.ranks }
+    {
+        if self.written.contains_key(&(rank, slot)) {
+            return Ok(());
+        }
+        let value = self.copy_at(rank, slot)?;
+        self.put(rank, slot, value)?;
+        Ok(())
+    }
+
+    // Sets slots that are set already to other values, in order.
+    fn fill(&mut self, rank: u32, slots: &[u32], list: Vec<Vec<Contribution>>)
+        requires rank { rank < self.old.ranks }
+        requires lengths { length slots.now ≡ length list.items }
+        requires low { All (λ k. k ≤ 65535) slots.now }
+        requires sorted { All IsSorted (lists_of list.items) }
+        requires set { All (λ k. IsSome (written_at self.old (rank, k))) slots.now }
+        requires light { stored self.old.ranks (values self.old) + sum_by (λ v. length v) (lists_of list.items) ≤ 2 ^ 24 }
+        ensures written { values self.new ≡ write rank slots.now (lists_of list.items) (values self.old) }
+        ensures ranks { self.new.ranks ≡ self.old.ranks }
+    {
+        let mut next = 0;
+        for value in list {
+            match self.put(rank, slots[next], value) {
+                Ok(()) => next += 1,
+                Err(_) => unreachable!(),
+            }
+        }
+    }
+}
