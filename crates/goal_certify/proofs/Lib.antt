@@ -22,3 +22,7 @@ mod Table
 mod OpenPairs
 mod LeastSlot
 pub mod Stalls
+pub mod SlotFacts
+pub mod Carried
+pub mod Carrying
+pub mod Applied

@@ -1,6 +1,8 @@
 -- Operations exist.
-use Rattle.std.proofs.Common.{◌≡◌, true, List, Option, None, Some, is_some, slice_get, refl, sym, subst}
-use Rattle.std.proofs.lemmas.Option.{slice_get_within, get_or_from_slice_get}
+use Rattle.std.proofs.Common.{◌≡◌, ◌<◌, true, List, [], Option, None, Some, length, get_or, is_some, slice_get, unwrap_or, option_and_then, refl, sym, ap, subst}
+use Rattle.std.specs.Option.{option_map}
+use Rattle.std.proofs.lemmas.Option.{slice_get_within, slice_get-get_or, get_or_from_slice_get}
+use Rattle.goal_blocks.specs.Slots.{notes_at}
 use Rattle.goal_graph.specs.declared.action.OpId.{OpId}
 use Rattle.goal_graph.specs.declared.action.Class.{Class}
 use Rattle.goal_graph.specs.Schedule.{Plan, op_at, operations}
@@ -30,3 +32,17 @@ the_op plans x e = go (op_at plans x) refl e
     go : (q : Option Op) → op_at plans x ≡ q → is_some q ≡ true → (o : Op) × (op_at plans x ≡ Some o)
     go None s f = absurd (cc)
     go (Some o) s f = (o, s)
+
+-- the plan of the rank of an operation
+pub rank_below : (plans : List Plan) (x : OpId) → IsOp plans x → x.rank < length plans
+unfolding op_at
+rank_below plans x is = go (slice_get plans x.rank) refl is
+  where
+    go : (o : Option Plan) → slice_get plans x.rank ≡ o → is_some (option_and_then (λ (p : Plan). slice_get p.ops x.op) o) ≡ true → x.rank < length plans
+    go None e some = absurd (cc)
+    go (Some p) e some = slice_get_within plans x.rank p e
+
+pub notes_there : (plans : List Plan) (x : OpId) → IsOp plans x → (d : Plan) → notes_at plans x.rank ≡ (get_or plans x.rank d).notes
+unfolding notes_at
+notes_there plans x is d =
+    ap (λ (o : Option Plan). unwrap_or (option_map (λ (p : Plan). p.notes) o) []) (slice_get-get_or plans x.rank d (rank_below plans x is))

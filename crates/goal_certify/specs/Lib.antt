@@ -8,3 +8,4 @@ pub mod Before
 pub mod Touches
 pub mod Table
 pub mod Races
+pub mod Carried

@@ -19,8 +19,10 @@ use std::sync::ledger::{Blank, Ledger};
 mod action;
 mod entry;
 mod follow;
+mod parcel;
 mod stalls;
 mod state;
+mod values;
 
 use action::Action;
 use follow::{Queue, fill, follow, next};

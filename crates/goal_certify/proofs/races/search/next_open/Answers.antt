@@ -1,4 +1,4 @@
-use Rattle.std.proofs.Common.{ℕ, ◌≡◌, ⊎_elim, true, sym, ap, ◌∙◌, true≢false, arith}
+use Rattle.std.proofs.Common.{ℕ, ◌≡◌, ⊎_elim, sym, ap, ◌∙◌, true≢false, arith}
 use Rattle.std.proofs.lemmas.Bool.{cases_lt}
 use Rattle.goal_certify.specs.Races.{is_open}
 use Rattle.goal_certify.proofs.OpenPairs.{none_skipped}

@@ -1,0 +1,201 @@
+-- The slots of small schedules are low and few, and what is held after a note, a write or a read.
+use Rattle.std.proofs.Common.{◌≡◌, ◌==◌, ◌+◌, ◌-◌, ◌*◌, ◌^◌, ◌<◌, ◌≤◌, ◌⊎◌, inl, inr, ℕ, zero, suc, Bool, true, false, if◌then◌else◌, List, [], ◌∷◌, ◌++◌, All, length, map, take, get_or, refl, sym, ap, ◌∙◌, subst, arith}
+use Rattle.std.specs.Prelude.{flat_map}
+use Rattle.std.specs.List.{sum_by}
+use Rattle.std.proofs.lemmas.Bool.{cases_lt}
+use Rattle.std.proofs.lemmas.List.{take_more, take_all}
+use Rattle.std.proofs.lemmas.List.Concat.{length-flat_map}
+use Rattle.std.proofs.lemmas.List.Elements.{All-append}
+use Rattle.std.proofs.lemmas.List.Sums.{sum_by-cons, get_or-le-sum_by}
+use Rattle.goal_graph.specs.declared.action.OpId.{OpId}
+use Rattle.goal_graph.specs.declared.plan.Note.{Note}
+use Rattle.goal_graph.specs.declared.plan.Note.TheVariants.{Moves, Adds}
+use Rattle.goal_graph.specs.Schedule.{Plan}
+use Rattle.goal_graph.specs.Fault.{IsOp}
+use Rattle.goal_blocks.specs.declared.slots.Adding.{Adding}
+use Rattle.goal_blocks.specs.Slots.{slots_from, moved_by, added_by, slots, adds}
+use Rattle.goal_blocks.specs.Values.{Value, Store, merge, set_slot, write, add_all}
+use Rattle.goal_blocks.specs.Weight.{stored}
+use Rattle.goal_blocks.specs.Certification.{NamesLowSlots, moved_count, IsSmall}
+use Rattle.goal_blocks.proofs.ForCallers.{length_merge, stored_most, stored_set}
+use Rattle.goal_certify.specs.Carried.{size_of, AddsOver, AddsWithin}
+use Rattle.goal_certify.proofs.Places.{rank_below, notes_there}
+
+abbrev pub IsLow : ℕ → Type 0
+IsLow k = k ≤ 65535
+
+abbrev pub AddsLow : Adding → Type 0
+AddsLow a = (a.from ≤ 65535) × (a.to ≤ 65535)
+
+no_items : {A : Type 0} (P : A → Type 0) → All P []
+no_items P = λ k d l. absurd (omega (arith, l))
+
+one_item : {A : Type 0} (P : A → Type 0) (x : A) → P x → All P (x ∷ [])
+one_item P x p zero d l = p
+one_item P x p (suc k) d l = absurd (omega (arith, l))
+
+all_flat : {A B : Type 0} (P : B → Type 0) (f : A → List B) (Q : A → Type 0) → ((a : A) → Q a → All P (f a)) → (xs : List A) → All Q xs → All P (flat_map f xs)
+all_flat P f Q each [] all = no_items P
+all_flat P f Q each (x ∷ xs) all =
+    All-append P (f x) (flat_map f xs) (each x (all 0 x (omega arith))) (all_flat P f Q each xs (λ k d l. all (suc k) d (omega (arith, l))))
+
+low_from : (lo n : ℕ) → lo + n ≤ 65536 → All IsLow (slots_from lo n)
+unfolding slots_from
+low_from lo zero l = no_items IsLow
+low_from lo (suc n) l = All-append IsLow (lo ∷ []) (slots_from (lo + 1) n) (one_item IsLow lo (omega (arith, l))) (low_from (lo + 1) n (omega (arith, l)))
+
+length_from : (lo n : ℕ) → length (slots_from lo n) ≡ n
+unfolding slots_from
+length_from lo zero = refl
+length_from lo (suc n) = ap suc (length_from (lo + 1) n)
+
+none_from : (lo : ℕ) → All IsLow (slots_from lo 0)
+unfolding slots_from
+none_from lo = no_items IsLow
+
+some_from : (lo n : ℕ) → (n ≡ 0) ⊎ (lo + n ≤ 65536) → All IsLow (slots_from lo n)
+some_from lo n (inl e) = subst (λ (m : ℕ). All IsLow (slots_from lo m)) (sym e) (none_from lo)
+some_from lo n (inr l) = low_from lo n l
+
+cases_from : (lo hi : ℕ) → hi ≤ 65535 → (hi + 1 - lo ≡ 0) ⊎ (lo + (hi + 1 - lo) ≤ 65536)
+cases_from lo hi l = elim (cases_lt hi lo) [ inl less ↦ inl (omega (arith, less)) | inr le ↦ inr (omega (arith, le, l)) ]
+
+moved_low : (op : ℕ) (n : Note) → NamesLowSlots n → All IsLow (moved_by op n)
+moved_low op (Moves of lo hi) low = go (of == op)
+  where
+    go : (b : Bool) → All IsLow (if b then slots_from lo (hi + 1 - lo) else [])
+    go true = some_from lo (hi + 1 - lo) (cases_from lo hi low.1)
+    go false = no_items IsLow
+moved_low op (Adds of from to) low = no_items IsLow
+
+added_low : (op : ℕ) (n : Note) → NamesLowSlots n → All AddsLow (added_by op n)
+added_low op (Moves of lo hi) low = no_items AddsLow
+added_low op (Adds of from to) low = go (of == op)
+  where
+    go : (b : Bool) → All AddsLow (if b then record { from = from; to = to } ∷ [] else [])
+    go true = one_item AddsLow (record { from = from; to = to }) low
+    go false = no_items AddsLow
+
+moved_few : (op : ℕ) (n : Note) → length (moved_by op n) ≤ moved_count n
+moved_few op (Moves of lo hi) = go (of == op)
+  where
+    go : (b : Bool) → length (if b then slots_from lo (hi + 1 - lo) else []) ≤ hi + 1 - lo
+    go true = omega (arith, length_from lo (hi + 1 - lo))
+    go false = omega arith
+moved_few op (Adds of from to) = omega arith
+
+sum_few : (op : ℕ) (ns : List Note) → length (flat_map (moved_by op) ns) ≤ sum_by moved_count ns
+sum_few op ns = omega (arith, length-flat_map (moved_by op) ns, go ns)
+  where
+    go : (ns : List Note) → sum_by (λ n. length (moved_by op n)) ns ≤ sum_by moved_count ns
+    go [] = omega arith
+    go (n ∷ ns) =
+        omega (arith, sum_by-cons (λ n. length (moved_by op n)) n ns, sum_by-cons moved_count n ns, moved_few op n, go ns)
+
+module _ (plans : List Plan) (small : IsSmall plans) (x : OpId) (is : IsOp plans x) where
+  abbrev no_plan : Plan
+  no_plan = record { ops = []; deps = []; notes = [] }
+
+  abbrev own : Plan
+  own = get_or plans x.rank no_plan
+
+  low_notes : All NamesLowSlots own.notes
+  low_notes = small.slots x.rank no_plan (rank_below plans x is)
+
+  pub slots_low : All IsLow (slots plans x)
+  unfolding slots
+  slots_low =
+      subst (λ (ns : List Note). All IsLow (flat_map (moved_by x.op) ns)) (sym (notes_there plans x is no_plan)) (all_flat IsLow (moved_by x.op) NamesLowSlots (moved_low x.op) own.notes low_notes)
+
+  pub adds_low : All AddsLow (adds plans x)
+  unfolding adds
+  adds_low =
+      subst (λ (ns : List Note). All AddsLow (flat_map (added_by x.op) ns)) (sym (notes_there plans x is no_plan)) (all_flat AddsLow (added_by x.op) NamesLowSlots (added_low x.op) own.notes low_notes)
+
+  pub slots_few : length (slots plans x) ≤ 2 ^ 24
+  unfolding slots
+  slots_few =
+      omega (arith, ap (λ (ns : List Note). length (flat_map (moved_by x.op) ns)) (notes_there plans x is no_plan), sum_few x.op own.notes, get_or-le-sum_by (λ (p : Plan). sum_by moved_count p.notes) plans x.rank no_plan (rank_below plans x is), small.moves)
+
+-- what is held once values are written: no more than before, and the values
+pub stored_write : (ranks rank : ℕ) (ks : List ℕ) (vs : List Value) (s : Store) → rank < ranks → All IsLow ks → stored ranks (write rank ks vs s) ≤ stored ranks s + size_of vs
+unfolding write
+stored_write ranks rank [] vs s low all = omega arith
+stored_write ranks rank (k ∷ ks) [] s low all = omega arith
+stored_write ranks rank (k ∷ ks) (v ∷ vs) s low all =
+    let k_low : k ≤ 65535 = all 0 k (omega arith) in
+    let rest : stored ranks (write rank ks vs (set_slot rank k v s)) ≤ stored ranks (set_slot rank k v s) + size_of vs = stored_write ranks rank ks vs (set_slot rank k v s) low (λ i d l. all (suc i) d (omega (arith, l))) in
+    omega (arith, rest, stored_set ranks rank k v s low (omega (arith, k_low)), sum_by-cons (λ (w : Value). length w) v vs)
+
+-- what is read has as many contributions as its slots
+pub size_read : (f : ℕ → Value) (ks : List ℕ) → size_of (map f ks) ≡ sum_by (λ k. length (f k)) ks
+size_read f [] = refl
+size_read f (k ∷ ks) =
+    omega (arith, sum_by-cons (λ (w : Value). length w) (f k) (map f ks), sum_by-cons (λ k. length (f k)) k ks, size_read f ks)
+
+pub read_bound : (ranks rank : ℕ) (s : Store) (ks : List ℕ) → rank < ranks → All IsLow ks → stored ranks s ≤ 2 ^ 24 → sum_by (λ k. length (s rank k)) ks ≤ length ks * 2 ^ 24
+read_bound ranks rank s [] low all light = omega arith
+read_bound ranks rank s (k ∷ ks) low all light =
+    let k_low : k ≤ 65535 = all 0 k (omega arith) in
+    let most = stored_most ranks rank k s low (omega (arith, k_low)) in
+    let rest = read_bound ranks rank s ks low (λ i d l. all (suc i) d (omega (arith, l))) light in
+    omega (arith, most, rest, light, sum_by-cons (λ k. length (s rank k)) k ks)
+
+-- one note more
+add_last : (rank : ℕ) (added : List Adding) (a : Adding) (s : Store) → add_all rank (added ++ a ∷ []) s ≡ set_slot rank a.to (merge (add_all rank added s rank a.to) (add_all rank added s rank a.from)) (add_all rank added s)
+unfolding add_all
+add_last rank [] a s = refl
+add_last rank (b ∷ added) a s = add_last rank added a (set_slot rank b.to (merge (s rank b.to) (s rank b.from)) s)
+
+pub add_more : (rank : ℕ) (added : List Adding) (i : ℕ) (d : Adding) (s : Store) → i < length added → add_all rank (take (i + 1) added) s ≡ set_slot rank (get_or added i d).to (merge (add_all rank (take i added) s rank (get_or added i d).to) (add_all rank (take i added) s rank (get_or added i d).from)) (add_all rank (take i added) s)
+add_more rank added i d s l =
+    ap (λ (items : List Adding). add_all rank items s) (take_more added i d l) ∙ add_last rank (take i added) (get_or added i d) s
+
+pub stored_more : (ranks rank : ℕ) (added : List Adding) (i : ℕ) (d : Adding) (s : Store) → rank < ranks → i < length added → (get_or added i d).to ≤ 65535 → stored ranks (add_all rank (take (i + 1) added) s) ≡ stored ranks (add_all rank (take i added) s) + length (add_all rank (take i added) s rank (get_or added i d).from)
+stored_more ranks rank added i d s low l to_low =
+    let a = get_or added i d in
+    let t = add_all rank (take i added) s in
+    let set = stored_set ranks rank a.to (merge (t rank a.to) (t rank a.from)) t low (omega (arith, to_low)) in
+    omega (arith, set, length_merge (t rank a.to) (t rank a.from), ap (stored ranks) (add_more rank added i d s l))
+
+-- the notes before the place are added, and after each of them few enough contributions were held
+pub record NotesAdded (rank : ℕ) (added : List Adding) (others : ℕ) (first now : Store) (ranks ranks_now i : ℕ) : Type 0 where
+  pub same : ranks_now ≡ ranks
+  pub stores : now ≡ add_all rank (take i added) first
+  pub within : (n : ℕ) → n ≤ i → stored ranks (add_all rank (take n added) first) + others ≤ 2 ^ 24
+
+pub none_added : (rank : ℕ) (added : List Adding) (others : ℕ) (first : Store) (ranks : ℕ) → stored ranks first + others ≤ 2 ^ 24 → NotesAdded rank added others first first ranks ranks 0
+unfolding add_all
+none_added rank added others first ranks light = record {
+  same = refl;
+  stores = refl;
+  within = λ n l. let e : 0 ≡ n = omega (arith, l) in subst (λ (k : ℕ). stored ranks (add_all rank (take k added) first) + others ≤ 2 ^ 24) e light;
+}
+
+module _ (rank : ℕ) (added : List Adding) (others : ℕ) (first now : Store) (ranks ranks_now i : ℕ) (so_far : NotesAdded rank added others first now ranks ranks_now i) where
+  pub held_now : stored ranks_now now + others ≤ 2 ^ 24
+  held_now =
+      omega (arith, so_far.within i (omega arith), ap (stored ranks) so_far.stores, ap (λ (n : ℕ). stored n now) so_far.same)
+
+  module _ (d : Adding) (inside : i < length added) (below : rank < ranks) (low : All AddsLow added) (size total : ℕ) (size_is : size ≡ length (now rank (get_or added i d).from)) (total_is : total ≡ stored ranks_now now + others + size) where
+    next_total : stored ranks (add_all rank (take (i + 1) added) first) + others ≡ total
+    next_total =
+        let more = stored_more ranks rank added i d first below inside (low i d inside).1 in
+        omega (arith, more, ap (stored ranks) so_far.stores, ap (λ (n : ℕ). stored n now) so_far.same, size_is, ap (λ (s : Store). length (s rank (get_or added i d).from)) so_far.stores, total_is)
+
+    pub added_next : total ≤ 2 ^ 24 → (after : Store) (ranks_after : ℕ) → after ≡ set_slot rank (get_or added i d).to (merge (now rank (get_or added i d).to) (now rank (get_or added i d).from)) now → ranks_after ≡ ranks_now → NotesAdded rank added others first after ranks ranks_after (i + 1)
+    added_next few after ranks_after e same = record {
+      same = same ∙ so_far.same;
+      stores = e ∙ ap (λ (s : Store). set_slot rank (get_or added i d).to (merge (s rank (get_or added i d).to) (s rank (get_or added i d).from)) s) so_far.stores ∙ sym (add_more rank added i d first inside);
+      within = λ n l. elim (cases_lt i n) [ inl past ↦ (let e : i + 1 ≡ n = omega (arith, l, past) in let most : stored ranks (add_all rank (take (i + 1) added) first) + others ≤ 2 ^ 24 = omega (arith, next_total, few) in subst (λ (k : ℕ). stored ranks (add_all rank (take k added) first) + others ≤ 2 ^ 24) e most) | inr le ↦ so_far.within n le ];
+    }
+
+    pub added_over : 2 ^ 24 < total → AddsOver ranks rank added first others total
+    added_over heavy = (i + 1, next_total, heavy, λ k l. so_far.within k (omega (arith, l)))
+
+  pub all_added : length added ≤ i → now ≡ add_all rank added first
+  all_added l =
+      so_far.stores ∙ ap (λ (items : List Adding). add_all rank items first) (take_all i added l)
+
+  pub all_within : length added ≤ i → AddsWithin ranks rank added first others
+  all_within l n = elim (cases_lt i n) [ inl past ↦ subst (λ (items : List Adding). stored ranks (add_all rank items first) + others ≤ 2 ^ 24) (take_all i added l ∙ sym (take_all n added (omega (arith, l, past)))) (so_far.within i (omega arith)) | inr le ↦ so_far.within n le ]
