@@ -1,19 +1,23 @@
 -- What follows from the table of causes.
-use Rattle.std.proofs.Common.{◌≡◌, ◌≢◌, ℕ, ◌<◌, ◌⊎◌, Bool, true, false, List, length, Option, Some, None, IfSome, IsSomeAnd, inl, inr, refl, sym, ap, ◌∙◌, arith}
+use Rattle.std.proofs.Common.{◌≡◌, ◌≢◌, ℕ, ◌<◌, ◌⊎◌, Bool, true, false, List, [], length, Option, Some, None, is_some, IfSome, IsSomeAnd, inl, inr, refl, sym, ap, ◌∙◌, subst, arith}
 use Rattle.std.proofs.Math.Seq.{take-length}
 use Rattle.std.specs.FinMap.{insert}
-use Rattle.goal_base.specs.Device.{HostState, SinkState, Files, Later, KeepsFiles, SameFiles, Holds, HoldsPart, Held, Grows, file_of, ReadFaulted, SameReadCounts}
+use Rattle.goal_base.specs.declared.limits.TheConstants.{MAX_INPUT}
+use Rattle.goal_base.specs.Device.{HostState, SinkState, Files, Later, KeepsFiles, KeepsReading, SameFiles, SameRest, ReadsAtMost, Holds, HoldsPart, Held, Grows, file_of, ReadFaulted, IsTooLong, SameReadCounts}
 use Rattle.goal_graph.specs.Schedule.{Plan}
 use Rattle.sim_params.specs.Costs.{Numbers, log_gops}
-use Rattle.goal_words.specs.Words.{Command, Sim, Waits, Compile, Show}
+use Rattle.goal_words.specs.Words.{Command, Sim, Waits, Compile, Show, Gen}
 use Rattle.goal_cli.specs.declared.answer.Answer.{Answer}
 use Rattle.goal_cli.specs.declared.answer.Answer.TheVariants as answer
+use Rattle.goal_cli.specs.declared.answer.Ending.{Ending}
+use Rattle.goal_cli.specs.declared.answer.Ending.TheVariants as ending
 use Rattle.goal_cli.specs.declared.answer.Refusal.{Refusal}
+use Rattle.goal_cli.specs.declared.answer.Refusal.TheVariants as refusal
 use Rattle.goal_cli.specs.declared.answer.Status.{Status}
 use Rattle.goal_cli.specs.declared.answer.Status.TheVariants as status
-use Rattle.goal_cli.specs.Output.{IsOutput, IsRefused, HasRun, HasOutput}
+use Rattle.goal_cli.specs.Output.{input_of, ending_if, IsOutput, MayEnd, IsRefused, HasRun, HasOutput}
 use Rattle.goal_cli.specs.Refusal.{refused_line}
-use Rattle.goal_cli.specs.Answer.{input_of, ForFile, IfFile, ForInput, IfInput, GrowsByPart, ReadsHeld, Gets, GetsPart, Elsewhere, WritesRose, WritesHeld, GetsOutput, GetsPartOfOutput, AnswersWhole, PrintsRun, IsUntouched, IsWritten, IsCutOff, IsCauseOf, IsCauseOfNone, IsCause, line_for, status_of, Answers, AnswersWith, IsSilent, line_at, Says, IsCutShort, IsAnswered}
+use Rattle.goal_cli.specs.Answer.{ForFile, IfFile, ForNamed, IfNamed, ForInput, IfInput, IsGot, GrowsByPart, ReadsHeld, Target, ToOut, ToFile, target_of, Gets, GetsPart, Elsewhere, WritesRose, WritesHeld, WritesSame, InputHeld, GetsOutput, GetsPartOfOutput, AnswersWhole, PrintsRun, IsUntouched, IsWritten, IsCutOff, IsCauseOf, IsCauseOfNone, IsCause, line_for, status_at, status_of, Answers, AnswersWith, IsSilent, line_at, input_in, Says, IsCutShort, IsAnswered, IsTakenOf}
 use Rattle.goal_cli.specs.World.{Devices, devices}
 use Rattle.goal_cli.proofs.InputLemmas.{same_schedule}
 use Rattle.goal_cli.proofs.RefusalLemmas.{same_refusal, no_refusal, output_had}
@@ -33,6 +37,66 @@ pub answered : (old new : SinkState) (s t : Status) (line : List ℕ)
     ⊎ ((s ≡ status.NoMemory) × (IsCutShort old new line ⊎ GrowsByPart old new (line_for answer.NoMemory)))
 answered old new s t line (inl said) = inl said
 answered old new s t line (inr none) = inr (none.0, inl none.1)
+
+-- a name has one file
+same_file : (host : HostState) (name input other : List ℕ) → file_of host name ≡ Some input → file_of host name ≡ Some other → other ≡ input
+same_file host name input other a b = cc
+
+-- what a command gets
+module _ (host : HostState) (P : List ℕ → Type 0) where
+  for_got : (o : Option (List ℕ)) (input : List ℕ) → IsGot host o input → P input → ForNamed host o P
+  for_got None input is p = subst P is p
+  for_got (Some name) input is p = λ told. (input, is told, p)
+
+  if_all : (o : Option (List ℕ)) → ((input : List ℕ) → P input) → IfNamed host o P
+  if_all None p = p []
+  if_all (Some name) p = λ tells input file. p input
+
+  module _ (Q : List ℕ → Type 0) (turn : (input : List ℕ) → P input → Q input) where
+    for_turned : (o : Option (List ℕ)) → ForNamed host o P → ForNamed host o Q
+    for_turned None p = turn [] p
+    for_turned (Some name) p = λ told. let k = p told in (k.0, k.1, turn k.0 k.2)
+
+    if_for : (o : Option (List ℕ)) → ForNamed host o P → IfNamed host o Q
+    if_for None p = turn [] p
+    if_for (Some name) p =
+        λ tells input file.
+        let k = p tells in
+        turn input (subst P (same_file host name input k.0 file k.1) k.2)
+
+-- a file that is too long, as it stands in the table of causes
+long_file : (host : HostState) (o : Option (List ℕ)) → IsSomeAnd o (IsTooLong host)
+    → ForNamed host o (λ input. (is_some o ≡ true) × (MAX_INPUT < length input))
+long_file host None long = absurd long
+long_file host (Some name) long = λ told. let k = long.told told in (k.0, k.1, (refl, k.2))
+
+pub too_long : (host : HostState) (c : Command) → IsSomeAnd (input_of c) (IsTooLong host)
+    → ForNamed host (input_of c) (λ input. IsRefused c input refusal.TooLong)
+too_long host c long = long_file host (input_of c) long
+
+-- a refusal of what was got
+pub refused_of : (host : HostState) (c : Command) (input : List ℕ) (r : Refusal) → IsGot host (input_of c) input → IsRefused c input r
+    → ForNamed host (input_of c) (λ input. IsRefused c input r)
+refused_of host c input r is refused = for_got host (λ (i : List ℕ). IsRefused c i r) (input_of c) input is refused
+
+-- what is taken of an input, where nothing more is asked of it later
+pub taken_still : (o : Option (List ℕ)) (a b d : HostState) → Later a b → IsTakenOf o a b → KeepsReading b d → IsTakenOf o a d
+taken_still None a b d later taken kept = record {
+  rest = record { told = λ t. kept.rest.told (later.tells ∙ t) ∙ taken.rest.told t };
+  reading = kept.reading ∙ taken.reading;
+  counts = record {
+    read_count = kept.counts.read_count ∙ taken.counts.read_count;
+    absent_count = kept.counts.absent_count ∙ taken.counts.absent_count;
+  };
+}
+taken_still (Some name) a b d later (inl same) kept =
+    inl (record { told = λ t. kept.rest.told (later.tells ∙ t) ∙ same.told t })
+taken_still (Some name) a b d later (inr most) kept =
+    inr (record {
+      taken = most.taken;
+      no_more = most.no_more;
+      told = λ t. rw (kept.rest.told (later.tells ∙ t)) (most.told t);
+    })
 
 -- what was written to a host whose files are those of another
 module _ (a b d : HostState) (kept : KeepsFiles a b) (later : Later a b) where
@@ -58,69 +122,80 @@ module _ (a b d : HostState) (kept : KeepsFiles a b) (later : Later a b) where
     write_count = same.write_count ∙ kept.write_count;
   }
 
--- the same of a part of an output, and of where the command doesn't write
-part_from : (a b : HostState) (out : SinkState) (new : Devices) (c : Command) (bytes : List ℕ) → KeepsFiles a b → Later a b
-    → GetsPart (devices b out) new c bytes → GetsPart (devices a out) new c bytes
-part_from a b out new (Sim name numbers) bytes kept later part = part
-part_from a b out new (Waits name numbers) bytes kept later part = part
-part_from a b out new (Compile name file) bytes kept later part = holds_part_from a b new.host kept later file bytes part
-part_from a b out new (Show name) bytes kept later part = part
+-- the same of an output, of a part of it, of where the command doesn't write, and of the counts
+module _ (a b : HostState) (out : SinkState) (new : Devices) (kept : KeepsFiles a b) (later : Later a b) where
+  gets_from : (t : Target) (bytes : List ℕ) → Gets (devices b out) new t bytes → Gets (devices a out) new t bytes
+  gets_from ToOut bytes got = got
+  gets_from (ToFile name) bytes got = holds_from a b new.host kept later name bytes got
 
-elsewhere_from : (a b : HostState) (out : SinkState) (new : Devices) (c : Command) → KeepsFiles a b → Later a b
-    → Elsewhere (devices b out) new c → Elsewhere (devices a out) new c
-elsewhere_from a b out new (Sim name numbers) kept later same = keeps_from a b new.host kept later same
-elsewhere_from a b out new (Waits name numbers) kept later same = keeps_from a b new.host kept later same
-elsewhere_from a b out new (Compile name file) kept later same = same
-elsewhere_from a b out new (Show name) kept later same = keeps_from a b new.host kept later same
+  part_from : (t : Target) (bytes : List ℕ) → GetsPart (devices b out) new t bytes → GetsPart (devices a out) new t bytes
+  part_from ToOut bytes part = part
+  part_from (ToFile name) bytes part = holds_part_from a b new.host kept later name bytes part
 
--- the same of a count of faults that rose
-pub rose_from : (a b : HostState) (out : SinkState) (new : Devices) (c : Command) → KeepsFiles a b → Later a b
-    → WritesRose (devices b out) new c → WritesRose (devices a out) new c
-rose_from a b out new (Sim name numbers) kept later rose = rose
-rose_from a b out new (Waits name numbers) kept later rose = rose
-rose_from a b out new (Compile name file) kept later rose = rw (later.stops, kept.write_count) at rose
-rose_from a b out new (Show name) kept later rose = rose
+  elsewhere_from : (t : Target) → Elsewhere (devices b out) new t → Elsewhere (devices a out) new t
+  elsewhere_from ToOut same = keeps_from a b new.host kept later same
+  elsewhere_from (ToFile name) same = same
 
--- what is so after an output was cut off, of an input that was read before
-pub cut_off_from : (a b : HostState) (out : SinkState) (new : Devices) (c : Command) (input output : List ℕ) (stuck : Bool)
-    → (a.tells ≡ true → file_of a (input_of c) ≡ Some input) → SameReadCounts a b → KeepsFiles a b → Later a b
-    → IsOutput c input output stuck → GetsPart (devices b out) new c output → SameReadCounts b new.host
-    → Elsewhere (devices b out) new c → IsCutOff (devices a out) new c
-cut_off_from a b out new c input output stuck read counts kept later is part reads elsewhere = record {
-  output = λ told. (input, read told, (output, (stuck, is), part_from a b out new c output kept later part));
-  reads = record {
-    read_count = reads.read_count ∙ counts.read_count;
-    absent_count = reads.absent_count ∙ counts.absent_count;
-  };
-  elsewhere = elsewhere_from a b out new c kept later elsewhere;
-}
+  same_count_from : (t : Target) → WritesSame (devices b out) new t → WritesSame (devices a out) new t
+  same_count_from ToOut same = same
+  same_count_from (ToFile name) same = (same.0 ∙ kept.write_count, same.1)
 
--- a name has one file
-same_file : (host : HostState) (name input other : List ℕ) → file_of host name ≡ Some input → file_of host name ≡ Some other → other ≡ input
-same_file host name input other a b = cc
+  pub rose_from : (t : Target) → WritesRose (devices b out) new t → WritesRose (devices a out) new t
+  rose_from ToOut rose = rose
+  rose_from (ToFile name) rose = rw (later.stops, kept.write_count) at rose
+
+  reads_from : SameReadCounts a b → SameReadCounts b new.host → SameReadCounts a new.host
+  reads_from first then = record {
+    read_count = then.read_count ∙ first.read_count;
+    absent_count = then.absent_count ∙ first.absent_count;
+  }
+
+  -- what is so after an output was written whole, of an input that was read before
+  pub written_from : (c : Command) (input output : List ℕ) (e : Ending) → IsGot a (input_of c) input → SameReadCounts a b
+      → IsOutput c input output e → MayEnd c e → Gets (devices b out) new (target_of c) output
+      → WritesSame (devices b out) new (target_of c) → SameReadCounts b new.host → Elsewhere (devices b out) new (target_of c)
+      → IsWritten (devices a out) new e c
+  written_from c input output e got counts is ends all same reads elsewhere = record {
+    output =
+        for_got a (GetsOutput (devices a out) new e c) (input_of c) input got
+        (output, is, gets_from (target_of c) output all);
+    ends = ends;
+    reads = reads_from counts reads;
+    writes = same_count_from (target_of c) same;
+    elsewhere = elsewhere_from (target_of c) elsewhere;
+  }
+
+  -- what is so after it was cut off
+  pub cut_off_from : (c : Command) (input output : List ℕ) (e : Ending) → IsGot a (input_of c) input → SameReadCounts a b
+      → IsOutput c input output e → GetsPart (devices b out) new (target_of c) output → SameReadCounts b new.host
+      → Elsewhere (devices b out) new (target_of c) → IsCutOff (devices a out) new c
+  cut_off_from c input output e got counts is part reads elsewhere = record {
+    output =
+        for_got a (GetsPartOfOutput (devices a out) new c) (input_of c) input got
+        (output, (e, is), part_from (target_of c) output part);
+    reads = reads_from counts reads;
+    elsewhere = elsewhere_from (target_of c) elsewhere;
+  }
 
 module _ (old new : Devices) where
   -- what was written whole was written in part
-  whole_is_part : (c : Command) (bytes : List ℕ) → Gets old new c bytes → GetsPart old new c bytes
-  whole_is_part (Sim name numbers) bytes got = all_is_part old.out new.out bytes got
-  whole_is_part (Waits name numbers) bytes got = all_is_part old.out new.out bytes got
-  whole_is_part (Compile name file) bytes got = inr (length bytes, omega arith, rw (take-length bytes) got)
-  whole_is_part (Show name) bytes got = all_is_part old.out new.out bytes got
+  whole_is_part : (t : Target) (bytes : List ℕ) → Gets old new t bytes → GetsPart old new t bytes
+  whole_is_part ToOut bytes got = all_is_part old.out new.out bytes got
+  whole_is_part (ToFile name) bytes got = inr (length bytes, omega arith, rw (take-length bytes) got)
 
-  part_of_output : (stuck : Bool) (c : Command) → ForFile old.host (input_of c) (GetsOutput old new stuck c)
-      → ForFile old.host (input_of c) (GetsPartOfOutput old new c)
-  part_of_output stuck c got =
-      λ told.
-      let g = got told in
-      (g.0, g.1, (g.2.0, (stuck, g.2.1), whole_is_part c g.2.0 g.2.2))
+  part_of : (e : Ending) (c : Command) (input : List ℕ) → GetsOutput old new e c input → GetsPartOfOutput old new c input
+  part_of e c input got = (got.0, (e, got.1), whole_is_part (target_of c) got.0 got.2)
 
-  cut_off : (stuck : Bool) (c : Command) → IsWritten old new stuck c → IsCutOff old new c
-  cut_off stuck c w = record { output = part_of_output stuck c w.output; reads = w.reads; elsewhere = w.elsewhere }
+  cut_off : (e : Ending) (c : Command) → IsWritten old new e c → IsCutOff old new c
+  cut_off e c w = record {
+    output = for_turned old.host (GetsOutput old new e c) (GetsPartOfOutput old new c) (part_of e c) (input_of c) w.output;
+    reads = w.reads;
+    elsewhere = w.elsewhere;
+  }
 
   -- whatever the answer, nothing was written or a part of the output
   any_of : (c : Command) (a : Answer) → IsCauseOf old new c a → IsCauseOf old new c answer.NoMemory
-  any_of c answer.Done cause = inr (cut_off false c cause)
-  any_of c answer.Stuck cause = inr (cut_off true c cause)
+  any_of c (answer.Written e) cause = inr (cut_off e c cause)
   any_of c answer.BadLine cause = absurd cause
   any_of c (answer.Refused r) cause = inl cause.2
   any_of c answer.ReadFault cause = inl cause.1
@@ -130,8 +205,7 @@ module _ (old new : Devices) where
   any_of_none : (a : Answer) → IsCauseOfNone old new a → IsCauseOfNone old new answer.NoMemory
   any_of_none answer.BadLine cause = cause
   any_of_none answer.NoMemory cause = cause
-  any_of_none answer.Done cause = absurd cause
-  any_of_none answer.Stuck cause = absurd cause
+  any_of_none (answer.Written e) cause = absurd cause
   any_of_none (answer.Refused r) cause = absurd cause
   any_of_none answer.ReadFault cause = absurd cause
   any_of_none answer.WriteFault cause = absurd cause
@@ -141,7 +215,7 @@ module _ (old new : Devices) where
   any (Some c) a cause = any_of c a cause
 
   no_memory_part : (c : Command) → IsCauseOf old new c answer.NoMemory
-      → IsUntouched old new ⊎ ForFile old.host (input_of c) (GetsPartOfOutput old new c)
+      → IsUntouched old new ⊎ ForNamed old.host (input_of c) (GetsPartOfOutput old new c)
   no_memory_part c (inl untouched) = inl untouched
   no_memory_part c (inr cut) = inr cut.output
 
@@ -150,19 +224,17 @@ module _ (old new : Devices) where
   part_or_none None a cause = inl (any_of_none a cause).1
   part_or_none (Some c) a cause = no_memory_part c (any_of c a cause)
 
-  elsewhere_untouched : (c : Command) → IsUntouched old new → Elsewhere old new c
-  elsewhere_untouched (Sim name numbers) u = u.files
-  elsewhere_untouched (Waits name numbers) u = u.files
-  elsewhere_untouched (Compile name file) u = u.sink
-  elsewhere_untouched (Show name) u = u.files
+  elsewhere_untouched : (t : Target) → IsUntouched old new → Elsewhere old new t
+  elsewhere_untouched ToOut u = u.files
+  elsewhere_untouched (ToFile name) u = u.sink
 
-  no_memory_elsewhere : (c : Command) → IsCauseOf old new c answer.NoMemory → Elsewhere old new c
-  no_memory_elsewhere c (inl untouched) = elsewhere_untouched c untouched
+  no_memory_elsewhere : (c : Command) → IsCauseOf old new c answer.NoMemory → Elsewhere old new (target_of c)
+  no_memory_elsewhere c (inl untouched) = elsewhere_untouched (target_of c) untouched
   no_memory_elsewhere c (inr cut) = cut.elsewhere
 
   -- where the command doesn't write, all is as it was
   pub kept_elsewhere : (command : Option Command) (a : Answer) → IsCause old new command a
-      → IfSome command (Elsewhere old new)
+      → IfSome command (λ c. Elsewhere old new (target_of c))
   kept_elsewhere None a cause = tt
   kept_elsewhere (Some c) a cause = no_memory_elsewhere c (any_of c a cause)
 
@@ -173,8 +245,8 @@ module _ (old new : Devices) where
       → (b : Answer) × IsCause old new command b × GrowsByPart err err' (line_for b)
   part_said command err err' a s cause (inr (e, inl part)) none = (a, cause, part.0)
   part_said command err err' a s cause (inr (e, inr part)) none = (answer.NoMemory, any command a cause, part)
-  part_said command err err' answer.Done s cause (inl (e, told)) none = cc
-  part_said command err err' answer.Stuck s cause (inl (e, told)) none = cc
+  part_said command err err' (answer.Written ending.Done) s cause (inl (e, told)) none = cc
+  part_said command err err' (answer.Written ending.Stuck) s cause (inl (e, told)) none = cc
   part_said command err err' answer.BadLine s cause (inl (e, told)) none = cc
   part_said command err err' (answer.Refused r) s cause (inl (e, told)) none = cc
   part_said command err err' answer.ReadFault s cause (inl (e, told)) none = cc
@@ -182,80 +254,88 @@ module _ (old new : Devices) where
   part_said command err err' answer.NoMemory s cause (inl (e, told)) none = (answer.NoMemory, cause, told)
 
   -- what was written, or a part of it, is not refused
-  not_refused : (c : Command) (input : List ℕ) (r : Refusal) → old.host.tells ≡ true → file_of old.host (input_of c) ≡ Some input
-      → IsRefused c input r → ForFile old.host (input_of c) (GetsPartOfOutput old new c) → ⊥
-  not_refused c input r told file refused got =
-      let g = got told in
-      let had = output_had c g.0 g.2.0 g.2.1.0 g.2.1.1 in
-      no_refusal c g.0 had.0 r had.1 (rw (sym (same_file old.host (input_of c) input g.0 file g.1)) at refused)
+  not_refused : (c : Command) (input : List ℕ) (r : Refusal) → IsRefused c input r → GetsPartOfOutput old new c input → ⊥
+  not_refused c input r refused got =
+      let had = output_had c input got.0 got.1.0 got.1.1 in
+      no_refusal c input had.0 r had.1 refused
 
   held_reads : (name input : List ℕ) → old.host.tells ≡ true → file_of old.host name ≡ Some input → ReadsHeld old.host new.host → ReadFaulted old.host new.host name → ⊥
   held_reads name input told file held (inl rose) = omega arith
   held_reads name input told file held (inr absent) = let none = absent.1 told in cc
 
-  held_writes : (c : Command) → WritesHeld old new c → WritesRose old new c → ⊥
-  held_writes (Sim name numbers) held rose = omega arith
-  held_writes (Waits name numbers) held rose = omega arith
-  held_writes (Compile name file) held rose = omega arith
-  held_writes (Show name) held rose = omega arith
+  -- a fault of reading, where the input is there
+  read_faulted : (P : List ℕ → Type 0) (o : Option (List ℕ)) → IsSomeAnd o (ReadFaulted old.host new.host)
+      → ((input : List ℕ) → (IfSome o (λ name. ReadsHeld old.host new.host) → ⊥) → P input) → IfNamed old.host o P
+  read_faulted P None faulted f = absurd faulted
+  read_faulted P (Some name) faulted f =
+      λ tells input file. f input (λ held. held_reads name input tells file held faulted)
+
+  held_writes : (t : Target) → WritesHeld old new t → WritesRose old new t → ⊥
+  held_writes ToOut held rose = omega arith
+  held_writes (ToFile name) held rose = omega arith
 
   -- an input that is refused gets its refusal's line
+  abbrev RefusedAs : Command → SinkState → SinkState → Status → List ℕ → Type 0
+  RefusedAs c err err' s input =
+      (r : Refusal) → IsRefused c input r → InputHeld old new c → AnswersWith s status.Refused (Says err err' (refused_line r))
+
   refused_by : (c : Command) (err err' : SinkState) (a : Answer) (s : Status) → IsCauseOf old new c a → IsAnswered err err' a s
-      → IfFile old.host (input_of c)
-      (λ input. (r : Refusal) → IsRefused c input r → ReadsHeld old.host new.host → AnswersWith s status.Refused (Says err err' (refused_line r)))
-  refused_by c err err' a s cause (inr (e, part)) = λ tells input file r refused held. inr e
-  refused_by c err err' answer.Done s cause (inl (e, told)) =
-      λ tells input file r refused held. absurd (not_refused c input r tells file refused (part_of_output false c cause.output))
-  refused_by c err err' answer.Stuck s cause (inl (e, told)) =
-      λ tells input file r refused held. absurd (not_refused c input r tells file refused (part_of_output true c cause.output))
+      → IfNamed old.host (input_of c) (RefusedAs c err err' s)
+  refused_by c err err' a s cause (inr (e, part)) =
+      if_all old.host (RefusedAs c err err' s) (input_of c) (λ input r refused held. inr e)
+  refused_by c err err' (answer.Written ends) s cause (inl (e, told)) =
+      if_for old.host (GetsOutput old new ends c) (RefusedAs c err err' s)
+      (λ input got r refused held. absurd (not_refused c input r refused (part_of ends c input got)))
+      (input_of c) cause.output
   refused_by c err err' answer.BadLine s cause (inl (e, told)) = absurd cause
   refused_by c err err' (answer.Refused q) s cause (inl (e, told)) =
-      λ tells input file r refused held.
-      let k = cause.0 tells in
-      let same = same_refusal c input r q refused (rw (same_file old.host (input_of c) input k.0 file k.1) at k.2) in
-      inl (e, rw same told)
+      if_for old.host (λ (i : List ℕ). IsRefused c i q) (RefusedAs c err err' s)
+      (λ input is r refused held. let same = same_refusal c input r q refused is in inl (e, rw same told))
+      (input_of c) cause.0
   refused_by c err err' answer.ReadFault s cause (inl (e, told)) =
-      λ tells input file r refused held. absurd (held_reads (input_of c) input tells file held cause.0)
+      read_faulted (RefusedAs c err err' s) (input_of c) cause.0 (λ input no r refused held. absurd (no held))
   refused_by c err err' answer.WriteFault s cause (inl (e, told)) =
-      λ tells input file r refused held. absurd (not_refused c input r tells file refused cause.0.output)
-  refused_by c err err' answer.NoMemory s cause (inl (e, told)) = λ tells input file r refused held. inr e
+      if_for old.host (GetsPartOfOutput old new c) (RefusedAs c err err' s)
+      (λ input got r refused held. absurd (not_refused c input r refused got))
+      (input_of c) cause.0.output
+  refused_by c err err' answer.NoMemory s cause (inl (e, told)) =
+      if_all old.host (RefusedAs c err err' s) (input_of c) (λ input r refused held. inr e)
 
   pub refused_as : (command : Option Command) (err err' : SinkState) (a : Answer) (s : Status) → IsCause old new command a
       → IsAnswered err err' a s
       → IfInput command old.host
-      (λ c input. (r : Refusal) → IsRefused c input r → ReadsHeld old.host new.host → AnswersWith s status.Refused (Says err err' (refused_line r)))
+      (λ c input. (r : Refusal) → IsRefused c input r → InputHeld old new c → AnswersWith s status.Refused (Says err err' (refused_line r)))
   refused_as None err err' a s cause told = tt
   refused_as (Some c) err err' a s cause told = refused_by c err err' a s cause told
 
   -- an input of which the command makes something has it written whole
+  abbrev WrittenAs : Command → Status → List ℕ → Type 0
+  WrittenAs c s input =
+      (sched : List Plan) → HasOutput c input sched → InputHeld old new c → WritesHeld old new (target_of c) → AnswersWhole old new s c input
+
   written_by : (c : Command) (err err' : SinkState) (a : Answer) (s : Status) → IsCauseOf old new c a → IsAnswered err err' a s
-      → IfFile old.host (input_of c)
-      (λ input. (sched : List Plan) → HasOutput c input sched → ReadsHeld old.host new.host → WritesHeld old new c
-      → AnswersWhole old new s c input)
-  written_by c err err' a s cause (inr (e, part)) = λ tells input file sched has reads writes. inr e
-  written_by c err err' answer.Done s cause (inl (e, told)) =
-      λ tells input file sched has reads writes.
-      let k = cause.output tells in
-      inl (false, e, rw (same_file old.host (input_of c) input k.0 file k.1) at k.2)
-  written_by c err err' answer.Stuck s cause (inl (e, told)) =
-      λ tells input file sched has reads writes.
-      let k = cause.output tells in
-      inl (true, e, rw (same_file old.host (input_of c) input k.0 file k.1) at k.2)
+      → IfNamed old.host (input_of c) (WrittenAs c s)
+  written_by c err err' a s cause (inr (e, part)) =
+      if_all old.host (WrittenAs c s) (input_of c) (λ input sched has reads writes. inr e)
+  written_by c err err' (answer.Written ends) s cause (inl (e, told)) =
+      if_for old.host (GetsOutput old new ends c) (WrittenAs c s)
+      (λ input got sched has reads writes. inl (ends, e, got)) (input_of c) cause.output
   written_by c err err' answer.BadLine s cause (inl (e, told)) = absurd cause
   written_by c err err' (answer.Refused q) s cause (inl (e, told)) =
-      λ tells input file sched has reads writes.
-      let k = cause.0 tells in
-      absurd (no_refusal c input sched q has (rw (same_file old.host (input_of c) input k.0 file k.1) at k.2))
+      if_for old.host (λ (i : List ℕ). IsRefused c i q) (WrittenAs c s)
+      (λ input is sched has reads writes. absurd (no_refusal c input sched q has is)) (input_of c) cause.0
   written_by c err err' answer.ReadFault s cause (inl (e, told)) =
-      λ tells input file sched has reads writes. absurd (held_reads (input_of c) input tells file reads cause.0)
+      read_faulted (WrittenAs c s) (input_of c) cause.0 (λ input no sched has reads writes. absurd (no reads))
   written_by c err err' answer.WriteFault s cause (inl (e, told)) =
-      λ tells input file sched has reads writes. absurd (held_writes c writes cause.1)
-  written_by c err err' answer.NoMemory s cause (inl (e, told)) = λ tells input file sched has reads writes. inr e
+      if_all old.host (WrittenAs c s) (input_of c)
+      (λ input sched has reads writes. absurd (held_writes (target_of c) writes cause.1))
+  written_by c err err' answer.NoMemory s cause (inl (e, told)) =
+      if_all old.host (WrittenAs c s) (input_of c) (λ input sched has reads writes. inr e)
 
   pub written_whole : (command : Option Command) (err err' : SinkState) (a : Answer) (s : Status) → IsCause old new command a
       → IsAnswered err err' a s
       → IfInput command old.host
-      (λ c input. (sched : List Plan) → HasOutput c input sched → ReadsHeld old.host new.host → WritesHeld old new c
+      (λ c input. (sched : List Plan) → HasOutput c input sched → InputHeld old new c → WritesHeld old new (target_of c)
       → AnswersWhole old new s c input)
   written_whole None err err' a s cause told = tt
   written_whole (Some c) err err' a s cause told = written_by c err err' a s cause told
@@ -264,8 +344,8 @@ module _ (old new : Devices) where
   printed_run : (p : Numbers) (name input : List ℕ) (sched : List Plan) (s : Status) → HasRun p input sched
       → AnswersWhole old new s (Sim name p) input → PrintsRun s old.out new.out (log_gops p) sched
   printed_run p name input sched s has (inr e) = inr e
-  printed_run p name input sched s has (inl (stuck, e, (output, simulated, got))) =
-      inl (output, (stuck, rw (same_schedule input _ _ simulated.schedule.read has.read) at simulated.run, e), got)
+  printed_run p name input sched s has (inl (ends, e, (output, simulated, got))) =
+      inl (output, (simulated.stuck, rw (same_schedule input _ _ simulated.schedule.read has.read) at simulated.run, e ∙ ap status_at simulated.ends), got)
 
   pub run_printed : (command : Option Command) (err err' : SinkState) (a : Answer) (s : Status) → IsCause old new command a
       → IsAnswered err err' a s
@@ -281,8 +361,7 @@ module _ (old new : Devices) where
   -- the counts of reading rose at a fault of reading alone, those of writing at a fault of writing, but for want of memory
   reads_kept_by : (c : Command) (a : Answer) → IsCauseOf old new c a
       → SameReadCounts old.host new.host ⊎ (a ≡ answer.ReadFault) ⊎ (a ≡ answer.NoMemory)
-  reads_kept_by c answer.Done cause = inl cause.reads
-  reads_kept_by c answer.Stuck cause = inl cause.reads
+  reads_kept_by c (answer.Written e) cause = inl cause.reads
   reads_kept_by c answer.BadLine cause = absurd cause
   reads_kept_by c (answer.Refused r) cause = inl cause.1
   reads_kept_by c answer.ReadFault cause = inr (inl refl)
@@ -302,16 +381,13 @@ module _ (old new : Devices) where
   same_counts : IsUntouched old new → SameWriteCounts
   same_counts u = record { sink = ap (λ (s : SinkState). s.count) u.sink; files = u.files.write_count }
 
-  written_counts : (stuck : Bool) (c : Command) → IsWritten old new stuck c → SameWriteCounts
-  written_counts stuck (Sim name numbers) w = record { sink = w.writes; files = w.elsewhere.write_count }
-  written_counts stuck (Waits name numbers) w = record { sink = w.writes; files = w.elsewhere.write_count }
-  written_counts stuck (Compile name file) w = record { sink = ap (λ (s : SinkState). s.count) w.elsewhere; files = w.writes.0 }
-  written_counts stuck (Show name) w = record { sink = w.writes; files = w.elsewhere.write_count }
+  written_counts : (t : Target) → WritesSame old new t → Elsewhere old new t → SameWriteCounts
+  written_counts ToOut same elsewhere = record { sink = same; files = elsewhere.write_count }
+  written_counts (ToFile name) same elsewhere = record { sink = ap (λ (s : SinkState). s.count) elsewhere; files = same.0 }
 
   writes_kept_by : (c : Command) (a : Answer) → IsCauseOf old new c a
       → SameWriteCounts ⊎ (a ≡ answer.WriteFault) ⊎ (a ≡ answer.NoMemory)
-  writes_kept_by c answer.Done cause = inl (written_counts false c cause)
-  writes_kept_by c answer.Stuck cause = inl (written_counts true c cause)
+  writes_kept_by c (answer.Written e) cause = inl (written_counts (target_of c) cause.writes cause.elsewhere)
   writes_kept_by c answer.BadLine cause = absurd cause
   writes_kept_by c (answer.Refused r) cause = inl (same_counts cause.2)
   writes_kept_by c answer.ReadFault cause = inl (same_counts cause.1)
@@ -360,30 +436,43 @@ module _ (old new : Devices) where
       unless_same_writes err err' a s told (λ same. let h = same.files in omega arith) (writes_kept command a cause)
 
   -- a name that is absent is a fault of reading
-  absent_by : (c : Command) (a : Answer) → IsCauseOf old new c a → old.host.tells ≡ true → file_of old.host (input_of c) ≡ None
-      → (a ≡ answer.ReadFault) ⊎ (a ≡ answer.NoMemory)
-  absent_by c answer.Done cause tells none = let k = (cause.output tells).1 in cc
-  absent_by c answer.Stuck cause tells none = let k = (cause.output tells).1 in cc
-  absent_by c answer.BadLine cause tells none = absurd cause
-  absent_by c (answer.Refused r) cause tells none = let k = (cause.0 tells).1 in cc
-  absent_by c answer.ReadFault cause tells none = inl refl
-  absent_by c answer.WriteFault cause tells none = let k = (cause.0.output tells).1 in cc
-  absent_by c answer.NoMemory cause tells none = inr refl
+  no_file : (P : List ℕ → Type 0) (o : Option (List ℕ)) (name : List ℕ) → o ≡ Some name → old.host.tells ≡ true
+      → file_of old.host name ≡ None → ForNamed old.host o P → ⊥
+  no_file P None name is tells none got = cc
+  no_file P (Some n) name is tells none got = let k = (got tells).1 in cc
+
+  absent_by : (c : Command) (name : List ℕ) (a : Answer) → input_of c ≡ Some name → IsCauseOf old new c a → old.host.tells ≡ true
+      → file_of old.host name ≡ None → (a ≡ answer.ReadFault) ⊎ (a ≡ answer.NoMemory)
+  absent_by c name (answer.Written e) is cause tells none =
+      absurd (no_file (GetsOutput old new e c) (input_of c) name is tells none cause.output)
+  absent_by c name answer.BadLine is cause tells none = absurd cause
+  absent_by c name (answer.Refused r) is cause tells none =
+      absurd (no_file (λ (i : List ℕ). IsRefused c i r) (input_of c) name is tells none cause.0)
+  absent_by c name answer.ReadFault is cause tells none = inl refl
+  absent_by c name answer.WriteFault is cause tells none =
+      absurd (no_file (GetsPartOfOutput old new c) (input_of c) name is tells none cause.0.output)
+  absent_by c name answer.NoMemory is cause tells none = inr refl
+
+  absent_of : (c : Command) (o : Option (List ℕ)) (err err' : SinkState) (a : Answer) (s : Status) → input_of c ≡ o
+      → IsCauseOf old new c a → IsAnswered err err' a s
+      → IfSome o (λ name. old.host.tells ≡ true → file_of old.host name ≡ None → Answers s status.ReadFault)
+  absent_of c None err err' a s is cause told = tt
+  absent_of c (Some name) err err' a s is cause told =
+      λ tells none. at_status err err' a answer.ReadFault s told (absent_by c name a is cause tells none)
 
   pub absent_named : (command : Option Command) (err err' : SinkState) (a : Answer) (s : Status) → IsCause old new command a
       → IsAnswered err err' a s
-      → IfSome command (λ c. old.host.tells ≡ true → file_of old.host (input_of c) ≡ None → Answers s status.ReadFault)
+      → IfSome (input_in command) (λ name. old.host.tells ≡ true → file_of old.host name ≡ None → Answers s status.ReadFault)
   absent_named None err err' a s cause told = tt
-  absent_named (Some c) err err' a s cause told =
-      λ tells none. at_status err err' a answer.ReadFault s told (absent_by c a cause tells none)
+  absent_named (Some c) err err' a s cause told = absent_of c (input_of c) err err' a s refl cause told
 
   -- the refusal that was told
   pub told_refusal : (command : Option Command) (err err' : SinkState) (a : Answer) (s : Status) → IsCause old new command a
       → IsAnswered err err' a s → s ≡ status.Refused
       → (r : Refusal) × ForInput command old.host (λ c input. IsRefused c input r) × Says err err' (refused_line r)
   told_refusal command err err' a s cause (inr (e, part)) is = cc
-  told_refusal command err err' answer.Done s cause (inl (e, told)) is = cc
-  told_refusal command err err' answer.Stuck s cause (inl (e, told)) is = cc
+  told_refusal command err err' (answer.Written ending.Done) s cause (inl (e, told)) is = cc
+  told_refusal command err err' (answer.Written ending.Stuck) s cause (inl (e, told)) is = cc
   told_refusal command err err' answer.BadLine s cause (inl (e, told)) is = cc
   told_refusal None err err' (answer.Refused r) s cause (inl (e, told)) is = absurd cause
   told_refusal (Some c) err err' (answer.Refused r) s cause (inl (e, told)) is = (r, cause.0, told)
@@ -395,10 +484,10 @@ module _ (old new : Devices) where
   pub cut_off_told : (command : Option Command) (err err' : SinkState) (a : Answer) (s : Status) → IsCause old new command a
       → IsAnswered err err' a s → s ≡ status.WriteFault
       → IsSomeAnd command
-      (λ c. WritesRose old new c × ForFile old.host (input_of c) (GetsPartOfOutput old new c))
+      (λ c. WritesRose old new (target_of c) × ForNamed old.host (input_of c) (GetsPartOfOutput old new c))
   cut_off_told command err err' a s cause (inr (e, part)) is = cc
-  cut_off_told command err err' answer.Done s cause (inl (e, told)) is = cc
-  cut_off_told command err err' answer.Stuck s cause (inl (e, told)) is = cc
+  cut_off_told command err err' (answer.Written ending.Done) s cause (inl (e, told)) is = cc
+  cut_off_told command err err' (answer.Written ending.Stuck) s cause (inl (e, told)) is = cc
   cut_off_told command err err' answer.BadLine s cause (inl (e, told)) is = cc
   cut_off_told command err err' (answer.Refused r) s cause (inl (e, told)) is = cc
   cut_off_told command err err' answer.ReadFault s cause (inl (e, told)) is = cc
@@ -419,8 +508,8 @@ module _ (old new : Devices) where
   not_silent t b r f (inr (inr e)) = f e
 
   untouched_by : (c : Command) (a : Answer) → IsCauseOf old new c a → IsSilent (status_of a) → IsUntouched old new
-  untouched_by c answer.Done cause silent = absurd (not_silent status.Done (λ e. cc) (λ e. cc) (λ e. cc) silent)
-  untouched_by c answer.Stuck cause silent = absurd (not_silent status.Stuck (λ e. cc) (λ e. cc) (λ e. cc) silent)
+  untouched_by c (answer.Written ending.Done) cause silent = absurd (not_silent status.Done (λ e. cc) (λ e. cc) (λ e. cc) silent)
+  untouched_by c (answer.Written ending.Stuck) cause silent = absurd (not_silent status.Stuck (λ e. cc) (λ e. cc) (λ e. cc) silent)
   untouched_by c answer.BadLine cause silent = absurd cause
   untouched_by c (answer.Refused r) cause silent = cause.2
   untouched_by c answer.ReadFault cause silent = cause.1
@@ -438,8 +527,8 @@ module _ (old new : Devices) where
   pub no_line : (command : Option Command) (err err' : SinkState) (a : Answer) (s : Status) → IsCause old new command a
       → IsAnswered err err' a s → s ≡ status.BadLine → command ≡ None
   no_line command err err' a s cause (inr (e, part)) is = cc
-  no_line command err err' answer.Done s cause (inl (e, told)) is = cc
-  no_line command err err' answer.Stuck s cause (inl (e, told)) is = cc
+  no_line command err err' (answer.Written ending.Done) s cause (inl (e, told)) is = cc
+  no_line command err err' (answer.Written ending.Stuck) s cause (inl (e, told)) is = cc
   no_line None err err' answer.BadLine s cause (inl (e, told)) is = refl
   no_line (Some c) err err' answer.BadLine s cause (inl (e, told)) is = absurd cause
   no_line command err err' (answer.Refused r) s cause (inl (e, told)) is = cc
@@ -452,8 +541,8 @@ module _ (old new : Devices) where
   no_line_told err err' a s cause (inr (e, part)) = inr e
   no_line_told err err' answer.BadLine s cause (inl (e, told)) = inl e
   no_line_told err err' answer.NoMemory s cause (inl (e, told)) = inr e
-  no_line_told err err' answer.Done s cause (inl (e, told)) = absurd cause
-  no_line_told err err' answer.Stuck s cause (inl (e, told)) = absurd cause
+  no_line_told err err' (answer.Written ending.Done) s cause (inl (e, told)) = absurd cause
+  no_line_told err err' (answer.Written ending.Stuck) s cause (inl (e, told)) = absurd cause
   no_line_told err err' (answer.Refused r) s cause (inl (e, told)) = absurd cause
   no_line_told err err' answer.ReadFault s cause (inl (e, told)) = absurd cause
   no_line_told err err' answer.WriteFault s cause (inl (e, told)) = absurd cause
@@ -461,10 +550,10 @@ module _ (old new : Devices) where
   -- the input was not read
   pub read_fault : (command : Option Command) (err err' : SinkState) (a : Answer) (s : Status) → IsCause old new command a
       → IsAnswered err err' a s → s ≡ status.ReadFault
-      → IsSomeAnd command (λ c. ReadFaulted old.host new.host (input_of c))
+      → IsSomeAnd (input_in command) (ReadFaulted old.host new.host)
   read_fault command err err' a s cause (inr (e, part)) is = cc
-  read_fault command err err' answer.Done s cause (inl (e, told)) is = cc
-  read_fault command err err' answer.Stuck s cause (inl (e, told)) is = cc
+  read_fault command err err' (answer.Written ending.Done) s cause (inl (e, told)) is = cc
+  read_fault command err err' (answer.Written ending.Stuck) s cause (inl (e, told)) is = cc
   read_fault command err err' answer.BadLine s cause (inl (e, told)) is = cc
   read_fault command err err' (answer.Refused r) s cause (inl (e, told)) is = cc
   read_fault None err err' answer.ReadFault s cause (inl (e, told)) is = absurd cause
@@ -475,11 +564,11 @@ module _ (old new : Devices) where
   -- the output was written whole
   pub done : (command : Option Command) (err err' : SinkState) (a : Answer) (s : Status) → IsCause old new command a
       → IsAnswered err err' a s → s ≡ status.Done
-      → IsSomeAnd command (IsWritten old new false)
+      → IsSomeAnd command (IsWritten old new ending.Done)
   done command err err' a s cause (inr (e, part)) is = cc
-  done None err err' answer.Done s cause (inl (e, told)) is = absurd cause
-  done (Some c) err err' answer.Done s cause (inl (e, told)) is = cause
-  done command err err' answer.Stuck s cause (inl (e, told)) is = cc
+  done None err err' (answer.Written ending.Done) s cause (inl (e, told)) is = absurd cause
+  done (Some c) err err' (answer.Written ending.Done) s cause (inl (e, told)) is = cause
+  done command err err' (answer.Written ending.Stuck) s cause (inl (e, told)) is = cc
   done command err err' answer.BadLine s cause (inl (e, told)) is = cc
   done command err err' (answer.Refused r) s cause (inl (e, told)) is = cc
   done command err err' answer.ReadFault s cause (inl (e, told)) is = cc
@@ -489,11 +578,11 @@ module _ (old new : Devices) where
   -- the output was written whole
   pub stuck : (command : Option Command) (err err' : SinkState) (a : Answer) (s : Status) → IsCause old new command a
       → IsAnswered err err' a s → s ≡ status.Stuck
-      → IsSomeAnd command (IsWritten old new true)
+      → IsSomeAnd command (IsWritten old new ending.Stuck)
   stuck command err err' a s cause (inr (e, part)) is = cc
-  stuck command err err' answer.Done s cause (inl (e, told)) is = cc
-  stuck None err err' answer.Stuck s cause (inl (e, told)) is = absurd cause
-  stuck (Some c) err err' answer.Stuck s cause (inl (e, told)) is = cause
+  stuck command err err' (answer.Written ending.Done) s cause (inl (e, told)) is = cc
+  stuck None err err' (answer.Written ending.Stuck) s cause (inl (e, told)) is = absurd cause
+  stuck (Some c) err err' (answer.Written ending.Stuck) s cause (inl (e, told)) is = cause
   stuck command err err' answer.BadLine s cause (inl (e, told)) is = cc
   stuck command err err' (answer.Refused r) s cause (inl (e, told)) is = cc
   stuck command err err' answer.ReadFault s cause (inl (e, told)) is = cc
@@ -503,8 +592,8 @@ module _ (old new : Devices) where
   -- no command certifies
   pub certifies_none : (err err' : SinkState) (a : Answer) (s : Status) → IsAnswered err err' a s → s ≢ status.NotCertified
   certifies_none err err' a s (inr (e, part)) = λ is. cc
-  certifies_none err err' answer.Done s (inl (e, told)) = λ is. cc
-  certifies_none err err' answer.Stuck s (inl (e, told)) = λ is. cc
+  certifies_none err err' (answer.Written ending.Done) s (inl (e, told)) = λ is. cc
+  certifies_none err err' (answer.Written ending.Stuck) s (inl (e, told)) = λ is. cc
   certifies_none err err' answer.BadLine s (inl (e, told)) = λ is. cc
   certifies_none err err' (answer.Refused r) s (inl (e, told)) = λ is. cc
   certifies_none err err' answer.ReadFault s (inl (e, told)) = λ is. cc
@@ -515,8 +604,8 @@ module _ (old new : Devices) where
 pub line_said : (err err' : SinkState) (a : Answer) (s : Status) → IsAnswered err err' a s
     → IfSome (line_at s) (λ line. Says err err' line)
 line_said err err' a s (inr (e, part)) = rw e tt
-line_said err err' answer.Done s (inl (e, told)) = rw e tt
-line_said err err' answer.Stuck s (inl (e, told)) = rw e tt
+line_said err err' (answer.Written ending.Done) s (inl (e, told)) = rw e tt
+line_said err err' (answer.Written ending.Stuck) s (inl (e, told)) = rw e tt
 line_said err err' answer.BadLine s (inl (e, told)) = rw e told
 line_said err err' (answer.Refused r) s (inl (e, told)) = rw e tt
 line_said err err' answer.ReadFault s (inl (e, told)) = rw e told
@@ -524,12 +613,11 @@ line_said err err' answer.WriteFault s (inl (e, told)) = rw e told
 line_said err err' answer.NoMemory s (inl (e, told)) = rw e tt
 
 -- nothing was said
-pub nothing_at : (a : Answer) (s : Status) (err err' : SinkState) → IsAnswered err err' a s → (s ≡ status_of answer.Done) ⊎ (s ≡ status_of answer.Stuck)
+pub nothing_at : (a : Answer) (s : Status) (err err' : SinkState) → IsAnswered err err' a s → (s ≡ status.Done) ⊎ (s ≡ status.Stuck)
     → err' ≡ err
 nothing_at a s err err' (inr (e, part)) (inl is) = cc
 nothing_at a s err err' (inr (e, part)) (inr is) = cc
-nothing_at answer.Done s err err' (inl (e, told)) is = told
-nothing_at answer.Stuck s err err' (inl (e, told)) is = told
+nothing_at (answer.Written e') s err err' (inl (e, told)) is = told
 nothing_at answer.BadLine s err err' (inl (e, told)) (inl is) = cc
 nothing_at answer.BadLine s err err' (inl (e, told)) (inr is) = cc
 nothing_at (answer.Refused r) s err err' (inl (e, told)) (inl is) = cc

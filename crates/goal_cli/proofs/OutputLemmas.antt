@@ -8,9 +8,10 @@ use Rattle.sim_waits.specs.WaitsText.{IsWaitsText}
 use Rattle.sim_waits.proofs.ForCallers.{one_report}
 use Rattle.goal_print.specs.Canonical.{canonical}
 use Rattle.goal_binary.specs.File.{file}
-use Rattle.goal_words.specs.Words.{Command, Sim, Waits, Compile, Show}
+use Rattle.goal_words.specs.Words.{Command, Sim, Waits, Compile, Show, Gen}
 use Rattle.goal_cli.specs.Input.{IsReadAs}
-use Rattle.goal_cli.specs.Output.{run_text, IsPrintedRun, IsReportedRun, IsOutput}
+use Rattle.goal_cli.specs.declared.answer.Ending.{Ending}
+use Rattle.goal_cli.specs.Output.{run_text, IsPrintedRun, IsReportedRun, ending_if, IsOutput}
 use Rattle.goal_cli.proofs.InputLemmas.{same_schedule}
 
 pub one_run : (costs : CostModel) (sched : List Plan) (one other : List ℕ) (stuck waits : Bool) → IsPrintedRun costs sched one stuck
@@ -25,22 +26,28 @@ one_reported costs sched one other stuck waits a b =
     let same = b.only a.history a.complete in
     (one_report sched costs b.history one other (subst (λ (h : List Timed). IsWaitsText sched costs h one) same a.reported) b.reported, a.stuck_is ∙ ap (is_stuck sched costs) same ∙ sym b.stuck_is)
 
-pub same_output : (c : Command) (input again : List ℕ) (sched : List Plan) (one other : List ℕ) (stuck waits : Bool) → IsReadAs input sched
-    → IsReadAs again sched → IsOutput c input one stuck → IsOutput c again other waits → (one ≡ other) × (stuck ≡ waits)
-same_output (Sim name numbers) input again sched one other stuck waits r s a b =
-    one_run (log_gops numbers) sched one other stuck waits
+pub same_output : (c : Command) (input again : List ℕ) (sched : List Plan) (one other : List ℕ) (e d : Ending) → IsReadAs input sched
+    → IsReadAs again sched → IsOutput c input one e → IsOutput c again other d → (one ≡ other) × (e ≡ d)
+same_output (Sim name numbers) input again sched one other e d r s a b =
+    let same =
+    one_run (log_gops numbers) sched one other a.stuck b.stuck
     (rw (same_schedule input _ _ a.schedule.read r) at a.run)
-    (rw (same_schedule again _ _ b.schedule.read s) at b.run)
-same_output (Waits name numbers) input again sched one other stuck waits r s a b =
-    one_reported (log_gops numbers) sched one other stuck waits
+    (rw (same_schedule again _ _ b.schedule.read s) at b.run) in
+    (same.0, a.ends ∙ ap ending_if same.1 ∙ sym b.ends)
+same_output (Waits name numbers) input again sched one other e d r s a b =
+    let same =
+    one_reported (log_gops numbers) sched one other a.stuck b.stuck
     (rw (same_schedule input _ _ a.schedule.read r) at a.run)
-    (rw (same_schedule again _ _ b.schedule.read s) at b.run)
-same_output (Compile name out) input again sched one other stuck waits r s a b =
+    (rw (same_schedule again _ _ b.schedule.read s) at b.run) in
+    (same.0, a.ends ∙ ap ending_if same.1 ∙ sym b.ends)
+same_output (Compile name out) input again sched one other e d r s a b =
     (a.0.compiled ∙ ap file (same_schedule input _ _ a.0.read r ∙ sym (same_schedule again _ _ b.0.read s)) ∙ sym b.0.compiled, a.1 ∙ sym b.1)
-same_output (Show name) input again sched one other stuck waits r s a b =
+same_output (Show name) input again sched one other e d r s a b =
     (a.0.shown ∙ ap canonical (same_schedule input _ _ a.0.read r ∙ sym (same_schedule again _ _ b.0.read s)) ∙ sym b.0.shown, a.1 ∙ sym b.1)
+same_output (Gen what ranks bytes) input again sched one other e d r s a b =
+    (a.0.shown ∙ ap canonical (a.0.is_made.made ∙ sym b.0.is_made.made) ∙ sym b.0.shown, a.1 ∙ sym b.1)
 
 -- what is written of a schedule as a compiled file says the schedule
-pub compiled_again : (name out input output : List ℕ) (stuck : Bool) (sched : List Plan) → IsReadAs input sched
-    → IsOutput (Compile name out) input output stuck → IsReadAs output sched
-compiled_again name out input output stuck sched read is = rw (same_schedule input _ _ is.0.read read) at is.0.again
+pub compiled_again : (name out input output : List ℕ) (e : Ending) (sched : List Plan) → IsReadAs input sched
+    → IsOutput (Compile name out) input output e → IsReadAs output sched
+compiled_again name out input output e sched read is = rw (same_schedule input _ _ is.0.read read) at is.0.again

@@ -2,24 +2,24 @@
 use Rattle.std.specs.Prelude.{ℕ, ◌+◌, ◌≡◌, ◌⊎◌, Bool, true, false, List, [], ◌++◌, take, Option, Some, None, IsSomeAnd, IfSome, codes}
 use Rattle.goal_base.specs.Text.{line_feed}
 use Rattle.goal_base.specs.declared.limits.TheConstants.{MAX_INPUT}
-use Rattle.goal_base.specs.Device.{HostState, SinkState, Rose, Held, KeepsFiles, SameRest, ReadsAtMost, SameReadCounts, Holds, HoldsPart, Grows, file_of, ReadFaulted}
+use Rattle.goal_base.specs.Device.{HostState, SinkState, Rose, Held, KeepsFiles, KeepsReading, SameRest, ReadsAtMost, SameReadCounts, Holds, HoldsPart, Grows, file_of, ReadFaulted}
 use Rattle.goal_graph.specs.Schedule.{Plan}
 use Rattle.sim_params.specs.Costs.{CostModel}
-use Rattle.goal_words.specs.Words.{Command, Sim, Waits, Compile, Show}
+use Rattle.goal_words.specs.Words.{Command, Sim, Waits, Compile, Show, Gen}
 use Rattle.goal_cli.specs.declared.answer.Answer.{Answer}
 use Rattle.goal_cli.specs.declared.answer.Answer.TheVariants as answer
+use Rattle.goal_cli.specs.declared.answer.Ending.{Ending}
+use Rattle.goal_cli.specs.declared.answer.Ending.TheVariants as ending
 use Rattle.goal_cli.specs.declared.answer.Status.{Status}
 use Rattle.goal_cli.specs.declared.answer.Status.TheVariants as status
-use Rattle.goal_cli.specs.Output.{IsPrintedRun, IsOutput, IsRefused}
+use Rattle.goal_cli.specs.Output.{input_of, IsPrintedRun, ending_if, IsOutput, MayEnd, IsRefused}
 use Rattle.goal_cli.specs.Refusal.{refused_line}
 use Rattle.goal_cli.specs.World.{Devices, World, but_err}
 
--- the name of the input of a command
-abbrev pub input_of : Command → List ℕ
-input_of (Sim name numbers) = name
-input_of (Waits name numbers) = name
-input_of (Compile name out) = name
-input_of (Show name) = name
+-- the name of the input of words; None where they are no command, or one without an input
+abbrev pub input_in : Option Command → Option (List ℕ)
+input_in None = None
+input_in (Some c) = input_of c
 
 -- where the host tells its files, the file of that name is there, and P holds of its bytes
 abbrev pub ForFile : HostState → List ℕ → (List ℕ → Type 0) → Type 0
@@ -29,12 +29,26 @@ ForFile host name P = host.tells ≡ true → (input : List ℕ) × (file_of hos
 abbrev pub IfFile : HostState → List ℕ → (List ℕ → Type 0) → Type 0
 IfFile host name P = host.tells ≡ true → (input : List ℕ) → file_of host name ≡ Some input → P input
 
--- the same of the input of the command that the words are
+-- the same of what a command gets: the bytes of the file of that name, and none where it has no input
+abbrev pub ForNamed : HostState → Option (List ℕ) → (List ℕ → Type 0) → Type 0
+ForNamed host None P = P []
+ForNamed host (Some name) P = ForFile host name P
+
+abbrev pub IfNamed : HostState → Option (List ℕ) → (List ℕ → Type 0) → Type 0
+IfNamed host None P = P []
+IfNamed host (Some name) P = IfFile host name P
+
+-- the same of what the command gets that the words are
 abbrev pub ForInput : Option Command → HostState → (Command → List ℕ → Type 0) → Type 0
-ForInput command host P = IsSomeAnd command (λ c. ForFile host (input_of c) (P c))
+ForInput command host P = IsSomeAnd command (λ c. ForNamed host (input_of c) (P c))
 
 abbrev pub IfInput : Option Command → HostState → (Command → List ℕ → Type 0) → Type 0
-IfInput command host P = IfSome command (λ c. IfFile host (input_of c) (P c))
+IfInput command host P = IfSome command (λ c. IfNamed host (input_of c) (P c))
+
+-- these bytes are what is got
+abbrev pub IsGot : HostState → Option (List ℕ) → List ℕ → Type 0
+IsGot host None input = input ≡ []
+IsGot host (Some name) input = host.tells ≡ true → file_of host name ≡ Some input
 
 -- the sink got a prefix of these bytes
 abbrev pub GrowsByPart : SinkState → SinkState → List ℕ → Type 0
@@ -45,64 +59,68 @@ abbrev pub ReadsHeld : HostState → HostState → Type 0
 ReadsHeld old new = Held old.stops old.read_count new.read_count
 
 -- the status of an output that was written whole
-abbrev pub status_if : Bool → Status
-status_if true = status.Stuck
-status_if false = status.Done
+abbrev pub status_at : Ending → Status
+status_at ending.Done = status.Done
+status_at ending.Stuck = status.Stuck
 
--- The devices are given before and after the call. `compile` writes to its file OUT, the others to `out`.
+-- where a command writes: to `out`, or to the file of that name
+pub data Target : Type 0 where
+  ToOut : Target
+  ToFile : List ℕ → Target
+
+abbrev pub target_of : Command → Target
+target_of (Sim name numbers) = ToOut
+target_of (Waits name numbers) = ToOut
+target_of (Compile name out) = ToFile out
+target_of (Show name) = ToOut
+target_of (Gen what ranks bytes) = ToOut
+
+-- The devices are given before and after the call.
 module _ (old new : Devices) where
   -- these bytes were written whole
-  abbrev pub Gets : Command → List ℕ → Type 0
-  Gets (Sim name numbers) bytes = Grows old.out new.out bytes
-  Gets (Waits name numbers) bytes = Grows old.out new.out bytes
-  Gets (Compile name file) bytes = Holds old.host new.host file bytes
-  Gets (Show name) bytes = Grows old.out new.out bytes
+  abbrev pub Gets : Target → List ℕ → Type 0
+  Gets ToOut bytes = Grows old.out new.out bytes
+  Gets (ToFile name) bytes = Holds old.host new.host name bytes
 
   -- nothing of them was written, or a prefix
-  abbrev pub GetsPart : Command → List ℕ → Type 0
-  GetsPart (Sim name numbers) bytes = GrowsByPart old.out new.out bytes
-  GetsPart (Waits name numbers) bytes = GrowsByPart old.out new.out bytes
-  GetsPart (Compile name file) bytes = HoldsPart old.host new.host file bytes
-  GetsPart (Show name) bytes = GrowsByPart old.out new.out bytes
+  abbrev pub GetsPart : Target → List ℕ → Type 0
+  GetsPart ToOut bytes = GrowsByPart old.out new.out bytes
+  GetsPart (ToFile name) bytes = HoldsPart old.host new.host name bytes
 
   -- where the command doesn't write, all is as it was
-  abbrev pub Elsewhere : Command → Type 0
-  Elsewhere (Sim name numbers) = KeepsFiles old.host new.host
-  Elsewhere (Waits name numbers) = KeepsFiles old.host new.host
-  Elsewhere (Compile name file) = new.out ≡ old.out
-  Elsewhere (Show name) = KeepsFiles old.host new.host
+  abbrev pub Elsewhere : Target → Type 0
+  Elsewhere ToOut = KeepsFiles old.host new.host
+  Elsewhere (ToFile name) = new.out ≡ old.out
 
   -- the count of faults of writing rose; it didn't, and doesn't stand where it stops
-  abbrev pub WritesRose : Command → Type 0
-  WritesRose (Sim name numbers) = Rose old.out.stops old.out.count new.out.count
-  WritesRose (Waits name numbers) = Rose old.out.stops old.out.count new.out.count
-  WritesRose (Compile name file) = Rose old.host.stops old.host.write_count new.host.write_count
-  WritesRose (Show name) = Rose old.out.stops old.out.count new.out.count
+  abbrev pub WritesRose : Target → Type 0
+  WritesRose ToOut = Rose old.out.stops old.out.count new.out.count
+  WritesRose (ToFile name) = Rose old.host.stops old.host.write_count new.host.write_count
 
-  abbrev pub WritesHeld : Command → Type 0
-  WritesHeld (Sim name numbers) = Held old.out.stops old.out.count new.out.count
-  WritesHeld (Waits name numbers) = Held old.out.stops old.out.count new.out.count
-  WritesHeld (Compile name file) = Held old.host.stops old.host.write_count new.host.write_count
-  WritesHeld (Show name) = Held old.out.stops old.out.count new.out.count
+  abbrev pub WritesHeld : Target → Type 0
+  WritesHeld ToOut = Held old.out.stops old.out.count new.out.count
+  WritesHeld (ToFile name) = Held old.host.stops old.host.write_count new.host.write_count
 
   -- the count is as it was, and no file is left open to be written
-  abbrev pub WritesSame : Command → Type 0
-  WritesSame (Sim name numbers) = new.out.count ≡ old.out.count
-  WritesSame (Waits name numbers) = new.out.count ≡ old.out.count
-  WritesSame (Compile name file) = (new.host.write_count ≡ old.host.write_count) × (new.host.writing ≡ false)
-  WritesSame (Show name) = new.out.count ≡ old.out.count
+  abbrev pub WritesSame : Target → Type 0
+  WritesSame ToOut = new.out.count ≡ old.out.count
+  WritesSame (ToFile name) = (new.host.write_count ≡ old.host.write_count) × (new.host.writing ≡ false)
+
+  -- where the command has an input, the count of faults of reading didn't rise
+  abbrev pub InputHeld : Command → Type 0
+  InputHeld c = IfSome (input_of c) (λ name. ReadsHeld old.host new.host)
 
   -- what the command makes of the input was written, whole or in part
-  abbrev pub GetsOutput : Bool → Command → List ℕ → Type 0
-  GetsOutput stuck c input = (output : List ℕ) × IsOutput c input output stuck × Gets c output
+  abbrev pub GetsOutput : Ending → Command → List ℕ → Type 0
+  GetsOutput e c input = (output : List ℕ) × IsOutput c input output e × Gets (target_of c) output
 
   abbrev pub GetsPartOfOutput : Command → List ℕ → Type 0
-  GetsPartOfOutput c input = (output : List ℕ) × ((stuck : Bool) × IsOutput c input output stuck) × GetsPart c output
+  GetsPartOfOutput c input = (output : List ℕ) × ((e : Ending) × IsOutput c input output e) × GetsPart (target_of c) output
 
   -- what the command makes of the input was written whole, at its status, or want of memory is answered
   abbrev pub AnswersWhole : Status → Command → List ℕ → Type 0
   AnswersWhole result c input =
-      ((stuck : Bool) × (result ≡ status_if stuck) × GetsOutput stuck c input) ⊎ (result ≡ status.NoMemory)
+      ((e : Ending) × (result ≡ status_at e) × GetsOutput e c input) ⊎ (result ≡ status.NoMemory)
 
   -- nothing was written
   pub record IsUntouched : Type 0 where
@@ -110,27 +128,27 @@ module _ (old new : Devices) where
     pub sink : new.out ≡ old.out
 
   -- what is so after an output was written whole
-  pub record IsWritten (stuck : Bool) (c : Command) : Type 0 where
-    pub output : ForFile old.host (input_of c) (GetsOutput stuck c)
+  pub record IsWritten (e : Ending) (c : Command) : Type 0 where
+    pub output : ForNamed old.host (input_of c) (GetsOutput e c)
+    pub ends : MayEnd c e
     pub reads : SameReadCounts old.host new.host
-    pub writes : WritesSame c
-    pub elsewhere : Elsewhere c
+    pub writes : WritesSame (target_of c)
+    pub elsewhere : Elsewhere (target_of c)
 
   -- what is so after it was cut off
   pub record IsCutOff (c : Command) : Type 0 where
-    pub output : ForFile old.host (input_of c) (GetsPartOfOutput c)
+    pub output : ForNamed old.host (input_of c) (GetsPartOfOutput c)
     pub reads : SameReadCounts old.host new.host
-    pub elsewhere : Elsewhere c
+    pub elsewhere : Elsewhere (target_of c)
 
   -- The table of causes: what is so where a command leads to an answer.
   abbrev pub IsCauseOf : Command → Answer → Type 0
-  IsCauseOf c answer.Done = IsWritten false c
-  IsCauseOf c answer.Stuck = IsWritten true c
+  IsCauseOf c (answer.Written e) = IsWritten e c
   IsCauseOf c answer.BadLine = ⊥
   IsCauseOf c (answer.Refused r) =
-      ForFile old.host (input_of c) (λ input. IsRefused c input r) × SameReadCounts old.host new.host × IsUntouched
-  IsCauseOf c answer.ReadFault = ReadFaulted old.host new.host (input_of c) × IsUntouched
-  IsCauseOf c answer.WriteFault = IsCutOff c × WritesRose c
+      ForNamed old.host (input_of c) (λ input. IsRefused c input r) × SameReadCounts old.host new.host × IsUntouched
+  IsCauseOf c answer.ReadFault = IsSomeAnd (input_of c) (ReadFaulted old.host new.host) × IsUntouched
+  IsCauseOf c answer.WriteFault = IsCutOff c × WritesRose (target_of c)
   IsCauseOf c answer.NoMemory = IsUntouched ⊎ IsCutOff c
 
   -- and where words do that are no command
@@ -143,10 +161,9 @@ module _ (old new : Devices) where
   IsCause None a = IsCauseOfNone a
   IsCause (Some c) a = IsCauseOf c a
 
--- the lines to `err` of the answers; none for Done and Stuck
+-- the lines to `err` of the answers; none for an output that was written whole
 abbrev pub line_for : Answer → List ℕ
-line_for answer.Done = []
-line_for answer.Stuck = []
+line_for (answer.Written e) = []
 line_for answer.BadLine = codes "goal: the words are not a command line of goal" ++ line_feed
 line_for (answer.Refused r) = refused_line r
 line_for answer.ReadFault = codes "goal: reading failed" ++ line_feed
@@ -154,8 +171,7 @@ line_for answer.WriteFault = codes "goal: writing failed" ++ line_feed
 line_for answer.NoMemory = codes "goal: out of memory" ++ line_feed
 
 abbrev pub status_of : Answer → Status
-status_of answer.Done = status.Done
-status_of answer.Stuck = status.Stuck
+status_of (answer.Written e) = status_at e
 status_of answer.BadLine = status.BadLine
 status_of (answer.Refused r) = status.Refused
 status_of answer.ReadFault = status.ReadFault
@@ -174,7 +190,7 @@ AnswersWith result s P = ((result ≡ s) × P) ⊎ (result ≡ status.NoMemory)
 -- otherwise; or want of memory is answered
 abbrev pub PrintsRun : Status → SinkState → SinkState → CostModel → List Plan → Type 0
 PrintsRun result out out' costs sched =
-    ((output : List ℕ) × ((stuck : Bool) × IsPrintedRun costs sched output stuck × (result ≡ status_if stuck)) × Grows out out' output)
+    ((output : List ℕ) × ((stuck : Bool) × IsPrintedRun costs sched output stuck × (result ≡ status_at (ending_if stuck))) × Grows out out' output)
     ⊎ (result ≡ status.NoMemory)
 
 -- the statuses at which nothing is written
@@ -193,10 +209,9 @@ pub record Says (old new : SinkState) (line : List ℕ) : Type 0 where
   pub prefix : GrowsByPart old new line
   pub whole : Held old.stops old.count new.count → Grows old new line
 
--- a sink got the line of an answer; nothing for Done and Stuck
+-- a sink got the line of an answer; nothing for an output that was written whole
 abbrev pub IsTold : SinkState → SinkState → Answer → Type 0
-IsTold old new answer.Done = new ≡ old
-IsTold old new answer.Stuck = new ≡ old
+IsTold old new (answer.Written e) = new ≡ old
 IsTold old new answer.NoMemory = GrowsByPart old new (line_for answer.NoMemory)
 IsTold old new a = Says old new (line_for a)
 
@@ -217,7 +232,11 @@ pub record Answered (command : Option Command) (old new : World) (result : Statu
   pub cause : IsCause (but_err old) (but_err new) command answer
   pub told : IsAnswered old.err new.err answer result
 
--- of the input of the command at most a byte more than an input may have is taken
+-- Of the input of that name at most a byte more than an input may have is taken. Without an input nothing is asked of what
+-- can be read: the input that was open is as it was, and nothing was counted.
+abbrev pub IsTakenOf : Option (List ℕ) → HostState → HostState → Type 0
+IsTakenOf None old new = KeepsReading old new
+IsTakenOf (Some name) old new = SameRest old new ⊎ ReadsAtMost old new name (MAX_INPUT + 1)
+
 abbrev pub IsTaken : Option Command → HostState → HostState → Type 0
-IsTaken command old new =
-    SameRest old new ⊎ IsSomeAnd command (λ c. ReadsAtMost old new (input_of c) (MAX_INPUT + 1))
+IsTaken command old new = IsTakenOf (input_in command) old new

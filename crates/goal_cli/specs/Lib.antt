@@ -8,6 +8,7 @@ pub mod Answer
 pub use Rattle.goal_base.specs.Device
 pub use Rattle.goal_base.specs.Text
 pub use Rattle.goal_binary.specs.File
+pub use Rattle.goal_blocks.specs.Collectives
 pub use Rattle.goal_graph.specs.Schedule
 pub use Rattle.goal_print.specs.Canonical
 pub use Rattle.goal_words.specs.Words

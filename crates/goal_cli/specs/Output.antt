@@ -1,5 +1,5 @@
--- What a command makes of its input: what it writes, or why it refuses the input.
-use Rattle.std.specs.Prelude.{ℕ, ◌≡◌, ◌<◌, ◌≤◌, ◌^◌, ◌++◌, Bool, false, List, length}
+-- What a command makes of its input: what it writes, or why it refuses.
+use Rattle.std.specs.Prelude.{ℕ, ◌≡◌, ◌≢◌, ◌<◌, ◌≤◌, ◌^◌, ◌++◌, Bool, true, false, List, length, Option, Some, None, is_some}
 use Rattle.goal_base.specs.declared.limits.TheConstants.{MAX_INPUT}
 use Rattle.goal_graph.specs.declared.action.Timed.{Timed}
 use Rattle.goal_graph.specs.Schedule.{Plan}
@@ -16,12 +16,30 @@ use Rattle.sim_stuck.specs.StuckText.{stuck_text}
 use Rattle.sim_waits.specs.WaitsText.{IsWaitsText}
 use Rattle.goal_print.specs.Canonical.{canonical}
 use Rattle.goal_binary.specs.File.{file}
-use Rattle.goal_words.specs.Words.{Command, Sim, Waits, Compile, Show}
+use Rattle.goal_blocks.specs.declared.collective.Collective.{Collective}
+use Rattle.goal_blocks.specs.Generated.{made, IsPossible}
+use Rattle.goal_collectives.specs.declared.fault.GenFault.{GenFault}
+use Rattle.goal_collectives.specs.declared.fault.GenFault.TheVariants as gen
+use Rattle.goal_collectives.specs.GenFaults.{IsGenFault}
+use Rattle.goal_words.specs.Words.{Command, Sim, Waits, Compile, Show, Gen}
+use Rattle.goal_cli.specs.declared.answer.Ending.{Ending}
+use Rattle.goal_cli.specs.declared.answer.Ending.TheVariants as ending
 use Rattle.goal_cli.specs.declared.answer.Refusal.{Refusal}
 use Rattle.goal_cli.specs.declared.answer.Refusal.TheVariants as refusal
 use Rattle.goal_cli.specs.declared.output.Stop.{Stop}
 use Rattle.goal_cli.specs.declared.output.Stop.TheVariants.{Refused, NoMemory}
 use Rattle.goal_cli.specs.Input.{IsReadAs, IsTextFault, IsFaultOfFile}
+
+-- the name of the file that a command reads as its input; None for a command without an input
+abbrev pub input_of : Command → Option (List ℕ)
+input_of (Sim name numbers) = Some name
+input_of (Waits name numbers) = Some name
+input_of (Compile name out) = Some name
+input_of (Show name) = Some name
+input_of (Gen what ranks bytes) = None
+
+abbrev pub HasInput : Command → Type 0
+HasInput c = is_some (input_of c) ≡ true
 
 -- the timeline of a run, and then the lines of its stuck operations, each with its reason
 abbrev pub run_text : List Plan → CostModel → List Timed → List ℕ
@@ -56,17 +74,26 @@ pub record HasRun (numbers : Numbers) (input : List ℕ) (sched : List Plan) : T
   pub read : IsReadAs input sched
   pub fits : budget sched (log_gops numbers) < 2 ^ 63
 
--- the input has a run, and the output is the printed one
-pub record IsSimulated (numbers : Numbers) (input output : List ℕ) (stuck : Bool) : Type 0 where
-  pub sched : List Plan
-  pub schedule : HasRun numbers input sched
-  pub run : IsPrintedRun (log_gops numbers) sched output stuck
+-- how a run ends a command
+abbrev pub ending_if : Bool → Ending
+ending_if true = ending.Stuck
+ending_if false = ending.Done
 
--- the input has a run, and the output is the report on its waits
-pub record IsReported (numbers : Numbers) (input output : List ℕ) (stuck : Bool) : Type 0 where
+-- the input has a run, the output is the printed one, and this is its ending
+pub record IsSimulated (numbers : Numbers) (input output : List ℕ) (e : Ending) : Type 0 where
   pub sched : List Plan
   pub schedule : HasRun numbers input sched
+  pub stuck : Bool
+  pub run : IsPrintedRun (log_gops numbers) sched output stuck
+  pub ends : e ≡ ending_if stuck
+
+-- the input has a run, the output is the report on its waits, and this is its ending
+pub record IsReported (numbers : Numbers) (input output : List ℕ) (e : Ending) : Type 0 where
+  pub sched : List Plan
+  pub schedule : HasRun numbers input sched
+  pub stuck : Bool
   pub run : IsReportedRun (log_gops numbers) sched output stuck
+  pub ends : e ≡ ending_if stuck
 
 -- the output is the compiled file of the schedule that the input says, and says the same schedule
 pub record IsCompiled (input output : List ℕ) : Type 0 where
@@ -81,19 +108,48 @@ pub record IsShown (input output : List ℕ) : Type 0 where
   pub read : IsReadAs input sched
   pub shown : output ≡ canonical sched
 
--- what a command makes of its input, and whether an operation of the run has no end
-abbrev pub IsOutput : Command → List ℕ → List ℕ → Bool → Type 0
-IsOutput (Sim name numbers) input output stuck = IsSimulated numbers input output stuck
-IsOutput (Waits name numbers) input output stuck = IsReported numbers input output stuck
-IsOutput (Compile name out) input output stuck = IsCompiled input output × (stuck ≡ false)
-IsOutput (Show name) input output stuck = IsShown input output × (stuck ≡ false)
+-- the collective has a schedule for so many ranks, with messages of so many bytes, and this is it
+pub record IsMade (what : Collective) (ranks bytes : ℕ) (sched : List Plan) : Type 0 where
+  pub possible : IsPossible what ranks
+  pub made : sched ≡ made what ranks bytes
 
--- the input has what the command makes of it: for `sim` and `waits` a run, else a schedule
+-- the output is its canonical text
+pub record IsGenerated (what : Collective) (ranks bytes : ℕ) (output : List ℕ) : Type 0 where
+  pub sched : List Plan
+  pub is_made : IsMade what ranks bytes sched
+  pub shown : output ≡ canonical sched
+
+-- What a command makes of its input, and how it ends. A command without an input makes it of nothing.
+abbrev pub IsOutput : Command → List ℕ → List ℕ → Ending → Type 0
+IsOutput (Sim name numbers) input output e = IsSimulated numbers input output e
+IsOutput (Waits name numbers) input output e = IsReported numbers input output e
+IsOutput (Compile name out) input output e = IsCompiled input output × (e ≡ ending.Done)
+IsOutput (Show name) input output e = IsShown input output × (e ≡ ending.Done)
+IsOutput (Gen what ranks bytes) input output e = IsGenerated what ranks bytes output × (e ≡ ending.Done)
+
+-- the command may end so: where it runs a schedule, also with an operation that has no end
+abbrev pub MayEnd : Command → Ending → Type 0
+MayEnd (Sim name numbers) e = (stuck : Bool) × (e ≡ ending_if stuck)
+MayEnd (Waits name numbers) e = (stuck : Bool) × (e ≡ ending_if stuck)
+MayEnd (Compile name out) e = e ≡ ending.Done
+MayEnd (Show name) e = e ≡ ending.Done
+MayEnd (Gen what ranks bytes) e = e ≡ ending.Done
+
+-- the schedule that a command works on: what its input says, or what it makes
+abbrev pub IsScheduleOf : Command → List ℕ → List Plan → Type 0
+IsScheduleOf (Sim name numbers) input sched = IsReadAs input sched
+IsScheduleOf (Waits name numbers) input sched = IsReadAs input sched
+IsScheduleOf (Compile name out) input sched = IsReadAs input sched
+IsScheduleOf (Show name) input sched = IsReadAs input sched
+IsScheduleOf (Gen what ranks bytes) input sched = IsMade what ranks bytes sched
+
+-- there is something for the command to write: a schedule to work on, and for `sim` and `waits` a run of it
 abbrev pub HasOutput : Command → List ℕ → List Plan → Type 0
 HasOutput (Sim name numbers) input sched = HasRun numbers input sched
 HasOutput (Waits name numbers) input sched = HasRun numbers input sched
 HasOutput (Compile name out) input sched = IsReadAs input sched
 HasOutput (Show name) input sched = IsReadAs input sched
+HasOutput (Gen what ranks bytes) input sched = IsMade what ranks bytes sched
 
 -- the input says a schedule, whose time budget with these parameters is this sum, and more than 2^63-1
 pub record IsOverBudget (numbers : Numbers) (input : List ℕ) (sum : ℕ) : Type 0 where
@@ -108,15 +164,26 @@ IsRefusedBudget (Sim name numbers) input sum = IsOverBudget numbers input sum
 IsRefusedBudget (Waits name numbers) input sum = IsOverBudget numbers input sum
 IsRefusedBudget (Compile name out) input sum = ⊥
 IsRefusedBudget (Show name) input sum = ⊥
+IsRefusedBudget (Gen what ranks bytes) input sum = ⊥
 
--- the command refuses the input: the first of these that applies
+-- a collective has no schedule for so many ranks, for this first reason
+pub record IsNotMade (what : Collective) (ranks : ℕ) (fault : GenFault) : Type 0 where
+  pub told : fault ≢ gen.NoMemory
+  pub first : IsGenFault what ranks fault
+
+abbrev pub IsRefusedCollective : Command → GenFault → Type 0
+IsRefusedCollective (Gen what ranks bytes) fault = IsNotMade what ranks fault
+IsRefusedCollective _ fault = ⊥
+
+-- the command refuses its input or its words: the first of these that applies
 abbrev pub IsRefused : Command → List ℕ → Refusal → Type 0
-IsRefused c input refusal.TooLong = MAX_INPUT < length input
-IsRefused c input (refusal.Text fault) = IsTextFault input fault
-IsRefused c input (refusal.File fault) = IsFaultOfFile input fault
+IsRefused c input refusal.TooLong = HasInput c × (MAX_INPUT < length input)
+IsRefused c input (refusal.Text fault) = HasInput c × IsTextFault input fault
+IsRefused c input (refusal.File fault) = HasInput c × IsFaultOfFile input fault
+IsRefused c input (refusal.Generator fault) = IsRefusedCollective c fault
 IsRefused c input (refusal.Budget sum) = IsRefusedBudget c input sum
 
--- a command makes nothing of its input for this reason; want of memory is free
+-- a command writes nothing for this reason; want of memory is free
 abbrev pub IsStop : Command → List ℕ → Stop → Type 0
 IsStop c input (Refused refusal) = IsRefused c input refusal
 IsStop c input NoMemory = Unit {0}

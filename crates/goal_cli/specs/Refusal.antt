@@ -7,6 +7,8 @@ use Rattle.goal_parser.specs.declared.faults.TextFault.{TextFault}
 use Rattle.goal_parser.specs.declared.faults.TextFault.TheVariants as text
 use Rattle.goal_binary.specs.declared.fault.FileFault.{FileFault}
 use Rattle.goal_binary.specs.declared.fault.FileFault.TheVariants as file
+use Rattle.goal_collectives.specs.declared.fault.GenFault.{GenFault}
+use Rattle.goal_collectives.specs.declared.fault.GenFault.TheVariants as gen
 use Rattle.goal_cli.specs.declared.answer.Refusal.{Refusal}
 use Rattle.goal_cli.specs.declared.answer.Refusal.TheVariants as refusal
 
@@ -47,10 +49,18 @@ file_words (file.Extra at) = at_text (codes "file: extra at ") at
 file_words (file.Plan fault) = plan_words fault
 file_words file.NoMemory = []
 
+-- why a collective has no schedule
+abbrev pub generator_words : GenFault → List ℕ
+generator_words (gen.Ranks limit) = at_text (codes "generator: ranks ") limit
+generator_words gen.Root = codes "generator: root"
+generator_words gen.NotPowerOfTwo = codes "generator: power of two"
+generator_words gen.NoMemory = []
+
 abbrev pub refusal_words : Refusal → List ℕ
 refusal_words refusal.TooLong = codes "input longer than 134217728 bytes"
 refusal_words (refusal.Text fault) = text_words fault
 refusal_words (refusal.File fault) = file_words fault
+refusal_words (refusal.Generator fault) = generator_words fault
 refusal_words (refusal.Budget sum) = at_text (codes "budget ") sum
 
 -- the line of a refusal

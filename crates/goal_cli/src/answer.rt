@@ -1,18 +1,19 @@
 // How a command line is answered.
 
 use goal_binary::FileFault;
+use goal_collectives::GenFault;
 use goal_parser::TextFault;
 
 /// How a call of `goal` ends. The numbers of the statuses are 0 to 7 in this order.
 #[derive(Clone, Copy, Debug, PartialEq, Eq)]
 pub enum Status {
-    /// What the command makes of its input was written.
+    /// What the command makes was written.
     Done,
     /// The printed run was written, and has an operation without an end.
     Stuck,
     /// The words are no command line.
     BadLine,
-    /// The command makes nothing of its input.
+    /// The command makes nothing of its input or its words.
     Refused,
     /// The input was not read.
     ReadFault,
@@ -24,11 +25,19 @@ pub enum Status {
     NoMemory,
 }
 
+// How a command ends whose output was written whole.
+#[derive(Clone, Copy)]
+pub enum Ending {
+    // Nothing is wrong with what was written.
+    Done,
+    // The run that was written has an operation without an end.
+    Stuck,
+}
+
 // What a command line leads to.
 #[derive(Clone, Copy)]
 pub enum Answer {
-    Done,
-    Stuck,
+    Written(Ending),
     BadLine,
     Refused(Refusal),
     ReadFault,
@@ -36,15 +45,17 @@ pub enum Answer {
     NoMemory,
 }
 
-/// Why an input is refused.
+/// Why a command makes nothing of its input or its words.
 #[derive(Clone, Copy, Debug, PartialEq, Eq)]
 pub enum Refusal {
-    /// It has more than 2^27 bytes.
+    /// The input has more than 2^27 bytes.
     TooLong,
     /// As a text it has this first fault.
     Text(TextFault),
     /// As a compiled file it has this first fault.
     File(FileFault),
-    /// The time budget of its run, this sum in nanoseconds, exceeds 2^63-1.
+    /// The collective has no schedule for so many ranks: this is the first reason.
+    Generator(GenFault),
+    /// The time budget of the run, this sum in nanoseconds, exceeds 2^63-1.
     Budget { sum: u128 },
 }

@@ -1,16 +1,17 @@
 // The top call: from the words of a command line to what is written, and a status.
-ghost use Rattle.std.specs.Prelude.{ℕ, ◌≡◌, ◌⊎◌, ◌<◌, true, List, Some, OnOk, OnErr, IsErrOf};
-ghost use Rattle.goal_base.specs.Device.{Rose, Held, Later, SinkLater, KeepsReading, Grows};
+ghost use Rattle.std.specs.Prelude.{ℕ, ◌≡◌, ◌⊎◌, ◌<◌, ◌≤◌, true, length, List, None, Some, IfOk, OnOk, OnErr, IsErrOf, IsSomeAnd, MatchOption};
+ghost use Rattle.goal_base.specs.declared.limits.TheConstants.{MAX_INPUT};
+ghost use Rattle.goal_base.specs.Device.{Rose, Held, Later, SinkLater, KeepsReading, Grows, ReadsFile, ReadFaulted, IsTooLong};
 ghost use Rattle.goal_graph.specs.Schedule.{Plan};
 ghost use Rattle.sim_params.specs.Costs.{Numbers, log_gops};
-ghost use Rattle.goal_words.specs.Words.{Sim, command, command_in};
-ghost use Rattle.goal_cli.specs.Answer.{input_of, IfFile, IfInput, GrowsByPart, ReadsHeld, Gets, GetsPart, Elsewhere, WritesRose, WritesHeld, WritesSame, AnswersWhole, PrintsRun, IsCauseOf, IsCause, AnswersWith, Says, IsCutShort, IsAnswered, Answered, IsTaken};
+ghost use Rattle.goal_words.specs.Words.{Sim, command, command_in, IsSized};
+ghost use Rattle.goal_cli.specs.Answer.{IfFile, IfInput, IsGot, GrowsByPart, ReadsHeld, InputHeld, target_of, Gets, GetsPart, Elsewhere, WritesRose, WritesHeld, WritesSame, AnswersWhole, PrintsRun, IsCauseOf, IsCause, AnswersWith, Says, IsCutShort, IsAnswered, Answered, IsTaken};
 ghost use Rattle.goal_cli.specs.World.{devices, world, DevicesLater, WorldLater};
-ghost use Rattle.goal_cli.specs.Output.{HasOutput, HasRun, IsRefused};
+ghost use Rattle.goal_cli.specs.Output.{input_of, HasOutput, HasRun, IsRefused};
 ghost use Rattle.goal_cli.specs.Refusal.{refused_line};
 ghost use Rattle.goal_cli.specs.declared.answer.Refusal.{Refusal};
 
-use crate::answer::{Answer, Refusal, Status};
+use crate::answer::{Answer, Ending, Refusal, Status};
 use crate::output::{Stop, make};
 use crate::refusal::refused_line;
 use goal_base::{Host, IoFault, NoMemory, ReadAll, Sink, read_all, write_all, write_file};
@@ -25,11 +26,12 @@ const WRITE_FAULT: &[u8] = b"goal: writing failed\n";
 
 const OUT_OF_MEMORY: &[u8] = b"goal: out of memory\n";
 
-/// Carries out a command line, given by the words after the program's name. Each reads a schedule from the file NAME of
+/// Carries out a command line, given by the words after the program's name. Some read a schedule from the file NAME of
 /// `host`, a text or a compiled file: `sim NAME`, with options for the parameters, runs it and writes the printed run to
 /// `out`, with the reason for each stuck operation; `waits NAME`, with the same options, runs it and writes the report on
 /// waits to `out`; `compile NAME OUT` writes its compiled file to the file OUT; `show NAME` writes its canonical text to
-/// `out`. What went wrong is said in a line to `err`.
+/// `out`. `gen KIND RANKS BYTES` has no input: it makes the schedule of a collective and writes its canonical text to `out`.
+/// What went wrong is said in a line to `err`.
 ///
 /// Any status may give way to `NoMemory`. A failure of `err` changes no status. `laws_of_answers` lists what follows from
 /// `answered`, answer by answer.
@@ -55,19 +57,21 @@ pub fn goal<H: Host, W: Sink, E: Sink>(
         (world (H.state host.old) (W.state out.old) (E.state err.old))
         (world (H.state host.new) (W.state out.new) (E.state err.new)) result }
 
-    // Every input of which the command makes something has it written whole, unless a device fails.
+    // What the command makes of its input, or of its words where it has none, is written whole, unless a device fails.
     ensures complete { let old = devices (H.state host.old) (W.state out.old) in
         let new = devices (H.state host.new) (W.state out.new) in
         IfInput (command_in words.now) (H.state host.old) (λ c input. (sched : List Plan)
-        → HasOutput c input sched → ReadsHeld (H.state host.old) (H.state host.new)
-        → WritesHeld old new c → AnswersWhole old new result c input) }
+        → HasOutput c input sched → InputHeld old new c
+        → WritesHeld old new (target_of c) → AnswersWhole old new result c input) }
 
-    // Every input that the command refuses gets the line of its refusal, unless the host fails.
-    ensures refused_exact { IfInput (command_in words.now) (H.state host.old) (λ c input. (refusal : Refusal)
-        → IsRefused c input refusal → ReadsHeld (H.state host.old) (H.state host.new)
+    // Every input, and all words, that the command refuses get the line of the refusal, unless the host fails.
+    ensures refused_exact { let old = devices (H.state host.old) (W.state out.old) in
+        let new = devices (H.state host.new) (W.state out.new) in
+        IfInput (command_in words.now) (H.state host.old) (λ c input. (refusal : Refusal)
+        → IsRefused c input refusal → InputHeld old new c
         → AnswersWith result Status.Refused (Says (E.state err.old) (E.state err.new) (refused_line refusal))) }
 
-    // Of the input at most 2^27+1 bytes are taken.
+    // Of the input at most 2^27+1 bytes are taken. A command without an input leaves alone what can be read.
     ensures taken { IsTaken (command_in words.now) (H.state host.old) (H.state host.new) }
     ensures later { WorldLater (world (H.state host.old) (W.state out.old) (E.state err.old))
         (world (H.state host.new) (W.state out.new) (E.state err.new)) }
@@ -93,13 +97,14 @@ fn carry_out<H: Host, W: Sink>(alloc: Global, words: &[String], host: &mut H, ou
 
 // The answer to a command line.
 fn carry_out_line<H: Host, W: Sink>(alloc: Global, line: &Line, host: &mut H, out: &mut W) -> Answer
+    requires { IsSized (command line.now) }
     ensures cause { IsCauseOf (devices (H.state host.old) (W.state out.old))
         (devices (H.state host.new) (W.state out.new)) (command line.now) result }
     ensures taken { IsTaken (Some (command line.now)) (H.state host.old) (H.state host.new) }
     ensures later { DevicesLater (devices (H.state host.old) (W.state out.old))
         (devices (H.state host.new) (W.state out.new)) }
 {
-    let input = match read_all(alloc, host, name_of(line)) {
+    let input = match take_input(alloc, host, line) {
         Ok(input) => input,
         Err(ReadAll::Fault) => return Answer::ReadFault,
         Err(ReadAll::TooLong) => return Answer::Refused(Refusal::TooLong),
@@ -111,27 +116,38 @@ fn carry_out_line<H: Host, W: Sink>(alloc: Global, line: &Line, host: &mut H, ou
         Err(Stop::NoMemory) => return Answer::NoMemory,
     };
     match put(line, host, out, &output.bytes) {
-        Ok(()) => {
-            if output.stuck {
-                Answer::Stuck
-            } else {
-                Answer::Done
-            }
-        }
+        Ok(()) => Answer::Written(output.ending),
         Err(IoFault::Failed) => Answer::WriteFault,
         Err(IoFault::NoMemory) => Answer::NoMemory,
     }
 }
 
 // The name of the input of a command.
-fn name_of(line: &Line) -> &str
-    ensures { result.now ≡ input_of (command line.now) }
+fn name_of(line: &Line) -> Option<&str>
+    ensures { MatchOption result (input_of (command line.now) ≡ None) (λ name. input_of (command line.now) ≡ Some name.now) }
 {
     match line {
-        Line::Sim { name, .. } => name.as_str(),
-        Line::Waits { name, .. } => name.as_str(),
-        Line::Compile { name, .. } => name.as_str(),
-        Line::Show { name } => name.as_str(),
+        Line::Sim { name, .. } => Some(name.as_str()),
+        Line::Waits { name, .. } => Some(name.as_str()),
+        Line::Compile { name, .. } => Some(name.as_str()),
+        Line::Show { name } => Some(name.as_str()),
+        Line::Gen { .. } => None,
+    }
+}
+
+// The bytes of the input of a command. A command without an input gets none, and the host is asked nothing.
+fn take_input<H: Host>(alloc: Global, host: &mut H, line: &Line) -> Result<Vec<u8>, ReadAll>
+    ensures got { IfOk result (λ input. IsGot (H.state host.old) (input_of (command line.now)) input.items) }
+    ensures short { IfOk result (λ input. length input.items ≤ MAX_INPUT) }
+    ensures too_long { IsErrOf result ReadAll.TooLong
+        → IsSomeAnd (input_of (command line.now)) (IsTooLong (H.state host.old)) }
+    ensures reads { ReadsFile result (H.state host.old) (H.state host.new)
+        (IsSomeAnd (input_of (command line.now)) (ReadFaulted (H.state host.old) (H.state host.new))) }
+    ensures taken { IsTaken (Some (command line.now)) (H.state host.old) (H.state host.new) }
+{
+    match name_of(line) {
+        Some(name) => read_all(alloc, host, name),
+        None => Ok(Vec::new(alloc)),
     }
 }
 
@@ -144,13 +160,13 @@ fn put<H: Host, W: Sink>(
 ) -> Result<(), IoFault>
     ensures whole { let old = devices (H.state host.old) (W.state out.old) in
         let new = devices (H.state host.new) (W.state out.new) in
-        OnOk result (Gets old new (command line.now) bytes.now × WritesSame old new (command line.now)) }
+        OnOk result (Gets old new (target_of (command line.now)) bytes.now × WritesSame old new (target_of (command line.now))) }
     ensures part { OnErr result (GetsPart (devices (H.state host.old) (W.state out.old))
-        (devices (H.state host.new) (W.state out.new)) (command line.now) bytes.now) }
+        (devices (H.state host.new) (W.state out.new)) (target_of (command line.now)) bytes.now) }
     ensures rose { IsErrOf result IoFault.Failed → WritesRose (devices (H.state host.old) (W.state out.old))
-        (devices (H.state host.new) (W.state out.new)) (command line.now) }
+        (devices (H.state host.new) (W.state out.new)) (target_of (command line.now)) }
     ensures elsewhere { Elsewhere (devices (H.state host.old) (W.state out.old))
-        (devices (H.state host.new) (W.state out.new)) (command line.now) }
+        (devices (H.state host.new) (W.state out.new)) (target_of (command line.now)) }
     ensures kept { KeepsReading (H.state host.old) (H.state host.new) }
     ensures later { DevicesLater (devices (H.state host.old) (W.state out.old))
         (devices (H.state host.new) (W.state out.new)) }
@@ -160,6 +176,7 @@ fn put<H: Host, W: Sink>(
         Line::Waits { .. } => print(out, bytes),
         Line::Compile { out: name, .. } => write_file(host, name.as_str(), bytes),
         Line::Show { .. } => print(out, bytes),
+        Line::Gen { .. } => print(out, bytes),
     }
 }
 
@@ -199,8 +216,8 @@ fn tell<E: Sink>(alloc: Global, err: &mut E, answer: Answer) -> Status
     ensures later { SinkLater (E.state err.old) (E.state err.new) }
 {
     match answer {
-        Answer::Done => Status::Done,
-        Answer::Stuck => Status::Stuck,
+        Answer::Written(Ending::Done) => Status::Done,
+        Answer::Written(Ending::Stuck) => Status::Stuck,
         Answer::BadLine => say(err, BAD_LINE, Status::BadLine),
         Answer::Refused(refusal) => match refused_line(alloc, refusal) {
             Ok(line) => say(err, &line, Status::Refused),

@@ -5,37 +5,40 @@ ghost use Rattle.goal_graph.specs.Schedule.{Plan};
 ghost use Rattle.sim_params.specs.Costs.{CostModel};
 ghost use Rattle.goal_words.specs.Words.{Command, Compile};
 ghost use Rattle.goal_cli.specs.Input.{IsReadAs};
-ghost use Rattle.goal_cli.specs.Output.{IsPrintedRun, IsOutput, IsRefused};
+ghost use Rattle.goal_cli.specs.Output.{input_of, IsPrintedRun, IsOutput, IsRefused};
 ghost use Rattle.goal_cli.specs.Refusal.{refused_line};
 ghost use Rattle.goal_cli.specs.World.{World, but_err};
-ghost use Rattle.goal_cli.specs.Answer.{input_of, ForFile, ForInput, GrowsByPart, Elsewhere, WritesRose, GetsPartOfOutput, IsUntouched, IsWritten, IsCause, line_for, Answers, IsSilent, line_at, Says, Answered};
+ghost use Rattle.goal_cli.specs.Answer.{input_in, target_of, ForNamed, ForInput, GrowsByPart, Elsewhere, WritesRose, GetsPartOfOutput, IsUntouched, IsWritten, IsCause, line_for, Answers, IsSilent, line_at, Says, Answered};
 ghost use Rattle.goal_cli.specs.declared.answer.Answer.{Answer};
+ghost use Rattle.goal_cli.specs.declared.answer.Ending.{Ending};
 ghost use Rattle.goal_cli.specs.declared.answer.Refusal.{Refusal};
 ghost use Rattle.goal_cli.specs.declared.answer.Status.{Status};
 
-use crate::answer::Status;
+use crate::answer::{Ending, Status};
 
 /// What is written is a function of the schedule and the parameters.
 ///
 /// - `one_run`: a schedule has one printed run with given costs, and one status.
-/// - `same_output`: two inputs that say the same schedule give the same bytes and the same status.
+/// - `same_output`: two inputs that say the same schedule give the same bytes and the same status. What a command without
+///   an input writes is a function of its words.
 /// - `compiled_again`: what `compile` writes for an input says the same schedule, so a command makes the same of both.
 pub fn laws_of_outputs()
     ensures one_run { (costs : CostModel) (sched : List Plan) (one other : List ℕ) (stuck waits : Bool)
         → IsPrintedRun costs sched one stuck → IsPrintedRun costs sched other waits
         → (one ≡ other) × (stuck ≡ waits) }
-    ensures same_output { (c : Command) (input again : List ℕ) (sched : List Plan) (one other : List ℕ) (stuck waits : Bool)
+    ensures same_output { (c : Command) (input again : List ℕ) (sched : List Plan) (one other : List ℕ) (e d : Ending)
         → IsReadAs input sched → IsReadAs again sched
-        → IsOutput c input one stuck → IsOutput c again other waits → (one ≡ other) × (stuck ≡ waits) }
-    ensures compiled_again { (name out input output : List ℕ) (stuck : Bool) (sched : List Plan)
-        → IsReadAs input sched → IsOutput (Compile name out) input output stuck → IsReadAs output sched }
+        → IsOutput c input one e → IsOutput c again other d → (one ≡ other) × (e ≡ d) }
+    ensures compiled_again { (name out input output : List ℕ) (e : Ending) (sched : List Plan)
+        → IsReadAs input sched → IsOutput (Compile name out) input output e → IsReadAs output sched }
 {}
 
 /// What each status of an answered command line means, and what leads to it.
 ///
 /// - `bad_line`, `bad_line_exact`: the words are no command line.
-/// - `read_fault`, `read_risen`, `absent_risen`, `absent_name`: the host failed, or has no file NAME.
-/// - `refused`: the command refuses the input, and `err` gets the words of the refusal.
+/// - `read_fault`, `read_risen`, `absent_risen`, `absent_name`: the host failed, or has no file NAME. Only a command with an
+///   input comes to it.
+/// - `refused`: the command refuses its input or its words, and `err` gets the words of the refusal.
 /// - `write_fault`, `write_risen`, `file_risen`: writing failed, after a part of the output.
 /// - `done`, `stuck`: the output was written whole, `stuck` for a run with an operation that has no end, and no output is
 ///   left open. `never_not_certified`: no command of today certifies.
@@ -49,29 +52,29 @@ pub fn laws_of_answers()
         → command ≡ None → Answers result Status.BadLine }
     ensures read_fault { (command : Option Command) (old new : World) (result : Status) → Answered command old new result
         → result ≡ Status.ReadFault
-        → IsSomeAnd command (λ c. ReadFaulted old.host new.host (input_of c)) }
+        → IsSomeAnd (input_in command) (ReadFaulted old.host new.host) }
     ensures read_risen { (command : Option Command) (old new : World) (result : Status) → Answered command old new result
         → old.host.read_count < new.host.read_count → Answers result Status.ReadFault }
     ensures absent_risen { (command : Option Command) (old new : World) (result : Status) → Answered command old new result
         → old.host.absent_count < new.host.absent_count → Answers result Status.ReadFault }
     ensures absent_name { (command : Option Command) (old new : World) (result : Status) → Answered command old new result
-        → IfSome command (λ c. old.host.tells ≡ true → file_of old.host (input_of c) ≡ None
+        → IfSome (input_in command) (λ name. old.host.tells ≡ true → file_of old.host name ≡ None
         → Answers result Status.ReadFault) }
     ensures refused { (command : Option Command) (old new : World) (result : Status) → Answered command old new result
         → result ≡ Status.Refused → (refusal : Refusal)
         × ForInput command old.host (λ c input. IsRefused c input refusal)
         × Says old.err new.err (refused_line refusal) }
     ensures write_fault { (command : Option Command) (old new : World) (result : Status) → Answered command old new result
-        → result ≡ Status.WriteFault → IsSomeAnd command (λ c. WritesRose (but_err old) (but_err new) c
-        × ForFile old.host (input_of c) (GetsPartOfOutput (but_err old) (but_err new) c)) }
+        → result ≡ Status.WriteFault → IsSomeAnd command (λ c. WritesRose (but_err old) (but_err new) (target_of c)
+        × ForNamed old.host (input_of c) (GetsPartOfOutput (but_err old) (but_err new) c)) }
     ensures write_risen { (command : Option Command) (old new : World) (result : Status) → Answered command old new result
         → old.out.count < new.out.count → Answers result Status.WriteFault }
     ensures file_risen { (command : Option Command) (old new : World) (result : Status) → Answered command old new result
         → old.host.write_count < new.host.write_count → Answers result Status.WriteFault }
     ensures done { (command : Option Command) (old new : World) (result : Status) → Answered command old new result
-        → result ≡ Status.Done → IsSomeAnd command (IsWritten (but_err old) (but_err new) false) }
+        → result ≡ Status.Done → IsSomeAnd command (IsWritten (but_err old) (but_err new) Ending.Done) }
     ensures stuck { (command : Option Command) (old new : World) (result : Status) → Answered command old new result
-        → result ≡ Status.Stuck → IsSomeAnd command (IsWritten (but_err old) (but_err new) true) }
+        → result ≡ Status.Stuck → IsSomeAnd command (IsWritten (but_err old) (but_err new) Ending.Stuck) }
     ensures never_not_certified { (command : Option Command) (old new : World) (result : Status) → Answered command old new result
         → result ≢ Status.NotCertified }
     ensures part { (command : Option Command) (old new : World) (result : Status) → Answered command old new result
@@ -80,7 +83,7 @@ pub fn laws_of_answers()
     ensures silent { (command : Option Command) (old new : World) (result : Status) → Answered command old new result
         → IsSilent result → IsUntouched (but_err old) (but_err new) }
     ensures elsewhere { (command : Option Command) (old new : World) (result : Status) → Answered command old new result
-        → IfSome command (Elsewhere (but_err old) (but_err new)) }
+        → IfSome command (λ c. Elsewhere (but_err old) (but_err new) (target_of c)) }
     ensures says { (command : Option Command) (old new : World) (result : Status) → Answered command old new result
         → IfSome (line_at result) (λ line. Says old.err new.err line) }
     ensures says_nothing { (command : Option Command) (old new : World) (result : Status) → Answered command old new result

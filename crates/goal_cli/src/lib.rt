@@ -1,7 +1,8 @@
 //! The top call of `goal`: what each command line reads, makes and writes.
 //!
-//! Each command reads a schedule from the file NAME, a text or a compiled file. `sim NAME` runs it and prints when each
-//! operation starts and ends, `waits NAME` how long operations waited, `compile NAME OUT` writes its compiled file, `show NAME` its canonical text.
+//! Most commands read a schedule from the file NAME, a text or a compiled file. `sim NAME` runs it and prints when each
+//! operation starts and ends, `waits NAME` how long operations waited, `compile NAME OUT` writes its compiled file,
+//! `show NAME` its canonical text. `gen KIND RANKS BYTES` has no input, and prints that of the schedule of a collective.
 #![tactic(auto)]
 
 mod answer;

@@ -1,5 +1,5 @@
-// From the bytes of an input to what a command makes of them.
-ghost use Rattle.std.specs.Prelude.{◌≡◌, ◌<◌, ◌≤◌, ◌^◌, true, false, length, Ok, OnOk, IfOk, IfErr};
+// From the bytes of an input, or from words alone, to what a command makes of them.
+ghost use Rattle.std.specs.Prelude.{ℕ, List, Bool, ◌≡◌, ◌<◌, ◌≤◌, ◌^◌, true, false, length, Ok, OnOk, IfOk, IfErr};
 ghost use Rattle.goal_base.specs.declared.limits.TheConstants.{MAX_INPUT};
 ghost use Rattle.sim_params.specs.Numbers.{numbers};
 ghost use Rattle.sim_params.specs.Costs.{log_gops};
@@ -8,16 +8,20 @@ ghost use Rattle.sim_params.specs.Run.{IsFinished};
 ghost use Rattle.sim_events.specs.Engine.{IsEngineFault};
 ghost use Rattle.goal_print.specs.Canonical.{canonical};
 ghost use Rattle.goal_binary.specs.File.{file};
-ghost use Rattle.goal_words.specs.Words.{Command, command};
+ghost use Rattle.goal_blocks.specs.Collectives.{is_first};
+ghost use Rattle.goal_words.specs.Words.{Command, Gen, command, IsSized};
 ghost use Rattle.goal_cli.specs.Input.{is_compiled, IsReadAs, IsTextFault, IsFaultOfFile};
-ghost use Rattle.goal_cli.specs.Output.{run_text, IsPrintedRun, IsReportedRun, IsRunOf, IsOutput, IsStop};
+ghost use Rattle.goal_cli.specs.Output.{HasInput, run_text, IsPrintedRun, IsReportedRun, IsRunOf, ending_if, IsMade, IsOutput, MayEnd, IsScheduleOf, IsStop};
 
-use crate::answer::Refusal;
-use goal_base::NoMemory;
+use crate::answer::{Ending, Refusal};
+use goal_base::{MAX_BYTES, NoMemory};
 use goal_binary::{FileFault, MAGIC, decode, encode, laws_of_files};
+use goal_blocks::Collective;
+use goal_collectives::{GenFault, generate};
 use goal_graph::Sched;
 use goal_parser::{TextFault, read_text};
 use goal_print::print_text;
+use goal_rooted::{RootedFault, generate_rooted};
 use goal_words::Line;
 use sim_events::{Engine, EngineFault};
 use sim_params::{LogGops, Params};
@@ -26,14 +30,14 @@ use sim_timeline::timeline;
 use sim_waits::waits;
 use std::alloc::Global;
 
-// What a command writes, and whether an operation of the run has no end.
+// What a command writes, and how it ends.
 #[derive(Drop)]
 pub struct Output {
     pub bytes: Vec<u8>,
-    pub stuck: bool,
+    pub ending: Ending,
 }
 
-// Why a command makes nothing of its input.
+// Why a command makes nothing of its input or its words.
 pub enum Stop {
     Refused(Refusal),
     NoMemory,
@@ -54,7 +58,7 @@ fn read_as_text(alloc: Global, input: &[u8]) -> Result<Sched, Stop>
     requires short { length input.now ≤ MAX_INPUT }
     requires text { is_compiled input.now ≡ false }
     ensures read { IfOk result (λ sched. IsReadAs input.now sched) }
-    ensures stop { IfErr result (λ stop. (c : Command) → IsStop c input.now stop) }
+    ensures stop { IfErr result (λ stop. (c : Command) → HasInput c → IsStop c input.now stop) }
 {
     match read_text(alloc, input) {
         Ok(sched) => Ok(sched),
@@ -68,7 +72,7 @@ fn read_as_file(alloc: Global, input: &[u8]) -> Result<Sched, Stop>
     requires short { length input.now ≤ MAX_INPUT }
     requires compiled { is_compiled input.now ≡ true }
     ensures read { IfOk result (λ sched. IsReadAs input.now sched) }
-    ensures stop { IfErr result (λ stop. (c : Command) → IsStop c input.now stop) }
+    ensures stop { IfErr result (λ stop. (c : Command) → HasInput c → IsStop c input.now stop) }
 {
     match decode(alloc, input) {
         Ok(sched) => Ok(sched),
@@ -81,13 +85,80 @@ fn read_as_file(alloc: Global, input: &[u8]) -> Result<Sched, Stop>
 fn read_input(alloc: Global, input: &[u8]) -> Result<Sched, Stop>
     requires short { length input.now ≤ MAX_INPUT }
     ensures read { IfOk result (λ sched. IsReadAs input.now sched) }
-    ensures stop { IfErr result (λ stop. (c : Command) → IsStop c input.now stop) }
+    ensures stop { IfErr result (λ stop. (c : Command) → HasInput c → IsStop c input.now stop) }
 {
     if is_compiled(input) {
         read_as_file(alloc, input)
     } else {
         read_as_text(alloc, input)
     }
+}
+
+// The schedule of a broadcast, barrier, allgather, allreduce or alltoall.
+fn make_first(alloc: Global, what: Collective, ranks: u32, bytes: u64) -> Result<Sched, Stop>
+    requires first { is_first what ≡ true }
+    requires size { bytes ≤ MAX_BYTES }
+    ensures made { IfOk result (λ sched. IsMade what ranks bytes sched) }
+    ensures stop { IfErr result (λ stop. (input : List ℕ) → IsStop (Gen what ranks bytes) input stop) }
+{
+    match generate(alloc, what, ranks, bytes) {
+        Ok(sched) => Ok(sched),
+        Err(GenFault::NoMemory) => Err(Stop::NoMemory),
+        Err(fault) => Err(Stop::Refused(Refusal::Generator(fault))),
+    }
+}
+
+// The schedule of a reduce, gather, scatter, reduce_scatter or scan.
+fn make_rooted(alloc: Global, what: Collective, ranks: u32, bytes: u64) -> Result<Sched, Stop>
+    requires second { is_first what ≡ false }
+    requires size { bytes ≤ MAX_BYTES }
+    ensures made { IfOk result (λ sched. IsMade what ranks bytes sched) }
+    ensures stop { IfErr result (λ stop. (input : List ℕ) → IsStop (Gen what ranks bytes) input stop) }
+{
+    match generate_rooted(alloc, what, ranks, bytes) {
+        Ok(sched) => Ok(sched),
+        Err(RootedFault::Ranks { limit }) => {
+            Err(Stop::Refused(Refusal::Generator(GenFault::Ranks { limit })))
+        }
+        Err(RootedFault::Root) => Err(Stop::Refused(Refusal::Generator(GenFault::Root))),
+        Err(RootedFault::NoMemory) => Err(Stop::NoMemory),
+    }
+}
+
+// The schedule of a collective.
+fn make_schedule(alloc: Global, what: Collective, ranks: u32, bytes: u64) -> Result<Sched, Stop>
+    requires size { bytes ≤ MAX_BYTES }
+    ensures made { IfOk result (λ sched. IsMade what ranks bytes sched) }
+    ensures stop { IfErr result (λ stop. (input : List ℕ) → IsStop (Gen what ranks bytes) input stop) }
+{
+    if what.is_first() {
+        make_first(alloc, what, ranks, bytes)
+    } else {
+        make_rooted(alloc, what, ranks, bytes)
+    }
+}
+
+// The schedule that a command works on: what its input says, or what it makes.
+fn schedule_of(alloc: Global, line: &Line, input: &[u8]) -> Result<Sched, Stop>
+    requires short { length input.now ≤ MAX_INPUT }
+    requires sized { IsSized (command line.now) }
+    ensures schedule { IfOk result (λ sched. IsScheduleOf (command line.now) input.now sched) }
+    ensures stop { IfErr result (λ stop. IsStop (command line.now) input.now stop) }
+{
+    match line {
+        Line::Sim { .. } => read_input(alloc, input),
+        Line::Waits { .. } => read_input(alloc, input),
+        Line::Compile { .. } => read_input(alloc, input),
+        Line::Show { .. } => read_input(alloc, input),
+        Line::Gen { what, ranks, bytes } => make_schedule(alloc, *what, *ranks, *bytes),
+    }
+}
+
+// How a run ends a command.
+fn ending_if(stuck: bool) -> Ending
+    ensures { result ≡ ending_if stuck }
+{
+    if stuck { Ending::Stuck } else { Ending::Done }
 }
 
 // The run of a schedule, to its end.
@@ -123,8 +194,8 @@ fn run_text(alloc: Global, sched: &Sched, engine: &Engine<'_, LogGops>) -> Resul
 // The printed run of a schedule.
 fn print_run(alloc: Global, sched: &Sched, params: Params) -> Result<Output, EngineFault>
     ensures fits { OnOk result (budget sched.now (log_gops (numbers params)) < 2 ^ 63) }
-    ensures run { IfOk result (λ output.
-        IsPrintedRun (log_gops (numbers params)) sched.now output.bytes.items output.stuck) }
+    ensures run { IfOk result (λ output. (stuck : Bool) × (output.ending ≡ ending_if stuck)
+        × IsPrintedRun (log_gops (numbers params)) sched.now output.bytes.items stuck) }
     ensures fault { IfErr result (IsEngineFault (budget sched.now (log_gops (numbers params)))) }
 {
     let engine = match run(alloc, sched, params) {
@@ -134,7 +205,7 @@ fn print_run(alloc: Global, sched: &Sched, params: Params) -> Result<Output, Eng
     match run_text(alloc, sched, &engine) {
         Ok(bytes) => Ok(Output {
             bytes,
-            stuck: is_stuck(&engine),
+            ending: ending_if(is_stuck(&engine)),
         }),
         Err(NoMemory) => Err(EngineFault::NoMemory),
     }
@@ -143,8 +214,8 @@ fn print_run(alloc: Global, sched: &Sched, params: Params) -> Result<Output, Eng
 // The report on the waits of the run of a schedule.
 fn report_waits(alloc: Global, sched: &Sched, params: Params) -> Result<Output, EngineFault>
     ensures fits { OnOk result (budget sched.now (log_gops (numbers params)) < 2 ^ 63) }
-    ensures run { IfOk result (λ output.
-        IsReportedRun (log_gops (numbers params)) sched.now output.bytes.items output.stuck) }
+    ensures run { IfOk result (λ output. (stuck : Bool) × (output.ending ≡ ending_if stuck)
+        × IsReportedRun (log_gops (numbers params)) sched.now output.bytes.items stuck) }
     ensures fault { IfErr result (IsEngineFault (budget sched.now (log_gops (numbers params)))) }
 {
     let engine = match run(alloc, sched, params) {
@@ -154,7 +225,7 @@ fn report_waits(alloc: Global, sched: &Sched, params: Params) -> Result<Output, 
     match waits(alloc, sched, &engine) {
         Ok(bytes) => Ok(Output {
             bytes,
-            stuck: is_stuck(&engine),
+            ending: ending_if(is_stuck(&engine)),
         }),
         Err(NoMemory) => Err(EngineFault::NoMemory),
     }
@@ -162,13 +233,13 @@ fn report_waits(alloc: Global, sched: &Sched, params: Params) -> Result<Output, 
 
 // An output of a command that runs nothing.
 fn whole(bytes: Result<Vec<u8>, NoMemory>) -> Result<Output, Stop>
-    ensures output { IfOk result (λ output. (bytes ≡ Ok output.bytes) × (output.stuck ≡ false)) }
+    ensures output { IfOk result (λ output. (bytes ≡ Ok output.bytes) × (output.ending ≡ Ending.Done)) }
     ensures stop { IfErr result (λ stop. stop ≡ Stop.NoMemory) }
 {
     match bytes {
         Ok(bytes) => Ok(Output {
             bytes,
-            stuck: false,
+            ending: Ending::Done,
         }),
         Err(NoMemory) => Err(Stop::NoMemory),
     }
@@ -184,10 +255,11 @@ fn compile(alloc: Global, sched: &Sched) -> Result<Vec<u8>, NoMemory>
     encode(alloc, sched)
 }
 
-// What a command makes of a schedule that its input says.
+// What a command makes of the schedule that it works on.
 fn output_of(alloc: Global, line: &Line, input: &[u8], sched: &Sched) -> Result<Output, Stop>
-    requires read { IsReadAs input.now sched.now }
-    ensures output { IfOk result (λ output. IsOutput (command line.now) input.now output.bytes.items output.stuck) }
+    requires schedule { IsScheduleOf (command line.now) input.now sched.now }
+    ensures output { IfOk result (λ output. IsOutput (command line.now) input.now output.bytes.items output.ending) }
+    ensures ends { IfOk result (λ output. MayEnd (command line.now) output.ending) }
     ensures stop { IfErr result (λ stop. IsStop (command line.now) input.now stop) }
 {
     match line {
@@ -203,16 +275,19 @@ fn output_of(alloc: Global, line: &Line, input: &[u8], sched: &Sched) -> Result<
         },
         Line::Compile { .. } => whole(compile(alloc, sched)),
         Line::Show { .. } => whole(print_text(alloc, sched)),
+        Line::Gen { .. } => whole(print_text(alloc, sched)),
     }
 }
 
-// What a command makes of its input.
+// What a command makes of its input, or of its words alone.
 pub fn make(alloc: Global, line: &Line, input: &[u8]) -> Result<Output, Stop>
     requires short { length input.now ≤ MAX_INPUT }
-    ensures output { IfOk result (λ output. IsOutput (command line.now) input.now output.bytes.items output.stuck) }
+    requires sized { IsSized (command line.now) }
+    ensures output { IfOk result (λ output. IsOutput (command line.now) input.now output.bytes.items output.ending) }
+    ensures ends { IfOk result (λ output. MayEnd (command line.now) output.ending) }
     ensures stop { IfErr result (λ stop. IsStop (command line.now) input.now stop) }
 {
-    match read_input(alloc, input) {
+    match schedule_of(alloc, line, input) {
         Ok(sched) => output_of(alloc, line, input, &sched),
         Err(stop) => Err(stop),
     }

@@ -1,11 +1,12 @@
 // The words of refusals.
 ghost use Rattle.std.specs.Prelude.{◌≡◌, ◌++◌, List, IfOk, OnOk, codes};
 ghost use Rattle.goal_base.specs.Text.{pair_text};
-ghost use Rattle.goal_cli.specs.Refusal.{at_text, plan_words, text_words, file_words, refusal_words, refused_line};
+ghost use Rattle.goal_cli.specs.Refusal.{at_text, plan_words, text_words, file_words, generator_words, refusal_words, refused_line};
 
 use crate::answer::Refusal;
 use goal_base::{NoMemory, TextOut};
 use goal_binary::FileFault;
+use goal_collectives::GenFault;
 use goal_graph::PlanFault;
 use goal_parser::TextFault;
 use std::alloc::Global;
@@ -29,6 +30,7 @@ fn put_refusal(out: &mut TextOut, refusal: Refusal) -> Result<(), NoMemory>
         Refusal::TooLong => out.word("input longer than 134217728 bytes"),
         Refusal::Text(fault) => put_text_fault(out, fault),
         Refusal::File(fault) => put_file_fault(out, fault),
+        Refusal::Generator(fault) => put_generator_fault(out, fault),
         Refusal::Budget { sum } => {
             out.word("budget ")?;
             out.number(sum)
@@ -78,6 +80,18 @@ fn put_plan_fault(out: &mut TextOut, fault: PlanFault) -> Result<(), NoMemory>
         PlanFault::NoteMisfit { rank, note } => put_pair(out, "plan: note ", rank, note),
         PlanFault::Cycle { rank, op } => put_pair(out, "plan: cycle ", rank, op),
         PlanFault::Count { .. } | PlanFault::Value { .. } | PlanFault::NoMemory => Ok(()),
+    }
+}
+
+// Appends the words of why a collective has no schedule.
+fn put_generator_fault(out: &mut TextOut, fault: GenFault) -> Result<(), NoMemory>
+    ensures { OnOk result (out.new ≡ out.old ++ generator_words fault) }
+{
+    match fault {
+        GenFault::Ranks { limit } => put_at(out, "generator: ranks ", u64::from(limit)),
+        GenFault::Root => out.word("generator: root"),
+        GenFault::NotPowerOfTwo => out.word("generator: power of two"),
+        GenFault::NoMemory => Ok(()),
     }
 }
 

@@ -7,6 +7,7 @@ use std::test::Fail;
 
 mod faults;
 mod files;
+mod made;
 mod refusals;
 mod runs;
 

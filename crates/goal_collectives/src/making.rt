@@ -56,6 +56,7 @@ pub fn generate(alloc: Global, what: Collective, ranks: u32, bytes: u64) -> Resu
     // The schedule is that of the formula.
     ensures made { IfOk result (λ sched. sched ≡ made what ranks bytes) }
     ensures accepted { IfOk result (λ sched. IsAccepted sched) }
+    ensures exact { OnOk result (IsPossible what ranks) }
 
     // Where that is proved of the collective, it is certified, and right in every interleaving.
     ensures certified { IsCertifiedByProof what ranks → IfOk result (λ sched. IsCertifiedFor what sched) }

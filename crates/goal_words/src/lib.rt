@@ -4,6 +4,7 @@
 //!     waits NAME [the same options]
 //!     compile NAME OUT
 //!     show NAME
+//!     gen KIND RANKS BYTES
 //!
 //! NAME and OUT are any words that do not begin with `-`. Each option stands at most once, after the plain words, and is
 //! followed by its value, 1 to 20 digits within the limit of its parameter.

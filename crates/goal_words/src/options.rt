@@ -91,7 +91,7 @@ fn are_digits(word: &[u8]) -> bool
 }
 
 // The value of a number.
-fn value_of(word: &str) -> Option<u64>
+pub fn value_of(word: &str) -> Option<u64>
     ensures { result ≡ value_of word.now }
 {
     if word.len() > MOST_DIGITS || !are_digits(word.as_bytes()) {

@@ -1,23 +1,25 @@
 use Rattle.std.proofs.Common.{rules, inr}
 use Rattle.goal_words.specs.Words.{command}
 use Rattle.goal_cli.specs.World.{devices}
-use Rattle.goal_cli.proofs.AnswerLemmas.{cut_off_from, rose_from}
+use Rattle.goal_cli.proofs.AnswerLemmas.{too_long, refused_of, written_from, cut_off_from, rose_from, taken_still}
 use Rattle.goal_cli.proofs.command.carry_out_line.Goals as goal
 
 pub returns-in-Err-Failed-clause-cause : goal.returns-in-Err-Failed-clause-cause
 returns-in-Err-Failed-clause-cause g c =
-    let read = g.H.Host.state c.read_all.new.host in
+    let read = g.H.Host.state c.take_input.new.host in
     let new = devices (g.H.Host.state c.put.new.host) (g.W.Sink.state c.put.new.out) in (
-      cut_off_from (g.H.Host.state c.args.host.now) read (g.W.Sink.state c.args.out.now) new (command c.args.line.now)
-          c.in-Ok.input.items c.in-Ok-make.output.bytes.items c.in-Ok-make.output.stuck (search rules) (search rules)
-          (search rules) (search rules) (search rules) (search rules) (search rules) (search rules),
-      rose_from (g.H.Host.state c.args.host.now) read (g.W.Sink.state c.args.out.now) new (command c.args.line.now)
-          (search rules) (search rules) (search rules),
+      cut_off_from (g.H.Host.state c.args.host.now) read (g.W.Sink.state c.args.out.now) new c.take_input.ensures.reads.kept
+          c.take_input.ensures.reads.later (command c.args.line.now)
+          c.in-Ok.input.items c.in-Ok-make.output.bytes.items c.in-Ok-make.output.ending (search rules) (search rules)
+          (search rules) (search rules) (search rules) (search rules),
+      rose_from (g.H.Host.state c.args.host.now) read (g.W.Sink.state c.args.out.now) new c.take_input.ensures.reads.kept
+          c.take_input.ensures.reads.later _ (search rules),
     )
 
 pub returns-clause-cause : goal.returns-clause-cause
 returns-clause-cause g c =
-    inr (cut_off_from (g.H.Host.state c.args.host.now) (g.H.Host.state c.read_all.new.host) (g.W.Sink.state c.args.out.now)
-    (devices (g.H.Host.state c.put.new.host) (g.W.Sink.state c.put.new.out)) (command c.args.line.now)
-    c.in-Ok.input.items c.in-Ok-make.output.bytes.items c.in-Ok-make.output.stuck (search rules) (search rules)
-    (search rules) (search rules) (search rules) (search rules) (search rules) (search rules))
+    inr (cut_off_from (g.H.Host.state c.args.host.now) (g.H.Host.state c.take_input.new.host) (g.W.Sink.state c.args.out.now)
+    (devices (g.H.Host.state c.put.new.host) (g.W.Sink.state c.put.new.out)) c.take_input.ensures.reads.kept
+    c.take_input.ensures.reads.later (command c.args.line.now)
+    c.in-Ok.input.items c.in-Ok-make.output.bytes.items c.in-Ok-make.output.ending (search rules) (search rules)
+    (search rules) (search rules) (search rules) (search rules))

@@ -9,12 +9,15 @@ use Rattle.goal_cli.proofs.output.print_run.Goals as goal
 pub returns-in-Ok-run_text-clause-run : goal.returns-in-Ok-run_text-clause-run
 returns-in-Ok-run_text-clause-run c =
     let r = c.in-Ok.ensures.run in
-    let h = c.in-Ok.engine.history in
-    record {
-      history = h;
-      complete = r.complete;
-      only = r.only;
-      printed = c.in-Ok-run_text.ensures ∙ ap (λ (costs : CostModel). run_text c.args.sched.now costs h) r.costs_are;
-      stuck_is =
-          c.is_stuck.ensures ∙ ap (λ (sched : List Plan). is_stuck sched (log_gops (numbers c.in-Ok.engine.costs.params)) h) r.plans ∙ ap (λ (costs : CostModel). is_stuck c.args.sched.now costs h) r.costs_are;
-    }
+    let h = c.in-Ok.engine.history in (
+      c.is_stuck.result,
+      c.ending_if.ensures,
+      record {
+        history = h;
+        complete = r.complete;
+        only = r.only;
+        printed = c.in-Ok-run_text.ensures ∙ ap (λ (costs : CostModel). run_text c.args.sched.now costs h) r.costs_are;
+        stuck_is =
+            c.is_stuck.ensures ∙ ap (λ (sched : List Plan). is_stuck sched (log_gops (numbers c.in-Ok.engine.costs.params)) h) r.plans ∙ ap (λ (costs : CostModel). is_stuck c.args.sched.now costs h) r.costs_are;
+      },
+    )
