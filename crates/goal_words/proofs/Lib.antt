@@ -1,2 +1,7 @@
 pub mod NumberLemmas
-pub mod OptionsLemmas
+pub mod KeyLemmas
+pub mod PlaceLemmas
+pub mod RestLemmas
+pub mod PartsLemmas
+pub mod LawLemmas
+pub mod SizeLemmas

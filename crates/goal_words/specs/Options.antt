@@ -1,33 +1,34 @@
--- The options of a run: the eight parameters, each an option word followed by its value.
-use Rattle.std.specs.Prelude.{ℕ, ◌&&◌, ◌^◌, nat_lt, nat_le, Bool, List, [], ◌∷◌, length, Option, Some, None, is_some, unwrap_or, codes, bytes_eq, if◌then◌else◌}
-use Rattle.std.specs.Option.{option_and_then}
-use Rattle.std.specs.List.{list_all}
+-- What stands at the words of a line after the first of them, and what its options are set to. A command takes some options;
+-- each is a word that begins with `--`.
+use Rattle.std.specs.Prelude.{ℕ, ◌==◌, ◌&&◌, ◌^◌, nat_lt, nat_le, Bool, true, false, List, [], ◌∷◌, length, Option, Some, None, is_some, unwrap_or, codes, bytes_eq, if◌then◌else◌}
+use Rattle.std.specs.List.{list_all, list_any, before_first, after_first}
 use Rattle.std.specs.Char.{is_ascii_digit}
 use Rattle.std.specs.Str.Parse.{digits_value}
 use Rattle.sim_params.specs.Costs.{Numbers}
 use Rattle.sim_params.specs.Limits.{first_over}
-use Rattle.sim_params.specs.declared.params.Param.{Param}
-use Rattle.sim_params.specs.declared.params.Param.TheVariants.{Latency, Overhead, Gap, GapPerByte, GapPicos, OverheadPerByte, OverheadPicos, Sync}
 use Rattle.sim_params.specs.declared.params.TheConstants.{DEFAULT_LATENCY, DEFAULT_OVERHEAD, DEFAULT_GAP, DEFAULT_GAP_PER_BYTE, DEFAULT_OVERHEAD_PER_BYTE, DEFAULT_SYNC}
-use Rattle.goal_words.specs.declared.options.Given.{Given}
 
--- this parameter where the word is its option, and else what the others say
-abbrev pub named_or : List ℕ → List ℕ → Param → Option Param → Option Param
-named_or w option param others = if bytes_eq w option then Some param else others
+-- the options of a run: its eight parameters
+abbrev pub run_options : List (List ℕ)
+run_options =
+    codes "--L" ∷ codes "--o" ∷ codes "--g" ∷ codes "--G" ∷ codes "--Gp" ∷ codes "--O" ∷ codes "--Op" ∷ codes "--S" ∷ []
 
--- the parameter that an option word names
-abbrev pub option_of : List ℕ → Option Param
-option_of w =
-    named_or w (codes "--L") Latency
-    (named_or w (codes "--o") Overhead
-    (named_or w (codes "--g") Gap
-    (named_or w (codes "--G") GapPerByte
-    (named_or w (codes "--Gp") GapPicos
-    (named_or w (codes "--O") OverheadPerByte
-    (named_or w (codes "--Op") OverheadPicos
-    (named_or w (codes "--S") Sync None)))))))
+-- the option of a collective
+abbrev pub root_option : List (List ℕ)
+root_option = codes "--root" ∷ []
 
--- a number is 1 to 20 decimal digits, and below 2^64
+abbrev pub all_options : List (List ℕ)
+all_options = codes "--root" ∷ run_options
+
+abbrev pub is_option : List (List ℕ) → List ℕ → Bool
+is_option options w = list_any (bytes_eq w) options
+
+-- a word that begins with `-`, and so is no plain word
+abbrev pub begins_dash : List ℕ → Bool
+begins_dash [] = false
+begins_dash (b ∷ bs) = b == 45
+
+-- a number is 1 to 20 decimal digits, and below 2^64 (no limit is above)
 abbrev pub is_number : List ℕ → Bool
 is_number w = nat_lt 0 (length w) && nat_le (length w) 20 && list_all is_ascii_digit w && nat_lt (digits_value 10 w) (2 ^ 64)
 
@@ -35,72 +36,88 @@ is_number w = nat_lt 0 (length w) && nat_le (length w) 20 && list_all is_ascii_d
 abbrev pub value_of : List ℕ → Option ℕ
 value_of w = if is_number w then Some (digits_value 10 w) else None
 
--- no option yet
-abbrev pub none_given : Given
-none_given = record {
-  latency = None;
-  overhead = None;
-  gap = None;
-  gap_per_byte = None;
-  gap_picos = None;
-  overhead_per_byte = None;
-  overhead_picos = None;
-  sync = None;
-}
+-- what stands at a word
+pub data Place : Type 0 where
+  -- a plain word
+  Plain : List ℕ → Place
+  -- an option word, whose value is the next word
+  Named : Place
+  -- what the option of that word is set to: the value after it, or the one that is joined to it by `=`
+  Set : List ℕ → ℕ → Place
+  -- none of these
+  Wrong : Place
 
--- the value that was given for a parameter
-abbrev pub given_for : Given → Param → Option ℕ
-given_for g Latency = g.latency
-given_for g Overhead = g.overhead
-given_for g Gap = g.gap
-given_for g GapPerByte = g.gap_per_byte
-given_for g GapPicos = g.gap_picos
-given_for g OverheadPerByte = g.overhead_per_byte
-given_for g OverheadPicos = g.overhead_picos
-given_for g Sync = g.sync
+-- the option's value, where it is a number
+abbrev pub set_to : List ℕ → Option ℕ → Place
+set_to option (Some n) = Set option n
+set_to option None = Wrong
 
--- with a value for a parameter
-abbrev pub set : Given → Param → ℕ → Given
-set g Latency n = record g { latency = Some n }
-set g Overhead n = record g { overhead = Some n }
-set g Gap n = record g { gap = Some n }
-set g GapPerByte n = record g { gap_per_byte = Some n }
-set g GapPicos n = record g { gap_picos = Some n }
-set g OverheadPerByte n = record g { overhead_per_byte = Some n }
-set g OverheadPicos n = record g { overhead_picos = Some n }
-set g Sync n = record g { sync = Some n }
+-- an option, `=` and its value, in one word
+abbrev pub joined : List (List ℕ) → List ℕ → Place
+joined options w =
+    if is_option options (before_first (λ b. b == 61) w) then set_to (before_first (λ b. b == 61) w) (value_of (after_first (λ b. b == 61) w)) else Wrong
 
--- with one option more, which stands at most once
-abbrev pub with_option : Given → Param → ℕ → Option Given
-with_option g p n = if is_some (given_for g p) then None else Some (set g p n)
+-- what stands at the word w after the word `before`
+abbrev pub place : List (List ℕ) → List ℕ → List ℕ → Place
+place options before w =
+    if is_option options before then set_to before (value_of w)
+    else (if begins_dash w then (if is_option options w then Named else joined options w) else Plain w)
 
--- with the option that two words are
-abbrev pub with_words : Given → List ℕ → List ℕ → Option Given
-with_words g word value = option_and_then (λ p. option_and_then (λ n. with_option g p n) (value_of value)) (option_of word)
+-- what stands at each of the words after the word `before`; an option word at their end has no value
+unfoldable pub places : List (List ℕ) → List ℕ → List (List ℕ) → List Place
+places options before [] = if is_option options before then Wrong ∷ [] else []
+places options before (w ∷ words) = place options before w ∷ places options w words
 
--- with all options that words are: two words an option
-unfoldable pub with_all : Given → List (List ℕ) → Option Given
-with_all g [] = Some g
-with_all g (word ∷ []) = None
-with_all g (word ∷ value ∷ words) = option_and_then (λ h. with_all h words) (with_words g word value)
+-- the plain words, in their order
+unfoldable pub plain_words : List Place → List (List ℕ)
+plain_words [] = []
+plain_words (Plain w ∷ ps) = w ∷ plain_words ps
+plain_words (Named ∷ ps) = plain_words ps
+plain_words (Set option n ∷ ps) = plain_words ps
+plain_words (Wrong ∷ ps) = plain_words ps
 
--- the parameters of a run: those given, and else the usual ones
-abbrev pub numbers_given : Given → Numbers
-numbers_given g = record {
-  latency = unwrap_or g.latency DEFAULT_LATENCY;
-  overhead = unwrap_or g.overhead DEFAULT_OVERHEAD;
-  gap = unwrap_or g.gap DEFAULT_GAP;
-  gap_per_byte = unwrap_or g.gap_per_byte DEFAULT_GAP_PER_BYTE;
-  gap_picos = unwrap_or g.gap_picos 0;
-  overhead_per_byte = unwrap_or g.overhead_per_byte DEFAULT_OVERHEAD_PER_BYTE;
-  overhead_picos = unwrap_or g.overhead_picos 0;
-  sync = unwrap_or g.sync DEFAULT_SYNC;
+-- all that one option is set to
+unfoldable pub values_of : List ℕ → List Place → List ℕ
+values_of o [] = []
+values_of o (Plain w ∷ ps) = values_of o ps
+values_of o (Named ∷ ps) = values_of o ps
+values_of o (Set option n ∷ ps) = if bytes_eq option o then n ∷ values_of o ps else values_of o ps
+values_of o (Wrong ∷ ps) = values_of o ps
+
+abbrev pub is_known : Place → Bool
+is_known Wrong = false
+is_known _ = true
+
+abbrev pub at_most_one : List ℕ → Bool
+at_most_one [] = true
+at_most_one (n ∷ []) = true
+at_most_one (n ∷ m ∷ ns) = false
+
+-- each word is one that may stand there, and each option stands at most once
+abbrev pub is_right : List Place → Bool
+is_right ps = list_all is_known ps && list_all (λ o. at_most_one (values_of o ps)) all_options
+
+abbrev pub first_of : List ℕ → Option ℕ
+first_of [] = None
+first_of (n ∷ ns) = Some n
+
+-- what an option is set to, if it stands there
+abbrev pub value_at : List ℕ → List Place → Option ℕ
+value_at o ps = first_of (values_of o ps)
+
+-- the parameters of a run: those that are set, and else the usual ones
+abbrev pub numbers_of : List Place → Numbers
+numbers_of ps = record {
+  latency = unwrap_or (value_at (codes "--L") ps) DEFAULT_LATENCY;
+  overhead = unwrap_or (value_at (codes "--o") ps) DEFAULT_OVERHEAD;
+  gap = unwrap_or (value_at (codes "--g") ps) DEFAULT_GAP;
+  gap_per_byte = unwrap_or (value_at (codes "--G") ps) DEFAULT_GAP_PER_BYTE;
+  gap_picos = unwrap_or (value_at (codes "--Gp") ps) 0;
+  overhead_per_byte = unwrap_or (value_at (codes "--O") ps) DEFAULT_OVERHEAD_PER_BYTE;
+  overhead_picos = unwrap_or (value_at (codes "--Op") ps) 0;
+  sync = unwrap_or (value_at (codes "--S") ps) DEFAULT_SYNC;
 }
 
 -- parameters within their limits
 abbrev pub within_limits : Numbers → Option Numbers
 within_limits p = if is_some (first_over p) then None else Some p
-
--- the parameters that the option words of a line give
-unfoldable pub numbers_of : List (List ℕ) → Option Numbers
-numbers_of words = option_and_then (λ g. within_limits (numbers_given g)) (with_all none_given words)

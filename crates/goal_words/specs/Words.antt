@@ -1,6 +1,6 @@
 -- The command lines of `goal`, by the words after the program's name.
-use Rattle.std.specs.Prelude.{ℕ, ◌≤◌, ◌==◌, ◌&&◌, ◌||◌, nat_le, Bool, false, List, [], ◌∷◌, Option, Some, None, map, codes, bytes_eq, string_bytes, if◌then◌else◌}
-use Rattle.std.specs.Option.{option_map}
+use Rattle.std.specs.Prelude.{ℕ, ◌≤◌, ◌||◌, ◌&&◌, nat_le, List, [], ◌∷◌, Option, Some, None, is_some, unwrap_or, map, codes, bytes_eq, string_bytes, if◌then◌else◌}
+use Rattle.std.specs.Option.{option_map, option_and_then}
 use Rattle.std.specs.declared.alloc.Global.{Global}
 use Rattle.std.specs.declared.string.String.{String}
 use Rattle.goal_base.specs.declared.limits.TheConstants.{MAX_RANKS, MAX_BYTES}
@@ -10,7 +10,8 @@ use Rattle.sim_params.specs.Costs.{Numbers}
 use Rattle.sim_params.specs.Numbers.{numbers}
 use Rattle.goal_words.specs.declared.line.Line.{Line}
 use Rattle.goal_words.specs.declared.line.Line.TheVariants as line
-use Rattle.goal_words.specs.Options.{numbers_of, value_of}
+use Rattle.goal_words.specs.declared.kinds.TheConstants.{MAX_ROOT}
+use Rattle.goal_words.specs.Options.{Place, run_options, root_option, value_of, places, plain_words, is_right, value_at, numbers_of, within_limits}
 
 -- what a command line asks for
 pub data Command : Type 0 where
@@ -22,7 +23,7 @@ pub data Command : Type 0 where
   Compile : List ℕ → List ℕ → Command
   -- to write its canonical text
   Show : List ℕ → Command
-  -- to write that of the schedule of a collective, for so many ranks, with messages of so many bytes
+  -- to write the canonical text of the schedule that is made for the collective, of so many ranks and bytes
   Gen : Collective → ℕ → ℕ → Command
 
 -- the messages that a command asks for are not too large
@@ -30,69 +31,90 @@ abbrev pub IsSized : Command → Type 0
 IsSized (Gen what ranks bytes) = bytes ≤ MAX_BYTES
 IsSized _ = Unit {0}
 
--- a word that begins with `-`, and so is no name
-abbrev pub begins_dash : List ℕ → Bool
-begins_dash [] = false
-begins_dash (b ∷ bs) = b == 45
+-- the options that a command takes, by the first word
+abbrev pub options_of : List ℕ → List (List ℕ)
+options_of first =
+    if bytes_eq first (codes "sim") || bytes_eq first (codes "waits") then run_options
+    else (if bytes_eq first (codes "gen") then root_option else [])
 
--- `sim NAME`, and then its options
-abbrev pub sim_of : List (List ℕ) → Option Command
-sim_of [] = None
-sim_of (name ∷ options) = if begins_dash name then None else option_map (Sim name) (numbers_of options)
+-- a number within these limits
+abbrev pub number_from : ℕ → ℕ → List ℕ → Option ℕ
+number_from least most w = option_and_then (λ n. if nat_le least n && nat_le n most then Some n else None) (value_of w)
 
--- `waits NAME`, and then its options
-abbrev pub waits_of : List (List ℕ) → Option Command
-waits_of [] = None
-waits_of (name ∷ options) = if begins_dash name then None else option_map (Waits name) (numbers_of options)
+-- the root: 0 where `--root` does not stand there
+abbrev pub root_of : Option ℕ → Option ℕ
+root_of root = if nat_le (unwrap_or root 0) MAX_ROOT then Some (unwrap_or root 0) else None
+
+-- a collective that has a root
+abbrev pub rooted : (ℕ → Collective) → Option ℕ → Option Collective
+rooted what root = option_map what (root_of root)
+
+-- one that has none, where `--root` may not stand
+abbrev pub rootless : Collective → Option ℕ → Option Collective
+rootless what root = if is_some root then None else Some what
+
+-- the collective of a KIND and what `--root` is set to
+abbrev pub collective_of : List ℕ → Option ℕ → Option Collective
+collective_of kind root =
+    if bytes_eq kind (codes "bcast") then rooted Bcast root
+    else (if bytes_eq kind (codes "barrier") then rootless Barrier root
+    else (if bytes_eq kind (codes "allgather") then rootless Allgather root
+    else (if bytes_eq kind (codes "allreduce") then rootless Allreduce root
+    else (if bytes_eq kind (codes "alltoall") then rootless Alltoall root
+    else (if bytes_eq kind (codes "reduce") then rooted Reduce root
+    else (if bytes_eq kind (codes "gather") then rooted Gather root
+    else (if bytes_eq kind (codes "scatter") then rooted Scatter root
+    else (if bytes_eq kind (codes "reduce_scatter") then rootless ReduceScatter root
+    else (if bytes_eq kind (codes "scan") then rootless Scan root else None)))))))))
+
+-- `sim NAME`, with parameters
+abbrev pub sim_of : List (List ℕ) → Numbers → Option Command
+sim_of (name ∷ []) params = option_map (Sim name) (within_limits params)
+sim_of _ params = None
+
+-- `waits NAME`, with parameters
+abbrev pub waits_of : List (List ℕ) → Numbers → Option Command
+waits_of (name ∷ []) params = option_map (Waits name) (within_limits params)
+waits_of _ params = None
 
 -- `compile NAME OUT`
 abbrev pub compile_of : List (List ℕ) → Option Command
-compile_of (name ∷ out ∷ []) = if begins_dash name || begins_dash out then None else Some (Compile name out)
+compile_of (name ∷ out ∷ []) = Some (Compile name out)
 compile_of _ = None
 
 -- `show NAME`
 abbrev pub show_of : List (List ℕ) → Option Command
-show_of (name ∷ []) = if begins_dash name then None else Some (Show name)
+show_of (name ∷ []) = Some (Show name)
 show_of _ = None
 
--- this collective where the word is its kind, and else what the others say
-abbrev pub kind_or : List ℕ → List ℕ → Collective → Option Collective → Option Collective
-kind_or w kind what others = if bytes_eq w kind then Some what else others
+-- `gen KIND RANKS BYTES`, with what `--root` is set to
+abbrev pub gen_of : List (List ℕ) → Option ℕ → Option Command
+gen_of (kind ∷ ranks ∷ bytes ∷ []) root =
+    option_and_then (λ what.
+    option_and_then (λ (n : ℕ).
+    option_map (Gen what n) (number_from 0 MAX_BYTES bytes)) (number_from 1 MAX_RANKS ranks)) (collective_of kind root)
+gen_of _ root = None
 
--- the collective of a kind; the root is 0
-abbrev pub kind_of : List ℕ → Option Collective
-kind_of w =
-    kind_or w (codes "bcast") (Bcast 0)
-    (kind_or w (codes "barrier") Barrier
-    (kind_or w (codes "allgather") Allgather
-    (kind_or w (codes "allreduce") Allreduce
-    (kind_or w (codes "alltoall") Alltoall
-    (kind_or w (codes "reduce") (Reduce 0)
-    (kind_or w (codes "gather") (Gather 0)
-    (kind_or w (codes "scatter") (Scatter 0)
-    (kind_or w (codes "reduce_scatter") ReduceScatter
-    (kind_or w (codes "scan") Scan None)))))))))
+-- the command of the first word, by the plain words, the parameters and what `--root` is set to
+abbrev pub command_by : List ℕ → List (List ℕ) → Numbers → Option ℕ → Option Command
+command_by first plain params root =
+    if bytes_eq first (codes "sim") then sim_of plain params
+    else (if bytes_eq first (codes "waits") then waits_of plain params
+    else (if bytes_eq first (codes "compile") then compile_of plain
+    else (if bytes_eq first (codes "show") then show_of plain
+    else (if bytes_eq first (codes "gen") then gen_of plain root else None))))
 
--- a number within limits
-abbrev pub within : ℕ → ℕ → Option ℕ → Option ℕ
-within least most None = None
-within least most (Some n) = if nat_le least n && nat_le n most then Some n else None
+-- what stands at the words of a line after the first
+abbrev pub line_places : List ℕ → List (List ℕ) → List Place
+line_places first words = places (options_of first) first words
 
-abbrev pub gen_with : Option Collective → Option ℕ → Option ℕ → Option Command
-gen_with (Some what) (Some ranks) (Some bytes) = Some (Gen what ranks bytes)
-gen_with _ _ _ = None
-
--- `gen KIND RANKS BYTES`
-abbrev pub gen_of : List (List ℕ) → Option Command
-gen_of (kind ∷ ranks ∷ bytes ∷ []) = gen_with (kind_of kind) (within 1 MAX_RANKS (value_of ranks)) (within 0 MAX_BYTES (value_of bytes))
-gen_of _ = None
-
--- the command that words are, by the first of them
+-- the command that words are
 abbrev pub command_of : List (List ℕ) → Option Command
 command_of [] = None
 command_of (first ∷ words) =
-    if bytes_eq first (codes "sim") then sim_of words
-    else (if bytes_eq first (codes "waits") then waits_of words else (if bytes_eq first (codes "compile") then compile_of words else (if bytes_eq first (codes "show") then show_of words else (if bytes_eq first (codes "gen") then gen_of words else None))))
+    if is_right (line_places first words)
+    then command_by first (plain_words (line_places first words)) (numbers_of (line_places first words)) (value_at (codes "--root") (line_places first words))
+    else None
 
 -- the same of the words as they are handed over
 abbrev pub command_in : List (String Global) → Option Command

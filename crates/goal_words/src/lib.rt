@@ -4,15 +4,20 @@
 //!     waits NAME [the same options]
 //!     compile NAME OUT
 //!     show NAME
-//!     gen KIND RANKS BYTES
+//!     gen KIND RANKS BYTES [--root N]
 //!
-//! NAME and OUT are any words that do not begin with `-`. Each option stands at most once, after the plain words, and is
-//! followed by its value, 1 to 20 digits within the limit of its parameter.
+//! NAME and OUT are any words that do not begin with `-`. Options and plain words may be mixed after the first word. Each
+//! option stands at most once, and its value follows it, or is joined to it as in `--S=0`. A number has 1 to 20 digits, and
+//! is within its limit.
 #![tactic(auto)]
 
+mod kinds;
+mod laws;
 mod line;
 mod options;
+mod rest;
 #[cfg(test)]
 mod tests;
 
+pub use laws::laws_of_lines;
 pub use line::{FileName, Line, LineFault, read_words};

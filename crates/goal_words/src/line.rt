@@ -1,10 +1,11 @@
 // Command lines.
-ghost use Rattle.std.specs.Prelude.{◌≡◌, None, Some, ◌⊎◌, ◌≤◌, true, false, IfSome, IfOk, IfErr, OnOk, IsErrOf, map, string_bytes};
-ghost use Rattle.sim_params.specs.Numbers.{numbers};
-ghost use Rattle.goal_words.specs.Options.{numbers_of, value_of};
-ghost use Rattle.goal_words.specs.Words.{command, command_in, command_of, sim_of, waits_of, compile_of, show_of, gen_of, kind_of, within, begins_dash, IsSized, Sim, Waits, Compile, Show, Gen};
+ghost use Rattle.std.specs.Prelude.{◌≡◌, None, Some, ◌⊎◌, IfOk, IfErr, IsErrOf, MatchOption};
+ghost use Rattle.goal_words.specs.Words.{command, command_by, command_in, options_of, sim_of, waits_of, compile_of, show_of, gen_of, IsSized};
+ghost use Rattle.goal_words.specs.Reading.{listed, numbers_given, words_of};
 
-use crate::options::{read_options, value_of};
+use crate::kinds::{collective_of, number_from};
+use crate::options::{Given, Taken};
+use crate::rest::{Few, Rest};
 use goal_base::{MAX_BYTES, MAX_RANKS};
 use goal_blocks::Collective;
 use sim_params::Params;
@@ -26,6 +27,14 @@ impl Model for FileName {
 }
 
 impl FileName {
+    // The name that is this text.
+    fn new(alloc: Global, name: &str) -> Result<FileName, AllocError>
+        ensures { IfOk result (λ made. made ≡ name.now) }
+    {
+        let text = String::from_str(alloc, name)?;
+        Ok(FileName { text })
+    }
+
     /// The name.
     pub fn as_str(&self) -> &str
         ensures { result.now ≡ self.now }
@@ -56,7 +65,8 @@ pub enum Line {
     Show {
         name: FileName,
     },
-    /// To print the canonical text of the schedule of a collective, for so many ranks, with messages of so many bytes.
+    /// To print the canonical text of the schedule that is made for the collective `what`, of so many ranks, from 1 to
+    /// 65,536, and messages of so many bytes, at most 2^40-1. A root is at most 65,535.
     Gen {
         what: Collective,
         ranks: u32,
@@ -97,156 +107,108 @@ pub fn read_words(alloc: Global, words: &[String]) -> Result<Line, LineFault>
     let Some((first, words)) = words.split_first() else {
         return Err(LineFault::Bad);
     };
-    match first.as_str() {
-        "sim" => read_sim(alloc, words),
-        "waits" => read_waits(alloc, words),
-        "compile" => read_compile(alloc, words),
-        "show" => read_show(alloc, words),
-        "gen" => read_gen(words),
+    let first = first.as_str();
+    match Rest::new(taken_by(first), words).parts() {
+        Some((plain, given)) => read_line(alloc, first, plain, given),
+        None => Err(LineFault::Bad),
+    }
+}
+
+// The options that a command takes, by the first word.
+fn taken_by(first: &str) -> Taken
+    ensures { words_of result ≡ options_of first.now }
+{
+    match first {
+        "sim" | "waits" => Taken::Run,
+        "gen" => Taken::Root,
+        _ => Taken::Nothing,
+    }
+}
+
+// The line of the first word, the plain words and the options.
+fn read_line(alloc: Global, first: &str, plain: Few<'_>, given: Given) -> Result<Line, LineFault>
+    ensures line { IfOk result (λ line. command_by first.now (listed plain.entry) (numbers_given given) given.root ≡ Some (command line)) }
+    ensures bad { IfErr result (λ fault. fault ≡ LineFault.Bad → command_by first.now (listed plain.entry) (numbers_given given) given.root ≡ None) }
+{
+    match first {
+        "sim" => read_sim(alloc, plain, given),
+        "waits" => read_waits(alloc, plain, given),
+        "compile" => read_compile(alloc, plain),
+        "show" => read_show(alloc, plain),
+        "gen" => match read_gen(plain, given) {
+            Some(line) => Ok(line),
+            None => Err(LineFault::Bad),
+        },
         _ => Err(LineFault::Bad),
     }
 }
 
-// A word that names a file: one that does not begin with `-`.
-fn read_name(alloc: Global, word: &String) -> Result<FileName, LineFault>
-    ensures name { IfOk result (λ name. name ≡ string_bytes word.now) }
-    ensures plain { OnOk result (begins_dash (string_bytes word.now) ≡ false) }
-    ensures bad { IfErr result (λ fault. fault ≡ LineFault.Bad → begins_dash (string_bytes word.now) ≡ true) }
+// `sim NAME`.
+fn read_sim(alloc: Global, plain: Few<'_>, given: Given) -> Result<Line, LineFault>
+    ensures line { IfOk result (λ line. sim_of (listed plain.entry) (numbers_given given) ≡ Some (command line)) }
+    ensures bad { IfErr result (λ fault. fault ≡ LineFault.Bad → sim_of (listed plain.entry) (numbers_given given) ≡ None) }
 {
-    if word.as_str().starts_with('-') {
+    let Few::One(name) = plain else {
         return Err(LineFault::Bad);
-    }
-    let text = String::from_str(alloc, word.as_str())?;
-    Ok(FileName { text })
+    };
+    let Some(params) = given.params() else {
+        return Err(LineFault::Bad);
+    };
+    let name = FileName::new(alloc, name)?;
+    Ok(Line::Sim { name, params })
 }
 
-// The words after `sim`.
-fn read_sim(alloc: Global, words: &[String]) -> Result<Line, LineFault>
-    ensures line { IfOk result (λ line. sim_of (map string_bytes words.now) ≡ Some (command line)) }
-    ensures sized { IfOk result (λ line. IsSized (command line)) }
-    ensures bad { IfErr result (λ fault. fault ≡ LineFault.Bad → sim_of (map string_bytes words.now) ≡ None) }
+// `waits NAME`.
+fn read_waits(alloc: Global, plain: Few<'_>, given: Given) -> Result<Line, LineFault>
+    ensures line { IfOk result (λ line. waits_of (listed plain.entry) (numbers_given given) ≡ Some (command line)) }
+    ensures bad { IfErr result (λ fault. fault ≡ LineFault.Bad → waits_of (listed plain.entry) (numbers_given given) ≡ None) }
 {
-    let Some((name, options)) = words.split_first() else {
+    let Few::One(name) = plain else {
         return Err(LineFault::Bad);
     };
-    let name = match read_name(alloc, name) {
-        Ok(name) => name,
-        Err(fault) => return Err(fault),
+    let Some(params) = given.params() else {
+        return Err(LineFault::Bad);
     };
-    match read_options(options) {
-        Some(params) => Ok(Line::Sim { name, params }),
-        None => Err(LineFault::Bad),
-    }
+    let name = FileName::new(alloc, name)?;
+    Ok(Line::Waits { name, params })
 }
 
-// The words after `waits`.
-fn read_waits(alloc: Global, words: &[String]) -> Result<Line, LineFault>
-    ensures line { IfOk result (λ line. waits_of (map string_bytes words.now) ≡ Some (command line)) }
-    ensures sized { IfOk result (λ line. IsSized (command line)) }
-    ensures bad { IfErr result (λ fault. fault ≡ LineFault.Bad → waits_of (map string_bytes words.now) ≡ None) }
+// `compile NAME OUT`.
+fn read_compile(alloc: Global, plain: Few<'_>) -> Result<Line, LineFault>
+    ensures line { IfOk result (λ line. compile_of (listed plain.entry) ≡ Some (command line)) }
+    ensures bad { IfErr result (λ fault. fault ≡ LineFault.Bad → compile_of (listed plain.entry) ≡ None) }
 {
-    let Some((name, options)) = words.split_first() else {
+    let Few::Two(name, out) = plain else {
         return Err(LineFault::Bad);
     };
-    let name = match read_name(alloc, name) {
-        Ok(name) => name,
-        Err(fault) => return Err(fault),
-    };
-    match read_options(options) {
-        Some(params) => Ok(Line::Waits { name, params }),
-        None => Err(LineFault::Bad),
-    }
+    let name = FileName::new(alloc, name)?;
+    let out = FileName::new(alloc, out)?;
+    Ok(Line::Compile { name, out })
 }
 
-// The words after `compile`.
-fn read_compile(alloc: Global, words: &[String]) -> Result<Line, LineFault>
-    ensures line { IfOk result (λ line. compile_of (map string_bytes words.now) ≡ Some (command line)) }
-    ensures sized { IfOk result (λ line. IsSized (command line)) }
-    ensures bad { IfErr result (λ fault. fault ≡ LineFault.Bad → compile_of (map string_bytes words.now) ≡ None) }
+// `show NAME`.
+fn read_show(alloc: Global, plain: Few<'_>) -> Result<Line, LineFault>
+    ensures line { IfOk result (λ line. show_of (listed plain.entry) ≡ Some (command line)) }
+    ensures bad { IfErr result (λ fault. fault ≡ LineFault.Bad → show_of (listed plain.entry) ≡ None) }
 {
-    let [name, out] = words else {
+    let Few::One(name) = plain else {
         return Err(LineFault::Bad);
     };
-    let name = match read_name(alloc, name) {
-        Ok(name) => name,
-        Err(fault) => return Err(fault),
-    };
-    match read_name(alloc, out) {
-        Ok(out) => Ok(Line::Compile { name, out }),
-        Err(fault) => Err(fault),
-    }
+    let name = FileName::new(alloc, name)?;
+    Ok(Line::Show { name })
 }
 
-// The words after `show`.
-fn read_show(alloc: Global, words: &[String]) -> Result<Line, LineFault>
-    ensures line { IfOk result (λ line. show_of (map string_bytes words.now) ≡ Some (command line)) }
-    ensures sized { IfOk result (λ line. IsSized (command line)) }
-    ensures bad { IfErr result (λ fault. fault ≡ LineFault.Bad → show_of (map string_bytes words.now) ≡ None) }
+// `gen KIND RANKS BYTES`.
+fn read_gen(plain: Few<'_>, given: Given) -> Option<Line>
+    ensures { MatchOption result (gen_of (listed plain.entry) given.root ≡ None) (λ line. gen_of (listed plain.entry) given.root ≡ Some (command line)) }
 {
-    let [name] = words else {
-        return Err(LineFault::Bad);
+    let Few::Three(kind, ranks, bytes) = plain else {
+        return None;
     };
-    match read_name(alloc, name) {
-        Ok(name) => Ok(Line::Show { name }),
-        Err(fault) => Err(fault),
-    }
-}
-
-// The collective of a kind.
-fn kind_of(word: &str) -> Option<Collective>
-    ensures { result ≡ kind_of word.now }
-{
-    match word {
-        "bcast" => Some(Collective::Bcast { root: 0 }),
-        "barrier" => Some(Collective::Barrier),
-        "allgather" => Some(Collective::Allgather),
-        "allreduce" => Some(Collective::Allreduce),
-        "alltoall" => Some(Collective::Alltoall),
-        "reduce" => Some(Collective::Reduce { root: 0 }),
-        "gather" => Some(Collective::Gather { root: 0 }),
-        "scatter" => Some(Collective::Scatter { root: 0 }),
-        "reduce_scatter" => Some(Collective::ReduceScatter),
-        "scan" => Some(Collective::Scan),
-        _ => None,
-    }
-}
-
-// The value of a number within limits.
-fn value_within(word: &str, least: u64, most: u64) -> Option<u64>
-    ensures value { result ≡ within least most (value_of word.now) }
-    ensures most { IfSome result (λ value. value ≤ most) }
-{
-    match value_of(word) {
-        Some(value) => {
-            if least <= value && value <= most {
-                Some(value)
-            } else {
-                None
-            }
-        }
-        None => None,
-    }
-}
-
-// The words after `gen`.
-fn read_gen(words: &[String]) -> Result<Line, LineFault>
-    ensures line { IfOk result (λ line. gen_of (map string_bytes words.now) ≡ Some (command line)) }
-    ensures sized { IfOk result (λ line. IsSized (command line)) }
-    ensures bad { IfErr result (λ fault. fault ≡ LineFault.Bad → gen_of (map string_bytes words.now) ≡ None) }
-{
-    let [kind, ranks, bytes] = words else {
-        return Err(LineFault::Bad);
-    };
-    let Some(what) = kind_of(kind.as_str()) else {
-        return Err(LineFault::Bad);
-    };
-    let Some(ranks) = value_within(ranks.as_str(), 1, u64::from(MAX_RANKS)) else {
-        return Err(LineFault::Bad);
-    };
-    let Some(bytes) = value_within(bytes.as_str(), 0, MAX_BYTES) else {
-        return Err(LineFault::Bad);
-    };
-    Ok(Line::Gen {
+    let what = collective_of(kind, given.root())?;
+    let ranks = number_from(1, MAX_RANKS.into(), ranks)?;
+    let bytes = number_from(0, MAX_BYTES, bytes)?;
+    Some(Line::Gen {
         what,
         ranks: ranks as u32,
         bytes,

@@ -1,81 +1,70 @@
-// The options of a run.
-ghost use Rattle.std.specs.Prelude.{◌≡◌, None, Some, MatchOption, map, string_bytes};
+// The options of a line, and their values.
+ghost use Rattle.std.specs.Prelude.{◌≡◌, None, Some, MatchOption};
 ghost use Rattle.std.specs.List.{list_all};
 ghost use Rattle.std.specs.Char.{is_ascii_digit};
 ghost use Rattle.sim_params.specs.Numbers.{numbers};
-ghost use Rattle.goal_words.specs.Options.{option_of, value_of, none_given, given_for, set, with_option, with_words, with_all, numbers_given, within_limits, numbers_of};
+ghost use Rattle.goal_words.specs.Options.{value_of, within_limits};
+ghost use Rattle.goal_words.specs.Reading.{key_of, run_key_of, none_given, given_for, set, with_option, numbers_given};
 
 use sim_params::{
     DEFAULT_GAP, DEFAULT_GAP_PER_BYTE, DEFAULT_LATENCY, DEFAULT_OVERHEAD,
-    DEFAULT_OVERHEAD_PER_BYTE, DEFAULT_SYNC, Param, Params,
+    DEFAULT_OVERHEAD_PER_BYTE, DEFAULT_SYNC, Params,
 };
 
-// The values of the option words so far, each for its parameter.
+// An option.
 #[derive(Clone, Copy)]
-pub struct Given {
-    latency: Option<u64>,
-    overhead: Option<u64>,
-    gap: Option<u64>,
-    gap_per_byte: Option<u64>,
-    gap_picos: Option<u64>,
-    overhead_per_byte: Option<u64>,
-    overhead_picos: Option<u64>,
-    sync: Option<u64>,
+pub enum Key {
+    Latency,
+    Overhead,
+    Gap,
+    GapPerByte,
+    GapPicos,
+    OverheadPerByte,
+    OverheadPicos,
+    Sync,
+    Root,
 }
 
-const NONE_GIVEN: Given = Given {
-    latency: None,
-    overhead: None,
-    gap: None,
-    gap_per_byte: None,
-    gap_picos: None,
-    overhead_per_byte: None,
-    overhead_picos: None,
-    sync: None,
-};
-
-// The parameters that option words give; those not given have their usual values.
-#[tactic(auto, unfolding(crate::specs::Options::numbers_of))]
-pub fn read_options(words: &[String]) -> Option<Params>
-    ensures { MatchOption result (numbers_of (map string_bytes words.now) ≡ None)
-        (λ params. numbers_of (map string_bytes words.now) ≡ Some (numbers params)) }
-{
-    read_given(words)?.params()
+// The options that a command takes.
+#[derive(Clone, Copy)]
+pub enum Taken {
+    // Those of a run.
+    Run,
+    // That of a collective.
+    Root,
+    // None.
+    Nothing,
 }
 
-// The options that words are, two words an option.
-#[tactic(auto, unfolding(crate::specs::Options::with_all))]
-fn read_given(words: &[String]) -> Option<Given>
-    ensures { result ≡ with_all none_given (map string_bytes words.now) }
-{
-    let mut given = NONE_GIVEN;
-    let mut rest = words;
-    'options: while let Some((word, others)) = rest.split_first() {
-        let Some((value, later)) = others.split_first() else {
-            return None;
-        };
-        match given.with_words(word.as_str(), value.as_str()) {
-            Some(more) => given = more,
-            None => return None,
+impl Taken {
+    // The option of a word.
+    pub fn key_of(self, word: &str) -> Option<Key>
+        ensures { result ≡ key_of self word.now }
+    {
+        match self {
+            Taken::Run => run_key_of(word),
+            Taken::Root => match word {
+                "--root" => Some(Key::Root),
+                _ => None,
+            },
+            Taken::Nothing => None,
         }
-        rest = later;
     }
-    Some(given)
 }
 
-// The parameter that an option word names.
-fn option_of(word: &str) -> Option<Param>
-    ensures { result ≡ option_of word.now }
+// The option of a run of that word.
+fn run_key_of(word: &str) -> Option<Key>
+    ensures { result ≡ run_key_of word.now }
 {
     match word {
-        "--L" => Some(Param::Latency),
-        "--o" => Some(Param::Overhead),
-        "--g" => Some(Param::Gap),
-        "--G" => Some(Param::GapPerByte),
-        "--Gp" => Some(Param::GapPicos),
-        "--O" => Some(Param::OverheadPerByte),
-        "--Op" => Some(Param::OverheadPicos),
-        "--S" => Some(Param::Sync),
+        "--L" => Some(Key::Latency),
+        "--o" => Some(Key::Overhead),
+        "--g" => Some(Key::Gap),
+        "--G" => Some(Key::GapPerByte),
+        "--Gp" => Some(Key::GapPicos),
+        "--O" => Some(Key::OverheadPerByte),
+        "--Op" => Some(Key::OverheadPicos),
+        "--S" => Some(Key::Sync),
         _ => None,
     }
 }
@@ -103,84 +92,109 @@ pub fn value_of(word: &str) -> Option<u64>
     }
 }
 
-impl Given {
-    // With the option that two words are.
-    fn with_words(self, word: &str, value: &str) -> Option<Given>
-        ensures { result ≡ with_words self word.now value.now }
-    {
-        let param = match option_of(word) {
-            Some(param) => param,
-            None => return None,
-        };
-        match value_of(value) {
-            Some(number) => self.with(param, number),
-            None => None,
-        }
-    }
+// The values of the options so far.
+#[derive(Clone, Copy)]
+pub struct Given {
+    latency: Option<u64>,
+    overhead: Option<u64>,
+    gap: Option<u64>,
+    gap_per_byte: Option<u64>,
+    gap_picos: Option<u64>,
+    overhead_per_byte: Option<u64>,
+    overhead_picos: Option<u64>,
+    sync: Option<u64>,
+    root: Option<u64>,
+}
 
-    // With one option more. None where the parameter was given before.
-    fn with(self, param: Param, number: u64) -> Option<Given>
-        ensures { result ≡ with_option self param number }
+// No option yet.
+pub const NONE_GIVEN: Given = Given {
+    latency: None,
+    overhead: None,
+    gap: None,
+    gap_per_byte: None,
+    gap_picos: None,
+    overhead_per_byte: None,
+    overhead_picos: None,
+    sync: None,
+    root: None,
+};
+
+impl Given {
+    // With one option more. None where it was given before.
+    pub fn with(self, key: Key, number: u64) -> Option<Given>
+        ensures { result ≡ with_option self key number }
     {
-        let place = match param {
-            Param::Latency => self.latency,
-            Param::Overhead => self.overhead,
-            Param::Gap => self.gap,
-            Param::GapPerByte => self.gap_per_byte,
-            Param::GapPicos => self.gap_picos,
-            Param::OverheadPerByte => self.overhead_per_byte,
-            Param::OverheadPicos => self.overhead_picos,
-            Param::Sync => self.sync,
+        let place = match key {
+            Key::Latency => self.latency,
+            Key::Overhead => self.overhead,
+            Key::Gap => self.gap,
+            Key::GapPerByte => self.gap_per_byte,
+            Key::GapPicos => self.gap_picos,
+            Key::OverheadPerByte => self.overhead_per_byte,
+            Key::OverheadPicos => self.overhead_picos,
+            Key::Sync => self.sync,
+            Key::Root => self.root,
         };
         if place.is_some() {
             return None;
         }
-        Some(self.set(param, number))
+        Some(self.set(key, number))
     }
 
-    // With this value for a parameter.
-    fn set(self, param: Param, number: u64) -> Given
-        ensures { result ≡ set self param number }
+    // With this value for an option.
+    fn set(self, key: Key, number: u64) -> Given
+        ensures { result ≡ set self key number }
     {
         let number = Some(number);
-        match param {
-            Param::Latency => Given {
+        match key {
+            Key::Latency => Given {
                 latency: number,
                 ..self
             },
-            Param::Overhead => Given {
+            Key::Overhead => Given {
                 overhead: number,
                 ..self
             },
-            Param::Gap => Given {
+            Key::Gap => Given {
                 gap: number,
                 ..self
             },
-            Param::GapPerByte => Given {
+            Key::GapPerByte => Given {
                 gap_per_byte: number,
                 ..self
             },
-            Param::GapPicos => Given {
+            Key::GapPicos => Given {
                 gap_picos: number,
                 ..self
             },
-            Param::OverheadPerByte => Given {
+            Key::OverheadPerByte => Given {
                 overhead_per_byte: number,
                 ..self
             },
-            Param::OverheadPicos => Given {
+            Key::OverheadPicos => Given {
                 overhead_picos: number,
                 ..self
             },
-            Param::Sync => Given {
+            Key::Sync => Given {
                 sync: number,
+                ..self
+            },
+            Key::Root => Given {
+                root: number,
                 ..self
             },
         }
     }
 
+    // What the option of a collective is set to.
+    pub fn root(self) -> Option<u64>
+        ensures { result ≡ self.root }
+    {
+        self.root
+    }
+
     // The parameters of a run. None where one is over its limit.
-    fn params(self) -> Option<Params>
+    pub fn params(self) -> Option<Params>
         ensures { MatchOption result (within_limits (numbers_given self) ≡ None)
             (λ params. within_limits (numbers_given self) ≡ Some (numbers params)) }
     {

@@ -1,4 +1,5 @@
 use crate::{Line, LineFault, read_words};
+use goal_blocks::Collective;
 use std::alloc::{AllocError, Global};
 use std::process::Abort;
 use std::test::Fail;
@@ -52,11 +53,77 @@ fn other_lines(rt: HostRuntime) -> Result<(), Fail> {
     Ok(())
 }
 
-const NO_LINES: [&[&str]; 7] = [
+#[test]
+fn mixed_options(rt: HostRuntime) -> Result<(), Fail> {
+    let alloc = rt.alloc();
+    let words = strings(alloc, &["sim", "--S=0", "a"])?;
+    match &read_words(alloc, &words) {
+        Ok(Line::Sim { name, params }) => {
+            assert_eq!(rt; name.as_str(), "a");
+            assert_eq!(rt; params.sync, 0);
+            assert_eq!(rt; params.latency, 2_500);
+        }
+        _ => assert!(rt; false),
+    }
+    let words = strings(alloc, &["waits", "--o", "5", "", "--S", "00", "--Gp=7"])?;
+    match &read_words(alloc, &words) {
+        Ok(Line::Waits { name, params }) => {
+            assert_eq!(rt; name.as_str(), "");
+            assert_eq!(rt; params.overhead, 5);
+            assert_eq!(rt; params.sync, 0);
+            assert_eq!(rt; params.gap_picos, 7);
+        }
+        _ => assert!(rt; false),
+    }
+    Ok(())
+}
+
+#[test]
+fn gen_lines(rt: HostRuntime) -> Result<(), Fail> {
+    let alloc = rt.alloc();
+    let words = strings(alloc, &["gen", "bcast", "--root", "4", "5", "8"])?;
+    match &read_words(alloc, &words) {
+        Ok(Line::Gen { what, ranks, bytes }) => {
+            assert_eq!(rt; *what, Collective::Bcast { root: 4 });
+            assert_eq!(rt; *ranks, 5);
+            assert_eq!(rt; *bytes, 8);
+        }
+        _ => assert!(rt; false),
+    }
+    let words = strings(alloc, &["gen", "reduce_scatter", "65536", "0"])?;
+    match &read_words(alloc, &words) {
+        Ok(Line::Gen { what, ranks, bytes }) => {
+            assert_eq!(rt; *what, Collective::ReduceScatter);
+            assert_eq!(rt; *ranks, 65_536);
+            assert_eq!(rt; *bytes, 0);
+        }
+        _ => assert!(rt; false),
+    }
+    Ok(())
+}
+
+const NO_LINES: [&[&str]; 24] = [
     &[],
+    &["sim"],
+    &["sim", "a", "b"],
+    &["sim", "a", "--L"],
+    &["sim", "a", "--L=5", "--L", "6"],
+    &["sim", "a", "--L", "1099511627776"],
+    &["sim", "a", "-L", "5"],
+    &["sim", "--help"],
+    &["help"],
+    &["gen", "barrier", "4", "8", "--root", "0"],
+    &["gen", "bcast", "0", "8"],
+    &["gen", "bcast", "65537", "8"],
+    &["gen", "bcast", "4", "1099511627776"],
+    &["gen", "bcast", "4", "8", "--root", "65536"],
+    &["gen", "bcast", "4", "8", "9"],
+    &["probe", "0", "1"],
     &["Sim", "a"],
     &["show", "-a"],
-    &["sim", "a", "--O"],
+    &["sim", "a", "--L=", "5"],
+    &["sim", "--L", "--o", "5", "a"],
+    &["compile", "a", "b", "--S", "1"],
     &["sim", "a", "--O", "1048576"],
     &["sim", "a", "--Gp", "1000"],
     &["sim", "a", "--S", "000000000000000000001"],

@@ -1,0 +1,76 @@
+-- What a command asks for is within its limits.
+use Rattle.std.proofs.Common.{◌≡◌, ◌≤◌, ◌&&◌, ℕ, Bool, true, false, List, [], ◌∷◌, Option, Some, None, IfSome, codes, bytes_eq, nat_le, refl, subst, if◌then◌else◌}
+use Rattle.std.specs.Option.{option_map, option_and_then}
+use Rattle.std.proofs.lemmas.Bool.{leb-true}
+use Rattle.goal_base.specs.declared.limits.TheConstants.{MAX_RANKS, MAX_BYTES}
+use Rattle.sim_params.specs.Costs.{Numbers}
+use Rattle.goal_words.specs.Options.{value_of, within_limits}
+use Rattle.goal_words.specs.Words.{Command, Sim, Waits, Gen, IsSized, sim_of, waits_of, compile_of, show_of, gen_of, number_from, collective_of, command_by}
+
+tested : (most n : ℕ) (low high : Bool) → nat_le n most ≡ high → IfSome (if low && high then Some n else None) (λ m. m ≤ most)
+tested most n true true h = leb-true n most h
+tested most n true false h = tt
+tested most n false high h = tt
+
+small : (least most : ℕ) (w : List ℕ) → IfSome (number_from least most w) (λ m. m ≤ most)
+small least most w = by (value_of w)
+  where
+    by : (o : Option ℕ) → IfSome (option_and_then (λ n. if nat_le least n && nat_le n most then Some n else None) o) (λ m. m ≤ most)
+    by None = tt
+    by (Some n) = tested most n (nat_le least n) (nat_le n most) refl
+
+mapped : {X : Type 0} (f : X → Command) (o : Option X) → IfSome o (λ x. IsSized (f x)) → IfSome (option_map f o) IsSized
+mapped f None h = tt
+mapped f (Some x) h = h
+
+chained : {X : Type 0} (f : X → Option Command) (o : Option X) → ((x : X) → IfSome (f x) IsSized) → IfSome (option_and_then f o) IsSized
+chained f None h = tt
+chained f (Some x) h = h x
+
+always : {X : Type 0} (o : Option X) → IfSome o (λ x. Unit {0})
+always None = tt
+always (Some x) = tt
+
+either : (b : Bool) (x y : Option Command) → IfSome x IsSized → IfSome y IsSized → IfSome (if b then x else y) IsSized
+either true x y h k = h
+either false x y h k = k
+
+sim_sized : (plain : List (List ℕ)) (params : Numbers) → IfSome (sim_of plain params) IsSized
+sim_sized [] params = tt
+sim_sized (name ∷ []) params = mapped (Sim name) (within_limits params) (always (within_limits params))
+sim_sized (name ∷ other ∷ plain) params = tt
+
+waits_sized : (plain : List (List ℕ)) (params : Numbers) → IfSome (waits_of plain params) IsSized
+waits_sized [] params = tt
+waits_sized (name ∷ []) params = mapped (Waits name) (within_limits params) (always (within_limits params))
+waits_sized (name ∷ other ∷ plain) params = tt
+
+compile_sized : (plain : List (List ℕ)) → IfSome (compile_of plain) IsSized
+compile_sized [] = tt
+compile_sized (name ∷ []) = tt
+compile_sized (name ∷ out ∷ []) = tt
+compile_sized (name ∷ out ∷ other ∷ plain) = tt
+
+show_sized : (plain : List (List ℕ)) → IfSome (show_of plain) IsSized
+show_sized [] = tt
+show_sized (name ∷ []) = tt
+show_sized (name ∷ other ∷ plain) = tt
+
+gen_sized : (plain : List (List ℕ)) (root : Option ℕ) → IfSome (gen_of plain root) IsSized
+gen_sized [] root = tt
+gen_sized (kind ∷ []) root = tt
+gen_sized (kind ∷ ranks ∷ []) root = tt
+gen_sized (kind ∷ ranks ∷ bytes ∷ []) root =
+    chained _ (collective_of kind root)
+    (λ what. chained _ (number_from 1 MAX_RANKS ranks) (λ n. mapped (Gen what n) (number_from 0 MAX_BYTES bytes) (small 0 MAX_BYTES bytes)))
+gen_sized (kind ∷ ranks ∷ bytes ∷ other ∷ plain) root = tt
+
+command_sized : (first : List ℕ) (plain : List (List ℕ)) (params : Numbers) (root : Option ℕ) → IfSome (command_by first plain params root) IsSized
+command_sized first plain params root =
+    either (bytes_eq first (codes "sim")) _ _ (sim_sized plain params)
+    (either (bytes_eq first (codes "waits")) _ _ (waits_sized plain params)
+    (either (bytes_eq first (codes "compile")) _ _ (compile_sized plain)
+    (either (bytes_eq first (codes "show")) _ _ (show_sized plain) (either (bytes_eq first (codes "gen")) _ _ (gen_sized plain root) tt))))
+
+pub sized : (first : List ℕ) (plain : List (List ℕ)) (params : Numbers) (root : Option ℕ) (c : Command) → command_by first plain params root ≡ Some c → IsSized c
+sized first plain params root c is = subst (λ o. IfSome o IsSized) is (command_sized first plain params root)

@@ -1,0 +1,16 @@
+use Rattle.std.proofs.Common.{refl, ◌∙◌}
+use Rattle.goal_words.proofs.RestLemmas.{ended, begun}
+use Rattle.goal_words.proofs.rest.Rest.next.Goals as goal
+
+pub returns-in_err-word : goal.returns-in_err-word
+returns-in_err-word c =
+    let rest = c.in_ok-rest.rest in
+    rw (c.from_residual-in_err-word.ensures, c.in_ok-rest.ensures.left, ended rest.taken rest.given rest.words.now c.in_err-word.ensures.cases) refl
+
+pub returns : goal.returns
+returns c =
+    let rest = c.in_ok-rest.rest in
+    let cases = c.in_ok-word.ensures.cases.0 in
+    c.in_ok-rest.ensures.left
+    ∙ rw (cases, c.as_str.ensures.value)
+    (begun rest.taken rest.given c.in_ok-word.word.now c.in_ok-word.words.now (rw cases at c.in_ok-rest.ensures.plain))

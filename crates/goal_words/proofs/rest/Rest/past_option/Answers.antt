@@ -1,0 +1,38 @@
+use Rattle.std.proofs.Common.{◌∷◌, map, string_bytes, sym, ap, ◌∙◌}
+use Rattle.goal_words.specs.Reading.{key_of, with_value, parts_in}
+use Rattle.goal_words.proofs.PlaceLemmas.{step_apart, step_joined, step_wrong}
+use Rattle.goal_words.proofs.RestLemmas.{past, alone, unequal}
+use Rattle.goal_words.proofs.rest.Rest.past_option.Goals as goal
+
+pub returns-in_err-value-in-Some-clause-left : goal.returns-in_err-value-in-Some-clause-left
+returns-in_err-value-in-Some-clause-left c =
+    rw c.from_residual.ensures
+    (alone c.args.self.taken c.args.self.given c.args.word.now c.in-Some.key c.args.others.now (sym c.in-Some.ensures) c.in_err-value-in-Some.ensures.cases)
+
+pub returns-in_err-option-in-None-clause-left : goal.returns-in_err-option-in-None-clause-left
+returns-in_err-option-in-None-clause-left c =
+    rw c.from_residual-in_err-option-in-None.ensures
+    (unequal c.args.self.taken c.args.self.given c.args.word.now (map string_bytes c.args.others.now) c.requires (sym c.in-None.ensures) c.in_err-option-in-None.ensures)
+
+pub returns-in_err-key_of-in-None-clause-left : goal.returns-in_err-key_of-in-None-clause-left
+returns-in_err-key_of-in-None-clause-left c =
+    rw c.from_residual-in_err-key_of-in-None.ensures
+    (step_wrong c.args.self.taken c.args.self.given c.args.word.now (map string_bytes c.args.others.now) c.requires (sym c.in-None.ensures)
+    (ap (key_of c.args.self.taken) (sym c.in_ok-option-in-None.ensures.0) ∙ sym c.in_err-key_of-in-None.ensures))
+
+pub returns-in_ok-value-in-Some-clause-left : goal.returns-in_ok-value-in-Some-clause-left
+returns-in_ok-value-in-Some-clause-left c =
+    past c.with.result (with_value c.args.self.given c.in-Some.key c.as_str.result.now) c.args.self.taken c.in_ok-value-in-Some.later.now
+    (parts_in c.args.self.taken c.args.self.given (c.args.word.now ∷ map string_bytes c.args.others.now))
+    (rw (c.in_ok-value-in-Some.ensures.cases.0, c.as_str.ensures.value)
+    (step_apart c.args.self.taken c.args.self.given c.args.word.now (string_bytes c.in_ok-value-in-Some.value.now) c.in-Some.key (map string_bytes c.in_ok-value-in-Some.later.now) (sym c.in-Some.ensures)))
+    c.with.ensures
+
+pub returns-in_ok-key_of-in-None-clause-left : goal.returns-in_ok-key_of-in-None-clause-left
+returns-in_ok-key_of-in-None-clause-left c =
+    past c.with-in-None.result (with_value c.args.self.given c.in_ok-key_of-in-None.field-0 c.in_ok-option-in-None.value.now) c.args.self.taken c.args.others.now
+    (parts_in c.args.self.taken c.args.self.given (c.args.word.now ∷ map string_bytes c.args.others.now))
+    (rw c.in_ok-option-in-None.ensures.1
+    (step_joined c.args.self.taken c.args.self.given c.args.word.now c.in_ok-key_of-in-None.field-0 (map string_bytes c.args.others.now) c.requires (sym c.in-None.ensures)
+    (ap (key_of c.args.self.taken) (sym c.in_ok-option-in-None.ensures.0) ∙ sym c.in_ok-key_of-in-None.ensures)))
+    c.with-in-None.ensures

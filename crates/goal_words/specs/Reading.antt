@@ -1,0 +1,152 @@
+-- How the words of a line are read from the front: the options that stand before the next plain word, and then that word.
+use Rattle.std.specs.Prelude.{ℕ, Bool, true, false, List, [], ◌∷◌, not, Option, Some, None, is_some, unwrap_or, map, codes, bytes_eq, string_bytes, if◌then◌else◌}
+use Rattle.std.specs.Option.{option_map, option_and_then}
+use Rattle.sim_params.specs.Costs.{Numbers}
+use Rattle.sim_params.specs.declared.params.TheConstants.{DEFAULT_LATENCY, DEFAULT_OVERHEAD, DEFAULT_GAP, DEFAULT_GAP_PER_BYTE, DEFAULT_OVERHEAD_PER_BYTE, DEFAULT_SYNC}
+use Rattle.goal_words.specs.Options.{Place, Plain, Named, Set, Wrong, run_options, root_option, begins_dash, value_of, places}
+use Rattle.goal_words.specs.declared.options.Key.{Key}
+use Rattle.goal_words.specs.declared.options.Key.TheVariants.{Latency, Overhead, Gap, GapPerByte, GapPicos, OverheadPerByte, OverheadPicos, Sync, Root}
+use Rattle.goal_words.specs.declared.options.Taken.{Taken}
+use Rattle.goal_words.specs.declared.options.Taken.TheVariants as taken_by
+use Rattle.goal_words.specs.declared.options.Given.{Given}
+use Rattle.goal_words.specs.declared.rest.Rest.{Rest}
+use Rattle.goal_words.specs.declared.rest.Few.{Few}
+use Rattle.goal_words.specs.declared.rest.Few.TheVariants.{One, Two, Three}
+
+-- this option where the word is its word, and else what the others say
+abbrev pub named_or : List ℕ → List ℕ → Key → Option Key → Option Key
+named_or w option key others = if bytes_eq w option then Some key else others
+
+-- the option of a run of that word
+abbrev pub run_key_of : List ℕ → Option Key
+run_key_of w =
+    named_or w (codes "--L") Latency
+    (named_or w (codes "--o") Overhead
+    (named_or w (codes "--g") Gap
+    (named_or w (codes "--G") GapPerByte
+    (named_or w (codes "--Gp") GapPicos
+    (named_or w (codes "--O") OverheadPerByte
+    (named_or w (codes "--Op") OverheadPicos
+    (named_or w (codes "--S") Sync None)))))))
+
+-- the option of that word
+abbrev pub key_named : List ℕ → Option Key
+key_named w = named_or w (codes "--root") Root (run_key_of w)
+
+-- the option of that word among those that a command takes
+abbrev pub key_of : Taken → List ℕ → Option Key
+key_of taken_by.Run w = run_key_of w
+key_of taken_by.Root w = named_or w (codes "--root") Root None
+key_of taken_by.Nothing w = None
+
+-- the words of the options that a command takes
+abbrev pub words_of : Taken → List (List ℕ)
+words_of taken_by.Run = run_options
+words_of taken_by.Root = root_option
+words_of taken_by.Nothing = []
+
+-- no option yet
+abbrev pub none_given : Given
+none_given = record {
+  latency = None;
+  overhead = None;
+  gap = None;
+  gap_per_byte = None;
+  gap_picos = None;
+  overhead_per_byte = None;
+  overhead_picos = None;
+  sync = None;
+  root = None;
+}
+
+-- what an option is set to
+abbrev pub given_for : Given → Key → Option ℕ
+given_for g Latency = g.latency
+given_for g Overhead = g.overhead
+given_for g Gap = g.gap
+given_for g GapPerByte = g.gap_per_byte
+given_for g GapPicos = g.gap_picos
+given_for g OverheadPerByte = g.overhead_per_byte
+given_for g OverheadPicos = g.overhead_picos
+given_for g Sync = g.sync
+given_for g Root = g.root
+
+-- with an option set to a number
+abbrev pub set : Given → Key → ℕ → Given
+set g Latency n = record g { latency = Some n }
+set g Overhead n = record g { overhead = Some n }
+set g Gap n = record g { gap = Some n }
+set g GapPerByte n = record g { gap_per_byte = Some n }
+set g GapPicos n = record g { gap_picos = Some n }
+set g OverheadPerByte n = record g { overhead_per_byte = Some n }
+set g OverheadPicos n = record g { overhead_picos = Some n }
+set g Sync n = record g { sync = Some n }
+set g Root n = record g { root = Some n }
+
+-- with one option more, which stands at most once
+abbrev pub with_option : Given → Key → ℕ → Option Given
+with_option g key n = if is_some (given_for g key) then None else Some (set g key n)
+
+-- with the option and this word as its value
+abbrev pub with_value : Given → Key → List ℕ → Option Given
+with_value g key w = option_and_then (λ n. with_option g key n) (value_of w)
+
+-- with what the option of that word is set to
+abbrev pub with_set : Given → Option Key → ℕ → Option Given
+with_set g None n = Some g
+with_set g (Some key) n = with_option g key n
+
+-- the parameters of a run: those given, and else the usual ones
+abbrev pub numbers_given : Given → Numbers
+numbers_given g = record {
+  latency = unwrap_or g.latency DEFAULT_LATENCY;
+  overhead = unwrap_or g.overhead DEFAULT_OVERHEAD;
+  gap = unwrap_or g.gap DEFAULT_GAP;
+  gap_per_byte = unwrap_or g.gap_per_byte DEFAULT_GAP_PER_BYTE;
+  gap_picos = unwrap_or g.gap_picos 0;
+  overhead_per_byte = unwrap_or g.overhead_per_byte DEFAULT_OVERHEAD_PER_BYTE;
+  overhead_picos = unwrap_or g.overhead_picos 0;
+  sync = unwrap_or g.sync DEFAULT_SYNC;
+}
+
+-- plain words, and what the options are set to
+pub record Parts : Type 0 where
+  pub plain : List (List ℕ)
+  pub given : Given
+
+-- with a plain word before
+abbrev pub with_plain : List ℕ → Parts → Parts
+with_plain w parts = record { plain = w ∷ parts.plain; given = parts.given }
+
+-- what places say, with the options that are given before
+unfoldable pub parts_of : Given → List Place → Option Parts
+parts_of g [] = Some (record { plain = []; given = g })
+parts_of g (Plain w ∷ ps) = option_map (with_plain w) (parts_of g ps)
+parts_of g (Named ∷ ps) = parts_of g ps
+parts_of g (Set option n ∷ ps) = option_and_then (λ h. parts_of h ps) (with_set g (key_named option) n)
+parts_of g (Wrong ∷ ps) = None
+
+-- what words say that do not follow an option word
+unfoldable pub parts_in : Taken → Given → List (List ℕ) → Option Parts
+parts_in taken g words = parts_of g (places (words_of taken) [] words)
+
+-- what is left of a line
+abbrev pub left : Rest → Option Parts
+left rest = parts_in rest.taken rest.given (map string_bytes rest.words.now)
+
+-- no more words, or a plain word first
+abbrev pub begins_plain : List (List ℕ) → Bool
+begins_plain [] = true
+begins_plain (w ∷ words) = not (begins_dash w)
+
+-- the words, which are one to three
+abbrev pub listed : Few → List (List ℕ)
+listed (One a) = a.now ∷ []
+listed (Two a b) = a.now ∷ b.now ∷ []
+listed (Three a b c) = a.now ∷ b.now ∷ c.now ∷ []
+
+abbrev pub are_few : List (List ℕ) → Bool
+are_few (a ∷ []) = true
+are_few (a ∷ b ∷ []) = true
+are_few (a ∷ b ∷ c ∷ []) = true
+are_few _ = false

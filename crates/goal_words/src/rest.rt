@@ -1,0 +1,139 @@
+// Words of a line, read from the front.
+ghost use Rattle.std.specs.Prelude.{◌≡◌, ◌==◌, ◌≢◌, ◌≤◌, ◌∷◌, true, false, [], Some, length, map, string_bytes, MatchOption, IfSome};
+ghost use Rattle.std.specs.Option.{option_map};
+ghost use Rattle.std.specs.List.{before_first, after_first, position_or_len};
+ghost use Rattle.goal_words.specs.Options.{begins_dash};
+ghost use Rattle.goal_words.specs.Reading.{parts_in, left, with_plain, with_value, none_given, begins_plain, listed, are_few};
+
+use crate::options::{Given, Key, NONE_GIVEN, Taken, value_of};
+
+// What is left of a line: the options that it takes, those given so far, and the words to come. These do not follow an
+// option word.
+#[derive(Clone, Copy)]
+pub struct Rest<'a> {
+    taken: Taken,
+    given: Given,
+    words: &'a [String],
+}
+
+// Plain words, one to three.
+#[derive(Clone, Copy)]
+pub enum Few<'a> {
+    One(&'a str),
+    Two(&'a str, &'a str),
+    Three(&'a str, &'a str, &'a str),
+}
+
+// What stands around the first `=` of a word.
+fn around_equals(word: &str) -> Option<(&str, &str)>
+    ensures { MatchOption result (position_or_len (λ b. b == 61) word.now ≡ length word.now)
+        (λ halves. (halves.0.now ≡ before_first (λ b. b == 61) word.now) × (halves.1.now ≡ after_first (λ b. b == 61) word.now)) }
+{
+    word.split_once('=')
+}
+
+impl<'a> Rest<'a> {
+    // The words after the first, of a line that takes these options.
+    pub fn new(taken: Taken, words: &'a [String]) -> Rest<'a>
+        ensures { left result ≡ parts_in taken none_given (map string_bytes words.now) }
+    {
+        Rest {
+            taken,
+            given: NONE_GIVEN,
+            words,
+        }
+    }
+
+    // With an option set to the number that is this word, and with these words to come.
+    fn with(self, key: Key, value: &str, words: &'a [String]) -> Option<Rest<'a>>
+        ensures { MatchOption result (with_value self.entry.given key value.now ≡ None)
+            (λ rest. (with_value self.entry.given key value.now ≡ Some rest.given) × (rest.taken ≡ self.entry.taken) × (rest.words.now ≡ words.now)) }
+    {
+        let given = self.given.with(key, value_of(value)?)?;
+        Some(Rest {
+            taken: self.taken,
+            given,
+            words,
+        })
+    }
+
+    // Past the option that a word begins, which other words follow.
+    fn past_option(self, word: &str, others: &'a [String]) -> Option<Rest<'a>>
+        requires { begins_dash word.now ≡ true }
+        ensures left { MatchOption result (parts_in self.entry.taken self.entry.given (word.now ∷ map string_bytes others.now) ≡ None)
+            (λ rest. parts_in self.entry.taken self.entry.given (word.now ∷ map string_bytes others.now) ≡ left rest) }
+        ensures fewer { IfSome result (λ rest. length rest.words.now ≤ length others.now) }
+    {
+        match self.taken.key_of(word) {
+            Some(key) => {
+                let (value, later) = others.split_first()?;
+                self.with(key, value.as_str(), later)
+            }
+            None => {
+                let (option, value) = around_equals(word)?;
+                self.with(self.taken.key_of(option)?, value, others)
+            }
+        }
+    }
+
+    // Past the options before the next plain word.
+    fn past_options(self) -> Option<Rest<'a>>
+        ensures left { MatchOption result (left self.entry ≡ None) (λ rest. left self.entry ≡ left rest) }
+        ensures plain { IfSome result (λ rest. begins_plain (map string_bytes rest.words.now) ≡ true) }
+    {
+        let mut rest = self;
+        'options: while let Some((word, others)) = rest.words.split_first() {
+            if !word.as_str().starts_with('-') {
+                break;
+            }
+            rest = rest.past_option(word.as_str(), others)?;
+        }
+        Some(rest)
+    }
+
+    // The next plain word, and what is left after it. None where there is none.
+    fn next(self) -> Option<(&'a str, Rest<'a>)>
+        ensures { MatchOption result (IfSome (left self.entry) (λ parts. parts.plain ≡ []))
+            (λ found. left self.entry ≡ option_map (with_plain found.0.now) (left found.1)) }
+    {
+        let rest = self.past_options()?;
+        let (word, words) = rest.words.split_first()?;
+        let rest = Rest {
+            taken: rest.taken,
+            given: rest.given,
+            words,
+        };
+        Some((word.as_str(), rest))
+    }
+
+    // The options of a line that has no more plain words. None where it has.
+    fn end(self) -> Option<Given>
+        ensures { MatchOption result (IfSome (left self.entry) (λ parts. parts.plain ≢ []))
+            (λ given. left self.entry ≡ Some (record { plain = []; given = given })) }
+    {
+        let rest = self.past_options()?;
+        if rest.words.is_empty() {
+            Some(rest.given)
+        } else {
+            None
+        }
+    }
+
+    // The plain words and the options. None where there are not one to three plain words.
+    pub fn parts(self) -> Option<(Few<'a>, Given)>
+        ensures { MatchOption result (IfSome (left self.entry) (λ parts. are_few parts.plain ≡ false))
+            (λ parts. left self.entry ≡ Some (record { plain = listed parts.0; given = parts.1 })) }
+    {
+        let (first, rest) = self.next()?;
+        if let Some(given) = rest.end() {
+            return Some((Few::One(first), given));
+        }
+        let (second, rest) = rest.next()?;
+        if let Some(given) = rest.end() {
+            return Some((Few::Two(first, second), given));
+        }
+        let (third, rest) = rest.next()?;
+        let given = rest.end()?;
+        Some((Few::Three(first, second, third), given))
+    }
+}
