@@ -60,9 +60,10 @@ module _ (plans : List Plan) (level : OpId → ℕ) (eager : OpId → Bool) (h :
         ⊎_elim (λ met. t.other (apart.one_receive m t.taker x met.fit fit)) (λ met. not_send_receive plans m one.is_send (fits_receive plans m t.taker met.fit)) (partners_met plans h m t.taker t.pair)
 
     both_end : is_ready plans eager h m ≡ true → is_ready plans eager h x ≡ true → (has_ended plans eager m h ≡ true) × (has_ended plans eager x h ≡ true)
-    both_end r s =
-        (⊎_elim (λ e. e) (λ e. absurd (⊎_elim (λ f. both_ways _ f (posted x one.is_receive s)) free_receive (fitting_taken plans eager h done m x r e (inr fit)))) (cases_Bool (has_ended plans eager m h)),
-         ⊎_elim (λ e. e) (λ e. absurd (⊎_elim (λ f. both_ways _ f (begun m one.is_send r)) free_send (fitting_taken plans eager h done x m s e (inl fit)))) (cases_Bool (has_ended plans eager x h)))
+    both_end r s = (
+      ⊎_elim (λ e. e) (λ e. absurd (⊎_elim (λ f. both_ways _ f (posted x one.is_receive s)) free_receive (fitting_taken plans eager h done m x r e (inr fit)))) (cases_Bool (has_ended plans eager m h)),
+      ⊎_elim (λ e. e) (λ e. absurd (⊎_elim (λ f. both_ways _ f (begun m one.is_send r)) free_send (fitting_taken plans eager h done x m s e (inl fit)))) (cases_Bool (has_ended plans eager x h)),
+    )
 
   -- each operation of a level ends, where all those of lower levels do
   ends_at : (n : ℕ) → AllBelow n → (x : OpId) → IsOp plans x → level x ≡ n → has_ended plans eager x h ≡ true

@@ -1,5 +1,5 @@
 -- Sums over all slots: what a changed slot changes, and the sums of what slots hold at the start.
-use Rattle.std.proofs.Common.{ℕ, zero, suc, ◌+◌, ◌*◌, ◌<◌, ◌≤◌, ◌==◌, ◌&&◌, nat_lt, ◌≡◌, ◌⊎◌, Bool, true, false, List, [], ◌∷◌, length, if◌then◌else◌, refl, sym, ap, ◌∙◌, arith, eq-eqb, ⊎_elim}
+use Rattle.std.proofs.Common.{ℕ, zero, suc, ◌+◌, ◌<◌, ◌≤◌, ◌==◌, ◌&&◌, ◌≡◌, Bool, true, false, length, if◌then◌else◌, refl, sym, ap, arith, eq-eqb, ⊎_elim}
 use Rattle.std.proofs.lemmas.Bool.{cases_eq, eqb-true, true≢false}
 use Rattle.goal_blocks.specs.Values.{Value, Store, set_slot}
 use Rattle.goal_blocks.specs.Weight.{sum_below, stored}

@@ -1,5 +1,5 @@
 -- Values against what is wanted of them.
-use Rattle.std.proofs.Common.{ℕ, zero, suc, ◌+◌, ◌<◌, ◌≤◌, ◌==◌, ◌&&◌, nat_lt, ◌≡◌, ◌⊎◌, Bool, true, false, List, [], ◌∷◌, length, map, take, get_or, if◌then◌else◌, refl, sym, ap, ◌∙◌, arith, subst, eq-eqb, ⊎_elim, ◌||◌, inl, inr}
+use Rattle.std.proofs.Common.{ℕ, zero, suc, ◌+◌, ◌<◌, ◌≤◌, ◌==◌, ◌&&◌, nat_lt, ◌≡◌, ◌⊎◌, Bool, true, false, [], ◌∷◌, length, map, get_or, if◌then◌else◌, refl, sym, ap, ◌∙◌, arith, subst, eq-eqb, ⊎_elim, ◌||◌, inl, inr}
 use Rattle.std.specs.List.{range_with_len, list_all}
 use Rattle.std.proofs.lemmas.Bool.{and_parts, eqb-true, true≢false, false_from_ne_true, le-ltb, lt-ltb, cases_eq, ltb-true, ltb-false}
 use Rattle.std.proofs.lemmas.List.{same_lists, get_or_default}

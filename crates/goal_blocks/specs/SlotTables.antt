@@ -1,5 +1,5 @@
 -- The slots and sums of the operations, rank by rank.
-use Rattle.std.specs.Prelude.{ℕ, ◌≡◌, ◌<◌, List, [], ◌∷◌, ◌++◌, length, flat_map, slice_index_or, Vec}
+use Rattle.std.specs.Prelude.{ℕ, ◌≡◌, ◌<◌, List, [], ◌++◌, length, flat_map, slice_index_or, Vec}
 use Rattle.std.specs.Global.{Global}
 use Rattle.goal_graph.specs.declared.plan.Note.TheVariants.{Adds}
 use Rattle.goal_graph.specs.Schedule.{Plan}

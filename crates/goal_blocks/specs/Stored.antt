@@ -1,5 +1,5 @@
 -- What a store keeps: the slots that were set since the start, with their values. Each other slot has its first value.
-use Rattle.std.specs.Prelude.{ℕ, ◌≡◌, ◌≤◌, ◌&&◌, Bool, false, List, [], ◌∷◌, length, map, Option, Some, None, IsSome, unwrap_or, Vec}
+use Rattle.std.specs.Prelude.{ℕ, ◌≡◌, ◌≤◌, false, List, [], ◌∷◌, map, Option, Some, None, unwrap_or, Vec}
 use Rattle.std.specs.Global.{Global}
 use Rattle.std.specs.List.{AllByRecursion}
 use Rattle.std.specs.Map.{lookup}

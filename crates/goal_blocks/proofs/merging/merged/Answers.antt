@@ -1,5 +1,5 @@
-use Rattle.std.proofs.Common.{inl, inr, arith, sym, ap, ◌∙◌, ◌≡◌, ◌++◌, ◌∷◌, List, drop}
-use Rattle.goal_blocks.specs.Values.{Value, merge}
+use Rattle.std.proofs.Common.{inl, inr, arith, sym, ap, ◌∙◌, ◌≡◌, ◌++◌, drop}
+use Rattle.goal_blocks.specs.Values.{Value}
 use Rattle.goal_blocks.proofs.Sorted.{step_left, step_right, sorted_more, merged_all, whole_rest}
 use Rattle.goal_blocks.proofs.merging.merged.Goals as goal
 use Rattle.goal_blocks.proofs.merging.merged.Goals.{then-loop-i-test+else-j-right, else-loop-i-test}

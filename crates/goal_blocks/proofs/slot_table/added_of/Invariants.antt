@@ -1,4 +1,4 @@
-use Rattle.std.proofs.Common.{ℕ, ◌≡◌, ◌<◌, List, [], length, take, get_or, flat_map, Vec, Global}
+use Rattle.std.proofs.Common.{ℕ, ◌≡◌, ◌<◌, [], length, take, get_or, flat_map, Vec, Global}
 use Rattle.goal_blocks.specs.Slots.{Adding, added_by}
 use Rattle.goal_blocks.proofs.slot_table.added_of.Given as goal
 

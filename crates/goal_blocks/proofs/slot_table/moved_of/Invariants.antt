@@ -1,4 +1,4 @@
-use Rattle.std.proofs.Common.{ℕ, ◌≡◌, ◌<◌, List, [], length, take, get_or, flat_map, replicate}
+use Rattle.std.proofs.Common.{ℕ, ◌≡◌, ◌<◌, [], length, take, get_or, flat_map}
 use Rattle.goal_blocks.specs.Slots.{moved_by}
 use Rattle.goal_blocks.proofs.slot_table.moved_of.Given as goal
 

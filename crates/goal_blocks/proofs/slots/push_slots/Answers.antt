@@ -1,4 +1,4 @@
-use Rattle.std.proofs.Common.{◌≡◌, ◌++◌, ◌-◌, ◌+◌, ℕ, List, [], ap, sym, ◌∙◌, arith, append-nil}
+use Rattle.std.proofs.Common.{◌≡◌, ◌++◌, ◌-◌, ◌+◌, ℕ, List, ap, sym, ◌∙◌, arith, append-nil}
 use Rattle.goal_blocks.specs.Slots.{slots_from}
 use Rattle.goal_blocks.proofs.SlotLists.{slots_none, push_slot}
 use Rattle.goal_blocks.proofs.slots.push_slots.Goals as goal

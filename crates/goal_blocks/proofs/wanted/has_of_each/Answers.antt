@@ -1,7 +1,6 @@
-use Rattle.std.proofs.Common.{ℕ, ◌≡◌, ◌==◌, ◌<◌, ◌≤◌, ◌+◌, Bool, true, false, get_or, length, ap, sym, ◌∙◌, arith, ⊎_elim, eq-eqb, subst, refl}
+use Rattle.std.proofs.Common.{ℕ, ◌≡◌, ◌==◌, get_or, ap, sym, ◌∙◌, arith, ⊎_elim, eq-eqb, refl}
 use Rattle.std.proofs.lemmas.Bool.{cases_eq, false_from_ne_true, eqb-true}
 use Rattle.goal_blocks.specs.Values.{Contribution}
-use Rattle.goal_blocks.specs.Collectives.{has_one, of_each}
 use Rattle.goal_blocks.proofs.Wishes.{item_of, found_more, next_is_later, has_each, lacks_one, has_not, place_of}
 use Rattle.goal_blocks.proofs.wanted.has_of_each.Goals as goal
 use Rattle.goal_blocks.proofs.wanted.has_of_each.Goals.{then-next-count+then-one-next+then-one-eq0, else-next-count, else-next-count-via-then-next-count+then-one-next+else-one-eq0, else-next-count-via-then-next-count+else-one-next, else-next-count-via-else-next-count}

@@ -1,4 +1,4 @@
-use Rattle.std.proofs.Common.{ap, sym, ◌∙◌, length, arith}
+use Rattle.std.proofs.Common.{ap, ◌∙◌, length, arith}
 use Rattle.goal_blocks.specs.Values.{Contribution}
 use Rattle.goal_blocks.proofs.Wishes.{other_value, same_value, length_of_each, is_of_each, not_of_each, item_of}
 use Rattle.goal_blocks.proofs.wanted.is_of_each.Goals as goal

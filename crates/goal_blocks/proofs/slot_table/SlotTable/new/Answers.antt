@@ -2,7 +2,7 @@ use Rattle.std.proofs.Common.{List, ◌≡◌, ◌++◌, ◌∷◌, [], take, re
 use Rattle.std.proofs.lemmas.List.{take_more, take_all}
 use Rattle.goal_graph.specs.Schedule.{Plan}
 use Rattle.goal_blocks.specs.SlotTables.{AreTabled}
-use Rattle.goal_blocks.proofs.SlotRows.{no_rows, row_more, Moved, Added}
+use Rattle.goal_blocks.proofs.SlotRows.{no_rows, row_more}
 use Rattle.goal_blocks.proofs.slot_table.SlotTable.new.Goals as goal
 
 pub loop-plan-init : goal.loop-plan-init

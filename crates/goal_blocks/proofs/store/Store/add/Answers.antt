@@ -1,4 +1,3 @@
-use Rattle.std.proofs.Common.{ap, sym, ◌∙◌, arith}
 use Rattle.goal_blocks.proofs.Sorted.{sorted_merge}
 use Rattle.goal_blocks.proofs.StoreFacts.{sorted_from}
 use Rattle.goal_blocks.proofs.store.Store.add.Goals as goal

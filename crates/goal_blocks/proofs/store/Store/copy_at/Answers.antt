@@ -1,4 +1,4 @@
-use Rattle.std.proofs.Common.{ap, ◌∙◌, length}
+use Rattle.std.proofs.Common.{◌∙◌}
 use Rattle.goal_blocks.proofs.StoreFacts.{value_there, value_absent, sorted_there, sorted_from}
 use Rattle.goal_blocks.proofs.store.Store.copy_at.Goals as goal
 

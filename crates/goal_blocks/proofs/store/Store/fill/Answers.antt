@@ -1,8 +1,8 @@
-use Rattle.std.proofs.Common.{ℕ, ◌≡◌, ◌+◌, ◌<◌, ◌≤◌, List, [], ◌∷◌, length, drop, ap, sym, ◌∙◌, arith, subst, Vec, Global, get_or}
+use Rattle.std.proofs.Common.{ℕ, ◌<◌, ◌≤◌, List, length, ap, sym, ◌∙◌, arith, Vec, Global, get_or}
 use Rattle.std.specs.Vec.Iter.{into_iter_items}
 use Rattle.std.proofs.lemmas.List.Elements.{All-rest, All-get_or}
-use Rattle.goal_blocks.specs.Values.{Contribution, Value, Store, write, set_slot}
-use Rattle.goal_blocks.specs.Stored.{Kept, values, lists_of, IsSorted}
+use Rattle.goal_blocks.specs.Values.{Contribution}
+use Rattle.goal_blocks.specs.Stored.{values, lists_of, IsSorted}
 use Rattle.goal_blocks.proofs.Writes.{write_next, write_none, light_next}
 use Rattle.goal_blocks.proofs.store.Store.fill.Goals as goal
 

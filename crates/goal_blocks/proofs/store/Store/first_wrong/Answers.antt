@@ -1,4 +1,4 @@
-use Rattle.std.proofs.Common.{ℕ, ◌≡◌, ◌<◌, ◌≤◌, ◌⊎◌, inl, inr, true, arith, subst, sym, ap, ⊎_elim}
+use Rattle.std.proofs.Common.{arith, ap, ⊎_elim}
 use Rattle.goal_blocks.specs.Stored.{Kept}
 use Rattle.goal_blocks.proofs.Wishes.{wanted_past, cases_below}
 use Rattle.goal_blocks.proofs.store.Store.first_wrong.Goals as goal

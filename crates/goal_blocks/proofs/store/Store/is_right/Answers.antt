@@ -1,7 +1,7 @@
-use Rattle.std.proofs.Common.{ap, sym, ◌∙◌, ◌≡◌, subst}
+use Rattle.std.proofs.Common.{ap, ◌∙◌}
 use Rattle.goal_blocks.specs.Values.{Value}
-use Rattle.goal_blocks.specs.Collectives.{wanted, initial}
-use Rattle.goal_blocks.specs.Stored.{Kept, one_or_none, values}
+use Rattle.goal_blocks.specs.Collectives.{wanted}
+use Rattle.goal_blocks.specs.Stored.{Kept, values}
 use Rattle.goal_blocks.proofs.StoreFacts.{value_there, value_absent, sorted_there, sorted_from}
 use Rattle.goal_blocks.proofs.store.Store.is_right.Goals as goal
 

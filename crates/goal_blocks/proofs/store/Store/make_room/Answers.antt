@@ -1,4 +1,4 @@
-use Rattle.std.proofs.Common.{ap, sym, ◌∙◌, arith}
+use Rattle.std.proofs.Common.{ap, sym, ◌∙◌}
 use Rattle.goal_blocks.specs.Values.{Value, set_slot}
 use Rattle.goal_blocks.specs.Stored.{values}
 use Rattle.goal_blocks.proofs.SlotSums.{set_nothing}

@@ -1,4 +1,3 @@
-use Rattle.std.proofs.Common.{sym, ap}
 use Rattle.std.proofs.lemmas.List.Elements.{All-same}
 use Rattle.goal_blocks.specs.Stored.{IsSorted, values}
 use Rattle.goal_blocks.proofs.StoreFacts.{sorted_there, all_sorted}

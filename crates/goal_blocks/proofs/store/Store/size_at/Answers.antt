@@ -1,6 +1,5 @@
-use Rattle.std.proofs.Common.{ap, sym, ◌∙◌, ◌≡◌, ◌≤◌, ℕ, length, arith, Vec, Global, refl}
-use Rattle.goal_blocks.specs.Values.{Contribution, Value}
-use Rattle.goal_blocks.specs.Stored.{one_or_none, values}
+use Rattle.std.proofs.Common.{ap, ◌∙◌, ◌≡◌, length, arith, Vec, Global}
+use Rattle.goal_blocks.specs.Values.{Contribution}
 use Rattle.goal_blocks.proofs.StoreFacts.{value_there, value_absent, few_there, held_there}
 use Rattle.goal_blocks.proofs.store.Store.size_at.Goals as goal
 
