@@ -48,3 +48,4 @@ pub mod Wishes
 pub mod Writes
 pub mod SlotLists
 pub mod SlotRows
+pub mod Rounds
