@@ -49,3 +49,4 @@ pub mod Writes
 pub mod SlotLists
 pub mod SlotRows
 pub mod Rounds
+pub mod BarrierCertified

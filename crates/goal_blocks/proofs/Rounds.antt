@@ -1,20 +1,20 @@
 -- Schedules in rounds: in each round a rank sends what slot 0 has, and adds to it what it hears. Where the two ends of a message
 -- know each other they are certified, if what is gained in the end is wanted.
-use Rattle.std.proofs.Common.{⊎_elim, ℕ, zero, suc, ◌+◌, ◌-◌, ◌*◌, ◌/◌, ◌%◌, ◌^◌, ◌<◌, ◌≤◌, ◌≡◌, ◌==◌, ◌⊎◌, nat_lt, inl, inr, Bool, true, false, List, [], ◌∷◌, map, length, All, Option, Some, None, if◌then◌else◌, refl, sym, ap, ◌∙◌, subst, arith, eq-eqb, flat_map, add-one}
+use Rattle.std.proofs.Common.{⊎_elim, ℕ, zero, suc, ◌+◌, ◌*◌, ◌/◌, ◌%◌, ◌^◌, ◌<◌, ◌≤◌, ◌≡◌, ◌==◌, ◌⊎◌, nat_lt, inl, inr, Bool, true, false, List, [], ◌∷◌, map, length, All, Option, Some, if◌then◌else◌, refl, sym, ap, ◌∙◌, subst, arith, flat_map}
 use Rattle.std.specs.List.{range_with_len, sum_by}
 use Rattle.std.proofs.Math.Nat.{pow-suc}
 use Rattle.std.proofs.lemmas.Bool.{lt-ltb, ltb-true, ne_eqb, cases_lt, cases_eq}
 use Rattle.std.proofs.lemmas.List.Sums.{sum_by-cons, sum_by-append}
 use Rattle.std.proofs.lemmas.Nat.{pow_pos}
 use Rattle.goal_graph.specs.declared.action.OpId.{OpId}
-use Rattle.goal_graph.specs.declared.plan.Kind.{Kind}
-use Rattle.goal_graph.specs.declared.plan.Kind.TheVariants.{Calc, Send, Recv}
-use Rattle.goal_blocks.specs.Slots.{Adding, slots_from}
+use Rattle.goal_graph.specs.declared.plan.Kind.TheVariants.{Calc, Recv}
+use Rattle.goal_graph.specs.declared.plan.Note.TheVariants.{Moves, Adds}
+use Rattle.goal_blocks.specs.Slots.{Adding}
 use Rattle.goal_blocks.specs.Values.{Contribution, Value, Store, is_lower, insert_one, merge}
 use Rattle.goal_blocks.specs.Weight.{sum_below}
-use Rattle.goal_blocks.specs.Certification.{IsSmall, IsCertified}
+use Rattle.goal_blocks.specs.Certification.{NamesLowSlots, moved_count, IsSmall, IsCertified}
 use Rattle.goal_blocks.specs.Collectives.{single}
-use Rattle.goal_blocks.specs.Entries.{Entry, Span, slot, sending, receiving, summing, made_by}
+use Rattle.goal_blocks.specs.Entries.{Entry, slot, sending, receiving, summing, notes_of, made_by}
 use Rattle.goal_blocks.specs.Made.{before_round, round_in}
 use Rattle.goal_blocks.specs.Messages.{AreMessages}
 use Rattle.goal_blocks.proofs.Orders.{Mem}
@@ -22,7 +22,8 @@ use Rattle.goal_blocks.proofs.EntryFacts.{slots_of_span}
 use Rattle.goal_blocks.proofs.MadePaired.{at, same_place}
 use Rattle.goal_blocks.proofs.AllgatherCertified.{moved_slot}
 use Rattle.goal_blocks.proofs.PlanBy.{range_more}
-use Rattle.goal_blocks.proofs.Sizes.{sum_below_few}
+use Rattle.goal_blocks.proofs.Slim.{All_one}
+use Rattle.goal_blocks.proofs.Sizes.{sum_below_few, entries_small}
 use Rattle.goal_blocks.proofs.Totals.{sum_range_few}
 use Rattle.goal_blocks.proofs.Blueprint.{moved, touches, writes, Precedes, now, after, IsThere, Origin, Final, IsBlueprint, IsBounded, blueprint_certified}
 
@@ -43,7 +44,7 @@ length-merge (c ∷ v) w =
     let more = length-insert c (merge v w) in
     omega (arith, rest, more)
 
-pow_le : (a b : ℕ) → a ≤ b → 2 ^ a ≤ 2 ^ b
+pub pow_le : (a b : ℕ) → a ≤ b → 2 ^ a ≤ 2 ^ b
 pow_le a zero l = let e : a ≡ 0 = omega (arith, l) in subst (λ (k : ℕ). 2 ^ k ≤ 1) (sym e) (omega arith)
 pow_le a (suc b) l =
     ⊎_elim (λ e. subst (λ (k : ℕ). 2 ^ k ≤ 2 ^ suc b) (sym e) (omega arith)) (λ d. let rest = pow_le a b (omega (arith, l, d)) in let twice = pow-suc 2 b in omega (arith, rest, twice)) (cases_eq a (suc b))
@@ -61,7 +62,7 @@ module _ (ranks n bytes : ℕ) (to from : ℕ → ℕ → ℕ) (to_rank : (r k :
   rounds_entry r i = round_in bytes (to r (i / 3)) (from r (i / 3)) (i / 3) (i % 3)
 
   -- what slot 0 has after so many rounds
-  pub gained : ℕ → ℕ → Value
+  unfoldable pub gained : ℕ → ℕ → Value
   gained zero r = single r 0
   gained (suc k) r = merge (gained k r) (gained k (from r k))
 
@@ -466,6 +467,22 @@ module _ (ranks n bytes : ℕ) (to from : ℕ → ℕ → ℕ) (to_rank : (r k :
         total = total;
       }
 
-      pub rounds_certified : IsSmall (made_by ranks rounds_count rounds_entry) → IsCertified (made_by ranks rounds_count rounds_entry) first wanted
+      rounds_certified : IsSmall (made_by ranks rounds_count rounds_entry) → IsCertified (made_by ranks rounds_count rounds_entry) first wanted
       rounds_certified small =
           blueprint_certified ranks rounds_count rounds_entry first wanted rounds_finds rounds_leaves Turn bytes turn_send turn_recv (λ t. t.round) rounds_level rounds_blueprint cap load bounded small
+
+      low_notes : (r i : ℕ) → i < 3 * n → All NamesLowSlots (notes_of i (rounds_entry r i)) × (sum_by moved_count (notes_of i (rounds_entry r i)) ≤ 1)
+      low_notes r i l = ⊎_elim (λ p. subst (λ (x : Entry). Low x) (sym (as_send r i p.0 p.1)) (one 0 (omega arith))) (λ c. ⊎_elim (λ p. let e = p.1 in subst (λ (x : Entry). Low x) (sym (as_receive r i p.0 p.1)) (one (p.0 + 1) (omega (arith, l, e, few_rounds)))) (λ p. let e = p.1 in subst (λ (x : Entry). Low x) (sym (as_sum r i p.0 p.1)) (All_one NamesLowSlots (Adds i (p.0 + 1) 0) (omega (arith, l, e, few_rounds), omega arith), omega arith)) c) (cases_triple i)
+        where
+          Low : Entry → Type 0
+          Low x = All NamesLowSlots (notes_of i x) × (sum_by moved_count (notes_of i x) ≤ 1)
+
+          one : (k : ℕ) → k ≤ 65535 → All NamesLowSlots (Moves i k k ∷ []) × (sum_by moved_count (Moves i k k ∷ []) ≤ 1)
+          one k low = (All_one NamesLowSlots (Moves i k k) (low, low), omega arith)
+
+      rounds_small : IsSmall (made_by ranks rounds_count rounds_entry)
+      rounds_small =
+          entries_small ranks rounds_count rounds_entry 1 (λ r l. omega (arith, few_rounds)) (λ r i l m. (low_notes r i m).0) (λ r i l m. (low_notes r i m).1) (let ops = sum_range_few rounds_count ranks 33 (λ r l. omega (arith, few_rounds)) in omega (arith, ops, few))
+
+      pub rounds_are_certified : IsCertified (made_by ranks rounds_count rounds_entry) first wanted
+      rounds_are_certified = rounds_certified rounds_small

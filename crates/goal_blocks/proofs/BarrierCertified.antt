@@ -1,0 +1,168 @@
+-- The barrier by dissemination is certified, for every number of ranks up to 2,048 and every size.
+use Rattle.std.proofs.Common.{⊎_elim, ℕ, zero, suc, ◌+◌, ◌-◌, ◌*◌, ◌^◌, ◌<◌, ◌≤◌, ◌≡◌, ◌⊎◌, nat_lt, inl, inr, Bool, true, false, [], ◌∷◌, map, length, if◌then◌else◌, refl, sym, ap, ◌∙◌, subst, arith, eq-eqb}
+use Rattle.std.specs.List.{range_with_len, list_all}
+use Rattle.std.proofs.Math.Nat.{pow-suc}
+use Rattle.std.proofs.lemmas.Bool.{both_ways, lt-ltb, ne_eqb, cases_lt}
+use Rattle.goal_blocks.specs.declared.collective.Collective.TheVariants.{Barrier}
+use Rattle.goal_blocks.specs.Values.{Contribution, Value, Store, is_lower, insert_one, merge}
+use Rattle.goal_blocks.specs.Certification.{IsCertified}
+use Rattle.goal_blocks.specs.Collectives.{single, of_each, initial, is_one, has_one, wanted}
+use Rattle.goal_blocks.specs.Certified.{IsCertifiedFor}
+use Rattle.goal_blocks.specs.Positions.{ahead, back, digits}
+use Rattle.goal_blocks.specs.Made.{barrier_in}
+use Rattle.goal_blocks.specs.Generated.{made}
+use Rattle.goal_blocks.proofs.EntryFacts.{length_plans}
+use Rattle.goal_blocks.proofs.Ring.{back_is, back_ahead, ahead_back}
+use Rattle.goal_blocks.proofs.RingAndTree.{ahead_below, back_below, digits_low, digits_high, digits_few}
+use Rattle.goal_blocks.proofs.AllgatherCertified.{back_zero, back_back}
+use Rattle.goal_blocks.proofs.Rounds.{pow_le, gained, rounds_are_certified}
+
+has_cons : (d c : Contribution) (v : Value) (t : Bool) → is_one c d ≡ t → has_one (d ∷ v) c ≡ (if t then true else has_one v c)
+unfolding has_one
+has_cons d c v t e = ap (λ (b : Bool). if b then true else has_one v c) e
+
+has_later : (d c : Contribution) (v : Value) → has_one v c ≡ true → has_one (d ∷ v) c ≡ true
+has_later d c v has = go (is_one c d) refl
+  where
+    go : (t : Bool) → is_one c d ≡ t → has_one (d ∷ v) c ≡ true
+    go true e = has_cons d c v true e
+    go false e = has_cons d c v false e ∙ has
+
+has_none : (c : Contribution) → has_one [] c ≡ false
+unfolding has_one
+has_none c = refl
+
+-- a value that is merged with another has what each of them has
+has_new : (e c : Contribution) (v : Value) → is_one c e ≡ true → has_one (insert_one e v) c ≡ true
+unfolding insert_one
+has_new e c [] is = has_cons e c [] true is
+has_new e c (d ∷ ds) is = go (has_new e c ds is) (is_lower e d)
+  where
+    go : has_one (insert_one e ds) c ≡ true → (b : Bool) → has_one (if b then e ∷ d ∷ ds else d ∷ insert_one e ds) c ≡ true
+    go rest true = has_cons e c (d ∷ ds) true is
+    go rest false = has_later d c (insert_one e ds) rest
+
+has_still : (e c : Contribution) (v : Value) → has_one v c ≡ true → has_one (insert_one e v) c ≡ true
+unfolding insert_one
+has_still e c [] has = absurd (both_ways _ (has_none c) has)
+has_still e c (d ∷ ds) has = go (λ h. has_still e c ds h) (is_one c d) refl (is_lower e d)
+  where
+    go : (has_one ds c ≡ true → has_one (insert_one e ds) c ≡ true) → (t : Bool) → is_one c d ≡ t → (b : Bool) → has_one (if b then e ∷ d ∷ ds else d ∷ insert_one e ds) c ≡ true
+    go rest t f true = has_later e c (d ∷ ds) has
+    go rest true f false = has_cons d c (insert_one e ds) true f
+    go rest false f false = has_later d c (insert_one e ds) (rest (sym (has_cons d c ds false f) ∙ has))
+
+has_left : (c : Contribution) (v w : Value) → has_one v c ≡ true → has_one (merge v w) c ≡ true
+unfolding merge
+has_left c [] w has = absurd (both_ways _ (has_none c) has)
+has_left c (e ∷ v) w has = go (λ h. has_left c v w h) (is_one c e) refl
+  where
+    go : (has_one v c ≡ true → has_one (merge v w) c ≡ true) → (t : Bool) → is_one c e ≡ t → has_one (insert_one e (merge v w)) c ≡ true
+    go rest true f = has_new e c (merge v w) f
+    go rest false f = has_still e c (merge v w) (rest (sym (has_cons e c v false f) ∙ has))
+
+has_right : (c : Contribution) (v w : Value) → has_one w c ≡ true → has_one (merge v w) c ≡ true
+unfolding merge
+has_right c [] w has = has
+has_right c (e ∷ v) w has = has_still e c (merge v w) (has_right c v w has)
+
+all_range : {X : Type 0} (p : X → Bool) (f : ℕ → X) (a m : ℕ) → ((q : ℕ) → q < a + m → p (f q) ≡ true) → list_all p (map f (range_with_len a m)) ≡ true
+all_range p f a zero each = refl
+all_range p f a (suc m) each =
+    rw (each a (omega arith), all_range p f (a + 1) m (λ q l. each q (omega (arith, l)))) refl
+
+-- so many back twice
+back_more : (ranks r a b : ℕ) → r < ranks → a + b < ranks → back ranks (back ranks r a) b ≡ back ranks r (a + b)
+back_more ranks r a b p q = go (back_is ranks r a) (back_is ranks (back ranks r a) b) (back_is ranks r (a + b))
+  where
+    go : ((r < a) × (back ranks r a ≡ r + ranks - a)) ⊎ ((a ≤ r) × (back ranks r a ≡ r - a)) → ((back ranks r a < b) × (back ranks (back ranks r a) b ≡ back ranks r a + ranks - b)) ⊎ ((b ≤ back ranks r a) × (back ranks (back ranks r a) b ≡ back ranks r a - b)) → ((r < a + b) × (back ranks r (a + b) ≡ r + ranks - (a + b))) ⊎ ((a + b ≤ r) × (back ranks r (a + b) ≡ r - (a + b))) → back ranks (back ranks r a) b ≡ back ranks r (a + b)
+    go (inl (x, e)) (inl (y, f)) (inl (z, g)) = omega (arith, p, q, x, e, y, f, z, g)
+    go (inl (x, e)) (inl (y, f)) (inr (z, g)) = omega (arith, p, q, x, e, y, f, z, g)
+    go (inl (x, e)) (inr (y, f)) (inl (z, g)) = omega (arith, p, q, x, e, y, f, z, g)
+    go (inl (x, e)) (inr (y, f)) (inr (z, g)) = omega (arith, p, q, x, e, y, f, z, g)
+    go (inr (x, e)) (inl (y, f)) (inl (z, g)) = omega (arith, p, q, x, e, y, f, z, g)
+    go (inr (x, e)) (inl (y, f)) (inr (z, g)) = omega (arith, p, q, x, e, y, f, z, g)
+    go (inr (x, e)) (inr (y, f)) (inl (z, g)) = omega (arith, p, q, x, e, y, f, z, g)
+    go (inr (x, e)) (inr (y, f)) (inr (z, g)) = omega (arith, p, q, x, e, y, f, z, g)
+
+module _ (ranks bytes : ℕ) (some : 0 < ranks) (few : ranks ≤ 2048) where
+  abbrev n : ℕ
+  n = digits (ranks - 1)
+
+  abbrev to : ℕ → ℕ → ℕ
+  to r k = ahead ranks r (2 ^ k)
+
+  abbrev from : ℕ → ℕ → ℕ
+  from r k = back ranks r (2 ^ k)
+
+  power_low : (k : ℕ) → k < n → 2 ^ k < ranks
+  power_low k l = let low = digits_low (ranks - 1) k (omega (arith, few)) l in omega (arith, low, some)
+
+  to_rank : (r k : ℕ) → r < ranks → k < n → to r k < ranks
+  to_rank r k inside l = let low = power_low k l in ahead_below ranks r (2 ^ k) inside (omega (arith, low))
+
+  from_rank : (r k : ℕ) → r < ranks → k < n → from r k < ranks
+  from_rank r k inside l = back_below ranks r (2 ^ k) inside
+
+  there_and_back : (r k : ℕ) → r < ranks → k < n → from (to r k) k ≡ r
+  there_and_back r k inside l = let low = power_low k l in back_ahead ranks r (2 ^ k) inside (omega (arith, low))
+
+  back_and_there : (r k : ℕ) → r < ranks → k < n → to (from r k) k ≡ r
+  back_and_there r k inside l = let low = power_low k l in ahead_back ranks r (2 ^ k) inside (omega (arith, low))
+
+  abbrev got : ℕ → ℕ → Value
+  got k r = gained ranks n bytes to from to_rank from_rank there_and_back back_and_there k r
+
+  -- after k rounds slot 0 has a contribution of each of the 2^k ranks behind
+  has_behind : (k r d : ℕ) → r < ranks → k ≤ n → d < 2 ^ k → d < ranks → has_one (got k r) (record { rank = back ranks r d; item = 0 }) ≡ true
+  unfolding gained
+  has_behind zero r d inside l low under =
+      let none : d ≡ 0 = omega (arith, low) in
+      let own : back ranks r d ≡ r = ap (λ (m : ℕ). back ranks r m) none ∙ back_zero ranks r in
+      has_cons (record { rank = r; item = 0 }) (record { rank = back ranks r d; item = 0 }) [] true (rw (eq-eqb (back ranks r d) r own) refl)
+  has_behind (suc k) r d inside l low under =
+      ⊎_elim (λ near. has_left (record { rank = back ranks r d; item = 0 }) (got k r) (got k (from r k)) (has_behind k r d inside (omega (arith, l)) near under)) (λ far. has_right (record { rank = back ranks r d; item = 0 }) (got k r) (got k (from r k)) (let twice = pow-suc 2 k in let whole : 2 ^ k + (d - 2 ^ k) ≡ d = omega (arith, far) in let same = back_more ranks r (2 ^ k) (d - 2 ^ k) inside (omega (arith, whole, under)) ∙ ap (λ (m : ℕ). back ranks r m) whole in subst (λ (q : ℕ). has_one (got k (from r k)) (record { rank = q; item = 0 }) ≡ true) same (has_behind k (from r k) (d - 2 ^ k) (from_rank r k inside (omega (arith, l))) (omega (arith, l)) (omega (arith, low, twice, far)) (omega (arith, under))))) (cases_lt d (2 ^ k))
+
+  end_is : (r : ℕ) → r < ranks → wanted Barrier ranks r 0 (got n r) ≡ true
+  unfolding wanted of_each
+  end_is r inside =
+      rw (lt-ltb r ranks inside) (all_range (has_one (got n r)) (λ (q : ℕ). record { rank = q; item = 0 }) 0 ranks (λ q l. let under : q < ranks = omega (arith, l) in let d = back_below ranks r q inside in let high = digits_high (ranks - 1) n (omega (arith, few)) (omega arith) in subst (λ (k : ℕ). has_one (got n r) (record { rank = k; item = 0 }) ≡ true) (back_back ranks r q inside under) (has_behind n r (back ranks r q) inside (omega arith) (omega (arith, d, high)) d)))
+
+  elsewhere : (r k : ℕ) (v : Value) → wanted Barrier ranks r (suc k) v ≡ true
+  unfolding wanted
+  elsewhere r k v = rw (ne_eqb (suc k) 0 (λ e. omega (arith, e))) (go (nat_lt r ranks))
+    where
+      go : (b : Bool) → (if b then true else true) ≡ true
+      go true = refl
+      go false = refl
+
+  abbrev first : Store
+  first = initial Barrier ranks
+
+  first_is : (r : ℕ) → r < ranks → first r 0 ≡ single r 0
+  unfolding initial
+  first_is r inside = rw (lt-ltb r ranks inside) refl
+
+  first_few : (r : ℕ) → length (first r 0) ≤ 1
+  unfolding initial
+  first_few r = go (nat_lt r ranks)
+    where
+      go : (b : Bool) → length (if b then single r 0 else []) ≤ 1
+      go true = omega arith
+      go false = omega arith
+
+  first_none : (r k : ℕ) → first r (suc k) ≡ []
+  unfolding initial
+  first_none r k = rw (ne_eqb (suc k) 0 (λ e. omega (arith, e))) (go (nat_lt r ranks))
+    where
+      go : (b : Bool) → ◌≡◌ {A = Value} (if b then [] else []) []
+      go true = refl
+      go false = refl
+
+  few_rounds : n ≤ 11
+  few_rounds = digits_few (ranks - 1) 11 (omega (arith, few)) (omega (arith, few, some))
+
+  pub barrier_certified : IsCertifiedFor Barrier (made Barrier ranks bytes)
+  unfolding made barrier_in
+  barrier_certified =
+      subst (λ (m : ℕ). IsCertified (made Barrier ranks bytes) (initial Barrier m) (wanted Barrier m)) (sym (length_plans ranks (λ r. 3 * n) (λ r i. barrier_in ranks bytes r i))) (rounds_are_certified ranks n bytes to from to_rank from_rank there_and_back back_and_there first (wanted Barrier ranks) first_is end_is elsewhere first_few first_none few (let le = pow_le n 11 few_rounds in omega (arith, le)) few_rounds)
