@@ -50,3 +50,4 @@ pub mod SlotLists
 pub mod SlotRows
 pub mod Rounds
 pub mod BarrierCertified
+pub mod AllreduceCertified

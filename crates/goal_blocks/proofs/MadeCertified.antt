@@ -1,5 +1,5 @@
--- The made schedules of the broadcast, the allgather, the alltoall and the scan are certified, and so right everywhere.
-use Rattle.std.proofs.Common.{ℕ, ◌≤◌, length}
+-- The made schedules of the broadcast, barrier, allgather, allreduce, alltoall and scan are certified, and so right everywhere.
+use Rattle.std.proofs.Common.{ℕ, ◌≤◌, length, sym, subst}
 use Rattle.goal_base.specs.declared.limits.TheConstants.{MAX_BYTES}
 use Rattle.goal_blocks.specs.declared.collective.Collective.{Collective}
 use Rattle.goal_blocks.specs.declared.collective.Collective.TheVariants.{Bcast, Barrier, Allgather, Allreduce, Alltoall, Reduce, Gather, Scatter, ReduceScatter, Scan}
@@ -10,14 +10,17 @@ use Rattle.goal_blocks.proofs.Right.{certified_right}
 use Rattle.goal_blocks.proofs.BcastCertified.{bcast_certified}
 use Rattle.goal_blocks.proofs.AllgatherCertified.{allgather_certified}
 use Rattle.goal_blocks.proofs.AlltoallCertified.{alltoall_certified}
+use Rattle.goal_blocks.proofs.BarrierCertified.{barrier_certified}
+use Rattle.goal_blocks.proofs.AllreduceCertified.{allreduce_certified}
 use Rattle.goal_blocks.proofs.ScanCertified.{scan_certified}
 
 pub made_certified : (what : Collective) (ranks bytes : ℕ) → IsPossible what ranks → bytes ≤ MAX_BYTES → IsCertifiedByProof what ranks → IsCertifiedFor what (made what ranks bytes)
 made_certified (Bcast root) ranks bytes p small proved = bcast_certified ranks root bytes p.root p.few_ranks small
 made_certified Allgather ranks bytes p small proved = allgather_certified ranks bytes p.some_rank p.few_ranks small
 made_certified Scan ranks bytes p small proved = scan_certified ranks bytes p.some_rank p.few_ranks small
-made_certified Barrier ranks bytes p small proved = absurd proved
-made_certified Allreduce ranks bytes p small proved = absurd proved
+made_certified Barrier ranks bytes p small proved = barrier_certified ranks bytes p.some_rank proved
+made_certified Allreduce ranks bytes p small proved =
+    subst (λ (n : ℕ). IsCertifiedFor Allreduce (made Allreduce n bytes)) (sym p.power.1) (allreduce_certified p.power.0 bytes (subst (λ (n : ℕ). n ≤ 2048) p.power.1 proved))
 made_certified Alltoall ranks bytes p small proved = alltoall_certified ranks bytes p.some_rank p.few_ranks small
 made_certified (Reduce root) ranks bytes p small proved = absurd proved
 made_certified (Gather root) ranks bytes p small proved = absurd proved

@@ -4,7 +4,7 @@ use Rattle.std.specs.Prelude.{ℕ, ◌≤◌, List, length}
 use Rattle.goal_base.specs.declared.limits.TheConstants.{MAX_BYTES}
 use Rattle.goal_graph.specs.Schedule.{Plan}
 use Rattle.goal_blocks.specs.declared.collective.Collective.{Collective}
-use Rattle.goal_blocks.specs.declared.collective.Collective.TheVariants.{Bcast, Allgather, Alltoall, Scan}
+use Rattle.goal_blocks.specs.declared.collective.Collective.TheVariants.{Bcast, Barrier, Allgather, Allreduce, Alltoall, Scan}
 use Rattle.goal_blocks.specs.Collectives.{initial, wanted}
 use Rattle.goal_blocks.specs.Certification.{IsCertified, IsRightEverywhere}
 use Rattle.goal_blocks.specs.Generated.{made, IsPossible}
@@ -19,7 +19,9 @@ IsRightFor what plans = IsRightEverywhere plans (initial what (length plans)) (w
 -- The collectives, and numbers of ranks, whose made schedules are certified by proof.
 abbrev pub IsCertifiedByProof : Collective → ℕ → Type 0
 IsCertifiedByProof (Bcast root) ranks = Unit {0}
+IsCertifiedByProof Barrier ranks = ranks ≤ 2048
 IsCertifiedByProof Allgather ranks = Unit {0}
+IsCertifiedByProof Allreduce ranks = ranks ≤ 2048
 IsCertifiedByProof Alltoall ranks = Unit {0}
 IsCertifiedByProof Scan ranks = Unit {0}
 IsCertifiedByProof _ ranks = ⊥

@@ -1,0 +1,263 @@
+-- The allreduce by recursive doubling is certified, for every power of two up to 2,048 ranks and every size.
+use Rattle.std.proofs.Common.{⊎_elim, ℕ, zero, suc, ◌+◌, ◌-◌, ◌*◌, ◌/◌, ◌%◌, ◌^◌, ◌<◌, ◌≤◌, ◌≡◌, ◌⊎◌, nat_lt, inl, inr, Bool, true, false, [], ◌∷◌, ◌++◌, map, length, if◌then◌else◌, refl, sym, ap, ◌∙◌, subst, arith}
+use Rattle.std.specs.List.{range_with_len}
+use Rattle.std.proofs.Math.Nat.{pow-suc}
+use Rattle.std.proofs.lemmas.Bool.{lt-ltb, ltb-true, ne_eqb, cases_lt, cases_eq}
+use Rattle.std.proofs.lemmas.List.{append-nil}
+use Rattle.std.proofs.lemmas.Nat.{pow_pos, div-mul-add, div-add-mod', mod_below}
+use Rattle.goal_blocks.specs.declared.collective.Collective.TheVariants.{Allreduce}
+use Rattle.goal_blocks.specs.Values.{Value, Store, is_lower, insert_one, merge}
+use Rattle.goal_blocks.specs.Certification.{IsCertified}
+use Rattle.goal_blocks.specs.Collectives.{single, of_each, initial, wanted}
+use Rattle.goal_blocks.specs.Certified.{IsCertifiedFor}
+use Rattle.goal_blocks.specs.Positions.{flipped, digits}
+use Rattle.goal_blocks.specs.Made.{allreduce_in}
+use Rattle.goal_blocks.specs.Generated.{made}
+use Rattle.goal_blocks.proofs.EntryFacts.{length_plans}
+use Rattle.goal_blocks.proofs.RingAndTree.{flipped_below, digits_high, digits_few}
+use Rattle.goal_blocks.proofs.ScanCertified.{is_itself}
+use Rattle.goal_blocks.proofs.Rounds.{pow_le, gained, rounds_are_certified}
+
+-- the first item of each of m ranks, from a on
+run : ℕ → ℕ → Value
+run a zero = []
+run a (suc m) = record { rank = a; item = 0 } ∷ run (a + 1) m
+
+lower_rank : (a b : ℕ) → a < b → is_lower (record { rank = a; item = 0 }) (record { rank = b; item = 0 }) ≡ true
+lower_rank a b l = rw (lt-ltb a b l) refl
+
+not_lower : (a b : ℕ) → b < a → is_lower (record { rank = a; item = 0 }) (record { rank = b; item = 0 }) ≡ false
+not_lower a b l = rw (higher, ne_eqb a b (λ e. omega (arith, e, l))) refl
+  where
+    higher : nat_lt a b ≡ false
+    higher = go (nat_lt a b) refl
+      where
+        go : (t : Bool) → nat_lt a b ≡ t → t ≡ false
+        go true e = absurd (let m = ltb-true a b e in omega (arith, m, l))
+        go false e = refl
+
+-- before ranks that are higher, and after ranks that are lower
+insert_first : (b a m : ℕ) → b < a → insert_one (record { rank = b; item = 0 }) (run a m) ≡ record { rank = b; item = 0 } ∷ run a m
+unfolding insert_one run
+insert_first b a zero l = refl
+insert_first b a (suc m) l = rw (lower_rank b a l) refl
+
+insert_after : (b a m : ℕ) (v : Value) → a + m ≤ b → insert_one (record { rank = b; item = 0 }) (run a m ++ v) ≡ run a m ++ insert_one (record { rank = b; item = 0 }) v
+unfolding insert_one run
+insert_after b a zero v l = refl
+insert_after b a (suc m) v l = rw (not_lower b a (omega (arith, l)), insert_after b (a + 1) m v (omega (arith, l))) refl
+
+-- neighbouring runs together
+merge_before : (a m l : ℕ) → merge (run a m) (run (a + m) l) ≡ run a (m + l)
+unfolding merge run
+merge_before a zero l =
+    let e : a + 0 ≡ a = omega arith in let f : 0 + l ≡ l = omega arith in rw (e, f) refl
+merge_before a (suc m) l =
+    let e : a + suc m ≡ a + 1 + m = omega arith in
+    let f : suc m + l ≡ suc (m + l) = omega arith in
+    rw (e, f, merge_before (a + 1) m l) (insert_first a (a + 1) (m + l) (omega arith))
+
+merge_apart : (b l a m : ℕ) → a + m ≤ b → merge (run b l) (run a m) ≡ run a m ++ run b l
+unfolding merge run
+merge_apart b zero a m g = sym (append-nil (run a m))
+merge_apart b (suc l) a m g =
+    rw (merge_apart (b + 1) l a m (omega (arith, g))) (insert_after b a m (run (b + 1) l) g ∙ ap (λ (v : Value). run a m ++ v) (insert_first b (b + 1) l (omega arith)))
+
+append_runs : (a m l : ℕ) → run a m ++ run (a + m) l ≡ run a (m + l)
+unfolding run
+append_runs a zero l = let e : a + 0 ≡ a = omega arith in let f : 0 + l ≡ l = omega arith in rw (e, f) refl
+append_runs a (suc m) l =
+    let e : a + suc m ≡ a + 1 + m = omega arith in
+    let f : suc m + l ≡ suc (m + l) = omega arith in
+    rw (e, f, append_runs (a + 1) m l) refl
+
+merge_after : (a m l : ℕ) → merge (run (a + m) l) (run a m) ≡ run a (m + l)
+merge_after a m l = merge_apart (a + m) l a m (omega arith) ∙ append_runs a m l
+
+run_is : (a m : ℕ) → run a m ≡ map (λ (q : ℕ). record { rank = q; item = 0 }) (range_with_len a m)
+unfolding run
+run_is a zero = refl
+run_is a (suc m) = ap (λ (v : Value). record { rank = a; item = 0 } ∷ v) (run_is (a + 1) m)
+
+-- the rank with the other binary digit
+flipped_even : (h k x : ℕ) → x < 2 ^ k → flipped (2 * h * 2 ^ k + x) k ≡ (2 * h + 1) * 2 ^ k + x
+unfolding flipped
+flipped_even h k x l =
+    let q = div-mul-add (2 * h) (2 ^ k) x l in
+    let even : 2 * h % 2 ≡ 0 = omega arith in
+    rw (q, even) (grind arith)
+
+flipped_odd : (h k x : ℕ) → x < 2 ^ k → flipped ((2 * h + 1) * 2 ^ k + x) k ≡ 2 * h * 2 ^ k + x
+unfolding flipped
+flipped_odd h k x l =
+    let q = div-mul-add (2 * h + 1) (2 ^ k) x l in
+    let odd : (2 * h + 1) % 2 ≡ 1 = omega arith in
+    let whole : (2 * h + 1) * 2 ^ k ≡ 2 * h * 2 ^ k + 2 ^ k = grind arith in
+    rw (q, odd) (omega (arith, whole))
+
+-- a rank by its binary digit of 2^k
+record HasDigit (r k : ℕ) : Type 0 where
+  half : ℕ
+  rest : ℕ
+  low : rest < 2 ^ k
+  is : (r ≡ 2 * half * 2 ^ k + rest) ⊎ (r ≡ (2 * half + 1) * 2 ^ k + rest)
+
+digit_of : (r k : ℕ) → HasDigit r k
+digit_of r k =
+    record { half = r / 2 ^ k / 2; rest = r % 2 ^ k; low = mod_below r (2 ^ k) (pow_pos k); is = ⊎_elim (λ e. inl (sym (div-add-mod' r (2 ^ k)) ∙ ap (λ (q : ℕ). q * 2 ^ k + r % 2 ^ k) (even e))) (λ d. inr (sym (div-add-mod' r (2 ^ k)) ∙ ap (λ (q : ℕ). q * 2 ^ k + r % 2 ^ k) (odd d))) (cases_eq (r / 2 ^ k % 2) 0) }
+  where
+    even : r / 2 ^ k % 2 ≡ 0 → r / 2 ^ k ≡ 2 * (r / 2 ^ k / 2)
+    even e = halves (r / 2 ^ k) e
+      where
+        halves : (q : ℕ) → q % 2 ≡ 0 → q ≡ 2 * (q / 2)
+        halves q f = omega (arith, f)
+
+    odd : (r / 2 ^ k % 2 ≡ 0 → ⊥) → r / 2 ^ k ≡ 2 * (r / 2 ^ k / 2) + 1
+    odd d = halves (r / 2 ^ k) d
+      where
+        halves : (q : ℕ) → (q % 2 ≡ 0 → ⊥) → q ≡ 2 * (q / 2) + 1
+        halves q f = omega (arith, f)
+
+flipped_twice : (r k : ℕ) → flipped (flipped r k) k ≡ r
+flipped_twice r k = go (digit_of r k).is
+  where
+    go : (r ≡ 2 * (digit_of r k).half * 2 ^ k + (digit_of r k).rest) ⊎ (r ≡ (2 * (digit_of r k).half + 1) * 2 ^ k + (digit_of r k).rest) → flipped (flipped r k) k ≡ r
+    go (inl e) =
+        ap (λ (s : ℕ). flipped (flipped s k) k) e ∙ ap (λ (s : ℕ). flipped s k) (flipped_even (digit_of r k).half k (digit_of r k).rest (digit_of r k).low) ∙ flipped_odd (digit_of r k).half k (digit_of r k).rest (digit_of r k).low ∙ sym e
+    go (inr e) =
+        ap (λ (s : ℕ). flipped (flipped s k) k) e ∙ ap (λ (s : ℕ). flipped s k) (flipped_odd (digit_of r k).half k (digit_of r k).rest (digit_of r k).low) ∙ flipped_even (digit_of r k).half k (digit_of r k).rest (digit_of r k).low ∙ sym e
+
+module _ (m bytes : ℕ) (few : 2 ^ m ≤ 2048) where
+  abbrev ranks : ℕ
+  ranks = 2 ^ m
+
+  abbrev n : ℕ
+  n = digits (ranks - 1)
+
+  rounds_are : n ≡ m
+  rounds_are = ⊎_elim (λ less. absurd (below (m - 1) less (omega (arith, less)))) (λ more. omega (arith, more, at_most)) (cases_lt n m)
+    where
+      some : 0 < 2 ^ m
+      some = pow_pos m
+
+      at_most : n ≤ m
+      at_most = digits_few (ranks - 1) m (omega (arith, few)) (omega (arith, some))
+
+      below : (j : ℕ) → n < m → suc j ≡ m → ⊥
+      below j less e =
+          let high = digits_high (ranks - 1) n (omega (arith, few)) (omega arith) in
+          let le = pow_le n j (omega (arith, less, e)) in
+          let twice = pow-suc 2 j in
+          let whole = ap (λ (k : ℕ). 2 ^ k) e in
+          let one = pow_pos j in
+          omega (arith, high, le, twice, whole, one)
+
+  to_rank : (r k : ℕ) → r < ranks → k < n → flipped r k < ranks
+  to_rank r k inside l = let same = rounds_are in flipped_below m r k inside (omega (arith, l, same))
+
+  twice_is : (r k : ℕ) → r < ranks → k < n → flipped (flipped r k) k ≡ r
+  twice_is r k inside l = flipped_twice r k
+
+  abbrev got : ℕ → ℕ → Value
+  got k r = gained ranks n bytes flipped flipped to_rank to_rank twice_is twice_is k r
+
+  -- two neighbouring runs are one, from either of their ranks
+  joined_low : (k q x : ℕ) → x < 2 ^ k → got k (2 * q * 2 ^ k + x) ≡ run (2 * q * 2 ^ k) (2 ^ k) → got k ((2 * q + 1) * 2 ^ k + x) ≡ run ((2 * q + 1) * 2 ^ k) (2 ^ k) → got (suc k) (q * 2 ^ suc k + x) ≡ run (q * 2 ^ suc k) (2 ^ suc k)
+  unfolding gained
+  joined_low k q x near mine others =
+      (λ i. merge (got k (same i)) (got k (flipped (same i) k))) ∙ (let other = ap (λ (r : ℕ). got k r) (flipped_even q k x near) ∙ others in λ i. merge (mine i) (other i)) ∙ ap (λ (a : ℕ). merge (run (2 * q * 2 ^ k) (2 ^ k)) (run a (2 ^ k))) next ∙ merge_before (2 * q * 2 ^ k) (2 ^ k) (2 ^ k) ∙ (λ i. run (start i) (size i))
+    where
+      twice : 2 ^ suc k ≡ 2 ^ k * 2
+      twice = pow-suc 2 k
+
+      size : 2 ^ k + 2 ^ k ≡ 2 ^ suc k
+      size = omega (arith, twice)
+
+      start : 2 * q * 2 ^ k ≡ q * 2 ^ suc k
+      start = (let e : 2 * q * 2 ^ k ≡ q * (2 ^ k * 2) = grind arith in e) ∙ ap (λ (w : ℕ). q * w) (sym twice)
+
+      same : q * 2 ^ suc k + x ≡ 2 * q * 2 ^ k + x
+      same = ap (λ (w : ℕ). w + x) (sym start)
+
+      next : (2 * q + 1) * 2 ^ k ≡ 2 * q * 2 ^ k + 2 ^ k
+      next = grind arith
+
+  joined_high : (k q x y : ℕ) → y < 2 ^ k → x ≡ 2 ^ k + y → got k ((2 * q + 1) * 2 ^ k + y) ≡ run ((2 * q + 1) * 2 ^ k) (2 ^ k) → got k (2 * q * 2 ^ k + y) ≡ run (2 * q * 2 ^ k) (2 ^ k) → got (suc k) (q * 2 ^ suc k + x) ≡ run (q * 2 ^ suc k) (2 ^ suc k)
+  unfolding gained
+  joined_high k q x y near far mine others =
+      (λ i. merge (got k (same i)) (got k (flipped (same i) k))) ∙ (let other = ap (λ (r : ℕ). got k r) (flipped_odd q k y near) ∙ others in λ i. merge (mine i) (other i)) ∙ ap (λ (a : ℕ). merge (run a (2 ^ k)) (run (2 * q * 2 ^ k) (2 ^ k))) next ∙ merge_after (2 * q * 2 ^ k) (2 ^ k) (2 ^ k) ∙ (λ i. run (start i) (size i))
+    where
+      twice : 2 ^ suc k ≡ 2 ^ k * 2
+      twice = pow-suc 2 k
+
+      size : 2 ^ k + 2 ^ k ≡ 2 ^ suc k
+      size = omega (arith, twice)
+
+      start : 2 * q * 2 ^ k ≡ q * 2 ^ suc k
+      start = (let e : 2 * q * 2 ^ k ≡ q * (2 ^ k * 2) = grind arith in e) ∙ ap (λ (w : ℕ). q * w) (sym twice)
+
+      next : (2 * q + 1) * 2 ^ k ≡ 2 * q * 2 ^ k + 2 ^ k
+      next = grind arith
+
+      same : q * 2 ^ suc k + x ≡ (2 * q + 1) * 2 ^ k + y
+      same = omega (arith, start, next, far)
+
+  -- after k rounds slot 0 has a contribution of each rank that agrees in the binary digits from that of 2^k on
+  got_is : (k q x : ℕ) → x < 2 ^ k → got k (q * 2 ^ k + x) ≡ run (q * 2 ^ k) (2 ^ k)
+  unfolding gained run
+  got_is zero q x l = let e : q * 2 ^ 0 + x ≡ q * 2 ^ 0 = omega (arith, l) in ap (λ (r : ℕ). single r 0) e
+  got_is (suc k) q x l =
+      ⊎_elim (λ near. joined_low k q x near (got_is k (2 * q) x near) (got_is k (2 * q + 1) x near)) (λ far. let twice = pow-suc 2 k in let small : x - 2 ^ k < 2 ^ k = omega (arith, l, twice, far) in joined_high k q x (x - 2 ^ k) small (omega (arith, far)) (got_is k (2 * q + 1) (x - 2 ^ k) small) (got_is k (2 * q) (x - 2 ^ k) small)) (cases_lt x (2 ^ k))
+
+  all_got : (r : ℕ) → r < ranks → got n r ≡ of_each ranks 0
+  unfolding of_each
+  all_got r inside =
+      let same = rounds_are in
+      let power = ap (λ (k : ℕ). 2 ^ k) same in
+      let at : 0 * 2 ^ n + r ≡ r = omega arith in
+      let start : 0 * 2 ^ n ≡ 0 = omega arith in
+      ap (λ (s : ℕ). got n s) (sym at) ∙ got_is n 0 r (omega (arith, inside, power)) ∙ (λ i. run (start i) (power i)) ∙ run_is 0 ranks
+
+  end_is : (r : ℕ) → r < ranks → wanted Allreduce ranks r 0 (got n r) ≡ true
+  unfolding wanted
+  end_is r inside =
+      subst (λ (v : Value). wanted Allreduce ranks r 0 v ≡ true) (sym (all_got r inside)) (rw (lt-ltb r ranks inside) (is_itself (of_each ranks 0)))
+
+  elsewhere : (r k : ℕ) (v : Value) → wanted Allreduce ranks r (suc k) v ≡ true
+  unfolding wanted
+  elsewhere r k v = rw (ne_eqb (suc k) 0 (λ e. omega (arith, e))) (go (nat_lt r ranks))
+    where
+      go : (b : Bool) → (if b then true else true) ≡ true
+      go true = refl
+      go false = refl
+
+  abbrev first : Store
+  first = initial Allreduce ranks
+
+  first_is : (r : ℕ) → r < ranks → first r 0 ≡ single r 0
+  unfolding initial
+  first_is r inside = rw (lt-ltb r ranks inside) refl
+
+  first_few : (r : ℕ) → length (first r 0) ≤ 1
+  unfolding initial
+  first_few r = go (nat_lt r ranks)
+    where
+      go : (b : Bool) → length (if b then single r 0 else []) ≤ 1
+      go true = omega arith
+      go false = omega arith
+
+  first_none : (r k : ℕ) → first r (suc k) ≡ []
+  unfolding initial
+  first_none r k = rw (ne_eqb (suc k) 0 (λ e. omega (arith, e))) (go (nat_lt r ranks))
+    where
+      go : (b : Bool) → ◌≡◌ {A = Value} (if b then [] else []) []
+      go true = refl
+      go false = refl
+
+  few_rounds : n ≤ 11
+  few_rounds = let some = pow_pos m in digits_few (ranks - 1) 11 (omega (arith, few)) (omega (arith, few, some))
+
+  pub allreduce_certified : IsCertifiedFor Allreduce (made Allreduce ranks bytes)
+  unfolding made allreduce_in
+  allreduce_certified =
+      subst (λ (k : ℕ). IsCertified (made Allreduce ranks bytes) (initial Allreduce k) (wanted Allreduce k)) (sym (length_plans ranks (λ r. 3 * n) (λ r i. allreduce_in bytes r i))) (rounds_are_certified ranks n bytes flipped flipped to_rank to_rank twice_is twice_is first (wanted Allreduce ranks) first_is end_is elsewhere first_few first_none few (let le = pow_le n 11 few_rounds in omega (arith, le)) few_rounds)
