@@ -10,7 +10,8 @@ pub use Rattle.goal_blocks.proofs.NoFault.{small_from, wildcard_from, double_fro
 pub use Rattle.goal_blocks.proofs.Least.{below, none_holds}
 pub use Rattle.goal_blocks.proofs.EndsBefore.{search_in, cases_before}
 pub use Rattle.goal_blocks.proofs.Channels.{fits_channel, channel_fits, channels_apart}
-pub use Rattle.goal_blocks.proofs.Walk.{one_walk}
+pub use Rattle.goal_blocks.proofs.Walk.{IsTail, whole, newer, one_tail, complete_tail, one_walk}
+pub use Rattle.goal_blocks.proofs.Faults.{heavy_not}
 pub use Rattle.goal_blocks.proofs.SomeWalk.{IsFirst, takes_first, nothing_left, some_walk}
 pub use Rattle.goal_blocks.proofs.MadeCertified.{made_certified, made_right}
 pub use Rattle.goal_blocks.proofs.Sorted.{length_merge}

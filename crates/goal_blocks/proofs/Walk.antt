@@ -9,7 +9,7 @@ use Rattle.goal_graph.proofs.ForCallers.{place_same}
 use Rattle.goal_blocks.specs.Walk.{no_send, ComesFirst, TakesFirst, IsWalk}
 
 -- v is u with newer actions, or none, before it
-data IsTail : List Act → List Act → Type 0 where
+pub data IsTail : List Act → List Act → Type 0 where
   whole : {u : List Act} → IsTail u u
   newer : {b : Act} {u v : List Act} → IsTail u v → IsTail u (b ∷ v)
 
@@ -51,7 +51,7 @@ module _ (plans : List Plan) where
   tail_takes u (b ∷ v) (newer t) takes = tail_takes u v t takes.0
 
   -- of two lists that take what comes first, one is a tail of the other
-  one_tail : (u v : List Act) → IsInterleaving plans no_send u → TakesFirst plans u → IsInterleaving plans no_send v → TakesFirst plans v → IsTail u v ⊎ IsTail v u
+  pub one_tail : (u v : List Act) → IsInterleaving plans no_send u → TakesFirst plans u → IsInterleaving plans no_send v → TakesFirst plans v → IsTail u v ⊎ IsTail v u
   one_tail [] v run takes run_v takes_v = inl (empty_tail v)
   one_tail (a ∷ u) v run takes run_v takes_v =
       ⊎_elim (λ t. ⊎_elim (λ same. inr (subst (λ (z : List Act). IsTail z (a ∷ u)) same (newer whole))) (λ found. inl (next_same found.0 found.1)) (next_of u v t)) (λ t. inr (newer t)) (one_tail u v run.0 takes.0 run_v takes_v)
@@ -63,7 +63,7 @@ module _ (plans : List Plan) where
           subst (λ (z : Act). IsTail (z ∷ u) v) (same_first b a (taken.1 a run.1) (takes.1 b now.1)) t
 
   -- nothing comes after what is complete
-  complete_tail : (u v : List Act) → IsCompleteInterleaving plans no_send u → IsInterleaving plans no_send v → IsTail u v → u ≡ v
+  pub complete_tail : (u v : List Act) → IsCompleteInterleaving plans no_send u → IsInterleaving plans no_send v → IsTail u v → u ≡ v
   complete_tail u v done run t =
       ⊎_elim (λ same. same) (λ found. absurd (both_ways _ (done.none_left found.0) (tail_runs (found.0 ∷ u) v found.1 run).1)) (next_of u v t)
 

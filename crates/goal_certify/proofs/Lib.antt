@@ -26,3 +26,6 @@ pub mod SlotFacts
 pub mod Carried
 pub mod Carrying
 pub mod Applied
+pub mod Deciding
+pub mod ValueStage
+pub mod Started

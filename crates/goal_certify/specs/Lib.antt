@@ -1,3 +1,5 @@
+-- What a reader must believe.
+pub mod Certifying
 -- What only the code keeps.
 pub mod Stages
 pub mod Ends
@@ -9,3 +11,8 @@ pub mod Touches
 pub mod Table
 pub mod Races
 pub mod Carried
+-- What the clauses cite of lower crates.
+pub use Rattle.goal_blocks.specs.Certification
+pub use Rattle.goal_blocks.specs.Certified
+pub use Rattle.goal_blocks.specs.Collectives
+pub use Rattle.goal_blocks.specs.Faults

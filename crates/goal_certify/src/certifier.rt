@@ -1,12 +1,16 @@
 // The certifier: the stages, in the order in which faults are told.
-ghost use Rattle.std.specs.Prelude.{OnOk, IfErr};
-ghost use Rattle.goal_certify.specs.Stages.{IsFree, IsStopped};
+ghost use Rattle.std.specs.Prelude.{◌≡◌, ◌⊎◌, length, OnOk, IfErr, IsOkUnless, IsErrOf};
+ghost use Rattle.goal_blocks.specs.declared.cert_fault.CertFault.{CertFault};
+ghost use Rattle.goal_blocks.specs.Collectives.{initial, wanted};
+ghost use Rattle.goal_blocks.specs.Certified.{IsCertifiedFor, IsRightFor};
+ghost use Rattle.goal_certify.specs.Certifying.{IsFaultFor};
+ghost use Rattle.goal_certify.specs.Stages.{HasNone, IsFirstOf, IsFree, IsStopped};
 
 use crate::channels::check_channels;
 use crate::races::check_races;
 use crate::sizes::check_sizes;
-use crate::walk::check_stalls;
-use goal_blocks::CertFault;
+use crate::walk::{check_stalls, check_values};
+use goal_blocks::{CertFault, Collective, laws_of_certified_schedules, laws_of_faults};
 use goal_graph::Sched;
 use std::alloc::Global;
 
@@ -20,11 +24,44 @@ fn check_plans(alloc: Global, sched: &Sched) -> Result<(), CertFault>
     check_races(alloc, sched)
 }
 
-/// The first fault that does not lie in values: in the plans, or in the walk, in which an operation has no end.
-pub fn check_schedule(alloc: Global, sched: &Sched) -> Result<(), CertFault>
+// The first fault that does not lie in values: in the plans, or in the walk, which does not end.
+fn check_schedule(alloc: Global, sched: &Sched) -> Result<(), CertFault>
     ensures free { OnOk result (IsFree sched.now 0 7) }
     ensures fault { IfErr result (IsStopped sched.now 0 7) }
 {
     check_plans(alloc, sched)?;
     check_stalls(alloc, sched)
+}
+
+// The first fault of all.
+fn find_fault(alloc: Global, sched: &Sched, what: Collective) -> Result<(), CertFault>
+    ensures free { OnOk result (HasNone sched.now (initial what (length sched.now)) (wanted what (length sched.now)) 0 9) }
+    ensures fault { IfErr result (λ fault. fault ≡ CertFault.NoMemory ⊎ IsFirstOf sched.now (initial what (length sched.now)) (wanted what (length sched.now)) 0 9 fault) }
+{
+    check_schedule(alloc, sched)?;
+    check_values(alloc, sched, what)
+}
+
+/// Certifies a schedule for a collective.
+///
+/// What is certified does what the collective wants in every interleaving and whatever is eager: it ends, each send
+/// meets the receive of its channel, and each slot holds at the end what is wanted of it.
+///
+/// # Errors
+///
+/// The first fault of the schedule, exactly where it has one. Any answer may give way to `NoMemory`, which says nothing
+/// of the schedule.
+pub fn certify(alloc: Global, sched: &Sched, what: Collective) -> Result<(), CertFault>
+    ensures certified { OnOk result (IsCertifiedFor what sched.now) }
+    ensures right { OnOk result (IsRightFor what sched.now) }
+    ensures fault { IfErr result (λ fault. fault ≡ CertFault.NoMemory ⊎ IsFaultFor what sched.now fault) }
+
+    // Each schedule has its answer, where there is memory.
+    ensures accepts { IsCertifiedFor what sched.now → IsOkUnless result CertFault.NoMemory }
+    ensures faults { (fault : CertFault) → IsFaultFor what sched.now fault → IsErrOf result fault ⊎ IsErrOf result CertFault.NoMemory }
+{
+    sched.known();
+    laws_of_faults();
+    laws_of_certified_schedules();
+    find_fault(alloc, sched, what)
 }

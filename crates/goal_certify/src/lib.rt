@@ -10,3 +10,5 @@ mod slot_counts;
 #[cfg(test)]
 mod tests;
 mod walk;
+
+pub use certifier::certify;

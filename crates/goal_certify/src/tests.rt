@@ -1,7 +1,8 @@
 // Small schedules of two ranks, each with the fault that it has first.
+use crate::certifier::certify;
 use crate::channels::check_channels;
 use crate::sizes::check_sizes;
-use goal_blocks::CertFault;
+use goal_blocks::{CertFault, Collective};
 use goal_graph::{Kind, Note, Op, OpId, PlanFault, RankPlan, Sched};
 use std::alloc::Global;
 use std::test::Fail;
@@ -116,5 +117,23 @@ fn tells_lengths_that_differ(rt: HostRuntime) -> Result<(), Fail> {
     let send = at(0, 0);
     let recv = at(1, 0);
     assert_eq!(rt; longer, Some(CertFault::Lengths { send, recv }));
+    Ok(())
+}
+
+// The fault of a message of slot 0 from rank 0 to rank 1, as that collective.
+fn verdict(alloc: Global, what: Collective) -> Result<Option<CertFault>, PlanFault> {
+    let sends = plan(alloc, &[send(8, 1, 7)], &[moves(0, 0)])?;
+    let receives = plan(alloc, &[receive(Some(0), Some(7))], &[moves(0, 0)])?;
+    let sched = two(alloc, sends, receives)?;
+    Ok(certify(alloc, &sched, what).err())
+}
+
+// With rank 1 as the root, rank 0 does not get its value.
+#[test]
+fn certifies_a_broadcast_of_two_from_its_root_alone(rt: HostRuntime) -> Result<(), Fail> {
+    let from_first = verdict(rt.alloc(), Collective::Bcast { root: 0 })?;
+    assert_eq!(rt; from_first, None);
+    let from_second = verdict(rt.alloc(), Collective::Bcast { root: 1 })?;
+    assert_eq!(rt; from_second, Some(CertFault::Wrong { rank: 0, slot: 0 }));
     Ok(())
 }

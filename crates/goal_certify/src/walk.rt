@@ -19,6 +19,7 @@ use std::sync::ledger::{Blank, Ledger};
 mod action;
 mod entry;
 mod follow;
+mod outcome;
 mod parcel;
 mod stalls;
 mod state;
@@ -26,6 +27,7 @@ mod values;
 
 use action::Action;
 use follow::{Queue, fill, follow, next};
+pub use outcome::check_values;
 pub use stalls::check_stalls;
 use state::State;
 

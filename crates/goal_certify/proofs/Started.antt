@@ -1,0 +1,106 @@
+-- The walk with its values at its start and at its end.
+use Rattle.std.proofs.Common.{⊎_elim, ℕ, zero, suc, ◌^◌, ◌<◌, ◌≤◌, ◌≡◌, ◌⊎◌, inl, inr, Bool, true, false, cond, nat_lt, List, [], ◌∷◌, length, map, replicate, Option, None, refl, sym, ap, ◌∙◌, subst, arith}
+use Rattle.std.specs.List.{sum_by}
+use Rattle.std.proofs.lemmas.Bool.{both_ways, cases_Bool, ltb-true}
+use Rattle.std.proofs.lemmas.List.Sums.{sum_by-cons}
+use Rattle.goal_graph.specs.declared.action.OpId.{OpId}
+use Rattle.goal_graph.specs.declared.action.Class.TheVariants.{Data}
+use Rattle.goal_graph.specs.Schedule.{Plan, operations}
+use Rattle.goal_graph.specs.Action.{Act}
+use Rattle.goal_graph.proofs.ForCallers.{happened_none}
+use Rattle.goal_blocks.specs.declared.collective.Collective.{Collective}
+use Rattle.goal_blocks.specs.declared.cert_fault.CertFault.TheVariants.{Weight, Wrong, NoMemory}
+use Rattle.goal_blocks.specs.declared.cert_fault.CertFault.{CertFault}
+use Rattle.goal_graph.specs.Interleaving.{IsInterleaving}
+use Rattle.goal_blocks.specs.Collectives.{initial, wanted, wanted_at}
+use Rattle.goal_blocks.specs.Walk.{no_send, TakesFirst, IsWalk}
+use Rattle.goal_blocks.specs.Values.{Value, Store, Held, held_after, value}
+use Rattle.goal_blocks.specs.Weight.{stored, carried, weight}
+use Rattle.goal_blocks.specs.Faults.{IsLeast, SlotAt, slot_key, IsFirstTooHeavy}
+use Rattle.goal_blocks.specs.Stored.{Kept, values}
+use Rattle.goal_certify.specs.declared.walk.parcel.Parcel.{Parcel}
+use Rattle.goal_certify.specs.Stages.{HasNone, IsFirstOf}
+use Rattle.goal_certify.specs.Carried.{parcel_size, kept_of, IsCarrying, IsOver}
+use Rattle.goal_certify.proofs.Carried.{carried_kept}
+use Rattle.goal_certify.proofs.Carrying.{weight_opened}
+use Rattle.goal_certify.proofs.ValueStage.{weight_first, values_none, wrong_first}
+
+module _ (plans : List Plan) (first : Store) where
+  abbrev start : Held
+  start = held_after plans no_send first []
+
+  start_store : (start).store ≡ first
+  unfolding held_after
+  start_store = refl
+
+  -- nothing is under way
+  kept_nothing : (m : OpId) → kept_of plans [] start m ≡ None
+  kept_nothing m = rw (happened_none Data m) refl
+
+  kept_none : (xs : List OpId) → map (kept_of plans [] start) xs ≡ replicate (length xs) None
+  kept_none [] = refl
+  kept_none (x ∷ xs) = λ i. kept_nothing x i ∷ kept_none xs i
+
+  none_carried : (n : ℕ) → sum_by parcel_size (replicate n None) ≡ 0
+  none_carried zero = refl
+  none_carried (suc n) =
+      let more = sum_by-cons parcel_size None (replicate n None) in
+      let rest = none_carried n in omega (arith, more, rest)
+
+  start_carried : carried plans [] start ≡ 0
+  start_carried =
+      carried_kept plans [] start ∙ ap (λ (ps : List (Option Parcel)). sum_by parcel_size ps) (kept_none (operations plans)) ∙ none_carried (length (operations plans))
+
+  start_weight : weight plans [] start ≡ stored (length plans) first
+  start_weight =
+      let opened = weight_opened plans [] start in
+      omega (arith, opened, start_carried, ap (stored (length plans)) start_store)
+
+  pub started : (s : Kept) (parcels : List (Option Parcel)) → values s ≡ first → s.ranks ≡ length plans → parcels ≡ replicate (length (operations plans)) None → stored (length plans) first ≤ 2 ^ 24 → IsCarrying plans first [] s parcels 0
+  started s parcels is ranks none light = record {
+    values_are = is ∙ sym start_store;
+    ranks = ranks;
+    parcels_are = none ∙ sym (kept_none (operations plans));
+    counted = sym start_carried;
+    light = omega (arith, light, start_weight);
+  }
+
+  pub started_heavy : (wanted : ℕ → ℕ → Value → Bool) (total : ℕ) → total ≡ stored (length plans) first → 2 ^ 24 < total → IsFirstOf plans first wanted 7 9 (Weight total)
+  started_heavy wanted total is over =
+      weight_first plans first wanted [] total tt tt (start_weight ∙ sym is, over)
+
+-- a rank of which something is wanted is one of the ranks
+wanted_inside : (what : Collective) (ranks r k : ℕ) (v : Value) → wanted what ranks r k v ≡ false → r < ranks
+unfolding wanted
+wanted_inside what ranks r k v unwanted = go (nat_lt r ranks) refl unwanted
+  where
+    go : (b : Bool) → nat_lt r ranks ≡ b → cond b (wanted_at what ranks r k v) true ≡ false → r < ranks
+    go true e q = ltb-true r ranks e
+    go false e q = absurd (both_ways true q refl)
+
+module _ (plans : List Plan) (what : Collective) (w : List Act) (s : Kept) (parcels : List (Option Parcel)) (count : ℕ) (is_walk : IsWalk plans w) (so_far : IsCarrying plans (initial what (length plans)) w s parcels count) where
+  abbrev first : Store
+  first = initial what (length plans)
+
+  abbrev wish : ℕ → ℕ → Value → Bool
+  wish = wanted what (length plans)
+
+  -- what is read of the store is what the walk leaves
+  read : (rank slot : ℕ) → wanted what s.ranks rank slot (values s rank slot) ≡ wish rank slot (value plans no_send first w rank slot)
+  read rank slot =
+      ap (λ (n : ℕ). wanted what n rank slot (values s rank slot)) so_far.ranks ∙ ap (λ (v : Store). wish rank slot (v rank slot)) so_far.values_are
+
+  pub ended_right : ((rank slot : ℕ) → wanted what s.ranks rank slot (values s rank slot) ≡ true) → HasNone plans first wish 7 9
+  ended_right right =
+      values_none plans first wish w is_walk so_far.light (λ rank slot inside. sym (read rank slot) ∙ right rank slot)
+
+  pub ended_wrong : (rank slot : ℕ) → IsLeast slot_key (λ (a : SlotAt). wanted what s.ranks a.rank a.slot (values s a.rank a.slot) ≡ false) (record { rank = rank; slot = slot }) → IsFirstOf plans first wish 7 9 (Wrong rank slot)
+  ended_wrong rank slot least =
+      let unwanted = sym (read rank slot) ∙ least.holds in
+      wrong_first plans first wish w is_walk so_far.light rank slot (wanted_inside what (length plans) rank slot _ unwanted) unwanted (λ other less inside. ⊎_elim (λ e. e) (λ e. absurd (least.none_less other less (read other.rank other.slot ∙ e))) (cases_Bool (wish other.rank other.slot (value plans no_send first w other.rank other.slot))))
+
+-- what stopped the walk with its values is the first fault of the last two kinds
+pub stopped_over : (plans : List Plan) (first : Store) (wanted : ℕ → ℕ → Value → Bool) (h : List Act) (fault : CertFault) → IsInterleaving plans no_send h → TakesFirst plans h → IsOver (λ total. IsFirstTooHeavy plans first h total) fault → (fault ≡ NoMemory) ⊎ IsFirstOf plans first wanted 7 9 fault
+stopped_over plans first wanted h fault run takes (inl e) = inl e
+stopped_over plans first wanted h fault run takes (inr over) =
+    inr (subst (λ (f : CertFault). IsFirstOf plans first wanted 7 9 f) (sym over.1) (weight_first plans first wanted h over.0 run takes over.2))
