@@ -1,11 +1,11 @@
 -- Patterns and their numbers.
-use Rattle.std.proofs.Common.{ℕ, zero, suc, ◌<◌, ◌≤◌, ◌+◌, ◌≡◌, ◌==◌, ◌&&◌, ◌||◌, Bool, true, false, List, [], ◌∷◌, ◌++◌, length, get_or, map, Option, Some, None, inl, inr, slice_get, take, position, refl, arith, sym, ap, ap₂, ◌∙◌, subst, eq-eqb, Contains}
-use Rattle.std.specs.List.{list_any, position_or_len}
+use Rattle.std.proofs.Common.{ℕ, zero, suc, ◌<◌, ◌≤◌, ◌+◌, ◌≡◌, ◌==◌, ◌&&◌, ◌||◌, Bool, true, false, List, [], ◌∷◌, ◌++◌, length, get_or, map, Option, Some, None, is_some, inl, inr, slice_get, take, position, refl, arith, sym, ap, ap₂, ◌∙◌, subst, eq-eqb, Contains}
+use Rattle.std.specs.List.{list_any, list_all, position_or_len}
 use Rattle.std.proofs.lemmas.Bool.{cond-true, cond-false, le-ltb, both_ways, and_parts, and_from, eqb-true, ne_eqb, lt-ltb, cases_lt, false_from_ne_true}
 use Rattle.std.proofs.lemmas.Option.{none-some, same_Some, get_or_from_slice_get, slice_get_within, slice_get_read}
-use Rattle.std.proofs.lemmas.List.Elements.{Contains-append_left, Contains-append_right}
+use Rattle.std.proofs.lemmas.List.Elements.{All-get_or, Contains-append_left, Contains-append_right}
 use Rattle.std.proofs.lemmas.List.Quantifiers.{position-Some}
-use Rattle.std.proofs.lemmas.List.Sums.{position_or_len_is, fails_before_first}
+use Rattle.std.proofs.lemmas.List.Sums.{AllPass-from_list_all, position_or_len_is, fails_before_first}
 use Rattle.goal_graph.specs.declared.action.OpId.{OpId}
 use Rattle.goal_graph.specs.declared.plan.Kind.{Kind}
 use Rattle.goal_graph.specs.declared.plan.Kind.TheVariants.{Calc, Send, Recv}
@@ -50,6 +50,16 @@ pub position_past : {X : Type 0} (p : X → Bool) (xs : List X) (d : X) → ((k 
 position_past p xs d fails =
     let at = position_or_len_is p xs (length xs) d (omega arith) fails (λ l. absurd (omega (arith, l))) in
     cond-false _ (Some (position_or_len p xs)) None (le-ltb (position_or_len p xs) (length xs) (omega (arith, at)))
+
+-- a pattern that takes any is not among those that each name one
+pub unnamed : (field : Pattern → Option ℕ) (keys : List Pattern) (p : Pattern) → list_all (λ q. is_some (field q)) keys ≡ true → is_some (field p) ≡ false → None ≡ number keys p
+unnamed field keys p all none =
+    sym (position_past (same_pattern p) keys p (λ k l. false_from_ne_true (same_pattern p (get_or keys k p)) (λ e. differ k l (same_pattern_true p (get_or keys k p) e))))
+  where
+    differ : (k : ℕ) → k < length keys → p ≡ get_or keys k p → ⊥
+    differ k l same =
+        let named : is_some (field (get_or keys k p)) ≡ true = All-get_or (λ q. is_some (field q) ≡ true) keys k p l (AllPass-from_list_all (λ q. is_some (field q)) keys all) in
+        both_ways (is_some (field p)) none (ap (λ q. is_some (field q)) same ∙ named)
 
 position_none : {X : Type 0} (p : X → Bool) (xs : List X) → position p xs ≡ None → length xs ≤ position_or_len p xs
 position_none p xs e =

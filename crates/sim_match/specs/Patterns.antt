@@ -1,6 +1,7 @@
 -- The patterns of receives, and the lists in which an operation stands.
-use Rattle.std.specs.Prelude.{ℕ, ◌≡◌, ◌<◌, ◌==◌, ◌&&◌, Bool, true, false, List, [], ◌∷◌, length, map, Option, Some, None, position}
-use Rattle.std.specs.List.{list_any}
+use Rattle.std.specs.Prelude.{ℕ, ◌≡◌, ◌<◌, ◌==◌, ◌&&◌, Bool, true, false, List, [], ◌∷◌, length, map, Option, Some, None, is_some, position}
+use Rattle.std.specs.List.{list_any, list_all}
+use Rattle.std.specs.List.Sorted.{IsStrictlySortedBy}
 use Rattle.std.specs.Option.{option_cmp}
 use Rattle.std.specs.declared.cmp.Ordering.{Ordering}
 use Rattle.std.specs.Ordering.{nat_cmp, ordering_then}
@@ -25,6 +26,18 @@ same_pattern p q = (p.rank == q.rank) && (same_choice p.from q.from && same_choi
 abbrev pub pattern_cmp : Pattern → Pattern → Ordering
 pattern_cmp p q =
     ordering_then (nat_cmp p.rank q.rank) (ordering_then (option_cmp nat_cmp p.from q.from) (option_cmp nat_cmp p.tag q.tag))
+
+abbrev pub names_a_source : Pattern → Bool
+names_a_source p = is_some p.from
+
+abbrev pub names_a_tag : Pattern → Bool
+names_a_tag p = is_some p.tag
+
+-- patterns in their order, each once, and whether each names a source and each a tag
+pub record AreInOrder (patterns : List Pattern) (sources_named tags_named : Bool) : Type 0 where
+  pub sorted : IsStrictlySortedBy pattern_cmp patterns
+  pub sources : sources_named ≡ list_all names_a_source patterns
+  pub tags : tags_named ≡ list_all names_a_tag patterns
 
 -- the pattern of a receive
 abbrev pub pattern_of : OpId → Option Kind → Option Pattern
