@@ -45,22 +45,48 @@ module _ (plans : List Plan) (costs : CostModel) (h : List Timed) (entries : Lis
   pub is_resource_op : (a : Timed) → IsNext plans costs h a → IsOp res.plans a.op
   is_resource_op a next = subst (λ (ps : List Plan). IsOp ps a.op) (sym m.free.same_plans) (is_op a next)
 
-module _ (plans : List Plan) (costs : CostModel) (items : List Timed) (entries : List Entry) (matcher : PostsAndArrivals) (res : Holds) (room : ℕ) (m : Represents plans costs (reverse items) entries matcher res room) (a : Timed) (next : IsNext plans costs (reverse items) a) where
-  -- there is room for the next action
-  pub room_left : length items < room
-  room_left = omega (arith, possible_room plans costs (reverse items) a m.run next.possible, length-reverse items, m.roomy)
+-- what an engine keeps: its history, oldest first, its table, its matcher, its free times, and the room of its history
+pub record Parts : Type 0 where
+  pub items : List Timed
+  pub entries : List Entry
+  pub matcher : PostsAndArrivals
+  pub res : Holds
+  pub room : ℕ
 
-  pub performed : (new_items : List Timed) (lent written : List Entry) (new_matcher : PostsAndArrivals) (new_res : Holds) (new_room n : ℕ) → new_items ≡ items ++ a ∷ [] → new_room ≡ room → n ≡ length entries → lent ≡ entries → length written ≡ length lent → written ≡ map (entry_known plans costs (a ∷ reverse items)) (operations plans) → KnowsPostsAndArrivals plans costs (a ∷ reverse items) new_matcher → AreFreeTimes plans costs (a ∷ reverse items) new_res → Represents plans costs (reverse new_items) (take n (written ++ drop (length written) entries)) new_matcher new_res new_room
-  performed new_items lent written new_matcher new_res new_room n pushed rooms count same kept told posts_and_arrivals free =
-      let table : take n (written ++ drop (length written) entries) ≡ written = written_back n written entries count (kept ∙ ap length same) in
-      let list : a ∷ reverse items ≡ reverse new_items = sym (ap reverse pushed ∙ reverse_push items a) in
-      let after : Represents plans costs (a ∷ reverse items) (take n (written ++ drop (length written) entries)) new_matcher new_res new_room = record {
+-- what it keeps after one action more; its table was lent to be written
+pub record Change (plans : List Plan) (costs : CostModel) (old : Parts) (a : Timed) : Type 0 where
+  pub items : List Timed
+  pub lent : List Entry
+  pub written : List Entry
+  pub count : ℕ
+  pub matcher : PostsAndArrivals
+  pub res : Holds
+  pub room : ℕ
+  pub pushed : items ≡ old.items ++ a ∷ []
+  pub same_room : room ≡ old.room
+  pub whole : count ≡ length old.entries
+  pub same_table : lent ≡ old.entries
+  pub kept : length written ≡ length lent
+  pub told : written ≡ map (entry_known plans costs (a ∷ reverse old.items)) (operations plans)
+  pub posts_and_arrivals : KnowsPostsAndArrivals plans costs (a ∷ reverse old.items) matcher
+  pub free : AreFreeTimes plans costs (a ∷ reverse old.items) res
+
+module _ (plans : List Plan) (costs : CostModel) (old : Parts) (m : Represents plans costs (reverse old.items) old.entries old.matcher old.res old.room) (a : Timed) (next : IsNext plans costs (reverse old.items) a) where
+  -- there is room for the next action
+  pub room_left : length old.items < old.room
+  room_left = omega (arith, possible_room plans costs (reverse old.items) a m.run next.possible, length-reverse old.items, m.roomy)
+
+  pub performed : (new : Change plans costs old a) → Represents plans costs (reverse new.items) (take new.count (new.written ++ drop (length new.written) old.entries)) new.matcher new.res new.room
+  performed new =
+      let table : take new.count (new.written ++ drop (length new.written) old.entries) ≡ new.written = written_back new.count new.written old.entries new.whole (new.kept ∙ ap length new.same_table) in
+      let list : a ∷ reverse old.items ≡ reverse new.items = sym (ap reverse new.pushed ∙ reverse_push old.items a) in
+      let after : Represents plans costs (a ∷ reverse old.items) (take new.count (new.written ++ drop (length new.written) old.entries)) new.matcher new.res new.room = record {
         accepted = m.accepted;
         within = m.within;
         run = (m.run, next);
-        known = table ∙ told;
-        posts_and_arrivals = posts_and_arrivals;
-        free = free;
-        roomy = subst (λ (r : ℕ). 3 * length (operations plans) ≤ r) (sym rooms) m.roomy;
+        known = table ∙ new.told;
+        posts_and_arrivals = new.posts_and_arrivals;
+        free = new.free;
+        roomy = subst (λ (r : ℕ). 3 * length (operations plans) ≤ r) (sym new.same_room) m.roomy;
       } in
-      subst (λ (h : List Timed). Represents plans costs h (take n (written ++ drop (length written) entries)) new_matcher new_res new_room) list after
+      subst (λ (h : List Timed). Represents plans costs h (take new.count (new.written ++ drop (length new.written) old.entries)) new.matcher new.res new.room) list after

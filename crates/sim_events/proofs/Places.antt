@@ -1,4 +1,4 @@
--- The plan of the rank of an operation, and the operation in it.
+-- What is listed, and what is possible, exists.
 use Rattle.std.proofs.Common.{◌≡◌, ℕ, ◌<◌, true, List, length, Option, Some, None, is_some, slice_get, option_and_then, refl, sym, subst}
 use Rattle.std.proofs.lemmas.Option.{slice_get_within, get_or_from_slice_get}
 use Rattle.goal_graph.specs.declared.action.OpId.{OpId}
@@ -11,42 +11,6 @@ use Rattle.goal_graph.specs.Laws.{IsCalc}
 use Rattle.goal_graph.proofs.ForCallers.{listed_op, kind_listed, allowed_listed}
 use Rattle.sim_params.specs.Costs.{CostModel, is_eager}
 use Rattle.sim_params.specs.Times.{Possible}
-use Rattle.sim_params.specs.Shares.{ops_at}
-use Rattle.sim_params.proofs.ForCallers.{ops_at_some}
-
--- the plan of the rank of an operation, and the operation in it
-pub record IsIn (plans : List Plan) (x : OpId) (o : Op) : Type 0 where
-  pub plan : Plan
-  pub is_plan : slice_get plans x.rank ≡ Some plan
-  pub is_op : slice_get plan.ops x.op ≡ Some o
-
-pub op_in_plan : (plans : List Plan) (x : OpId) (o : Op) → op_at plans x ≡ Some o → IsIn plans x o
-unfolding op_at
-op_in_plan plans x o e = go (slice_get plans x.rank) refl e
-  where
-    go : (q : Option Plan) → slice_get plans x.rank ≡ q → option_and_then (λ (p : Plan). slice_get p.ops x.op) q ≡ Some o → IsIn plans x o
-    go None s f = absurd (cc)
-    go (Some p) s f = record { plan = p; is_plan = s; is_op = f }
-
--- the operation that exists
-pub the_op : (plans : List Plan) (x : OpId) → IsOp plans x → (o : Op) × (op_at plans x ≡ Some o)
-the_op plans x e = go (op_at plans x) refl e
-  where
-    go : (q : Option Op) → op_at plans x ≡ q → is_some q ≡ true → (o : Op) × (op_at plans x ≡ Some o)
-    go None s f = absurd (cc)
-    go (Some o) s f = (o, s)
-
-pub rank_below : (plans : List Plan) (x : OpId) → IsOp plans x → x.rank < length plans
-rank_below plans x e =
-    let o = the_op plans x e in
-    let p = op_in_plan plans x o.0 o.1 in
-    slice_get_within plans x.rank p.plan p.is_plan
-
-pub number_below : (plans : List Plan) (x : OpId) → IsOp plans x → x.op < length (ops_at plans x.rank)
-number_below plans x e =
-    let o = the_op plans x e in
-    let p = op_in_plan plans x o.0 o.1 in
-    subst (λ os. x.op < length os) (sym (ops_at_some plans x.rank p.plan p.is_plan)) (slice_get_within p.plan.ops x.op o.0 p.is_op)
 
 -- what stands in the list of operations exists
 pub listed_exists : (plans : List Plan) (i : ℕ) (x : OpId) → slice_get (operations plans) i ≡ Some x → IsOp plans x

@@ -15,7 +15,6 @@ use Rattle.goal_graph.specs.Fault.{IsOp}
 use Rattle.goal_graph.specs.Interleaving.{IsInterleaving}
 use Rattle.goal_graph.proofs.ForCallers.{cases_op, same_op_false, allowed_listed, one_allowed, partners_met, allowed_stays, fits_receive, fits_send}
 use Rattle.sim_params.specs.Costs.{CostModel, is_eager}
-use Rattle.sim_params.specs.Shares.{ops_at}
 use Rattle.sim_params.specs.Times.{time, mate, Possible}
 use Rattle.sim_params.specs.Run.{IsNext, IsRun, IsFinished}
 use Rattle.sim_params.specs.Laws.{at_its_time, HasBound}
@@ -29,30 +28,11 @@ use Rattle.sim_events.specs.Queue.{IsNamedIn, IsIdle, IsEnabledActionOf, IsEarly
 use Rattle.sim_events.proofs.After.{other_op}
 use Rattle.sim_events.proofs.Keys.{before_event}
 use Rattle.sim_events.proofs.Newly.{newly_allowed}
-use Rattle.sim_events.proofs.Places.{listed_exists, number_below, possible_exists}
+use Rattle.sim_events.proofs.Places.{listed_exists, possible_exists}
 use Rattle.sim_events.proofs.Tables.{other_place}
 
 abbrev one_if : Bool → ℕ
 one_if b = cond b 1 0
-
--- the operations of a rank from that number on, and those of later ranks
-abbrev pub IsFrom : ℕ → ℕ → OpId → Type 0
-IsFrom rank op y = (rank ≤ y.rank) × (y.rank ≡ rank → op ≤ y.op)
-
-pub from_more : (rank op : ℕ) (y : OpId) → IsFrom rank op y → ¬ (y ≡ record { rank = rank; op = op }) → IsFrom rank (op + 1) y
-from_more rank op y f d = (f.0, λ e. go e (f.1 e) (cases_eq y.op op))
-  where
-    go : y.rank ≡ rank → op ≤ y.op → (y.op ≡ op) ⊎ (y.op ≢ op) → op + 1 ≤ y.op
-    go e l (inl s) = absurd (d (λ i. record { rank = e i; op = s i }))
-    go e l (inr n) = omega (arith, l, n)
-
--- those of later ranks, once the numbers of the rank are through
-pub later_ranks : (plans : List Plan) (rank op : ℕ) (y : OpId) → IsOp plans y → IsFrom rank op y → length (ops_at plans rank) ≤ op → rank + 1 ≤ y.rank
-later_ranks plans rank op y is f l = go (cases_eq y.rank rank)
-  where
-    go : (y.rank ≡ rank) ⊎ (y.rank ≢ rank) → rank + 1 ≤ y.rank
-    go (inl e) = omega (arith, f.1 e, number_below plans y is, ap (λ r. length (ops_at plans r)) e)
-    go (inr n) = omega (arith, f.0, n)
 
 -- what a partner is
 pub partner_exists : (plans : List Plan) (costs : CostModel) (h : List Timed) (x y : OpId) → mate plans costs h x ≡ Some y → IsOp plans y
@@ -281,15 +261,26 @@ module _ (plans : List Plan) (costs : CostModel) where
     put = set_there;
   }
 
+-- those of a list that are not yet read
+pub still_left : {X : Type 0} (xs : List X) (k : ℕ) (d y : X) → k < length xs → Contains (drop k xs) y → ¬ (y ≡ get_or xs k d) → Contains (drop (k + 1) xs) y
+still_left xs k d y l left differ = go (subst (λ ds. Contains ds y) (drop_more xs k d l) left)
+  where
+    go : Contains (get_or xs k d ∷ drop (k + 1) xs) y → Contains (drop (k + 1) xs) y
+    go (zero, b, e) = absurd (differ (sym e))
+    go (suc i, b, e) = (i, omega (arith, b), e)
+
+pub none_left : {X : Type 0} (xs : List X) (k : ℕ) (y : X) → length xs ≤ k → Contains (drop k xs) y → ⊥
+none_left xs k y l left =
+    let none : Contains [] y = subst (λ ds. Contains ds y) (drop_all k xs l) left in
+    omega (arith, none.1)
+
 -- the needs that are not yet read
 pub named_rest : (items : List Need) (k : ℕ) (d : Need) (x y : OpId) → k < length items → IsNamedIn (drop k items) x y → ¬ (y ≡ needed x (get_or items k d)) → IsNamedIn (drop (k + 1) items) x y
-named_rest items k d x y l n differ = go (subst (λ ds. Contains ds n.need) (drop_more items k d l) n.listed)
-  where
-    go : Contains (get_or items k d ∷ drop (k + 1) items) n.need → IsNamedIn (drop (k + 1) items) x y
-    go (zero, b, e) = absurd (differ (n.named ∙ ap (needed x) (sym e)))
-    go (suc i, b, e) = record { need = n.need; listed = (i, omega (arith, b), e); named = n.named }
+named_rest items k d x y l n differ = record {
+  need = n.need;
+  listed = still_left items k d n.need l n.listed (λ e. differ (n.named ∙ ap (needed x) e));
+  named = n.named;
+}
 
 pub none_named : (items : List Need) (k : ℕ) (x y : OpId) → length items ≤ k → IsNamedIn (drop k items) x y → ⊥
-none_named items k x y l n =
-    let none : Contains [] n.need = subst (λ ds. Contains ds n.need) (drop_all k items l) n.listed in
-    omega (arith, none.1)
+none_named items k x y l n = none_left items k n.need l n.listed

@@ -15,7 +15,7 @@ use crate::cursor::Cursor;
 use crate::state::State;
 use goal_graph::{Class, OpId, Timed};
 use sim_order::{EventKey, Steps};
-use sim_params::{Costs, op_count};
+use sim_params::Costs;
 use sim_queue::FloorQueue;
 use std::sync::ledger::{Blank, Ledger};
 
@@ -39,29 +39,8 @@ pub fn fill<C: Costs, L: Ledger>(
     ensures cursors { AreCursors state.now.plans (C.model state.now.costs) state.now.history cursors.new }
 {
     let mut steps = Steps::<L>::new(blank);
-    state.known();
-    let ranks = state.sched().plans().len() as u32;
-    for rank in 0..ranks {
-        fill_rank(state, queue, cursors, rank, &mut steps);
-    }
-}
-
-// Gives each operation of a rank its key.
-fn fill_rank<C: Costs, L: Ledger>(
-    state: &State<C>,
-    queue: &mut Queue,
-    cursors: &mut [Cursor],
-    rank: u32,
-    steps: &mut Steps<L>,
-)
-    requires exists { rank < length state.now.plans }
-    requires rest { IsQueueBut state.now.plans (C.model state.now.costs) state.now.history (λ y. rank ≤ y.rank) queue.old }
-    requires cursors { AreCursors state.now.plans (C.model state.now.costs) state.now.history cursors.old }
-    ensures queue { IsQueueBut state.now.plans (C.model state.now.costs) state.now.history (λ y. rank + 1 ≤ y.rank) queue.new }
-    ensures cursors { AreCursors state.now.plans (C.model state.now.costs) state.now.history cursors.new }
-{
-    for op in 0..op_count(state.sched(), rank) {
-        refresh(state, queue, cursors, OpId { rank, op }, steps);
+    for id in state.sched().operations() {
+        refresh(state, queue, cursors, *id, &mut steps);
     }
 }
 

@@ -1,23 +1,39 @@
-use Rattle.std.proofs.Common.{length, ap, ◌∙◌, arith}
-use Rattle.sim_params.proofs.ForCallers.{few_ranks}
-use Rattle.sim_events.proofs.Places.{rank_below}
-use Rattle.sim_events.proofs.Queue.{all_due, fewer_due}
+use Rattle.std.proofs.Common.{◌≡◌, ◌<◌, List, Contains, length, get_or, ap, sym, ◌∙◌, subst, arith}
+use Rattle.goal_graph.specs.declared.action.OpId.{OpId}
+use Rattle.goal_graph.specs.Schedule.{Plan, operations}
+use Rattle.goal_graph.specs.Fault.{IsOp}
+use Rattle.goal_graph.proofs.ForCallers.{listed_places}
+use Rattle.sim_events.proofs.Queue.{all_due, fewer_due, refreshed, still_left, none_left}
 use Rattle.sim_events.proofs.follow.fill.Goals as goal
 
-pub overflow_cast-ranks : goal.overflow_cast-ranks
-overflow_cast-ranks g c =
-    omega (arith, few_ranks c.args.state.now.plans c.known.ensures.accepted, ap length (c.plans.ensures.plans ∙ c.sched.ensures))
+abbrev first : OpId
+first = record { rank = 0; op = 0 }
 
-pub loop-rank-init : goal.loop-rank-init
-loop-rank-init g c = (all_due _ _ _ _ _ c.requires.each c.requires.stationed (λ y. omega arith), c.requires.cursors)
+pub loop-id-init : goal.loop-id-init
+loop-id-init g c =
+    let plans = c.args.state.now.plans in
+    let all = all_due plans _ _ (λ (y : OpId). Unit {0}) _ c.requires.each c.requires.stationed (λ y. tt) in
+    (fewer_due plans _ _ (λ (y : OpId). Unit {0}) (Contains (operations plans)) _ all (λ y is due. (listed_places plans y).1 is), c.requires.cursors)
 
-pub fill_rank-requires : goal.fill_rank-requires
-fill_rank-requires g c = record {
-  exists = omega (arith, ap length (c.plans.ensures.plans ∙ c.sched.ensures), c.loop-rank-test.true);
-  rest = c.loop-rank.invariant.0;
-  cursors = c.loop-rank.invariant.1;
-}
+pub refresh-requires : goal.refresh-requires
+refresh-requires g c =
+    let x = get_or c.operations-id-items.result.now c.loop-id.id-index first in
+    record {
+      exists = subst (λ (ps : List Plan). IsOp ps x) c.sched.ensures (c.operations-id-items.ensures.exist c.loop-id.id-index first c.loop-id-test.true);
+      each = c.loop-id.invariant.0.each;
+      cursors = c.loop-id.invariant.1;
+    }
+
+pub loop-id-preserved : goal.loop-id-preserved
+loop-id-preserved g c =
+    let plans = c.args.state.now.plans in
+    let items = c.operations-id-items.ensures.all ∙ ap operations c.sched.ensures in
+    let k = c.loop-id.id-index in
+    let within = subst (λ (xs : List OpId). k < length xs) items c.loop-id-test.true in
+    (refreshed plans _ _ _ _ _ _ _ c.loop-id.invariant.0 c.refresh.ensures.queue (λ y is left differ. still_left (operations plans) k first y within left (λ e. differ (e ∙ ap (λ (xs : List OpId). get_or xs k first) (sym items)))), c.refresh.ensures.cursors)
 
 pub returns-clause-queue : goal.returns-clause-queue
 returns-clause-queue g c =
-    fewer_due _ _ _ _ _ _ c.loop-rank.invariant.0 (λ y is l. omega (arith, l, rank_below c.args.state.now.plans y is, ap length (c.plans.ensures.plans ∙ c.sched.ensures), c.loop-rank-test.false))
+    let plans = c.args.state.now.plans in
+    let items = c.operations-id-items.ensures.all ∙ ap operations c.sched.ensures in
+    fewer_due plans _ _ _ _ _ c.loop-id.invariant.0 (λ y is left. none_left (operations plans) c.loop-id.id-index y (omega (arith, ap length items, c.loop-id-test.false)) left)

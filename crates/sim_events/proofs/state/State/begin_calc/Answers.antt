@@ -12,7 +12,7 @@ use Rattle.sim_events.proofs.FreeTimes.{free_calc}
 use Rattle.sim_events.proofs.PostsAndArrivals.{other_action}
 use Rattle.sim_events.proofs.HoldTimes.{cpu_of_calc, tx_of_calc}
 use Rattle.sim_events.proofs.Places.{possible_exists}
-use Rattle.sim_events.proofs.Performed.{next_at, entry_is, each_entry, room_left, performed, is_op, is_resource_op}
+use Rattle.sim_events.proofs.Performed.{next_at, entry_is, each_entry, room_left, performed, Parts, is_op, is_resource_op}
 use Rattle.sim_events.proofs.state.State.begin_calc.Goals as goal
 
 pub entry-entry-requires : goal.entry-entry-requires
@@ -41,7 +41,7 @@ write-requires g c =
 pub push_reserved-requires : goal.push_reserved-requires
 push_reserved-requires g c =
     let next = next_at g.C.Costs.model _ _ c.args.action c.self.view_is c.requires.next in
-    let room : length c.self.inside.history.items < vec_capacity c.self.inside.history = room_left _ _ c.self.inside.history.items _ _ _ _ c.self.invariant c.args.action next in
+    let room : length c.self.inside.history.items < vec_capacity c.self.inside.history = room_left _ _ (record { items = c.self.inside.history.items; entries = c.self.inside.entries.items; matcher = c.self.inside.matcher; res = c.self.inside.resources; room = vec_capacity c.self.inside.history }) c.self.invariant c.args.action next in
     omega (arith, c.self.inside.history.ok.0, room)
 
 pub invariant_of-self : goal.invariant_of-self
@@ -59,4 +59,21 @@ invariant_of-self g c =
     let told = c.write.ensures (entry_known plans costs h) (c.deref_mut.ensures.value ∙ m.known) ∙ calc_begun plans costs h a m.run next.possible c.entry-entry.result was _ until c.requires.class calc in
     let posts_and_arrivals = other_action plans costs h a c.self.inside.matcher m.posts_and_arrivals (ap is_post_or_arrival_class c.requires.class) in
     let free = free_calc plans costs h a c.self.inside.resources m.free c.hold_cpu.new.self _ (ap holds_cpu c.requires.class) until c.hold_cpu.ensures (tx_of_calc plans costs h a.class a.op c.args.nanos c.requires.class kind) (ap holds_rx c.requires.class) in
-    performed plans costs c.self.inside.history.items c.self.inside.entries.items c.self.inside.matcher c.self.inside.resources (vec_capacity c.self.inside.history) m a next c.push_reserved.new.self.items c.deref_mut.result.now c.write.new.entries c.self.inside.matcher c.hold_cpu.new.self (vec_capacity c.push_reserved.new.self) c.self.inside.entries.len c.push_reserved.ensures.items c.push_reserved.ensures.capacity c.self.inside.entries.ok.0 c.deref_mut.ensures.value c.write.auto.entries told posts_and_arrivals free
+    let parts : Parts = record { items = c.self.inside.history.items; entries = c.self.inside.entries.items; matcher = c.self.inside.matcher; res = c.self.inside.resources; room = vec_capacity c.self.inside.history } in
+    performed plans costs parts m a next (record {
+      items = c.push_reserved.new.self.items;
+      lent = c.deref_mut.result.now;
+      written = c.write.new.entries;
+      count = c.self.inside.entries.len;
+      matcher = c.self.inside.matcher;
+      res = c.hold_cpu.new.self;
+      room = vec_capacity c.push_reserved.new.self;
+      pushed = c.push_reserved.ensures.items;
+      same_room = c.push_reserved.ensures.capacity;
+      whole = c.self.inside.entries.ok.0;
+      same_table = c.deref_mut.ensures.value;
+      kept = c.write.auto.entries;
+      told = told;
+      posts_and_arrivals = posts_and_arrivals;
+      free = free;
+    })

@@ -12,7 +12,7 @@ use Rattle.sim_events.proofs.Fits.{posts}
 use Rattle.sim_events.proofs.FreeTimes.{free_same}
 use Rattle.sim_events.proofs.PostsAndArrivals.{post_known, not_before}
 use Rattle.sim_events.proofs.Places.{possible_exists}
-use Rattle.sim_events.proofs.Performed.{next_at, entry_is, each_entry, room_left, performed, is_op}
+use Rattle.sim_events.proofs.Performed.{next_at, entry_is, each_entry, room_left, performed, Parts, is_op}
 use Rattle.sim_events.proofs.state.State.post.Goals as goal
 
 pub entry-entry-requires : goal.entry-entry-requires
@@ -50,7 +50,7 @@ write_met-requires g c =
 pub push_reserved-requires : goal.push_reserved-requires
 push_reserved-requires g c =
     let next = next_at g.C.Costs.model _ _ c.args.action c.self.view_is c.requires.next in
-    let room : length c.self.inside.history.items < vec_capacity c.self.inside.history = room_left _ _ c.self.inside.history.items _ _ _ _ c.self.invariant c.args.action next in
+    let room : length c.self.inside.history.items < vec_capacity c.self.inside.history = room_left _ _ (record { items = c.self.inside.history.items; entries = c.self.inside.entries.items; matcher = c.self.inside.matcher; res = c.self.inside.resources; room = vec_capacity c.self.inside.history }) c.self.invariant c.args.action next in
     omega (arith, c.self.inside.history.ok.0, room)
 
 pub invariant_of-self : goal.invariant_of-self
@@ -67,4 +67,21 @@ invariant_of-self g c =
     let told = c.write_met.ensures (entry_known plans costs h) (c.deref_mut.ensures.value ∙ m.known) ∙ posted plans costs h a m.run next.possible c.entry-entry.result was c.post-partner.result c.requires.class kind taken in
     let posts_and_arrivals = post_known plans costs h a c.self.inside.matcher m.posts_and_arrivals c.post-partner.new.self c.requires.class c.post-partner.ensures.actions in
     let free = free_same plans costs h a c.self.inside.resources m.free (ap holds_cpu c.requires.class) (ap (λ (k : Class). holds_tx k (kind_at plans a.op)) c.requires.class) (ap holds_rx c.requires.class) in
-    performed plans costs c.self.inside.history.items c.self.inside.entries.items c.self.inside.matcher c.self.inside.resources (vec_capacity c.self.inside.history) m a next c.push_reserved.new.self.items c.deref_mut.result.now c.write_met.new.entries c.post-partner.new.self c.self.inside.resources (vec_capacity c.push_reserved.new.self) c.self.inside.entries.len c.push_reserved.ensures.items c.push_reserved.ensures.capacity c.self.inside.entries.ok.0 c.deref_mut.ensures.value c.write_met.auto.entries told posts_and_arrivals free
+    let parts : Parts = record { items = c.self.inside.history.items; entries = c.self.inside.entries.items; matcher = c.self.inside.matcher; res = c.self.inside.resources; room = vec_capacity c.self.inside.history } in
+    performed plans costs parts m a next (record {
+      items = c.push_reserved.new.self.items;
+      lent = c.deref_mut.result.now;
+      written = c.write_met.new.entries;
+      count = c.self.inside.entries.len;
+      matcher = c.post-partner.new.self;
+      res = c.self.inside.resources;
+      room = vec_capacity c.push_reserved.new.self;
+      pushed = c.push_reserved.ensures.items;
+      same_room = c.push_reserved.ensures.capacity;
+      whole = c.self.inside.entries.ok.0;
+      same_table = c.deref_mut.ensures.value;
+      kept = c.write_met.auto.entries;
+      told = told;
+      posts_and_arrivals = posts_and_arrivals;
+      free = free;
+    })
