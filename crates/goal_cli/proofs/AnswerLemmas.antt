@@ -6,7 +6,7 @@ use Rattle.goal_base.specs.declared.limits.TheConstants.{MAX_INPUT}
 use Rattle.goal_base.specs.Device.{HostState, SinkState, Files, Later, KeepsFiles, KeepsReading, SameFiles, SameRest, ReadsAtMost, Holds, HoldsPart, Held, Grows, file_of, ReadFaulted, IsTooLong, SameReadCounts}
 use Rattle.goal_graph.specs.Schedule.{Plan}
 use Rattle.sim_params.specs.Costs.{Numbers, log_gops}
-use Rattle.goal_words.specs.Words.{Command, Sim, Waits, Compile, Show, Gen}
+use Rattle.goal_words.specs.Words.{Command, Sim, Waits, Compile, Show, Gen, Certify, Probe}
 use Rattle.goal_cli.specs.declared.answer.Answer.{Answer}
 use Rattle.goal_cli.specs.declared.answer.Answer.TheVariants as answer
 use Rattle.goal_cli.specs.declared.answer.Ending.{Ending}
@@ -15,7 +15,7 @@ use Rattle.goal_cli.specs.declared.answer.Refusal.{Refusal}
 use Rattle.goal_cli.specs.declared.answer.Refusal.TheVariants as refusal
 use Rattle.goal_cli.specs.declared.answer.Status.{Status}
 use Rattle.goal_cli.specs.declared.answer.Status.TheVariants as status
-use Rattle.goal_cli.specs.Output.{input_of, ending_if, IsOutput, MayEnd, IsRefused, HasRun, HasOutput}
+use Rattle.goal_cli.specs.Output.{input_of, ending_if, IsOutput, MayEnd, IsCertify, IsRefused, HasRun, HasOutput}
 use Rattle.goal_cli.specs.Refusal.{refused_line}
 use Rattle.goal_cli.specs.Answer.{ForFile, IfFile, ForNamed, IfNamed, ForInput, IfInput, IsGot, GrowsByPart, ReadsHeld, Target, ToOut, ToFile, target_of, Gets, GetsPart, Elsewhere, WritesRose, WritesHeld, WritesSame, InputHeld, GetsOutput, GetsPartOfOutput, AnswersWhole, PrintsRun, IsUntouched, IsWritten, IsCutOff, IsCauseOf, IsCauseOfNone, IsCause, line_for, status_at, status_of, Answers, AnswersWith, IsSilent, line_at, input_in, Says, IsCutShort, IsAnswered, IsTakenOf}
 use Rattle.goal_cli.specs.World.{Devices, devices}
@@ -247,6 +247,7 @@ module _ (old new : Devices) where
   part_said command err err' a s cause (inr (e, inr part)) none = (answer.NoMemory, any command a cause, part)
   part_said command err err' (answer.Written ending.Done) s cause (inl (e, told)) none = cc
   part_said command err err' (answer.Written ending.Stuck) s cause (inl (e, told)) none = cc
+  part_said command err err' (answer.Written ending.NotCertified) s cause (inl (e, told)) none = cc
   part_said command err err' answer.BadLine s cause (inl (e, told)) none = cc
   part_said command err err' (answer.Refused r) s cause (inl (e, told)) none = cc
   part_said command err err' answer.ReadFault s cause (inl (e, told)) none = cc
@@ -473,6 +474,7 @@ module _ (old new : Devices) where
   told_refusal command err err' a s cause (inr (e, part)) is = cc
   told_refusal command err err' (answer.Written ending.Done) s cause (inl (e, told)) is = cc
   told_refusal command err err' (answer.Written ending.Stuck) s cause (inl (e, told)) is = cc
+  told_refusal command err err' (answer.Written ending.NotCertified) s cause (inl (e, told)) is = cc
   told_refusal command err err' answer.BadLine s cause (inl (e, told)) is = cc
   told_refusal None err err' (answer.Refused r) s cause (inl (e, told)) is = absurd cause
   told_refusal (Some c) err err' (answer.Refused r) s cause (inl (e, told)) is = (r, cause.0, told)
@@ -488,6 +490,7 @@ module _ (old new : Devices) where
   cut_off_told command err err' a s cause (inr (e, part)) is = cc
   cut_off_told command err err' (answer.Written ending.Done) s cause (inl (e, told)) is = cc
   cut_off_told command err err' (answer.Written ending.Stuck) s cause (inl (e, told)) is = cc
+  cut_off_told command err err' (answer.Written ending.NotCertified) s cause (inl (e, told)) is = cc
   cut_off_told command err err' answer.BadLine s cause (inl (e, told)) is = cc
   cut_off_told command err err' (answer.Refused r) s cause (inl (e, told)) is = cc
   cut_off_told command err err' answer.ReadFault s cause (inl (e, told)) is = cc
@@ -510,6 +513,7 @@ module _ (old new : Devices) where
   untouched_by : (c : Command) (a : Answer) → IsCauseOf old new c a → IsSilent (status_of a) → IsUntouched old new
   untouched_by c (answer.Written ending.Done) cause silent = absurd (not_silent status.Done (λ e. cc) (λ e. cc) (λ e. cc) silent)
   untouched_by c (answer.Written ending.Stuck) cause silent = absurd (not_silent status.Stuck (λ e. cc) (λ e. cc) (λ e. cc) silent)
+  untouched_by c (answer.Written ending.NotCertified) cause silent = absurd (not_silent status.NotCertified (λ e. cc) (λ e. cc) (λ e. cc) silent)
   untouched_by c answer.BadLine cause silent = absurd cause
   untouched_by c (answer.Refused r) cause silent = cause.2
   untouched_by c answer.ReadFault cause silent = cause.1
@@ -529,6 +533,7 @@ module _ (old new : Devices) where
   no_line command err err' a s cause (inr (e, part)) is = cc
   no_line command err err' (answer.Written ending.Done) s cause (inl (e, told)) is = cc
   no_line command err err' (answer.Written ending.Stuck) s cause (inl (e, told)) is = cc
+  no_line command err err' (answer.Written ending.NotCertified) s cause (inl (e, told)) is = cc
   no_line None err err' answer.BadLine s cause (inl (e, told)) is = refl
   no_line (Some c) err err' answer.BadLine s cause (inl (e, told)) is = absurd cause
   no_line command err err' (answer.Refused r) s cause (inl (e, told)) is = cc
@@ -543,6 +548,7 @@ module _ (old new : Devices) where
   no_line_told err err' answer.NoMemory s cause (inl (e, told)) = inr e
   no_line_told err err' (answer.Written ending.Done) s cause (inl (e, told)) = absurd cause
   no_line_told err err' (answer.Written ending.Stuck) s cause (inl (e, told)) = absurd cause
+  no_line_told err err' (answer.Written ending.NotCertified) s cause (inl (e, told)) = absurd cause
   no_line_told err err' (answer.Refused r) s cause (inl (e, told)) = absurd cause
   no_line_told err err' answer.ReadFault s cause (inl (e, told)) = absurd cause
   no_line_told err err' answer.WriteFault s cause (inl (e, told)) = absurd cause
@@ -554,6 +560,7 @@ module _ (old new : Devices) where
   read_fault command err err' a s cause (inr (e, part)) is = cc
   read_fault command err err' (answer.Written ending.Done) s cause (inl (e, told)) is = cc
   read_fault command err err' (answer.Written ending.Stuck) s cause (inl (e, told)) is = cc
+  read_fault command err err' (answer.Written ending.NotCertified) s cause (inl (e, told)) is = cc
   read_fault command err err' answer.BadLine s cause (inl (e, told)) is = cc
   read_fault command err err' (answer.Refused r) s cause (inl (e, told)) is = cc
   read_fault None err err' answer.ReadFault s cause (inl (e, told)) is = absurd cause
@@ -569,6 +576,7 @@ module _ (old new : Devices) where
   done None err err' (answer.Written ending.Done) s cause (inl (e, told)) is = absurd cause
   done (Some c) err err' (answer.Written ending.Done) s cause (inl (e, told)) is = cause
   done command err err' (answer.Written ending.Stuck) s cause (inl (e, told)) is = cc
+  done command err err' (answer.Written ending.NotCertified) s cause (inl (e, told)) is = cc
   done command err err' answer.BadLine s cause (inl (e, told)) is = cc
   done command err err' (answer.Refused r) s cause (inl (e, told)) is = cc
   done command err err' answer.ReadFault s cause (inl (e, told)) is = cc
@@ -583,22 +591,50 @@ module _ (old new : Devices) where
   stuck command err err' (answer.Written ending.Done) s cause (inl (e, told)) is = cc
   stuck None err err' (answer.Written ending.Stuck) s cause (inl (e, told)) is = absurd cause
   stuck (Some c) err err' (answer.Written ending.Stuck) s cause (inl (e, told)) is = cause
+  stuck command err err' (answer.Written ending.NotCertified) s cause (inl (e, told)) is = cc
   stuck command err err' answer.BadLine s cause (inl (e, told)) is = cc
   stuck command err err' (answer.Refused r) s cause (inl (e, told)) is = cc
   stuck command err err' answer.ReadFault s cause (inl (e, told)) is = cc
   stuck command err err' answer.WriteFault s cause (inl (e, told)) is = cc
   stuck command err err' answer.NoMemory s cause (inl (e, told)) is = cc
 
-  -- no command certifies
-  pub certifies_none : (err err' : SinkState) (a : Answer) (s : Status) → IsAnswered err err' a s → s ≢ status.NotCertified
-  certifies_none err err' a s (inr (e, part)) = λ is. cc
-  certifies_none err err' (answer.Written ending.Done) s (inl (e, told)) = λ is. cc
-  certifies_none err err' (answer.Written ending.Stuck) s (inl (e, told)) = λ is. cc
-  certifies_none err err' answer.BadLine s (inl (e, told)) = λ is. cc
-  certifies_none err err' (answer.Refused r) s (inl (e, told)) = λ is. cc
-  certifies_none err err' answer.ReadFault s (inl (e, told)) = λ is. cc
-  certifies_none err err' answer.WriteFault s (inl (e, told)) = λ is. cc
-  certifies_none err err' answer.NoMemory s (inl (e, told)) = λ is. cc
+  -- the verdict was written whole
+  pub not_certified : (command : Option Command) (err err' : SinkState) (a : Answer) (s : Status) → IsCause old new command a
+      → IsAnswered err err' a s → s ≡ status.NotCertified
+      → IsSomeAnd command (IsWritten old new ending.NotCertified)
+  not_certified command err err' a s cause (inr (e, part)) is = cc
+  not_certified command err err' (answer.Written ending.Done) s cause (inl (e, told)) is = cc
+  not_certified None err err' (answer.Written ending.NotCertified) s cause (inl (e, told)) is = absurd cause
+  not_certified (Some c) err err' (answer.Written ending.NotCertified) s cause (inl (e, told)) is = cause
+  not_certified command err err' (answer.Written ending.Stuck) s cause (inl (e, told)) is = cc
+  not_certified command err err' answer.BadLine s cause (inl (e, told)) is = cc
+  not_certified command err err' (answer.Refused r) s cause (inl (e, told)) is = cc
+  not_certified command err err' answer.ReadFault s cause (inl (e, told)) is = cc
+  not_certified command err err' answer.WriteFault s cause (inl (e, told)) is = cc
+  not_certified command err err' answer.NoMemory s cause (inl (e, told)) is = cc
+
+  -- only `certify` ends so
+  ends_certify : (c : Command) → MayEnd c ending.NotCertified → IsCertify c
+  ends_certify (Sim name numbers) (true, is) = cc
+  ends_certify (Sim name numbers) (false, is) = cc
+  ends_certify (Waits name numbers) (true, is) = cc
+  ends_certify (Waits name numbers) (false, is) = cc
+  ends_certify (Compile name file) is = cc
+  ends_certify (Show name) is = cc
+  ends_certify (Gen what ranks bytes) is = cc
+  ends_certify (Certify what name) is = tt
+  ends_certify (Probe rounds seed numbers) (true, is) = cc
+  ends_certify (Probe rounds seed numbers) (false, is) = cc
+
+  only_written : (command : Option Command) → IsSomeAnd command (IsWritten old new ending.NotCertified) → IsSomeAnd command IsCertify
+  only_written None w = w
+  only_written (Some c) w = ends_certify c w.ends
+
+  pub only_certify : (command : Option Command) (err err' : SinkState) (a : Answer) (s : Status) → IsCause old new command a
+      → IsAnswered err err' a s → s ≡ status.NotCertified
+      → IsSomeAnd command IsCertify
+  only_certify command err err' a s cause told is =
+      only_written command (not_certified command err err' a s cause told is)
 
 -- the line of a status was said
 pub line_said : (err err' : SinkState) (a : Answer) (s : Status) → IsAnswered err err' a s
@@ -606,6 +642,7 @@ pub line_said : (err err' : SinkState) (a : Answer) (s : Status) → IsAnswered 
 line_said err err' a s (inr (e, part)) = rw e tt
 line_said err err' (answer.Written ending.Done) s (inl (e, told)) = rw e tt
 line_said err err' (answer.Written ending.Stuck) s (inl (e, told)) = rw e tt
+line_said err err' (answer.Written ending.NotCertified) s (inl (e, told)) = rw e tt
 line_said err err' answer.BadLine s (inl (e, told)) = rw e told
 line_said err err' (answer.Refused r) s (inl (e, told)) = rw e tt
 line_said err err' answer.ReadFault s (inl (e, told)) = rw e told
@@ -613,18 +650,24 @@ line_said err err' answer.WriteFault s (inl (e, told)) = rw e told
 line_said err err' answer.NoMemory s (inl (e, told)) = rw e tt
 
 -- nothing was said
-pub nothing_at : (a : Answer) (s : Status) (err err' : SinkState) → IsAnswered err err' a s → (s ≡ status.Done) ⊎ (s ≡ status.Stuck)
+pub nothing_at : (a : Answer) (s : Status) (err err' : SinkState) → IsAnswered err err' a s → (s ≡ status.Done) ⊎ (s ≡ status.Stuck) ⊎ (s ≡ status.NotCertified)
     → err' ≡ err
 nothing_at a s err err' (inr (e, part)) (inl is) = cc
-nothing_at a s err err' (inr (e, part)) (inr is) = cc
+nothing_at a s err err' (inr (e, part)) (inr (inl is)) = cc
+nothing_at a s err err' (inr (e, part)) (inr (inr is)) = cc
 nothing_at (answer.Written e') s err err' (inl (e, told)) is = told
 nothing_at answer.BadLine s err err' (inl (e, told)) (inl is) = cc
-nothing_at answer.BadLine s err err' (inl (e, told)) (inr is) = cc
+nothing_at answer.BadLine s err err' (inl (e, told)) (inr (inl is)) = cc
+nothing_at answer.BadLine s err err' (inl (e, told)) (inr (inr is)) = cc
 nothing_at (answer.Refused r) s err err' (inl (e, told)) (inl is) = cc
-nothing_at (answer.Refused r) s err err' (inl (e, told)) (inr is) = cc
+nothing_at (answer.Refused r) s err err' (inl (e, told)) (inr (inl is)) = cc
+nothing_at (answer.Refused r) s err err' (inl (e, told)) (inr (inr is)) = cc
 nothing_at answer.ReadFault s err err' (inl (e, told)) (inl is) = cc
-nothing_at answer.ReadFault s err err' (inl (e, told)) (inr is) = cc
+nothing_at answer.ReadFault s err err' (inl (e, told)) (inr (inl is)) = cc
+nothing_at answer.ReadFault s err err' (inl (e, told)) (inr (inr is)) = cc
 nothing_at answer.WriteFault s err err' (inl (e, told)) (inl is) = cc
-nothing_at answer.WriteFault s err err' (inl (e, told)) (inr is) = cc
+nothing_at answer.WriteFault s err err' (inl (e, told)) (inr (inl is)) = cc
+nothing_at answer.WriteFault s err err' (inl (e, told)) (inr (inr is)) = cc
 nothing_at answer.NoMemory s err err' (inl (e, told)) (inl is) = cc
-nothing_at answer.NoMemory s err err' (inl (e, told)) (inr is) = cc
+nothing_at answer.NoMemory s err err' (inl (e, told)) (inr (inl is)) = cc
+nothing_at answer.NoMemory s err err' (inl (e, told)) (inr (inr is)) = cc

@@ -3,3 +3,4 @@ pub mod InputLemmas
 pub mod FileLemmas
 pub mod OutputLemmas
 pub mod RefusalLemmas
+pub mod CertifiedRuns

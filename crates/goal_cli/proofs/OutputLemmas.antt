@@ -1,5 +1,5 @@
 -- What is written is a function of the schedule and the parameters.
-use Rattle.std.proofs.Common.{◌≡◌, ℕ, Bool, List, sym, ap, ◌∙◌, subst}
+use Rattle.std.proofs.Common.{◌≡◌, ℕ, Bool, List, inl, inr, sym, ap, ◌∙◌, subst}
 use Rattle.goal_graph.specs.declared.action.Timed.{Timed}
 use Rattle.goal_graph.specs.Schedule.{Plan}
 use Rattle.sim_params.specs.Costs.{CostModel, log_gops}
@@ -8,10 +8,15 @@ use Rattle.sim_waits.specs.WaitsText.{IsWaitsText}
 use Rattle.sim_waits.proofs.ForCallers.{one_report}
 use Rattle.goal_print.specs.Canonical.{canonical}
 use Rattle.goal_binary.specs.File.{file}
-use Rattle.goal_words.specs.Words.{Command, Sim, Waits, Compile, Show, Gen}
+use Rattle.goal_words.specs.Words.{Command, Sim, Waits, Compile, Show, Gen, Certify, Probe}
+use Rattle.goal_blocks.specs.declared.collective.Collective.{Collective}
+use Rattle.goal_blocks.specs.Faults.{FaultExcludesCertified, OneFirstFault}
+use Rattle.goal_collectives.specs.Probe.{probed}
+use Rattle.goal_cli.specs.Probe.{probe_text}
+use Rattle.goal_cli.specs.Verdict.{faulty_text, IsVerdictOn}
 use Rattle.goal_cli.specs.Input.{IsReadAs}
 use Rattle.goal_cli.specs.declared.answer.Ending.{Ending}
-use Rattle.goal_cli.specs.Output.{run_text, IsPrintedRun, IsReportedRun, ending_if, IsOutput}
+use Rattle.goal_cli.specs.Output.{run_text, IsPrintedRun, IsReportedRun, IsSummedUp, ending_if, IsOutput}
 use Rattle.goal_cli.proofs.InputLemmas.{same_schedule}
 
 pub one_run : (costs : CostModel) (sched : List Plan) (one other : List ℕ) (stuck waits : Bool) → IsPrintedRun costs sched one stuck
@@ -26,26 +31,53 @@ one_reported costs sched one other stuck waits a b =
     let same = b.only a.history a.complete in
     (one_report sched costs b.history one other (subst (λ (h : List Timed). IsWaitsText sched costs h one) same a.reported) b.reported, a.stuck_is ∙ ap (is_stuck sched costs) same ∙ sym b.stuck_is)
 
-pub same_output : (c : Command) (input again : List ℕ) (sched : List Plan) (one other : List ℕ) (e d : Ending) → IsReadAs input sched
-    → IsReadAs again sched → IsOutput c input one e → IsOutput c again other d → (one ≡ other) × (e ≡ d)
-same_output (Sim name numbers) input again sched one other e d r s a b =
-    let same =
-    one_run (log_gops numbers) sched one other a.stuck b.stuck
-    (rw (same_schedule input _ _ a.schedule.read r) at a.run)
-    (rw (same_schedule again _ _ b.schedule.read s) at b.run) in
-    (same.0, a.ends ∙ ap ending_if same.1 ∙ sym b.ends)
-same_output (Waits name numbers) input again sched one other e d r s a b =
-    let same =
-    one_reported (log_gops numbers) sched one other a.stuck b.stuck
-    (rw (same_schedule input _ _ a.schedule.read r) at a.run)
-    (rw (same_schedule again _ _ b.schedule.read s) at b.run) in
-    (same.0, a.ends ∙ ap ending_if same.1 ∙ sym b.ends)
-same_output (Compile name out) input again sched one other e d r s a b =
-    (a.0.compiled ∙ ap file (same_schedule input _ _ a.0.read r ∙ sym (same_schedule again _ _ b.0.read s)) ∙ sym b.0.compiled, a.1 ∙ sym b.1)
-same_output (Show name) input again sched one other e d r s a b =
-    (a.0.shown ∙ ap canonical (same_schedule input _ _ a.0.read r ∙ sym (same_schedule again _ _ b.0.read s)) ∙ sym b.0.shown, a.1 ∙ sym b.1)
-same_output (Gen what ranks bytes) input again sched one other e d r s a b =
-    (a.0.shown ∙ ap canonical (a.0.is_made.made ∙ sym b.0.is_made.made) ∙ sym b.0.shown, a.1 ∙ sym b.1)
+pub one_summed : (costs : CostModel) (sched : List Plan) (one other : List ℕ) (stuck waits : Bool) → IsSummedUp costs sched one stuck
+    → IsSummedUp costs sched other waits → (one ≡ other) × (stuck ≡ waits)
+one_summed costs sched one other stuck waits a b =
+    let same = b.only a.history a.complete in
+    (a.summed ∙ ap (probe_text sched costs) same ∙ sym b.summed, a.stuck_is ∙ ap (is_stuck sched costs) same ∙ sym b.stuck_is)
+
+-- a schedule has one verdict
+module _ (excludes : FaultExcludesCertified) (single : OneFirstFault) where
+  one_verdict : (what : Collective) (sched : List Plan) (one other : List ℕ) (e d : Ending) → IsVerdictOn what sched one e
+      → IsVerdictOn what sched other d → (one ≡ other) × (e ≡ d)
+  one_verdict what sched one other e d (inl a) (inl b) = (a.1 ∙ sym b.1, a.2 ∙ sym b.2)
+  one_verdict what sched one other e d (inl a) (inr b) = absurd (excludes sched _ _ b.0 b.1.has a.0)
+  one_verdict what sched one other e d (inr a) (inl b) = absurd (excludes sched _ _ a.0 a.1.has b.0)
+  one_verdict what sched one other e d (inr a) (inr b) =
+      let same = single sched _ _ a.0 b.0 a.1 b.1 in
+      (a.2 ∙ ap faulty_text same ∙ sym b.2, a.3 ∙ sym b.3)
+
+  pub same_output : (c : Command) (input again : List ℕ) (sched : List Plan) (one other : List ℕ) (e d : Ending) → IsReadAs input sched
+      → IsReadAs again sched → IsOutput c input one e → IsOutput c again other d → (one ≡ other) × (e ≡ d)
+  same_output (Sim name numbers) input again sched one other e d r s a b =
+      let same =
+      one_run (log_gops numbers) sched one other a.stuck b.stuck
+      (rw (same_schedule input _ _ a.schedule.read r) at a.run)
+      (rw (same_schedule again _ _ b.schedule.read s) at b.run) in
+      (same.0, a.ends ∙ ap ending_if same.1 ∙ sym b.ends)
+  same_output (Waits name numbers) input again sched one other e d r s a b =
+      let same =
+      one_reported (log_gops numbers) sched one other a.stuck b.stuck
+      (rw (same_schedule input _ _ a.schedule.read r) at a.run)
+      (rw (same_schedule again _ _ b.schedule.read s) at b.run) in
+      (same.0, a.ends ∙ ap ending_if same.1 ∙ sym b.ends)
+  same_output (Compile name out) input again sched one other e d r s a b =
+      (a.0.compiled ∙ ap file (same_schedule input _ _ a.0.read r ∙ sym (same_schedule again _ _ b.0.read s)) ∙ sym b.0.compiled, a.1 ∙ sym b.1)
+  same_output (Show name) input again sched one other e d r s a b =
+      (a.0.shown ∙ ap canonical (same_schedule input _ _ a.0.read r ∙ sym (same_schedule again _ _ b.0.read s)) ∙ sym b.0.shown, a.1 ∙ sym b.1)
+  same_output (Gen what ranks bytes) input again sched one other e d r s a b =
+      (a.0.shown ∙ ap canonical (a.0.is_made.made ∙ sym b.0.is_made.made) ∙ sym b.0.shown, a.1 ∙ sym b.1)
+  same_output (Probe rounds seed numbers) input again sched one other e d r s a b =
+      let same =
+      one_summed (log_gops numbers) (probed rounds seed) one other a.stuck b.stuck
+      (rw a.schedule.drawn at a.run)
+      (rw b.schedule.drawn at b.run) in
+      (same.0, a.ends ∙ ap ending_if same.1 ∙ sym b.ends)
+  same_output (Certify what name) input again sched one other e d r s a b =
+      one_verdict what sched one other e d
+      (rw (same_schedule input _ _ a.read r) at a.verdict)
+      (rw (same_schedule again _ _ b.read s) at b.verdict)
 
 -- what is written of a schedule as a compiled file says the schedule
 pub compiled_again : (name out input output : List ℕ) (e : Ending) (sched : List Plan) → IsReadAs input sched

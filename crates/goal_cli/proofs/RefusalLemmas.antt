@@ -1,5 +1,5 @@
 -- A command has at most one refusal for an input, and none where it makes something of it.
-use Rattle.std.proofs.Common.{◌≡◌, ℕ, ◌<◌, ◌⊎◌, ◌^◌, List, length, inl, inr, refl, arith}
+use Rattle.std.proofs.Common.{◌≡◌, ℕ, ◌<◌, ◌⊎◌, ◌^◌, List, length, inl, inr, refl, sym, arith}
 use Rattle.goal_parser.specs.declared.faults.TextFault.{TextFault}
 use Rattle.goal_binary.specs.declared.fault.FileFault.{FileFault}
 use Rattle.goal_graph.specs.Schedule.{Plan}
@@ -9,12 +9,12 @@ use Rattle.goal_blocks.specs.Generated.{most_ranks, IsPossible}
 use Rattle.goal_collectives.specs.declared.fault.GenFault.{GenFault}
 use Rattle.goal_collectives.specs.declared.fault.GenFault.TheVariants as gen
 use Rattle.goal_collectives.specs.GenFaults.{AreRanksWithin}
-use Rattle.goal_words.specs.Words.{Command, Sim, Waits, Compile, Show, Gen}
+use Rattle.goal_words.specs.Words.{Command, Sim, Waits, Compile, Show, Gen, Certify, Probe}
 use Rattle.goal_cli.specs.declared.answer.Ending.{Ending}
 use Rattle.goal_cli.specs.declared.answer.Refusal.{Refusal}
 use Rattle.goal_cli.specs.declared.answer.Refusal.TheVariants.{TooLong, Text, File, Generator, Budget}
 use Rattle.goal_cli.specs.Input.{IsReadAs, IsTextFault, IsFaultOfFile}
-use Rattle.goal_cli.specs.Output.{HasInput, HasRun, HasOutput, IsOutput, IsOverBudget, IsRefusedBudget, IsNotMade, IsRefusedCollective, IsRefused}
+use Rattle.goal_cli.specs.Output.{HasInput, HasRun, HasOutput, IsOutput, IsProbe, IsProbeOverBudget, IsOverBudget, IsRefusedBudget, IsNotMade, IsRefusedCollective, IsRefused}
 use Rattle.goal_cli.proofs.InputLemmas.{same_schedule, same_text_fault, same_file_fault, not_both, no_text_fault, no_file_fault, not_too_long}
 
 -- the input of a budget says a schedule
@@ -23,7 +23,9 @@ budget_read (Sim name numbers) input s a has = (a.sched, a.read)
 budget_read (Waits name numbers) input s a has = (a.sched, a.read)
 budget_read (Compile name out) input s a has = absurd a
 budget_read (Show name) input s a has = absurd a
+budget_read (Certify what name) input s a has = absurd a
 budget_read (Gen what ranks bytes) input s a has = absurd a
+budget_read (Probe rounds seed numbers) input s a has = cc
 
 same_sum : (numbers : Numbers) (input : List ℕ) (s t : ℕ) → IsOverBudget numbers input s → IsOverBudget numbers input t → s ≡ t
 same_sum numbers input s t a b =
@@ -36,7 +38,9 @@ same_budget (Sim name numbers) input s t a b = same_sum numbers input s t a b
 same_budget (Waits name numbers) input s t a b = same_sum numbers input s t a b
 same_budget (Compile name out) input s t a b = absurd a
 same_budget (Show name) input s t a b = absurd a
+same_budget (Certify what name) input s t a b = absurd a
 same_budget (Gen what ranks bytes) input s t a b = absurd a
+same_budget (Probe rounds seed numbers) input s t a b = let left = a.sum_is in let right = b.sum_is in cc
 
 -- there are not both enough ranks and too many
 too_many : (what : Collective) (ranks : ℕ) → (ranks ≡ 0) ⊎ (most_ranks what < ranks) → AreRanksWithin what ranks → ⊥
@@ -63,6 +67,8 @@ same_collective (Sim name numbers) f g a b = absurd a
 same_collective (Waits name numbers) f g a b = absurd a
 same_collective (Compile name out) f g a b = absurd a
 same_collective (Show name) f g a b = absurd a
+same_collective (Probe rounds seed numbers) f g a b = absurd a
+same_collective (Certify what name) f g a b = absurd a
 
 -- a command that makes a schedule has no input, and no run
 no_input : (c : Command) (f : GenFault) → IsRefusedCollective c f → HasInput c → ⊥
@@ -71,6 +77,8 @@ no_input (Sim name numbers) f a has = a
 no_input (Waits name numbers) f a has = a
 no_input (Compile name out) f a has = a
 no_input (Show name) f a has = a
+no_input (Probe rounds seed numbers) f a has = a
+no_input (Certify what name) f a has = a
 
 no_budget : (c : Command) (input : List ℕ) (f : GenFault) (s : ℕ) → IsRefusedCollective c f → IsRefusedBudget c input s → ⊥
 no_budget (Gen what ranks bytes) input f s a b = b
@@ -78,6 +86,8 @@ no_budget (Sim name numbers) input f s a b = a
 no_budget (Waits name numbers) input f s a b = a
 no_budget (Compile name out) input f s a b = a
 no_budget (Show name) input f s a b = a
+no_budget (Probe rounds seed numbers) input f s a b = a
+no_budget (Certify what name) input f s a b = a
 
 long_text : (input : List ℕ) (f : TextFault) → 2 ^ 27 < length input → IsTextFault input f → ⊥
 long_text input f long fault = let h = fault.short in omega arith
@@ -118,11 +128,21 @@ output_read (Sim name numbers) input sched a has = a.read
 output_read (Waits name numbers) input sched a has = a.read
 output_read (Compile name out) input sched a has = a
 output_read (Show name) input sched a has = a
+output_read (Certify what name) input sched a has = a
 output_read (Gen what ranks bytes) input sched a has = cc
+output_read (Probe rounds seed numbers) input sched a has = cc
 
 fits : (numbers : Numbers) (input : List ℕ) (sched : List Plan) (s : ℕ) → HasRun numbers input sched → IsOverBudget numbers input s → ⊥
 fits numbers input sched s a b =
     let total = rw (same_schedule input _ _ b.read a.read) at b.sum_is in
+    let over = b.over in
+    let below = a.fits in
+    omega arith
+
+probe_fits : (numbers : Numbers) (rounds seed : ℕ) (sched : List Plan) (s : ℕ) → IsProbe numbers rounds seed sched
+    → IsProbeOverBudget numbers rounds seed s → ⊥
+probe_fits numbers rounds seed sched s a b =
+    let total = rw (sym a.drawn) at b.sum_is in
     let over = b.over in
     let below = a.fits in
     omega arith
@@ -132,7 +152,9 @@ output_fits (Sim name numbers) input sched s a b = fits numbers input sched s a 
 output_fits (Waits name numbers) input sched s a b = fits numbers input sched s a b
 output_fits (Compile name out) input sched s a b = b
 output_fits (Show name) input sched s a b = b
+output_fits (Certify what name) input sched s a b = b
 output_fits (Gen what ranks bytes) input sched s a b = b
+output_fits (Probe rounds seed numbers) input sched s a b = probe_fits numbers rounds seed sched s a b
 
 -- a collective that has a schedule has no reason for none
 no_reason : (what : Collective) (ranks : ℕ) (f : GenFault) → IsPossible what ranks → IsNotMade what ranks f → ⊥
@@ -147,6 +169,8 @@ output_possible (Sim name numbers) input sched f a b = b
 output_possible (Waits name numbers) input sched f a b = b
 output_possible (Compile name out) input sched f a b = b
 output_possible (Show name) input sched f a b = b
+output_possible (Probe rounds seed numbers) input sched f a b = b
+output_possible (Certify what name) input sched f a b = b
 
 -- an input of which the command makes something is not refused
 pub no_refusal : (c : Command) (input : List ℕ) (sched : List Plan) (r : Refusal) → HasOutput c input sched → IsRefused c input r → ⊥
@@ -162,4 +186,6 @@ output_had (Sim name numbers) input output e a = (a.sched, a.schedule)
 output_had (Waits name numbers) input output e a = (a.sched, a.schedule)
 output_had (Compile name out) input output e a = (a.0.sched, a.0.read)
 output_had (Show name) input output e a = (a.0.sched, a.0.read)
+output_had (Certify what name) input output e a = (a.sched, a.read)
 output_had (Gen what ranks bytes) input output e a = (a.0.sched, a.0.is_made)
+output_had (Probe rounds seed numbers) input output e a = (a.sched, a.schedule)

@@ -5,7 +5,7 @@ use Rattle.goal_base.specs.declared.limits.TheConstants.{MAX_INPUT}
 use Rattle.goal_base.specs.Device.{HostState, SinkState, Rose, Held, KeepsFiles, KeepsReading, SameRest, ReadsAtMost, SameReadCounts, Holds, HoldsPart, Grows, file_of, ReadFaulted}
 use Rattle.goal_graph.specs.Schedule.{Plan}
 use Rattle.sim_params.specs.Costs.{CostModel}
-use Rattle.goal_words.specs.Words.{Command, Sim, Waits, Compile, Show, Gen}
+use Rattle.goal_words.specs.Words.{Command, Sim, Waits, Compile, Show, Gen, Certify, Probe}
 use Rattle.goal_cli.specs.declared.answer.Answer.{Answer}
 use Rattle.goal_cli.specs.declared.answer.Answer.TheVariants as answer
 use Rattle.goal_cli.specs.declared.answer.Ending.{Ending}
@@ -62,6 +62,7 @@ ReadsHeld old new = Held old.stops old.read_count new.read_count
 abbrev pub status_at : Ending → Status
 status_at ending.Done = status.Done
 status_at ending.Stuck = status.Stuck
+status_at ending.NotCertified = status.NotCertified
 
 -- where a command writes: to `out`, or to the file of that name
 pub data Target : Type 0 where
@@ -74,6 +75,8 @@ target_of (Waits name numbers) = ToOut
 target_of (Compile name out) = ToFile out
 target_of (Show name) = ToOut
 target_of (Gen what ranks bytes) = ToOut
+target_of (Certify what name) = ToOut
+target_of (Probe rounds seed numbers) = ToOut
 
 -- The devices are given before and after the call.
 module _ (old new : Devices) where

@@ -1,9 +1,13 @@
 -- What a reader must believe.
 pub mod World
 pub mod Input
+pub mod Verdict
+pub mod Probe
 pub mod Output
 pub mod Refusal
 pub mod Answer
+-- Laws.
+pub mod CertifiedRuns
 -- What the clauses cite of lower crates.
 pub use Rattle.goal_base.specs.Device
 pub use Rattle.goal_base.specs.Text

@@ -1,5 +1,5 @@
 -- What a command makes of its input: what it writes, or why it refuses.
-use Rattle.std.specs.Prelude.{ℕ, ◌≡◌, ◌≢◌, ◌<◌, ◌≤◌, ◌^◌, ◌++◌, Bool, true, false, List, length, Option, Some, None, is_some}
+use Rattle.std.specs.Prelude.{ℕ, ◌≡◌, ◌≢◌, ◌⊎◌, ◌<◌, ◌≤◌, ◌^◌, ◌++◌, Bool, true, false, List, length, Option, Some, None, is_some}
 use Rattle.goal_base.specs.declared.limits.TheConstants.{MAX_INPUT}
 use Rattle.goal_graph.specs.declared.action.Timed.{Timed}
 use Rattle.goal_graph.specs.Schedule.{Plan}
@@ -21,13 +21,16 @@ use Rattle.goal_blocks.specs.Generated.{made, IsPossible}
 use Rattle.goal_collectives.specs.declared.fault.GenFault.{GenFault}
 use Rattle.goal_collectives.specs.declared.fault.GenFault.TheVariants as gen
 use Rattle.goal_collectives.specs.GenFaults.{IsGenFault}
-use Rattle.goal_words.specs.Words.{Command, Sim, Waits, Compile, Show, Gen}
+use Rattle.goal_words.specs.Words.{Command, Sim, Waits, Compile, Show, Gen, Certify, Probe}
 use Rattle.goal_cli.specs.declared.answer.Ending.{Ending}
 use Rattle.goal_cli.specs.declared.answer.Ending.TheVariants as ending
 use Rattle.goal_cli.specs.declared.answer.Refusal.{Refusal}
 use Rattle.goal_cli.specs.declared.answer.Refusal.TheVariants as refusal
 use Rattle.goal_cli.specs.declared.output.Stop.{Stop}
 use Rattle.goal_cli.specs.declared.output.Stop.TheVariants.{Refused, NoMemory}
+use Rattle.goal_collectives.specs.Probe.{probed}
+use Rattle.goal_cli.specs.Verdict.{IsVerdictOn}
+use Rattle.goal_cli.specs.Probe.{probe_text}
 use Rattle.goal_cli.specs.Input.{IsReadAs, IsTextFault, IsFaultOfFile}
 
 -- the name of the file that a command reads as its input; None for a command without an input
@@ -37,6 +40,8 @@ input_of (Waits name numbers) = Some name
 input_of (Compile name out) = Some name
 input_of (Show name) = Some name
 input_of (Gen what ranks bytes) = None
+input_of (Certify what name) = Some name
+input_of (Probe rounds seed numbers) = None
 
 abbrev pub HasInput : Command → Type 0
 HasInput c = is_some (input_of c) ≡ true
@@ -67,6 +72,14 @@ pub record IsReportedRun (costs : CostModel) (sched : List Plan) (output : List 
   pub complete : IsCompleteRun sched costs history
   pub only : (h : List Timed) → IsCompleteRun sched costs h → h ≡ history
   pub reported : IsWaitsText sched costs history output
+  pub stuck_is : stuck ≡ is_stuck sched costs history
+
+-- the output sums up that run
+pub record IsSummedUp (costs : CostModel) (sched : List Plan) (output : List ℕ) (stuck : Bool) : Type 0 where
+  pub history : List Timed
+  pub complete : IsCompleteRun sched costs history
+  pub only : (h : List Timed) → IsCompleteRun sched costs h → h ≡ history
+  pub summed : output ≡ probe_text sched costs history
   pub stuck_is : stuck ≡ is_stuck sched costs history
 
 -- the input says a schedule whose time budget with these parameters is at most 2^63-1
@@ -119,6 +132,25 @@ pub record IsGenerated (what : Collective) (ranks bytes : ℕ) (output : List �
   pub is_made : IsMade what ranks bytes sched
   pub shown : output ≡ canonical sched
 
+-- the output is the verdict on the schedule that the input says, and this is its ending
+pub record IsJudged (what : Collective) (input output : List ℕ) (e : Ending) : Type 0 where
+  pub sched : List Plan
+  pub read : IsReadAs input sched
+  pub verdict : IsVerdictOn what sched output e
+
+-- the schedule that is drawn from the seed has a time budget of at most 2^63-1
+pub record IsProbe (numbers : Numbers) (rounds seed : ℕ) (sched : List Plan) : Type 0 where
+  pub drawn : sched ≡ probed rounds seed
+  pub fits : budget sched (log_gops numbers) < 2 ^ 63
+
+-- the output sums up the run of that schedule, and this is its ending
+pub record IsProbed (numbers : Numbers) (rounds seed : ℕ) (output : List ℕ) (e : Ending) : Type 0 where
+  pub sched : List Plan
+  pub schedule : IsProbe numbers rounds seed sched
+  pub stuck : Bool
+  pub run : IsSummedUp (log_gops numbers) sched output stuck
+  pub ends : e ≡ ending_if stuck
+
 -- What a command makes of its input, and how it ends. A command without an input makes it of nothing.
 abbrev pub IsOutput : Command → List ℕ → List ℕ → Ending → Type 0
 IsOutput (Sim name numbers) input output e = IsSimulated numbers input output e
@@ -126,14 +158,23 @@ IsOutput (Waits name numbers) input output e = IsReported numbers input output e
 IsOutput (Compile name out) input output e = IsCompiled input output × (e ≡ ending.Done)
 IsOutput (Show name) input output e = IsShown input output × (e ≡ ending.Done)
 IsOutput (Gen what ranks bytes) input output e = IsGenerated what ranks bytes output × (e ≡ ending.Done)
+IsOutput (Certify what name) input output e = IsJudged what input output e
+IsOutput (Probe rounds seed numbers) input output e = IsProbed numbers rounds seed output e
 
--- the command may end so: where it runs a schedule, also with an operation that has no end
+-- the command may end so: where it runs a schedule, also with an operation that has no end, and `certify` also with a fault
 abbrev pub MayEnd : Command → Ending → Type 0
 MayEnd (Sim name numbers) e = (stuck : Bool) × (e ≡ ending_if stuck)
 MayEnd (Waits name numbers) e = (stuck : Bool) × (e ≡ ending_if stuck)
 MayEnd (Compile name out) e = e ≡ ending.Done
 MayEnd (Show name) e = e ≡ ending.Done
 MayEnd (Gen what ranks bytes) e = e ≡ ending.Done
+MayEnd (Certify what name) e = (e ≡ ending.Done) ⊎ (e ≡ ending.NotCertified)
+MayEnd (Probe rounds seed numbers) e = (stuck : Bool) × (e ≡ ending_if stuck)
+
+-- it is `certify`, of some collective and some name
+abbrev pub IsCertify : Command → Type 0
+IsCertify (Certify what name) = Unit {0}
+IsCertify _ = ⊥
 
 -- the schedule that a command works on: what its input says, or what it makes
 abbrev pub IsScheduleOf : Command → List ℕ → List Plan → Type 0
@@ -142,20 +183,29 @@ IsScheduleOf (Waits name numbers) input sched = IsReadAs input sched
 IsScheduleOf (Compile name out) input sched = IsReadAs input sched
 IsScheduleOf (Show name) input sched = IsReadAs input sched
 IsScheduleOf (Gen what ranks bytes) input sched = IsMade what ranks bytes sched
+IsScheduleOf (Certify what name) input sched = IsReadAs input sched
+IsScheduleOf (Probe rounds seed numbers) input sched = sched ≡ probed rounds seed
 
--- there is something for the command to write: a schedule to work on, and for `sim` and `waits` a run of it
+-- there is something for the command to write: a schedule to work on, and for `sim`, `waits` and `probe` a run of it
 abbrev pub HasOutput : Command → List ℕ → List Plan → Type 0
 HasOutput (Sim name numbers) input sched = HasRun numbers input sched
 HasOutput (Waits name numbers) input sched = HasRun numbers input sched
 HasOutput (Compile name out) input sched = IsReadAs input sched
 HasOutput (Show name) input sched = IsReadAs input sched
 HasOutput (Gen what ranks bytes) input sched = IsMade what ranks bytes sched
+HasOutput (Certify what name) input sched = IsReadAs input sched
+HasOutput (Probe rounds seed numbers) input sched = IsProbe numbers rounds seed sched
 
 -- the input says a schedule, whose time budget with these parameters is this sum, and more than 2^63-1
 pub record IsOverBudget (numbers : Numbers) (input : List ℕ) (sum : ℕ) : Type 0 where
   pub sched : List Plan
   pub read : IsReadAs input sched
   pub sum_is : sum ≡ budget sched (log_gops numbers)
+  pub over : 2 ^ 63 ≤ sum
+
+-- the time budget of the schedule that is drawn from the seed is this sum, and more than 2^63-1
+pub record IsProbeOverBudget (numbers : Numbers) (rounds seed sum : ℕ) : Type 0 where
+  pub sum_is : sum ≡ budget (probed rounds seed) (log_gops numbers)
   pub over : 2 ^ 63 ≤ sum
 
 -- the budget matters where a run is asked for
@@ -165,6 +215,8 @@ IsRefusedBudget (Waits name numbers) input sum = IsOverBudget numbers input sum
 IsRefusedBudget (Compile name out) input sum = ⊥
 IsRefusedBudget (Show name) input sum = ⊥
 IsRefusedBudget (Gen what ranks bytes) input sum = ⊥
+IsRefusedBudget (Certify what name) input sum = ⊥
+IsRefusedBudget (Probe rounds seed numbers) input sum = IsProbeOverBudget numbers rounds seed sum
 
 -- a collective has no schedule for so many ranks, for this first reason
 pub record IsNotMade (what : Collective) (ranks : ℕ) (fault : GenFault) : Type 0 where

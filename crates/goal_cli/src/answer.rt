@@ -32,6 +32,8 @@ pub enum Ending {
     Done,
     // The run that was written has an operation without an end.
     Stuck,
+    // The verdict that was written is a fault.
+    NotCertified,
 }
 
 // What a command line leads to.

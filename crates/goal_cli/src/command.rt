@@ -30,7 +30,8 @@ const OUT_OF_MEMORY: &[u8] = b"goal: out of memory\n";
 /// `host`, a text or a compiled file: `sim NAME`, with options for the parameters, runs it and writes the printed run to
 /// `out`, with the reason for each stuck operation; `waits NAME`, with the same options, runs it and writes the report on
 /// waits to `out`; `compile NAME OUT` writes its compiled file to the file OUT; `show NAME` writes its canonical text to
-/// `out`. `gen KIND RANKS BYTES` has no input: it makes the schedule of a collective and writes its canonical text to `out`.
+/// `out`; `certify KIND NAME` writes to `out` whether it is certified for a collective, or its first fault.
+/// `gen KIND RANKS BYTES` has no input: it makes the schedule of a collective and writes its canonical text to `out`.
 /// What went wrong is said in a line to `err`.
 ///
 /// Any status may give way to `NoMemory`. A failure of `err` changes no status. `laws_of_answers` lists what follows from
@@ -131,7 +132,9 @@ fn name_of(line: &Line) -> Option<&str>
         Line::Waits { name, .. } => Some(name.as_str()),
         Line::Compile { name, .. } => Some(name.as_str()),
         Line::Show { name } => Some(name.as_str()),
+        Line::Certify { name, .. } => Some(name.as_str()),
         Line::Gen { .. } => None,
+        Line::Probe { .. } => None,
     }
 }
 
@@ -177,6 +180,8 @@ fn put<H: Host, W: Sink>(
         Line::Compile { out: name, .. } => write_file(host, name.as_str(), bytes),
         Line::Show { .. } => print(out, bytes),
         Line::Gen { .. } => print(out, bytes),
+        Line::Certify { .. } => print(out, bytes),
+        Line::Probe { .. } => print(out, bytes),
     }
 }
 
@@ -218,6 +223,7 @@ fn tell<E: Sink>(alloc: Global, err: &mut E, answer: Answer) -> Status
     match answer {
         Answer::Written(Ending::Done) => Status::Done,
         Answer::Written(Ending::Stuck) => Status::Stuck,
+        Answer::Written(Ending::NotCertified) => Status::NotCertified,
         Answer::BadLine => say(err, BAD_LINE, Status::BadLine),
         Answer::Refused(refusal) => match refused_line(alloc, refusal) {
             Ok(line) => say(err, &line, Status::Refused),

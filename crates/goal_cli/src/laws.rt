@@ -5,7 +5,7 @@ ghost use Rattle.goal_graph.specs.Schedule.{Plan};
 ghost use Rattle.sim_params.specs.Costs.{CostModel};
 ghost use Rattle.goal_words.specs.Words.{Command, Compile};
 ghost use Rattle.goal_cli.specs.Input.{IsReadAs};
-ghost use Rattle.goal_cli.specs.Output.{input_of, IsPrintedRun, IsOutput, IsRefused};
+ghost use Rattle.goal_cli.specs.Output.{input_of, IsCertify, IsPrintedRun, IsOutput, IsRefused};
 ghost use Rattle.goal_cli.specs.Refusal.{refused_line};
 ghost use Rattle.goal_cli.specs.World.{World, but_err};
 ghost use Rattle.goal_cli.specs.Answer.{input_in, target_of, ForNamed, ForInput, GrowsByPart, Elsewhere, WritesRose, GetsPartOfOutput, IsUntouched, IsWritten, IsCause, line_for, Answers, IsSilent, line_at, Says, Answered};
@@ -15,6 +15,7 @@ ghost use Rattle.goal_cli.specs.declared.answer.Refusal.{Refusal};
 ghost use Rattle.goal_cli.specs.declared.answer.Status.{Status};
 
 use crate::answer::{Ending, Status};
+use goal_blocks::laws_of_faults;
 
 /// What is written is a function of the schedule and the parameters.
 ///
@@ -31,7 +32,9 @@ pub fn laws_of_outputs()
         → IsOutput c input one e → IsOutput c again other d → (one ≡ other) × (e ≡ d) }
     ensures compiled_again { (name out input output : List ℕ) (e : Ending) (sched : List Plan)
         → IsReadAs input sched → IsOutput (Compile name out) input output e → IsReadAs output sched }
-{}
+{
+    laws_of_faults();
+}
 
 /// What each status of an answered command line means, and what leads to it.
 ///
@@ -40,8 +43,8 @@ pub fn laws_of_outputs()
 ///   input comes to it.
 /// - `refused`: the command refuses its input or its words, and `err` gets the words of the refusal.
 /// - `write_fault`, `write_risen`, `file_risen`: writing failed, after a part of the output.
-/// - `done`, `stuck`: the output was written whole, `stuck` for a run with an operation that has no end, and no output is
-///   left open. `never_not_certified`: no command of today certifies.
+/// - `done`, `stuck`, `not_certified`: the output was written whole, `stuck` for a run with an operation that has no end,
+///   `not_certified` for a fault of certification, and no output is left open. `only_certify`: only `certify` ends so.
 /// - `part`, `silent`, `elsewhere`: at most a part of the output is written, and nothing where there is none. Where the
 ///   command doesn't write, nothing changes: no command but `compile` changes a file, and it changes none but OUT.
 /// - `says`, `says_nothing`, `says_part`: `err` gets the line of the status.
@@ -75,8 +78,10 @@ pub fn laws_of_answers()
         → result ≡ Status.Done → IsSomeAnd command (IsWritten (but_err old) (but_err new) Ending.Done) }
     ensures stuck { (command : Option Command) (old new : World) (result : Status) → Answered command old new result
         → result ≡ Status.Stuck → IsSomeAnd command (IsWritten (but_err old) (but_err new) Ending.Stuck) }
-    ensures never_not_certified { (command : Option Command) (old new : World) (result : Status) → Answered command old new result
-        → result ≢ Status.NotCertified }
+    ensures not_certified { (command : Option Command) (old new : World) (result : Status) → Answered command old new result
+        → result ≡ Status.NotCertified → IsSomeAnd command (IsWritten (but_err old) (but_err new) Ending.NotCertified) }
+    ensures only_certify { (command : Option Command) (old new : World) (result : Status) → Answered command old new result
+        → result ≡ Status.NotCertified → IsSomeAnd command IsCertify }
     ensures part { (command : Option Command) (old new : World) (result : Status) → Answered command old new result
         → IsUntouched (but_err old) (but_err new)
         ⊎ ForInput command old.host (GetsPartOfOutput (but_err old) (but_err new)) }
@@ -87,7 +92,7 @@ pub fn laws_of_answers()
     ensures says { (command : Option Command) (old new : World) (result : Status) → Answered command old new result
         → IfSome (line_at result) (λ line. Says old.err new.err line) }
     ensures says_nothing { (command : Option Command) (old new : World) (result : Status) → Answered command old new result
-        → (result ≡ Status.Done) ⊎ (result ≡ Status.Stuck) → new.err ≡ old.err }
+        → (result ≡ Status.Done) ⊎ (result ≡ Status.Stuck) ⊎ (result ≡ Status.NotCertified) → new.err ≡ old.err }
     ensures says_part { (command : Option Command) (old new : World) (result : Status) → Answered command old new result
         → result ≡ Status.NoMemory → (answer : Answer)
         × IsCause (but_err old) (but_err new) command answer × GrowsByPart old.err new.err (line_for answer) }

@@ -2,17 +2,23 @@
 //!
 //! Most commands read a schedule from the file NAME, a text or a compiled file. `sim NAME` runs it and prints when each
 //! operation starts and ends, `waits NAME` how long operations waited, `compile NAME OUT` writes its compiled file,
-//! `show NAME` its canonical text. `gen KIND RANKS BYTES` has no input, and prints that of the schedule of a collective.
+//! `show NAME` its canonical text, `certify KIND NAME` whether it does what a collective wants in every interleaving.
+//! `gen KIND RANKS BYTES` and `probe ROUNDS SEED` have no input: the one prints the canonical text of the schedule of a
+//! collective, the other runs a schedule drawn at random and sums it up.
 #![tactic(auto)]
 
 mod answer;
+mod certified_runs;
 mod command;
 mod laws;
 mod output;
+mod probe;
 mod refusal;
+mod verdict;
 #[cfg(test)]
 mod tests;
 
 pub use answer::Status;
+pub use certified_runs::laws_of_certified_runs;
 pub use command::goal;
 pub use laws::{laws_of_answers, laws_of_outputs};

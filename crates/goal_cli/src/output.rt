@@ -9,15 +9,18 @@ ghost use Rattle.sim_events.specs.Engine.{IsEngineFault};
 ghost use Rattle.goal_print.specs.Canonical.{canonical};
 ghost use Rattle.goal_binary.specs.File.{file};
 ghost use Rattle.goal_blocks.specs.Collectives.{is_first};
+ghost use Rattle.goal_collectives.specs.Probe.{probed};
 ghost use Rattle.goal_words.specs.Words.{Command, Gen, command, IsSized};
 ghost use Rattle.goal_cli.specs.Input.{is_compiled, IsReadAs, IsTextFault, IsFaultOfFile};
-ghost use Rattle.goal_cli.specs.Output.{HasInput, run_text, IsPrintedRun, IsReportedRun, IsRunOf, ending_if, IsMade, IsOutput, MayEnd, IsScheduleOf, IsStop};
+ghost use Rattle.goal_cli.specs.Output.{HasInput, run_text, IsPrintedRun, IsReportedRun, IsSummedUp, IsRunOf, ending_if, IsMade, IsOutput, MayEnd, IsScheduleOf, IsStop};
 
 use crate::answer::{Ending, Refusal};
+use crate::probe::probe_text;
+use crate::verdict::verdict;
 use goal_base::{MAX_BYTES, NoMemory};
 use goal_binary::{FileFault, MAGIC, decode, encode, laws_of_files};
 use goal_blocks::Collective;
-use goal_collectives::{GenFault, generate};
+use goal_collectives::{GenFault, MAX_ROUNDS, generate, probe_plan};
 use goal_graph::Sched;
 use goal_parser::{TextFault, read_text};
 use goal_print::print_text;
@@ -138,6 +141,18 @@ fn make_schedule(alloc: Global, what: Collective, ranks: u32, bytes: u64) -> Res
     }
 }
 
+// The schedule of a probe.
+fn draw(alloc: Global, rounds: u32, seed: u64) -> Result<Sched, Stop>
+    requires few { rounds ≤ MAX_ROUNDS }
+    ensures drawn { IfOk result (λ sched. sched ≡ probed rounds seed) }
+    ensures stop { IfErr result (λ stop. stop ≡ Stop.NoMemory) }
+{
+    match probe_plan(alloc, rounds, seed) {
+        Ok(sched) => Ok(sched),
+        Err(NoMemory) => Err(Stop::NoMemory),
+    }
+}
+
 // The schedule that a command works on: what its input says, or what it makes.
 fn schedule_of(alloc: Global, line: &Line, input: &[u8]) -> Result<Sched, Stop>
     requires short { length input.now ≤ MAX_INPUT }
@@ -151,6 +166,8 @@ fn schedule_of(alloc: Global, line: &Line, input: &[u8]) -> Result<Sched, Stop>
         Line::Compile { .. } => read_input(alloc, input),
         Line::Show { .. } => read_input(alloc, input),
         Line::Gen { what, ranks, bytes } => make_schedule(alloc, *what, *ranks, *bytes),
+        Line::Certify { .. } => read_input(alloc, input),
+        Line::Probe { rounds, seed, .. } => draw(alloc, *rounds, *seed),
     }
 }
 
@@ -231,6 +248,26 @@ fn report_waits(alloc: Global, sched: &Sched, params: Params) -> Result<Output, 
     }
 }
 
+// The sum of the run of a schedule.
+fn sum_up_run(alloc: Global, sched: &Sched, params: Params) -> Result<Output, EngineFault>
+    ensures fits { OnOk result (budget sched.now (log_gops (numbers params)) < 2 ^ 63) }
+    ensures run { IfOk result (λ output. (stuck : Bool) × (output.ending ≡ ending_if stuck)
+        × IsSummedUp (log_gops (numbers params)) sched.now output.bytes.items stuck) }
+    ensures fault { IfErr result (IsEngineFault (budget sched.now (log_gops (numbers params)))) }
+{
+    let engine = match run(alloc, sched, params) {
+        Ok(engine) => engine,
+        Err(fault) => return Err(fault),
+    };
+    match probe_text(alloc, sched, &engine) {
+        Ok(bytes) => Ok(Output {
+            bytes,
+            ending: ending_if(is_stuck(&engine)),
+        }),
+        Err(NoMemory) => Err(EngineFault::NoMemory),
+    }
+}
+
 // An output of a command that runs nothing.
 fn whole(bytes: Result<Vec<u8>, NoMemory>) -> Result<Output, Stop>
     ensures output { IfOk result (λ output. (bytes ≡ Ok output.bytes) × (output.ending ≡ Ending.Done)) }
@@ -276,6 +313,15 @@ fn output_of(alloc: Global, line: &Line, input: &[u8], sched: &Sched) -> Result<
         Line::Compile { .. } => whole(compile(alloc, sched)),
         Line::Show { .. } => whole(print_text(alloc, sched)),
         Line::Gen { .. } => whole(print_text(alloc, sched)),
+        Line::Probe { params, .. } => match sum_up_run(alloc, sched, *params) {
+            Ok(output) => Ok(output),
+            Err(EngineFault::Budget { sum }) => Err(Stop::Refused(Refusal::Budget { sum })),
+            Err(EngineFault::NoMemory) => Err(Stop::NoMemory),
+        },
+        Line::Certify { what, .. } => match verdict(alloc, sched, *what) {
+            Ok(output) => Ok(output),
+            Err(NoMemory) => Err(Stop::NoMemory),
+        },
     }
 }
 

@@ -162,3 +162,6 @@ first_no_option taken first same =
     (λ h.
     let found = option_key taken first (ap (λ o. is_option o first) same ∙ h) in
     both_ways (is_option (options_of first) first) (ap (λ w. is_option (options_of w) w) found.1 ∙ word_takes_none found.0) h)
+
+pub unlike : (w x : List ℕ) → (w ≡ x → ⊥) → bytes_eq w x ≡ false
+unlike w x differs = no_option_by (bytes_eq w x) (λ same. differs ((bytes_eq-Decides w x).0 same))

@@ -4,8 +4,9 @@ use Rattle.std.specs.Option.{option_map, option_and_then}
 use Rattle.std.proofs.lemmas.Bool.{leb-true}
 use Rattle.goal_base.specs.declared.limits.TheConstants.{MAX_RANKS, MAX_BYTES}
 use Rattle.sim_params.specs.Costs.{Numbers}
+use Rattle.goal_words.specs.declared.kinds.TheConstants.{MAX_ROUNDS}
 use Rattle.goal_words.specs.Options.{value_of, within_limits}
-use Rattle.goal_words.specs.Words.{Command, Sim, Waits, Gen, IsSized, sim_of, waits_of, compile_of, show_of, gen_of, number_from, collective_of, command_by}
+use Rattle.goal_words.specs.Words.{Command, Sim, Waits, Gen, Certify, Probe, IsSized, sim_of, waits_of, compile_of, show_of, gen_of, certify_of, probe_of, number_from, collective_of, command_by}
 
 tested : (most n : ℕ) (low high : Bool) → nat_le n most ≡ high → IfSome (if low && high then Some n else None) (λ m. m ≤ most)
 tested most n true true h = leb-true n most h
@@ -65,12 +66,38 @@ gen_sized (kind ∷ ranks ∷ bytes ∷ []) root =
     (λ what. chained _ (number_from 1 MAX_RANKS ranks) (λ n. mapped (Gen what n) (number_from 0 MAX_BYTES bytes) (small 0 MAX_BYTES bytes)))
 gen_sized (kind ∷ ranks ∷ bytes ∷ other ∷ plain) root = tt
 
+certify_sized : (plain : List (List ℕ)) (root : Option ℕ) → IfSome (certify_of plain root) IsSized
+certify_sized [] root = tt
+certify_sized (kind ∷ []) root = tt
+certify_sized (kind ∷ name ∷ []) root = mapped (λ what. Certify what name) (collective_of kind root) (always (collective_of kind root))
+certify_sized (kind ∷ name ∷ other ∷ plain) root = tt
+
+with_seed : (seed : List ℕ) (params : Numbers) (n : ℕ) → n ≤ MAX_ROUNDS
+    → IfSome (option_and_then (λ (s : ℕ). option_map (Probe n s) (within_limits params)) (value_of seed)) IsSized
+with_seed seed params n few = chained _ (value_of seed) (λ s. by s (within_limits params))
+  where
+    by : (s : ℕ) (o : Option Numbers) → IfSome (option_map (Probe n s) o) IsSized
+    by s None = tt
+    by s (Some p) = few
+
+with_rounds : (seed : List ℕ) (params : Numbers) (o : Option ℕ) → IfSome o (λ n. n ≤ MAX_ROUNDS)
+    → IfSome (option_and_then (λ (n : ℕ). option_and_then (λ (s : ℕ). option_map (Probe n s) (within_limits params)) (value_of seed)) o) IsSized
+with_rounds seed params None few = tt
+with_rounds seed params (Some n) few = with_seed seed params n few
+
+probe_sized : (plain : List (List ℕ)) (params : Numbers) → IfSome (probe_of plain params) IsSized
+probe_sized [] params = tt
+probe_sized (rounds ∷ []) params = tt
+probe_sized (rounds ∷ seed ∷ []) params = with_rounds seed params (number_from 1 MAX_ROUNDS rounds) (small 1 MAX_ROUNDS rounds)
+probe_sized (rounds ∷ seed ∷ other ∷ plain) params = tt
+
 command_sized : (first : List ℕ) (plain : List (List ℕ)) (params : Numbers) (root : Option ℕ) → IfSome (command_by first plain params root) IsSized
 command_sized first plain params root =
     either (bytes_eq first (codes "sim")) _ _ (sim_sized plain params)
     (either (bytes_eq first (codes "waits")) _ _ (waits_sized plain params)
     (either (bytes_eq first (codes "compile")) _ _ (compile_sized plain)
-    (either (bytes_eq first (codes "show")) _ _ (show_sized plain) (either (bytes_eq first (codes "gen")) _ _ (gen_sized plain root) tt))))
+    (either (bytes_eq first (codes "show")) _ _ (show_sized plain) (either (bytes_eq first (codes "gen")) _ _ (gen_sized plain root)
+    (either (bytes_eq first (codes "certify")) _ _ (certify_sized plain root) (either (bytes_eq first (codes "probe")) _ _ (probe_sized plain params) tt))))))
 
 pub sized : (first : List ℕ) (plain : List (List ℕ)) (params : Numbers) (root : Option ℕ) (c : Command) → command_by first plain params root ≡ Some c → IsSized c
 sized first plain params root c is = subst (λ o. IfSome o IsSized) is (command_sized first plain params root)

@@ -10,7 +10,7 @@ use Rattle.sim_params.specs.Costs.{Numbers}
 use Rattle.sim_params.specs.Numbers.{numbers}
 use Rattle.goal_words.specs.declared.line.Line.{Line}
 use Rattle.goal_words.specs.declared.line.Line.TheVariants as line
-use Rattle.goal_words.specs.declared.kinds.TheConstants.{MAX_ROOT}
+use Rattle.goal_words.specs.declared.kinds.TheConstants.{MAX_ROOT, MAX_ROUNDS}
 use Rattle.goal_words.specs.Options.{Place, run_options, root_option, value_of, places, plain_words, is_right, value_at, numbers_of, within_limits}
 
 -- what a command line asks for
@@ -25,17 +25,22 @@ pub data Command : Type 0 where
   Show : List ℕ → Command
   -- to write the canonical text of the schedule that is made for the collective, of so many ranks and bytes
   Gen : Collective → ℕ → ℕ → Command
+  -- to say whether the schedule of the file of that name is right for the collective
+  Certify : Collective → List ℕ → Command
+  -- to run the probe of so many rounds that are drawn from a seed, with these parameters
+  Probe : ℕ → ℕ → Numbers → Command
 
--- the messages that a command asks for are not too large
+-- the messages or the rounds that a command asks for are not too many
 abbrev pub IsSized : Command → Type 0
 IsSized (Gen what ranks bytes) = bytes ≤ MAX_BYTES
+IsSized (Probe rounds seed params) = rounds ≤ MAX_ROUNDS
 IsSized _ = Unit {0}
 
 -- the options that a command takes, by the first word
 abbrev pub options_of : List ℕ → List (List ℕ)
 options_of first =
-    if bytes_eq first (codes "sim") || bytes_eq first (codes "waits") then run_options
-    else (if bytes_eq first (codes "gen") then root_option else [])
+    if bytes_eq first (codes "sim") || bytes_eq first (codes "waits") || bytes_eq first (codes "probe") then run_options
+    else (if bytes_eq first (codes "gen") || bytes_eq first (codes "certify") then root_option else [])
 
 -- a number within these limits
 abbrev pub number_from : ℕ → ℕ → List ℕ → Option ℕ
@@ -95,6 +100,19 @@ gen_of (kind ∷ ranks ∷ bytes ∷ []) root =
     option_map (Gen what n) (number_from 0 MAX_BYTES bytes)) (number_from 1 MAX_RANKS ranks)) (collective_of kind root)
 gen_of _ root = None
 
+-- `certify KIND NAME`, with what `--root` is set to
+abbrev pub certify_of : List (List ℕ) → Option ℕ → Option Command
+certify_of (kind ∷ name ∷ []) root = option_map (λ what. Certify what name) (collective_of kind root)
+certify_of _ root = None
+
+-- `probe ROUNDS SEED`, with parameters
+abbrev pub probe_of : List (List ℕ) → Numbers → Option Command
+probe_of (rounds ∷ seed ∷ []) params =
+    option_and_then (λ (n : ℕ).
+    option_and_then (λ (s : ℕ).
+    option_map (Probe n s) (within_limits params)) (value_of seed)) (number_from 1 MAX_ROUNDS rounds)
+probe_of _ params = None
+
 -- the command of the first word, by the plain words, the parameters and what `--root` is set to
 abbrev pub command_by : List ℕ → List (List ℕ) → Numbers → Option ℕ → Option Command
 command_by first plain params root =
@@ -102,7 +120,9 @@ command_by first plain params root =
     else (if bytes_eq first (codes "waits") then waits_of plain params
     else (if bytes_eq first (codes "compile") then compile_of plain
     else (if bytes_eq first (codes "show") then show_of plain
-    else (if bytes_eq first (codes "gen") then gen_of plain root else None))))
+    else (if bytes_eq first (codes "gen") then gen_of plain root
+    else (if bytes_eq first (codes "certify") then certify_of plain root
+    else (if bytes_eq first (codes "probe") then probe_of plain params else None))))))
 
 -- what stands at the words of a line after the first
 abbrev pub line_places : List ℕ → List (List ℕ) → List Place
@@ -127,3 +147,5 @@ command (line.Waits name params) = Waits name (numbers params)
 command (line.Compile name out) = Compile name out
 command (line.Show name) = Show name
 command (line.Gen what ranks bytes) = Gen what ranks bytes
+command (line.Certify what name) = Certify what name
+command (line.Probe rounds seed params) = Probe rounds seed (numbers params)

@@ -5,6 +5,8 @@
 //!     compile NAME OUT
 //!     show NAME
 //!     gen KIND RANKS BYTES [--root N]
+//!     certify KIND NAME [--root N]
+//!     probe ROUNDS SEED [the options of `sim`]
 //!
 //! NAME and OUT are any words that do not begin with `-`. Options and plain words may be mixed after the first word. Each
 //! option stands at most once, and its value follows it, or is joined to it as in `--S=0`. A number has 1 to 20 digits, and

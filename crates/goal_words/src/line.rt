@@ -1,10 +1,10 @@
 // Command lines.
 ghost use Rattle.std.specs.Prelude.{◌≡◌, None, Some, ◌⊎◌, IfOk, IfErr, IsErrOf, MatchOption};
-ghost use Rattle.goal_words.specs.Words.{command, command_by, command_in, options_of, sim_of, waits_of, compile_of, show_of, gen_of, IsSized};
+ghost use Rattle.goal_words.specs.Words.{command, command_by, command_in, options_of, sim_of, waits_of, compile_of, show_of, gen_of, certify_of, probe_of, IsSized};
 ghost use Rattle.goal_words.specs.Reading.{listed, numbers_given, words_of};
 
-use crate::kinds::{collective_of, number_from};
-use crate::options::{Given, Taken};
+use crate::kinds::{MAX_ROUNDS, collective_of, number_from};
+use crate::options::{Given, Taken, value_of};
 use crate::rest::{Few, Rest};
 use goal_base::{MAX_BYTES, MAX_RANKS};
 use goal_blocks::Collective;
@@ -72,6 +72,18 @@ pub enum Line {
         ranks: u32,
         bytes: u64,
     },
+    /// To say whether the schedule of `name` is right for the collective `what`, whose root is at most 65,535.
+    Certify {
+        what: Collective,
+        name: FileName,
+    },
+    /// To run the probe of so many rounds, from 1 to 300,000, that are drawn from the seed, with these parameters, and to
+    /// print a summary.
+    Probe {
+        rounds: u32,
+        seed: u64,
+        params: Params,
+    },
 }
 
 /// Why words are no line.
@@ -119,8 +131,8 @@ fn taken_by(first: &str) -> Taken
     ensures { words_of result ≡ options_of first.now }
 {
     match first {
-        "sim" | "waits" => Taken::Run,
-        "gen" => Taken::Root,
+        "sim" | "waits" | "probe" => Taken::Run,
+        "gen" | "certify" => Taken::Root,
         _ => Taken::Nothing,
     }
 }
@@ -136,6 +148,11 @@ fn read_line(alloc: Global, first: &str, plain: Few<'_>, given: Given) -> Result
         "compile" => read_compile(alloc, plain),
         "show" => read_show(alloc, plain),
         "gen" => match read_gen(plain, given) {
+            Some(line) => Ok(line),
+            None => Err(LineFault::Bad),
+        },
+        "certify" => read_certify(alloc, plain, given),
+        "probe" => match read_probe(plain, given) {
             Some(line) => Ok(line),
             None => Err(LineFault::Bad),
         },
@@ -212,5 +229,37 @@ fn read_gen(plain: Few<'_>, given: Given) -> Option<Line>
         what,
         ranks: ranks as u32,
         bytes,
+    })
+}
+
+// `certify KIND NAME`.
+fn read_certify(alloc: Global, plain: Few<'_>, given: Given) -> Result<Line, LineFault>
+    ensures line { IfOk result (λ line. certify_of (listed plain.entry) given.root ≡ Some (command line)) }
+    ensures bad { IfErr result (λ fault. fault ≡ LineFault.Bad → certify_of (listed plain.entry) given.root ≡ None) }
+{
+    let Few::Two(kind, name) = plain else {
+        return Err(LineFault::Bad);
+    };
+    let Some(what) = collective_of(kind, given.root()) else {
+        return Err(LineFault::Bad);
+    };
+    let name = FileName::new(alloc, name)?;
+    Ok(Line::Certify { what, name })
+}
+
+// `probe ROUNDS SEED`.
+fn read_probe(plain: Few<'_>, given: Given) -> Option<Line>
+    ensures { MatchOption result (probe_of (listed plain.entry) (numbers_given given) ≡ None) (λ line. probe_of (listed plain.entry) (numbers_given given) ≡ Some (command line)) }
+{
+    let Few::Two(rounds, seed) = plain else {
+        return None;
+    };
+    let rounds = number_from(1, MAX_ROUNDS, rounds)?;
+    let seed = value_of(seed)?;
+    let params = given.params()?;
+    Some(Line::Probe {
+        rounds: rounds as u32,
+        seed,
+        params,
     })
 }

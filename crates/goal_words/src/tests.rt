@@ -102,7 +102,39 @@ fn gen_lines(rt: HostRuntime) -> Result<(), Fail> {
     Ok(())
 }
 
-const NO_LINES: [&[&str]; 24] = [
+#[test]
+fn certify_and_probe(rt: HostRuntime) -> Result<(), Fail> {
+    let alloc = rt.alloc();
+    let words = strings(alloc, &["certify", "gather", "a", "--root=1"])?;
+    match &read_words(alloc, &words) {
+        Ok(Line::Certify { what, name }) => {
+            assert_eq!(rt; *what, Collective::Gather { root: 1 });
+            assert_eq!(rt; name.as_str(), "a");
+        }
+        _ => assert!(rt; false),
+    }
+    let words = strings(
+        alloc,
+        &["probe", "--S", "8", "300000", "18446744073709551615"],
+    )?;
+    match &read_words(alloc, &words) {
+        Ok(
+            Line::Probe {
+                rounds,
+                seed,
+                params,
+            },
+        ) => {
+            assert_eq!(rt; *rounds, 300_000);
+            assert_eq!(rt; *seed, u64::MAX);
+            assert_eq!(rt; params.sync, 8);
+        }
+        _ => assert!(rt; false),
+    }
+    Ok(())
+}
+
+const NO_LINES: [&[&str]; 28] = [
     &[],
     &["sim"],
     &["sim", "a", "b"],
@@ -119,6 +151,10 @@ const NO_LINES: [&[&str]; 24] = [
     &["gen", "bcast", "4", "8", "--root", "65536"],
     &["gen", "bcast", "4", "8", "9"],
     &["probe", "0", "1"],
+    &["probe", "300001", "1"],
+    &["probe", "1", "18446744073709551616"],
+    &["certify", "barrier", "a", "--root", "0"],
+    &["certify", "tree", "a"],
     &["Sim", "a"],
     &["show", "-a"],
     &["sim", "a", "--L=", "5"],

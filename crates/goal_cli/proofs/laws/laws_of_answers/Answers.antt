@@ -4,7 +4,7 @@ use Rattle.goal_cli.specs.declared.answer.Status.{Status}
 use Rattle.goal_cli.specs.declared.answer.Status.TheVariants as status
 use Rattle.goal_cli.specs.World.{World, but_err}
 use Rattle.goal_cli.specs.Answer.{Answers, Answered}
-use Rattle.goal_cli.proofs.AnswerLemmas.{no_line, no_line_told, read_fault, reads_risen, absent_risen, absent_named, told_refusal, cut_off_told, writes_risen, files_risen, done, stuck, certifies_none, part_or_none, untouched, kept_elsewhere, line_said, nothing_at, part_said}
+use Rattle.goal_cli.proofs.AnswerLemmas.{no_line, no_line_told, read_fault, reads_risen, absent_risen, absent_named, told_refusal, cut_off_told, writes_risen, files_risen, done, stuck, not_certified, only_certify, part_or_none, untouched, kept_elsewhere, line_said, nothing_at, part_said}
 use Rattle.goal_cli.proofs.laws.laws_of_answers.Goals as goal
 
 line_missed : (command : Option Command) (old new : World) (result : Status) → Answered command old new result → command ≡ None
@@ -48,8 +48,11 @@ returns-clause-done c = λ command old new result w. done (but_err old) (but_err
 pub returns-clause-stuck : goal.returns-clause-stuck
 returns-clause-stuck c = λ command old new result w. stuck (but_err old) (but_err new) command old.err new.err w.answer result w.cause w.told
 
-pub returns-clause-never_not_certified : goal.returns-clause-never_not_certified
-returns-clause-never_not_certified c = λ command old new result w. certifies_none (but_err old) (but_err new) old.err new.err w.answer result w.told
+pub returns-clause-not_certified : goal.returns-clause-not_certified
+returns-clause-not_certified c = λ command old new result w. not_certified (but_err old) (but_err new) command old.err new.err w.answer result w.cause w.told
+
+pub returns-clause-only_certify : goal.returns-clause-only_certify
+returns-clause-only_certify c = λ command old new result w. only_certify (but_err old) (but_err new) command old.err new.err w.answer result w.cause w.told
 
 pub returns-clause-part : goal.returns-clause-part
 returns-clause-part c = λ command old new result w. part_or_none (but_err old) (but_err new) command w.answer w.cause

@@ -5,7 +5,8 @@ pub returns-clause-one_run : goal.returns-clause-one_run
 returns-clause-one_run c = one_run
 
 pub returns-clause-same_output : goal.returns-clause-same_output
-returns-clause-same_output c = same_output
+returns-clause-same_output c =
+    same_output c.laws_of_faults.ensures.fault_excludes_certified c.laws_of_faults.ensures.one_first_fault
 
 pub returns-clause-compiled_again : goal.returns-clause-compiled_again
 returns-clause-compiled_again c = compiled_again

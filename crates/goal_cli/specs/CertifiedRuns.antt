@@ -1,0 +1,28 @@
+-- What certification says of simulated runs, and of the schedules that are printed.
+use Rattle.std.specs.Prelude.{ℕ, ◌≡◌, ◌≤◌, List, length}
+use Rattle.goal_base.specs.declared.limits.TheConstants.{MAX_BYTES}
+use Rattle.goal_graph.specs.declared.action.Timed.{Timed}
+use Rattle.goal_graph.specs.Schedule.{Plan}
+use Rattle.goal_graph.specs.Action.{plain}
+use Rattle.goal_blocks.specs.declared.collective.Collective.{Collective}
+use Rattle.goal_blocks.specs.Collectives.{initial, wanted}
+use Rattle.goal_blocks.specs.Certification.{IsRight}
+use Rattle.goal_blocks.specs.Certified.{IsCertifiedFor, IsRightFor, IsCertifiedByProof}
+use Rattle.sim_params.specs.Costs.{CostModel, is_eager}
+use Rattle.sim_params.specs.Run.{IsCompleteRun}
+use Rattle.goal_print.specs.Canonical.{canonical}
+use Rattle.goal_words.specs.Words.{Gen}
+use Rattle.goal_cli.specs.declared.answer.Ending.{Ending}
+use Rattle.goal_cli.specs.Output.{IsOutput}
+
+-- The laws. The function `laws_of_certified_runs` ensures each.
+
+-- the complete run of a certified schedule, with any costs, and so with any sends eager, ends in the pairs of its channels
+-- and leaves what the collective wants
+abbrev pub CertifiedRunsAreRight : Type 0
+CertifiedRunsAreRight = (what : Collective) (plans : List Plan) (costs : CostModel) (history : List Timed) → IsCertifiedFor what plans → IsCompleteRun plans costs history → IsRight plans (initial what (length plans)) (wanted what (length plans)) (is_eager plans costs) (plain history)
+
+-- what `gen` prints, for a collective and a number of ranks whose made schedules are certified by proof, is the text of a
+-- schedule that is certified and right everywhere
+abbrev pub GeneratedAreCertified : Type 0
+GeneratedAreCertified = (what : Collective) (ranks bytes : ℕ) (input output : List ℕ) (e : Ending) → bytes ≤ MAX_BYTES → IsCertifiedByProof what ranks → IsOutput (Gen what ranks bytes) input output e → (sched : List Plan) × (output ≡ canonical sched) × IsCertifiedFor what sched × IsRightFor what sched
