@@ -51,3 +51,4 @@ pub mod SlotRows
 pub mod Rounds
 pub mod BarrierCertified
 pub mod AllreduceCertified
+pub mod ReduceScatterCertified

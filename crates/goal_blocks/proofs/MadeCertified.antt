@@ -1,4 +1,4 @@
--- The made schedules of the broadcast, barrier, allgather, allreduce, alltoall and scan are certified, and so right everywhere.
+-- The made schedules of the broadcast, barrier, allgather, allreduce, alltoall, reduce_scatter and scan are certified, and so right everywhere.
 use Rattle.std.proofs.Common.{ℕ, ◌≤◌, length, sym, subst}
 use Rattle.goal_base.specs.declared.limits.TheConstants.{MAX_BYTES}
 use Rattle.goal_blocks.specs.declared.collective.Collective.{Collective}
@@ -12,6 +12,7 @@ use Rattle.goal_blocks.proofs.AllgatherCertified.{allgather_certified}
 use Rattle.goal_blocks.proofs.AlltoallCertified.{alltoall_certified}
 use Rattle.goal_blocks.proofs.BarrierCertified.{barrier_certified}
 use Rattle.goal_blocks.proofs.AllreduceCertified.{allreduce_certified}
+use Rattle.goal_blocks.proofs.ReduceScatterCertified.{reduce_scatter_certified}
 use Rattle.goal_blocks.proofs.ScanCertified.{scan_certified}
 
 pub made_certified : (what : Collective) (ranks bytes : ℕ) → IsPossible what ranks → bytes ≤ MAX_BYTES → IsCertifiedByProof what ranks → IsCertifiedFor what (made what ranks bytes)
@@ -25,7 +26,7 @@ made_certified Alltoall ranks bytes p small proved = alltoall_certified ranks by
 made_certified (Reduce root) ranks bytes p small proved = absurd proved
 made_certified (Gather root) ranks bytes p small proved = absurd proved
 made_certified (Scatter root) ranks bytes p small proved = absurd proved
-made_certified ReduceScatter ranks bytes p small proved = absurd proved
+made_certified ReduceScatter ranks bytes p small proved = reduce_scatter_certified ranks bytes p.some_rank p.few_ranks
 
 pub made_right : (what : Collective) (ranks bytes : ℕ) → IsPossible what ranks → bytes ≤ MAX_BYTES → IsCertifiedByProof what ranks → IsRightFor what (made what ranks bytes)
 made_right what ranks bytes p small proved =
