@@ -14,9 +14,9 @@ mod laws;
 mod output;
 mod probe;
 mod refusal;
-mod verdict;
 #[cfg(test)]
 mod tests;
+mod verdict;
 
 pub use answer::Status;
 pub use certified_runs::laws_of_certified_runs;

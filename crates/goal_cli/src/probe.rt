@@ -12,7 +12,11 @@ use sim_timeline::first_line;
 use std::alloc::Global;
 
 /// The first line of the timeline, and the sum of all ends.
-pub fn probe_text(alloc: Global, sched: &Sched, engine: &Engine<'_, LogGops>) -> Result<Vec<u8>, NoMemory>
+pub fn probe_text(
+    alloc: Global,
+    sched: &Sched,
+    engine: &Engine<'_, LogGops>,
+) -> Result<Vec<u8>, NoMemory>
     requires same { engine.now.plans ≡ sched.now }
     ensures { IfOk result (λ text.
         text.items ≡ probe_text sched.now (log_gops (numbers engine.now.costs.params)) engine.now.history) }

@@ -88,7 +88,12 @@ fn put_fault(out: &mut TextOut, fault: CertFault) -> Result<(), NoMemory>
             second,
             slot,
         } => {
-            put_ops(out, "race ", OpId { rank, op: first }, OpId { rank, op: second })?;
+            put_ops(
+                out,
+                "race ",
+                OpId { rank, op: first },
+                OpId { rank, op: second },
+            )?;
             put_number(out, " slot ", u64::from(slot))
         }
         CertFault::Stalls { op } => put_op(out, "stalls ", op),
