@@ -9,5 +9,6 @@ pub mod Reading
 pub mod Meaning
 -- What the clauses cite of lower crates.
 pub use Rattle.goal_graph.specs.Fault
+pub use Rattle.goal_graph.specs.Limits
 pub use Rattle.goal_graph.specs.Schedule
 pub use Rattle.goal_graph.specs.Widths

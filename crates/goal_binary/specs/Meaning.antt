@@ -4,6 +4,7 @@ use Rattle.goal_graph.specs.declared.fault.PlanFault.{PlanFault}
 use Rattle.goal_graph.specs.declared.fault.PlanFault.TheVariants as plan
 use Rattle.goal_graph.specs.Schedule.{Plan}
 use Rattle.goal_graph.specs.Fault.{IsFault}
+use Rattle.goal_graph.specs.Limits.{IsLimitRule}
 use Rattle.goal_binary.specs.declared.fault.FileFault.{FileFault}
 use Rattle.goal_binary.specs.declared.fault.FileFault.TheVariants as fault
 use Rattle.goal_binary.specs.Fields.{Read, ◌>>=◌, header_at}
@@ -34,11 +35,6 @@ abbrev pub IsFileFault : List ℕ → FileFault → Type 0
 IsFileFault bytes found = IsFaultOf (meaning bytes) found
 
 -- the fault is that of a count or a value over its limit
-abbrev pub IsLimitRule : PlanFault → Type 0
-IsLimitRule (plan.Count found limit) = Unit {0}
-IsLimitRule (plan.Value rank op) = Unit {0}
-IsLimitRule _ = ⊥
-
 abbrev pub IsLimitFault : FileFault → Type 0
 IsLimitFault (fault.Plan rule) = IsLimitRule rule
 IsLimitFault _ = ⊥

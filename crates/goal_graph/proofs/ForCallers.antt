@@ -21,3 +21,4 @@ pub use Rattle.goal_graph.proofs.ListingLemmas.{listed_exist}
 pub use Rattle.goal_graph.proofs.Order.{key_cases, less_irreflexive, less_tested, less_transitive, one_least, same_timed}
 pub use Rattle.goal_graph.proofs.OfKind.{kind_from_op, kind_of_op, receive_is_op, send_is_op}
 pub use Rattle.goal_graph.proofs.InTurn.{run_in_turn, in_turn_run}
+pub use Rattle.goal_graph.proofs.NoLimits.{no_limit_rule}

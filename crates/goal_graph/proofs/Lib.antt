@@ -31,4 +31,5 @@ pub mod Accepted
 pub mod Order
 pub mod OfKind
 pub mod InTurn
+pub mod NoLimits
 pub mod ForCallers

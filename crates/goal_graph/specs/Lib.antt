@@ -2,6 +2,7 @@
 pub mod Schedule
 pub mod Order
 pub mod Fault
+pub mod Limits
 pub mod Action
 pub mod Matching
 pub mod Allowed

@@ -38,7 +38,7 @@ use Rattle.goal_parser.specs.Items.{Definition, NamedDep, NamedNote, ends_action
 use Rattle.goal_parser.specs.Plans.{empty_plan, block_plan, first_plans, plans_with, plans_of}
 use Rattle.goal_parser.specs.Faults.{fault_by, token_fault, syntax_fault, number_fault, rank_fault, option_fault, label_fault, count_fault, unknown_fault}
 use Rattle.goal_parser.specs.Reads.{first_fault, last_fault, text_fault, text_plans, reading, reads, plans, faulty}
-use Rattle.goal_parser.specs.Laws.{HasValue, HaveValues, AreWithinLimits}
+use Rattle.goal_graph.specs.Limits.{HasValue, HaveValues, AreWithinLimits}
 use Rattle.goal_parser.proofs.ParserLaws.{none_first, none_second, not_so, number_passes, count_passes}
 
 -- an operation, a dependency or a note has begun in this state, and isn't kept yet

@@ -18,6 +18,7 @@ pub mod Grammar
 pub mod Laws
 -- What the clauses cite of lower crates.
 pub use Rattle.goal_graph.specs.Fault
+pub use Rattle.goal_graph.specs.Limits
 pub use Rattle.goal_graph.specs.Schedule
 pub use Rattle.goal_graph.specs.Widths
 pub use Rattle.goal_lexer.specs.Stands

@@ -5,6 +5,7 @@ use Rattle.goal_lexer.specs.declared.tokens.Token.{Token}
 use Rattle.goal_lexer.specs.Scan.{lexed}
 use Rattle.goal_graph.specs.Schedule.{Plan}
 use Rattle.goal_graph.specs.Fault.{IsFault}
+use Rattle.goal_graph.specs.Limits.{IsLimitRule}
 use Rattle.goal_graph.specs.declared.fault.PlanFault.{PlanFault}
 use Rattle.goal_graph.specs.declared.fault.PlanFault.TheVariants as plan
 use Rattle.goal_parser.specs.declared.faults.TextFault.{TextFault}
@@ -65,12 +66,7 @@ abbrev pub fault_of_plans : PlanFault → TextFault
 fault_of_plans plan.NoMemory = fault.NoMemory
 fault_of_plans f = fault.Plan f
 
--- the rule is that of a limit
-abbrev pub IsLimitRule : PlanFault → Type 0
-IsLimitRule (plan.Count found limit) = Unit {0}
-IsLimitRule (plan.Value rank op) = Unit {0}
-IsLimitRule _ = ⊥
-
+-- the fault is that of a count or a value over its limit
 abbrev pub IsLimitFault : TextFault → Type 0
 IsLimitFault (fault.Plan rule) = IsLimitRule rule
 IsLimitFault _ = ⊥

@@ -1,0 +1,25 @@
+-- Plans that keep the limits of counts and values, and the rules that tell of these limits.
+use Rattle.std.specs.Prelude.{◌≡◌, true, List, All, ⊤}
+use Rattle.goal_graph.specs.declared.fault.PlanFault.{PlanFault}
+use Rattle.goal_graph.specs.declared.fault.PlanFault.TheVariants.{Count, Value}
+use Rattle.goal_graph.specs.declared.plan.Op.{Op}
+use Rattle.goal_graph.specs.Schedule.{Plan}
+use Rattle.goal_graph.specs.Fault.{value_fits, AreCountsWithin}
+
+-- the size or duration of an operation is within its limit
+abbrev pub HasValue : Op → Type 0
+HasValue o = value_fits o.kind o.nic ≡ true
+
+abbrev pub HaveValues : Plan → Type 0
+HaveValues p = All HasValue p.ops
+
+-- the counts and the values of plans are within the limits; they may break the other rules of schedules
+pub record AreWithinLimits (ps : List Plan) : Type 0 where
+  pub counts : AreCountsWithin ps
+  pub values : All HaveValues ps
+
+-- the rule is that of a count or a value over its limit
+abbrev pub IsLimitRule : PlanFault → Type 0
+IsLimitRule (Count found limit) = ⊤
+IsLimitRule (Value rank op) = ⊤
+IsLimitRule _ = ⊥
