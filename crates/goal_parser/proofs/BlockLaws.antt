@@ -1,12 +1,5 @@
--- Blocks and plans, one token more.
-use Rattle.std.proofs.Common.{◌≡◌, ℕ, ◌+◌, zero, suc, List, [], ◌∷◌, ◌++◌, None, refl, ap, ◌∙◌, replicate, add-one}
-use Rattle.goal_lexer.specs.declared.tokens.TokenKind.{TokenKind}
-use Rattle.goal_lexer.specs.declared.tokens.TokenKind.TheVariants as token
-use Rattle.goal_graph.specs.declared.plan.Op.{Op}
-use Rattle.goal_graph.specs.Schedule.{Plan}
-use Rattle.goal_parser.specs.declared.sentence.State.{State}
-use Rattle.goal_parser.specs.Items.{IsInside, ops_with, ended_ops}
-use Rattle.goal_parser.specs.Plans.{plan_ended}
+-- The same plan, one time more.
+use Rattle.std.proofs.Common.{◌≡◌, ℕ, ◌+◌, zero, suc, [], ◌∷◌, ◌++◌, refl, ap, ◌∙◌, replicate, add-one}
 
 replicate-suc : {A : Type 0} (n : ℕ) (x : A) → replicate (suc n) x ≡ replicate n x ++ x ∷ []
 replicate-suc zero x = refl

@@ -23,9 +23,9 @@ use Rattle.goal_parser.specs.Sentence.{entry, state_of}
 use Rattle.goal_parser.specs.Numbers.{number_within, is_within}
 use Rattle.goal_parser.specs.Ranks.{IsNewRank, ranks_with, rank_with, blocks_with, ranks_of, rank_of, blocks_of}
 use Rattle.goal_parser.specs.Counts.{counts_with, counts_of, is_too_many}
-use Rattle.goal_parser.specs.Actions.{draft_with, draft_of, op_of, has_option, any_with}
-use Rattle.goal_parser.specs.Items.{Definition, NamedDep, NamedNote, define, begins_item, ends_action, ended_ops, head_with, verb_head, label_head, low_head, ops_with, defined_with, used_with, deps_with, notes_with, note_uses, note_ended, dep_uses, dep_ended, dep_by, note_by, first_unknown, head_of, ops_of, defined_of, used_of, deps_of, notes_of}
-use Rattle.goal_parser.specs.Plans.{empty_plan, plans_with, first_plans, plans_of, block_plan}
+use Rattle.goal_parser.specs.Actions.{draft_with, draft_of, op_of, has_option}
+use Rattle.goal_parser.specs.Items.{Definition, NamedDep, NamedNote, define, begins_item, ends_action, ended_ops, head_with, verb_head, low_head, ops_with, defined_with, used_with, deps_with, notes_with, note_uses, note_ended, dep_uses, dep_ended, dep_by, note_by, first_unknown, head_of, ops_of, defined_of, used_of, deps_of, notes_of}
+use Rattle.goal_parser.specs.Plans.{empty_plan, plans_with, plans_of}
 use Rattle.goal_parser.specs.Faults.{fault_if, fault_by, token_fault, syntax_fault, number_fault, rank_fault, rank_fault_of, numbered_rank_fault, option_fault, defined_fault, label_fault, count_fault, unknown_fault}
 use Rattle.goal_parser.specs.Slots.{NamesHold}
 use Rattle.goal_parser.specs.Taken.{HasTaken, Takes, Refuses, IsAction, IsOption, IsVerb, IsPlain}

@@ -1,5 +1,5 @@
 -- Dependencies and notes by slots, and by the labels of these slots.
-use Rattle.std.proofs.Common.{◌≡◌, ℕ, ◌<◌, ◌≤◌, Bool, true, false, List, [], ◌∷◌, ◌++◌, Some, None, length, slice_get, map, refl, sym, ap, subst, ◌∙◌, arith, bytes_eq, unwrap_or, if◌then◌else◌, nat_lt, rules, tests, inl, inr}
+use Rattle.std.proofs.Common.{◌≡◌, ℕ, ◌<◌, ◌≤◌, true, false, List, [], ◌∷◌, ◌++◌, Some, None, length, slice_get, map, refl, sym, ap, subst, ◌∙◌, arith, bytes_eq, unwrap_or, if◌then◌else◌, nat_lt, rules, tests, inl, inr}
 use Rattle.std.specs.List.{AllZip}
 use Rattle.std.proofs.lemmas.Option.{slice_get_cases}
 use Rattle.std.specs.Map.{lookup}

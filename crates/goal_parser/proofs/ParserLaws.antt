@@ -11,15 +11,13 @@ use Rattle.goal_parser.specs.declared.sentence.State.{State}
 use Rattle.goal_parser.specs.declared.sentence.State.TheVariants as state
 use Rattle.goal_parser.specs.declared.draft.OptionWord.{OptionWord}
 use Rattle.goal_parser.specs.declared.counts.Counts.{Counts}
-use Rattle.goal_parser.specs.declared.draft.Draft.{Draft}
-use Rattle.goal_parser.specs.declared.head.Mention.{Mention}
 use Rattle.goal_parser.specs.declared.parser.Parser.{Parser}
 use Rattle.goal_parser.specs.Taken.{HasTaken}
-use Rattle.goal_parser.specs.Items.{Definition, defined_of, used_of}
+use Rattle.goal_parser.specs.Items.{defined_of, used_of}
 use Rattle.goal_parser.specs.Numbers.{is_within}
 use Rattle.goal_parser.specs.Counts.{is_too_many}
 use Rattle.goal_parser.specs.Ranks.{IsNewRank}
-use Rattle.goal_parser.specs.Faults.{fault_if, syntax_fault, number_fault, rank_fault, rank_fault_of, option_fault, label_fault, count_fault, unknown_fault, fault_by, token_fault}
+use Rattle.goal_parser.specs.Faults.{fault_if, number_fault, rank_fault, rank_fault_of, count_fault, fault_by, token_fault}
 
 pub none_first : {A : Type 0} (a b : Option A) → option_or a b ≡ None → a ≡ None
 none_first None b h = refl

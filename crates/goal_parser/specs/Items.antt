@@ -1,5 +1,5 @@
 -- The items of a block that begin with a label: definitions, dependencies and notes.
-use Rattle.std.specs.Prelude.{ℕ, Bool, true, false, List, [], ◌∷◌, ◌++◌, Option, Some, None, is_some, if◌then◌else◌, bytes_eq, length, unwrap_or, ⊤}
+use Rattle.std.specs.Prelude.{ℕ, Bool, true, false, List, [], ◌∷◌, ◌++◌, Option, Some, None, is_some, if◌then◌else◌, bytes_eq, length, unwrap_or}
 use Rattle.goal_lexer.specs.declared.tokens.Token.{Token}
 use Rattle.goal_lexer.specs.declared.tokens.TokenKind.{TokenKind}
 use Rattle.goal_lexer.specs.declared.tokens.TokenKind.TheVariants as token
@@ -193,8 +193,3 @@ note_as _ op first second = Adds op first second
 
 abbrev pub note_by : List Definition → NamedNote → Note
 note_by ds n = note_as n.verb (op_number ds n.subject) n.first n.second
-
--- the token isn't the one that ends a block
-abbrev pub IsInside : TokenKind → Type 0
-IsInside token.Close = ⊥
-IsInside _ = ⊤

@@ -1,5 +1,5 @@
 -- The plans of a text.
-use Rattle.std.specs.Prelude.{ℕ, List, [], ◌∷◌, map, replicate, slice_set, Option, Some, None}
+use Rattle.std.specs.Prelude.{ℕ, List, [], ◌∷◌, map, replicate, slice_set}
 use Rattle.goal_lexer.specs.declared.tokens.Token.{Token}
 use Rattle.goal_lexer.specs.declared.tokens.TokenKind.{TokenKind}
 use Rattle.goal_lexer.specs.declared.tokens.TokenKind.TheVariants as token
@@ -22,11 +22,6 @@ block_plan before = record {
   deps = map (dep_by (defined_of before)) (deps_of before);
   notes = map (note_by (defined_of before)) (notes_of before);
 }
-
--- the plan is given by the token that ends the block
-abbrev pub plan_ended : TokenKind → Plan → Option Plan
-plan_ended token.Close plan = Some plan
-plan_ended _ plan = None
 
 -- behind `num_ranks` all ranks are empty
 abbrev pub first_plans : State → ℕ → List Plan → List Plan

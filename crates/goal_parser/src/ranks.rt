@@ -1,5 +1,5 @@
 //! The number of ranks, and the ranks of the blocks.
-ghost use Rattle.std.specs.Prelude.{◌≡◌, ◌≤◌, ◌++◌, [], ◌∷◌, None, OnOk, nat_eq, IfOk, false};
+ghost use Rattle.std.specs.Prelude.{◌≡◌, ◌++◌, [], ◌∷◌, None, OnOk, nat_eq, false};
 ghost use Rattle.std.specs.List.{list_any};
 ghost use Rattle.goal_parser.specs.Faults.{numbered_rank_fault, rank_fault};
 

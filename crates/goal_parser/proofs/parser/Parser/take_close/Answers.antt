@@ -1,5 +1,5 @@
-use Rattle.std.proofs.Common.{refl, sym, ◌∙◌, ◌≡◌, None, Some}
-use Rattle.goal_parser.specs.Items.{defined_of, used_of, first_unknown}
+use Rattle.std.proofs.Common.{refl, sym}
+use Rattle.goal_parser.specs.Items.{defined_of, used_of}
 use Rattle.goal_parser.proofs.KindLaws.{takes_close, refuses_close}
 use Rattle.goal_parser.proofs.parser.Parser.take_close.Goals as goal
 

@@ -1,4 +1,4 @@
-use Rattle.std.proofs.Common.{refl, sym, ◌∙◌, ◌≡◌, length, rules, arith}
+use Rattle.std.proofs.Common.{refl, ◌≡◌, length, rules, arith}
 use Rattle.goal_parser.specs.Items.{defined_of, used_of}
 use Rattle.goal_parser.proofs.KindLaws.{takes_colon, refuses_colon, on_ok, if_err}
 use Rattle.goal_parser.proofs.parser.Parser.take_colon.Goals as goal

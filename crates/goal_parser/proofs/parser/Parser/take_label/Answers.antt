@@ -1,4 +1,4 @@
-use Rattle.std.proofs.Common.{refl, sym, ◌∙◌}
+use Rattle.std.proofs.Common.{refl}
 use Rattle.goal_parser.proofs.KindLaws.{takes_earlier, takes_label}
 use Rattle.goal_parser.proofs.parser.Parser.take_label.Goals as goal
 
