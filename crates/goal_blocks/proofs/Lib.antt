@@ -6,6 +6,8 @@ pub mod Totals
 pub mod MadeFits
 pub mod Trees
 pub mod RootedFits
+pub mod Tree
+pub mod TreeCases
 pub mod MadeAccepted
 pub mod PlanBy
 pub mod EntryFacts
@@ -29,6 +31,9 @@ pub mod EndsBefore
 pub mod NoFault
 pub mod OneFault
 pub mod Ring
+pub mod TreeMessages
+pub mod Shares
+pub mod TreeSizes
 mod FaultExamples
 pub mod Levels
 pub mod Flow

@@ -1,5 +1,5 @@
 -- Going ahead in a ring and going back undo each other.
-use Rattle.std.proofs.Common.{ℕ, ◌+◌, ◌-◌, ◌<◌, ◌≤◌, ◌≡◌, ◌⊎◌, inl, inr, ⊎_elim, Bool, true, false, nat_lt, if◌then◌else◌, refl, arith, ltb-true}
+use Rattle.std.proofs.Common.{ℕ, ◌+◌, ◌-◌, ◌<◌, ◌≤◌, ◌≡◌, ◌⊎◌, inl, inr, ⊎_elim, Bool, true, false, nat_lt, if◌then◌else◌, refl, sym, ap, ◌∙◌, arith, ltb-true}
 use Rattle.std.proofs.lemmas.Bool.{both_ways, cases_lt, lt-ltb}
 use Rattle.goal_blocks.specs.Positions.{ahead, back}
 
@@ -36,3 +36,16 @@ ahead_back ranks r s p q = go (back_is ranks r s) (ahead_is ranks (back ranks r 
     go (inl (a, e)) (inr (b, f)) = omega (arith, p, q, a, e, b, f)
     go (inr (a, e)) (inl (b, f)) = omega (arith, p, q, a, e, b, f)
     go (inr (a, e)) (inr (b, f)) = omega (arith, p, q, a, e, b, f)
+
+-- the ranks that are as far from a root are one
+pub back_same : (ranks r k root : ℕ) → r < ranks → k < ranks → root < ranks → back ranks k root ≡ back ranks r root → k ≡ r
+back_same ranks r k root p q z e =
+    sym (ahead_back ranks k root q (omega (arith, z))) ∙ ap (λ (v : ℕ). ahead ranks v root) e ∙ ahead_back ranks r root p (omega (arith, z))
+
+-- the root has the virtual rank 0, and no other rank has
+pub root_virtual : (ranks root : ℕ) → back ranks root root ≡ 0
+root_virtual ranks root =
+    ⊎_elim (λ p. absurd (let lt = p.0 in omega (arith, lt))) (λ p. let e = p.1 in omega (arith, e)) (back_is ranks root root)
+
+pub is_root : (ranks r root : ℕ) → r < ranks → root < ranks → back ranks r root ≡ 0 → r ≡ root
+is_root ranks r root p z e = back_same ranks root r root z p z (e ∙ sym (root_virtual ranks root))

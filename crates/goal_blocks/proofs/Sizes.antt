@@ -12,7 +12,7 @@ use Rattle.goal_blocks.specs.Weight.{sum_below}
 use Rattle.goal_blocks.specs.Certification.{NamesLowSlots, moved_count, IsSmall}
 use Rattle.goal_blocks.specs.Entries.{Entry, op_of, notes_of, plan_by, made_by}
 use Rattle.goal_blocks.proofs.Fitting.{All-flat_map, All-range, sum_by-map}
-use Rattle.goal_blocks.proofs.Totals.{entries_few}
+use Rattle.goal_blocks.proofs.Totals.{sum_by_le, entries_few}
 
 sum_by-flat_map : {X Y : Type 0} (f : Y → ℕ) (g : X → List Y) (xs : List X) → sum_by f (flat_map g xs) ≡ sum_by (λ x. sum_by f (g x)) xs
 sum_by-flat_map f g [] = refl
@@ -61,10 +61,15 @@ module _ (ranks : ℕ) (count : ℕ → ℕ) (e : ℕ → ℕ → Entry) where
   moves_made =
       sum_by-map (λ (p : Plan). sum_by moved_count p.notes) (λ (r : ℕ). plan_by (count r) (e r)) (range_with_len 0 ranks) ∙ ap (λ (f : ℕ → ℕ). sum_by f (range_with_len 0 ranks)) (λ i r. moves_of_rank r i)
 
-  -- entries of which each moves at most c slots, all of them low, and not too many
-  pub entries_small : (c : ℕ) → ((r : ℕ) → r < ranks → count r ≤ 2048) → ((r i : ℕ) → r < ranks → i < count r → All NamesLowSlots (notes_of i (e r i))) → ((r i : ℕ) → r < ranks → i < count r → sum_by moved_count (notes_of i (e r i)) ≤ c) → sum_by count (range_with_len 0 ranks) * c ≤ 2 ^ 24 → IsSmall (made_by ranks count e)
-  entries_small c few low each total = record {
+  -- entries of which each moves at most so many slots, all of them low, and not too many together
+  pub entries_moved : (load : ℕ → ℕ → ℕ) → ((r : ℕ) → r < ranks → count r ≤ 2048) → ((r i : ℕ) → r < ranks → i < count r → All NamesLowSlots (notes_of i (e r i))) → ((r i : ℕ) → r < ranks → i < count r → sum_by moved_count (notes_of i (e r i)) ≤ load r i) → sum_by (λ (r : ℕ). sum_by (load r) (range_with_len 0 (count r))) (range_with_len 0 ranks) ≤ 2 ^ 24 → IsSmall (made_by ranks count e)
+  entries_moved load few low each total = record {
     operations = All-made (λ (p : Plan). length p.ops ≤ 2048) (λ r l. few_ops r (few r l));
     slots = All-made (λ (p : Plan). All NamesLowSlots p.notes) (λ r l. low_notes r (λ i m. low r i l m));
-    moves = subst (λ (n : ℕ). n ≤ 2 ^ 24) (sym moves_made) (le_trans (entries_few ranks count (λ r i. sum_by moved_count (notes_of i (e r i))) c each) total);
+    moves = subst (λ (n : ℕ). n ≤ 2 ^ 24) (sym moves_made) (le_trans (sum_by_le (λ (r : ℕ). sum_by (λ (i : ℕ). sum_by moved_count (notes_of i (e r i))) (range_with_len 0 (count r))) (λ (r : ℕ). sum_by (load r) (range_with_len 0 (count r))) (range_with_len 0 ranks) (All-range (λ (r : ℕ). sum_by (λ (i : ℕ). sum_by moved_count (notes_of i (e r i))) (range_with_len 0 (count r)) ≤ sum_by (load r) (range_with_len 0 (count r))) ranks (λ r l. sum_by_le (λ (i : ℕ). sum_by moved_count (notes_of i (e r i))) (load r) (range_with_len 0 (count r)) (All-range (λ (i : ℕ). sum_by moved_count (notes_of i (e r i)) ≤ load r i) (count r) (λ i m. each r i l m))))) total);
   }
+
+  -- the same, where each moves at most c slots
+  pub entries_small : (c : ℕ) → ((r : ℕ) → r < ranks → count r ≤ 2048) → ((r i : ℕ) → r < ranks → i < count r → All NamesLowSlots (notes_of i (e r i))) → ((r i : ℕ) → r < ranks → i < count r → sum_by moved_count (notes_of i (e r i)) ≤ c) → sum_by count (range_with_len 0 ranks) * c ≤ 2 ^ 24 → IsSmall (made_by ranks count e)
+  entries_small c few low each total =
+      entries_moved (λ r i. c) few low each (le_trans (entries_few ranks count (λ r i. c) c (λ r i l m. omega arith)) total)

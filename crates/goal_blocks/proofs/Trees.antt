@@ -8,13 +8,9 @@ use Rattle.std.proofs.lemmas.Bool.Decides.{nat_tests}
 use Rattle.std.proofs.lemmas.List.FromFn.{sum_by-map-range_with_len_more}
 use Rattle.std.proofs.lemmas.Nat.{pow_pos}
 use Rattle.goal_blocks.specs.Positions.{back, digits, low, rounds}
+use Rattle.goal_blocks.specs.Weight.{sum_below}
 use Rattle.goal_blocks.proofs.Fitting.{sum_by-map}
 use Rattle.goal_blocks.proofs.RingAndTree.{digits_low, digits_few}
-
--- f 0 + .. + f (n - 1)
-sum_below : (ℕ → ℕ) → ℕ → ℕ
-sum_below f zero = 0
-sum_below f (suc n) = sum_below f n + f n
 
 range_more : (f : ℕ → ℕ) (n : ℕ) → sum_by f (range_with_len 0 (n + 1)) ≡ sum_by f (range_with_len 0 n) + f n
 range_more f n =
@@ -22,17 +18,17 @@ range_more f n =
     ∙ sum_by-map-range_with_len_more (λ x. x) f 0 n n (zero-add n)
     ∙ ap (λ s. s + f n) (sum_by-map (λ x. x) f (range_with_len 0 n))
 
-sum_range : (f : ℕ → ℕ) (n : ℕ) → sum_by f (range_with_len 0 n) ≡ sum_below f n
+pub sum_range : (f : ℕ → ℕ) (n : ℕ) → sum_by f (range_with_len 0 n) ≡ sum_below n f
 unfolding sum_below
 sum_range f zero = refl
 sum_range f (suc n) = ap (λ m. sum_by f (range_with_len 0 m)) (sym (add-one n)) ∙ range_more f n ∙ ap (λ s. s + f n) (sum_range f n)
 
-sum_below_le : (f g : ℕ → ℕ) (n : ℕ) → ((i : ℕ) → i < n → f i ≤ g i) → sum_below f n ≤ sum_below g n
+pub sum_below_le : (f g : ℕ → ℕ) (n : ℕ) → ((i : ℕ) → i < n → f i ≤ g i) → sum_below n f ≤ sum_below n g
 unfolding sum_below
 sum_below_le f g zero h = omega arith
 sum_below_le f g (suc n) h = omega (arith, sum_below_le f g n (λ i l. h i (omega arith)), h n (omega arith))
 
-sum_below_more : (f : ℕ → ℕ) (n k : ℕ) → sum_below f n ≤ sum_below f (n + k)
+pub sum_below_more : (f : ℕ → ℕ) (n k : ℕ) → sum_below n f ≤ sum_below (n + k) f
 unfolding sum_below
 sum_below_more f n zero = rw (add-zero n) (omega arith)
 sum_below_more f n (suc k) =
@@ -40,7 +36,7 @@ sum_below_more f n (suc k) =
     let le = sum_below_more f n k in
     rw e (omega (arith, le))
 
-sum_below_add : (f : ℕ → ℕ) (a b : ℕ) → sum_below f (a + b) ≡ sum_below f a + sum_below (λ i. f (a + i)) b
+pub sum_below_add : (f : ℕ → ℕ) (a b : ℕ) → sum_below (a + b) f ≡ sum_below a f + sum_below b (λ i. f (a + i))
 unfolding sum_below
 sum_below_add f a zero = rw (add-zero a) (omega arith)
 sum_below_add f a (suc b) =
@@ -49,7 +45,7 @@ sum_below_add f a (suc b) =
     rw e (omega (arith, more))
 
 -- twice as many numbers, by pairs
-sum_below_pairs : (f : ℕ → ℕ) (n : ℕ) → sum_below f (n + n) ≡ sum_below (λ u. f (u + u) + f (u + u + 1)) n
+sum_below_pairs : (f : ℕ → ℕ) (n : ℕ) → sum_below (n + n) f ≡ sum_below n (λ u. f (u + u) + f (u + u + 1))
 unfolding sum_below
 sum_below_pairs f zero = refl
 sum_below_pairs f (suc n) =
@@ -58,12 +54,12 @@ sum_below_pairs f (suc n) =
     let more = sum_below_pairs f n in
     rw e (omega (arith, more, odd))
 
-sum_below_suc : (f : ℕ → ℕ) (n : ℕ) → sum_below (λ u. suc (f u)) n ≡ sum_below f n + n
+sum_below_suc : (f : ℕ → ℕ) (n : ℕ) → sum_below n (λ u. suc (f u)) ≡ sum_below n f + n
 unfolding sum_below
 sum_below_suc f zero = refl
 sum_below_suc f (suc n) = let more = sum_below_suc f n in omega (arith, more)
 
-sum_below_twice : (f : ℕ → ℕ) (n : ℕ) → sum_below (λ u. 2 * f u + 1) n ≡ 2 * sum_below f n + n
+sum_below_twice : (f : ℕ → ℕ) (n : ℕ) → sum_below n (λ u. 2 * f u + 1) ≡ 2 * sum_below n f + n
 unfolding sum_below
 sum_below_twice f zero = refl
 sum_below_twice f (suc n) = let more = sum_below_twice f n in omega (arith, more)
@@ -101,20 +97,20 @@ halvings_zero : (k : ℕ) → halvings k 0 ≡ 0
 unfolding halvings
 halvings_zero k = refl
 
-sum_below_none : (f : ℕ → ℕ) (n : ℕ) → ((i : ℕ) → f i ≡ 0) → sum_below f n ≡ 0
+pub sum_below_none : (f : ℕ → ℕ) (n : ℕ) → ((i : ℕ) → f i ≡ 0) → sum_below n f ≡ 0
 unfolding sum_below
 sum_below_none f zero h = refl
 sum_below_none f (suc n) h = omega (arith, sum_below_none f n h, h n)
 
-sum_below_one : (f : ℕ → ℕ) → sum_below f 1 ≡ f 0
+pub sum_below_one : (f : ℕ → ℕ) → sum_below 1 f ≡ f 0
 unfolding sum_below
 sum_below_one f = zero-add (f 0)
 
 -- the numbers below 2^j can be halved at most 2^j times together
-halvings_sum : (j k : ℕ) → sum_below (halvings k) (2 ^ j) ≤ 2 ^ j
+halvings_sum : (j k : ℕ) → sum_below (2 ^ j) (halvings k) ≤ 2 ^ j
 halvings_sum zero k = few
   where
-    few : sum_below (halvings k) 1 ≤ 1
+    few : sum_below 1 (halvings k) ≤ 1
     few = rw (sum_below_one (halvings k), halvings_zero k) (omega arith)
 halvings_sum (suc j) zero = rw (sum_below_none (halvings 0) (2 ^ suc j) halvings_none) (omega arith)
 halvings_sum (suc j) (suc k) =
@@ -123,12 +119,53 @@ halvings_sum (suc j) (suc k) =
     let le = sum_below_le (λ u. halvings (suc k) (u + u) + halvings (suc k) (u + u + 1)) (λ u. suc (halvings k u)) (2 ^ j) (λ u l. omega (arith, halvings_even k u, halvings_odd k u)) in
     rw (e, sum_below_pairs (halvings (suc k)) (2 ^ j)) (omega (arith, rest, le, sum_below_suc (halvings k) (2 ^ j)))
 
+-- the power of two of the lowest binary digit 1 of v, looking at so many digits, and 0 for 0
+unfoldable pub lowest_power : ℕ → ℕ → ℕ
+lowest_power k v = if eqb v 0 then 0 else 2 ^ count_trailing_zeros k v
+
+lowest_power_odd : (k u : ℕ) → lowest_power (suc k) (u + u + 1) ≡ 1
+unfolding lowest_power count_trailing_zeros
+lowest_power_odd k u =
+    let odd : (u + u + 1) % 2 ≡ 1 = omega arith in
+    let some : eqb (u + u + 1) 0 ≡ false = grind (arith, nat_tests) in
+    rw (some, odd) refl
+
+lowest_power_even : (k u : ℕ) → lowest_power (suc k) (u + u) ≤ 2 * lowest_power k u
+unfolding lowest_power count_trailing_zeros
+lowest_power_even k zero = omega arith
+lowest_power_even k (suc u) =
+    let even : (suc u + suc u) % 2 ≡ 0 = omega arith in
+    let half : (suc u + suc u) / 2 ≡ suc u = omega arith in
+    let some : eqb (suc u + suc u) 0 ≡ false = grind (arith, nat_tests) in
+    let some' : eqb (suc u) 0 ≡ false = grind (arith, nat_tests) in
+    let up = pow-suc 2 (count_trailing_zeros k (suc u)) in
+    rw (some, some', even, half) (omega (arith, up))
+
+lowest_power_zero : (k : ℕ) → lowest_power k 0 ≡ 0
+unfolding lowest_power
+lowest_power_zero k = refl
+
+-- those of the numbers below 2^j are together at most half of j * 2^j
+pub lowest_powers_sum : (j k : ℕ) → j ≤ k → 2 * sum_below (2 ^ j) (lowest_power k) ≤ j * 2 ^ j
+lowest_powers_sum zero k le = few
+  where
+    few : 2 * sum_below 1 (lowest_power k) ≤ 0 * 1
+    few = rw (sum_below_one (lowest_power k), lowest_power_zero k) (omega arith)
+lowest_powers_sum (suc j) zero le = absurd (omega (arith, le))
+lowest_powers_sum (suc j) (suc k) le =
+    let e : 2 ^ suc j ≡ 2 ^ j + 2 ^ j = omega (arith, pow-suc 2 j) in
+    let rest = lowest_powers_sum j k (omega (arith, le)) in
+    let pairs = sum_below_le (λ u. lowest_power (suc k) (u + u) + lowest_power (suc k) (u + u + 1)) (λ u. 2 * lowest_power k u + 1) (2 ^ j) (λ u l. omega (arith, lowest_power_even k u, lowest_power_odd k u)) in
+    let twice = sum_below_twice (lowest_power k) (2 ^ j) in
+    let product : suc j * (2 ^ j + 2 ^ j) ≡ 2 * (j * 2 ^ j) + 2 ^ j + 2 ^ j = grind arith in
+    rw (e, sum_below_pairs (lowest_power (suc k)) (2 ^ j), product) (omega (arith, rest, pairs, twice))
+
 module _ (ranks : ℕ) (few : ranks ≤ 65536) where
-  rounds_zero : rounds ranks 0 ≡ digits (ranks - 1)
+  pub rounds_zero : rounds ranks 0 ≡ digits (ranks - 1)
   unfolding rounds
   rounds_zero = refl
 
-  rounds_above : (v : ℕ) → 0 < v → rounds ranks v ≡ min (low v) (digits (ranks - 1 - v))
+  pub rounds_above : (v : ℕ) → 0 < v → rounds ranks v ≡ min (low v) (digits (ranks - 1 - v))
   unfolding rounds
   rounds_above v some =
       let e : eqb v 0 ≡ false = grind (arith, nat_tests) in
@@ -156,7 +193,7 @@ module _ (ranks : ℕ) (few : ranks ≤ 65536) where
       rw (rounds_above (1 + w) (omega arith), e) (omega arith)
 
   -- the children of all virtual ranks
-  rounds_sum : (n : ℕ) → n ≤ 65536 → sum_below (rounds ranks) n ≤ 65552
+  rounds_sum : (n : ℕ) → n ≤ 65536 → sum_below n (rounds ranks) ≤ 65552
   rounds_sum zero le = omega (arith, sum_below_le (rounds ranks) (λ v. 0) 0 (λ i l. absurd (omega arith)), sum_below_none (λ v. 0) 0 (λ i. refl))
   rounds_sum (suc m) le =
       let n : suc m ≡ 1 + m = omega arith in
@@ -167,13 +204,13 @@ module _ (ranks : ℕ) (few : ranks ≤ 65536) where
       let whole = sum_below_add (halvings 32) 1 m in
       let grown = sum_below_more (halvings 32) (1 + m) (65536 - (1 + m)) in
       let size : 1 + m + (65536 - (1 + m)) ≡ 65536 = omega arith in
-      let all : sum_below (halvings 32) 65536 ≤ 65536 = halvings_sum 16 32 in
-      let grown' : sum_below (halvings 32) (1 + m) ≤ sum_below (halvings 32) 65536 = rw size at grown in
+      let all : sum_below 65536 (halvings 32) ≤ 65536 = halvings_sum 16 32 in
+      let grown' : sum_below (1 + m) (halvings 32) ≤ sum_below 65536 (halvings 32) = rw size at grown in
       rw n (omega (arith, parts, first, root, rest, whole, grown', all))
 
   -- a sum over ranks is one over virtual ranks
   module _ (root : ℕ) (rooted : root < ranks) where
-    turned : (f : ℕ → ℕ) → sum_below (λ r. f (back ranks r root)) ranks ≤ sum_below f ranks
+    pub turned : (f : ℕ → ℕ) → sum_below ranks (λ r. f (back ranks r root)) ≤ sum_below ranks f
     unfolding back
     turned f =
         let a : ranks ≡ root + (ranks - root) = omega arith in
@@ -190,8 +227,8 @@ module _ (ranks : ℕ) (few : ranks ≤ 65536) where
         let t : ltb (root + i) root ≡ false = grind (arith, nat_tests) in
         let e : root + i - root ≡ i = omega arith in
         rw (t, e) (omega arith)) in
-        let a' = ap (λ n. sum_below (λ r. f (if ltb r root then r + ranks - root else r - root)) n) a in
-        let b' = ap (λ n. sum_below f n) b in
+        let a' = ap (λ n. sum_below n (λ r. f (if ltb r root then r + ranks - root else r - root))) a in
+        let b' = ap (λ n. sum_below n f) b in
         omega (arith, left, right, low, high, a', b')
 
     -- ranks that each have two operations for each child, and one more, or fewer
