@@ -51,7 +51,7 @@ pub data Precedes (w : ℕ → Entry) : ℕ → ℕ → Type 0 where
   now : {i j : ℕ} → Mem i (w j).needs → Precedes w i j
   after : {i j : ℕ} → (k : ℕ) → Mem k (w j).needs → Precedes w i k → Precedes w i j
 
-mem_map : {A B : Type 0} (f : A → B) (x : A) (xs : List A) → Mem x xs → Mem (f x) (map f xs)
+pub mem_map : {A B : Type 0} (f : A → B) (x : A) (xs : List A) → Mem x xs → Mem (f x) (map f xs)
 mem_map f x [] m = absurd m
 mem_map f x (y ∷ ys) (inl e) = inl (ap f e)
 mem_map f x (y ∷ ys) (inr m) = inr (mem_map f x ys m)
@@ -65,7 +65,7 @@ abbrev pub op_at : ℕ → ℕ → OpId
 op_at r i = record { rank = r; op = i }
 
 -- a sum over all operations, rank by rank
-sum_places : (f : OpId → ℕ) (r i : ℕ) (ops : List Op) → sum_by f (places_of_rank r i ops) ≡ sum_by (λ (k : ℕ). f (op_at r k)) (range_with_len i (length ops))
+pub sum_places : (f : OpId → ℕ) (r i : ℕ) (ops : List Op) → sum_by f (places_of_rank r i ops) ≡ sum_by (λ (k : ℕ). f (op_at r k)) (range_with_len i (length ops))
 unfolding places_of_rank
 sum_places f r i [] = refl
 sum_places f r i (o ∷ os) =

@@ -38,6 +38,8 @@ mod FaultExamples
 pub mod Levels
 pub mod Flow
 pub mod Light
+pub mod MovedSlots
+pub mod HeldFew
 pub mod Blueprint
 pub mod Sizes
 pub mod BcastCertified

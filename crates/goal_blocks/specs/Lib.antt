@@ -6,6 +6,7 @@ pub mod Race
 pub mod Values
 pub mod Weight
 pub mod Certification
+pub mod HeldFew
 pub mod Collectives
 pub mod Entries
 pub mod Fitting

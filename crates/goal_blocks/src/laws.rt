@@ -4,6 +4,7 @@ ghost use Rattle.goal_blocks.specs.Walk.{OneWalk, SomeWalk};
 ghost use Rattle.goal_blocks.specs.Levels.{LevelsEnd};
 ghost use Rattle.goal_blocks.specs.Certification.{CertifiedEndsEverywhere, CertifiedConflictsInOneOrder, MatchedHoldsAsTheWalk, CertifiedIsRightEverywhere};
 ghost use Rattle.goal_blocks.specs.Certified.{BcastOfTwoIsCertified};
+ghost use Rattle.goal_blocks.specs.HeldFew.{ValuesStaySingle, HeldStaysFew};
 ghost use Rattle.goal_blocks.specs.Faults.{FaultExcludesCertified, FaultlessIsCertified, OneFirstFault};
 ghost use Rattle.goal_blocks.specs.Positions.{AheadAndBack};
 ghost use Rattle.goal_blocks.specs.Race.{OrderIsKept, ConflictsComeInOneOrder};
@@ -56,6 +57,16 @@ pub fn laws_of_certified_schedules()
     ensures bcast_of_two_is_certified { BcastOfTwoIsCertified }
     ensures certified_ends_everywhere { CertifiedEndsEverywhere }
     ensures certified_conflicts_in_one_order { CertifiedConflictsInOneOrder }
+{}
+
+/// The laws of held contributions, for every schedule in which no operation adds, where each slot has at most one
+/// contribution at the start. They hold after all actions, so in each prefix of each interleaving, whatever is eager:
+///
+/// - `values_stay_single`: each value, in a slot or read by a send, has at most one contribution.
+/// - `held_stays_few`: there are together at most as many as at the start, and one for each slot that a move names.
+pub fn laws_of_held_contributions()
+    ensures values_stay_single { ValuesStaySingle }
+    ensures held_stays_few { HeldStaysFew }
 {}
 
 /// The laws of the faults for which a schedule is not certified, for every start of the slots and whatever is wanted of
