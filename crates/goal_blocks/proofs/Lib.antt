@@ -55,7 +55,11 @@ pub mod Wishes
 pub mod Writes
 pub mod SlotLists
 pub mod SlotRows
+pub mod Doubling
+pub mod Runs
+pub mod Gathered
 pub mod Rounds
 pub mod BarrierCertified
 pub mod AllreduceCertified
 pub mod ReduceScatterCertified
+pub mod ReduceCertified

@@ -1,9 +1,9 @@
 -- Schedules in rounds: in each round a rank sends what slot 0 has, and adds to it what it hears. Where the two ends of a message
 -- know each other they are certified, if what is gained in the end is wanted.
-use Rattle.std.proofs.Common.{⊎_elim, ℕ, zero, suc, ◌+◌, ◌*◌, ◌/◌, ◌%◌, ◌^◌, ◌<◌, ◌≤◌, ◌≡◌, ◌==◌, ◌⊎◌, nat_lt, inl, inr, Bool, true, false, List, [], ◌∷◌, map, length, All, Option, Some, if◌then◌else◌, refl, sym, ap, ◌∙◌, subst, arith, flat_map}
+use Rattle.std.proofs.Common.{⊎_elim, ℕ, zero, suc, ◌+◌, ◌*◌, ◌/◌, ◌%◌, ◌^◌, ◌<◌, ◌≤◌, ◌≡◌, ◌==◌, ◌⊎◌, inl, inr, Bool, true, false, List, [], ◌∷◌, map, length, All, Option, Some, if◌then◌else◌, refl, sym, ap, ◌∙◌, subst, arith, flat_map}
 use Rattle.std.specs.List.{range_with_len, sum_by}
 use Rattle.std.proofs.Math.Nat.{pow-suc}
-use Rattle.std.proofs.lemmas.Bool.{lt-ltb, ltb-true, ne_eqb, cases_lt, cases_eq}
+use Rattle.std.proofs.lemmas.Bool.{ne_eqb, cases_lt, cases_eq}
 use Rattle.std.proofs.lemmas.List.Sums.{sum_by-cons, sum_by-append}
 use Rattle.std.proofs.lemmas.Nat.{pow_pos}
 use Rattle.goal_graph.specs.declared.action.OpId.{OpId}
@@ -22,6 +22,7 @@ use Rattle.goal_blocks.proofs.EntryFacts.{slots_of_span}
 use Rattle.goal_blocks.proofs.MadePaired.{at, same_place}
 use Rattle.goal_blocks.proofs.AllgatherCertified.{moved_slot}
 use Rattle.goal_blocks.proofs.PlanBy.{range_more}
+use Rattle.goal_blocks.proofs.Doubling.{doubling, doubling_zero, doubling_early, doubling_high}
 use Rattle.goal_blocks.proofs.Slim.{All_one}
 use Rattle.goal_blocks.proofs.Sizes.{sum_below_few, entries_small}
 use Rattle.goal_blocks.proofs.Totals.{sum_range_few}
@@ -354,45 +355,11 @@ module _ (ranks n bytes : ℕ) (to from : ℕ → ℕ → ℕ) (to_rank : (r k :
     }
 
     -- bounds: in slot 0 what is gained in the end, in the slot of a round, and in its message, what is gained before it
-    cap : ℕ → ℕ → ℕ
-    cap r zero = 2 ^ n
-    cap r (suc k) = if nat_lt k n then 2 ^ k else 0
+    abbrev cap : ℕ → ℕ → ℕ
+    cap r k = doubling n k
 
     load : ℕ → ℕ → ℕ
     load r i = if i % 3 == 0 then 2 ^ (i / 3) else 0
-
-    cap_early : (r k : ℕ) → k < n → cap r (suc k) ≡ 2 ^ k
-    unfolding cap
-    cap_early r k l = rw (lt-ltb k n l) refl
-
-    cap_late : (r k : ℕ) → n ≤ k → cap r (suc k) ≡ 0
-    unfolding cap
-    cap_late r k g = go (nat_lt k n) refl
-      where
-        go : (b : Bool) → nat_lt k n ≡ b → ◌≡◌ {A = ℕ} (if b then 2 ^ k else 0) 0
-        go true e = absurd (let low = ltb-true k n e in omega (arith, low, g))
-        go false e = refl
-
-    cap_round : (r k : ℕ) → cap r (suc k) ≤ 2 ^ k
-    cap_round r k =
-        ⊎_elim (λ l. let e = cap_early r k l in omega (arith, e)) (λ g. let e = cap_late r k g in omega (arith, e)) (cases_lt k n)
-
-    caps_low : (r m : ℕ) → sum_below (suc m) (cap r) + 1 ≤ 2 ^ n + 2 ^ m
-    unfolding sum_below cap
-    caps_low r zero = omega arith
-    caps_low r (suc m) =
-        let rest = caps_low r m in
-        let here = cap_round r m in
-        let twice = pow-suc 2 m in
-        omega (arith, rest, here, twice)
-
-    caps_high : (r m : ℕ) → n ≤ m → sum_below (suc m) (cap r) + 1 ≤ 2 ^ n + 2 ^ n
-    unfolding sum_below
-    caps_high r zero g =
-        let none : n ≡ 0 = omega (arith, g) in
-        subst (λ (k : ℕ). sum_below 1 (cap r) + 1 ≤ 2 ^ n + 2 ^ k) (sym none) (caps_low r 0)
-    caps_high r (suc m) g =
-        ⊎_elim (λ e. subst (λ (k : ℕ). sum_below (suc (suc m)) (cap r) + 1 ≤ 2 ^ n + 2 ^ k) (sym e) (caps_low r (suc m))) (λ d. let rest = caps_high r m (omega (arith, g, d)) in let here = cap_late r m (omega (arith, g, d)) in omega (arith, rest, here)) (cases_eq n (suc m))
 
     load_send : (r k : ℕ) → load r (3 * k) ≡ 2 ^ k
     unfolding load
@@ -425,13 +392,9 @@ module _ (ranks n bytes : ℕ) (to from : ℕ → ℕ → ℕ) (to_rank : (r k :
 
     module _ (first_few : (r : ℕ) → length (first r 0) ≤ 1) (first_none : (r k : ℕ) → first r (suc k) ≡ []) (few : ranks ≤ 2048) (few_gained : 2 ^ n ≤ 2048) (few_rounds : n ≤ 11) where
       first_cap : (r k : ℕ) → length (first r k) ≤ cap r k
-      unfolding cap
-      first_cap r zero = let one = first_few r in let some = pow_pos n in omega (arith, one, some)
+      first_cap r zero =
+          let one = first_few r in let some = pow_pos n in let room = doubling_zero n in omega (arith, one, some, room)
       first_cap r (suc k) = subst (λ (v : Value). length v ≤ cap r (suc k)) (sym (first_none r k)) (omega arith)
-
-      cap_zero : (r : ℕ) → cap r 0 ≡ 2 ^ n
-      unfolding cap
-      cap_zero r = refl
 
       leaves_cap : (r i s : ℕ) → IsThere ranks rounds_count rounds_entry r i → Mem s (writes (rounds_entry r i)) → length (rounds_leaves r i s) ≤ cap r s
       leaves_cap r i s there w = go (writes_are r i s w)
@@ -440,12 +403,12 @@ module _ (ranks n bytes : ℕ) (to from : ℕ → ℕ → ℕ) (to_rank : (r k :
           go (inl (k, e, f)) =
               let inside = there.1 in
               let is = ap length (leaves_other r i k s (omega (arith, e)) (omega (arith, f))) ∙ length-gained k (from r k) in
-              let room = cap_early r k (omega (arith, inside, e)) in
+              let room = doubling_early n k (omega (arith, inside, e)) in
               let same : suc k ≡ s = omega (arith, f) in
               subst (λ (m : ℕ). length (rounds_leaves r i s) ≤ cap r m) same (omega (arith, is, room))
           go (inr (k, e, f)) =
               let inside = there.1 in
-              subst (λ (m : ℕ). length (rounds_leaves r i m) ≤ cap r m) f (let is = ap length (leaves_zero r i k (omega (arith, e))) ∙ length-gained (suc k) r in let room = cap_zero r in let le = pow_le (suc k) n (omega (arith, inside, e)) in omega (arith, is, room, le))
+              subst (λ (m : ℕ). length (rounds_leaves r i m) ≤ cap r m) f (let is = ap length (leaves_zero r i k (omega (arith, e))) ∙ length-gained (suc k) r in let room = doubling_zero n in let le = pow_le (suc k) n (omega (arith, inside, e)) in omega (arith, is, room, le))
 
       finds_load : (t : Turn) → sum_by (λ (v : Value). length v) (map (rounds_finds t.sender (3 * t.round)) (moved (rounds_entry t.sender (3 * t.round)))) ≤ load t.sender (3 * t.round)
       finds_load t =
@@ -455,7 +418,7 @@ module _ (ranks n bytes : ℕ) (to from : ℕ → ℕ → ℕ) (to_rank : (r k :
 
       total : sum_below ranks (λ r. sum_below 65536 (cap r)) + sum_by (λ r. sum_by (load r) (range_with_len 0 (rounds_count r))) (range_with_len 0 ranks) ≤ 2 ^ 24
       total =
-          let stores = sum_below_few ranks 4096 (λ r. sum_below 65536 (cap r)) (λ r l. let s = caps_high r 65535 (omega (arith, few_rounds)) in omega (arith, s, few_gained)) in
+          let stores = sum_below_few ranks 4096 (λ r. sum_below 65536 (cap r)) (λ r l. let s = doubling_high n 65535 (omega (arith, few_rounds)) in omega (arith, s, few_gained)) in
           let loads = sum_range_few (λ r. sum_by (load r) (range_with_len 0 (rounds_count r))) ranks 2048 (λ r l. let s = loads_few r n in omega (arith, s, few_gained)) in
           omega (arith, stores, loads, few)
 

@@ -45,7 +45,7 @@ block_sum v (suc n) =
     let rest = block_sum v n in
     ⊎_elim (λ lt. let none = outside_block v n lt in omega (arith, rest, none, lt)) (λ ge. ⊎_elim (λ lt. let one = is_in_block v n ge lt in omega (arith, rest, one, lt, ge)) (λ past. let none = past_block v n past in omega (arith, rest, none, past, ge)) (cases_lt n (v + 2 ^ low v))) (cases_lt n v)
 
-sum_below_times : (c : ℕ) (f : ℕ → ℕ) (n : ℕ) → sum_below n (λ k. c * f k) ≡ c * sum_below n f
+pub sum_below_times : (c : ℕ) (f : ℕ → ℕ) (n : ℕ) → sum_below n (λ k. c * f k) ≡ c * sum_below n f
 unfolding sum_below
 sum_below_times c f zero = omega arith
 sum_below_times c f (suc n) = let rest = sum_below_times c f n in grind (arith, rest)

@@ -4,7 +4,7 @@ use Rattle.std.specs.Prelude.{ℕ, ◌≤◌, List, length}
 use Rattle.goal_base.specs.declared.limits.TheConstants.{MAX_BYTES}
 use Rattle.goal_graph.specs.Schedule.{Plan}
 use Rattle.goal_blocks.specs.declared.collective.Collective.{Collective}
-use Rattle.goal_blocks.specs.declared.collective.Collective.TheVariants.{Bcast, Barrier, Allgather, Allreduce, Alltoall, ReduceScatter, Scan}
+use Rattle.goal_blocks.specs.declared.collective.Collective.TheVariants.{Bcast, Barrier, Allgather, Allreduce, Alltoall, Reduce, ReduceScatter, Scan}
 use Rattle.goal_blocks.specs.Collectives.{initial, wanted}
 use Rattle.goal_blocks.specs.Certification.{IsCertified, IsRightEverywhere}
 use Rattle.goal_blocks.specs.Generated.{made, IsPossible}
@@ -23,6 +23,7 @@ IsCertifiedByProof Barrier ranks = ranks ≤ 2048
 IsCertifiedByProof Allgather ranks = Unit {0}
 IsCertifiedByProof Allreduce ranks = ranks ≤ 2048
 IsCertifiedByProof Alltoall ranks = Unit {0}
+IsCertifiedByProof (Reduce root) ranks = Unit {0}
 IsCertifiedByProof ReduceScatter ranks = Unit {0}
 IsCertifiedByProof Scan ranks = Unit {0}
 IsCertifiedByProof _ ranks = ⊥
