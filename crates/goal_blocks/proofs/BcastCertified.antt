@@ -1,5 +1,5 @@
 -- The broadcast is certified, for every number of ranks, every root and every size.
-use Rattle.std.proofs.Common.{⊎_elim, ℕ, zero, suc, ◌+◌, ◌^◌, ◌<◌, ◌≤◌, ◌≡◌, ◌==◌, ◌&&◌, ◌⊎◌, nat_lt, inl, inr, Bool, true, false, List, [], ◌∷◌, map, length, All, Option, Some, if◌then◌else◌, refl, sym, ap, ◌∙◌, subst, arith, eq-eqb}
+use Rattle.std.proofs.Common.{ℕ, zero, suc, ◌+◌, ◌^◌, ◌<◌, ◌≤◌, ◌≡◌, ◌==◌, ◌&&◌, ◌⊎◌, nat_lt, inl, inr, Bool, true, false, List, [], ◌∷◌, map, length, All, Option, Some, if◌then◌else◌, refl, sym, ap, ◌∙◌, subst, arith, eq-eqb}
 use Rattle.std.specs.List.{range_with_len, sum_by}
 use Rattle.std.proofs.lemmas.Bool.{lt-ltb, ne_eqb}
 use Rattle.goal_graph.specs.declared.plan.Kind.{Kind}
@@ -14,13 +14,13 @@ use Rattle.goal_blocks.specs.Certification.{NamesLowSlots, moved_count, IsSmall,
 use Rattle.goal_blocks.specs.Collectives.{single, initial, is_value, wanted}
 use Rattle.goal_blocks.specs.Certified.{IsCertifiedFor}
 use Rattle.goal_blocks.specs.Entries.{Entry, notes_of}
-use Rattle.goal_blocks.specs.Positions.{ahead, back, digits}
+use Rattle.goal_blocks.specs.Positions.{back, digits}
 use Rattle.goal_blocks.specs.Made.{bcast_in, bcast_count}
 use Rattle.goal_blocks.specs.Generated.{made}
 use Rattle.goal_blocks.proofs.Orders.{Mem}
 use Rattle.goal_blocks.proofs.Slim.{All_one}
 use Rattle.goal_blocks.proofs.EntryFacts.{length_plans}
-use Rattle.goal_blocks.proofs.Ring.{ahead_is, ahead_back}
+use Rattle.goal_blocks.proofs.Ring.{is_root}
 use Rattle.goal_blocks.proofs.RingAndTree.{back_below, digits_some}
 use Rattle.goal_blocks.proofs.MadeFits.{bcast_few, bcast_fits}
 use Rattle.goal_blocks.proofs.BcastPaired.{TreeHop, tree_send, tree_recv, tree_messages}
@@ -66,15 +66,9 @@ module _ (ranks root bytes : ℕ) (rooted : root < ranks) (few : ranks ≤ 65536
   race (suc v) (suc i) zero k differ t w = inr (now (inl refl))
   race (suc v) i (suc j) k differ t w = absurd w
 
-  is_root : (r : ℕ) → r < ranks → back ranks r root ≡ 0 → r ≡ root
-  is_root r inside e =
-      let there = ahead_back ranks r root inside (omega arith) in
-      let zero_ahead = ap (λ (v : ℕ). ahead ranks v root) e in
-      ⊎_elim (λ p. let at = p.1 in omega (arith, there, zero_ahead, at)) (λ p. let past = p.0 in absurd (omega (arith, past, rooted))) (ahead_is ranks 0 root)
-
   first_at_root : (r : ℕ) → r < ranks → back ranks r root ≡ 0 → first r 0 ≡ single root 0
   unfolding initial
-  first_at_root r inside e = rw (lt-ltb r ranks inside, eq-eqb r root (is_root r inside e)) refl
+  first_at_root r inside e = rw (lt-ltb r ranks inside, eq-eqb r root (is_root ranks r root inside rooted e)) refl
 
   moved_one : (v i : ℕ) → moved (bcast_in ranks root bytes v i) ≡ 0 ∷ []
   unfolding bcast_in slots_from

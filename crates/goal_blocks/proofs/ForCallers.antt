@@ -3,6 +3,8 @@ pub use Rattle.goal_blocks.proofs.MadeAccepted.{made_accepted}
 pub use Rattle.goal_blocks.proofs.Fitting.{first_fault-of_none, lower_have_depths}
 pub use Rattle.goal_blocks.proofs.RingAndTree.{ahead_below, back_below, digits_few, digits_high, digits_low, digits_some, flipped_below}
 pub use Rattle.goal_blocks.proofs.Trees.{child_below, rounds_few}
+pub use Rattle.goal_blocks.proofs.Tree.{IsLowest, low_is_lowest}
+pub use Rattle.goal_blocks.proofs.TreeCases.{reduce_sends, reduce_hears, reduce_sums, gather_sends, gather_hears, scatter_gives_first, scatter_takes, scatter_gives}
 pub use Rattle.goal_blocks.proofs.EntryFacts.{kind_there, kind_only, needs_there, slots_there, adds_there}
 pub use Rattle.goal_blocks.proofs.MessagesPaired.{messages_paired}
 pub use Rattle.goal_blocks.proofs.Right.{certified_right}

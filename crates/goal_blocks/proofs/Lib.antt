@@ -63,3 +63,6 @@ pub mod BarrierCertified
 pub mod AllreduceCertified
 pub mod ReduceScatterCertified
 pub mod ReduceCertified
+pub mod BlockBounds
+pub mod GatherCertified
+pub mod ScatterCertified

@@ -1,5 +1,5 @@
 -- The slots of a share: those whose virtual ranks are in a block, once each.
-use Rattle.std.proofs.Common.{◌≡◌, ◌⊎◌, ℕ, zero, suc, ◌+◌, ◌-◌, ◌*◌, ◌<◌, ◌≤◌, leb, inl, inr, ⊎_elim, Bool, true, false, List, [], ◌∷◌, ◌++◌, map, flat_map, length, All, refl, sym, ap, ◌∙◌, subst, arith, min, append-nil}
+use Rattle.std.proofs.Common.{◌≡◌, ◌⊎◌, ℕ, zero, suc, ◌+◌, ◌-◌, ◌<◌, ◌≤◌, leb, inl, inr, ⊎_elim, Bool, true, false, List, [], ◌∷◌, ◌++◌, map, flat_map, length, All, refl, sym, ap, ◌∙◌, subst, arith, min, append-nil}
 use Rattle.std.specs.Prelude.{if◌then◌else◌}
 use Rattle.std.specs.List.{sum_by}
 use Rattle.std.proofs.lemmas.Bool.{cases_lt}
@@ -13,7 +13,7 @@ use Rattle.goal_graph.specs.declared.plan.Note.TheVariants.{Moves, Adds}
 use Rattle.goal_blocks.specs.Slots.{Adding, slots_from}
 use Rattle.goal_blocks.specs.Certification.{NamesLowSlots, moved_count}
 use Rattle.goal_blocks.specs.Entries.{Entry, Span, notes_of}
-use Rattle.goal_blocks.specs.Positions.{ahead, back, span, share}
+use Rattle.goal_blocks.specs.Positions.{ahead, back, share}
 use Rattle.goal_blocks.proofs.Orders.{Mem}
 use Rattle.goal_blocks.proofs.SlotLists.{slots_none}
 use Rattle.goal_blocks.proofs.EntryFacts.{slots_of_span}

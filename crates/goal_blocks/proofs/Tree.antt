@@ -1,13 +1,13 @@
 -- The binomial tree of virtual ranks: v has the children v + 2^j for the rounds j below `rounds ranks v`. A virtual rank c
 -- above 0 has the parent c - 2^low c, and is its child of the round low c. `low 0` is 32, above each round.
-use Rattle.std.proofs.Common.{◌≡◌, ◌⊎◌, ℕ, zero, suc, ◌+◌, ◌-◌, ◌*◌, ◌/◌, ◌%◌, ◌^◌, ◌<◌, ◌≤◌, inl, inr, ⊎_elim, refl, sym, ap, ◌∙◌, subst, arith, min}
+use Rattle.std.proofs.Common.{◌≡◌, ◌⊎◌, ℕ, zero, suc, ◌+◌, ◌-◌, ◌/◌, ◌%◌, ◌^◌, ◌<◌, ◌≤◌, inl, inr, ⊎_elim, refl, sym, ap, subst, arith, min}
 use Rattle.std.specs.Int.Count.{count_trailing_zeros, under, trailing_of_zero}
 use Rattle.std.proofs.Math.Nat.{pow-suc}
 use Rattle.std.proofs.Math.Pow.{pow_mono}
 use Rattle.std.proofs.lemmas.Bool.{cases_lt}
 use Rattle.goal_blocks.specs.Positions.{digits, low, rounds}
-use Rattle.goal_blocks.proofs.RingAndTree.{digits_low, digits_high, digits_few, digits_some}
-use Rattle.goal_blocks.proofs.Trees.{rounds_few, child_below, rounds_zero, rounds_above}
+use Rattle.goal_blocks.proofs.RingAndTree.{digits_low, digits_high, digits_some}
+use Rattle.goal_blocks.proofs.Trees.{rounds_few, rounds_zero, rounds_above}
 
 -- the lowest binary digit 1 of a number
 

@@ -1,8 +1,8 @@
 -- How many virtual ranks the blocks of a binomial tree have together.
-use Rattle.std.proofs.Common.{⊎_elim, ◌≡◌, ℕ, zero, suc, ◌+◌, ◌-◌, ◌*◌, ◌^◌, ◌<◌, ◌≤◌, ◌&&◌, eqb, ltb, nat_lt, nat_le, Bool, true, false, if◌then◌else◌, refl, sym, ap, ◌∙◌, subst, arith, min}
+use Rattle.std.proofs.Common.{◌∙◌, ⊎_elim, ◌≡◌, ℕ, zero, suc, ◌+◌, ◌-◌, ◌*◌, ◌^◌, ◌<◌, ◌≤◌, ◌&&◌, eqb, nat_lt, nat_le, Bool, true, false, if◌then◌else◌, refl, subst, arith, min}
 use Rattle.std.specs.List.{range_with_len, sum_by}
 use Rattle.std.proofs.Math.Nat.{le_trans, mul-le-mul_right}
-use Rattle.std.proofs.lemmas.Bool.{lt-ltb, le-leb, leb-true, ltb-true, cases_lt}
+use Rattle.std.proofs.lemmas.Bool.{lt-ltb, le-leb, cases_lt}
 use Rattle.std.proofs.lemmas.Bool.Decides.{nat_tests}
 use Rattle.goal_blocks.specs.Positions.{back, low}
 use Rattle.goal_blocks.specs.Weight.{sum_below}
@@ -89,9 +89,9 @@ module _ (ranks : ℕ) (few : ranks ≤ 65536) where
     at_slot : (ℕ → ℕ) → ℕ → ℕ
     at_slot f k = if nat_lt k ranks then f (back ranks k root) else 0
 
-    at_low : (f : ℕ → ℕ) (k : ℕ) → k < ranks → at_slot f k ≤ f (back ranks k root)
+    at_low : (f : ℕ → ℕ) (k : ℕ) → k < ranks → at_slot f k ≡ f (back ranks k root)
     unfolding at_slot
-    at_low f k l = rw (lt-ltb k ranks l) (omega arith)
+    at_low f k l = rw (lt-ltb k ranks l) refl
 
     at_high : (f : ℕ → ℕ) (i : ℕ) → at_slot f (ranks + i) ≡ 0
     unfolding at_slot
@@ -103,21 +103,33 @@ module _ (ranks : ℕ) (few : ranks ≤ 65536) where
     slots_sum f =
         let whole : ranks + (65536 - ranks) ≡ 65536 = omega (arith, few) in
         let parts = sum_below_add (at_slot f) ranks (65536 - ranks) in
-        let low_slots = sum_below_le (at_slot f) (λ r. f (back ranks r root)) ranks (at_low f) in
+        let low_slots = sum_below_le (at_slot f) (λ r. f (back ranks r root)) ranks (λ k l. let e = at_low f k l in omega (arith, e)) in
         let high_slots = sum_below_none (λ i. at_slot f (ranks + i)) (65536 - ranks) (at_high f) in
         let over_ranks = turned ranks few root rooted f in
         subst (λ (n : ℕ). sum_below n (at_slot f) ≤ sum_below ranks f) whole (omega (arith, parts, low_slots, high_slots, over_ranks))
 
-    -- where each rank holds one contribution in each slot of its block
-    pub blocks_held : sum_below ranks (λ r. sum_below 65536 (λ k. if nat_lt k ranks then in_block (back ranks r root) (back ranks k root) else 0)) ≤ 589824
-    unfolding block_size at_slot
+    -- 1 for each slot of the block of a rank
+    pub block_cap : ℕ → ℕ → ℕ
+    block_cap r k = at_slot (in_block (back ranks r root)) k
+
+    pub cap_of_block : (r k : ℕ) → k < ranks → back ranks r root ≤ back ranks k root → back ranks k root < back ranks r root + 2 ^ low (back ranks r root) → block_cap r k ≡ 1
+    unfolding block_cap
+    cap_of_block r k slot from before =
+        at_low (in_block (back ranks r root)) k slot ∙ is_in_block (back ranks r root) (back ranks k root) from before
+
+    pub blocks_held : sum_below ranks (λ r. sum_below 65536 (block_cap r)) ≤ 589824
+    unfolding block_size block_cap
     blocks_held =
-        le_trans (sum_below_le (λ r. sum_below 65536 (λ k. if nat_lt k ranks then in_block (back ranks r root) (back ranks k root) else 0)) (λ r. block_size ranks (back ranks r root)) ranks (λ r l. le_trans (slots_sum (in_block (back ranks r root))) (block_sum (back ranks r root) ranks))) sizes_sum
+        le_trans (sum_below_le (λ r. sum_below 65536 (block_cap r)) (λ r. block_size ranks (back ranks r root)) ranks (λ r l. le_trans (slots_sum (in_block (back ranks r root))) (block_sum (back ranks r root) ranks))) sizes_sum
+
+    -- as much for each operation as the block of its rank has
+    abbrev pub block_load : ℕ → ℕ → ℕ
+    block_load r i = block_size ranks (back ranks r root)
 
     -- where each rank has at most 17 operations that each move at most its block
-    pub blocks_moved : (count : ℕ → ℕ) → ((r : ℕ) → count r ≤ 17) → sum_by (λ r. sum_by (λ (i : ℕ). block_size ranks (back ranks r root)) (range_with_len 0 (count r))) (range_with_len 0 ranks) ≤ 10027008
+    pub blocks_moved : (count : ℕ → ℕ) → ((r : ℕ) → count r ≤ 17) → sum_by (λ r. sum_by (block_load r) (range_with_len 0 (count r))) (range_with_len 0 ranks) ≤ 10027008
     blocks_moved count most =
-        let each = sum_below_le (λ r. sum_by (λ (i : ℕ). block_size ranks (back ranks r root)) (range_with_len 0 (count r))) (λ r. 17 * block_size ranks (back ranks r root)) ranks (λ r l. le_trans (sum_range_few (λ (i : ℕ). block_size ranks (back ranks r root)) (count r) (block_size ranks (back ranks r root)) (λ i m. omega arith)) (mul-le-mul_right (block_size ranks (back ranks r root)) (most r))) in
-        let times = sum_below_times 17 (λ r. block_size ranks (back ranks r root)) ranks in
+        let each = sum_below_le (λ r. sum_by (block_load r) (range_with_len 0 (count r))) (λ r. 17 * block_load r 0) ranks (λ r l. le_trans (sum_range_few (block_load r) (count r) (block_load r 0) (λ i m. omega arith)) (mul-le-mul_right (block_load r 0) (most r))) in
+        let times = sum_below_times 17 (λ r. block_load r 0) ranks in
         let sizes = sizes_sum in
-        rw (sum_range (λ r. sum_by (λ (i : ℕ). block_size ranks (back ranks r root)) (range_with_len 0 (count r))) ranks) (omega (arith, each, times, sizes))
+        rw (sum_range (λ r. sum_by (block_load r) (range_with_len 0 (count r))) ranks) (omega (arith, each, times, sizes))

@@ -4,7 +4,7 @@ use Rattle.std.specs.Prelude.{ℕ, ◌≤◌, List, length}
 use Rattle.goal_base.specs.declared.limits.TheConstants.{MAX_BYTES}
 use Rattle.goal_graph.specs.Schedule.{Plan}
 use Rattle.goal_blocks.specs.declared.collective.Collective.{Collective}
-use Rattle.goal_blocks.specs.declared.collective.Collective.TheVariants.{Bcast, Barrier, Allgather, Allreduce, Alltoall, Reduce, ReduceScatter, Scan}
+use Rattle.goal_blocks.specs.declared.collective.Collective.TheVariants.{Bcast, Barrier, Allreduce}
 use Rattle.goal_blocks.specs.Collectives.{initial, wanted}
 use Rattle.goal_blocks.specs.Certification.{IsCertified, IsRightEverywhere}
 use Rattle.goal_blocks.specs.Generated.{made, IsPossible}
@@ -16,17 +16,12 @@ IsCertifiedFor what plans = IsCertified plans (initial what (length plans)) (wan
 abbrev pub IsRightFor : Collective → List Plan → Type 0
 IsRightFor what plans = IsRightEverywhere plans (initial what (length plans)) (wanted what (length plans))
 
--- The collectives, and numbers of ranks, whose made schedules are certified by proof.
+-- For which numbers of ranks the made schedules are certified by proof: all that there may be, but those of a barrier and an
+-- allreduce, which hold too many contributions above this.
 abbrev pub IsCertifiedByProof : Collective → ℕ → Type 0
-IsCertifiedByProof (Bcast root) ranks = Unit {0}
 IsCertifiedByProof Barrier ranks = ranks ≤ 2048
-IsCertifiedByProof Allgather ranks = Unit {0}
 IsCertifiedByProof Allreduce ranks = ranks ≤ 2048
-IsCertifiedByProof Alltoall ranks = Unit {0}
-IsCertifiedByProof (Reduce root) ranks = Unit {0}
-IsCertifiedByProof ReduceScatter ranks = Unit {0}
-IsCertifiedByProof Scan ranks = Unit {0}
-IsCertifiedByProof _ ranks = ⊥
+IsCertifiedByProof _ ranks = Unit {0}
 
 -- The laws. The functions `laws_of_..` ensure each.
 

@@ -51,9 +51,8 @@ impl Collective {
 ///   the limits.
 /// - `bcast_is_paired`, `allgather_is_paired`, `scan_is_paired`: in a broadcast, an allgather and a scan each send has
 ///   exactly one receive of its channel, and each receive one send.
-/// - `made_is_certified`, `made_is_right`: the schedules of the broadcast, allgather, alltoall, reduce, reduce_scatter and
-///   scan, and those of the barrier and allreduce up to 2,048 ranks, are certified and right everywhere, for all ranks,
-///   roots and sizes within the limits, without a check.
+/// - `made_is_certified`, `made_is_right`: the schedules of the ten collectives, of the barrier and allreduce those up to
+///   2,048 ranks, are certified and right everywhere, for all ranks, roots and sizes within the limits, without a check.
 pub fn laws_of_made_schedules()
     ensures fitting_is_accepted { FittingIsAccepted }
     ensures made_is_accepted { MadeIsAccepted }

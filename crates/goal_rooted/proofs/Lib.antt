@@ -1,2 +1,1 @@
-pub mod LowPowers
 pub mod RootedCases

@@ -1,5 +1,6 @@
 use Rattle.std.proofs.Common.{arith}
-use Rattle.goal_rooted.proofs.RootedCases.{child_of, gather_sends, gather_hears}
+use Rattle.goal_blocks.proofs.ForCallers.{gather_sends, gather_hears}
+use Rattle.goal_rooted.proofs.RootedCases.{child_of}
 use Rattle.goal_rooted.proofs.steps.gather_step.Goals as goal
 
 pub returns-then-rounds-number : goal.returns-then-rounds-number

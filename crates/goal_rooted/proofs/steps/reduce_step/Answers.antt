@@ -1,6 +1,6 @@
 use Rattle.std.proofs.Common.{◌/◌, arith}
-use Rattle.goal_blocks.proofs.ForCallers.{rounds_few}
-use Rattle.goal_rooted.proofs.RootedCases.{child_of, reduce_sends, reduce_hears, reduce_sums}
+use Rattle.goal_blocks.proofs.ForCallers.{rounds_few, reduce_sends, reduce_hears, reduce_sums}
+use Rattle.goal_rooted.proofs.RootedCases.{child_of}
 use Rattle.goal_rooted.proofs.steps.reduce_step.Goals as goal
 
 pub earlier_sum-requires : goal.earlier_sum-requires

@@ -1,5 +1,5 @@
 use Rattle.std.proofs.Common.{◌∙◌, arith}
-use Rattle.goal_rooted.proofs.RootedCases.{scatter_gives_first, scatter_takes, scatter_gives}
+use Rattle.goal_blocks.proofs.ForCallers.{scatter_gives_first, scatter_takes, scatter_gives}
 use Rattle.goal_rooted.proofs.steps.scatter_step.Goals as goal
 
 pub returns-then-rank-eq0 : goal.returns-then-rank-eq0

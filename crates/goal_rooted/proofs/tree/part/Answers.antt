@@ -1,5 +1,5 @@
 use Rattle.std.proofs.Common.{arith}
-use Rattle.goal_rooted.proofs.LowPowers.{low_is_lowest}
+use Rattle.goal_blocks.proofs.ForCallers.{low_is_lowest}
 use Rattle.goal_rooted.proofs.tree.part.Goals as goal
 
 pub power-requires : goal.power-requires
