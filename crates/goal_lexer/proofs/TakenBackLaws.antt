@@ -16,7 +16,6 @@ use Rattle.goal_lexer.specs.Runs.{run_token}
 use Rattle.goal_lexer.specs.Sound.{IsSound, IsRun}
 use Rattle.goal_lexer.specs.State.{LexState}
 use Rattle.goal_lexer.specs.Stands.{Stands, handed}
-use Rattle.goal_lexer.specs.Whole.{IsFormed}
 use Rattle.goal_lexer.specs.Pieces.{Piece, blank, line_comment, block_comment, run, sign, bytes_of, Each, HasForm, AreDigits, has_close, sign_kind, IsRight, spelled, AreRight, sign_tokens, piece_tokens, tokens_of}
 use Rattle.goal_lexer.specs.Open.{ends_in_star, IsOpen, IsTaken}
 use Rattle.goal_lexer.proofs.FormLaws.{form_from, first_in_run}
@@ -29,22 +28,8 @@ use Rattle.goal_lexer.proofs.WholeLaws.{scan_of_run}
 use Rattle.goal_lexer.proofs.TakenLaws.{spelled-push, tokens_of-push}
 
 -- the scan of a run, which is open behind it
-all_of_each : (test : ℕ → Bool) (xs : List ℕ) → Each test xs → list_all test xs ≡ true
-all_of_each test [] each = refl
-all_of_each test (x ∷ xs) each = ap (λ (b : Bool). b && list_all test xs) each.0 ∙ all_of_each test xs each.1
-
-some_digit : (xs : List ℕ) → AreDigits xs → (0 < length xs) × (list_all is_digit xs ≡ true)
-some_digit [] are = absurd are
-some_digit (x ∷ xs) are = (omega arith, all_of_each is_digit (x ∷ xs) are)
-
-formed : (form : Form) (bytes : List ℕ) → HasForm form bytes → IsFormed bytes form
-formed Word [] has = absurd has
-formed Word (c ∷ cs) has = has.0
-formed Digits bytes has = some_digit bytes has
-formed Sized bytes has = let some = some_digit has.0 has.2 in (has.0, has.1, some.0, some.1)
-
 scan_run : (place : ℕ) (form : Form) (bytes : List ℕ) → HasForm form bytes → length bytes ≤ 64 → scan Between place bytes ≡ (Run place bytes form, [])
-scan_run place form bytes has short = scan_of_run place bytes form (run_bytes bytes form (form_from form bytes has)) (formed form bytes has) short
+scan_run place form bytes has short = scan_of_run place bytes form (run_bytes bytes form (form_from form bytes has)) has short
 
 -- the scan inside a line comment
 in_line_next : (start place c : ℕ) → in_line c ≡ true → next (LineComment start) place c ≡ (LineComment start, [])

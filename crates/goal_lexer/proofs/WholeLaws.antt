@@ -1,32 +1,25 @@
 -- The scan of a whole run.
-use Rattle.std.proofs.Common.{◌≡◌, ℕ, ◌+◌, ◌<◌, ◌≤◌, Bool, true, false, ◌&&◌, List, [], ◌∷◌, ◌++◌, length, take, drop, ◌-◌, nat_lt, refl, sym, ap, subst, ◌∙◌, arith, length-append, length-drop}
+use Rattle.std.proofs.Common.{◌≡◌, ℕ, zero, suc, ◌+◌, ◌<◌, ◌≤◌, Bool, true, false, List, [], ◌∷◌, ◌++◌, length, take, drop, get_or, ◌-◌, nat_lt, refl, sym, ap, subst, ◌∙◌, arith, length-append, length-drop}
 use Rattle.std.proofs.lemmas.Bool.Decides.{nat_tests}
-use Rattle.std.proofs.lemmas.List.{take_rest, drop-drop}
-use Rattle.std.specs.List.{list_all}
+use Rattle.std.proofs.lemmas.List.{take_rest, drop-drop, drop_more, take_more, length-take, length-take-le}
+use Rattle.std.proofs.Math.Seq.{take-append_seam}
 use Rattle.goal_lexer.specs.declared.mode.Form.{Form}
 use Rattle.goal_lexer.specs.declared.mode.Form.TheVariants.{Word, Digits, Sized}
 use Rattle.goal_lexer.specs.declared.mode.Mode.{Mode}
 use Rattle.goal_lexer.specs.declared.mode.Mode.TheVariants.{Between, Run}
-use Rattle.goal_lexer.specs.Bytes.{is_digit, is_run_byte, size_mark}
+use Rattle.goal_lexer.specs.Bytes.{begins_word, is_digit, is_run_byte, size_mark}
+use Rattle.goal_lexer.specs.Numbers.{number_value}
+use Rattle.goal_lexer.specs.Words.{word_kind}
 use Rattle.goal_lexer.specs.declared.tokens.Token.{Token}
+use Rattle.goal_lexer.specs.declared.tokens.TokenKind.{TokenKind}
+use Rattle.goal_lexer.specs.declared.tokens.TokenKind.TheVariants.{Number, Size}
 use Rattle.goal_lexer.specs.Scan.{Scanned, after_tokens, next, scan, closing}
 use Rattle.goal_lexer.specs.Stands.{begins_run}
-use Rattle.goal_lexer.specs.Pieces.{Each}
-use Rattle.goal_lexer.specs.Whole.{BeginsWord, IsFormed, IsWholeRun}
+use Rattle.goal_lexer.specs.Pieces.{Each, AreDigits, HasForm}
+use Rattle.goal_lexer.specs.Whole.{BeginsWord, IsWholeRun}
 use Rattle.goal_lexer.proofs.ByteLaws.{digit_no_word}
 use Rattle.goal_lexer.proofs.ScanLaws.{scan_quiet, scan_one, scan_stretch}
-use Rattle.goal_lexer.proofs.StretchLaws.{scan_word, scan_digits}
-
-both : (a b : Bool) → (a && b) ≡ true → (a ≡ true) × (b ≡ true)
-both true true is = (refl, refl)
-both true false is = cc
-both false b is = cc
-
-each_of_all : (test : ℕ → Bool) (xs : List ℕ) → list_all test xs ≡ true → Each test xs
-each_of_all test [] all = tt
-each_of_all test (x ∷ xs) all =
-    let parts = both (test x) (list_all test xs) all in
-    (parts.0, each_of_all test xs parts.1)
+use Rattle.goal_lexer.proofs.StretchLaws.{Each-take, scan_word, scan_digits}
 
 -- a first byte, and then the others
 scan_first : (place c : ℕ) (cs : List ℕ) (form : Form) → next Between place c ≡ (Run place (c ∷ []) form, []) →
@@ -64,16 +57,105 @@ scan_of_size place digits some each short =
     ∙ scan_one (Run place digits Digits) (place + length digits) size_mark
     ∙ next_mark place (place + length digits) digits short
 
+digits_some : (xs : List ℕ) → AreDigits xs → 0 < length xs
+digits_some [] are = absurd are
+digits_some (x ∷ xs) are = omega arith
+
+digits_each : (xs : List ℕ) → AreDigits xs → Each is_digit xs
+digits_each [] are = absurd are
+digits_each (x ∷ xs) are = are
+
 -- a run of a form is open behind its bytes
-pub scan_of_run : (place : ℕ) (run : List ℕ) (form : Form) → Each is_run_byte run → IsFormed run form → length run ≤ 64 →
+pub scan_of_run : (place : ℕ) (run : List ℕ) (form : Form) → Each is_run_byte run → HasForm form run → length run ≤ 64 →
     scan Between place run ≡ (Run place run form, [])
-scan_of_run place run Word each formed short = scan_of_word place run each formed short
-scan_of_run place run Digits each formed short = scan_of_digits place run formed.0 (each_of_all is_digit run formed.1) short
-scan_of_run place run Sized each formed short =
-    let digits = formed.0 in
-    let fits : length (digits ++ size_mark ∷ []) ≤ 64 = subst (λ (t : List ℕ). length t ≤ 64) formed.1 short in
-    subst (λ (t : List ℕ). scan Between place t ≡ (Run place t Sized, [])) (sym formed.1)
-    (scan_of_size place digits formed.2 (each_of_all is_digit digits formed.3) fits)
+scan_of_run place [] Word each has short = absurd has
+scan_of_run place (c ∷ cs) Word each has short = scan_of_word place (c ∷ cs) each has.0 short
+scan_of_run place run Digits each has short = scan_of_digits place run (digits_some run has) (digits_each run has) short
+scan_of_run place run Sized each has short =
+    let digits = has.0 in
+    let fits : length (digits ++ size_mark ∷ []) ≤ 64 = subst (λ (t : List ℕ). length t ≤ 64) has.1 short in
+    subst (λ (t : List ℕ). scan Between place t ≡ (Run place t Sized, [])) (sym has.1)
+    (scan_of_size place digits (digits_some digits has.2) (digits_each digits has.2) fits)
+
+-- the first byte of a front
+begins_front : (n : ℕ) (xs : List ℕ) → 0 < n → 0 < length xs → begins_word (get_or xs 0 0) ≡ true → BeginsWord (take n xs)
+begins_front zero xs some has is = absurd (omega arith)
+begins_front (suc n) [] some has is = absurd (omega arith)
+begins_front (suc n) (x ∷ xs) some has is = is
+
+-- a byte of no run stands there
+ends_at : (piece : List ℕ) (n : ℕ) → n < length piece → is_run_byte (get_or piece n 0) ≡ false → begins_run (drop n piece) ≡ false
+ends_at piece n inside ends = ap begins_run (drop_more piece n 0 inside) ∙ ends
+
+-- a word that ends inside the piece
+pub whole_letters : (place count : ℕ) (piece : List ℕ) (kind : TokenKind) → 0 < count → count < length piece → count ≤ 64 →
+    begins_word (get_or piece 0 0) ≡ true → ((k : ℕ) → k < count → is_run_byte (get_or piece k 0) ≡ true) →
+    is_run_byte (get_or piece count 0) ≡ false → kind ≡ word_kind (take count piece) →
+    IsWholeRun place piece count (record { kind = kind; start = place; end = place + count })
+whole_letters place count piece kind some inside few begins each ends is =
+    let run = take count piece in
+    let within : count ≤ length piece = omega arith in
+    let short : length run ≤ 64 = omega (arith, length-take count piece) in (
+      some,
+      inside,
+      ends_at piece count inside ends,
+      refl,
+      (
+        Run place run Word,
+        scan_of_word place run (Each-take is_run_byte count piece each within) (begins_front count piece some (omega arith) begins) short,
+        ap (λ (k : TokenKind). record { kind = k; start = place; end = place + count } ∷ []) (sym is),
+      ),
+    )
+
+-- digits that end inside the piece
+pub whole_digits : (place count value : ℕ) (piece : List ℕ) → 0 < count → count < length piece → count ≤ 64 →
+    ((k : ℕ) → k < count → is_digit (get_or piece k 0) ≡ true) → is_run_byte (get_or piece count 0) ≡ false →
+    value ≡ number_value (take count piece) →
+    IsWholeRun place piece count (record { kind = Number value; start = place; end = place + count })
+whole_digits place count value piece some inside few each ends is =
+    let run = take count piece in
+    let within : count ≤ length piece = omega arith in
+    let long : length run ≡ count = length-take-le count piece within in (
+      some,
+      inside,
+      ends_at piece count inside ends,
+      refl,
+      (
+        Run place run Digits,
+        scan_of_digits place run (omega arith) (Each-take is_digit count piece each within) (omega arith),
+        ap (λ (v : ℕ). record { kind = Number v; start = place; end = place + count } ∷ []) (sym is),
+      ),
+    )
+
+-- the digits of a size
+digits_of_size : (digits : List ℕ) → take (length (digits ++ size_mark ∷ []) - 1) (digits ++ size_mark ∷ []) ≡ digits
+digits_of_size digits =
+    let long : length (digits ++ size_mark ∷ []) - 1 ≡ length digits = omega (arith, length-append digits (size_mark ∷ [])) in
+    ap (λ (n : ℕ). take n (digits ++ size_mark ∷ [])) long ∙ take-append_seam digits (size_mark ∷ [])
+
+-- a size that ends inside the piece
+pub whole_size : (place count value : ℕ) (piece : List ℕ) → 0 < count → count + 1 < length piece → count < 64 →
+    ((k : ℕ) → k < count → is_digit (get_or piece k 0) ≡ true) → get_or piece count 0 ≡ size_mark →
+    is_run_byte (get_or piece (count + 1) 0) ≡ false → value ≡ number_value (take count piece) →
+    IsWholeRun place piece (count + 1) (record { kind = Size value; start = place; end = place + (count + 1) })
+whole_size place count value piece some inside few each mark ends is =
+    let digits = take count piece in
+    let within : count ≤ length piece = omega arith in
+    let long : length digits ≡ count = length-take-le count piece within in
+    let run_is : take (count + 1) piece ≡ digits ++ size_mark ∷ [] =
+    take_more piece count 0 (omega arith) ∙ ap (λ (c : ℕ). digits ++ c ∷ []) mark in
+    let short : length (digits ++ size_mark ∷ []) ≤ 64 = omega (arith, length-append digits (size_mark ∷ [])) in (
+      omega arith,
+      inside,
+      ends_at piece (count + 1) inside ends,
+      refl,
+      (
+        Run place (digits ++ size_mark ∷ []) Sized,
+        ap (scan Between place) run_is ∙ scan_of_size place digits (omega arith) (Each-take is_digit count piece each within) short,
+        ap (λ (v : ℕ). record { kind = Size v; start = place; end = place + (count + 1) } ∷ [])
+            (ap number_value (digits_of_size digits) ∙ sym is),
+      ),
+    )
 
 -- a whole run behind bytes that ended no token and left nothing open
 pub run_in_piece : (mode : Mode) (place n count : ℕ) (piece : List ℕ) (token : Token) → n ≤ length piece →

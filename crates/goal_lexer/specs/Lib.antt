@@ -2,6 +2,7 @@
 pub mod Bytes
 pub mod Numbers
 pub mod Padding
+pub mod Hashing
 pub mod Pieces
 pub mod Words
 pub mod Runs

@@ -1,24 +1,16 @@
 -- Runs that end inside a piece.
-use Rattle.std.specs.Prelude.{◌≡◌, ℕ, ◌+◌, ◌<◌, List, [], ◌∷◌, ◌++◌, length, take, drop, false, true}
-use Rattle.std.specs.List.{list_all}
-use Rattle.goal_lexer.specs.declared.mode.Form.{Form}
-use Rattle.goal_lexer.specs.declared.mode.Form.TheVariants.{Word, Digits, Sized}
+use Rattle.std.specs.Prelude.{◌≡◌, ℕ, ◌+◌, ◌<◌, List, [], ◌∷◌, length, take, drop, false, true}
 use Rattle.goal_lexer.specs.declared.mode.Mode.{Mode}
 use Rattle.goal_lexer.specs.declared.mode.Mode.TheVariants.{Between}
 use Rattle.goal_lexer.specs.declared.tokens.Token.{Token}
-use Rattle.goal_lexer.specs.Bytes.{begins_word, is_digit, size_mark}
+use Rattle.goal_lexer.specs.Bytes.{begins_word}
 use Rattle.goal_lexer.specs.Scan.{scan, closing}
 use Rattle.goal_lexer.specs.Stands.{begins_run}
 
--- what a run begins with, and of what it is, by its form
+-- a run begins as a word does
 abbrev pub BeginsWord : List ℕ → Type 0
 BeginsWord [] = ⊥
 BeginsWord (c ∷ cs) = begins_word c ≡ true
-
-abbrev pub IsFormed : List ℕ → Form → Type 0
-IsFormed run Word = BeginsWord run
-IsFormed run Digits = (0 < length run) × (list_all is_digit run ≡ true)
-IsFormed run Sized = (digits : List ℕ) × (run ≡ digits ++ size_mark ∷ []) × (0 < length digits) × (list_all is_digit digits ≡ true)
 
 -- so many bytes in front of a piece, the first of which stands at this place, are a run that ends there, and its token
 abbrev pub IsWholeRun : ℕ → List ℕ → ℕ → Token → Type 0

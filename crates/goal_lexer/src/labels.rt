@@ -2,9 +2,7 @@
 ghost use Rattle.std.specs.Prelude.{◌≡◌, ℕ, ◌<◌, ◌≤◌, List, [], ◌∷◌, ◌++◌, length, nat_eq};
 ghost use Rattle.std.specs.Cmp.Lexicographic.{pointwise, nat_list_eq_equiv};
 ghost use Rattle.std.specs.Cmp.{partial_equiv_from_equiv};
-ghost use Rattle.std.specs.Cmp.Rules.{hashing};
-ghost use Rattle.std.specs.Hash as fed;
-ghost use Rattle.std.proofs.Common.{rules};
+ghost use Rattle.goal_lexer.specs.Hashing.{one_write, one_write_alike};
 
 use std::hash::{Hash, Hasher};
 use std::marker::Model;
@@ -16,7 +14,7 @@ pub const MOST_RUN_BYTES: usize = 64;
 #[derive(Clone, Copy, Debug)]
 pub struct Label {
     bytes: [u8; MOST_RUN_BYTES],
-    len: u8,
+    len: usize,
 }
 
 impl Model for Label {
@@ -54,7 +52,7 @@ impl Label {
         bytes[..text.len()].copy_from_slice(text);
         Label {
             bytes,
-            len: text.len() as u8,
+            len: text.len(),
         }
     }
 
@@ -63,7 +61,7 @@ impl Label {
         requires { length self.old < 64 }
         ensures { self.new ≡ self.old ++ byte ∷ [] }
     {
-        self.bytes[self.len as usize] = byte;
+        self.bytes[self.len] = byte;
         self.len += 1;
     }
 
@@ -73,7 +71,7 @@ impl Label {
         ensures above { 0 < result }
         ensures most { result ≤ 64 }
     {
-        self.len as usize
+        self.len
     }
 
     /// The bytes of the label, in order.
@@ -82,7 +80,7 @@ impl Label {
         ensures some { 0 < length result.now }
         ensures most { length result.now ≤ 64 }
     {
-        &self.bytes[..self.len as usize]
+        &self.bytes[..self.len]
     }
 }
 
@@ -92,7 +90,7 @@ impl PartialEq for Label {
     ghost laws = { partial_equiv_from_equiv nat_list_eq_equiv };
 
     fn eq(&self, other: &Label) -> bool {
-        self.as_bytes() == other.as_bytes()
+        self.len == other.len && self.bytes == other.bytes
     }
 }
 
@@ -101,11 +99,11 @@ impl Eq for Label {
 }
 
 impl Hash for Label {
-    ghost hash_input = { fed.slice fed.u8 };
+    ghost hash_input = { one_write };
 
-    ghost respects_eq = { Prim.search (hashing, rules) };
+    ghost respects_eq = { one_write_alike };
 
     fn hash<H: Hasher>(&self, state: &mut H) {
-        self.as_bytes().hash(state);
+        state.write(self.as_bytes());
     }
 }

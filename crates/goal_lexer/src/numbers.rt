@@ -1,6 +1,36 @@
 //! The values of numbers and sizes.
-ghost use Rattle.std.specs.Prelude.{◌≡◌};
+ghost use Rattle.std.specs.Prelude.{◌≡◌, ℕ, ◌<◌, ◌≤◌, length, take, true, slice_index};
+ghost use Rattle.goal_lexer.specs.Bytes.{is_digit};
 ghost use Rattle.goal_lexer.specs.Numbers.{number_value};
+
+use crate::bytes::is_digit;
+
+/// Whatever so many digits are, their value is below 2^64.
+const SURE_DIGITS: usize = 19;
+
+/// Digits in front of a piece: how many they are, and their value.
+#[derive(Clone, Copy)]
+pub(crate) struct Leading {
+    pub(crate) count: usize,
+    pub(crate) value: u64,
+}
+
+/// The digits in front of a piece, or the first 19 of them.
+#[inline(always)]
+pub(crate) fn leading_digits(piece: &[u8]) -> Leading
+    ensures within { result.count ≤ length piece.now }
+    ensures few { result.count ≤ 19 }
+    ensures digits { (k : ℕ) → k < result.count → is_digit (slice_index piece.now k) ≡ true }
+    ensures value { result.value ≡ number_value (take result.count piece.now) }
+{
+    let mut value: u64 = 0;
+    let mut count = 0;
+    while count < piece.len() && count < SURE_DIGITS && is_digit(piece[count]) {
+        value = value * 10 + u64::from(piece[count] - b'0');
+        count += 1;
+    }
+    Leading { count, value }
+}
 
 /// The decimal value of the digits, or 2^64-1 where it is larger.
 pub(crate) fn number_value(digits: &[u8]) -> u64

@@ -123,10 +123,3 @@ pub(crate) fn count_run(bytes: &[u8]) -> usize
     }
     bytes.len()
 }
-
-/// Whether all bytes are digits.
-pub(crate) fn are_digits(bytes: &[u8]) -> bool
-    ensures { result ≡ list_all is_digit bytes.now }
-{
-    bytes.iter().all(|byte| is_digit(*byte))
-}

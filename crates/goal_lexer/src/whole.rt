@@ -1,44 +1,17 @@
 //! Runs that end inside a piece.
-ghost use Rattle.std.specs.Prelude.{◌≡◌, ℕ, ◌+◌, ◌<◌, ◌≤◌, ◌^◌, List, [], ◌∷◌, length, take, None, Some, IfSome, false};
-ghost use Rattle.goal_lexer.specs.Scan.{scan};
-ghost use Rattle.goal_lexer.specs.Whole.{IsFormed, IsWholeRun};
+ghost use Rattle.std.specs.Prelude.{◌+◌, ◌<◌, ◌^◌, length, IfSome};
+ghost use Rattle.goal_lexer.specs.Whole.{IsWholeRun};
 
-use crate::bytes::begins_word;
+use crate::bytes::{begins_word, is_digit, is_run_byte};
 use crate::labels::MOST_RUN_BYTES;
-use crate::mode::Form;
-use crate::stretches::{are_digits, count_run};
-use crate::tokens::Token;
-use crate::words::run_kind;
+use crate::numbers::{Leading, leading_digits};
+use crate::stretches::count_run;
+use crate::tokens::{Token, TokenKind};
+use crate::words::word_kind;
 
-/// The form of digits and a `b` behind them.
-fn sized_form(run: &[u8]) -> Option<Form>
-    ensures { IfSome result (IsFormed run.now) }
-{
-    let (last, digits) = run.split_last()?;
-    if *last == b'b' && !digits.is_empty() && are_digits(digits) {
-        Some(Form::Sized)
-    } else {
-        None
-    }
-}
-
-/// The form of a run, where it has one.
-fn form_of(run: &[u8]) -> Option<Form>
-    requires some { 0 < length run.now }
-    ensures { IfSome result (IsFormed run.now) }
-{
-    if begins_word(run[0]) {
-        Some(Form::Word)
-    } else if are_digits(run) {
-        Some(Form::Digits)
-    } else {
-        sized_form(run)
-    }
-}
-
-/// The run in front of a piece, the first byte of which stands at this place, where it ends inside the piece and is a
-/// token: how many bytes it has. The token is written to its place. Any other run, and what is no run, is none.
-pub(crate) fn whole_run(place: u64, piece: &[u8], token: &mut Token) -> Option<usize>
+/// The word in front of a piece, where it ends inside the piece: how many bytes it has. Its token is written to its place.
+#[inline(always)]
+fn whole_word(place: u64, piece: &[u8], token: &mut Token) -> Option<usize>
     requires { place + length piece.now < 2 ^ 64 }
     ensures { IfSome result (λ count. IsWholeRun place piece.now count token.new) }
 {
@@ -46,10 +19,53 @@ pub(crate) fn whole_run(place: u64, piece: &[u8], token: &mut Token) -> Option<u
     if count == 0 || count == piece.len() || count > MOST_RUN_BYTES {
         return None;
     }
-    let run = &piece[..count];
-    let form = form_of(run)?;
-    run_kind(run, form, &mut token.kind);
+    if !begins_word(piece[0]) {
+        return None;
+    }
+    word_kind(&piece[..count], &mut token.kind);
     token.start = place;
     token.end = place + count as u64;
     Some(count)
+}
+
+/// The number or the size in front of a piece, where it ends inside the piece and has few digits: how many bytes it has.
+/// Its token is written to its place.
+#[inline(always)]
+fn whole_number(place: u64, piece: &[u8], token: &mut Token) -> Option<usize>
+    requires { place + length piece.now < 2 ^ 64 }
+    ensures { IfSome result (λ count. IsWholeRun place piece.now count token.new) }
+{
+    let Leading { count, value } = leading_digits(piece);
+    if count == 0 || count == piece.len() {
+        return None;
+    }
+    if !is_run_byte(piece[count]) {
+        token.kind = TokenKind::Number { value };
+        token.start = place;
+        token.end = place + count as u64;
+        return Some(count);
+    }
+    let size = count + 1;
+    if piece[count] != b'b' || size == piece.len() || is_run_byte(piece[size]) {
+        return None;
+    }
+    token.kind = TokenKind::Size { value };
+    token.start = place;
+    token.end = place + size as u64;
+    Some(size)
+}
+
+/// The run in front of a piece, the first byte of which stands at this place, where it ends inside the piece and is a
+/// token: how many bytes it has. The token is written to its place. Any other run, and what is no run, is none, and so may
+/// be a run of many digits.
+#[inline(always)]
+pub(crate) fn whole_run(place: u64, piece: &[u8], token: &mut Token) -> Option<usize>
+    requires { place + length piece.now < 2 ^ 64 }
+    ensures { IfSome result (λ count. IsWholeRun place piece.now count token.new) }
+{
+    match piece.first() {
+        Some(byte) if is_digit(*byte) => whole_number(place, piece, token),
+        Some(_) => whole_word(place, piece, token),
+        None => None,
+    }
 }

@@ -15,13 +15,40 @@ fn spells(bytes: &[u8], word: &str) -> bool
     bytes == word.as_bytes()
 }
 
+/// Whether the two bytes are those of the word.
+#[inline(always)]
+fn are_two(bytes: &[u8], word: [u8; 2]) -> bool
+    requires { length bytes.now ≡ 2 }
+    ensures { result ≡ bytes_eq bytes.now word }
+{
+    [bytes[0], bytes[1]] == word
+}
+
+/// Whether the three bytes are those of the word.
+#[inline(always)]
+fn are_three(bytes: &[u8], word: [u8; 3]) -> bool
+    requires { length bytes.now ≡ 3 }
+    ensures { result ≡ bytes_eq bytes.now word }
+{
+    [bytes[0], bytes[1], bytes[2]] == word
+}
+
+/// Whether the four bytes are those of the word.
+#[inline(always)]
+fn are_four(bytes: &[u8], word: [u8; 4]) -> bool
+    requires { length bytes.now ≡ 4 }
+    ensures { result ≡ bytes_eq bytes.now word }
+{
+    [bytes[0], bytes[1], bytes[2], bytes[3]] == word
+}
+
 /// Writes the token of a word of two bytes.
+#[inline(always)]
 fn kind_of_two(word: &[u8], kind: &mut TokenKind)
-    requires some { 0 < length word.now }
-    requires most { length word.now ≤ 64 }
+    requires { length word.now ≡ 2 }
     ensures { kind.new ≡ kind_among (words_of_length 2 reserved_words) word.now }
 {
-    if spells(word, "to") {
+    if are_two(word, *b"to") {
         *kind = TokenKind::To;
     } else {
         *kind = TokenKind::Label(Label::of(word));
@@ -29,18 +56,18 @@ fn kind_of_two(word: &[u8], kind: &mut TokenKind)
 }
 
 /// Writes the token of a word of three bytes.
+#[inline(always)]
 fn kind_of_three(word: &[u8], kind: &mut TokenKind)
-    requires some { 0 < length word.now }
-    requires most { length word.now ≤ 64 }
+    requires { length word.now ≡ 3 }
     ensures { kind.new ≡ kind_among (words_of_length 3 reserved_words) word.now }
 {
-    if spells(word, "tag") {
+    if are_three(word, *b"tag") {
         *kind = TokenKind::Tag;
-    } else if spells(word, "cpu") {
+    } else if are_three(word, *b"cpu") {
         *kind = TokenKind::Cpu;
-    } else if spells(word, "nic") {
+    } else if are_three(word, *b"nic") {
         *kind = TokenKind::Nic;
-    } else if spells(word, "any") {
+    } else if are_three(word, *b"any") {
         *kind = TokenKind::Any;
     } else {
         *kind = TokenKind::Label(Label::of(word));
@@ -48,22 +75,22 @@ fn kind_of_three(word: &[u8], kind: &mut TokenKind)
 }
 
 /// Writes the token of a word of four bytes.
+#[inline(always)]
 fn kind_of_four(word: &[u8], kind: &mut TokenKind)
-    requires some { 0 < length word.now }
-    requires most { length word.now ≤ 64 }
+    requires { length word.now ≡ 4 }
     ensures { kind.new ≡ kind_among (words_of_length 4 reserved_words) word.now }
 {
-    if spells(word, "rank") {
+    if are_four(word, *b"rank") {
         *kind = TokenKind::Rank;
-    } else if spells(word, "calc") {
+    } else if are_four(word, *b"calc") {
         *kind = TokenKind::Calc;
-    } else if spells(word, "send") {
+    } else if are_four(word, *b"send") {
         *kind = TokenKind::Send;
-    } else if spells(word, "recv") {
+    } else if are_four(word, *b"recv") {
         *kind = TokenKind::Recv;
-    } else if spells(word, "from") {
+    } else if are_four(word, *b"from") {
         *kind = TokenKind::From;
-    } else if spells(word, "adds") {
+    } else if are_four(word, *b"adds") {
         *kind = TokenKind::Adds;
     } else {
         *kind = TokenKind::Label(Label::of(word));
@@ -113,7 +140,7 @@ fn kind_of_nine(word: &[u8], kind: &mut TokenKind)
 
 /// Writes the reserved word that these bytes spell, or else a label.
 #[inline(always)]
-fn word_kind(word: &[u8], kind: &mut TokenKind)
+pub(crate) fn word_kind(word: &[u8], kind: &mut TokenKind)
     requires some { 0 < length word.now }
     requires most { length word.now ≤ 64 }
     ensures { kind.new ≡ word_kind word.now }
@@ -130,7 +157,6 @@ fn word_kind(word: &[u8], kind: &mut TokenKind)
 }
 
 /// Writes the token that a whole run of this form is.
-#[inline(always)]
 pub(crate) fn run_kind(run: &[u8], form: Form, kind: &mut TokenKind)
     requires some { 0 < length run.now }
     requires most { length run.now ≤ 64 }
