@@ -74,24 +74,7 @@ impl Block {
         }
     }
 
-    /// The plan of the block, which ends in this state.
-    fn finish(self, state: State, draft: &Draft) -> Result<RankPlan, AllocError>
-        ensures { IfOk result (λ plan. (ds : List Definition) (us : List Mention) (deps : List NamedDep) (notes : List NamedNote) → NamesHold self.names ds us deps notes →
-            plan ≡ record { ops = ended_ops state TokenKind.Close (op_of draft.now) self.ops.items; deps = map (dep_by ds) deps; notes = map (note_by ds) notes }) }
-    {
-        let Block { mut ops, mut names } = self;
-        end_action(&mut ops, state, &TokenKind::Close, draft)?;
-        names.resolve();
-        let Names {
-            labels,
-            deps,
-            notes,
-        } = names;
-        drop(labels);
-        Ok(RankPlan { ops, deps, notes })
-    }
-
-    /// Ends the block in this state, and leaves an empty one. The answer is its plan.
+    /// Ends the block in this state, and leaves an empty one, with the memory of the labels. The answer is its plan.
     pub fn close(
         &mut self,
         alloc: Global,
@@ -103,7 +86,12 @@ impl Block {
         ensures plan { IfOk result (λ plan. (ds : List Definition) (us : List Mention) (deps : List NamedDep) (notes : List NamedNote) → NamesHold self.old.names ds us deps notes →
             plan ≡ record { ops = ended_ops state TokenKind.Close (op_of draft.now) self.old.ops.items; deps = map (dep_by ds) deps; notes = map (note_by ds) notes }) }
     {
-        let block = mem::replace(self, Block::new(alloc));
-        block.finish(state, draft)
+        end_action(&mut self.ops, state, &TokenKind::Close, draft)?;
+        self.names.resolve();
+        self.names.labels.clear();
+        let ops = mem::replace(&mut self.ops, Vec::new(alloc));
+        let deps = mem::replace(&mut self.names.deps, Vec::new(alloc));
+        let notes = mem::replace(&mut self.names.notes, Vec::new(alloc));
+        Ok(RankPlan { ops, deps, notes })
     }
 }

@@ -48,6 +48,15 @@ impl Labels {
         }
     }
 
+    /// Forgets all labels. Their memory stays for the next block.
+    pub fn clear(&mut self)
+        ensures kept { Keeps self.new.slots.entries [] [] }
+        ensures empty { self.new.slots.entries ≡ [] }
+    {
+        // It takes time by the labels that go, and not by those that there is memory for.
+        self.slots.truncate(0);
+    }
+
     /// Defines a label: it stands before the operation of this number.
     ///
     /// # Errors
