@@ -16,6 +16,7 @@ use Rattle.goal_blocks.proofs.RingAndTree.{flipped_below, digits_high, digits_fe
 use Rattle.goal_blocks.proofs.ScanCertified.{is_itself}
 use Rattle.goal_blocks.proofs.Runs.{run, merge_before, merge_after, run_is}
 use Rattle.goal_blocks.proofs.Rounds.{pow_le, gained, rounds_are_certified}
+use Rattle.goal_blocks.proofs.RoundsHeavy.{many_rounds, rounds_too_heavy}
 
 -- the rank with the other binary digit
 flipped_even : (h k x : ℕ) → x < 2 ^ k → flipped (2 * h * 2 ^ k + x) k ≡ (2 * h + 1) * 2 ^ k + x
@@ -65,7 +66,7 @@ flipped_twice r k = go (digit_of r k).is
     go (inr e) =
         ap (λ (s : ℕ). flipped (flipped s k) k) e ∙ ap (λ (s : ℕ). flipped s k) (flipped_odd (digit_of r k).half k (digit_of r k).rest (digit_of r k).low) ∙ flipped_even (digit_of r k).half k (digit_of r k).rest (digit_of r k).low ∙ sym e
 
-module _ (m bytes : ℕ) (few : 2 ^ m ≤ 2048) where
+module _ (m bytes : ℕ) (few : 2 ^ m ≤ 65536) where
   abbrev ranks : ℕ
   ranks = 2 ^ m
 
@@ -192,10 +193,17 @@ module _ (m bytes : ℕ) (few : 2 ^ m ≤ 2048) where
       go true = refl
       go false = refl
 
-  few_rounds : n ≤ 11
-  few_rounds = let some = pow_pos m in digits_few (ranks - 1) 11 (omega (arith, few)) (omega (arith, few, some))
+  few_rounds : ranks ≤ 2048 → n ≤ 11
+  few_rounds light = let some = pow_pos m in digits_few (ranks - 1) 11 (omega (arith, few)) (omega (arith, light, some))
 
-  pub allreduce_certified : IsCertifiedFor Allreduce (made Allreduce ranks bytes)
+  pub allreduce_certified : ranks ≤ 2048 → IsCertifiedFor Allreduce (made Allreduce ranks bytes)
   unfolding made allreduce_in
-  allreduce_certified =
-      subst (λ (k : ℕ). IsCertified (made Allreduce ranks bytes) (initial Allreduce k) (wanted Allreduce k)) (sym (length_plans ranks (λ r. 3 * n) (λ r i. allreduce_in bytes r i))) (rounds_are_certified ranks n bytes flipped flipped to_rank to_rank twice_is twice_is first (wanted Allreduce ranks) first_is end_is elsewhere first_few first_none few (let le = pow_le n 11 few_rounds in omega (arith, le)) few_rounds)
+  allreduce_certified light =
+      let least = few_rounds light in
+      subst (λ (k : ℕ). IsCertified (made Allreduce ranks bytes) (initial Allreduce k) (wanted Allreduce k)) (sym (length_plans ranks (λ r. 3 * n) (λ r i. allreduce_in bytes r i))) (rounds_are_certified ranks n bytes flipped flipped to_rank to_rank twice_is twice_is first (wanted Allreduce ranks) first_is end_is (λ r s inside. inl (λ v. elsewhere r s v)) first_few first_none light (let le = pow_le n 11 least in omega (arith, le)) least)
+
+  -- with more ranks there are more than 11 rounds, and too much is held
+  pub allreduce_heavy : 2048 < ranks → IsCertifiedFor Allreduce (made Allreduce ranks bytes) → ⊥
+  unfolding made allreduce_in
+  allreduce_heavy many c =
+      rounds_too_heavy ranks n bytes flipped flipped to_rank to_rank twice_is twice_is first first_is many few (many_rounds ranks many few) (wanted Allreduce ranks) (subst (λ (k : ℕ). IsCertified (made Allreduce ranks bytes) (initial Allreduce k) (wanted Allreduce k)) (length_plans ranks (λ r. 3 * n) (λ r i. allreduce_in bytes r i)) c)

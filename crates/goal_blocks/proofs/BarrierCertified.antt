@@ -16,6 +16,7 @@ use Rattle.goal_blocks.proofs.Ring.{back_is, back_ahead, ahead_back}
 use Rattle.goal_blocks.proofs.RingAndTree.{ahead_below, back_below, digits_low, digits_high, digits_few}
 use Rattle.goal_blocks.proofs.AllgatherCertified.{back_zero, back_back}
 use Rattle.goal_blocks.proofs.Rounds.{pow_le, gained, rounds_are_certified}
+use Rattle.goal_blocks.proofs.RoundsHeavy.{many_rounds, rounds_too_heavy}
 
 has_cons : (d c : Contribution) (v : Value) (t : Bool) → is_one c d ≡ t → has_one (d ∷ v) c ≡ (if t then true else has_one v c)
 unfolding has_one
@@ -85,7 +86,7 @@ back_more ranks r a b p q = go (back_is ranks r a) (back_is ranks (back ranks r 
     go (inr (x, e)) (inr (y, f)) (inl (z, g)) = omega (arith, p, q, x, e, y, f, z, g)
     go (inr (x, e)) (inr (y, f)) (inr (z, g)) = omega (arith, p, q, x, e, y, f, z, g)
 
-module _ (ranks bytes : ℕ) (some : 0 < ranks) (few : ranks ≤ 2048) where
+module _ (ranks bytes : ℕ) (some : 0 < ranks) (few : ranks ≤ 65536) where
   abbrev n : ℕ
   n = digits (ranks - 1)
 
@@ -159,10 +160,17 @@ module _ (ranks bytes : ℕ) (some : 0 < ranks) (few : ranks ≤ 2048) where
       go true = refl
       go false = refl
 
-  few_rounds : n ≤ 11
-  few_rounds = digits_few (ranks - 1) 11 (omega (arith, few)) (omega (arith, few, some))
+  few_rounds : ranks ≤ 2048 → n ≤ 11
+  few_rounds light = digits_few (ranks - 1) 11 (omega (arith, few)) (omega (arith, light, some))
 
-  pub barrier_certified : IsCertifiedFor Barrier (made Barrier ranks bytes)
+  pub barrier_certified : ranks ≤ 2048 → IsCertifiedFor Barrier (made Barrier ranks bytes)
   unfolding made barrier_in
-  barrier_certified =
-      subst (λ (m : ℕ). IsCertified (made Barrier ranks bytes) (initial Barrier m) (wanted Barrier m)) (sym (length_plans ranks (λ r. 3 * n) (λ r i. barrier_in ranks bytes r i))) (rounds_are_certified ranks n bytes to from to_rank from_rank there_and_back back_and_there first (wanted Barrier ranks) first_is end_is elsewhere first_few first_none few (let le = pow_le n 11 few_rounds in omega (arith, le)) few_rounds)
+  barrier_certified light =
+      let least = few_rounds light in
+      subst (λ (m : ℕ). IsCertified (made Barrier ranks bytes) (initial Barrier m) (wanted Barrier m)) (sym (length_plans ranks (λ r. 3 * n) (λ r i. barrier_in ranks bytes r i))) (rounds_are_certified ranks n bytes to from to_rank from_rank there_and_back back_and_there first (wanted Barrier ranks) first_is end_is (λ r s inside. inl (λ v. elsewhere r s v)) first_few first_none light (let le = pow_le n 11 least in omega (arith, le)) least)
+
+  -- with more ranks there are more than 11 rounds, and too much is held
+  pub barrier_heavy : 2048 < ranks → IsCertifiedFor Barrier (made Barrier ranks bytes) → ⊥
+  unfolding made barrier_in
+  barrier_heavy many c =
+      rounds_too_heavy ranks n bytes to from to_rank from_rank there_and_back back_and_there first first_is many few (many_rounds ranks many few) (wanted Barrier ranks) (subst (λ (m : ℕ). IsCertified (made Barrier ranks bytes) (initial Barrier m) (wanted Barrier m)) (length_plans ranks (λ r. 3 * n) (λ r i. barrier_in ranks bytes r i)) c)

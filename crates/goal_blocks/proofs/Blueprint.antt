@@ -12,13 +12,14 @@ use Rattle.goal_graph.specs.declared.plan.Need.{Need}
 use Rattle.goal_graph.specs.declared.plan.Op.{Op}
 use Rattle.goal_graph.specs.declared.plan.When.TheVariants.{AfterEnd}
 use Rattle.goal_graph.specs.Schedule.{Plan, kind_at, needs, needed, operations, places_of_rank, places_from}
+use Rattle.goal_graph.specs.Action.{Act}
 use Rattle.goal_graph.specs.Fault.{IsOp}
 use Rattle.goal_graph.specs.Laws.{IsCalc, IsReceive}
 use Rattle.goal_blocks.specs.Channels.{channel, AreOfOneChannel}
 use Rattle.goal_blocks.specs.Slots.{Adding, slots, adds, written_in, touched_in, written, touched}
 use Rattle.goal_blocks.specs.Race.{here, through, EndsBefore, HasNoRace}
 use Rattle.goal_blocks.specs.Values.{Value, Store, Held, merge, set_slot, add_all, write, value, held_after}
-use Rattle.goal_blocks.specs.Walk.{no_send}
+use Rattle.goal_blocks.specs.Walk.{no_send, IsWalk}
 use Rattle.goal_blocks.specs.Matched.{IsMatched}
 use Rattle.goal_blocks.specs.Weight.{sum_below}
 use Rattle.goal_blocks.specs.Certification.{IsSmall, HasEqualLengths, HoldsWanted, IsCertified}
@@ -31,6 +32,7 @@ use Rattle.goal_blocks.proofs.EntryFacts.{slots_of_span, length_plans, kind_ther
 use Rattle.goal_blocks.proofs.Matched.{kind_is_op, op_has_kind}
 use Rattle.goal_blocks.proofs.MessagesPaired.{messages_paired, message_of_send, one_channel}
 use Rattle.goal_blocks.proofs.Levels.{levels_end}
+use Rattle.goal_blocks.proofs.Walk.{one_walk}
 use Rattle.goal_blocks.proofs.SomeWalk.{some_walk}
 use Rattle.goal_blocks.proofs.Flow.{IsFlow, Flows, all_flows, Source, Writes, state}
 use Rattle.goal_blocks.proofs.Ends.{Before, ends, ends_keep, ends_once, ended_listed, held_by_ends}
@@ -406,6 +408,11 @@ module _ (ranks : ℕ) (count : ℕ → ℕ) (e : ℕ → ℕ → Entry) where
               is_last : (z : OpId) → IsWriter z r k → (z ≡ op_at r j) ⊎ Before made_plans matched z (op_at r j)
               is_last z is =
                   ⊎_elim (λ same. inl (sym is.is ∙ ap (λ (i : ℕ). op_at r i) same)) (λ p. inr (subst (λ (y : OpId). Before made_plans matched y (op_at r j)) is.is (before_from r z.op j (in_rank, inside) p))) (last z.op is.there.1 is.wrote)
+
+      -- at the end of the walk
+      pub final_values : (w : List Act) → IsWalk made_plans w → HoldsWanted made_plans wanted (value made_plans no_send first w)
+      final_values w is =
+          subst (λ (v : List Act). HoldsWanted made_plans wanted (value made_plans no_send first v)) (one_walk made_plans matched.no_stall.walk w matched.no_stall.is_walk is) written_final
 
       module _ (cap load : ℕ → ℕ → ℕ) (bounded : IsBounded M send cap load) where
         bounds : AreBounds made_plans first found left_by cap (λ x. load x.rank x.op)

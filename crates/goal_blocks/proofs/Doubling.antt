@@ -1,9 +1,10 @@
 -- Bounds of the values of a rank that gathers in n rounds, in each as much as it has: slot 0 has at most 2^n in the end, and the
 -- slot of round k, which is k + 1, what comes in it.
-use Rattle.std.proofs.Common.{⊎_elim, ℕ, zero, suc, ◌+◌, ◌^◌, ◌<◌, ◌≤◌, ◌≡◌, nat_lt, Bool, true, false, if◌then◌else◌, refl, sym, subst, arith}
+use Rattle.std.proofs.Common.{⊎_elim, ℕ, zero, suc, ◌+◌, ◌-◌, ◌^◌, ◌<◌, ◌≤◌, ◌≡◌, nat_lt, Bool, true, false, if◌then◌else◌, refl, sym, ap, subst, arith}
 use Rattle.std.proofs.Math.Nat.{pow-suc}
 use Rattle.std.proofs.lemmas.Bool.{lt-ltb, ltb-true, cases_lt, cases_eq}
 use Rattle.goal_blocks.specs.Weight.{sum_below}
+use Rattle.goal_blocks.proofs.Trees.{sum_below_more}
 
 pub doubling : ℕ → ℕ → ℕ
 doubling n zero = 2 ^ n
@@ -17,7 +18,7 @@ pub doubling_early : (n k : ℕ) → k < n → doubling n (suc k) ≡ 2 ^ k
 unfolding doubling
 doubling_early n k l = rw (lt-ltb k n l) refl
 
-doubling_late : (n k : ℕ) → n ≤ k → doubling n (suc k) ≡ 0
+pub doubling_late : (n k : ℕ) → n ≤ k → doubling n (suc k) ≡ 0
 unfolding doubling
 doubling_late n k g = go (nat_lt k n) refl
   where
@@ -46,3 +47,21 @@ doubling_high n zero g =
     subst (λ (k : ℕ). sum_below 1 (doubling n) + 1 ≤ 2 ^ n + 2 ^ k) (sym none) (doubling_low n 0)
 doubling_high n (suc m) g =
     ⊎_elim (λ e. subst (λ (k : ℕ). sum_below (suc (suc m)) (doubling n) + 1 ≤ 2 ^ n + 2 ^ k) (sym e) (doubling_low n (suc m))) (λ d. let rest = doubling_high n m (omega (arith, g, d)) in let here = doubling_late n m (omega (arith, g, d)) in omega (arith, rest, here)) (cases_eq n (suc m))
+
+-- exactly one below it
+doubling_sum : (n m : ℕ) → m ≤ n → sum_below (suc m) (doubling n) + 1 ≡ 2 ^ n + 2 ^ m
+unfolding sum_below doubling
+doubling_sum n zero l = omega arith
+doubling_sum n (suc m) l =
+    let rest = doubling_sum n m (omega (arith, l)) in
+    let here = doubling_early n m (omega (arith, l)) in
+    let twice = pow-suc 2 m in
+    omega (arith, rest, here, twice)
+
+pub doubling_least : (n m : ℕ) → n < m → 2 ^ n + 2 ^ n ≤ sum_below m (doubling n) + 1
+doubling_least n m l =
+    let all = doubling_sum n n (omega arith) in
+    let more = sum_below_more (doubling n) (suc n) (m - suc n) in
+    let e : suc n + (m - suc n) ≡ m = omega (arith, l) in
+    let whole = ap (λ (k : ℕ). sum_below k (doubling n)) e in
+    omega (arith, all, more, whole)

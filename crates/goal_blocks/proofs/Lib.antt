@@ -59,6 +59,7 @@ pub mod Doubling
 pub mod Runs
 pub mod Gathered
 pub mod Rounds
+pub mod RoundsHeavy
 pub mod BarrierCertified
 pub mod AllreduceCertified
 pub mod ReduceScatterCertified

@@ -1,6 +1,7 @@
 -- The made schedules of the ten collectives are certified, those of the barrier and the allreduce up to 2,048 ranks, and so
 -- right everywhere.
-use Rattle.std.proofs.Common.{ℕ, ◌≤◌, length, sym, subst}
+use Rattle.std.proofs.Common.{⊎_elim, ℕ, ◌^◌, ◌≤◌, ◌<◌, length, sym, subst, arith}
+use Rattle.std.proofs.lemmas.Bool.{cases_lt}
 use Rattle.goal_base.specs.declared.limits.TheConstants.{MAX_BYTES}
 use Rattle.goal_blocks.specs.declared.collective.Collective.{Collective}
 use Rattle.goal_blocks.specs.declared.collective.Collective.TheVariants.{Bcast, Barrier, Allgather, Allreduce, Alltoall, Reduce, Gather, Scatter, ReduceScatter, Scan}
@@ -11,21 +12,24 @@ use Rattle.goal_blocks.proofs.Right.{certified_right}
 use Rattle.goal_blocks.proofs.BcastCertified.{bcast_certified}
 use Rattle.goal_blocks.proofs.AllgatherCertified.{allgather_certified}
 use Rattle.goal_blocks.proofs.AlltoallCertified.{alltoall_certified}
-use Rattle.goal_blocks.proofs.BarrierCertified.{barrier_certified}
-use Rattle.goal_blocks.proofs.AllreduceCertified.{allreduce_certified}
+use Rattle.goal_blocks.proofs.BarrierCertified.{barrier_certified, barrier_heavy}
+use Rattle.goal_blocks.proofs.AllreduceCertified.{allreduce_certified, allreduce_heavy}
 use Rattle.goal_blocks.proofs.ReduceCertified.{reduce_certified}
 use Rattle.goal_blocks.proofs.ReduceScatterCertified.{reduce_scatter_certified}
 use Rattle.goal_blocks.proofs.GatherCertified.{gather_certified}
 use Rattle.goal_blocks.proofs.ScatterCertified.{scatter_certified}
 use Rattle.goal_blocks.proofs.ScanCertified.{scan_certified}
 
+power_few : (ranks : ℕ) (p : IsPossible Allreduce ranks) → 2 ^ p.power.0 ≤ 65536
+power_few ranks p = let few = p.few_ranks in let is = p.power.1 in omega (arith, few, is)
+
 pub made_certified : (what : Collective) (ranks bytes : ℕ) → IsPossible what ranks → bytes ≤ MAX_BYTES → IsCertifiedByProof what ranks → IsCertifiedFor what (made what ranks bytes)
 made_certified (Bcast root) ranks bytes p small proved = bcast_certified ranks root bytes p.root p.few_ranks small
 made_certified Allgather ranks bytes p small proved = allgather_certified ranks bytes p.some_rank p.few_ranks small
 made_certified Scan ranks bytes p small proved = scan_certified ranks bytes p.some_rank p.few_ranks small
-made_certified Barrier ranks bytes p small proved = barrier_certified ranks bytes p.some_rank proved
+made_certified Barrier ranks bytes p small proved = let few = p.few_ranks in barrier_certified ranks bytes p.some_rank (omega (arith, few)) proved
 made_certified Allreduce ranks bytes p small proved =
-    subst (λ (n : ℕ). IsCertifiedFor Allreduce (made Allreduce n bytes)) (sym p.power.1) (allreduce_certified p.power.0 bytes (subst (λ (n : ℕ). n ≤ 2048) p.power.1 proved))
+    subst (λ (n : ℕ). IsCertifiedFor Allreduce (made Allreduce n bytes)) (sym p.power.1) (allreduce_certified p.power.0 bytes (power_few ranks p) (subst (λ (n : ℕ). n ≤ 2048) p.power.1 proved))
 made_certified Alltoall ranks bytes p small proved = alltoall_certified ranks bytes p.some_rank p.few_ranks small
 made_certified (Reduce root) ranks bytes p small proved = reduce_certified ranks root bytes p.root p.few_ranks small
 made_certified (Gather root) ranks bytes p small proved = gather_certified ranks root bytes p.root p.few_ranks
@@ -35,3 +39,19 @@ made_certified ReduceScatter ranks bytes p small proved = reduce_scatter_certifi
 pub made_right : (what : Collective) (ranks bytes : ℕ) → IsPossible what ranks → bytes ≤ MAX_BYTES → IsCertifiedByProof what ranks → IsRightFor what (made what ranks bytes)
 made_right what ranks bytes p small proved =
     certified_right (made what ranks bytes) (initial what (length (made what ranks bytes))) (wanted what (length (made what ranks bytes))) (made_certified what ranks bytes p small proved)
+
+-- only those of few ranks are, of the two that hold more and more
+pub only_certified : (what : Collective) (ranks bytes : ℕ) → IsPossible what ranks → IsCertifiedFor what (made what ranks bytes) → IsCertifiedByProof what ranks
+only_certified Barrier ranks bytes p c =
+    let few = p.few_ranks in
+    ⊎_elim (λ many. absurd (barrier_heavy ranks bytes p.some_rank (omega (arith, few)) many c)) (λ light. light) (cases_lt 2048 ranks)
+only_certified Allreduce ranks bytes p c =
+    ⊎_elim (λ many. absurd (allreduce_heavy p.power.0 bytes (power_few ranks p) (subst (λ (n : ℕ). 2048 < n) p.power.1 many) (subst (λ (n : ℕ). IsCertifiedFor Allreduce (made Allreduce n bytes)) p.power.1 c))) (λ light. light) (cases_lt 2048 ranks)
+only_certified (Bcast root) ranks bytes p c = tt
+only_certified Allgather ranks bytes p c = tt
+only_certified Alltoall ranks bytes p c = tt
+only_certified (Reduce root) ranks bytes p c = tt
+only_certified (Gather root) ranks bytes p c = tt
+only_certified (Scatter root) ranks bytes p c = tt
+only_certified ReduceScatter ranks bytes p c = tt
+only_certified Scan ranks bytes p c = tt

@@ -198,7 +198,7 @@ module _ (ranks n bytes : ℕ) (to from : ℕ → ℕ → ℕ) (to_rank : (r k :
   send_sums r t u l = before_sums r (3 * t) t u l (send_sum r t)
 
   -- what is written: by a receive the slot of its round, by a sum slot 0
-  writes_are : (r i s : ℕ) → Mem s (writes (rounds_entry r i)) → ((k : ℕ) × (i ≡ 3 * k + 1) × (k + 1 ≡ s)) ⊎ ((k : ℕ) × (i ≡ 3 * k + 2) × (0 ≡ s))
+  pub writes_are : (r i s : ℕ) → Mem s (writes (rounds_entry r i)) → ((k : ℕ) × (i ≡ 3 * k + 1) × (k + 1 ≡ s)) ⊎ ((k : ℕ) × (i ≡ 3 * k + 2) × (0 ≡ s))
   writes_are r i s m = ⊎_elim (λ p. absurd (subst (λ (x : Entry). Mem s (writes x)) (as_send r i p.0 p.1) m)) (λ c. ⊎_elim (λ p. inl (p.0, p.1, at_slot (p.0 + 1) (subst (λ (x : Entry). Mem s (writes x)) (as_receive r i p.0 p.1) m))) (λ p. inr (p.0, p.1, one (subst (λ (x : Entry). Mem s (writes x)) (as_sum r i p.0 p.1) m))) c) (cases_triple i)
     where
       at_slot : (j : ℕ) → Mem s (flat_map slots_of_span (slot j)) → j ≡ s
@@ -208,7 +208,7 @@ module _ (ranks n bytes : ℕ) (to from : ℕ → ℕ → ℕ) (to_rank : (r k :
       one (inl e) = e
       one (inr x) = absurd x
 
-  receive_writes : (r k : ℕ) → Mem (k + 1) (writes (rounds_entry r (3 * k + 1)))
+  pub receive_writes : (r k : ℕ) → Mem (k + 1) (writes (rounds_entry r (3 * k + 1)))
   receive_writes r k =
       subst (λ (x : Entry). Mem (k + 1) (writes x)) (sym (receives r k)) (subst (λ (ks : List ℕ). Mem (k + 1) ks) (sym (moved_slot (k + 1))) (inl refl))
 
@@ -265,12 +265,12 @@ module _ (ranks n bytes : ℕ) (to from : ℕ → ℕ → ℕ) (to_rank : (r k :
   unfolding rounds_leaves
   leaves_zero r i k e = ap (λ (m : ℕ). gained (suc m) r) e
 
-  leaves_other : (r i k s : ℕ) → i / 3 ≡ k → 0 < s → rounds_leaves r i s ≡ gained k (from r k)
+  pub leaves_other : (r i k s : ℕ) → i / 3 ≡ k → 0 < s → rounds_leaves r i s ≡ gained k (from r k)
   unfolding rounds_leaves
   leaves_other r i k zero e l = absurd (omega (arith, l))
   leaves_other r i k (suc s) e l = ap (λ (m : ℕ). gained m (from r m)) e
 
-  module _ (first : Store) (wanted : ℕ → ℕ → Value → Bool) (first_is : (r : ℕ) → r < ranks → first r 0 ≡ single r 0) (end_is : (r : ℕ) → r < ranks → wanted r 0 (gained n r) ≡ true) (elsewhere : (r k : ℕ) (v : Value) → wanted r (suc k) v ≡ true) where
+  module _ (first : Store) (wanted : ℕ → ℕ → Value → Bool) (first_is : (r : ℕ) → r < ranks → first r 0 ≡ single r 0) (end_is : (r : ℕ) → r < ranks → wanted r 0 (gained n r) ≡ true) (others : (r s : ℕ) → r < ranks → Final ranks rounds_count rounds_entry first wanted rounds_finds rounds_leaves r (suc s)) where
     -- slot 0 before a round: as at first, or as the sum of the round before leaves it
     zero_origin : (r i k : ℕ) → r < ranks → k < n → i / 3 ≡ k → ((u : ℕ) → k ≤ u → (3 * u + 2 ≡ i) ⊎ Precedes (rounds_entry r) i (3 * u + 2)) → ((u : ℕ) → u < k → Precedes (rounds_entry r) (3 * u + 2) i) → Origin ranks rounds_count rounds_entry first wanted rounds_finds rounds_leaves r i 0
     unfolding gained
@@ -331,7 +331,7 @@ module _ (ranks n bytes : ℕ) (to from : ℕ → ℕ → ℕ) (to_rank : (r k :
 
     final : (m : ℕ) → n ≡ m → (r s : ℕ) → r < ranks → Final ranks rounds_count rounds_entry first wanted rounds_finds rounds_leaves r s
     unfolding gained
-    final m e r (suc s) inside = inl (λ v. elsewhere r s v)
+    final m e r (suc s) inside = others r s inside
     final zero e r zero inside =
         inr (inl (λ j l w. omega (arith, l, e), subst (λ (v : Value). wanted r 0 v ≡ true) (sym (first_is r inside ∙ sym (ap (λ (k : ℕ). gained k r) e))) (end_is r inside)))
     final (suc t) e r zero inside =
@@ -342,7 +342,7 @@ module _ (ranks n bytes : ℕ) (to from : ℕ → ℕ → ℕ) (to_rank : (r k :
         writer j l (inr (k, f, g)) =
             ⊎_elim (λ less. inr (placed r j (3 * t + 2) (3 * k + 2) (3 * t + 2) f refl (sum_sum r k t less))) (λ more. inl (omega (arith, l, e, f, more))) (cases_lt k t)
 
-    rounds_blueprint : IsBlueprint ranks rounds_count rounds_entry first wanted rounds_finds rounds_leaves Turn bytes turn_send turn_recv (λ t. t.round) rounds_level
+    pub rounds_blueprint : IsBlueprint ranks rounds_count rounds_entry first wanted rounds_finds rounds_leaves Turn bytes turn_send turn_recv (λ t. t.round) rounds_level
     rounds_blueprint = record {
       messages = turn_messages;
       lower = lower;

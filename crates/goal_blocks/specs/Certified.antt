@@ -36,3 +36,7 @@ MadeIsCertified = (what : Collective) (ranks bytes : ℕ) → IsPossible what ra
 -- and right everywhere
 abbrev pub MadeIsRight : Type 0
 MadeIsRight = (what : Collective) (ranks bytes : ℕ) → IsPossible what ranks → bytes ≤ MAX_BYTES → IsCertifiedByProof what ranks → IsRightFor what (made what ranks bytes)
+
+-- and only these are certified: those of more ranks hold more than 2^24 contributions at the end of the walk
+abbrev pub OnlyTheseAreCertified : Type 0
+OnlyTheseAreCertified = (what : Collective) (ranks bytes : ℕ) → IsPossible what ranks → IsCertifiedFor what (made what ranks bytes) → IsCertifiedByProof what ranks

@@ -3,7 +3,7 @@
 ghost use Rattle.goal_blocks.specs.Fitting.{FittingIsAccepted};
 ghost use Rattle.goal_blocks.specs.Generated.{MadeIsAccepted};
 ghost use Rattle.goal_blocks.specs.Messages.{BcastIsPaired, AllgatherIsPaired, ScanIsPaired};
-ghost use Rattle.goal_blocks.specs.Certified.{MadeIsCertified, MadeIsRight};
+ghost use Rattle.goal_blocks.specs.Certified.{MadeIsCertified, MadeIsRight, OnlyTheseAreCertified};
 
 use crate::collective::Collective;
 
@@ -53,6 +53,8 @@ impl Collective {
 ///   exactly one receive of its channel, and each receive one send.
 /// - `made_is_certified`, `made_is_right`: the schedules of the ten collectives, of the barrier and allreduce those up to
 ///   2,048 ranks, are certified and right everywhere, for all ranks, roots and sizes within the limits, without a check.
+/// - `only_these_are_certified`: those of the barrier and allreduce for more than 2,048 ranks are not certified, since at
+///   the end of the walk too much is held.
 pub fn laws_of_made_schedules()
     ensures fitting_is_accepted { FittingIsAccepted }
     ensures made_is_accepted { MadeIsAccepted }
@@ -61,4 +63,5 @@ pub fn laws_of_made_schedules()
     ensures scan_is_paired { ScanIsPaired }
     ensures made_is_certified { MadeIsCertified }
     ensures made_is_right { MadeIsRight }
+    ensures only_these_are_certified { OnlyTheseAreCertified }
 {}
