@@ -1,20 +1,17 @@
 -- A queue with floors, of which one slot is changed and the head of its group told anew.
-use Rattle.std.proofs.Common.{◌≡◌, ◌≢◌, ◌⊎◌, ◌<◌, ◌≤◌, ℕ, zero, suc, true, List, [], ◌∷◌, length, set, get_or, slice_get, slice_index, Option, Some, None, refl, sym, ap, ◌∙◌, subst, arith, inl, inr}
+use Rattle.std.proofs.Common.{◌≡◌, ◌≢◌, ◌⊎◌, ◌<◌, ◌≤◌, ℕ, zero, suc, true, List, [], ◌∷◌, length, set, slice_get, slice_index, Option, Some, None, refl, sym, ap, ◌∙◌, subst, arith, inl, inr}
 use Rattle.std.proofs.lemmas.Bool.{cases_eq, cases_lt}
-use Rattle.std.proofs.lemmas.List.{get_or-set_same, get_or-set_other, length-set, get_or_past, same_lists}
+use Rattle.std.proofs.lemmas.List.{get_or-set_same, get_or-set_other, length-set, get_or_past}
 use Rattle.std.proofs.lemmas.Option.{slice_get-get_or, slice_get_within, same_Some}
 use Rattle.goal_graph.specs.declared.action.Timed.{Timed}
 use Rattle.sim_queue.specs.Map.{key_at}
 use Rattle.sim_queue.specs.Groups.{Grouped}
 use Rattle.sim_queue.specs.Floors.{waits_for_room, at_time, floor_of, effective, seen_keys, IsHead, IsFloored, IsRenewed, IsStep}
+use Rattle.sim_queue.proofs.Maps.{same_maps as same_within}
 
 -- two maps of one length are the same where their slots have the same
 pub same_maps : (xs ys : List (Option Timed)) → length xs ≡ length ys → ((i : ℕ) → key_at xs i ≡ key_at ys i) → xs ≡ ys
-same_maps xs ys l same = same_lists xs ys l (λ k d h. each k d h (omega (arith, h, l)))
-  where
-    each : (k : ℕ) (d : Option Timed) → k < length xs → k < length ys → get_or xs k d ≡ get_or ys k d
-    each k d h j =
-        same_Some (get_or xs k d) (get_or ys k d) (sym (slice_get-get_or xs k d h) ∙ slice_get-get_or xs k None h ∙ ap Some (same k) ∙ sym (slice_get-get_or ys k None j) ∙ slice_get-get_or ys k d j)
+same_maps xs ys l same = same_within xs ys l (λ i h. same i)
 
 -- a slot that has a key is one of the map
 pub key_within : (keys : List (Option Timed)) (slot : ℕ) (k : Timed) → key_at keys slot ≡ Some k → slot < length keys

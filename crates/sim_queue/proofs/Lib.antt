@@ -1,9 +1,11 @@
 pub mod Weak
 pub mod Scanning
+pub mod Maps
 pub mod Swapping
 pub mod Children
 pub mod Sifting
 pub mod Stepping
+pub mod Placed
 pub mod Top
 pub mod Changing
 pub mod Bounds
