@@ -5,9 +5,9 @@ use Rattle.std.proofs.lemmas.Bool.{lt-ltb, ne_eqb, cases_lt, cases_eq}
 use Rattle.std.proofs.lemmas.Nat.{pow_pos, div-mul-add, div-add-mod', mod_below}
 use Rattle.goal_blocks.specs.declared.collective.Collective.TheVariants.{Allreduce}
 use Rattle.goal_blocks.specs.Values.{Value, Store, merge}
-use Rattle.goal_blocks.specs.Certification.{IsCertified}
+use Rattle.goal_blocks.specs.Certification.{IsCertified, IsRightEverywhere}
 use Rattle.goal_blocks.specs.Collectives.{single, of_each, initial, wanted}
-use Rattle.goal_blocks.specs.Certified.{IsCertifiedFor}
+use Rattle.goal_blocks.specs.Certified.{IsCertifiedFor, IsRightFor}
 use Rattle.goal_blocks.specs.Positions.{flipped, digits}
 use Rattle.goal_blocks.specs.Made.{allreduce_in}
 use Rattle.goal_blocks.specs.Generated.{made}
@@ -15,7 +15,7 @@ use Rattle.goal_blocks.proofs.EntryFacts.{length_plans}
 use Rattle.goal_blocks.proofs.RingAndTree.{flipped_below, digits_high, digits_few}
 use Rattle.goal_blocks.proofs.ScanCertified.{is_itself}
 use Rattle.goal_blocks.proofs.Runs.{run, merge_before, merge_after, run_is}
-use Rattle.goal_blocks.proofs.Rounds.{pow_le, gained, rounds_are_certified}
+use Rattle.goal_blocks.proofs.Rounds.{pow_le, gained, rounds_right, rounds_are_certified}
 use Rattle.goal_blocks.proofs.RoundsHeavy.{many_rounds, rounds_too_heavy}
 
 -- the rank with the other binary digit
@@ -201,6 +201,12 @@ module _ (m bytes : ℕ) (few : 2 ^ m ≤ 65536) where
   allreduce_certified light =
       let least = few_rounds light in
       subst (λ (k : ℕ). IsCertified (made Allreduce ranks bytes) (initial Allreduce k) (wanted Allreduce k)) (sym (length_plans ranks (λ r. 3 * n) (λ r i. allreduce_in bytes r i))) (rounds_are_certified ranks n bytes flipped flipped to_rank to_rank twice_is twice_is first (wanted Allreduce ranks) first_is end_is (λ r s inside. inl (λ v. elsewhere r s v)) first_few first_none light (let le = pow_le n 11 least in omega (arith, le)) least)
+
+  -- whatever the number of ranks
+  pub allreduce_right : IsRightFor Allreduce (made Allreduce ranks bytes)
+  unfolding made allreduce_in
+  allreduce_right =
+      subst (λ (k : ℕ). IsRightEverywhere (made Allreduce ranks bytes) (initial Allreduce k) (wanted Allreduce k)) (sym (length_plans ranks (λ r. 3 * n) (λ r i. allreduce_in bytes r i))) (rounds_right ranks n bytes flipped flipped to_rank to_rank twice_is twice_is first (wanted Allreduce ranks) first_is end_is (λ r s inside. inl (λ v. elsewhere r s v)))
 
   -- with more ranks there are more than 11 rounds, and too much is held
   pub allreduce_heavy : 2048 < ranks → IsCertifiedFor Allreduce (made Allreduce ranks bytes) → ⊥

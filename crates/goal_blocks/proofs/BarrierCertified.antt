@@ -5,9 +5,9 @@ use Rattle.std.proofs.Math.Nat.{pow-suc}
 use Rattle.std.proofs.lemmas.Bool.{both_ways, lt-ltb, ne_eqb, cases_lt}
 use Rattle.goal_blocks.specs.declared.collective.Collective.TheVariants.{Barrier}
 use Rattle.goal_blocks.specs.Values.{Contribution, Value, Store, is_lower, insert_one, merge}
-use Rattle.goal_blocks.specs.Certification.{IsCertified}
+use Rattle.goal_blocks.specs.Certification.{IsCertified, IsRightEverywhere}
 use Rattle.goal_blocks.specs.Collectives.{single, of_each, initial, is_one, has_one, wanted}
-use Rattle.goal_blocks.specs.Certified.{IsCertifiedFor}
+use Rattle.goal_blocks.specs.Certified.{IsCertifiedFor, IsRightFor}
 use Rattle.goal_blocks.specs.Positions.{ahead, back, digits}
 use Rattle.goal_blocks.specs.Made.{barrier_in}
 use Rattle.goal_blocks.specs.Generated.{made}
@@ -15,7 +15,7 @@ use Rattle.goal_blocks.proofs.EntryFacts.{length_plans}
 use Rattle.goal_blocks.proofs.Ring.{back_is, back_ahead, ahead_back}
 use Rattle.goal_blocks.proofs.RingAndTree.{ahead_below, back_below, digits_low, digits_high, digits_few}
 use Rattle.goal_blocks.proofs.AllgatherCertified.{back_zero, back_back}
-use Rattle.goal_blocks.proofs.Rounds.{pow_le, gained, rounds_are_certified}
+use Rattle.goal_blocks.proofs.Rounds.{pow_le, gained, rounds_right, rounds_are_certified}
 use Rattle.goal_blocks.proofs.RoundsHeavy.{many_rounds, rounds_too_heavy}
 
 has_cons : (d c : Contribution) (v : Value) (t : Bool) → is_one c d ≡ t → has_one (d ∷ v) c ≡ (if t then true else has_one v c)
@@ -168,6 +168,12 @@ module _ (ranks bytes : ℕ) (some : 0 < ranks) (few : ranks ≤ 65536) where
   barrier_certified light =
       let least = few_rounds light in
       subst (λ (m : ℕ). IsCertified (made Barrier ranks bytes) (initial Barrier m) (wanted Barrier m)) (sym (length_plans ranks (λ r. 3 * n) (λ r i. barrier_in ranks bytes r i))) (rounds_are_certified ranks n bytes to from to_rank from_rank there_and_back back_and_there first (wanted Barrier ranks) first_is end_is (λ r s inside. inl (λ v. elsewhere r s v)) first_few first_none light (let le = pow_le n 11 least in omega (arith, le)) least)
+
+  -- whatever the number of ranks
+  pub barrier_right : IsRightFor Barrier (made Barrier ranks bytes)
+  unfolding made barrier_in
+  barrier_right =
+      subst (λ (m : ℕ). IsRightEverywhere (made Barrier ranks bytes) (initial Barrier m) (wanted Barrier m)) (sym (length_plans ranks (λ r. 3 * n) (λ r i. barrier_in ranks bytes r i))) (rounds_right ranks n bytes to from to_rank from_rank there_and_back back_and_there first (wanted Barrier ranks) first_is end_is (λ r s inside. inl (λ v. elsewhere r s v)))
 
   -- with more ranks there are more than 11 rounds, and too much is held
   pub barrier_heavy : 2048 < ranks → IsCertifiedFor Barrier (made Barrier ranks bytes) → ⊥

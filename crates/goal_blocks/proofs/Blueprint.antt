@@ -22,7 +22,7 @@ use Rattle.goal_blocks.specs.Values.{Value, Store, Held, merge, set_slot, add_al
 use Rattle.goal_blocks.specs.Walk.{no_send, IsWalk}
 use Rattle.goal_blocks.specs.Matched.{IsMatched}
 use Rattle.goal_blocks.specs.Weight.{sum_below}
-use Rattle.goal_blocks.specs.Certification.{IsSmall, HasEqualLengths, HoldsWanted, IsCertified}
+use Rattle.goal_blocks.specs.Certification.{IsSmall, HasEqualLengths, HoldsWanted, IsCertified, IsRightEverywhere}
 use Rattle.goal_blocks.specs.Entries.{Entry, op_of, plan_by, made_by}
 use Rattle.goal_blocks.specs.Levels.{AreLevels}
 use Rattle.goal_blocks.specs.Messages.{AreMessages, AreChannelsPaired}
@@ -37,6 +37,7 @@ use Rattle.goal_blocks.proofs.SomeWalk.{some_walk}
 use Rattle.goal_blocks.proofs.Flow.{IsFlow, Flows, all_flows, Source, Writes, state}
 use Rattle.goal_blocks.proofs.Ends.{Before, ends, ends_keep, ends_once, ended_listed, held_by_ends}
 use Rattle.goal_blocks.proofs.Light.{AreBounds, light}
+use Rattle.goal_blocks.proofs.Right.{matched_right}
 
 -- the slots that an entry moves, those that it touches, and those that it writes
 abbrev pub moved : Entry → List ℕ
@@ -408,6 +409,10 @@ module _ (ranks : ℕ) (count : ℕ → ℕ) (e : ℕ → ℕ → Entry) where
               is_last : (z : OpId) → IsWriter z r k → (z ≡ op_at r j) ⊎ Before made_plans matched z (op_at r j)
               is_last z is =
                   ⊎_elim (λ same. inl (sym is.is ∙ ap (λ (i : ℕ). op_at r i) same)) (λ p. inr (subst (λ (y : OpId). Before made_plans matched y (op_at r j)) is.is (before_from r z.op j (in_rank, inside) p))) (last z.op is.there.1 is.wrote)
+
+      -- so it is right everywhere, whatever it weighs
+      pub blueprint_right : IsRightEverywhere made_plans first wanted
+      blueprint_right = matched_right made_plans first wanted matched no_race written_final
 
       -- at the end of the walk
       pub final_values : (w : List Act) → IsWalk made_plans w → HoldsWanted made_plans wanted (value made_plans no_send first w)

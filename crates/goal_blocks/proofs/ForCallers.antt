@@ -15,6 +15,6 @@ pub use Rattle.goal_blocks.proofs.Channels.{fits_channel, channel_fits, channels
 pub use Rattle.goal_blocks.proofs.Walk.{IsTail, whole, newer, one_tail, complete_tail, one_walk}
 pub use Rattle.goal_blocks.proofs.Faults.{heavy_not}
 pub use Rattle.goal_blocks.proofs.SomeWalk.{IsFirst, takes_first, nothing_left, some_walk}
-pub use Rattle.goal_blocks.proofs.MadeCertified.{made_certified, made_right}
+pub use Rattle.goal_blocks.proofs.MadeCertified.{made_certified, made_right, all_made_right}
 pub use Rattle.goal_blocks.proofs.Sorted.{length_merge}
 pub use Rattle.goal_blocks.proofs.SlotSums.{stored_most, stored_set}

@@ -12,8 +12,8 @@ use Rattle.goal_blocks.proofs.Right.{certified_right}
 use Rattle.goal_blocks.proofs.BcastCertified.{bcast_certified}
 use Rattle.goal_blocks.proofs.AllgatherCertified.{allgather_certified}
 use Rattle.goal_blocks.proofs.AlltoallCertified.{alltoall_certified}
-use Rattle.goal_blocks.proofs.BarrierCertified.{barrier_certified, barrier_heavy}
-use Rattle.goal_blocks.proofs.AllreduceCertified.{allreduce_certified, allreduce_heavy}
+use Rattle.goal_blocks.proofs.BarrierCertified.{barrier_certified, barrier_right, barrier_heavy}
+use Rattle.goal_blocks.proofs.AllreduceCertified.{allreduce_certified, allreduce_right, allreduce_heavy}
 use Rattle.goal_blocks.proofs.ReduceCertified.{reduce_certified}
 use Rattle.goal_blocks.proofs.ReduceScatterCertified.{reduce_scatter_certified}
 use Rattle.goal_blocks.proofs.GatherCertified.{gather_certified}
@@ -55,3 +55,17 @@ only_certified (Gather root) ranks bytes p c = tt
 only_certified (Scatter root) ranks bytes p c = tt
 only_certified ReduceScatter ranks bytes p c = tt
 only_certified Scan ranks bytes p c = tt
+
+-- all are right everywhere, whatever they weigh
+pub all_made_right : (what : Collective) (ranks bytes : ℕ) → IsPossible what ranks → bytes ≤ MAX_BYTES → IsRightFor what (made what ranks bytes)
+all_made_right Barrier ranks bytes p small = let few = p.few_ranks in barrier_right ranks bytes p.some_rank (omega (arith, few))
+all_made_right Allreduce ranks bytes p small =
+    subst (λ (n : ℕ). IsRightFor Allreduce (made Allreduce n bytes)) (sym p.power.1) (allreduce_right p.power.0 bytes (power_few ranks p))
+all_made_right (Bcast root) ranks bytes p small = made_right (Bcast root) ranks bytes p small tt
+all_made_right Allgather ranks bytes p small = made_right Allgather ranks bytes p small tt
+all_made_right Alltoall ranks bytes p small = made_right Alltoall ranks bytes p small tt
+all_made_right (Reduce root) ranks bytes p small = made_right (Reduce root) ranks bytes p small tt
+all_made_right (Gather root) ranks bytes p small = made_right (Gather root) ranks bytes p small tt
+all_made_right (Scatter root) ranks bytes p small = made_right (Scatter root) ranks bytes p small tt
+all_made_right ReduceScatter ranks bytes p small = made_right ReduceScatter ranks bytes p small tt
+all_made_right Scan ranks bytes p small = made_right Scan ranks bytes p small tt

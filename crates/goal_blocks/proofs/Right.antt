@@ -9,7 +9,7 @@ use Rattle.goal_graph.specs.Interleaving.{IsCompleteInterleaving}
 use Rattle.goal_graph.proofs.ForCallers.{cases_op, same_op_false}
 use Rattle.goal_blocks.specs.Slots.{written, touched}
 use Rattle.goal_blocks.specs.Race.{EndsBefore, Conflict, HasNoRace}
-use Rattle.goal_blocks.specs.Values.{Value, Store, Held, held_after}
+use Rattle.goal_blocks.specs.Values.{Value, Store, Held, held_after, value}
 use Rattle.goal_blocks.specs.Matched.{IsMatched}
 use Rattle.goal_blocks.specs.Walk.{no_send}
 use Rattle.goal_blocks.specs.Certification.{HoldsWanted, IsCertified, IsRightEverywhere}
@@ -75,8 +75,13 @@ module _ (plans : List Plan) (no_race : HasNoRace plans) (matched : IsMatched pl
       from z m =
           ended_listed plans eager h z ((ends_in_its_pairs plans eager h matched done).all_end z (listed_op plans no_send walk z walked.each m))
 
-pub certified_right : (plans : List Plan) (first : Store) (wanted : ℕ → ℕ → Value → Bool) → IsCertified plans first wanted → IsRightEverywhere plans first wanted
-certified_right plans first wanted certified eager h done = record {
-  ends = ends_in_its_pairs plans eager h certified.matched done;
-  wanted_held = subst (λ (s : Held). HoldsWanted plans wanted s.store) (sym (held_as_the_walk plans certified.no_race certified.matched first eager h done)) certified.right;
+-- what is matched, has no race, and leaves what is wanted after the walk is right everywhere
+pub matched_right : (plans : List Plan) (first : Store) (wanted : ℕ → ℕ → Value → Bool) (matched : IsMatched plans) → HasNoRace plans → HoldsWanted plans wanted (value plans no_send first matched.no_stall.walk) → IsRightEverywhere plans first wanted
+matched_right plans first wanted matched no_race right eager h done = record {
+  ends = ends_in_its_pairs plans eager h matched done;
+  wanted_held = subst (λ (s : Held). HoldsWanted plans wanted s.store) (sym (held_as_the_walk plans no_race matched first eager h done)) right;
 }
+
+pub certified_right : (plans : List Plan) (first : Store) (wanted : ℕ → ℕ → Value → Bool) → IsCertified plans first wanted → IsRightEverywhere plans first wanted
+certified_right plans first wanted certified =
+    matched_right plans first wanted certified.matched certified.no_race certified.right

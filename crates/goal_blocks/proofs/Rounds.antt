@@ -12,7 +12,7 @@ use Rattle.goal_graph.specs.declared.plan.Note.TheVariants.{Moves, Adds}
 use Rattle.goal_blocks.specs.Slots.{Adding}
 use Rattle.goal_blocks.specs.Values.{Contribution, Value, Store, is_lower, insert_one, merge}
 use Rattle.goal_blocks.specs.Weight.{sum_below}
-use Rattle.goal_blocks.specs.Certification.{NamesLowSlots, moved_count, IsSmall, IsCertified}
+use Rattle.goal_blocks.specs.Certification.{NamesLowSlots, moved_count, IsSmall, IsCertified, IsRightEverywhere}
 use Rattle.goal_blocks.specs.Collectives.{single}
 use Rattle.goal_blocks.specs.Entries.{Entry, slot, sending, receiving, summing, notes_of, made_by}
 use Rattle.goal_blocks.specs.Made.{before_round, round_in}
@@ -26,7 +26,7 @@ use Rattle.goal_blocks.proofs.Doubling.{doubling, doubling_zero, doubling_early,
 use Rattle.goal_blocks.proofs.Slim.{All_one}
 use Rattle.goal_blocks.proofs.Sizes.{sum_below_few, entries_small}
 use Rattle.goal_blocks.proofs.Totals.{sum_range_few}
-use Rattle.goal_blocks.proofs.Blueprint.{moved, touches, writes, Precedes, now, after, IsThere, Origin, Final, IsBlueprint, IsBounded, blueprint_certified}
+use Rattle.goal_blocks.proofs.Blueprint.{moved, touches, writes, Precedes, now, after, IsThere, Origin, Final, IsBlueprint, IsBounded, blueprint_right, blueprint_certified}
 
 pub length-insert : (c : Contribution) (v : Value) → length (insert_one c v) ≡ suc (length v)
 unfolding insert_one
@@ -353,6 +353,11 @@ module _ (ranks n bytes : ℕ) (to from : ℕ → ℕ → ℕ) (to_rank : (r k :
       kept = kept;
       final = λ r k inside. final n refl r k inside;
     }
+
+    -- whatever the number of ranks
+    pub rounds_right : IsRightEverywhere (made_by ranks rounds_count rounds_entry) first wanted
+    rounds_right =
+        blueprint_right ranks rounds_count rounds_entry first wanted rounds_finds rounds_leaves Turn bytes turn_send turn_recv (λ t. t.round) rounds_level rounds_blueprint
 
     -- bounds: in slot 0 what is gained in the end, in the slot of a round, and in its message, what is gained before it
     abbrev cap : ℕ → ℕ → ℕ

@@ -3,7 +3,7 @@
 ghost use Rattle.goal_blocks.specs.Fitting.{FittingIsAccepted};
 ghost use Rattle.goal_blocks.specs.Generated.{MadeIsAccepted};
 ghost use Rattle.goal_blocks.specs.Messages.{BcastIsPaired, AllgatherIsPaired, ScanIsPaired};
-ghost use Rattle.goal_blocks.specs.Certified.{MadeIsCertified, MadeIsRight, OnlyTheseAreCertified};
+ghost use Rattle.goal_blocks.specs.Certified.{MadeIsCertified, MadeIsRight, OnlyTheseAreCertified, AllMadeAreRight};
 
 use crate::collective::Collective;
 
@@ -55,6 +55,8 @@ impl Collective {
 ///   2,048 ranks, are certified and right everywhere, for all ranks, roots and sizes within the limits, without a check.
 /// - `only_these_are_certified`: those of the barrier and allreduce for more than 2,048 ranks are not certified, since at
 ///   the end of the walk too much is held.
+/// - `all_made_are_right`: the schedules of all ten are right everywhere, for all ranks, roots and sizes within the limits,
+///   those of the barrier and allreduce for more than 2,048 ranks too.
 pub fn laws_of_made_schedules()
     ensures fitting_is_accepted { FittingIsAccepted }
     ensures made_is_accepted { MadeIsAccepted }
@@ -64,4 +66,5 @@ pub fn laws_of_made_schedules()
     ensures made_is_certified { MadeIsCertified }
     ensures made_is_right { MadeIsRight }
     ensures only_these_are_certified { OnlyTheseAreCertified }
+    ensures all_made_are_right { AllMadeAreRight }
 {}
