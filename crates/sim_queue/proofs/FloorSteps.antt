@@ -1,7 +1,7 @@
 -- The steps of a queue with floors: a slot waits no longer, begins to wait, or is raised where it waits.
 use Rattle.std.proofs.Common.{◌≡◌, ◌≢◌, ◌⊎◌, ◌<◌, ◌≤◌, ℕ, true, false, List, length, set, slice_get, slice_index, Option, Some, None, is_some, refl, sym, ap, ◌∙◌, subst, arith, inl, inr}
 use Rattle.std.proofs.lemmas.Bool.{cases_eq}
-use Rattle.std.proofs.lemmas.List.{get_or-set_same, get_or-set_other, length-set}
+use Rattle.std.proofs.lemmas.List.{get_or-set_same, get_or-set_other, length-set, set-set}
 use Rattle.std.proofs.lemmas.Option.{same_Some, slice_get_within, slice_get-get_or}
 use Rattle.goal_graph.specs.declared.action.Timed.{Timed}
 use Rattle.sim_queue.specs.Map.{key_at}
@@ -52,6 +52,43 @@ module _ (ahead : List (Option Timed)) (waiting : Grouped Timed) (heads : List (
             go (inl e) = e
             go (inr w) = w.is ∙ sym w.was
 
+  -- the slot begins to wait at the floor
+  module _ (idle : key_at ahead slot ≡ None) (key : Timed) (waits : waits_for_room key.class ≡ true) (at_floor : floor_of (key_at heads group) ≡ key.time) (new_waiting : Grouped Timed) (put : new_waiting ≡ record { keys = set waiting.keys slot (Some (at_time 0 key)); groups = waiting.groups }) (new_heads : List (Option Timed)) (renewed : IsRenewed new_waiting heads new_heads group (floor_of (key_at heads group))) where
+    waits_now : key_at new_waiting.keys slot ≡ Some (at_time 0 key)
+    waits_now = ap (λ (q : Grouped Timed). key_at q.keys slot) put ∙ get_or-set_same waiting.keys slot (Some (at_time 0 key)) None slot_in
+
+    step_join : IsStep slot ahead ahead waiting new_waiting
+    step_join = record {
+      each_ahead = refl;
+      each_waiting = ap (λ (q : Grouped Timed). length q.keys) put ∙ length-set waiting.keys slot (Some (at_time 0 key));
+      groups = ap (λ (q : Grouped Timed). q.groups) put;
+      ahead_stays = λ other n. refl;
+      waiting_stays = λ other n. ap (λ (q : Grouped Timed). key_at q.keys other) put ∙ get_or-set_other waiting.keys slot other (Some (at_time 0 key)) None n;
+      apart = λ k e. absurd (no_key k (sym idle ∙ e));
+      waits =
+          λ k e.
+          let same : at_time 0 key ≡ k = same_Some (at_time 0 key) k (sym waits_now ∙ e) in
+          (sym (ap (λ (t : Timed). t.time) same), ap (λ (t : Timed). waits_for_room t.class) (sym same) ∙ waits);
+    }
+
+    pub join_floored : IsFloored ahead new_waiting new_heads
+    join_floored = still_floored ahead waiting heads floored slot group member ahead new_waiting new_heads (floor_of (key_at heads group)) step_join renewed
+
+    pub join_seen : seen_keys new_heads ahead new_waiting.keys new_waiting.groups ≡ set (seen_keys heads ahead waiting.keys waiting.groups) slot (Some key)
+    join_seen = same_maps (seen_keys new_heads ahead new_waiting.keys new_waiting.groups) (set seen slot (Some key)) (seen_long ahead new_waiting new_heads join_floored ∙ step_join.each_waiting ∙ sym (seen_long ahead waiting heads floored) ∙ sym (length-set seen slot (Some key))) (λ i. each i (cases_eq i slot))
+      where
+        each : (i : ℕ) → (i ≡ slot) ⊎ (i ≢ slot) → key_at (seen_keys new_heads ahead new_waiting.keys new_waiting.groups) i ≡ key_at (set seen slot (Some key)) i
+        each i (inl s) =
+            let here : key_at (set seen slot (Some key)) slot ≡ Some key = get_or-set_same seen slot (Some key) None (omega (arith, slot_in, seen_long ahead waiting heads floored)) in
+            let timed : Some (at_time (floor_of (key_at heads group)) (at_time 0 key)) ≡ Some key = ap (λ t. Some (at_time t key)) at_floor in
+            ap (key_at (seen_keys new_heads ahead new_waiting.keys new_waiting.groups)) s ∙ seen_here ahead new_waiting new_heads join_floored slot ∙ here_waiting ahead waiting heads floored slot group member ahead new_waiting new_heads (floor_of (key_at heads group)) step_join renewed (at_time 0 key) idle waits_now ∙ timed ∙ sym here ∙ ap (key_at (set seen slot (Some key))) (sym s)
+        each i (inr n) =
+            seen_here ahead new_waiting new_heads join_floored i ∙ go (there ahead waiting heads floored slot group member ahead new_waiting new_heads (floor_of (key_at heads group)) step_join renewed i n) ∙ sym (seen_here ahead waiting heads floored i) ∙ sym (get_or-set_other seen slot i (Some key) None n)
+          where
+            go : (effective_at new_heads ahead new_waiting i ≡ effective_at heads ahead waiting i) ⊎ IsWith ahead waiting heads floored slot group member ahead new_waiting new_heads (floor_of (key_at heads group)) step_join renewed i → effective_at new_heads ahead new_waiting i ≡ effective_at heads ahead waiting i
+            go (inl e) = e
+            go (inr w) = w.is ∙ sym w.was
+
   -- the keys that wait in the group are raised
   module _ (time : ℕ) (later : floor_of (key_at heads group) ≤ time) (new_ahead : List (Option Timed)) (new_waiting : Grouped Timed) (new_heads : List (Option Timed)) (step : IsStep slot ahead new_ahead waiting new_waiting) (renewed : IsRenewed new_waiting heads new_heads group time) where
     pub up_floored : IsFloored new_ahead new_waiting new_heads
@@ -83,6 +120,10 @@ module _ (ahead : List (Option Timed)) (waiting : Grouped Timed) (heads : List (
         go other (inl s) = inl s
         go other (inr n) =
             with_it other (there ahead waiting heads floored slot group member new_ahead new_waiting new_heads time step renewed other n)
+
+-- what waits, with the key of the slot at 0
+pub with_key : (waiting new : Grouped Timed) (slot : ℕ) (key put : Timed) → new ≡ record { keys = set waiting.keys slot (Some put); groups = waiting.groups } → put ≡ at_time 0 key → new ≡ record { keys = set waiting.keys slot (Some (at_time 0 key)); groups = waiting.groups }
+with_key waiting new slot key put e f = e ∙ ap (λ (k : Timed). record { keys = set waiting.keys slot (Some k); groups = waiting.groups }) f
 
 -- what waits is not ahead
 pub not_ahead : (ahead : List (Option Timed)) (waiting : Grouped Timed) (heads : List (Option Timed)) → IsFloored ahead waiting heads → (slot : ℕ) → is_some (key_at waiting.keys slot) ≡ true → key_at ahead slot ≡ None
@@ -208,3 +249,10 @@ module _ (ahead : List (Option Timed)) (waiting new_waiting : Grouped Timed) (he
 pub slot_within : (ahead : List (Option Timed)) (waiting : Grouped Timed) (heads : List (Option Timed)) → IsFloored ahead waiting heads → (now : Grouped Timed) → seen_queue ahead waiting heads ≡ now → (slot : ℕ) → slot < length now.keys → slot < length waiting.keys
 slot_within ahead waiting heads floored now view slot l =
     omega (arith, l, ap (λ (q : Grouped Timed). length q.keys) view, seen_long ahead waiting heads floored)
+
+-- a slot without a key has joined those that wait
+pub joined_seen : (ahead : List (Option Timed)) (waiting new_waiting : Grouped Timed) (heads new_heads : List (Option Timed)) (slot : ℕ) (key : Timed) (now : Grouped Timed) → seen_queue ahead waiting heads ≡ record { keys = set now.keys slot None; groups = now.groups } → seen_keys new_heads ahead new_waiting.keys new_waiting.groups ≡ set (seen_keys heads ahead waiting.keys waiting.groups) slot (Some key) → new_waiting.groups ≡ waiting.groups → seen_queue ahead new_waiting new_heads ≡ record { keys = set now.keys slot (Some key); groups = now.groups }
+joined_seen ahead waiting new_waiting heads new_heads slot key now out seen groups =
+    let keys = seen ∙ ap (λ (q : Grouped Timed). set q.keys slot (Some key)) out ∙ set-set now.keys slot None (Some key) in
+    let same = groups ∙ ap (λ (q : Grouped Timed). q.groups) out in
+    λ i. record { keys = keys i; groups = same i }

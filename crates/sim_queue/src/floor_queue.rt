@@ -7,6 +7,7 @@ ghost use Rattle.sim_queue.specs.Floors.{waits_for_room, floor_of, seen_keys, Is
 
 use crate::{EventQueue, Groups, SlotHeap};
 use goal_base::NoMemory;
+use goal_graph::Class;
 use sim_order::{EventKey, EventOrder, Steps};
 use std::alloc::Global;
 use std::marker::Model;
@@ -19,6 +20,16 @@ fn first<L: Ledger>(heap: &SlotHeap<EventKey>, steps: &mut Steps<L>) -> Option<E
 {
     let (_, key) = heap.least(steps)?;
     Some(key)
+}
+
+// Whether actions of a class wait for a cpu or an interface.
+fn waits_for_room(class: Class) -> bool
+    ensures { result ≡ waits_for_room class }
+{
+    match class {
+        Class::Begin | Class::Data | Class::Serve => true,
+        Class::Arrive | Class::Post => false,
+    }
 }
 
 // The floor of a group: the time of its head, 0 where it has none.
@@ -72,6 +83,31 @@ fn stop_waiting<L: Ledger>(
     let group = waiting.group(slot);
     let floor = floor(heads, group);
     waiting.drop_slot(slot, steps);
+    renew(waiting, heads, group, floor, steps);
+}
+
+// Lets a slot that has no key wait at the floor of its group, where its key's time is the floor.
+fn join<L: Ledger>(
+    ahead: &SlotHeap<EventKey>,
+    waiting: &mut Groups<EventKey>,
+    heads: &mut SlotHeap<EventKey>,
+    slot: u32,
+    key: EventKey,
+    steps: &mut Steps<L>,
+)
+    requires floored { IsFloored ahead.now waiting.old heads.old }
+    requires slot_in { slot < length waiting.old.keys }
+    requires idle { key_at ahead.now slot ≡ None }
+    requires waits { waits_for_room key.class ≡ true }
+    requires at_floor { (group : ℕ) → slice_get waiting.old.groups slot ≡ Some group → floor_of (key_at heads.old group) ≡ key.time }
+    ensures floored { IsFloored ahead.now waiting.new heads.new }
+    ensures groups { waiting.new.groups ≡ waiting.old.groups }
+    ensures seen { seen_keys heads.new ahead.now waiting.new.keys waiting.new.groups
+        ≡ slice_set (seen_keys heads.old ahead.now waiting.old.keys waiting.old.groups) slot (Some key) }
+{
+    let group = waiting.group(slot);
+    let floor = floor(heads, group);
+    waiting.put(slot, key.at(0), steps);
     renew(waiting, heads, group, floor, steps);
 }
 
@@ -145,7 +181,20 @@ impl FloorQueue {
         ensures { self.new ≡ record self.old { keys = slice_set self.old.keys slot (Some key) } }
     {
         stop_waiting(&self.ahead, &mut self.waiting, &mut self.heads, slot, steps);
-        self.ahead.put(slot, key, steps);
+        let group = self.waiting.group(slot);
+        if !waits_for_room(key.class()) || floor(&self.heads, group) != key.time() {
+            self.ahead.put(slot, key, steps);
+            return;
+        }
+        self.ahead.drop_slot(slot, steps);
+        join(
+            &self.ahead,
+            &mut self.waiting,
+            &mut self.heads,
+            slot,
+            key,
+            steps,
+        );
     }
 
     /// Takes a slot's key out. Where it has none nothing changes.

@@ -1,15 +1,10 @@
-use Rattle.std.proofs.Common.{◌≡◌, ℕ, set, Some, ap, sym, ◌∙◌, arith}
+use Rattle.std.proofs.Common.{Some, ap, sym, arith}
 use Rattle.std.proofs.lemmas.Option.{same_Some}
 use Rattle.goal_graph.specs.declared.action.Timed.{Timed}
-use Rattle.sim_queue.specs.Groups.{Grouped}
 use Rattle.sim_queue.specs.Floors.{at_time}
 use Rattle.sim_queue.proofs.Floors.{key_within}
-use Rattle.sim_queue.proofs.FloorSteps.{zeros, step_in, up_floored, up_lifted, parked}
+use Rattle.sim_queue.proofs.FloorSteps.{zeros, with_key, step_in, up_floored, up_lifted, parked}
 use Rattle.sim_queue.proofs.floor_queue.park.Goals as goal
-
--- what waits, with the key of the slot at 0
-with_key : (waiting new : Grouped Timed) (slot : ℕ) (key put : Timed) → new ≡ record { keys = set waiting.keys slot (Some put); groups = waiting.groups } → put ≡ at_time 0 key → new ≡ record { keys = set waiting.keys slot (Some (at_time 0 key)); groups = waiting.groups }
-with_key waiting new slot key put e f = e ∙ ap (λ (k : Timed). record { keys = set waiting.keys slot (Some k); groups = waiting.groups }) f
 
 pub put-requires : goal.put-requires
 put-requires g c =
