@@ -1,0 +1,10 @@
+mod Counting
+mod KnotLemmas
+mod LawLemmas
+mod Lists
+mod Marks
+mod Pigeons
+mod PlaceSearch
+mod PlacesLemmas
+mod ReportLemmas
+mod Walks
