@@ -9,7 +9,7 @@ ghost use Rattle.goal_certify.specs.Stages.{HasNone, IsFirstOf, IsFree, IsStoppe
 use crate::channels::check_channels;
 use crate::races::check_races;
 use crate::sizes::check_sizes;
-use crate::walk::{check_stalls, check_values};
+use crate::walk::check_walk;
 use goal_blocks::{CertFault, Collective, laws_of_certified_schedules, laws_of_faults};
 use goal_graph::Sched;
 use std::alloc::Global;
@@ -24,22 +24,13 @@ fn check_plans(alloc: Global, sched: &Sched) -> Result<(), CertFault>
     check_races(alloc, sched)
 }
 
-// The first fault that does not lie in values: in the plans, or in the walk, which does not end.
-fn check_schedule(alloc: Global, sched: &Sched) -> Result<(), CertFault>
-    ensures free { OnOk result (IsFree sched.now 0 7) }
-    ensures fault { IfErr result (IsStopped sched.now 0 7) }
-{
-    check_plans(alloc, sched)?;
-    check_stalls(alloc, sched)
-}
-
 // The first fault of all.
 fn find_fault(alloc: Global, sched: &Sched, what: Collective) -> Result<(), CertFault>
     ensures free { OnOk result (HasNone sched.now (initial what (length sched.now)) (wanted what (length sched.now)) 0 9) }
     ensures fault { IfErr result (λ fault. fault ≡ CertFault.NoMemory ⊎ IsFirstOf sched.now (initial what (length sched.now)) (wanted what (length sched.now)) 0 9 fault) }
 {
-    check_schedule(alloc, sched)?;
-    check_values(alloc, sched, what)
+    check_plans(alloc, sched)?;
+    check_walk(alloc, sched, what)
 }
 
 /// Certifies a schedule for a collective.

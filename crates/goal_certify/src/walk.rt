@@ -27,8 +27,7 @@ mod values;
 
 use action::Action;
 use follow::{Queue, fill, follow, next};
-pub use outcome::check_values;
-pub use stalls::check_stalls;
+pub use outcome::check_walk;
 use state::State;
 
 /// Walks through a schedule. Contracts see it as the plans of the schedule and what has happened so far, newest first.

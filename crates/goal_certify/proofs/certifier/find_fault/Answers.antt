@@ -5,42 +5,42 @@ use Rattle.goal_certify.proofs.StageLemmas.{small_free, wildcard_free, lengths_f
 use Rattle.goal_certify.proofs.Deciding.{told_stopped, told_sooner, answer_none, answer_told}
 use Rattle.goal_certify.proofs.certifier.find_fault.Goals as goal
 
-pub returns-in_err-check_schedule-clause-fault : goal.returns-in_err-check_schedule-clause-fault
-returns-in_err-check_schedule-clause-fault c =
+pub returns-in_err-check_plans-clause-fault : goal.returns-in_err-check_plans-clause-fault
+returns-in_err-check_plans-clause-fault c =
     let plans = c.args.sched.now in
     let first = initial c.args.what (length plans) in
     let wish = wanted c.args.what (length plans) in
     let p = err_from_is_err_and c.from_residual.result c.from_residual.ensures.1 in
-    rw (p.1, p.2) (told_sooner plans first wish 0 7 9 _ (omega arith) (told_stopped plans first wish 0 7 _ c.in_err-check_schedule.ensures.fault))
+    rw (p.1, p.2) (told_sooner plans first wish 0 6 9 _ (omega arith) (told_stopped plans first wish 0 6 _ c.in_err-check_plans.ensures.fault))
 
-pub check_values-requires-clause-small : goal.check_values-requires-clause-small
-check_values-requires-clause-small c =
+pub check_walk-requires-clause-small : goal.check_walk-requires-clause-small
+check_walk-requires-clause-small c =
     let plans = c.args.sched.now in
-    let free = c.in_ok-check_schedule.ensures.free in
-    small_free plans (free_within plans 0 0 1 7 (omega arith) (omega arith) free)
+    let free = c.in_ok-check_plans.ensures.free in
+    small_free plans (free_within plans 0 0 1 6 (omega arith) (omega arith) free)
 
-pub check_values-requires-clause-no_wildcard : goal.check_values-requires-clause-no_wildcard
-check_values-requires-clause-no_wildcard c =
+pub check_walk-requires-clause-no_wildcard : goal.check_walk-requires-clause-no_wildcard
+check_walk-requires-clause-no_wildcard c =
     let plans = c.args.sched.now in
-    let free = c.in_ok-check_schedule.ensures.free in
-    wildcard_free plans (free_within plans 0 1 2 7 (omega arith) (omega arith) free)
+    let free = c.in_ok-check_plans.ensures.free in
+    wildcard_free plans (free_within plans 0 1 2 6 (omega arith) (omega arith) free)
 
-pub check_values-requires-clause-lengths : goal.check_values-requires-clause-lengths
-check_values-requires-clause-lengths c =
+pub check_walk-requires-clause-lengths : goal.check_walk-requires-clause-lengths
+check_walk-requires-clause-lengths c =
     let plans = c.args.sched.now in
-    let free = c.in_ok-check_schedule.ensures.free in
-    lengths_free plans (free_within plans 0 4 5 7 (omega arith) (omega arith) free)
+    let free = c.in_ok-check_plans.ensures.free in
+    lengths_free plans (free_within plans 0 4 5 6 (omega arith) (omega arith) free)
 
 pub returns-clause-free : goal.returns-clause-free
 returns-clause-free c =
     let plans = c.args.sched.now in
     let first = initial c.args.what (length plans) in
     let wish = wanted c.args.what (length plans) in
-    answer_none plans first wish c.check_values.result 0 7 9 (c.in_ok-check_schedule.ensures.free first wish) c.check_values.ensures.free
+    answer_none plans first wish c.check_walk.result 0 6 9 (c.in_ok-check_plans.ensures.free first wish) c.check_walk.ensures.free
 
 pub returns-clause-fault : goal.returns-clause-fault
 returns-clause-fault c =
     let plans = c.args.sched.now in
     let first = initial c.args.what (length plans) in
     let wish = wanted c.args.what (length plans) in
-    answer_told plans first wish c.check_values.result 0 7 9 (omega arith) (c.in_ok-check_schedule.ensures.free first wish) c.check_values.ensures.fault
+    answer_told plans first wish c.check_walk.result 0 6 9 (omega arith) (c.in_ok-check_plans.ensures.free first wish) c.check_walk.ensures.fault

@@ -1,6 +1,0 @@
-use Rattle.goal_certify.proofs.Stalls.{EndBelow}
-use Rattle.goal_certify.proofs.walk.stalls.check_stalls.Given as goal
-
--- the operations so far have an end
-abbrev pub invariant-loop-id : goal.invariant-loop-id
-invariant-loop-id l = EndBelow l.walker-inside.state.plans l.walker-inside.state.history l.id-index
