@@ -1,15 +1,15 @@
 -- What a store holds after a change of its map.
-use Rattle.std.proofs.Common.{ℕ, ◌≡◌, ◌==◌, ◌&&◌, nat_lt, Bool, true, false, cond, List, [], ◌∷◌, Option, Some, None, if◌then◌else◌, refl, sym, ap, ap₂, ◌∙◌, arith, eq-eqb, Vec, Global, ◌+◌, ◌-◌, ◌<◌, ◌≤◌, length, subst, unwrap_or, IsSome, is_some, All, map}
+use Rattle.std.proofs.Common.{ℕ, ◌≡◌, ◌==◌, ◌&&◌, nat_lt, Bool, true, false, cond, List, [], ◌∷◌, Option, Some, None, if◌then◌else◌, refl, sym, ap, ap₂, ◌∙◌, arith, eq-eqb, Vec, Global, ◌+◌, ◌-◌, ◌<◌, ◌≤◌, length, subst, unwrap_or, IsSome, is_some, All, map, Result, Ok, Err, IfOk}
 use Rattle.std.specs.declared.cmp.Ordering.{Ordering}
 use Rattle.std.specs.declared.cmp.Ordering.TheVariants.{Less, Equal, Greater}
 use Rattle.std.specs.Ordering.{nat_cmp, ordering_then, is_eq}
-use Rattle.std.specs.Option.{option_map}
+use Rattle.std.specs.Option.{option_map, MatchOption}
 use Rattle.std.specs.Map.{lookup}
 use Rattle.std.specs.BTreeMap.{BTreeMap, get, is_at}
 use Rattle.std.proofs.lemmas.Bool.{both_ways, eqb-true, false_from_ne_true, le-ltb, true≢false}
 use Rattle.std.proofs.lemmas.List.Elements.{All-nil, All-cons}
 use Rattle.goal_blocks.specs.Values.{Contribution, Value, Store, set_slot}
-use Rattle.goal_blocks.specs.Stored.{Place, place_cmp, Kept, written_at, values, entries_of, IsSorted, IsSound}
+use Rattle.goal_blocks.specs.Stored.{Place, place_cmp, Kept, written_at, values, entries_of, one_or_none, before, IsSorted, IsSound}
 use Rattle.goal_blocks.specs.Weight.{stored}
 use Rattle.goal_blocks.specs.Collectives.{initial}
 use Rattle.goal_blocks.specs.declared.collective.Collective.{Collective}
@@ -155,6 +155,14 @@ module _ (what : Collective) (ranks : ℕ) (m : Cells) (s : Kept) (is : kept wha
   value_absent e =
       sym (value_first (kept what ranks m) r k (written_found (kept what ranks m) m refl (r, k) ∙ ap (option_map contents) (sym e))) ∙ ap (λ (t : Kept). values t r k) is
 
+  pub first_there : (first : Option Contribution) → None ≡ get place_cmp m (r, k) → one_or_none first ≡ initial s.what s.ranks r k → one_or_none first ≡ values s r k
+  first_there first e at = at ∙ ap (λ (t : Kept). initial t.what t.ranks r k) (sym is) ∙ value_absent e
+
+  -- what the map has there, or else the first value, is the value
+  pub before_there : (old : Option (Vec Contribution Global)) (first : Option Contribution) → old ≡ get place_cmp m (r, k) → one_or_none first ≡ initial s.what s.ranks r k → before old first ≡ values s r k
+  before_there None first e at = first_there first e at
+  before_there (Some v) first e at = value_there v e
+
   pub absent_there : get place_cmp m (r, k) ≡ None → written_at s (r, k) ≡ None
   absent_there e =
       ap (λ (t : Kept). written_at t (r, k)) (sym is) ∙ written_found (kept what ranks m) m refl (r, k) ∙ ap (option_map contents) e
@@ -199,3 +207,16 @@ sound_empty what ranks m held e few is = record {
 pub all_sorted : (f : ℕ → Value) → ((k : ℕ) → IsSorted (f k)) → (ks : List ℕ) → All IsSorted (map f ks)
 all_sorted f each [] = All-nil IsSorted
 all_sorted f each (k ∷ ks) = All-cons IsSorted (f k) (map f ks) (each k) (all_sorted f each ks)
+
+-- the contributions of none or one
+pub one_read : (first : Option Contribution) (v : Value) → MatchOption first (v ≡ []) (λ c. v ≡ c ∷ []) → v ≡ one_or_none first
+one_read None v e = e
+one_read (Some c) v e = e
+
+pub none_there : (o : Option (Vec Contribution Global)) → is_some o ≡ false → None ≡ o
+none_there None e = refl
+none_there (Some v) e = absurd (true≢false e)
+
+pub ok_sorted : {E : Type 0} (r : Result (Vec Contribution Global) E) (v : Value) → IfOk r (λ w. w.items ≡ v) → IsSorted v → IfOk r (λ w. IsSorted w.items)
+ok_sorted (Ok w) v e sorted = sorted_from w.items v e sorted
+ok_sorted (Err e) v is sorted = tt

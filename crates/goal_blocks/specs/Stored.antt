@@ -58,3 +58,8 @@ lists_of vs = map (λ v. v.items) vs
 abbrev pub one_or_none : Option Contribution → Value
 one_or_none None = []
 one_or_none (Some c) = c ∷ []
+
+-- what a slot held that was set to this, or else had that one contribution at the start
+abbrev pub before : Option (Vec Contribution Global) → Option Contribution → Value
+before None first = one_or_none first
+before (Some v) first = v.items

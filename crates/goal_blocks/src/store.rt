@@ -5,7 +5,7 @@ ghost use Rattle.goal_blocks.specs.Values.{merge, set_slot, write};
 ghost use Rattle.goal_blocks.specs.Weight.{stored};
 ghost use Rattle.goal_blocks.specs.Collectives.{initial, wanted};
 ghost use Rattle.goal_blocks.specs.Faults.{SlotAt, IsLeast, slot_key};
-ghost use Rattle.goal_blocks.specs.Stored.{values, written_at, one_or_none, IsSorted, lists_of};
+ghost use Rattle.goal_blocks.specs.Stored.{values, written_at, one_or_none, before, IsSorted, lists_of};
 
 use crate::collective::{Collective, Contribution};
 use crate::merging::merged;
@@ -55,15 +55,14 @@ impl Model for Store {
     ghost invariant = { λ s. IsSound (record { what = s.what; ranks = s.ranks; written = entries_of s.written.entries }) s.held };
 }
 
-// The list of one contribution, or of none.
-fn list_of(alloc: Global, first: Option<Contribution>) -> Result<Vec<Contribution>, AllocError>
-    ensures { IfOk result (λ v. v.items ≡ one_or_none first) }
+// How many contributions a slot had that was set to this before, or else had this one at the start.
+fn size_before(written: Option<Vec<Contribution>>, first: Option<Contribution>) -> u64
+    ensures { result ≡ length (before written first) }
 {
-    let mut list = Vec::new(alloc);
-    if let Some(one) = first {
-        list.push(one)?;
+    match written {
+        Some(value) => value.len() as u64,
+        None => first.as_slice().len() as u64,
     }
-    Ok(list)
 }
 
 impl Store {
@@ -98,13 +97,8 @@ impl Store {
         ensures size { result ≡ length (values self.now rank slot) }
         ensures part { result ≤ stored self.now.ranks (values self.now) }
     {
-        match self.written.get(&(rank, slot)) {
-            Some(value) => value.len() as u64,
-            None => match first_of(self.what, self.ranks, rank, slot) {
-                Some(_) => 1,
-                None => 0,
-            },
-        }
+        let first = self.first_at(rank, slot);
+        self.value_at(rank, slot, &first).len() as u64
     }
 
     /// How many contributions `read` would copy.
@@ -164,9 +158,7 @@ impl Store {
         ensures unchanged { OnErr result (values self.new ≡ values self.old) }
         ensures ranks { self.new.ranks ≡ self.old.ranks }
     {
-        let own = self.copy_at(rank, to)?;
-        let other = self.copy_at(rank, from)?;
-        let sum = merged(self.alloc, &own, &other)?;
+        let sum = self.sum_of(rank, from, to)?;
         self.put(rank, to, sum)
     }
 
@@ -208,12 +200,37 @@ impl Store {
         requires { rank < self.now.ranks }
         ensures { result ≡ wanted what self.now.ranks rank slot (values self.now rank slot) }
     {
+        let first = self.first_at(rank, slot);
+        is_wanted(
+            what,
+            self.ranks,
+            rank,
+            slot,
+            self.value_at(rank, slot, &first),
+        )
+    }
+
+    // The one contribution that a slot has at the start, if it is not empty.
+    fn first_at(&self, rank: u32, slot: u32) -> Option<Contribution>
+        ensures { one_or_none result ≡ initial self.now.what self.now.ranks rank slot }
+    {
+        first_of(self.what, self.ranks, rank, slot)
+    }
+
+    // The value of a slot, which is its first one where it was never set.
+    fn value_at<'a>(
+        &'a self,
+        rank: u32,
+        slot: u32,
+        first: &'a Option<Contribution>,
+    ) -> &'a [Contribution]
+        requires { one_or_none first.now ≡ initial self.now.what self.now.ranks rank slot }
+        ensures value { result.now ≡ values self.now rank slot }
+        ensures sorted { IsSorted result.now }
+    {
         match self.written.get(&(rank, slot)) {
-            Some(value) => is_wanted(what, self.ranks, rank, slot, value),
-            None => match first_of(self.what, self.ranks, rank, slot) {
-                Some(one) => is_wanted(what, self.ranks, rank, slot, &[one]),
-                None => is_wanted(what, self.ranks, rank, slot, &[]),
-            },
+            Some(value) => value.as_slice(),
+            None => first.as_slice(),
         }
     }
 
@@ -222,13 +239,20 @@ impl Store {
         ensures copy { IfOk result (λ v. v.items ≡ values self.now rank slot) }
         ensures sorted { IfOk result (λ v. IsSorted v.items) }
     {
-        match self.written.get(&(rank, slot)) {
-            Some(value) => Ok(Vec::from_slice(self.alloc, value)?),
-            None => {
-                let first = first_of(self.what, self.ranks, rank, slot);
-                Ok(list_of(self.alloc, first)?)
-            }
-        }
+        let first = self.first_at(rank, slot);
+        Ok(Vec::from_slice(self.alloc, self.value_at(rank, slot, &first))?)
+    }
+
+    // The values of two slots together.
+    fn sum_of(&self, rank: u32, from: u32, to: u32) -> Result<Vec<Contribution>, NoMemory>
+        ensures sum { IfOk result (λ v. v.items ≡ merge (values self.now rank to) (values self.now rank from)) }
+        ensures sorted { IfOk result (λ v. IsSorted v.items) }
+    {
+        let first_own = self.first_at(rank, to);
+        let first_other = self.first_at(rank, from);
+        let own = self.value_at(rank, to, &first_own);
+        let other = self.value_at(rank, from, &first_other);
+        merged(self.alloc, own, other)
     }
 
     // Sets a slot. At `Err` it was not set before.
@@ -244,9 +268,10 @@ impl Store {
         ensures still { (k : ℕ) → IsSome (written_at self.old (rank, k)) → IsSome (written_at self.new (rank, k)) }
         ensures ranks { self.new.ranks ≡ self.old.ranks }
     {
-        let held = self.held - self.size_at(rank, slot) + value.len() as u64;
-        self.written.insert((rank, slot), value)?;
-        self.held = held;
+        let first = self.first_at(rank, slot);
+        let size = value.len() as u64;
+        let old = self.written.insert((rank, slot), value)?;
+        self.held = self.held - size_before(old, first) + size;
         Ok(())
     }
 
@@ -263,7 +288,8 @@ impl Store {
         if self.written.contains_key(&(rank, slot)) {
             return Ok(());
         }
-        let value = self.copy_at(rank, slot)?;
+        let first = self.first_at(rank, slot);
+        let value = Vec::from_slice(self.alloc, first.as_slice())?;
         self.put(rank, slot, value)?;
         Ok(())
     }
