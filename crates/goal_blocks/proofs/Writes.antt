@@ -1,5 +1,5 @@
 -- The steps of a loop that writes values into slots.
-use Rattle.std.proofs.Common.{ℕ, ◌≡◌, ◌+◌, ◌<◌, ◌≤◌, ◌^◌, List, [], ◌∷◌, length, drop, get_or, refl, ap, sym, ◌∙◌, arith, add-one, drop-cons, Vec, Global}
+use Rattle.std.proofs.Common.{ℕ, ◌≡◌, ◌+◌, ◌<◌, ◌≤◌, ◌^◌, List, [], ◌∷◌, ◌++◌, length, length-append, Result, Ok, Err, OnOk, drop, get_or, refl, ap, sym, ◌∙◌, arith, add-one, drop-cons, Vec, Global}
 use Rattle.std.specs.List.{sum_by}
 use Rattle.std.proofs.lemmas.List.{drop_all}
 use Rattle.std.proofs.lemmas.List.Sums.{sum_by-cons}
@@ -32,3 +32,15 @@ light_next ranks more rank slot v vs all s t e set same low small light =
     let now : stored more t ≡ stored ranks (set_slot rank slot v s) = ap (stored more) set ∙ ap (λ (n : ℕ). stored n (set_slot rank slot v s)) same in
     let changed = stored_set ranks rank slot v s low (omega (arith, small)) in
     omega (arith, sum, now, changed, light)
+
+-- the only value of a list is written
+write_only : (rank slot : ℕ) (list rest : List (Vec Contribution Global)) (v : Vec Contribution Global) (s t : Store) → list ≡ rest ++ v ∷ [] → length list ≡ 1 → t ≡ set_slot rank slot v.items s → t ≡ write rank (slot ∷ []) (lists_of list) s
+unfolding write
+write_only rank slot list [] v s t e one set =
+    set ∙ sym (ap (λ (vs : List (Vec Contribution Global)). write rank (slot ∷ []) (lists_of vs) s) e)
+write_only rank slot list (w ∷ rest) v s t e one set =
+    absurd (omega (arith, one, ap length e, length-append (w ∷ rest) (v ∷ [])))
+
+pub only_written : {E : Type 0} (r : Result (Unit {0}) E) (rank slot : ℕ) (list rest : List (Vec Contribution Global)) (v : Vec Contribution Global) (s t : Store) → list ≡ rest ++ v ∷ [] → length list ≡ 1 → OnOk r (t ≡ set_slot rank slot v.items s) → OnOk r (t ≡ write rank (slot ∷ []) (lists_of list) s)
+only_written (Ok x) rank slot list rest v s t e one set = write_only rank slot list rest v s t e one set
+only_written (Err x) rank slot list rest v s t e one set = tt

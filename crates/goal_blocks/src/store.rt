@@ -1,5 +1,5 @@
 //! The values of all slots, as a schedule changes them.
-ghost use Rattle.std.specs.Prelude.{◌≡◌, ℕ, ◌+◌, ◌^◌, ◌<◌, ◌≤◌, false, true, length, map, All, IfOk, OnOk, OnErr, IfSome, IfNone, IsSome, None};
+ghost use Rattle.std.specs.Prelude.{◌≡◌, ◌∷◌, [], ℕ, ◌+◌, ◌^◌, ◌<◌, ◌≤◌, false, true, length, map, All, IfOk, OnOk, OnErr, IfSome, IfNone, IsSome, None};
 ghost use Rattle.std.specs.List.{sum_by};
 ghost use Rattle.goal_blocks.specs.Values.{merge, set_slot, write};
 ghost use Rattle.goal_blocks.specs.Weight.{stored};
@@ -139,10 +139,14 @@ impl Store {
         ensures unchanged { OnErr result (values self.new ≡ values self.old) }
         ensures ranks { self.new.ranks ≡ self.old.ranks }
     {
-        for slot in slots.as_slice() {
+        let places = slots.as_slice();
+        if places.len() == 1 {
+            return self.write_one(rank, places[0], payload.values);
+        }
+        for slot in places {
             self.make_room(rank, *slot)?;
         }
-        self.fill(rank, slots.as_slice(), payload.values);
+        self.fill(rank, places, payload.values);
         Ok(())
     }
 
@@ -292,6 +296,29 @@ impl Store {
         let value = Vec::from_slice(self.alloc, first.as_slice())?;
         self.put(rank, slot, value)?;
         Ok(())
+    }
+
+    // Sets one slot to the only value of a list.
+    fn write_one(
+        &mut self,
+        rank: u32,
+        slot: u32,
+        list: Vec<Vec<Contribution>>,
+    ) -> Result<(), NoMemory>
+        requires rank { rank < self.old.ranks }
+        requires one { length list.items ≡ 1 }
+        requires low { slot ≤ 65535 }
+        requires sorted { All IsSorted (lists_of list.items) }
+        requires light { stored self.old.ranks (values self.old) + sum_by (λ v. length v) (lists_of list.items) ≤ 2 ^ 24 }
+        ensures written { OnOk result (values self.new ≡ write rank (slot ∷ []) (lists_of list.items) (values self.old)) }
+        ensures unchanged { OnErr result (values self.new ≡ values self.old) }
+        ensures ranks { self.new.ranks ≡ self.old.ranks }
+    {
+        let mut list = list;
+        match list.pop() {
+            Some(value) => self.put(rank, slot, value),
+            None => unreachable!(),
+        }
     }
 
     // Sets slots that are set already to other values, in order.

@@ -5,4 +5,4 @@ use Rattle.goal_blocks.proofs.store.Store.write.Given as goal
 -- the values stay, and the slots so far are set
 abbrev pub invariant-loop-slot : goal.invariant-loop-slot
 invariant-loop-slot l =
-    (values l.self ≡ values l.initial.self) × (l.self.ranks ≡ l.initial.self.ranks) × ((k : ℕ) → k < l.slot-index → IsSome (written_at l.self (l.rank, get_or l.slot-items k 0)))
+    (values l.self ≡ values l.initial.self) × (l.self.ranks ≡ l.initial.self.ranks) × ((k : ℕ) → k < l.slot-index → IsSome (written_at l.self (l.rank, get_or l.places k 0)))
