@@ -1,0 +1,91 @@
+-- Parameters that are alike.
+use Rattle.std.proofs.Common.{ℕ, zero, suc, Bool, true, false, not, List, [], ◌∷◌, ◌≡◌, ◌≢◌, ◌<◌, ◌+◌, ◌==◌, ◌&&◌, length, map, get_or, slice_get, unwrap_or, refl, subst, arith, eq-eqb}
+use Rattle.std.proofs.lemmas.Bool.{and_parts, eqb-true, eqb-false, both_ways}
+use Rattle.std.proofs.lemmas.List.{length-map}
+use Rattle.sim_params.specs.declared.params.Params.{Params}
+use Rattle.sim_params.specs.Costs.{Numbers}
+use Rattle.sim_params.specs.Numbers.{numbers, asked}
+
+-- whether the last numbers are the same, from this one on
+abbrev from_sync : Numbers → Numbers → Bool
+from_sync m n = m.sync == n.sync
+
+abbrev from_overhead_picos : Numbers → Numbers → Bool
+from_overhead_picos m n = m.overhead_picos == n.overhead_picos && from_sync m n
+
+abbrev from_overhead_per_byte : Numbers → Numbers → Bool
+from_overhead_per_byte m n = m.overhead_per_byte == n.overhead_per_byte && from_overhead_picos m n
+
+abbrev from_gap_picos : Numbers → Numbers → Bool
+from_gap_picos m n = m.gap_picos == n.gap_picos && from_overhead_per_byte m n
+
+abbrev from_gap_per_byte : Numbers → Numbers → Bool
+from_gap_per_byte m n = m.gap_per_byte == n.gap_per_byte && from_gap_picos m n
+
+abbrev from_gap : Numbers → Numbers → Bool
+from_gap m n = m.gap == n.gap && from_gap_per_byte m n
+
+abbrev from_overhead : Numbers → Numbers → Bool
+from_overhead m n = m.overhead == n.overhead && from_gap m n
+
+-- whether all are
+abbrev pub alike : Numbers → Numbers → Bool
+alike m n = m.latency == n.latency && from_overhead m n
+
+same : (m : ℕ) → (m == m) ≡ true
+same m = eq-eqb m m refl
+
+itself : (n : Numbers) → alike n n ≡ true
+itself n =
+    λ i. same n.latency i && (same n.overhead i && (same n.gap i && (same n.gap_per_byte i && (same n.gap_picos i && (same n.overhead_per_byte i && (same n.overhead_picos i && same n.sync i))))))
+
+pub alike_same : (m n : Numbers) → alike m n ≡ true → m ≡ n
+alike_same m n e =
+    let p = and_parts (m.latency == n.latency) (from_overhead m n) e in
+    let q = and_parts (m.overhead == n.overhead) (from_gap m n) p.1 in
+    let r = and_parts (m.gap == n.gap) (from_gap_per_byte m n) q.1 in
+    let s = and_parts (m.gap_per_byte == n.gap_per_byte) (from_gap_picos m n) r.1 in
+    let t = and_parts (m.gap_picos == n.gap_picos) (from_overhead_per_byte m n) s.1 in
+    let u = and_parts (m.overhead_per_byte == n.overhead_per_byte) (from_overhead_picos m n) t.1 in
+    let v = and_parts (m.overhead_picos == n.overhead_picos) (from_sync m n) u.1 in
+    λ i. record {
+      latency = eqb-true m.latency n.latency p.0 i;
+      overhead = eqb-true m.overhead n.overhead q.0 i;
+      gap = eqb-true m.gap n.gap r.0 i;
+      gap_per_byte = eqb-true m.gap_per_byte n.gap_per_byte s.0 i;
+      gap_picos = eqb-true m.gap_picos n.gap_picos t.0 i;
+      overhead_per_byte = eqb-true m.overhead_per_byte n.overhead_per_byte u.0 i;
+      overhead_picos = eqb-true m.overhead_picos n.overhead_picos v.0 i;
+      sync = eqb-true m.sync n.sync v.1 i;
+    }
+
+pub not_alike : (m n : Numbers) → alike m n ≡ false → m ≢ n
+not_alike m n e is = both_ways (alike m n) e (subst (λ (k : Numbers). alike m k ≡ true) is (itself m))
+
+none_below : (i : ℕ) → i < 0 → ⊥
+none_below i low = omega (arith, low)
+
+-- the numbers of a class of the code
+pub numbers_at : (ps : List Params) (i : ℕ) (d : Params) → i < length ps → unwrap_or (slice_get (map numbers ps) i) (asked 0 0 0 0 0 0 0 0) ≡ numbers (get_or ps i d)
+numbers_at [] i d low = absurd (none_below i low)
+numbers_at (p ∷ ps) zero d low = refl
+numbers_at (p ∷ ps) (suc i) d low = numbers_at ps i d (omega (arith, low))
+
+pub not_true : (b : Bool) → not b ≡ true → b ≡ false
+not_true true e = cc
+not_true false e = refl
+
+pub not_false : (b : Bool) → not b ≡ false → b ≡ true
+not_false true e = refl
+not_false false e = cc
+
+pub mapped_length : (ps : List Params) → length (map numbers ps) ≡ length ps
+mapped_length ps = length-map ps numbers
+
+-- so many classes have these numbers, and so has the next
+pub next_alike : (ps : List Params) (i : ℕ) (d : Params) (n : Numbers) → ((k : ℕ) → k < i → numbers (get_or ps k d) ≡ n) → numbers (get_or ps i d) ≡ n → (k : ℕ) → k < i + 1 → numbers (get_or ps k d) ≡ n
+next_alike ps i d n before here k low = go (k == i) refl
+  where
+    go : (b : Bool) → (k == i) ≡ b → numbers (get_or ps k d) ≡ n
+    go true e = rw (eqb-true k i e) here
+    go false e = before k (let other = eqb-false k i e in omega (arith, other, low))

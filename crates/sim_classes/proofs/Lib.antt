@@ -1,0 +1,6 @@
+pub mod WordLemmas
+pub mod Said
+pub mod Parts
+pub mod Keys
+pub mod Alike
+pub mod ClassLaws

@@ -1,0 +1,51 @@
+-- What words of a form say, a word at a time.
+use Rattle.std.proofs.Common.{ℕ, Bool, true, false, List, [], ◌∷◌, ◌≡◌, ◌+◌, Some, None, Ok, Err, Result, refl, ap, if◌then◌else◌}
+use Rattle.std.specs.Prelude.{bytes_eq}
+use Rattle.std.specs.Str.Parse.{digits_value}
+use Rattle.sim_classes.specs.declared.fault.MachineFault.{MachineFault}
+use Rattle.sim_classes.specs.declared.fault.MachineFault.TheVariants.{Syntax}
+use Rattle.sim_classes.specs.Machine.{Known}
+use Rattle.sim_classes.specs.Form.{Form, Fixed, Value, End, Test, said, or_fault, is_number, value_of}
+
+pub fixed_next : (word w : List ℕ) (ws : List (List ℕ)) (place : ℕ) (rest : Form) → bytes_eq w word ≡ true → said (Fixed word rest) place (w ∷ ws) ≡ said rest (place + 1) ws
+unfolding said
+fixed_next word w ws place rest e = rw e refl
+
+pub fixed_other : (word w : List ℕ) (ws : List (List ℕ)) (place : ℕ) (rest : Form) → bytes_eq w word ≡ false → said (Fixed word rest) place (w ∷ ws) ≡ Err (Syntax place)
+unfolding said
+fixed_other word w ws place rest e = rw e refl
+
+pub fixed_end : (word : List ℕ) (place : ℕ) (rest : Form) → said (Fixed word rest) place [] ≡ Err (Syntax place)
+unfolding said
+fixed_end word place rest = refl
+
+pub value_end : (test : Test) (rest : ℕ → Form) (place : ℕ) → said (Value test rest) place [] ≡ Err (Syntax place)
+unfolding said
+value_end test rest place = refl
+
+pub value_other : (test : Test) (rest : ℕ → Form) (place : ℕ) (w : List ℕ) (ws : List (List ℕ)) → None ≡ value_of w → said (Value test rest) place (w ∷ ws) ≡ Err (Syntax place)
+unfolding said
+value_other test rest place w ws e = go (is_number w) e
+  where
+    go : (b : Bool) → None ≡ (if b then Some (digits_value 10 w) else None) → (if b then or_fault (test (digits_value 10 w)) place (said (rest (digits_value 10 w)) (place + 1) ws) else Err (Syntax place)) ≡ Err (Syntax place)
+    go true e = cc
+    go false e = refl
+
+pub value_next : (test : Test) (rest : ℕ → Form) (place : ℕ) (w : List ℕ) (ws : List (List ℕ)) (n : ℕ) → Some n ≡ value_of w → said (Value test rest) place (w ∷ ws) ≡ or_fault (test n) place (said (rest n) (place + 1) ws)
+unfolding said
+value_next test rest place w ws n e = go (is_number w) e
+  where
+    go : (b : Bool) → Some n ≡ (if b then Some (digits_value 10 w) else None) → (if b then or_fault (test (digits_value 10 w)) place (said (rest (digits_value 10 w)) (place + 1) ws) else Err (Syntax place)) ≡ or_fault (test n) place (said (rest n) (place + 1) ws)
+    go true e = ap (λ (k : ℕ). or_fault (test k) place (said (rest k) (place + 1) ws)) (cc e)
+    go false e = cc
+
+pub end_other : (m : Known) (place : ℕ) (w : List ℕ) (ws : List (List ℕ)) → said (End m) place (w ∷ ws) ≡ Err (Syntax place)
+unfolding said
+end_other m place w ws = refl
+
+pub at_place : {a b : ℕ} → a ≡ b → ◌≡◌ {A = Result Known MachineFault} (Err (Syntax a)) (Err (Syntax b))
+at_place e = ap (λ (place : ℕ). Err (Syntax place)) e
+
+pub end_said : (m : Known) (place : ℕ) → said (End m) place [] ≡ Ok m
+unfolding said
+end_said m place = refl

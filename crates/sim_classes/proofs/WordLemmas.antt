@@ -1,0 +1,104 @@
+-- The words of a text, one after the other.
+use Rattle.std.proofs.Common.{ℕ, Bool, true, false, List, [], ◌∷◌, ◌≡◌, ◌≢◌, ◌+◌, ◌<◌, length, cond, not, refl, sym, ap, ◌∙◌, take, drop, filter, get_or, arith, ◌*◌, suc, add-one, ◌-◌, subst}
+use Rattle.std.proofs.lemmas.List.{take_all, length-drop, nil_from_length}
+use Rattle.std.proofs.lemmas.Bool.{lt-ltb}
+use Rattle.std.proofs.lemmas.List.Folds.{length-prefix_len}
+use Rattle.std.proofs.Math.Seq.{drop-cons}
+use Rattle.std.specs.Str.Parse.{digits_value_after}
+use Rattle.std.specs.Char.{digit_value}
+use Rattle.std.specs.Prelude.{nat_lt}
+use Rattle.std.specs.List.{slice_split, onto_first, prefix_len}
+use Rattle.sim_classes.specs.Form.{is_blank, words}
+
+one_more : (n : ℕ) → 1 + n ≡ suc n
+one_more n = omega arith ∙ add-one n
+
+-- a part that is a word
+abbrev full : List ℕ → Bool
+full w = nat_lt 0 (length w)
+
+-- the parts behind the first one, by what follows that
+rest_of : List ℕ → List (List ℕ)
+rest_of [] = []
+rest_of (c ∷ cs) = slice_split is_blank cs
+
+abbrev no_blank : ℕ → Bool
+no_blank b = not (is_blank b)
+
+-- how many bytes the first part has
+abbrev first_len : List ℕ → ℕ
+first_len xs = prefix_len no_blank xs
+
+split_is : (xs : List ℕ) → slice_split is_blank xs ≡ take (first_len xs) xs ∷ rest_of (drop (first_len xs) xs)
+unfolding rest_of
+split_is [] = refl
+split_is (x ∷ xs) = go (is_blank x) (split_is xs)
+  where
+    go : (b : Bool) → slice_split is_blank xs ≡ take (first_len xs) xs ∷ rest_of (drop (first_len xs) xs) → cond b ([] ∷ slice_split is_blank xs) (onto_first x (slice_split is_blank xs)) ≡ take (cond (not b) (1 + first_len xs) 0) (x ∷ xs) ∷ rest_of (drop (cond (not b) (1 + first_len xs) 0) (x ∷ xs))
+    go true e = refl
+    go false e = rw (one_more (first_len xs)) (ap (onto_first x) e)
+
+rest_words : (xs : List ℕ) → filter full (rest_of (drop (first_len xs) xs)) ≡ filter full (slice_split is_blank (drop (first_len xs) xs))
+unfolding rest_of
+rest_words [] = refl
+rest_words (x ∷ xs) = go (is_blank x) refl (rest_words xs)
+  where
+    go : (b : Bool) → is_blank x ≡ b → filter full (rest_of (drop (first_len xs) xs)) ≡ filter full (slice_split is_blank (drop (first_len xs) xs)) → filter full (rest_of (drop (cond (not b) (1 + first_len xs) 0) (x ∷ xs))) ≡ filter full (slice_split is_blank (drop (cond (not b) (1 + first_len xs) 0) (x ∷ xs)))
+    go true e h = rw e refl
+    go false e h = rw (one_more (first_len xs)) h
+
+-- blanks at the front make no word
+pub skip : (xs : List ℕ) → words xs ≡ words (drop (prefix_len is_blank xs) xs)
+unfolding words
+skip [] = refl
+skip (x ∷ xs) = skip_by x xs (is_blank x) refl (skip xs)
+  where
+    skip_by : (x : ℕ) (xs : List ℕ) (b : Bool) → is_blank x ≡ b → filter full (slice_split is_blank xs) ≡ filter full (slice_split is_blank (drop (prefix_len is_blank xs) xs)) → filter full (cond b ([] ∷ slice_split is_blank xs) (onto_first x (slice_split is_blank xs))) ≡ filter full (slice_split is_blank (drop (cond b (1 + prefix_len is_blank xs) 0) (x ∷ xs)))
+    skip_by x xs true e h = rw (one_more (prefix_len is_blank xs)) h
+    skip_by x xs false e h = rw e refl
+
+pub no_words : words [] ≡ []
+unfolding words
+no_words = refl
+
+-- behind the blanks at the front stands no blank
+pub has_word : (xs : List ℕ) → 0 < length (drop (prefix_len is_blank xs) xs) → 0 < first_len (drop (prefix_len is_blank xs) xs)
+has_word [] some = omega (arith, some)
+has_word (x ∷ xs) some = go (is_blank x) refl some (has_word xs)
+  where
+    go : (b : Bool) → is_blank x ≡ b → 0 < length (drop (cond b (1 + prefix_len is_blank xs) 0) (x ∷ xs)) → (0 < length (drop (prefix_len is_blank xs) xs) → 0 < first_len (drop (prefix_len is_blank xs) xs)) → 0 < first_len (drop (cond b (1 + prefix_len is_blank xs) 0) (x ∷ xs))
+    go true e some h = rw (one_more (prefix_len is_blank xs)) (h (rw (one_more (prefix_len is_blank xs)) at some))
+    go false e some h = rw e (omega arith)
+
+-- a part that is not empty is the first word
+pub first_word : (xs : List ℕ) → 0 < first_len xs → words xs ≡ take (first_len xs) xs ∷ words (drop (first_len xs) xs)
+unfolding words
+first_word xs some =
+    ap (filter full) (split_is xs) ∙ kept (take (first_len xs) xs) (rest_of (drop (first_len xs) xs)) (lt-ltb 0 _ (omega (arith, length-prefix_len no_blank xs, some))) ∙ ap (λ (ws : List (List ℕ)). take (first_len xs) xs ∷ ws) (rest_words xs)
+  where
+    kept : (w : List ℕ) (ws : List (List ℕ)) → full w ≡ true → filter full (w ∷ ws) ≡ w ∷ filter full ws
+    kept w ws e = rw e refl
+
+-- digits behind those of n
+pub more_digits : (ds : List ℕ) (n i : ℕ) → i < length ds → digits_value_after 10 n (drop i ds) ≡ digits_value_after 10 (n * 10 + digit_value (get_or ds i 0)) (drop (i + 1) ds)
+more_digits ds n i low = ap (digits_value_after 10 n) (drop-cons ds i 0 low ∙ ap (λ (j : ℕ). get_or ds i 0 ∷ drop j ds) (sym (add-one i)))
+
+module _ (xs : List ℕ) (n : ℕ) (front : n ≡ prefix_len is_blank xs) where
+  -- the rest behind the blanks, as a part of a slice
+  abbrev tail : List ℕ
+  tail = take (length xs - n) (drop n xs)
+
+  tail_is : tail ≡ drop (prefix_len is_blank xs) xs
+  tail_is = take_all (length xs - n) (drop n xs) (omega (arith, length-drop n xs)) ∙ ap (λ (k : ℕ). drop k xs) front
+
+  pub none_left : length tail ≡ 0 → words xs ≡ []
+  none_left none = skip xs ∙ ap words (sym tail_is ∙ nil_from_length _ none) ∙ no_words
+
+  pub next_left : (k : ℕ) → k ≡ first_len tail → 0 < length tail → words xs ≡ take k tail ∷ words (drop k tail)
+  next_left k is some =
+      skip xs ∙ ap words (sym tail_is)
+      ∙ first_word tail (subst (λ (ys : List ℕ). 0 < first_len ys) (sym tail_is) (has_word xs (omega (arith, ap length tail_is, some))))
+      ∙ ap (λ (j : ℕ). take j tail ∷ words (drop j tail)) (sym is)
+
+pub positive : (n : ℕ) → n ≢ 0 → 0 < n
+positive n h = omega (arith, h)

@@ -1,0 +1,12 @@
+-- Each law is a lemma.
+use Rattle.sim_classes.proofs.ClassLaws.{classes_there, alike_costs, own_inside}
+use Rattle.sim_classes.proofs.laws.laws_of_machines.Goals as goal
+
+pub returns-clause-there : goal.returns-clause-there
+returns-clause-there c = classes_there
+
+pub returns-clause-alike : goal.returns-clause-alike
+returns-clause-alike c = alike_costs
+
+pub returns-clause-own : goal.returns-clause-own
+returns-clause-own c = own_inside

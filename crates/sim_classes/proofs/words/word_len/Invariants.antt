@@ -1,0 +1,11 @@
+use Rattle.std.proofs.Common.{◌≡◌, ◌≤◌, ◌+◌, ◌-◌, length, drop, not}
+use Rattle.std.specs.List.{prefix_len}
+use Rattle.sim_classes.specs.Form.{is_blank}
+use Rattle.sim_classes.proofs.words.word_len.Given as goal
+
+-- what is at the front is so many, and what is at the front behind them
+abbrev pub invariant-loop-len : goal.invariant-loop-len
+invariant-loop-len l = (l.len ≤ length l.bytes) × (prefix_len (λ b. not (is_blank b)) l.bytes ≡ l.len + prefix_len (λ b. not (is_blank b)) (drop l.len l.bytes))
+
+abbrev pub decreases-loop-len : goal.decreases-loop-len
+decreases-loop-len l = length l.bytes - l.len

@@ -1,0 +1,114 @@
+-- The text of a machine: its words, and what must stand at each.
+use Rattle.std.specs.Prelude.{ℕ, zero, suc, ◌+◌, ◌==◌, ◌&&◌, ◌||◌, nat_lt, nat_le, Bool, List, [], ◌∷◌, ◌++◌, length, filter, Option, Some, None, is_some, Result, Ok, Err, codes, bytes_eq, if◌then◌else◌}
+use Rattle.std.specs.List.{list_all, slice_split}
+use Rattle.std.specs.Char.{is_ascii_digit}
+use Rattle.std.specs.Str.Parse.{digits_value}
+use Rattle.goal_base.specs.declared.limits.TheConstants.{MAX_RANKS, MAX_PARAM, MAX_PER_BYTE}
+use Rattle.sim_params.specs.declared.params.TheConstants.{MAX_PICOS}
+use Rattle.sim_params.specs.Costs.{Numbers}
+use Rattle.sim_params.specs.Numbers.{asked}
+use Rattle.sim_classes.specs.declared.fault.MachineFault.{MachineFault}
+use Rattle.sim_classes.specs.declared.fault.MachineFault.TheVariants.{Syntax, Number, Repeat}
+use Rattle.sim_classes.specs.declared.machine.TheConstants.{MAX_CLASSES, MAX_PAIRS, MAX_NODE}
+use Rattle.sim_classes.specs.Machine.{Known, machine_with}
+
+-- a space, a tab, a carriage return or a line feed
+abbrev pub is_blank : ℕ → Bool
+is_blank c = c == 32 || c == 9 || c == 13 || c == 10
+
+-- the words of a text: its longest runs of bytes that are not blanks
+unfoldable pub words : List ℕ → List (List ℕ)
+words text = filter (λ (w : List ℕ). nat_lt 0 (length w)) (slice_split is_blank text)
+
+-- a number is 1 to 20 decimal digits
+abbrev pub is_number : List ℕ → Bool
+is_number w = nat_lt 0 (length w) && nat_le (length w) 20 && list_all is_ascii_digit w
+
+-- the value of a number
+abbrev pub value_of : List ℕ → Option ℕ
+value_of w = if is_number w then Some (digits_value 10 w) else None
+
+-- a test of a number: None where it passes, or else the fault at the number's place
+abbrev pub Test : Type 0
+Test = ℕ → Option (ℕ → MachineFault)
+
+-- What must stand at the next words: a fixed word; a number that passes a test, and then what depends on it; or the end of
+-- the text, which says this machine.
+pub data Form : Type 0 where
+  Fixed : List ℕ → Form → Form
+  Value : Test → (ℕ → Form) → Form
+  End : Known → Form
+
+-- where a test of a number failed, its fault, and else what the rest says
+abbrev pub or_fault : Option (ℕ → MachineFault) → ℕ → Result Known MachineFault → Result Known MachineFault
+or_fault None place rest = rest
+or_fault (Some fault) place rest = Err (fault place)
+
+-- The machine that words of this form say, or the fault of the first that fails. The number of the first word is told, and
+-- the end counts as a word.
+unfoldable pub said : Form → ℕ → List (List ℕ) → Result Known MachineFault
+said (Fixed word rest) place [] = Err (Syntax place)
+said (Fixed word rest) place (w ∷ ws) = if bytes_eq w word then said rest (place + 1) ws else Err (Syntax place)
+said (Value test rest) place [] = Err (Syntax place)
+said (Value test rest) place (w ∷ ws) =
+    if is_number w then or_fault (test (digits_value 10 w)) place (said (rest (digits_value 10 w)) (place + 1) ws) else Err (Syntax place)
+said (End m) place [] = Ok m
+said (End m) place (w ∷ ws) = Err (Syntax place)
+
+-- a number from the least to the most
+abbrev pub between : ℕ → ℕ → Test
+between least most n = if nat_le least n && nat_le n most then None else Some Number
+
+-- the number of a class
+abbrev pub class_number : List Numbers → Test
+class_number classes n = if nat_lt n (length classes) then None else Some Number
+
+-- a node to which no class is told yet from node a
+abbrev pub new_target : Known → ℕ → Test
+new_target m a n = if nat_le n MAX_NODE then (if is_some (m.told a n) then Some Repeat else None) else Some Number
+
+-- the class from node a to node b is told
+abbrev pub telling : (ℕ → ℕ → Option ℕ) → ℕ → ℕ → ℕ → ℕ → ℕ → Option ℕ
+telling told a b class x y = if (x == a) && (y == b) then Some class else told x y
+
+-- so many triples: a node, another, and the class from the one to the other
+unfoldable pub triples : ℕ → Known → Form
+triples zero m = End m
+triples (suc k) m =
+    Value (between 0 MAX_NODE) (λ a. Value (new_target m a) (λ b. Value (class_number m.classes) (λ class. triples k (machine_with m.classes m.inside m.usual m.nodes (telling m.told a b class)))))
+
+abbrev pub triples_part : List Numbers → ℕ → ℕ → List ℕ → Form
+triples_part classes inside usual nodes =
+    Fixed (codes "pairs") (Value (between 0 MAX_PAIRS) (λ k. triples k (machine_with classes inside usual nodes (λ a b. None))))
+
+-- so many nodes more behind these
+unfoldable pub nodes_part : ℕ → List Numbers → ℕ → ℕ → List ℕ → Form
+nodes_part zero classes inside usual nodes = triples_part classes inside usual nodes
+nodes_part (suc k) classes inside usual nodes = Value (between 0 MAX_NODE) (λ node. nodes_part k classes inside usual (nodes ++ node ∷ []))
+
+-- the class inside a node, the usual one between nodes, and the node of each rank
+abbrev pub places_part : List Numbers → Form
+places_part classes =
+    Fixed (codes "inside") (Value (class_number classes) (λ inside.
+    Fixed (codes "default") (Value (class_number classes) (λ usual.
+    Fixed (codes "ranks") (Value (between 1 MAX_RANKS) (λ ranks. nodes_part ranks classes inside usual []))))))
+
+-- the parameters of a class: L, o, g, G, Gp, O, Op, S
+abbrev pub class_part : (Numbers → Form) → Form
+class_part rest =
+    Value (between 0 MAX_PARAM) (λ l. Value (between 0 MAX_PARAM) (λ o. Value (between 0 MAX_PARAM) (λ g.
+    Value (between 0 MAX_PER_BYTE) (λ gb. Value (between 0 MAX_PICOS) (λ gp. Value (between 0 MAX_PER_BYTE) (λ ob.
+    Value (between 0 MAX_PICOS) (λ op. Value (between 0 MAX_PARAM) (λ s. rest (asked l o g gb gp ob op s)))))))))
+
+-- so many classes more behind these
+unfoldable pub classes_part : ℕ → List Numbers → Form
+classes_part zero classes = places_part classes
+classes_part (suc k) classes = Fixed (codes "class") (class_part (λ n. classes_part k (classes ++ n ∷ [])))
+
+-- the whole text
+abbrev pub machine_form : Form
+machine_form = Fixed (codes "classes") (Value (between 1 MAX_CLASSES) (λ k. classes_part k []))
+
+-- the machine that a text says, or the fault of the first of its words that fails
+unfoldable pub machine : List ℕ → Result Known MachineFault
+machine text = said machine_form 0 (words text)

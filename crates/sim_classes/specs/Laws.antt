@@ -1,0 +1,16 @@
+-- The laws of machines. The function `laws_of_machines` ensures each.
+use Rattle.std.specs.Prelude.{ℕ, ◌≡◌, ◌<◌, length}
+use Rattle.sim_params.specs.Costs.{Numbers, log_gops}
+use Rattle.sim_classes.specs.Machine.{Known, IsWhole, class_of, numbers_of, costs_of}
+
+-- each message has a class of the machine
+abbrev pub ClassesAreThere : Type 0
+ClassesAreThere = (m : Known) (from to : ℕ) → IsWhole m → class_of m from to < length m.classes
+
+-- where all classes have the same parameters, the costs are those of LogGOPS with these
+abbrev pub AlikeIsLogGops : Type 0
+AlikeIsLogGops = (m : Known) (n : Numbers) → IsWhole m → ((class : ℕ) → class < length m.classes → numbers_of m class ≡ n) → costs_of m ≡ log_gops n
+
+-- A message from a rank to itself, and one between two ranks of one node, has the class inside a node.
+abbrev pub OwnIsInside : Type 0
+OwnIsInside = (m : Known) (rank : ℕ) → class_of m rank rank ≡ m.inside

@@ -1,0 +1,13 @@
+-- What a reader must believe.
+pub mod Machine
+pub mod Parts
+pub mod Known
+pub mod Form
+-- What only the code keeps.
+pub mod Left
+pub mod Bounds
+-- Laws.
+pub mod Laws
+-- What the clauses cite of lower crates.
+pub use Rattle.sim_params.specs.Costs
+pub use Rattle.sim_params.specs.Numbers

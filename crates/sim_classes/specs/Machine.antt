@@ -1,0 +1,62 @@
+-- A machine: classes of messages, each with its own parameters, and the class of each message by the nodes of its ranks.
+use Rattle.std.specs.Prelude.{ℕ, ◌≡◌, ◌<◌, ◌==◌, Bool, List, length, slice_get, Option, Some, None, unwrap_or, if◌then◌else◌}
+use Rattle.sim_params.specs.Costs.{Numbers, CostModel, log_gops}
+use Rattle.sim_params.specs.Numbers.{asked}
+
+-- the parameters of the classes, the class of a message inside a node, the class between two nodes that is told for them,
+-- the class between all others, and the node of each rank
+pub record Known : Type 0 where
+  pub classes : List Numbers
+  pub inside : ℕ
+  pub usual : ℕ
+  pub nodes : List ℕ
+  pub told : ℕ → ℕ → Option ℕ
+
+-- a machine by its parts
+abbrev pub machine_with : List Numbers → ℕ → ℕ → List ℕ → (ℕ → ℕ → Option ℕ) → Known
+machine_with classes inside usual nodes told = record {
+  classes = classes;
+  inside = inside;
+  usual = usual;
+  nodes = nodes;
+  told = told;
+}
+
+-- the class of a message between two nodes
+abbrev pub class_between : Known → ℕ → ℕ → ℕ
+class_between m a b = if a == b then m.inside else unwrap_or (m.told a b) m.usual
+
+-- The same, where a rank that the machine does not have is on a node of its own. The last says whether sender and receiver
+-- are one rank.
+abbrev pub class_by : Known → Option ℕ → Option ℕ → Bool → ℕ
+class_by m (Some a) (Some b) one = class_between m a b
+class_by m (Some a) None one = if one then m.inside else m.usual
+class_by m None b one = if one then m.inside else m.usual
+
+-- the class of a message from a rank to a rank
+unfoldable pub class_of : Known → ℕ → ℕ → ℕ
+class_of m from to = class_by m (slice_get m.nodes from) (slice_get m.nodes to) (from == to)
+
+-- the parameters of a class
+abbrev pub numbers_of : Known → ℕ → Numbers
+numbers_of m class = unwrap_or (slice_get m.classes class) (asked 0 0 0 0 0 0 0 0)
+
+-- the costs of a message from a rank to a rank: those of its class
+abbrev pub costs_between : Known → ℕ → ℕ → CostModel
+costs_between m from to = log_gops (numbers_of m (class_of m from to))
+
+-- the costs of each message are those of its class
+unfoldable pub costs_of : Known → CostModel
+costs_of m = record {
+  over = λ from to bytes. (costs_between m from to).over from to bytes;
+  gap = λ from to bytes. (costs_between m from to).gap from to bytes;
+  flight = λ from to bytes. (costs_between m from to).flight from to bytes;
+  latency = λ from to. (costs_between m from to).latency from to;
+  eager = λ from to bytes. (costs_between m from to).eager from to bytes;
+}
+
+-- each class that is named is one of the machine's
+pub record IsWhole (m : Known) : Type 0 where
+  pub inside : m.inside < length m.classes
+  pub usual : m.usual < length m.classes
+  pub told : (a b c : ℕ) → m.told a b ≡ Some c → c < length m.classes

@@ -1,0 +1,20 @@
+//! Classes of messages: a machine text gives each rank a node, and each message the parameters of LogGOPS by the nodes of its
+//! two ranks.
+//!
+//! [`read_machine`] reads the text, a list of words, or gives the fault of the first word that fails. A [`Machine`] is a model of
+//! costs, each at most 2^61, so the run takes it as it takes one set of parameters.
+#![tactic(auto)]
+
+mod fault;
+mod laws;
+mod machine;
+mod messages;
+mod reading;
+#[cfg(test)]
+mod tests;
+mod words;
+
+pub use fault::MachineFault;
+pub use laws::laws_of_machines;
+pub use machine::{MAX_CLASSES, MAX_NODE, MAX_PAIRS, Machine};
+pub use reading::read_machine;

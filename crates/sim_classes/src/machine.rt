@@ -1,0 +1,29 @@
+//! Machines.
+ghost use Rattle.std.specs.Prelude.{◌≤◌, length};
+ghost use Rattle.sim_classes.specs.Machine.{IsWhole};
+ghost use Rattle.sim_classes.specs.Parts.{known_of};
+
+use sim_params::Params;
+use std::collections::BTreeMap;
+
+/// The most classes of a machine.
+pub const MAX_CLASSES: u64 = 16;
+
+/// The most pairs of nodes for which a machine tells the class between them.
+pub const MAX_PAIRS: u64 = 65_536;
+
+/// The greatest number of a node.
+pub const MAX_NODE: u64 = 65_535;
+
+/// A machine: classes of messages, each with its own parameters, and the class of each message by the nodes of its ranks.
+/// Contracts see it by `known`.
+#[derive(Drop)]
+pub struct Machine {
+    pub(crate) classes: Vec<Params>,
+    pub(crate) inside: u32,
+    pub(crate) usual: u32,
+    pub(crate) nodes: Vec<u32>,
+    pub(crate) told: BTreeMap<(u32, u32), u32>,
+    pub(crate) ghost few: { length nodes.items ≤ 65536 },
+    pub(crate) ghost whole: { IsWhole (known_of classes.items inside usual nodes.items told) },
+}

@@ -1,0 +1,112 @@
+// The class of a message, and what it costs.
+ghost use Rattle.std.specs.Prelude.{ℕ, ◌≡◌, ◌≢◌, ◌<◌, length, if◌then◌else◌, IfSome, IfNone};
+ghost use Rattle.sim_params.specs.Costs.{log_gops};
+ghost use Rattle.sim_params.specs.Numbers.{numbers};
+ghost use Rattle.sim_classes.specs.Machine.{class_of, class_between, numbers_of, costs_between};
+ghost use Rattle.sim_classes.specs.Known.{known};
+
+use crate::machine::Machine;
+use sim_params::{Costs, LogGops, Params};
+
+impl Machine {
+    /// The number of ranks that it has a node for.
+    pub fn ranks(&self) -> u32
+        ensures { result ≡ length (known self.now).nodes }
+    {
+        self.nodes.len() as u32
+    }
+
+    /// The number of the class of a message from a rank to a rank. A rank that the machine does not have is on a node of its
+    /// own.
+    pub fn class_of(&self, from: u32, to: u32) -> u32
+        ensures class { result ≡ class_of (known self.now) from to }
+        ensures within { result < length (known self.now).classes }
+    {
+        match self.nodes.get(from as usize) {
+            Some(a) => match self.nodes.get(to as usize) {
+                Some(b) => self.class_between(*a, *b),
+                None => self.class_apart(from == to),
+            },
+            None => self.class_apart(from == to),
+        }
+    }
+
+    // The class of a message of which one rank is on a node of its own.
+    fn class_apart(&self, one: bool) -> u32
+        ensures class { result ≡ (if one then (known self.now).inside else (known self.now).usual) }
+        ensures within { result < length (known self.now).classes }
+    {
+        if one { self.inside } else { self.usual }
+    }
+
+    // The class between two nodes.
+    fn class_between(&self, a: u32, b: u32) -> u32
+        ensures class { result ≡ class_between (known self.now) a b }
+        ensures within { result < length (known self.now).classes }
+    {
+        if a == b {
+            return self.inside;
+        }
+        match self.told.get(&(a, b)) {
+            Some(class) => *class,
+            None => self.usual,
+        }
+    }
+
+    /// The parameters that all classes have. None where two classes differ.
+    pub fn uniform(&self) -> Option<Params>
+        ensures same { IfSome result (λ p. (class : ℕ) → class < length (known self.now).classes
+            → numbers_of (known self.now) class ≡ numbers p) }
+        ensures differ { IfNone result ((i : ℕ) × (j : ℕ) × (i < length (known self.now).classes)
+            × (j < length (known self.now).classes) × (numbers_of (known self.now) i ≢ numbers_of (known self.now) j)) }
+    {
+        let first = self.classes[0];
+        for params in &self.classes {
+            if *params != first {
+                return None;
+            }
+        }
+        Some(first)
+    }
+
+    // The costs of a message from a rank to a rank.
+    fn costs(&self, from: u32, to: u32) -> LogGops
+        ensures { log_gops (numbers result.params) ≡ costs_between (known self.now) from to }
+    {
+        LogGops {
+            params: self.classes[self.class_of(from, to) as usize],
+        }
+    }
+}
+
+impl Costs for Machine {
+    ghost use Rattle.std.specs.Prelude.{◌≡◌, ◌<◌, ◌^◌};
+    ghost use Rattle.sim_params.specs.Costs.{CostModel};
+    ghost use Rattle.sim_classes.specs.Machine.{costs_of};
+    ghost use Rattle.sim_classes.specs.Known.{known};
+    ghost use Rattle.sim_classes.specs.Bounds.{machine_bounded};
+
+    ghost model = { λ m. costs_of (known m) };
+
+    ghost bounded = { λ m. machine_bounded m };
+
+    fn over(&self, from: u32, to: u32, bytes: u64) -> u64 {
+        self.costs(from, to).over(from, to, bytes)
+    }
+
+    fn gap(&self, from: u32, to: u32, bytes: u64) -> u64 {
+        self.costs(from, to).gap(from, to, bytes)
+    }
+
+    fn flight(&self, from: u32, to: u32, bytes: u64) -> u64 {
+        self.costs(from, to).flight(from, to, bytes)
+    }
+
+    fn latency(&self, from: u32, to: u32) -> u64 {
+        self.costs(from, to).latency(from, to)
+    }
+
+    fn eager(&self, from: u32, to: u32, bytes: u64) -> bool {
+        self.costs(from, to).eager(from, to, bytes)
+    }
+}

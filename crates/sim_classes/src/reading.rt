@@ -1,0 +1,181 @@
+// From a text to its machine.
+ghost use Rattle.std.specs.Prelude.{ℕ, List, [], ◌∷◌, ◌++◌, ◌≡◌, ◌≢◌, ◌≤◌, ◌<◌, Ok, Err, None, map, length, Some, IfOk, IfErr};
+ghost use Rattle.goal_base.specs.declared.limits.TheConstants.{MAX_RANKS};
+ghost use Rattle.sim_params.specs.Costs.{Numbers};
+ghost use Rattle.sim_params.specs.Numbers.{numbers};
+ghost use Rattle.sim_classes.specs.declared.machine.TheConstants.{MAX_NODE};
+ghost use Rattle.sim_classes.specs.declared.fault.MachineFault.TheVariants.{NoMemory};
+ghost use Rattle.sim_classes.specs.Machine.{Known, machine_with};
+ghost use Rattle.sim_classes.specs.Parts.{told_by};
+ghost use Rattle.sim_classes.specs.Known.{known};
+ghost use Rattle.sim_classes.specs.Form.{Form, Value, said, class_part, classes_part, places_part, nodes_part, triples_part, triples, new_target, machine};
+
+use crate::fault::MachineFault;
+use crate::machine::{MAX_CLASSES, MAX_NODE, MAX_PAIRS, Machine};
+use crate::words::Words;
+use goal_base::{MAX_PARAM, MAX_PER_BYTE, MAX_RANKS};
+use sim_params::{MAX_PICOS, Params};
+use std::alloc::Global;
+use std::collections::BTreeMap;
+
+// The parameters of a class.
+fn read_class(words: &mut Words<'_>) -> Result<Params, MachineFault>
+    ensures next { IfOk result (λ p. (rest : Numbers → Form)
+        → said (class_part rest) words.old.place words.old.words ≡ said (rest (numbers p)) words.new.place words.new.words) }
+    ensures fault { IfErr result (λ fault. (rest : Numbers → Form)
+        → said (class_part rest) words.old.place words.old.words ≡ Err fault) }
+{
+    let latency = words.number_from(0, MAX_PARAM)?;
+    let overhead = words.number_from(0, MAX_PARAM)?;
+    let gap = words.number_from(0, MAX_PARAM)?;
+    let gap_per_byte = words.number_from(0, MAX_PER_BYTE)?;
+    let gap_picos = words.number_from(0, MAX_PICOS)?;
+    let overhead_per_byte = words.number_from(0, MAX_PER_BYTE)?;
+    let overhead_picos = words.number_from(0, MAX_PICOS)?;
+    let sync = words.number_from(0, MAX_PARAM)?;
+    Ok(Params {
+        latency,
+        overhead,
+        gap,
+        gap_per_byte,
+        gap_picos,
+        overhead_per_byte,
+        overhead_picos,
+        sync,
+    })
+}
+
+// The parameters of so many classes.
+fn read_classes(
+    alloc: Global,
+    words: &mut Words<'_>,
+    count: u64,
+) -> Result<Vec<Params>, MachineFault>
+    ensures next { IfOk result (λ v. said (classes_part count []) words.old.place words.old.words
+        ≡ said (places_part (map numbers v.items)) words.new.place words.new.words) }
+    ensures count { IfOk result (λ v. length v.items ≡ count) }
+    ensures fault { IfErr result (λ fault. fault ≢ NoMemory
+        → said (classes_part count []) words.old.place words.old.words ≡ Err fault) }
+{
+    let mut classes = Vec::new(alloc);
+    for _ in 0..count {
+        words.fixed("class")?;
+        classes.push(read_class(words)?)?;
+    }
+    Ok(classes)
+}
+
+// The nodes of so many ranks.
+fn read_nodes(alloc: Global, words: &mut Words<'_>, count: u64) -> Result<Vec<u32>, MachineFault>
+    ensures next { IfOk result (λ v. (classes : List Numbers) (inside usual : ℕ)
+        → said (nodes_part count classes inside usual []) words.old.place words.old.words
+        ≡ said (triples_part classes inside usual v.items) words.new.place words.new.words) }
+    ensures count { IfOk result (λ v. length v.items ≡ count) }
+    ensures fault { IfErr result (λ fault. fault ≢ NoMemory → (classes : List Numbers) (inside usual : ℕ)
+        → said (nodes_part count classes inside usual []) words.old.place words.old.words ≡ Err fault) }
+{
+    let mut nodes = Vec::new(alloc);
+    for _ in 0..count {
+        nodes.push(words.number_from(0, MAX_NODE)? as u32)?;
+    }
+    Ok(nodes)
+}
+
+// A node to which no class is told yet from node `from`.
+fn read_target(
+    words: &mut Words<'_>,
+    told: &BTreeMap<(u32, u32), u32>,
+    from: u32,
+) -> Result<u32, MachineFault>
+    ensures next { IfOk result (λ n. (m : Known) (rest : ℕ → Form) → m.told ≡ told_by told.now
+        → said (Value (new_target m from) rest) words.old.place words.old.words
+        ≡ said (rest n) words.new.place words.new.words) }
+    ensures within { IfOk result (λ n. n ≤ MAX_NODE) }
+    ensures fault { IfErr result (λ fault. (m : Known) (rest : ℕ → Form) → m.told ≡ told_by told.now
+        → said (Value (new_target m from) rest) words.old.place words.old.words ≡ Err fault) }
+{
+    let (at, value) = words.number()?;
+    if value > u128::from(MAX_NODE) {
+        return Err(MachineFault::Number { at });
+    }
+    let target = value as u32;
+    if told.contains_key(&(from, target)) {
+        return Err(MachineFault::Repeat { at });
+    }
+    Ok(target)
+}
+
+// So many pairs of nodes with the class between them, up to the end of the text.
+fn read_pairs(
+    alloc: Global,
+    words: &mut Words<'_>,
+    count: u64,
+    classes: u64,
+) -> Result<BTreeMap<(u32, u32), u32>, MachineFault>
+    requires { classes ≤ 16 }
+    ensures next { IfOk result (λ told. (numbers : List Numbers) (inside usual : ℕ) (nodes : List ℕ) → length numbers ≡ classes
+        → said (triples count (machine_with numbers inside usual nodes (λ a b. None))) words.old.place words.old.words
+        ≡ Ok (machine_with numbers inside usual nodes (told_by told))) }
+    ensures within { IfOk result (λ told. (a b class : ℕ) → told_by told a b ≡ Some class → class < classes) }
+    ensures fault { IfErr result (λ fault. fault ≢ NoMemory
+        → (numbers : List Numbers) (inside usual : ℕ) (nodes : List ℕ) → length numbers ≡ classes
+        → said (triples count (machine_with numbers inside usual nodes (λ a b. None))) words.old.place words.old.words ≡ Err fault) }
+{
+    let mut told = BTreeMap::new(alloc);
+    for _ in 0..count {
+        let from = words.number_from(0, MAX_NODE)? as u32;
+        let to = read_target(words, &told, from)?;
+        let class = words.class_number(classes)? as u32;
+        told.insert((from, to), class)?;
+    }
+    words.end()?;
+    Ok(told)
+}
+
+// What stands behind the classes.
+fn read_places(
+    alloc: Global,
+    words: &mut Words<'_>,
+    classes: Vec<Params>,
+) -> Result<Machine, MachineFault>
+    requires { length classes.items ≤ 16 }
+    ensures next { IfOk result (λ m. said (places_part (map numbers classes.items)) words.old.place words.old.words ≡ Ok (known m)) }
+    ensures fault { IfErr result (λ fault. fault ≢ NoMemory
+        → said (places_part (map numbers classes.items)) words.old.place words.old.words ≡ Err fault) }
+{
+    let count = classes.len() as u64;
+    words.fixed("inside")?;
+    let inside = words.class_number(count)? as u32;
+    words.fixed("default")?;
+    let usual = words.class_number(count)? as u32;
+    words.fixed("ranks")?;
+    let ranks = words.number_from(1, u64::from(MAX_RANKS))?;
+    let nodes = read_nodes(alloc, words, ranks)?;
+    words.fixed("pairs")?;
+    let pairs = words.number_from(0, MAX_PAIRS)?;
+    let told = read_pairs(alloc, words, pairs, count)?;
+    Ok(Machine {
+        classes,
+        inside,
+        usual,
+        nodes,
+        told,
+    })
+}
+
+/// The machine that a text says.
+///
+/// # Errors
+///
+/// The fault of the first word that fails, and `NoMemory` where memory ran out.
+#[tactic(auto, unfolding(crate::specs::Form::machine))]
+pub fn read_machine(alloc: Global, text: &[u8]) -> Result<Machine, MachineFault>
+    ensures machine { IfOk result (λ m. machine text.now ≡ Ok (known m)) }
+    ensures fault { IfErr result (λ fault. fault ≢ NoMemory → machine text.now ≡ Err fault) }
+{
+    let mut words = Words::new(text);
+    words.fixed("classes")?;
+    let count = words.number_from(1, MAX_CLASSES)?;
+    let classes = read_classes(alloc, &mut words, count)?;
+    read_places(alloc, &mut words, classes)
+}

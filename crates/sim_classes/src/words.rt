@@ -1,0 +1,190 @@
+// The words of a machine text, one after the other.
+ghost use Rattle.std.specs.Prelude.{ℕ, List, Err, ◌≡◌, ◌≢◌, ◌+◌, ◌<◌, ◌≤◌, ◌^◌, [], ◌∷◌, length, not, IfOk, IfErr, IfSome, IfNone};
+ghost use Rattle.std.specs.List.{prefix_len, list_all};
+ghost use Rattle.std.specs.Char.{is_ascii_digit};
+ghost use Rattle.sim_classes.specs.Form.{Form, Fixed, Value, End, Test, words, is_blank, or_fault, said, between, class_number, value_of};
+ghost use Rattle.sim_classes.specs.Machine.{Known};
+ghost use Rattle.sim_params.specs.Costs.{Numbers};
+
+use crate::fault::MachineFault;
+use std::marker::Model;
+
+// The words that are left, and the number of the first of them.
+#[derive(Drop)]
+pub struct Words<'a> {
+    rest: &'a [u8],
+    place: u64,
+}
+
+impl<'a> Model for Words<'a> {
+    ghost use Rattle.std.specs.Prelude.{◌+◌, ◌<◌, ◌^◌, length};
+    ghost use Rattle.sim_classes.specs.Form.{words};
+    ghost use Rattle.sim_classes.specs.Left.{Left};
+
+    ghost Value = { Left };
+
+    ghost view = { λ w. record { place = w.place; words = words w.rest.now } };
+
+    ghost invariant = { λ w. w.place + length w.rest.now < 2 ^ 64 };
+}
+
+// Whether a byte is a blank.
+fn is_blank(byte: u8) -> bool
+    ensures { result ≡ is_blank byte }
+{
+    byte == b' ' || byte == b'\t' || byte == b'\r' || byte == b'\n'
+}
+
+// How many blanks stand at the front.
+fn blanks(bytes: &[u8]) -> usize
+    ensures { result ≡ prefix_len is_blank bytes.now }
+{
+    let mut len = 0;
+    while len < bytes.len() && is_blank(bytes[len]) {
+        len += 1;
+    }
+    len
+}
+
+// How many bytes that are no blanks stand at the front.
+fn word_len(bytes: &[u8]) -> usize
+    ensures { result ≡ prefix_len (λ b. not (is_blank b)) bytes.now }
+{
+    let mut len = 0;
+    while len < bytes.len() && !is_blank(bytes[len]) {
+        len += 1;
+    }
+    len
+}
+
+// The most digits that a number may have.
+const MOST_DIGITS: usize = 20;
+
+// Whether all bytes are decimal digits.
+fn are_digits(word: &[u8]) -> bool
+    ensures { result ≡ list_all is_ascii_digit word.now }
+{
+    word.iter().all(|byte| byte.is_ascii_digit())
+}
+
+// The value of a word that is a number.
+fn value_of(word: &[u8]) -> Option<u128>
+    ensures { result ≡ value_of word.now }
+{
+    if word.is_empty() || word.len() > MOST_DIGITS || !are_digits(word) {
+        return None;
+    }
+    let mut value = 0;
+    for digit in word {
+        value = value * 10 + u128::from(*digit - b'0');
+    }
+    Some(value)
+}
+
+impl<'a> Words<'a> {
+    // The words of a text.
+    pub fn new(text: &'a [u8]) -> Words<'a>
+        ensures { result ≡ record { place = 0; words = words text.now } }
+    {
+        Words {
+            rest: text,
+            place: 0,
+        }
+    }
+
+    // Takes the next word off. None, and nothing changes, where no word is left.
+    pub fn take(&mut self) -> Option<&'a [u8]>
+        ensures word { IfSome result (λ w. self.old.words ≡ w.now ∷ self.new.words) }
+        ensures place { IfSome result (λ w. self.new.place ≡ self.old.place + 1) }
+        ensures end { IfNone result (self.old.words ≡ []) }
+    {
+        let tail = &self.rest[blanks(self.rest)..];
+        if tail.is_empty() {
+            return None;
+        }
+        let (word, rest) = tail.split_at(word_len(tail));
+        self.rest = rest;
+        self.place += 1;
+        Some(word)
+    }
+
+    // Takes a fixed word off.
+    pub fn fixed(&mut self, word: &str) -> Result<(), MachineFault>
+        ensures next { IfOk result (λ _. (rest : Form)
+            → said (Fixed word.now rest) self.old.place self.old.words ≡ said rest self.new.place self.new.words) }
+        ensures fault { IfErr result (λ fault. (rest : Form)
+            → said (Fixed word.now rest) self.old.place self.old.words ≡ Err fault) }
+    {
+        let at = self.place;
+        match self.take() {
+            Some(found) => {
+                if found == word.as_bytes() {
+                    Ok(())
+                } else {
+                    Err(MachineFault::Syntax { at })
+                }
+            }
+            None => Err(MachineFault::Syntax { at }),
+        }
+    }
+
+    // Takes a number off, and gives it with its place.
+    pub fn number(&mut self) -> Result<(u64, u128), MachineFault>
+        ensures next { IfOk result (λ p. (test : Test) (rest : ℕ → Form)
+            → said (Value test rest) self.old.place self.old.words
+            ≡ or_fault (test p.1) p.0 (said (rest p.1) self.new.place self.new.words)) }
+        ensures fault { IfErr result (λ fault. (test : Test) (rest : ℕ → Form)
+            → said (Value test rest) self.old.place self.old.words ≡ Err fault) }
+    {
+        let at = self.place;
+        match self.take() {
+            Some(word) => match value_of(word) {
+                Some(value) => Ok((at, value)),
+                None => Err(MachineFault::Syntax { at }),
+            },
+            None => Err(MachineFault::Syntax { at }),
+        }
+    }
+
+    // Takes a number from the least to the most off.
+    pub fn number_from(&mut self, least: u64, most: u64) -> Result<u64, MachineFault>
+        ensures next { IfOk result (λ n. (rest : ℕ → Form)
+            → said (Value (between least most) rest) self.old.place self.old.words ≡ said (rest n) self.new.place self.new.words) }
+        ensures within { IfOk result (λ n. (least ≤ n) × (n ≤ most)) }
+        ensures fault { IfErr result (λ fault. (rest : ℕ → Form)
+            → said (Value (between least most) rest) self.old.place self.old.words ≡ Err fault) }
+    {
+        let (at, value) = self.number()?;
+        if value < u128::from(least) || u128::from(most) < value {
+            return Err(MachineFault::Number { at });
+        }
+        Ok(value as u64)
+    }
+
+    // Takes the number of one of so many classes off.
+    pub fn class_number(&mut self, count: u64) -> Result<u64, MachineFault>
+        ensures next { IfOk result (λ n. (classes : List Numbers) (rest : ℕ → Form) → length classes ≡ count
+            → said (Value (class_number classes) rest) self.old.place self.old.words ≡ said (rest n) self.new.place self.new.words) }
+        ensures within { IfOk result (λ n. n < count) }
+        ensures fault { IfErr result (λ fault. (classes : List Numbers) (rest : ℕ → Form) → length classes ≡ count
+            → said (Value (class_number classes) rest) self.old.place self.old.words ≡ Err fault) }
+    {
+        let (at, value) = self.number()?;
+        if value >= u128::from(count) {
+            return Err(MachineFault::Number { at });
+        }
+        Ok(value as u64)
+    }
+
+    // The end of the text.
+    pub fn end(&mut self) -> Result<(), MachineFault>
+        ensures next { IfOk result (λ _. self.old.words ≡ []) }
+        ensures fault { IfErr result (λ fault. (m : Known) → said (End m) self.old.place self.old.words ≡ Err fault) }
+    {
+        let at = self.place;
+        match self.take() {
+            Some(_) => Err(MachineFault::Syntax { at }),
+            None => Ok(()),
+        }
+    }
+}
