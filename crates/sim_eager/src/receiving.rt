@@ -10,7 +10,7 @@ use sim_resources::Resources;
 
 /// When a receive may take its message, which is there from `from` on: once its cpu and the receiving side of its
 /// interface are free.
-#[tactic(auto, using(goal_graph::proofs::OfKind::receive_is_op))]
+#[tactic(auto, using(goal_graph::proofs::ForCallers::receive_is_op))]
 pub fn serve_at(res: &Resources, recv: OpId, from: u64) -> u64
     requires { IsReceive res.now.plans recv }
     ensures { result ≡ max from (max (cpu_free res.now recv) (rx_free res.now recv)) }
@@ -20,7 +20,7 @@ pub fn serve_at(res: &Resources, recv: OpId, from: u64) -> u64
 
 /// Takes the message of the send at the time `at`, and answers when the receive ends: it holds its cpu and the
 /// receiving side of its interface by the size of the message, and nothing else changes.
-#[tactic(auto, using(goal_graph::proofs::OfKind::receive_is_op))]
+#[tactic(auto, using(goal_graph::proofs::ForCallers::receive_is_op))]
 pub fn serve<C: Costs>(
     sched: &Sched,
     costs: &C,

@@ -8,15 +8,15 @@ use goal_graph::{OpId, Sched};
 use sim_params::Costs;
 use sim_resources::Resources;
 
-/// When a send that has sent its bytes lets go of its cpu, and when they arrive.
+/// When a send whose bytes go lets go of its cpu, and when they arrive.
 #[derive(Clone, Copy, Debug, PartialEq, Eq)]
-pub struct Begun {
+pub struct Sent {
     pub end: u64,
     pub arrive: u64,
 }
 
 /// When a send that is ready at `ready` may begin: once its cpu and the sending side of its interface are free.
-#[tactic(auto, using(goal_graph::proofs::OfKind::send_is_op))]
+#[tactic(auto, using(goal_graph::proofs::ForCallers::send_is_op))]
 pub fn begin_at(res: &Resources, send: OpId, ready: u64) -> u64
     requires { IsSend res.now.plans send }
     ensures { result ≡ max ready (max (cpu_free res.now send) (tx_free res.now send)) }
@@ -26,7 +26,7 @@ pub fn begin_at(res: &Resources, send: OpId, ready: u64) -> u64
 
 /// Sends so many bytes to a rank at the time `at`: the send holds its cpu and the sending side of its interface, and
 /// nothing else changes. So an eager send begins, a large one sends its request, and later hands over its bytes.
-#[tactic(auto, using(goal_graph::proofs::OfKind::send_is_op))]
+#[tactic(auto, using(goal_graph::proofs::ForCallers::send_is_op))]
 pub fn transfer<C: Costs>(
     costs: &C,
     res: &mut Resources,
@@ -34,7 +34,7 @@ pub fn transfer<C: Costs>(
     to: u32,
     bytes: u64,
     at: u64,
-) -> Begun
+) -> Sent
     requires sends { IsSend res.old.plans send }
     requires size { bytes < 2 ^ 40 }
     requires over_fits { at + (C.model costs.now).over send.rank to bytes < 2 ^ 63 }
@@ -51,19 +51,19 @@ pub fn transfer<C: Costs>(
     let arrive = at + costs.flight(send.rank, to, bytes);
     res.hold_cpu(send, end);
     res.hold_tx(send, sent);
-    Begun { end, arrive }
+    Sent { end, arrive }
 }
 
 /// Begins an eager send at the time `at`: it holds its cpu and the sending side of its interface, and nothing else
 /// changes.
-#[tactic(auto, using(goal_graph::proofs::OfKind::send_is_op))]
+#[tactic(auto, using(goal_graph::proofs::ForCallers::send_is_op))]
 pub fn eager_begin<C: Costs>(
     sched: &Sched,
     costs: &C,
     res: &mut Resources,
     send: OpId,
     at: u64,
-) -> Begun
+) -> Sent
     requires same_schedule { res.old.plans ≡ sched.now }
     requires sends { IsSend sched.now send }
     requires over_fits { at + over sched.now (C.model costs.now) send < 2 ^ 63 }

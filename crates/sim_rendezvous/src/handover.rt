@@ -5,16 +5,9 @@ ghost use Rattle.sim_params.specs.Costs.{over, gap, flight};
 ghost use Rattle.sim_resources.specs.FreeTimes.{SameFreeTimes, cpu_free, tx_free, hold_cpu, hold_tx};
 
 use goal_graph::{OpId, Sched};
-use sim_eager::{Begun, begin_at, transfer};
+use sim_eager::{Sent, begin_at, transfer};
 use sim_params::Costs;
 use sim_resources::Resources;
-
-/// When a large send that has handed over its bytes ends, and when they are there at the receive.
-#[derive(Clone, Copy, Debug, PartialEq, Eq)]
-pub struct Sent {
-    pub end: u64,
-    pub available: u64,
-}
 
 /// When a large send that is cleared at `cleared` may hand over its bytes: once its cpu and the sending side of its
 /// interface are free.
@@ -35,14 +28,10 @@ pub fn data<C: Costs>(sched: &Sched, costs: &C, res: &mut Resources, send: OpId,
     requires flight_fits { at + flight sched.now (C.model costs.now) send < 2 ^ 63 }
 
     ensures end { result.end ≡ at + over sched.now (C.model costs.now) send }
-    ensures available { result.available ≡ at + flight sched.now (C.model costs.now) send }
+    ensures arrive { result.arrive ≡ at + flight sched.now (C.model costs.now) send }
     ensures holds { SameFreeTimes res.new
         (hold_tx (hold_cpu res.old send result.end) send (at + gap sched.now (C.model costs.now) send)) }
 {
     let message = sched.message(send);
-    let Begun { end, arrive } = transfer(costs, res, send, message.to, message.bytes, at);
-    Sent {
-        end,
-        available: arrive,
-    }
+    transfer(costs, res, send, message.to, message.bytes, at)
 }

@@ -5,5 +5,5 @@
 mod handover;
 mod requests;
 
-pub use handover::{Sent, data, data_at};
+pub use handover::{data, data_at};
 pub use requests::{clear, request};

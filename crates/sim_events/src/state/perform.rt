@@ -174,7 +174,7 @@ impl<'a, C: Costs> State<'a, C> {
         );
         let entry = Entry {
             end: Some(sent.end),
-            there: Some(sent.available),
+            there: Some(sent.arrive),
             ..entry
         };
         write(sched, &mut self.entries, action.op, entry);
