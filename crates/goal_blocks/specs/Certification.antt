@@ -78,15 +78,27 @@ IsRightEverywhere plans first wanted =
 
 -- what is certified ends in every complete interleaving, and in the same pairs
 abbrev pub CertifiedEndsEverywhere : Type 0
-CertifiedEndsEverywhere = (plans : List Plan) (first : Store) (wanted : ℕ → ℕ → Value → Bool) (eager : OpId → Bool) (h : List Act) → IsCertified plans first wanted → IsCompleteInterleaving plans eager h → EndsInItsPairs plans eager h
+CertifiedEndsEverywhere =
+    (plans : List Plan) (first : Store) (wanted : ℕ → ℕ → Value → Bool) (eager : OpId → Bool) (h : List Act)
+    → IsCertified plans first wanted
+    → IsCompleteInterleaving plans eager h
+    → EndsInItsPairs plans eager h
 
 -- in what is certified, of two operations that conflict one comes first, the same in every interleaving
 abbrev pub CertifiedConflictsInOneOrder : Type 0
-CertifiedConflictsInOneOrder = (plans : List Plan) (first : Store) (wanted : ℕ → ℕ → Value → Bool) (x y : OpId) → IsCertified plans first wanted → Conflict plans x y → AlwaysEndsFirst plans x y ⊎ AlwaysEndsFirst plans y x
+CertifiedConflictsInOneOrder =
+    (plans : List Plan) (first : Store) (wanted : ℕ → ℕ → Value → Bool) (x y : OpId)
+    → IsCertified plans first wanted
+    → Conflict plans x y
+    → AlwaysEndsFirst plans x y ⊎ AlwaysEndsFirst plans y x
 
 -- without a race, what is matched leaves in each slot, and has read for each send, what the walk leaves and reads
 abbrev pub MatchedHoldsAsTheWalk : Type 0
-MatchedHoldsAsTheWalk = (plans : List Plan) (first : Store) (eager : OpId → Bool) (h : List Act) (matched : IsMatched plans) → HasNoRace plans → IsCompleteInterleaving plans eager h → held_after plans eager first h ≡ held_after plans no_send first matched.no_stall.walk
+MatchedHoldsAsTheWalk =
+    (plans : List Plan) (first : Store) (eager : OpId → Bool) (h : List Act) (matched : IsMatched plans)
+    → HasNoRace plans
+    → IsCompleteInterleaving plans eager h
+    → held_after plans eager first h ≡ held_after plans no_send first matched.no_stall.walk
 
 -- what is certified is right everywhere
 abbrev pub CertifiedIsRightEverywhere : Type 0

@@ -169,8 +169,14 @@ FaultExcludesCertified = (plans : List Plan) (first : Store) (wanted : ℕ → �
 
 -- an accepted schedule without a first fault is certified
 abbrev pub FaultlessIsCertified : Type 0
-FaultlessIsCertified = (plans : List Plan) (first : Store) (wanted : ℕ → ℕ → Value → Bool) → IsAccepted plans → ((fault : CertFault) → ¬ (IsCertificationFault plans first wanted fault)) → IsCertified plans first wanted
+FaultlessIsCertified = (plans : List Plan) (first : Store) (wanted : ℕ → ℕ → Value → Bool)
+    → IsAccepted plans
+    → ((fault : CertFault) → ¬ (IsCertificationFault plans first wanted fault))
+    → IsCertified plans first wanted
 
 -- a schedule has at most one first fault
 abbrev pub OneFirstFault : Type 0
-OneFirstFault = (plans : List Plan) (first : Store) (wanted : ℕ → ℕ → Value → Bool) (fault other : CertFault) → IsCertificationFault plans first wanted fault → IsCertificationFault plans first wanted other → fault ≡ other
+OneFirstFault = (plans : List Plan) (first : Store) (wanted : ℕ → ℕ → Value → Bool) (fault other : CertFault)
+    → IsCertificationFault plans first wanted fault
+    → IsCertificationFault plans first wanted other
+    → fault ≡ other

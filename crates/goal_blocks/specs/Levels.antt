@@ -17,4 +17,10 @@ pub record AreLevels (plans : List Plan) (level : OpId → ℕ) : Type 0 where
 -- The law: where each send has one receive, and each receive one send, and there are levels, each operation has an end in
 -- each complete interleaving, whatever is eager.
 abbrev pub LevelsEnd : Type 0
-LevelsEnd = (plans : List Plan) (level : OpId → ℕ) (eager : OpId → Bool) (h : List Act) → HasNoWildcard plans → HasNoDoubleChannel plans → HasNoUnpaired plans → AreLevels plans level → IsCompleteInterleaving plans eager h → AllEnd plans eager h
+LevelsEnd = (plans : List Plan) (level : OpId → ℕ) (eager : OpId → Bool) (h : List Act)
+    → HasNoWildcard plans
+    → HasNoDoubleChannel plans
+    → HasNoUnpaired plans
+    → AreLevels plans level
+    → IsCompleteInterleaving plans eager h
+    → AllEnd plans eager h

@@ -45,7 +45,10 @@ same_place_same Begin Data e = absurd (omega (arith, e))
 same_place_same Begin Post e = absurd (omega (arith, e))
 
 -- an order of the places of values is an order of the values, where values of one place are the same
-pub laws_through : {K M : Type 0} (place_of : K → M) (less : M → M → Bool) → ((x y : K) → place_of x ≡ place_of y → x ≡ y) → IsOrder less → IsOrder (λ x y. less (place_of x) (place_of y))
+pub laws_through : {K M : Type 0} (place_of : K → M) (less : M → M → Bool)
+    → ((x y : K) → place_of x ≡ place_of y → x ≡ y)
+    → IsOrder less
+    → IsOrder (λ x y. less (place_of x) (place_of y))
 laws_through place_of less same laws = record {
   irreflexive = λ x. laws.irreflexive (place_of x);
   transitive = λ x y z. laws.transitive (place_of x) (place_of y) (place_of z);
@@ -67,7 +70,12 @@ module _ {A B : Type 0} (less_a : A → A → Bool) (less_b : B → B → Bool) 
   total_pair : (x y : Lex A B) → pair_less x y ≡ false → pair_less y x ≡ false → x ≡ y
   total_pair x y = go (less_a x.first y.first) (less_a y.first x.first) refl refl
     where
-      go : (p q : Bool) → less_a x.first y.first ≡ p → less_a y.first x.first ≡ q → lexical p q (less_b x.rest y.rest) ≡ false → lexical q p (less_b y.rest x.rest) ≡ false → x ≡ y
+      go : (p q : Bool)
+          → less_a x.first y.first ≡ p
+          → less_a y.first x.first ≡ q
+          → lexical p q (less_b x.rest y.rest) ≡ false
+          → lexical q p (less_b y.rest x.rest) ≡ false
+          → x ≡ y
       go true q e f g h = absurd (cc)
       go false true e f g h = absurd (cc)
       go false false e f g h =
@@ -81,7 +89,14 @@ module _ {A B : Type 0} (less_a : A → A → Bool) (less_b : B → B → Bool) 
       less_first : (c : Bool) → less_a x.first z.first ≡ true → lexical (less_a x.first z.first) c (less_b x.rest z.rest) ≡ true
       less_first c e = rw e refl
 
-      go : (p q r s : Bool) → less_a x.first y.first ≡ p → less_a y.first x.first ≡ q → less_a y.first z.first ≡ r → less_a z.first y.first ≡ s → lexical p q (less_b x.rest y.rest) ≡ true → lexical r s (less_b y.rest z.rest) ≡ true → pair_less x z ≡ true
+      go : (p q r s : Bool)
+          → less_a x.first y.first ≡ p
+          → less_a y.first x.first ≡ q
+          → less_a y.first z.first ≡ r
+          → less_a z.first y.first ≡ s
+          → lexical p q (less_b x.rest y.rest) ≡ true
+          → lexical r s (less_b y.rest z.rest) ≡ true
+          → pair_less x z ≡ true
       go true q true s e f g h u v = less_first (less_a z.first x.first) (laws_a.transitive x.first y.first z.first e g)
       go true q false true e f g h u v = absurd (cc)
       go true q false false e f g h u v =

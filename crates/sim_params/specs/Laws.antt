@@ -123,27 +123,43 @@ TimesNeverFall = (plans : List Plan) (costs : CostModel) (h : List Timed) (a : T
 
 -- a possible action stays possible until it happens, at a time that is not less
 abbrev pub PossibleStays : Type 0
-PossibleStays = (plans : List Plan) (costs : CostModel) (h : List Timed) (a b : Timed) → Possible plans costs h b → ¬ ((a.class ≡ b.class) × (a.op ≡ b.op)) → Possible plans costs (a ∷ h) (at_its_time plans costs (a ∷ h) b.class b.op) × (b.time ≤ time plans costs (a ∷ h) b.class b.op)
+PossibleStays = (plans : List Plan) (costs : CostModel) (h : List Timed) (a b : Timed)
+    → Possible plans costs h b
+    → ¬ ((a.class ≡ b.class) × (a.op ≡ b.op))
+    → Possible plans costs (a ∷ h) (at_its_time plans costs (a ∷ h) b.class b.op) × (b.time ≤ time plans costs (a ∷ h) b.class b.op)
 
 -- the start of an operation stays once it is there
 abbrev pub StartStays : Type 0
-StartStays = (plans : List Plan) (costs : CostModel) (h : List Timed) (a : Timed) (x : OpId) → has_started plans x (plain h) ≡ true → start plans costs (a ∷ h) x ≡ start plans costs h x
+StartStays = (plans : List Plan) (costs : CostModel) (h : List Timed) (a : Timed) (x : OpId)
+    → has_started plans x (plain h) ≡ true
+    → start plans costs (a ∷ h) x ≡ start plans costs h x
 
 -- and so does the time at which it was paired
 abbrev pub PairTimeStays : Type 0
-PairTimeStays = (plans : List Plan) (costs : CostModel) (h : List Timed) (a : Timed) (x : OpId) → is_paired (pairs plans (plain h)) x ≡ true → paired_at plans costs (a ∷ h) x ≡ paired_at plans costs h x
+PairTimeStays = (plans : List Plan) (costs : CostModel) (h : List Timed) (a : Timed) (x : OpId)
+    → is_paired (pairs plans (plain h)) x ≡ true
+    → paired_at plans costs (a ∷ h) x ≡ paired_at plans costs h x
 
 -- an operation is paired at the time of the action that pairs it
 abbrev pub PairedByAction : Type 0
-PairedByAction = (plans : List Plan) (costs : CostModel) (h : List Timed) (a : Timed) (x : OpId) → is_paired (pairs plans (plain h)) x ≡ false → is_paired (pairs plans (plain (a ∷ h))) x ≡ true → paired_at plans costs (a ∷ h) x ≡ a.time
+PairedByAction = (plans : List Plan) (costs : CostModel) (h : List Timed) (a : Timed) (x : OpId)
+    → is_paired (pairs plans (plain h)) x ≡ false
+    → is_paired (pairs plans (plain (a ∷ h))) x ≡ true
+    → paired_at plans costs (a ∷ h) x ≡ a.time
 
 -- an operation starts with its first action
 abbrev pub StartsWithFirst : Type 0
-StartsWithFirst = (plans : List Plan) (costs : CostModel) (h : List Timed) (a : Timed) → Possible plans costs h a → a.class ≡ first_class (kind_at plans a.op) → start plans costs (a ∷ h) a.op ≡ a.time
+StartsWithFirst = (plans : List Plan) (costs : CostModel) (h : List Timed) (a : Timed)
+    → Possible plans costs h a
+    → a.class ≡ first_class (kind_at plans a.op)
+    → start plans costs (a ∷ h) a.op ≡ a.time
 
 -- and ends when its last action lets go of the cpu
 abbrev pub EndsWithLast : Type 0
-EndsWithLast = (plans : List Plan) (costs : CostModel) (h : List Timed) (a : Timed) → Possible plans costs h a → a.class ≡ last_class (is_eager plans costs a.op) (kind_at plans a.op) → end plans costs (a ∷ h) a.op ≡ a.time + cpu_hold plans costs h a.class a.op (kind_at plans a.op)
+EndsWithLast = (plans : List Plan) (costs : CostModel) (h : List Timed) (a : Timed)
+    → Possible plans costs h a
+    → a.class ≡ last_class (is_eager plans costs a.op) (kind_at plans a.op)
+    → end plans costs (a ∷ h) a.op ≡ a.time + cpu_hold plans costs h a.class a.op (kind_at plans a.op)
 
 -- The laws of runs, for every schedule and all costs: `laws_of_runs` ensures each.
 
@@ -153,19 +169,29 @@ IsAnInterleaving = (plans : List Plan) (costs : CostModel) (h : List Timed) → 
 
 -- and a complete one, if the run is complete
 abbrev pub IsACompleteInterleaving : Type 0
-IsACompleteInterleaving = (plans : List Plan) (costs : CostModel) (h : List Timed) → IsCompleteRun plans costs h → IsCompleteInterleaving plans (is_eager plans costs) (plain h)
+IsACompleteInterleaving = (plans : List Plan) (costs : CostModel) (h : List Timed)
+    → IsCompleteRun plans costs h
+    → IsCompleteInterleaving plans (is_eager plans costs) (plain h)
 
 -- what has happened in a run and what is left are at most three actions an operation
 abbrev pub AtMostThreeEach : Type 0
-AtMostThreeEach = (plans : List Plan) (costs : CostModel) (h : List Timed) → IsRun plans costs h → length h + left plans (plain h) ≤ 3 * length (operations plans)
+AtMostThreeEach = (plans : List Plan) (costs : CostModel) (h : List Timed)
+    → IsRun plans costs h
+    → length h + left plans (plain h) ≤ 3 * length (operations plans)
 
 -- where an action is possible, a run has not as many yet
 abbrev pub RoomForPossible : Type 0
-RoomForPossible = (plans : List Plan) (costs : CostModel) (h : List Timed) (a : Timed) → IsRun plans costs h → Possible plans costs h a → length h < 3 * length (operations plans)
+RoomForPossible = (plans : List Plan) (costs : CostModel) (h : List Timed) (a : Timed)
+    → IsRun plans costs h
+    → Possible plans costs h a
+    → length h < 3 * length (operations plans)
 
 -- an end stays once it is there
 abbrev pub EndStays : Type 0
-EndStays = (plans : List Plan) (costs : CostModel) (h : List Timed) (a : Timed) (x : OpId) → IsRun plans costs h → has_ended plans (is_eager plans costs) x (plain h) ≡ true → end plans costs (a ∷ h) x ≡ end plans costs h x
+EndStays = (plans : List Plan) (costs : CostModel) (h : List Timed) (a : Timed) (x : OpId)
+    → IsRun plans costs h
+    → has_ended plans (is_eager plans costs) x (plain h) ≡ true
+    → end plans costs (a ∷ h) x ≡ end plans costs h x
 
 -- an action is not before the one that it follows
 abbrev pub TimesRise : Type 0
@@ -177,7 +203,10 @@ NewestIsLast = (plans : List Plan) (costs : CostModel) (h : List Timed) (b : Tim
 
 -- what is possible after a run is not before any of its actions
 abbrev pub PossibleIsNotPast : Type 0
-PossibleIsNotPast = (plans : List Plan) (costs : CostModel) (h : List Timed) (b : Timed) → IsRun plans costs h → Possible plans costs h b → All (λ (a : Timed). a.time ≤ b.time) h
+PossibleIsNotPast = (plans : List Plan) (costs : CostModel) (h : List Timed) (b : Timed)
+    → IsRun plans costs h
+    → Possible plans costs h b
+    → All (λ (a : Timed). a.time ≤ b.time) h
 
 -- one action is next
 abbrev pub OneIsNext : Type 0
@@ -185,7 +214,9 @@ OneIsNext = (plans : List Plan) (costs : CostModel) (h : List Timed) (a b : Time
 
 -- after a run an action is next, or nothing is possible
 abbrev pub NextOrFinished : Type 0
-NextOrFinished = (plans : List Plan) (costs : CostModel) (h : List Timed) → IsRun plans costs h → ((a : Timed) × IsNext plans costs h a) ⊎ IsFinished plans costs h
+NextOrFinished = (plans : List Plan) (costs : CostModel) (h : List Timed)
+    → IsRun plans costs h
+    → ((a : Timed) × IsNext plans costs h a) ⊎ IsFinished plans costs h
 
 -- two runs with as many actions are one
 abbrev pub OneRunOfEachLength : Type 0
@@ -193,11 +224,17 @@ OneRunOfEachLength = (plans : List Plan) (costs : CostModel) (h k : List Timed) 
 
 -- of two runs, one begins as the other
 abbrev pub OneBeginsAsTheOther : Type 0
-OneBeginsAsTheOther = (plans : List Plan) (costs : CostModel) (h k : List Timed) → IsRun plans costs h → IsRun plans costs k → ((l : List Timed) × (k ≡ l ++ h)) ⊎ ((l : List Timed) × (h ≡ l ++ k))
+OneBeginsAsTheOther = (plans : List Plan) (costs : CostModel) (h k : List Timed)
+    → IsRun plans costs h
+    → IsRun plans costs k
+    → ((l : List Timed) × (k ≡ l ++ h)) ⊎ ((l : List Timed) × (h ≡ l ++ k))
 
 -- a complete run begins as each run does
 abbrev pub CompleteRunBeginsAsEach : Type 0
-CompleteRunBeginsAsEach = (plans : List Plan) (costs : CostModel) (h k : List Timed) → IsRun plans costs h → IsCompleteRun plans costs k → (l : List Timed) × (k ≡ l ++ h)
+CompleteRunBeginsAsEach = (plans : List Plan) (costs : CostModel) (h k : List Timed)
+    → IsRun plans costs h
+    → IsCompleteRun plans costs k
+    → (l : List Timed) × (k ≡ l ++ h)
 
 -- two complete runs are one
 abbrev pub OneCompleteRun : Type 0
@@ -214,7 +251,11 @@ ReadOldestFirst = (plans : List Plan) (costs : CostModel) (h : List Timed) → I
 -- where each possible action has an entry whose time is not later than its own, an entry that is least of all and
 -- whose time is right is next
 abbrev pub LeastEntryIsNext : Type 0
-LeastEntryIsNext = (plans : List Plan) (costs : CostModel) (h entries : List Timed) (a : Timed) → ((b : Timed) → Possible plans costs h b → HasBound (Contains entries) b) → IsLeastIn (Contains entries) a → Possible plans costs h a → IsNext plans costs h a
+LeastEntryIsNext = (plans : List Plan) (costs : CostModel) (h entries : List Timed) (a : Timed)
+    → ((b : Timed) → Possible plans costs h b → HasBound (Contains entries) b)
+    → IsLeastIn (Contains entries) a
+    → Possible plans costs h a
+    → IsNext plans costs h a
 
 -- The laws of the budget, for every schedule and all costs: `laws_of_the_budget` ensures each.
 
@@ -228,21 +269,31 @@ WithinBudget = (plans : List Plan) (costs : CostModel) (h : List Timed) → IsRu
 
 -- a possible action lets go of what it holds within the budget
 abbrev pub PossibleWithinBudget : Type 0
-PossibleWithinBudget = (plans : List Plan) (costs : CostModel) (h : List Timed) (a : Timed) → IsRun plans costs h → Possible plans costs h a → a.time + hold plans costs h a ≤ budget plans costs
+PossibleWithinBudget = (plans : List Plan) (costs : CostModel) (h : List Timed) (a : Timed)
+    → IsRun plans costs h
+    → Possible plans costs h a
+    → a.time + hold plans costs h a ≤ budget plans costs
 
 -- an action raises the reach by at most its part of the share that it is paid out of
 abbrev pub ReachRisesByPart : Type 0
-ReachRisesByPart = (plans : List Plan) (costs : CostModel) (h : List Timed) (a : Timed) → IsRun plans costs h → Possible plans costs h a → reach plans costs (a ∷ h) ≤ reach plans costs h + at_partner (part plans costs a.class) (payer plans costs h a.class a.op)
+ReachRisesByPart = (plans : List Plan) (costs : CostModel) (h : List Timed) (a : Timed)
+    → IsRun plans costs h
+    → Possible plans costs h a
+    → reach plans costs (a ∷ h) ≤ reach plans costs h + at_partner (part plans costs a.class) (payer plans costs h a.class a.op)
 
 -- the parts of an operation are its share
 abbrev pub PartsAreTheShare : Type 0
-PartsAreTheShare = (plans : List Plan) (costs : CostModel) (x : OpId) → part plans costs Begin x + part plans costs Arrive x + part plans costs Data x + part plans costs Serve x ≡ share plans costs x
+PartsAreTheShare = (plans : List Plan) (costs : CostModel) (x : OpId)
+    → part plans costs Begin x + part plans costs Arrive x + part plans costs Data x + part plans costs Serve x ≡ share plans costs x
 
 -- The laws of reasons, for every schedule and whatever is eager: `laws_of_reasons` ensures each.
 
 -- an operation that a reason names is stuck itself
 abbrev pub ReasonsAreStuck : Type 0
-ReasonsAreStuck = (plans : List Plan) (eager : OpId → Bool) (h : List Act) (x y : OpId) → IsInterleaving plans eager h → ((reason plans eager h x ≡ why.Op y) ⊎ (reason plans eager h x ≡ why.Partner y)) → IsStuck plans eager h y
+ReasonsAreStuck = (plans : List Plan) (eager : OpId → Bool) (h : List Act) (x y : OpId)
+    → IsInterleaving plans eager h
+    → ((reason plans eager h x ≡ why.Op y) ⊎ (reason plans eager h x ≡ why.Partner y))
+    → IsStuck plans eager h y
 
 -- an operation whose reason is Op y needs y
 abbrev pub OpIsNeeded : Type 0
@@ -255,8 +306,17 @@ PartnerIsAbsent = (plans : List Plan) (eager : OpId → Bool) (h : List Act) (x 
 -- where nothing is left to happen, each operation that fits a stuck one that is alone has started, and is paired
 -- with another
 abbrev pub AloneIsAlone : Type 0
-AloneIsAlone = (plans : List Plan) (eager : OpId → Bool) (h : List Act) (x y : OpId) → IsCompleteInterleaving plans eager h → IsStuck plans eager h x → reason plans eager h x ≡ why.Alone → are_fit plans eager x y ≡ true → (has_started plans y h ≡ true) × IsTaken plans h y x
+AloneIsAlone = (plans : List Plan) (eager : OpId → Bool) (h : List Act) (x y : OpId)
+    → IsCompleteInterleaving plans eager h
+    → IsStuck plans eager h x
+    → reason plans eager h x ≡ why.Alone
+    → are_fit plans eager x y ≡ true
+    → (has_started plans y h ≡ true) × IsTaken plans h y x
 
 -- there a stuck calc is never alone
 abbrev pub CalcIsNotAlone : Type 0
-CalcIsNotAlone = (plans : List Plan) (eager : OpId → Bool) (h : List Act) (x : OpId) → IsCompleteInterleaving plans eager h → IsCalc plans x → IsStuck plans eager h x → reason plans eager h x ≢ why.Alone
+CalcIsNotAlone = (plans : List Plan) (eager : OpId → Bool) (h : List Act) (x : OpId)
+    → IsCompleteInterleaving plans eager h
+    → IsCalc plans x
+    → IsStuck plans eager h x
+    → reason plans eager h x ≢ why.Alone

@@ -29,7 +29,9 @@ FreeTimesAreGreatest = (place : Op → ℕ) (plans : List Plan) (holds : List Ho
 
 -- a hold of something else changes nothing
 abbrev pub OthersStay : Type 0
-OthersStay = (place : Op → ℕ) (plans : List Plan) (holds : List Hold) (h : Hold) (x : OpId) → shares place plans x h.op ≡ false → free_at place plans (h ∷ holds) x ≡ free_at place plans holds x
+OthersStay = (place : Op → ℕ) (plans : List Plan) (holds : List Hold) (h : Hold) (x : OpId)
+    → shares place plans x h.op ≡ false
+    → free_at place plans (h ∷ holds) x ≡ free_at place plans holds x
 
 -- a hold of one kind of resource changes no other kind, and what stands beside all holds made so far stands beside
 -- them and the new one afterwards

@@ -11,12 +11,21 @@ use Rattle.sim_waits.specs.WaitsText.{IsWaitsText}
 
 -- a run has one report
 abbrev pub OneReport : Type 0
-OneReport = (plans : List Plan) (costs : CostModel) (h : List Timed) (one other : List ℕ) → IsWaitsText plans costs h one → IsWaitsText plans costs h other → one ≡ other
+OneReport = (plans : List Plan) (costs : CostModel) (h : List Timed) (one other : List ℕ)
+    → IsWaitsText plans costs h one
+    → IsWaitsText plans costs h other
+    → one ≡ other
 
 -- an operation that has ended was ready when its last action came, or before
 abbrev pub ReadyIsNotLater : Type 0
-ReadyIsNotLater = (plans : List Plan) (costs : CostModel) (h : List Timed) (x : OpId) → IsRun plans costs h → ended plans costs h x ≡ true → ready plans costs h x ≤ last_time plans costs h x
+ReadyIsNotLater = (plans : List Plan) (costs : CostModel) (h : List Timed) (x : OpId)
+    → IsRun plans costs h
+    → ended plans costs h x ≡ true
+    → ready plans costs h x ≤ last_time plans costs h x
 
 -- so its wait is the whole difference
 abbrev pub WaitIsExact : Type 0
-WaitIsExact = (plans : List Plan) (costs : CostModel) (h : List Timed) (x : OpId) → IsRun plans costs h → ended plans costs h x ≡ true → ready plans costs h x + wait plans costs h x ≡ last_time plans costs h x
+WaitIsExact = (plans : List Plan) (costs : CostModel) (h : List Timed) (x : OpId)
+    → IsRun plans costs h
+    → ended plans costs h x ≡ true
+    → ready plans costs h x + wait plans costs h x ≡ last_time plans costs h x
