@@ -1,5 +1,5 @@
 -- Every time of a run is within the budget: each action raises the reach by at most what its share sets aside for it.
-use Rattle.std.proofs.Common.{ℕ, ◌+◌, ◌*◌, ◌≤◌, ◌≡◌, max, Bool, true, false, not, List, [], ◌∷◌, Option, Some, None, if◌then◌else◌, Contains, sum_by, refl, sym, ap, ◌∙◌, subst, arith, le_refl, zero-le}
+use Rattle.std.proofs.Common.{ℕ, ◌+◌, ◌≤◌, ◌≡◌, max, Bool, true, false, not, List, [], ◌∷◌, Option, Some, None, if◌then◌else◌, Contains, sum_by, refl, sym, ap, ◌∙◌, subst, arith, le_refl, zero-le}
 use Rattle.std.proofs.lemmas.Bool.{both_ways, and_parts, not-true}
 use Rattle.std.proofs.lemmas.List.Sums.{sum_by-le-sum_by}
 use Rattle.goal_graph.specs.declared.action.OpId.{OpId}
@@ -14,9 +14,9 @@ use Rattle.goal_graph.specs.Matching.{pairs, is_paired}
 use Rattle.goal_graph.specs.Allowed.{is_served, may, allowed}
 use Rattle.goal_graph.specs.Laws.{IsSend, IsReceive}
 use Rattle.goal_graph.proofs.ForCallers.{happened_stays, happened_now, allowed_may, allowed_fresh, allowed_serve, fits_send, partner_of_receive, partners_mutual, kind_listed, allowed_listed, sum_falls}
-use Rattle.sim_params.specs.Costs.{CostModel, over, over_one, gap, gap_one, flight, flight_one, latency, is_eager}
+use Rattle.sim_params.specs.Costs.{CostModel, over, over_one, gap, gap_one, flight, latency, is_eager}
 use Rattle.sim_params.specs.Times.{at_partner, mate, cpu_hold, tx_hold, rx_hold, Possible}
-use Rattle.sim_params.specs.Budget.{share_of, share, budget}
+use Rattle.sim_params.specs.Budget.{message_share, request_share, share_of, share, budget}
 use Rattle.sim_params.specs.Laws.{hold, reach, part_of, part, payer, IsWithin}
 use Rattle.sim_params.proofs.Grow.{mate_stays}
 use Rattle.sim_params.proofs.Interleavings.{EachPossible, each_interleaving}
@@ -40,15 +40,15 @@ paid_rises b c n p q = subst (λ b. paid b n + n ≤ paid c n) (sym p) (subst (�
 module _ (plans : List Plan) (costs : CostModel) where
   -- the parts are the share
   pub parts_make_share : (x : OpId) → part plans costs Begin x + part plans costs Arrive x + part plans costs Data x + part plans costs Serve x ≡ share plans costs x
-  unfolding part share
-  parts_make_share x = go (kind_at plans x)
+  unfolding part share is_eager
+  parts_make_share x = go (kind_at plans x) refl
     where
-      go : (k : Option Kind) → part_of plans costs Begin x k + part_of plans costs Arrive x k + part_of plans costs Data x k + part_of plans costs Serve x k ≡ share_of plans costs x k
-      go (Some (Calc nanos)) = omega arith
-      go (Some (Recv room from tag)) = refl
-      go None = refl
-      go (Some (Send bytes to tag)) =
-          elim (is_eager plans costs x) as (λ b. (if b then over plans costs x + gap plans costs x else over_one plans costs x + gap_one plans costs x) + (if b then flight plans costs x else flight_one plans costs x) + (if b then 0 else latency plans costs x + over plans costs x + gap plans costs x) + ((if b then 0 else flight plans costs x) + over plans costs x + gap plans costs x) ≡ 2 * (over plans costs x + gap plans costs x) + flight plans costs x + (if b then 0 else over_one plans costs x + gap_one plans costs x + flight_one plans costs x + latency plans costs x)) [ true ↦ omega arith | false ↦ omega arith ]
+      go : (k : Option Kind) → kind_at plans x ≡ k → part_of plans costs Begin x k + part_of plans costs Arrive x k + part_of plans costs Data x k + part_of plans costs Serve x k ≡ share_of costs x.rank k
+      go (Some (Calc nanos)) e = omega arith
+      go (Some (Recv room from tag)) e = refl
+      go None e = refl
+      go (Some (Send bytes to tag)) e =
+          rw e (elim (costs.eager x.rank to bytes) as (λ b. (if b then costs.over x.rank to bytes + costs.gap x.rank to bytes else costs.over x.rank to 1 + costs.gap x.rank to 1) + (if b then costs.flight x.rank to bytes else costs.flight x.rank to 1) + (if b then 0 else costs.latency x.rank to + costs.over x.rank to bytes + costs.gap x.rank to bytes) + ((if b then 0 else costs.flight x.rank to bytes) + costs.over x.rank to bytes + costs.gap x.rank to bytes) ≡ message_share costs x.rank to bytes + (if b then 0 else request_share costs x.rank to)) [ true ↦ omega arith | false ↦ omega arith ])
 
   -- the receive of a send has its message
   abbrev taken : List Timed → Option OpId → Bool

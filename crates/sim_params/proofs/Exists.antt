@@ -1,35 +1,22 @@
 -- After each run an action is next, or nothing is possible; so there is a complete run.
-use Rattle.std.proofs.Common.{ℕ, zero, suc, ◌+◌, ◌≤◌, ◌≡◌, ◌⊎◌, Bool, true, false, List, [], ◌∷◌, All, Contains, inl, inr, refl, sym, ap, ap₂, ◌∙◌, subst, arith}
-use Rattle.std.proofs.lemmas.Bool.{cases_Bool, both_ways}
+use Rattle.std.proofs.Common.{ℕ, zero, suc, ◌+◌, ◌≤◌, ◌≡◌, ◌⊎◌, true, List, [], ◌∷◌, All, Contains, inl, inr, refl, sym, ap, ap₂, ◌∙◌, subst, arith}
+use Rattle.std.proofs.lemmas.Bool.{both_ways}
 use Rattle.std.proofs.lemmas.List.Elements.{All-nil, All-cons, All-weaker, All-contains}
 use Rattle.goal_graph.specs.declared.action.OpId.{OpId}
 use Rattle.goal_graph.specs.declared.action.Timed.{Timed}
 use Rattle.goal_graph.specs.declared.action.Class.{Class}
-use Rattle.goal_graph.specs.declared.action.Class.TheVariants.{Arrive, Serve, Data, Post, Begin}
 use Rattle.goal_graph.specs.Schedule.{Plan, operations}
 use Rattle.goal_graph.specs.Action.{plain, plain_act}
 use Rattle.goal_graph.specs.Allowed.{allowed}
 use Rattle.goal_graph.specs.Interleaving.{IsInterleaving}
 use Rattle.goal_graph.specs.Laws.{left}
-use Rattle.goal_graph.proofs.ForCallers.{allowed_listed, one_allowed, left_falls, less_irreflexive, less_transitive, key_cases, same_timed}
+use Rattle.goal_graph.proofs.ForCallers.{find_class, allowed_listed, one_allowed, left_falls, less_irreflexive, less_transitive, key_cases, same_timed}
 use Rattle.sim_params.specs.Costs.{CostModel, is_eager}
 use Rattle.sim_params.specs.Times.{time, Possible}
 use Rattle.goal_graph.specs.Order.{IsLess, key}
 use Rattle.sim_params.specs.Run.{IsNext, IsRun, IsFinished, IsCompleteRun}
 use Rattle.sim_params.specs.Laws.{at_its_time}
 use Rattle.sim_params.proofs.Interleavings.{possible_at, run_interleaving}
-
--- a class that passes a test, or none
-all_classes : (test : Class → Bool) → test Arrive ≡ false → test Serve ≡ false → test Data ≡ false → test Post ≡ false → test Begin ≡ false → (c : Class) → test c ≡ false
-all_classes test a s d p b Arrive = a
-all_classes test a s d p b Serve = s
-all_classes test a s d p b Data = d
-all_classes test a s d p b Post = p
-all_classes test a s d p b Begin = b
-
-pub find_class : (test : Class → Bool) → ((c : Class) × (test c ≡ true)) ⊎ ((c : Class) → test c ≡ false)
-find_class test =
-    elim (cases_Bool (test Arrive)) [ inl t ↦ inl (Arrive, t) | inr a ↦ elim (cases_Bool (test Serve)) [ inl t ↦ inl (Serve, t) | inr s ↦ elim (cases_Bool (test Data)) [ inl t ↦ inl (Data, t) | inr d ↦ elim (cases_Bool (test Post)) [ inl t ↦ inl (Post, t) | inr p ↦ elim (cases_Bool (test Begin)) [ inl t ↦ inl (Begin, t) | inr b ↦ inr (all_classes test a s d p b) ] ] ] ] ]
 
 module _ (plans : List Plan) (costs : CostModel) where
   -- no possible action of x is before a

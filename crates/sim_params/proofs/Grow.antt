@@ -20,10 +20,6 @@ use Rattle.sim_params.specs.Costs.{CostModel, over, flight, is_eager}
 use Rattle.sim_params.specs.Times.{since, greatest, at_partner, mate, cpu_hold, cpu, tx, rx, start, end, met_at, ready, paired_at, there_at, time_of, time}
 use Rattle.sim_params.specs.Laws.{NoneFalls}
 
-pub plain_cons : (a : Timed) (h : List Timed) → plain (a ∷ h) ≡ plain_act a ∷ plain h
-unfolding plain
-plain_cons a h = refl
-
 -- a test that once passed goes on passing
 abbrev pub Stays : (List Act → Bool) → Type 0
 Stays test = (a : Act) (l : List Act) → test l ≡ true → test (a ∷ l) ≡ true

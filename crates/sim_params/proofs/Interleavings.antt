@@ -1,6 +1,6 @@
 -- A run without its times is an interleaving, and what is possible stays so.
 use Rattle.std.proofs.Common.{suc, ◌+◌, ◌*◌, ◌<◌, length, ap, arith, ◌≤◌, ◌≡◌, true, false, List, [], ◌∷◌, refl, sym, subst}
-use Rattle.std.proofs.lemmas.Bool.{both_ways, false_from_ne_true}
+use Rattle.std.proofs.lemmas.Bool.{false_from_ne_true}
 use Rattle.goal_graph.specs.declared.action.OpId.{OpId}
 use Rattle.goal_graph.specs.declared.action.Timed.{Timed}
 use Rattle.goal_graph.specs.declared.action.Class.{Class}
@@ -12,7 +12,7 @@ use Rattle.goal_graph.specs.Laws.{left}
 use Rattle.goal_graph.proofs.ForCallers.{happened_and_left, left_falls, is_act_class, is_act_op, allowed_stays}
 use Rattle.sim_params.specs.Costs.{CostModel, is_eager}
 use Rattle.sim_params.specs.Times.{time, Possible}
-use Rattle.sim_params.specs.Run.{IsRun, IsFinished, IsCompleteRun}
+use Rattle.sim_params.specs.Run.{IsRun, IsCompleteRun}
 use Rattle.sim_params.specs.Laws.{at_its_time}
 use Rattle.sim_params.proofs.Grow.{time_grows}
 
@@ -50,10 +50,6 @@ module _ (plans : List Plan) (costs : CostModel) where
     each = run_interleaving h r.run;
     none_left = λ a. false_from_ne_true _ (λ t. r.finished (at_its_time plans costs h a.class a.op) (possible_at h a.class a.op t));
   }
-
-  -- the other way: nothing is possible where nothing is allowed
-  pub finished_from : (h : List Timed) → IsCompleteInterleaving plans (is_eager plans costs) (plain h) → IsFinished plans costs h
-  finished_from h c a p = both_ways _ (c.none_left (record { class = a.class; op = a.op })) p.allowed
 
   pub length-plain : (h : List Timed) → length (plain h) ≡ length h
   unfolding plain

@@ -4,26 +4,29 @@ use Rattle.goal_graph.specs.declared.action.OpId.{OpId}
 use Rattle.goal_graph.specs.declared.plan.Kind.{Kind}
 use Rattle.goal_graph.specs.declared.plan.Kind.TheVariants.{Calc, Send, Recv}
 use Rattle.goal_graph.specs.Schedule.{Plan, kind_at, operations}
-use Rattle.sim_params.specs.Costs.{CostModel, over, over_one, gap, gap_one, flight, flight_one, latency, is_eager}
+use Rattle.sim_params.specs.Costs.{CostModel}
+
+module _ (costs : CostModel) where
+  -- what a message of so many bytes may add to the times
+  abbrev pub message_share : ℕ → ℕ → ℕ → ℕ
+  message_share from to bytes = 2 * (costs.over from to bytes + costs.gap from to bytes) + costs.flight from to bytes
+
+  -- what the handshake before a large one may add
+  abbrev pub request_share : ℕ → ℕ → ℕ
+  request_share from to = costs.over from to 1 + costs.gap from to 1 + costs.flight from to 1 + costs.latency from to
+
+  -- what an operation of a rank may add, by what it does
+  abbrev pub share_of : ℕ → Option Kind → ℕ
+  share_of from (Some (Calc nanos)) = nanos
+  share_of from (Some (Send bytes to tag)) =
+      message_share from to bytes + (if costs.eager from to bytes then 0 else request_share from to)
+  share_of from (Some (Recv room source tag)) = 0
+  share_of from None = 0
 
 module _ (plans : List Plan) (costs : CostModel) where
-  -- what the handshake of a large send adds
-  abbrev pub handshake_share : OpId → ℕ
-  handshake_share m =
-      if is_eager plans costs m
-      then 0
-      else over_one plans costs m + gap_one plans costs m + flight_one plans costs m + latency plans costs m
-
-  abbrev pub share_of : OpId → Option Kind → ℕ
-  share_of x (Some (Calc nanos)) = nanos
-  share_of x (Some (Send bytes to tag)) =
-      2 * (over plans costs x + gap plans costs x) + flight plans costs x + handshake_share x
-  share_of x (Some (Recv room from tag)) = 0
-  share_of x None = 0
-
   -- the share of an operation
   unfoldable pub share : OpId → ℕ
-  share x = share_of x (kind_at plans x)
+  share x = share_of costs x.rank (kind_at plans x)
 
   -- the sum of the shares
   unfoldable pub budget : ℕ

@@ -8,7 +8,6 @@ pub mod Stuck
 pub mod Budget
 -- What only the code keeps.
 pub mod Bounds
-pub mod Shares
 -- Laws.
 pub mod Laws
 -- What the clauses cite of lower crates.

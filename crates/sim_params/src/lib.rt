@@ -12,4 +12,4 @@ pub use params::{
     DEFAULT_GAP, DEFAULT_GAP_PER_BYTE, DEFAULT_LATENCY, DEFAULT_OVERHEAD,
     DEFAULT_OVERHEAD_PER_BYTE, DEFAULT_SYNC, MAX_PICOS, Param, ParamFault, Params,
 };
-pub use shares::{budget, op_count};
+pub use shares::budget;

@@ -1,8 +1,7 @@
 // The time budget: a bound on every time of a run, known before it.
-ghost use Rattle.std.specs.Prelude.{◌≡◌, ◌<◌, ◌≤◌, ◌^◌, length};
+ghost use Rattle.std.specs.Prelude.{◌≡◌, ◌<◌, ◌^◌};
 ghost use Rattle.goal_graph.specs.Fault.{IsOp};
-ghost use Rattle.sim_params.specs.Budget.{budget, share};
-ghost use Rattle.sim_params.specs.Shares.{message_share, request_share, ops_at};
+ghost use Rattle.sim_params.specs.Budget.{budget, share, message_share, request_share};
 
 use crate::Costs;
 use goal_graph::{Kind, OpId, Sched};
@@ -18,15 +17,6 @@ pub fn budget<C: Costs>(sched: &Sched, costs: &C) -> u128
         sum += share(sched, costs, *id);
     }
     sum
-}
-
-/// How many operations a rank has.
-pub fn op_count(sched: &Sched, rank: u32) -> u32
-    requires { rank < length sched.now }
-    ensures count { result ≡ length (ops_at sched.now rank) }
-    ensures few { result ≤ 2 ^ 20 }
-{
-    sched.op_count(rank)
 }
 
 // What an operation may add to the times.

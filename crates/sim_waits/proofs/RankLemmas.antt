@@ -2,17 +2,16 @@
 use Rattle.std.proofs.Common.{◌≡◌, ℕ, ◌+◌, ◌*◌, ◌^◌, ◌<◌, ◌≤◌, Bool, true, false, cond, List, [], ◌∷◌, ◌++◌, length, drop, Option, Some, None, is_some, unwrap_or, if◌then◌else◌, count_by, sum_by, get_or, refl, sym, ap, ◌∙◌, arith}
 use Rattle.std.proofs.lemmas.Option.{slice_get-get_or}
 use Rattle.std.proofs.lemmas.List.{at_drop_more, at_drop_all}
+use Rattle.std.proofs.lemmas.List.Sums.{sum_by-cons}
 use Rattle.goal_graph.specs.declared.action.OpId.{OpId}
 use Rattle.goal_graph.specs.declared.action.Timed.{Timed}
 use Rattle.goal_graph.specs.declared.plan.Op.{Op}
-use Rattle.goal_graph.specs.Schedule.{Plan, places_of_rank}
-use Rattle.goal_graph.proofs.ForCallers.{count-cons}
+use Rattle.goal_graph.specs.Schedule.{Plan, ops_at, places_of_rank}
+use Rattle.goal_graph.proofs.ForCallers.{count-cons, ops_at_some, places_of_rank-more}
 use Rattle.sim_params.specs.Costs.{CostModel}
-use Rattle.sim_params.specs.Shares.{ops_at, places_at}
-use Rattle.sim_params.proofs.ForCallers.{places_more, places_none, shares_more, shares_none, ops_at_some}
 use Rattle.sim_waits.specs.Waits.{ended, wait, wait_or_zero}
 use Rattle.sim_waits.specs.WaitsText.{line_of_rank, rank_lines}
-use Rattle.sim_waits.specs.WaitKeys.{wait_told}
+use Rattle.sim_waits.specs.WaitKeys.{wait_told, places_at}
 
 module _ (plans : List Plan) (costs : CostModel) (h : List Timed) where
   count_one : (x : OpId) → ◌≡◌ {A = ℕ} (if is_some (wait_told plans costs h x) then 1 else 0) (cond (ended plans costs h x) 1 0)
@@ -48,10 +47,11 @@ module _ (plans : List Plan) (costs : CostModel) (h : List Timed) where
     summed_more op count total w count' total' s l e c t b =
         let x : OpId = record { rank = rank; op = op } in
         let rest = places_of_rank rank (op + 1) (drop (op + 1) (ops_at plans rank)) in
+        let more = places_of_rank-more rank op (ops_at plans rank) l in
         let one : ◌≡◌ {A = ℕ} (if is_some w then 1 else 0) (cond (ended plans costs h x) 1 0) = ap {B = ℕ} (λ (v : Option ℕ). if is_some v then 1 else 0) e ∙ count_one x in
         let waited : unwrap_or w 0 ≡ wait_or_zero plans costs h x = ap (λ (v : Option ℕ). unwrap_or v 0) e ∙ wait_one x in
-        let counts = ap (count_by (ended plans costs h)) (places_more rank op (ops_at plans rank) l) ∙ count-cons (ended plans costs h) x rest in
-        let sums = shares_more (wait_or_zero plans costs h) rank op (ops_at plans rank) l in
+        let counts = ap (count_by (ended plans costs h)) more ∙ count-cons (ended plans costs h) x rest in
+        let sums = ap (sum_by (wait_or_zero plans costs h)) more ∙ sum_by-cons (wait_or_zero plans costs h) x rest in
         record {
           counted = omega (arith, s.counted, one, counts, c);
           summed = omega (arith, s.summed, waited, sums, t);
@@ -63,10 +63,15 @@ module _ (plans : List Plan) (costs : CostModel) (h : List Timed) where
         at_most_one None n i m h e = omega (arith, h, e)
         at_most_one (Some k) n i m h e = omega (arith, h, e)
 
+    no_places : (op : ℕ) (ops : List Op) → length ops ≤ op → places_of_rank rank op (drop op ops) ≡ []
+    unfolding places_of_rank
+    no_places op ops l = at_drop_all (places_of_rank rank op) ops op l
+
     pub summed_all : (op count total : ℕ) → IsSummed op count total → length (ops_at plans rank) ≤ op → (count ≡ count_by (ended plans costs h) (places_at plans rank)) × (total ≡ sum_by (wait_or_zero plans costs h) (places_at plans rank))
     summed_all op count total s l =
-        let none = ap (count_by (ended plans costs h)) (places_none rank op (ops_at plans rank) l) in
-        let zero = shares_none (wait_or_zero plans costs h) rank op (ops_at plans rank) l in
+        let end = no_places op (ops_at plans rank) l in
+        let none = ap (count_by (ended plans costs h)) end in
+        let zero = ap (sum_by (wait_or_zero plans costs h)) end in
         (omega (arith, s.counted, none), omega (arith, s.summed, zero))
 
   -- the lines of ranks from one on

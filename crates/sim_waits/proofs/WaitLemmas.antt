@@ -9,11 +9,11 @@ use Rattle.goal_graph.specs.declared.plan.Kind.TheVariants.{Calc, Send, Recv}
 use Rattle.goal_graph.specs.Schedule.{Plan, op_at, kind_at}
 use Rattle.goal_graph.specs.Action.{plain}
 use Rattle.goal_graph.specs.Allowed.{last_class, is_ready}
-use Rattle.goal_graph.proofs.ForCallers.{ended_started, started_ready}
+use Rattle.goal_graph.proofs.ForCallers.{ended_started, started_ready, kind_from_op}
 use Rattle.sim_params.specs.Costs.{CostModel, over, cost_of, is_eager}
 use Rattle.sim_params.specs.Times.{cpu_hold, at_partner, mate, end, ready}
 use Rattle.sim_params.specs.Run.{IsRun}
-use Rattle.sim_params.proofs.ForCallers.{run_interleaving, kind_of}
+use Rattle.sim_params.proofs.ForCallers.{run_interleaving}
 use Rattle.sim_events.specs.Engine.{end_known}
 use Rattle.sim_events.specs.Enabled.{ready_known}
 use Rattle.sim_waits.specs.Waits.{ended, wait}
@@ -22,7 +22,7 @@ use Rattle.sim_waits.specs.WaitKeys.{wait_told}
 -- what an operation does, as it is read
 pub kind_read : (plans read : List Plan) (x : OpId) (o : Op) (k : Kind) → read ≡ plans → op_at read x ≡ Some o → o.kind ≡ k → kind_at plans x ≡ Some k
 kind_read plans read x o k same found is =
-    kind_of plans x o k (subst (λ (ps : List Plan). op_at ps x ≡ Some o) same found) is
+    kind_from_op plans x o k (subst (λ (ps : List Plan). op_at ps x ≡ Some o) same found) is
 
 -- a cost at an operation of that kind
 pub cost_at : (f : ℕ → ℕ → ℕ → ℕ) (rank : ℕ) (o : Option Kind) (k : Kind) → o ≡ Some k → cost_of f rank (Some k) ≡ cost_of f rank o
@@ -45,14 +45,6 @@ module _ (plans : List Plan) (costs : CostModel) (h : List Timed) (x : OpId) whe
 
   pub hold_recv : (room : ℕ) (from tag : Option ℕ) (m : Option OpId) → kind_at plans x ≡ Some (Recv room from tag) → m ≡ mate plans costs h x → at_partner (over plans costs) m ≡ hold_of (kind_at plans x)
   hold_recv room from tag m k e = ap (at_partner (over plans costs)) e ∙ ap hold_of (sym k)
-
-  -- what has no end has no wait
-  pub wait_none : None ≡ end_known plans costs h x → None ≡ wait_told plans costs h x
-  wait_none = go (ended plans costs h x)
-    where
-      go : (b : Bool) → ◌≡◌ {A = Option ℕ} None (if b then Some (end plans costs h x) else None) → ◌≡◌ {A = Option ℕ} None (if b then Some (wait plans costs h x) else None)
-      go true e = absurd (cc)
-      go false e = refl
 
   -- what has an end has that one
   pub end_is : (n : ℕ) → Some n ≡ end_known plans costs h x → (ended plans costs h x ≡ true) × (n ≡ end plans costs h x)

@@ -11,5 +11,4 @@ pub use Rattle.goal_graph.specs.Fault
 pub use Rattle.goal_graph.specs.Schedule
 pub use Rattle.sim_events.specs.Enabled
 pub use Rattle.sim_params.specs.Costs
-pub use Rattle.sim_params.specs.Shares
 pub use Rattle.sim_params.specs.Times

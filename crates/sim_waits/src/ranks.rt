@@ -1,15 +1,15 @@
 // The line of each rank.
 ghost use Rattle.std.specs.Prelude.{◌≡◌, ◌+◌, ◌-◌, ◌++◌, ◌<◌, ◌≤◌, ◌^◌, length, OnOk, is_some, unwrap_or, count_by, sum_by, if◌then◌else◌};
 ghost use Rattle.goal_graph.specs.Schedule.{operations};
-ghost use Rattle.sim_params.specs.Shares.{places_at};
 ghost use Rattle.sim_waits.specs.Waits.{ended, wait_or_zero};
 ghost use Rattle.sim_waits.specs.WaitsText.{line_of_rank, rank_line, rank_lines};
+ghost use Rattle.sim_waits.specs.WaitKeys.{places_at};
 
 use crate::wait::wait;
 use goal_base::{NoMemory, TextOut};
 use goal_graph::OpId;
 use sim_events::Engine;
-use sim_params::{Costs, op_count};
+use sim_params::Costs;
 
 /// Appends the line of each rank, in order.
 pub fn put_ranks<C: Costs>(out: &mut TextOut, engine: &Engine<'_, C>) -> Result<(), NoMemory>
@@ -58,7 +58,7 @@ fn rank_waits<C: Costs>(engine: &Engine<'_, C>, rank: u32) -> RankWaits
         (places_at engine.now.plans rank) }
 {
     let mut waits = RankWaits { ended: 0, total: 0 };
-    for op in 0..op_count(engine.sched(), rank) {
+    for op in 0..engine.sched().op_count(rank) {
         waits = waits.with(wait(engine, OpId { rank, op }));
     }
     waits

@@ -1,6 +1,7 @@
 use Rattle.std.proofs.Common.{sym, ◌∙◌, arith}
-use Rattle.sim_params.proofs.SharesLemmas.{few_bytes, kind_of, share_calc, share_recv, share_eager, share_large}
+use Rattle.sim_params.proofs.SharesLemmas.{few_bytes, share_calc, share_recv, share_eager, share_large}
 use Rattle.sim_params.proofs.shares.share.Goals as goal
+use Rattle.goal_graph.proofs.ForCallers.{kind_from_op}
 
 pub message_share-requires : goal.message_share-requires
 message_share-requires g c =
@@ -12,17 +13,17 @@ eager-requires g c =
 
 pub returns-in-Calc : goal.returns-in-Calc
 returns-in-Calc g c =
-    c.from.ensures ∙ sym (share_calc c.args.sched.now (g.C.Costs.model c.args.costs.now) c.args.id c.in-Calc.nanos (kind_of _ _ _ _ c.op.ensures.op c.in-Calc.is))
+    c.from.ensures ∙ sym (share_calc c.args.sched.now (g.C.Costs.model c.args.costs.now) c.args.id c.in-Calc.nanos (kind_from_op _ _ _ _ c.op.ensures.op c.in-Calc.is))
 
 pub returns-then-eager : goal.returns-then-eager
 returns-then-eager g c =
-    c.from-message.ensures ∙ c.message_share.ensures ∙ sym (share_eager c.args.sched.now (g.C.Costs.model c.args.costs.now) c.args.id c.in-Send.bytes c.in-Send.to c.in-Send.tag (kind_of _ _ _ _ c.op.ensures.op c.in-Send.is) (cc))
+    c.from-message.ensures ∙ c.message_share.ensures ∙ sym (share_eager c.args.sched.now (g.C.Costs.model c.args.costs.now) c.args.id c.in-Send.bytes c.in-Send.to c.in-Send.tag (kind_from_op _ _ _ _ c.op.ensures.op c.in-Send.is) (cc))
 
 pub returns-else-eager : goal.returns-else-eager
 returns-else-eager g c =
-    let whole = share_large c.args.sched.now (g.C.Costs.model c.args.costs.now) c.args.id c.in-Send.bytes c.in-Send.to c.in-Send.tag (kind_of _ _ _ _ c.op.ensures.op c.in-Send.is) (cc) in
+    let whole = share_large c.args.sched.now (g.C.Costs.model c.args.costs.now) c.args.id c.in-Send.bytes c.in-Send.to c.in-Send.tag (kind_from_op _ _ _ _ c.op.ensures.op c.in-Send.is) (cc) in
     omega (arith, whole, c.from-message.ensures, c.message_share.ensures, c.from-else-eager.ensures, c.request_share.ensures)
 
 pub returns-in-Recv : goal.returns-in-Recv
 returns-in-Recv g c =
-    sym (share_recv c.args.sched.now (g.C.Costs.model c.args.costs.now) c.args.id c.in-Recv.bytes c.in-Recv.from c.in-Recv.tag (kind_of _ _ _ _ c.op.ensures.op c.in-Recv.is))
+    sym (share_recv c.args.sched.now (g.C.Costs.model c.args.costs.now) c.args.id c.in-Recv.bytes c.in-Recv.from c.in-Recv.tag (kind_from_op _ _ _ _ c.op.ensures.op c.in-Recv.is))

@@ -1,6 +1,6 @@
 use Rattle.std.proofs.Common.{◌≡◌, ℕ, ◌+◌, ◌<◌, ◌++◌, List, length, drop, sym, ap, ◌∙◌, arith, append_assoc}
 use Rattle.std.proofs.lemmas.List.{append-nil}
-use Rattle.sim_params.specs.Shares.{places_at}
+use Rattle.sim_waits.specs.WaitKeys.{places_at}
 use Rattle.sim_waits.specs.WaitsText.{line_of_rank, rank_lines, rank_line}
 use Rattle.sim_waits.proofs.RankLemmas.{lines_more, lines_none}
 use Rattle.sim_waits.proofs.ranks.put_ranks.Goals as goal

@@ -1,7 +1,6 @@
 use Rattle.std.proofs.Common.{List, length, ap, arith}
-use Rattle.goal_graph.specs.Schedule.{Plan}
-use Rattle.sim_params.specs.Shares.{ops_at}
-use Rattle.sim_params.proofs.ForCallers.{is_op_below}
+use Rattle.goal_graph.specs.Schedule.{Plan, ops_at}
+use Rattle.goal_graph.proofs.ForCallers.{is_op_below}
 use Rattle.sim_waits.proofs.RankLemmas.{summed_start, summed_more, summed_all}
 use Rattle.sim_waits.proofs.ranks.rank_waits.Goals as goal
 
@@ -12,7 +11,7 @@ loop-op-init g c =
 pub wait-requires : goal.wait-requires
 wait-requires g c =
     let count = ap (λ (ps : List Plan). length (ops_at ps c.args.rank)) c.sched.ensures in
-    is_op_below c.args.engine.now.plans c.args.rank c.loop-op.op c.requires (omega (arith, count, c.op_count-op-end.ensures.count, c.loop-op-test.true))
+    is_op_below c.args.engine.now.plans (record { rank = c.args.rank; op = c.loop-op.op }) (omega (arith, count, c.op_count-op-end.ensures.count, c.loop-op-test.true))
 
 pub loop-op-preserved : goal.loop-op-preserved
 loop-op-preserved g c =

@@ -1,11 +1,12 @@
 use Rattle.std.proofs.Common.{◌∙◌, sym, Some, None}
-use Rattle.sim_events.proofs.ForCallers.{partner_exists}
 use Rattle.sim_waits.proofs.WaitLemmas.{kind_read, hold_calc, hold_send, hold_recv}
 use Rattle.sim_waits.proofs.wait.last_hold.Goals as goal
+use Rattle.goal_graph.proofs.ForCallers.{partner_exists}
+use Rattle.goal_graph.specs.Action.{plain}
 
 pub over-requires-in-Some : goal.over-requires-in-Some
 over-requires-in-Some g c =
-    partner_exists c.args.engine.now.plans (g.C.Costs.model c.args.engine.now.costs) c.args.engine.now.history c.args.id c.in-Some.send (sym c.record.ensures.partner ∙ c.in-Some.is)
+    partner_exists c.args.engine.now.plans (plain c.args.engine.now.history) c.args.id c.in-Some.send (sym c.record.ensures.partner ∙ c.in-Some.is)
 
 pub returns-in-Calc : goal.returns-in-Calc
 returns-in-Calc g c =
