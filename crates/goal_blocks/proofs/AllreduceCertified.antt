@@ -13,10 +13,10 @@ use Rattle.goal_blocks.specs.Made.{allreduce_in}
 use Rattle.goal_blocks.specs.Generated.{made}
 use Rattle.goal_blocks.proofs.EntryFacts.{length_plans}
 use Rattle.goal_blocks.proofs.RingAndTree.{flipped_below, digits_high, digits_few}
-use Rattle.goal_blocks.proofs.ScanCertified.{is_itself}
 use Rattle.goal_blocks.proofs.Runs.{run, merge_before, merge_after, run_is}
 use Rattle.goal_blocks.proofs.Rounds.{pow_le, gained, rounds_right, rounds_are_certified}
 use Rattle.goal_blocks.proofs.RoundsHeavy.{many_rounds, rounds_too_heavy}
+use Rattle.goal_blocks.proofs.Wishes.{value_self}
 
 -- the rank with the other binary digit
 flipped_even : (h k x : ℕ) → x < 2 ^ k → flipped (2 * h * 2 ^ k + x) k ≡ (2 * h + 1) * 2 ^ k + x
@@ -160,7 +160,7 @@ module _ (m bytes : ℕ) (few : 2 ^ m ≤ 65536) where
   end_is : (r : ℕ) → r < ranks → wanted Allreduce ranks r 0 (got n r) ≡ true
   unfolding wanted
   end_is r inside =
-      subst (λ (v : Value). wanted Allreduce ranks r 0 v ≡ true) (sym (all_got r inside)) (rw (lt-ltb r ranks inside) (is_itself (of_each ranks 0)))
+      subst (λ (v : Value). wanted Allreduce ranks r 0 v ≡ true) (sym (all_got r inside)) (rw (lt-ltb r ranks inside) (value_self (of_each ranks 0)))
 
   elsewhere : (r k : ℕ) (v : Value) → wanted Allreduce ranks r (suc k) v ≡ true
   unfolding wanted

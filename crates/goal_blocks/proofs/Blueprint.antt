@@ -29,7 +29,7 @@ use Rattle.goal_blocks.specs.Messages.{AreMessages, AreChannelsPaired}
 use Rattle.goal_blocks.proofs.Orders.{Mem}
 use Rattle.goal_blocks.proofs.Effects.{mem_contains, contains_mem, written_touched, set_itself, write_map}
 use Rattle.goal_blocks.proofs.EntryFacts.{slots_of_span, length_plans, kind_there, needs_there, slots_there, adds_there, kind_only}
-use Rattle.goal_blocks.proofs.Matched.{kind_is_op, op_has_kind}
+use Rattle.goal_blocks.proofs.Matched.{op_has_kind}
 use Rattle.goal_blocks.proofs.MessagesPaired.{messages_paired, message_of_send, one_channel}
 use Rattle.goal_blocks.proofs.Levels.{levels_end}
 use Rattle.goal_blocks.proofs.Walk.{one_walk}
@@ -38,6 +38,7 @@ use Rattle.goal_blocks.proofs.Flow.{IsFlow, Flows, all_flows, Source, Writes, st
 use Rattle.goal_blocks.proofs.Ends.{Before, ends, ends_keep, ends_once, ended_listed, held_by_ends}
 use Rattle.goal_blocks.proofs.Light.{AreBounds, light}
 use Rattle.goal_blocks.proofs.Right.{matched_right}
+use Rattle.goal_graph.proofs.ForCallers.{op_of_kind}
 
 -- the slots that an entry moves, those that it touches, and those that it writes
 abbrev pub moved : Entry → List ℕ
@@ -232,7 +233,7 @@ module _ (ranks : ℕ) (count : ℕ → ℕ) (e : ℕ → ℕ → Entry) where
               let is = kind_only ranks count e x has.0 has.1 in
               let found = need_out x d (is.in_rank, is.inside) c in
               let low = blueprint.lower x.rank x.op found.0 (is.in_rank, is.inside) found.1 in
-              subst (λ (d : Need). IsOp made_plans (needed x d) × (level x.rank d.op < level x.rank x.op)) found.2 (kind_is_op made_plans (op_at x.rank found.0) _ (kind_there ranks count e x.rank found.0 is.in_rank low.0), low.1)
+              subst (λ (d : Need). IsOp made_plans (needed x d) × (level x.rank d.op < level x.rank x.op)) found.2 (op_of_kind made_plans (op_at x.rank found.0) _ (kind_there ranks count e x.rank found.0 is.in_rank low.0), low.1)
 
       matched : IsMatched made_plans
       matched = record {
@@ -397,7 +398,7 @@ module _ (ranks : ℕ) (count : ℕ → ℕ) (e : ℕ → ℕ → Entry) where
 
           has_ended_in : (j : ℕ) → j < count r → Mem (op_at r j) walked
           has_ended_in j inside =
-              ended_listed made_plans no_send matched.no_stall.walk (op_at r j) (matched.no_stall.all_end (op_at r j) (kind_is_op made_plans (op_at r j) _ (kind_there ranks count e r j in_rank inside)))
+              ended_listed made_plans no_send matched.no_stall.walk (op_at r j) (matched.no_stall.all_end (op_at r j) (op_of_kind made_plans (op_at r j) _ (kind_there ranks count e r j in_rank inside)))
 
           go : Final r k → wanted r k ((state made_plans matched first walked).store r k) ≡ true
           go (inl any) = any _

@@ -28,10 +28,10 @@ cases_end AfterStart = inr (λ e. cc e)
 
 module _ (plans : List Plan) (x : OpId) where
   -- the need d of y is one for the end of x, or x is before what it names
-  abbrev Leads : OpId → Need → Type 0
+  abbrev pub Leads : OpId → Need → Type 0
   Leads y d = ((d.when ≡ AfterEnd) × (needed y d ≡ x)) ⊎ EndsBefore plans x (needed y d)
 
-  led : (y : OpId) (d : Need) → Contains (needs plans y) d → Leads y d → EndsBefore plans x y
+  pub led : (y : OpId) (d : Need) → Contains (needs plans y) d → Leads y d → EndsBefore plans x y
   led y d c (inl (e, f)) = record { by = y; reached = here; need = d; is_need = c; at_end = e; names = f }
   led y d c (inr b) = record {
     by = b.by;
@@ -47,11 +47,14 @@ module _ (plans : List Plan) (x : OpId) where
   leads y z (through d m rest) n c e f =
       (d, m, inr (record { by = z; reached = rest; need = n; is_need = c; at_end = e; names = f }))
 
+  pub first_need : (y : OpId) → EndsBefore plans x y → (d : Need) × Contains (needs plans y) d × Leads y d
+  first_need y b = leads y b.by b.reached b.need b.is_need b.at_end b.names
+
   pub cases_before : (n : ℕ) (y : OpId) → is_below plans n y ≡ true → EndsBefore plans x y ⊎ (EndsBefore plans x y → ⊥)
   unfolding is_below
   cases_before zero y deep = absurd (both_ways false refl deep)
   cases_before (suc n) y deep =
-      ⊎_elim (λ found. inl (led y found.0 found.1 found.2)) (λ none. inr (λ b. let l = leads y b.by b.reached b.need b.is_need b.at_end b.names in none l.0 l.1 l.2)) (search_in (Leads y) (needs plans y) (λ d c. each d (cases_before n (needed y d) (lower d c))))
+      ⊎_elim (λ found. inl (led y found.0 found.1 found.2)) (λ none. inr (λ b. let l = first_need y b in none l.0 l.1 l.2)) (search_in (Leads y) (needs plans y) (λ d c. each d (cases_before n (needed y d) (lower d c))))
     where
       lower : (d : Need) → Contains (needs plans y) d → is_below plans n (needed y d) ≡ true
       lower d c =

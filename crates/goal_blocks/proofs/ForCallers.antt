@@ -8,9 +8,9 @@ pub use Rattle.goal_blocks.proofs.TreeCases.{reduce_sends, reduce_hears, reduce_
 pub use Rattle.goal_blocks.proofs.EntryFacts.{kind_there, kind_only, needs_there, slots_there, adds_there}
 pub use Rattle.goal_blocks.proofs.MessagesPaired.{messages_paired}
 pub use Rattle.goal_blocks.proofs.Right.{certified_right}
-pub use Rattle.goal_blocks.proofs.NoFault.{small_from, wildcard_from, double_from, unpaired_from, lengths_from, race_from, light_from, cases_order, faultless}
+pub use Rattle.goal_blocks.proofs.NoFault.{small_from, wildcard_from, double_from, unpaired_from, lengths_from, race_from, light_from, faultless}
 pub use Rattle.goal_blocks.proofs.Least.{below, none_holds}
-pub use Rattle.goal_blocks.proofs.EndsBefore.{search_in, cases_before}
+pub use Rattle.goal_blocks.proofs.EndsBefore.{Leads, cases_before, first_need, led, search_in}
 pub use Rattle.goal_blocks.proofs.Channels.{fits_channel, channel_fits, channels_apart}
 pub use Rattle.goal_blocks.proofs.Walk.{IsTail, whole, newer, one_tail, complete_tail, one_walk}
 pub use Rattle.goal_blocks.proofs.Faults.{heavy_not}

@@ -14,13 +14,13 @@ use Rattle.goal_graph.specs.Allowed.{has_started, has_ended, is_met, is_ready, m
 use Rattle.goal_graph.specs.Interleaving.{IsCompleteInterleaving}
 use Rattle.goal_graph.specs.Fault.{IsOp}
 use Rattle.goal_graph.specs.Laws.{IsSend, IsReceive, IsApart, IsTaken}
-use Rattle.goal_graph.proofs.ForCallers.{allowed_from, started_send, started_receive, ended_started, ready_calc_ended, unready_need, fitting_taken, partner_of_receive, partners_met, fits_receive, not_send_receive}
+use Rattle.goal_graph.proofs.ForCallers.{allowed_from, started_send, started_receive, ended_started, ready_calc_ended, unready_need, fitting_taken, partner_of_receive, partners_met, fits_receive, not_send_receive, op_of_kind}
 use Rattle.goal_blocks.specs.Channels.{AreOfOneChannel, HasNoWildcard, HasNoDoubleChannel, HasNoUnpaired}
 use Rattle.goal_blocks.specs.Walk.{AllEnd}
 use Rattle.goal_blocks.specs.Levels.{AreLevels}
 use Rattle.goal_blocks.proofs.Channels.{channel_fits, channels_apart}
 use Rattle.goal_blocks.proofs.Least.{below}
-use Rattle.goal_blocks.proofs.Matched.{kind_is_op, op_has_kind}
+use Rattle.goal_blocks.proofs.Matched.{op_has_kind}
 
 module _ (plans : List Plan) (level : OpId → ℕ) (eager : OpId → Bool) (h : List Act) (known : HasNoWildcard plans) (single : HasNoDoubleChannel plans) (paired : HasNoUnpaired plans) (levels : AreLevels plans level) (done : IsCompleteInterleaving plans eager h) where
   -- all operations below a level have ended
@@ -77,10 +77,10 @@ module _ (plans : List Plan) (level : OpId → ℕ) (eager : OpId → Bool) (h :
           ready_calc_ended plans eager h done x (record { nanos = nanos; kind = k }) (ready x is_op (low x e))
       go (Send bytes to tag) k =
           let other = paired.sends x (record { bytes = bytes; to = to; tag = tag; kind = k }) in
-          (both_end x other.0 other.1 (ready x is_op (low x e)) (ready other.0 (kind_is_op plans other.0 _ other.1.is_receive.kind) (low other.0 (sym (levels.same x other.0 other.1) ∙ e)))).0
+          (both_end x other.0 other.1 (ready x is_op (low x e)) (ready other.0 (op_of_kind plans other.0 _ other.1.is_receive.kind) (low other.0 (sym (levels.same x other.0 other.1) ∙ e)))).0
       go (Recv room from tag) k =
           let other = paired.receives x (record { room = room; from = from; tag = tag; kind = k }) in
-          (both_end other.0 x other.1 (ready other.0 (kind_is_op plans other.0 _ other.1.is_send.kind) (low other.0 (levels.same other.0 x other.1 ∙ e))) (ready x is_op (low x e))).1
+          (both_end other.0 x other.1 (ready other.0 (op_of_kind plans other.0 _ other.1.is_send.kind) (low other.0 (levels.same other.0 x other.1 ∙ e))) (ready x is_op (low x e))).1
 
   pub levels_end : AllEnd plans eager h
   levels_end x is_op =

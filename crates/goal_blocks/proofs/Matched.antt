@@ -10,22 +10,13 @@ use Rattle.goal_graph.specs.Action.{Act}
 use Rattle.goal_graph.specs.Interleaving.{IsCompleteInterleaving}
 use Rattle.goal_graph.specs.Fault.{IsOp}
 use Rattle.goal_graph.specs.Laws.{HaveMet, IsApart}
-use Rattle.goal_graph.proofs.ForCallers.{started_send, started_receive, ended_started, begun_send_arrived, partners_iff_met, completes_alike}
+use Rattle.goal_graph.proofs.ForCallers.{started_send, started_receive, ended_started, begun_send_arrived, partners_iff_met, completes_alike, op_of_kind}
 use Rattle.goal_blocks.specs.Channels.{AreOfOneChannel}
 use Rattle.goal_blocks.specs.Walk.{no_send, AllEnd}
 use Rattle.goal_blocks.specs.Matched.{IsMatched, EndsInItsPairs}
 use Rattle.goal_blocks.proofs.Channels.{fits_channel, channel_fits, channels_apart}
 
 module _ (plans : List Plan) where
-  -- what has a kind is an operation
-  pub kind_is_op : (x : OpId) (k : Kind) → kind_at plans x ≡ Some k → IsOp plans x
-  unfolding kind_at
-  kind_is_op x k e = go (op_at plans x) refl e
-    where
-      go : (o : Option Op) → op_at plans x ≡ o → option_map (λ (o : Op). o.kind) o ≡ Some k → IsOp plans x
-      go None p f = absurd (cc f)
-      go (Some o) p f = ap is_some p
-
   -- an operation has a kind
   pub op_has_kind : (x : OpId) → IsOp plans x → (k : Kind) × (kind_at plans x ≡ Some k)
   unfolding kind_at
@@ -47,10 +38,10 @@ module _ (plans : List Plan) where
     -- the send and the receive of one channel have met
     channel_met : (m x : OpId) → AreOfOneChannel plans m x → HaveMet plans h m x
     channel_met m x one =
-        let begun = sym (started_send plans h m one.is_send) ∙ ended_started plans eager h m done.each (ends m (kind_is_op m _ one.is_send.kind)) in
+        let begun = sym (started_send plans h m one.is_send) ∙ ended_started plans eager h m done.each (ends m (op_of_kind plans m _ one.is_send.kind)) in
         record {
           arrived = begun_send_arrived plans eager h done m one.is_send begun;
-          posted = sym (started_receive plans h x one.is_receive) ∙ ended_started plans eager h x done.each (ends x (kind_is_op x _ one.is_receive.kind));
+          posted = sym (started_receive plans h x one.is_receive) ∙ ended_started plans eager h x done.each (ends x (op_of_kind plans x _ one.is_receive.kind));
           fit = channel_fits plans x m one;
         }
 

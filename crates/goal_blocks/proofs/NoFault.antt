@@ -14,9 +14,8 @@ use Rattle.goal_graph.specs.Schedule.{Plan, kind_at, operations}
 use Rattle.goal_graph.specs.Action.{Act}
 use Rattle.goal_graph.specs.Matching.{fits}
 use Rattle.goal_graph.specs.Allowed.{has_ended}
-use Rattle.goal_graph.specs.Order.{IsBefore}
 use Rattle.goal_graph.specs.Fault.{IsOp, HasDepth, IsAccepted}
-use Rattle.goal_graph.proofs.ForCallers.{kind_listed, listed_places, ops_at_some}
+use Rattle.goal_graph.proofs.ForCallers.{kind_listed, listed_places, ops_at_some, before_cases}
 use Rattle.goal_blocks.specs.declared.cert_fault.CertFault.{CertFault}
 use Rattle.goal_blocks.specs.declared.cert_fault.CertFault.TheVariants.{TooLarge, Wildcard, DoubleChannel, Unpaired, Lengths, Race, Stalls, Weight, Wrong}
 use Rattle.goal_blocks.specs.Channels.{HasNoWildcard, HasNoDoubleChannel, HasNoUnpaired}
@@ -33,10 +32,6 @@ use Rattle.goal_blocks.proofs.EndsBefore.{search_in, cases_before}
 use Rattle.goal_blocks.proofs.Least.{below, none_holds}
 use Rattle.goal_blocks.proofs.SomeWalk.{some_walk}
 use Rattle.goal_blocks.proofs.Walk.{one_walk}
-
-pub cases_order : (x y : OpId) → IsBefore x y ⊎ (IsBefore y x ⊎ (x ≡ y))
-cases_order x y =
-    ⊎_elim (λ l. inl (inl l)) (λ g. ⊎_elim (λ l. inr (inl (inl l))) (λ h. let e : x.rank ≡ y.rank = omega (arith, g, h) in ⊎_elim (λ l. inl (inr (e, l))) (λ i. ⊎_elim (λ l. inr (inl (inr (sym e, l)))) (λ j. let f : x.op ≡ y.op = omega (arith, i, j) in inr (inr (λ k. record { rank = e k; op = f k }))) (cases_lt y.op x.op)) (cases_lt x.op y.op)) (cases_lt y.rank x.rank)) (cases_lt x.rank y.rank)
 
 cases_low : (n : Note) → NamesLowSlots n ⊎ (NamesLowSlots n → ⊥)
 cases_low (Moves op lo hi) =
@@ -74,8 +69,8 @@ module _ (plans : List Plan) where
 
   pub double_from : ((y x : OpId) → AreDouble plans y x → ⊥) → HasNoDoubleChannel plans
   double_from none = record {
-    sends = λ m n c p q e f. ⊎_elim (λ b. absurd (none m n (record { in_order = b; alike = inl (p, q); shared = c; of_first = e; of_second = f }))) (λ r. ⊎_elim (λ b. absurd (none n m (record { in_order = b; alike = inl (q, p); shared = c; of_first = f; of_second = e }))) (λ s. s) r) (cases_order m n);
-    receives = λ m n c p q e f. ⊎_elim (λ b. absurd (none m n (record { in_order = b; alike = inr (p, q); shared = c; of_first = e; of_second = f }))) (λ r. ⊎_elim (λ b. absurd (none n m (record { in_order = b; alike = inr (q, p); shared = c; of_first = f; of_second = e }))) (λ s. s) r) (cases_order m n);
+    sends = λ m n c p q e f. ⊎_elim (λ b. absurd (none m n (record { in_order = b; alike = inl (p, q); shared = c; of_first = e; of_second = f }))) (λ r. ⊎_elim (λ b. absurd (none n m (record { in_order = b; alike = inl (q, p); shared = c; of_first = f; of_second = e }))) (λ s. s) r) (before_cases m n);
+    receives = λ m n c p q e f. ⊎_elim (λ b. absurd (none m n (record { in_order = b; alike = inr (p, q); shared = c; of_first = e; of_second = f }))) (λ r. ⊎_elim (λ b. absurd (none n m (record { in_order = b; alike = inr (q, p); shared = c; of_first = f; of_second = e }))) (λ s. s) r) (before_cases m n);
   }
 
   pub unpaired_from : HasNoWildcard plans → ((x : OpId) → IsUnpaired plans x → ⊥) → HasNoUnpaired plans

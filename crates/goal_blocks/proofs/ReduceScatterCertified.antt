@@ -27,9 +27,9 @@ use Rattle.goal_blocks.proofs.MadePaired.{at, same_place}
 use Rattle.goal_blocks.proofs.Sizes.{sum_below_few, sum_low_few, entries_small}
 use Rattle.goal_blocks.proofs.Totals.{entries_few, sum_range_few}
 use Rattle.goal_blocks.proofs.AllgatherCertified.{moved_slot}
-use Rattle.goal_blocks.proofs.ScanCertified.{is_itself}
 use Rattle.goal_blocks.proofs.Rounds.{cases_triple}
 use Rattle.goal_blocks.proofs.Blueprint.{moved, touches, writes, Precedes, now, IsThere, Origin, Final, IsBlueprint, IsBounded, blueprint_certified}
+use Rattle.goal_blocks.proofs.Wishes.{value_self}
 
 -- the item b of those of the ranks a up to a + m - 1 that p picks
 picked : (ℕ → Bool) → ℕ → ℕ → ℕ → Value
@@ -461,7 +461,7 @@ module _ (ranks bytes : ℕ) (some : 0 < ranks) (few : ranks ≤ 128) where
 
   at_end : (r : ℕ) → r < ranks → wanted ReduceScatter ranks r r (of_each ranks r) ≡ true
   unfolding wanted
-  at_end r p = rw (lt-ltb r ranks p, eq-eqb r r refl) (is_itself (of_each ranks r))
+  at_end r p = rw (lt-ltb r ranks p, eq-eqb r r refl) (value_self (of_each ranks r))
 
   elsewhere : (r k : ℕ) → (k ≡ r → ⊥) → (v : Value) → wanted ReduceScatter ranks r k v ≡ true
   unfolding wanted

@@ -2,7 +2,7 @@
 -- know each other they are certified, if what is gained in the end is wanted.
 use Rattle.std.proofs.Common.{⊎_elim, ℕ, zero, suc, ◌+◌, ◌*◌, ◌/◌, ◌%◌, ◌^◌, ◌<◌, ◌≤◌, ◌≡◌, ◌==◌, ◌⊎◌, inl, inr, Bool, true, false, List, [], ◌∷◌, map, length, All, Option, Some, if◌then◌else◌, refl, sym, ap, ◌∙◌, subst, arith, flat_map}
 use Rattle.std.specs.List.{range_with_len, sum_by}
-use Rattle.std.proofs.Math.Nat.{pow-suc}
+use Rattle.std.proofs.Math.Nat.{pow-suc, pow-le-pow_right}
 use Rattle.std.proofs.lemmas.Bool.{ne_eqb, cases_lt, cases_eq}
 use Rattle.std.proofs.lemmas.List.Sums.{sum_by-cons, sum_by-append}
 use Rattle.std.proofs.lemmas.Nat.{pow_pos}
@@ -27,28 +27,10 @@ use Rattle.goal_blocks.proofs.Slim.{All_one}
 use Rattle.goal_blocks.proofs.Sizes.{sum_below_few, entries_small}
 use Rattle.goal_blocks.proofs.Totals.{sum_range_few}
 use Rattle.goal_blocks.proofs.Blueprint.{moved, touches, writes, Precedes, now, after, IsThere, Origin, Final, IsBlueprint, IsBounded, blueprint_right, blueprint_certified}
-
-pub length-insert : (c : Contribution) (v : Value) → length (insert_one c v) ≡ suc (length v)
-unfolding insert_one
-length-insert c [] = refl
-length-insert c (d ∷ ds) = go (length-insert c ds) (is_lower c d)
-  where
-    go : length (insert_one c ds) ≡ suc (length ds) → (b : Bool) → length (if b then c ∷ d ∷ ds else d ∷ insert_one c ds) ≡ suc (suc (length ds))
-    go rest true = refl
-    go rest false = ap suc rest
-
-pub length-merge : (v w : Value) → length (merge v w) ≡ length v + length w
-unfolding merge
-length-merge [] w = omega arith
-length-merge (c ∷ v) w =
-    let rest = length-merge v w in
-    let more = length-insert c (merge v w) in
-    omega (arith, rest, more)
+use Rattle.goal_blocks.proofs.Sorted.{length_merge}
 
 pub pow_le : (a b : ℕ) → a ≤ b → 2 ^ a ≤ 2 ^ b
-pow_le a zero l = let e : a ≡ 0 = omega (arith, l) in subst (λ (k : ℕ). 2 ^ k ≤ 1) (sym e) (omega arith)
-pow_le a (suc b) l =
-    ⊎_elim (λ e. subst (λ (k : ℕ). 2 ^ k ≤ 2 ^ suc b) (sym e) (omega arith)) (λ d. let rest = pow_le a b (omega (arith, l, d)) in let twice = pow-suc 2 b in omega (arith, rest, twice)) (cases_eq a (suc b))
+pow_le a b l = pow-le-pow_right {n = 2} (omega arith) l
 
 -- the three operations of a round
 pub cases_triple : (i : ℕ) → ((k : ℕ) × (i ≡ 3 * k)) ⊎ (((k : ℕ) × (i ≡ 3 * k + 1)) ⊎ ((k : ℕ) × (i ≡ 3 * k + 2)))
@@ -73,7 +55,7 @@ module _ (ranks n bytes : ℕ) (to from : ℕ → ℕ → ℕ) (to_rank : (r k :
   length-gained (suc k) r =
       let a = length-gained k r in
       let b = length-gained k (from r k) in
-      let both = length-merge (gained k r) (gained k (from r k)) in
+      let both = length_merge (gained k r) (gained k (from r k)) in
       let twice = pow-suc 2 k in
       omega (arith, a, b, both, twice)
 

@@ -29,6 +29,7 @@ use Rattle.goal_blocks.proofs.MadePaired.{LineHop, line_send, line_recv, line_me
 use Rattle.goal_blocks.proofs.Sizes.{sum_below_few, sum_low_few, entries_small}
 use Rattle.goal_blocks.proofs.Totals.{sum_range_few}
 use Rattle.goal_blocks.proofs.Blueprint.{moved, touches, writes, Precedes, now, IsThere, Origin, Final, IsBlueprint, IsBounded, blueprint_certified}
+use Rattle.goal_blocks.proofs.Wishes.{length_of_each, value_self}
 
 -- a contribution that is lower than none of a value comes last
 insert_last : (c : Contribution) (v : Value) → All (λ (d : Contribution). is_lower c d ≡ false) v → insert_one c v ≡ v ++ c ∷ []
@@ -50,18 +51,9 @@ each_more n =
         go true e = absurd (let m = ltb-true n q e in omega (arith, m, l))
         go false e = refl
 
-pub length-of_each : (n item : ℕ) → length (of_each n item) ≡ n
-unfolding of_each
-length-of_each n item = length-map-range_with_len (λ (q : ℕ). record { rank = q; item = item }) 0 n
-
 each_one : of_each 1 0 ≡ single 0 0
 unfolding of_each
 each_one = refl
-
-pub is_itself : (v : Value) → is_value v v ≡ true
-unfolding is_value
-is_itself [] = refl
-is_itself (c ∷ v) = rw (eq-eqb c.rank c.rank refl, eq-eqb c.item c.item refl, is_itself v) refl
 
 -- what each operation finds in the slots that it reads, and leaves in those that it writes
 scan_finds : ℕ → ℕ → ℕ → Value
@@ -152,7 +144,7 @@ module _ (ranks bytes : ℕ) (some : 0 < ranks) (few : ranks ≤ 2048) where
 
   at_end : (r : ℕ) → r < ranks → wanted Scan ranks r 0 (of_each (r + 1) 0) ≡ true
   unfolding wanted
-  at_end r inside = rw (lt-ltb r ranks inside) (is_itself (of_each (r + 1) 0))
+  at_end r inside = rw (lt-ltb r ranks inside) (value_self (of_each (r + 1) 0))
 
   elsewhere : (r k : ℕ) (v : Value) → wanted Scan ranks r (suc k) v ≡ true
   unfolding wanted
@@ -289,22 +281,22 @@ module _ (ranks bytes : ℕ) (some : 0 < ranks) (few : ranks ≤ 2048) where
     where
       at_one : i ≡ 0 → 1 ≡ k → length (scan_leaves r i k) ≤ cap r k
       at_one e f =
-          let size = length-of_each r 0 in
+          let size = length_of_each r 0 in
           let inside = there.0 in
           subst (λ (n : ℕ). length (scan_leaves r n k) ≤ cap r k) (sym e) (subst (λ (n : ℕ). length (of_each r 0) ≤ cap r n) f (omega (arith, size, inside)))
 
       at_zero : i ≡ 1 → 0 ≡ k → length (scan_leaves r i k) ≤ cap r k
       at_zero e f =
-          let size = length-of_each (r + 1) 0 in
+          let size = length_of_each (r + 1) 0 in
           let inside = there.0 in
           subst (λ (n : ℕ). length (scan_leaves r n k) ≤ cap r k) (sym e) (subst (λ (n : ℕ). length (of_each (r + 1) 0) ≤ cap r n) f (omega (arith, size, inside)))
 
   finds_load : (r : ℕ) → r + 1 < ranks → sum_by (λ (v : Value). length v) (map (scan_finds r (2 * upward r)) (moved (entry r (2 * upward r)))) ≤ load r (2 * upward r)
   unfolding scan_in slots_from scan_finds load
-  finds_load zero inside = let size = length-of_each (0 + 1) 0 in omega (arith, size, inside)
+  finds_load zero inside = let size = length_of_each (0 + 1) 0 in omega (arith, size, inside)
   finds_load (suc w) inside =
       let two : 2 * upward (suc w) ≡ 2 = omega (arith, upward_some (suc w) (omega arith)) in
-      let size = length-of_each (suc w + 1) 0 in
+      let size = length_of_each (suc w + 1) 0 in
       rw two (omega (arith, size, inside))
 
   total : sum_below ranks (λ r. sum_below 65536 (cap r)) + sum_by (λ r. sum_by (load r) (range_with_len 0 (count r))) (range_with_len 0 ranks) ≤ 2 ^ 24

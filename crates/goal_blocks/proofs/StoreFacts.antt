@@ -1,12 +1,10 @@
 -- What a store holds after a change of its map.
 use Rattle.std.proofs.Common.{ℕ, ◌≡◌, ◌==◌, ◌&&◌, nat_lt, Bool, true, false, cond, List, [], ◌∷◌, Option, Some, None, if◌then◌else◌, refl, sym, ap, ap₂, ◌∙◌, arith, eq-eqb, Vec, Global, ◌+◌, ◌-◌, ◌<◌, ◌≤◌, length, subst, unwrap_or, IsSome, is_some, All, map, Result, Ok, Err, IfOk}
-use Rattle.std.specs.declared.cmp.Ordering.{Ordering}
-use Rattle.std.specs.declared.cmp.Ordering.TheVariants.{Less, Equal, Greater}
-use Rattle.std.specs.Ordering.{nat_cmp, ordering_then, is_eq}
+use Rattle.std.specs.Ordering.{nat_cmp}
 use Rattle.std.specs.Option.{option_map, MatchOption}
 use Rattle.std.specs.Map.{lookup}
 use Rattle.std.specs.BTreeMap.{BTreeMap, get, is_at}
-use Rattle.std.proofs.lemmas.Bool.{both_ways, eqb-true, false_from_ne_true, le-ltb, true≢false}
+use Rattle.std.proofs.lemmas.Bool.{true≢false}
 use Rattle.std.proofs.lemmas.List.Elements.{All-nil, All-cons}
 use Rattle.goal_blocks.specs.Values.{Contribution, Value, Store, set_slot}
 use Rattle.goal_blocks.specs.Stored.{Place, place_cmp, Kept, written_at, values, entries_of, one_or_none, before, IsSorted, IsSound}
@@ -15,32 +13,13 @@ use Rattle.goal_blocks.specs.Collectives.{initial}
 use Rattle.goal_blocks.specs.declared.collective.Collective.{Collective}
 use Rattle.goal_blocks.proofs.SlotSums.{stored_set, stored_most}
 use Rattle.goal_blocks.proofs.Starts.{initial_sorted}
-
-flip : (m n : ℕ) → (m == n) ≡ (n == m)
-flip m n = go (n == m) refl
-  where
-    go : (b : Bool) → (n == m) ≡ b → (m == n) ≡ b
-    go true e = eq-eqb m n (sym (eqb-true n m e))
-    go false e = false_from_ne_true (m == n) (λ t. both_ways (n == m) e (eq-eqb n m (sym (eqb-true m n t))))
-
-same_number : (m n : ℕ) → is_eq (nat_cmp m n) ≡ (m == n)
-same_number m n = go (nat_lt m n) (m == n) refl refl
-  where
-    go : (s t : Bool) → nat_lt m n ≡ s → (m == n) ≡ t → is_eq (cond s Less (cond t Equal Greater)) ≡ t
-    go true true e f = absurd (both_ways (nat_lt m n) (le-ltb m n (let same = eqb-true m n f in omega (arith, same))) e)
-    go true false e f = refl
-    go false true e f = refl
-    go false false e f = refl
-
-both : (a b : Ordering) → is_eq (ordering_then a b) ≡ (is_eq a && is_eq b)
-both Less b = refl
-both Equal b = refl
-both Greater b = refl
+use Rattle.goal_graph.proofs.ForCallers.{alike_numbers, eqb-swapped}
+use Rattle.std.specs.Cmp.{tied_then}
 
 -- the test of a place
 pub same_place : (rank slot r k : ℕ) → is_at (place_cmp (rank, slot)) (r, k) ≡ ((r == rank) && (k == slot))
 same_place rank slot r k =
-    both (nat_cmp rank r) (nat_cmp slot k) ∙ ap₂ (λ (s t : Bool). s && t) (same_number rank r ∙ flip rank r) (same_number slot k ∙ flip slot k)
+    sym (tied_then (nat_cmp rank r) (nat_cmp slot k)) ∙ ap₂ (λ (s t : Bool). s && t) (alike_numbers rank r ∙ eqb-swapped rank r) (alike_numbers slot k ∙ eqb-swapped slot k)
 
 sorted_set : (rank slot : ℕ) (v : Value) (s : Store) → IsSorted v → ((r k : ℕ) → IsSorted (s r k)) → (r k : ℕ) → IsSorted (set_slot rank slot v s r k)
 unfolding set_slot

@@ -37,7 +37,7 @@ value_equal (c ∷ v) (d ∷ w) h =
     let rest = value_equal v w parts.1 in
     λ i. first i ∷ rest i
 
-value_self : (v : Value) → is_value v v ≡ true
+pub value_self : (v : Value) → is_value v v ≡ true
 unfolding is_value
 value_self [] = refl
 value_self (c ∷ v) = go (is_one c c) (is_value v v) (one_self c) (value_self v)

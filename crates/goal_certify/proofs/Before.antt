@@ -12,25 +12,13 @@ use Rattle.goal_graph.specs.declared.plan.Op.{Op}
 use Rattle.goal_graph.specs.declared.plan.When.TheVariants.{AfterEnd}
 use Rattle.goal_graph.specs.Schedule.{Plan, op_at, ops_at, needs, needed}
 use Rattle.goal_graph.specs.Fault.{IsOp, IsAccepted, is_below}
-use Rattle.goal_graph.proofs.ForCallers.{needs-exist}
+use Rattle.goal_graph.proofs.ForCallers.{needs-exist, is_op_below, whole_back}
 use Rattle.goal_blocks.specs.Race.{Reaches, here, through, EndsBefore}
 use Rattle.goal_certify.specs.Rows.{has}
 use Rattle.goal_certify.specs.Before.{op_id, AreRows}
 use Rattle.goal_certify.proofs.Rows.{has_zeros}
 use Rattle.goal_certify.proofs.Depth.{deep_enough}
-
--- the operations of a rank are those below their number
-pub is_op_below : (plans : List Plan) (x : OpId) → x.op < length (ops_at plans x.rank) → IsOp plans x
-unfolding op_at ops_at
-is_op_below plans x inside = go (slice_get plans x.rank) inside
-  where
-    go : (q : Option Plan) → x.op < length (unwrap_or (option_map (λ (p : Plan). p.ops) q) []) → is_some (option_and_then (λ (p : Plan). slice_get p.ops x.op) q) ≡ true
-    go None h = absurd (omega arith)
-    go (Some p) h = some p.ops x.op h
-      where
-        some : (os : List Op) (k : ℕ) → k < length os → is_some (slice_get os k) ≡ true
-        some [] k h = absurd (omega arith)
-        some (o ∷ os) k h = ap is_some (slice_get-get_or (o ∷ os) k o h)
+use Rattle.goal_blocks.proofs.ForCallers.{Leads, first_need, led}
 
 pub below_of_op : (plans : List Plan) (x : OpId) → IsOp plans x → x.op < length (ops_at plans x.rank)
 unfolding op_at ops_at
@@ -54,30 +42,6 @@ pub depth_within : (plans : List Plan) → IsAccepted plans → (x : OpId) → I
 depth_within plans accepted x is_op =
     let depth = accepted.depths x is_op in
     deep_enough plans x.rank (length (ops_at plans x.rank)) (λ k inside. needs_below plans accepted (op_id x.rank k) (is_op_below plans (op_id x.rank k) inside)) depth.bound x.op (below_of_op plans x is_op) depth.below
-
-module _ (plans : List Plan) (x : OpId) where
-  -- the need d of y is one for the end of x, or x is before what it names
-  abbrev pub Leads : OpId → Need → Type 0
-  Leads y d = ((d.when ≡ AfterEnd) × (needed y d ≡ x)) ⊎ EndsBefore plans x (needed y d)
-
-  pub led : (y : OpId) (d : Need) → Contains (needs plans y) d → Leads y d → EndsBefore plans x y
-  led y d c (inl (e, f)) = record { by = y; reached = here; need = d; is_need = c; at_end = e; names = f }
-  led y d c (inr b) = record {
-    by = b.by;
-    reached = through d c b.reached;
-    need = b.need;
-    is_need = b.is_need;
-    at_end = b.at_end;
-    names = b.names;
-  }
-
-  leads : (y z : OpId) → Reaches plans y z → (n : Need) → Contains (needs plans z) n → n.when ≡ AfterEnd → needed z n ≡ x → (d : Need) × Contains (needs plans y) d × Leads y d
-  leads y z here n c e f = (n, c, inl (e, f))
-  leads y z (through d m rest) n c e f =
-      (d, m, inr (record { by = z; reached = rest; need = n; is_need = c; at_end = e; names = f }))
-
-  pub first_need : (y : OpId) → EndsBefore plans x y → (d : Need) × Contains (needs plans y) d × Leads y d
-  first_need y b = leads y b.by b.reached b.need b.is_need b.at_end b.names
 
 -- one need of an operation y more
 module _ (plans : List Plan) (y : OpId) (old new : List ℕ) (done : ℕ → Type 0) (rows : AreRows plans y.rank old done) (keeps : (r k : ℕ) → k < 2048 → has old r k ≡ true → has new r k ≡ true) where
@@ -149,12 +113,6 @@ mark_stays done i k inside h =
       | inl same ↦ rw same (get_or-set_same done i true false inside)
       | inr apart ↦ get_or-set_other done i k true false apart ∙ h
     ]
-
--- a list that was lent whole and comes back
-pub whole_back : {X : Type 0} (n : ℕ) (xs ys : List X) → length xs ≡ length ys → n ≡ length ys → take n (xs ++ drop (length xs) ys) ≡ xs
-whole_back {X} n xs ys long all =
-    let rest : drop (length xs) ys ≡ [] = drop_all (length xs) ys (omega (arith, long)) in
-    ap (λ (zs : List X). take n (xs ++ zs)) rest ∙ ap (take n) (append-nil xs) ∙ take_all n xs (omega (arith, long, all))
 
 pub rows_same : (plans : List Plan) (rank : ℕ) (rows others : List ℕ) (done : ℕ → Type 0) → rows ≡ others → AreRows plans rank others done → AreRows plans rank rows done
 rows_same plans rank rows others done e r =

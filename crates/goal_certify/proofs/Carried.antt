@@ -16,14 +16,13 @@ use Rattle.goal_graph.specs.Laws.{IsSend}
 use Rattle.std.proofs.lemmas.List.Sums.{sum_by-cons}
 use Rattle.std.proofs.lemmas.List.{length-map}
 use Rattle.goal_graph.specs.Interleaving.{IsInterleaving}
-use Rattle.goal_graph.proofs.ForCallers.{cases_some, happened_now, happened_other, is_act_class, is_act_op, same_op_true, same_op_itself, same_op_from, happened_none, partner_stays, partners_mutual, data_paired, served_message, allowed_data, allowed_serve, allowed_fresh}
+use Rattle.goal_graph.proofs.ForCallers.{cases_some, happened_now, happened_other, is_act_class, is_act_op, same_op_true, same_op_itself, same_op_from, happened_none, partner_stays, partners_mutual, data_paired, served_message, allowed_data, allowed_serve, allowed_fresh, same_tables, written_table, other_place}
 use Rattle.goal_blocks.specs.Walk.{no_send}
 use Rattle.goal_blocks.specs.Slots.{slots}
 use Rattle.goal_blocks.specs.Values.{Value, Store, Held, change, read, held_after}
 use Rattle.goal_blocks.specs.Weight.{carried, has_received, is_under_way}
 use Rattle.goal_certify.specs.declared.walk.parcel.Parcel.{Parcel}
 use Rattle.goal_certify.specs.Carried.{parcel_size, parcel_of, kept_of}
-use Rattle.goal_certify.proofs.Tables.{same_tables, written_table, other_place}
 
 -- what a send has read stays, but at its Data
 payload_same : (plans : List Plan) (o : Option OpId) (c : Class) (x m : OpId) (k : Option Kind) (held : Held) → ((place c == 2) ≡ false) ⊎ (same_op m x ≡ false) → (change plans no_send o c x k held).payload m ≡ held.payload m

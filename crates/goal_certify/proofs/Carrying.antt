@@ -23,8 +23,8 @@ use Rattle.goal_blocks.specs.Stored.{Kept, values}
 use Rattle.goal_certify.specs.declared.walk.parcel.Parcel.{Parcel}
 use Rattle.goal_certify.specs.Carried.{size_of, parcel_size, parcel_of, kept_of, IsCarrying, AddsOver, AddsWithin}
 use Rattle.goal_certify.proofs.Carried.{carried_kept, kept_others, handed_before, handed_now, kept_handed, taken_before, taken_now, kept_taken}
-use Rattle.goal_certify.proofs.Tables.{entry_of, within_table}
 use Rattle.goal_certify.proofs.SlotFacts.{IsLow, stored_write}
+use Rattle.goal_graph.proofs.ForCallers.{entry_of, within_table}
 
 -- what is held, in its parts
 pub weight_opened : (plans : List Plan) (h : List Act) (held : Held) → weight plans h held ≡ stored (length plans) held.store + carried plans h held

@@ -15,7 +15,7 @@ use Rattle.goal_blocks.specs.Slots.{slots_from, moved_by, slots}
 use Rattle.goal_blocks.specs.Certification.{moved_count}
 use Rattle.goal_certify.proofs.Sizing.{notes_at_some}
 
-length-slots_from : (lo n : ℕ) → length (slots_from lo n) ≡ n
+pub length-slots_from : (lo n : ℕ) → length (slots_from lo n) ≡ n
 unfolding slots_from
 length-slots_from lo zero = refl
 length-slots_from lo (suc n) = ap suc (length-slots_from (lo + 1) n)

@@ -1,7 +1,7 @@
 -- A depth in a rank of n operations is at most n.
 use Rattle.std.proofs.Common.{⊎_elim, ℕ, zero, suc, ◌+◌, ◌-◌, ◌≡◌, ◌<◌, ◌≤◌, ◌⊎◌, inl, inr, Bool, true, false, List, length, get_or, count_by, All, Contains, refl, sym, ◌∙◌, subst, arith, zero-add, true≢false}
 use Rattle.std.specs.List.{range_with_len}
-use Rattle.std.proofs.lemmas.Bool.{cases_eq}
+use Rattle.std.proofs.lemmas.Bool.{cases_eq, cases_Bool}
 use Rattle.std.proofs.lemmas.List.Sums.{AllPass-from_list_all, list_all-from_AllPass, count_by-le-length}
 use Rattle.std.proofs.lemmas.List.FromFn.{length-range_with_len, get_or-range_with_len}
 use Rattle.goal_graph.specs.declared.action.OpId.{OpId}
@@ -16,10 +16,6 @@ search_below : (D : ℕ → Type 0) (n : ℕ) → ((k : ℕ) → D k ⊎ (D k �
 search_below D zero cases = inr (λ k h d. omega arith)
 search_below D (suc n) cases =
     ⊎_elim (λ d. inl (n, omega arith, d)) (λ not. ⊎_elim (λ f. inl (f.0, omega (arith, f.1), f.2)) (λ none. inr (λ k h d. elim (cases_eq k n) [ inl e ↦ not (subst D e d) | inr e ↦ none k (omega arith) d ])) (search_below D n cases)) (cases n)
-
-cases_bool : (b : Bool) → (b ≡ true) ⊎ (b ≡ false)
-cases_bool true = inl refl
-cases_bool false = inr refl
 
 -- a bound of a depth stays one where it grows
 deeper : (plans : List Plan) (m : ℕ) (x : OpId) → is_below plans m x ≡ true → is_below plans (suc m) x ≡ true
@@ -72,14 +68,14 @@ module _ (plans : List Plan) (rank n : ℕ) (in_range : (k : ℕ) → k < n → 
   -- a depth that one more operation has, or none
   rises : (m : ℕ) → Settled m ⊎ (count m + 1 ≤ count (suc m))
   rises m =
-      ⊎_elim (λ f. inr (count_falls (deep (suc m)) (deep m) numbers f.0 (is_number f.0 f.1) (λ k h. deeper plans m (op_id rank k) h) f.2.1 f.2.0)) (λ no. inl (λ k inside h. ⊎_elim (λ yes. yes) (λ not. absurd (no k inside (h, not))) (cases_bool (deep m k)))) (search_below New n cases)
+      ⊎_elim (λ f. inr (count_falls (deep (suc m)) (deep m) numbers f.0 (is_number f.0 f.1) (λ k h. deeper plans m (op_id rank k) h) f.2.1 f.2.0)) (λ no. inl (λ k inside h. ⊎_elim (λ yes. yes) (λ not. absurd (no k inside (h, not))) (cases_Bool (deep m k)))) (search_below New n cases)
     where
       New : ℕ → Type 0
       New k = (deep (suc m) k ≡ true) × (deep m k ≡ false)
 
       cases : (k : ℕ) → New k ⊎ (New k → ⊥)
       cases k =
-          ⊎_elim (λ yes. ⊎_elim (λ old. inr (λ d. true≢false (sym old ∙ d.1))) (λ new. inl (yes, new)) (cases_bool (deep m k))) (λ no. inr (λ d. true≢false (sym d.0 ∙ no))) (cases_bool (deep (suc m) k))
+          ⊎_elim (λ yes. ⊎_elim (λ old. inr (λ d. true≢false (sym old ∙ d.1))) (λ new. inl (yes, new)) (cases_Bool (deep m k))) (λ no. inr (λ d. true≢false (sym d.0 ∙ no))) (cases_Bool (deep (suc m) k))
 
   climb : (m : ℕ) → ((l : ℕ) × (l < m) × Settled l) ⊎ (m ≤ count m)
   climb zero = inr (omega arith)

@@ -36,9 +36,6 @@ abbrev pub NoneSoFar : List Plan → (OpId → Type 0) → ℕ → Type 0
 NoneSoFar plans P n = (k : ℕ) (x : OpId) → k < n → slice_get (operations plans) k ≡ Some x → P x → ⊥
 
 module _ (plans : List Plan) (P : OpId → Type 0) where
-  pub none_start : NoneSoFar plans P 0
-  none_start k x l e p = omega (arith, l)
-
   pub none_more : (n : ℕ) (x : OpId) → NoneSoFar plans P n → slice_get (operations plans) n ≡ Some x → (P x → ⊥) → NoneSoFar plans P (n + 1)
   none_more n x before at not k y l e p =
       ⊎_elim (λ less. before k y less e p) (λ no_less. let same : n ≡ k = omega (arith, l, no_less) in not (subst P (same_Some y x (sym e ∙ ap (slice_get (operations plans)) (sym same) ∙ at)) p)) (cases_lt k n)

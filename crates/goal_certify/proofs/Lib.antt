@@ -5,9 +5,7 @@ pub mod EndLemmas
 pub mod EndSearch
 pub mod Passes
 pub mod Counting
-pub mod Tables
 pub mod Places
-pub mod Newly
 pub mod Walked
 pub mod Performed
 pub mod Cursors

@@ -1,7 +1,7 @@
 -- The open pairs of a rank are its races.
 use Rattle.std.proofs.Common.{⊎_elim, ℕ, ◌+◌, ◌≡◌, ◌<◌, ◌≤◌, ◌⊎◌, ◌&&◌, inl, inr, Bool, true, false, not, List, length, get_or, flat_map, All, Contains, Option, Some, None, slice_get, if◌then◌else◌, refl, sym, ap, ◌∙◌, subst, arith, true≢false}
 use Rattle.std.specs.Option.{option_map, option_and_then}
-use Rattle.std.proofs.lemmas.Bool.{cases_lt, and_parts}
+use Rattle.std.proofs.lemmas.Bool.{cases_lt, and_parts, cases_Bool}
 use Rattle.std.proofs.lemmas.Option.{slice_get_within, slice_get_read}
 use Rattle.std.proofs.lemmas.List.Elements.{Contains-get_or}
 use Rattle.goal_graph.specs.declared.action.OpId.{OpId}
@@ -23,10 +23,6 @@ use Rattle.goal_certify.specs.Touches.{touches_of, AreTouches}
 use Rattle.goal_certify.proofs.Touches.{are_touches}
 use Rattle.goal_certify.specs.Table.{AreMarked, meets, AreShared}
 use Rattle.goal_certify.specs.Races.{is_open, IsFirstOpen, IsLeastSlot, race_at, IsFirstOfRank}
-
-cases_bool : (b : Bool) → (b ≡ true) ⊎ (b ≡ false)
-cases_bool true = inl refl
-cases_bool false = inr refl
 
 -- what is open shares a slot
 open_shared : (before shared : List ℕ) (x y : ℕ) → is_open before shared x y ≡ true → has shared x y ≡ false → ⊥
@@ -122,8 +118,8 @@ module _ (plans : List Plan) (rank : ℕ) (touches : List Touch) (touchers write
         let met : Met x y s = meets_all x y s (r.first_touches, r.second_touches, r.one_writes) in
         let there : has shared x y ≡ true = subst (λ (k : ℕ). has shared k y ≡ true) met.2 (sharing.has_all met.0 met.1 y (omega arith) met.4) in
         let lower : x < y = r.in_order in
-        let one : has before y x ≡ false = ⊎_elim (λ yes. absurd (r.not_before (rows.sound y x (omega arith) yes))) (λ no. no) (cases_bool (has before y x)) in
-        let two : has before x y ≡ false = ⊎_elim (λ yes. absurd (r.not_after (rows.sound x y (omega arith) yes))) (λ no. no) (cases_bool (has before x y)) in
+        let one : has before y x ≡ false = ⊎_elim (λ yes. absurd (r.not_before (rows.sound y x (omega arith) yes))) (λ no. no) (cases_Bool (has before y x)) in
+        let two : has before x y ≡ false = ⊎_elim (λ yes. absurd (r.not_after (rows.sound x y (omega arith) yes))) (λ no. no) (cases_Bool (has before x y)) in
         (inside, all_three there one two, met)
       where
         all_three : {a b c : Bool} → a ≡ true → b ≡ false → c ≡ false → (a && (not b && not c)) ≡ true
@@ -134,12 +130,6 @@ module _ (plans : List Plan) (rank : ℕ) (touches : List Touch) (touchers write
         let here : IsRace plans (record { rank = rank; first = a.first; second = a.second; slot = a.slot }) = subst (λ (k : ℕ). IsRace plans (record { rank = k; first = a.first; second = a.second; slot = a.slot })) e r in
         let o = race_open a.first a.second a.slot here in
         none a.first a.second here.in_order o.0 o.1
-
-    pub some_slot : (p : Pair) → IsFirstOpen before shared (length (ops_at plans rank)) (Some p) → IsLeastSlot touchers writers touches p None → ⊥
-    some_slot p found none =
-        let parts = open_parts p.first p.second found.2 in
-        let m = sharing.no_more p.first p.second (omega (arith, found.1)) parts.0 in
-        none m.0 m.1 m.2 m.3
 
     pub first_race : (p : Pair) (s : ℕ) → IsFirstOpen before shared (length (ops_at plans rank)) (Some p) → IsLeastSlot touchers writers touches p (Some s) → IsFirstOfRank plans rank (Some (record { first = p.first; second = p.second; slot = s }))
     first_race p s found least = (open_race p.first p.second s found.0 found.1 found.2 least.0, none_less)
@@ -182,22 +172,6 @@ free_of_races plans rank all none first wanted (Stalls op) low high h = absurd (
 free_of_races plans rank all none first wanted (Weight total) low high h = absurd (omega (arith, high))
 free_of_races plans rank all none first wanted (Wrong r slot) low high h = absurd (omega (arith, high))
 free_of_races plans rank all none first wanted NoMemory low high h = absurd (omega (arith, high))
-
-pub stopped_by_race : (plans : List Plan) (rank : ℕ) (r : RankRace) → NoRaceBelow plans rank → IsFirstOfRank plans rank (Some r) → IsStopped plans 5 6 (Race rank r.first r.second r.slot)
-stopped_by_race plans rank r none found =
-    inr (λ first wanted. record {
-      has = record {
-        holds = found.0;
-        none_less = λ a less race. ⊎_elim (λ below. none a below race) (λ same. found.1 a same.0 (inr same) race) less;
-      };
-      not_under = omega arith;
-      under = omega arith;
-      none_before = λ fault low high h. omega (arith, low, high);
-    })
-
-pub none_further : (plans : List Plan) (rank : ℕ) → NoRaceBelow plans rank → IsFirstOfRank plans rank None → NoRaceBelow plans (rank + 1)
-none_further plans rank none here a below race =
-    ⊎_elim (λ lower. none a lower race) (λ high. here a (omega (arith, high, below)) race) (cases_lt a.rank rank)
 
 -- what is known of a rank of a small schedule
 module _ (plans : List Plan) (rank : ℕ) (small : IsSmall plans) (inside : rank < length plans) (p : Plan) (read : p ≡ get_or plans rank p) where

@@ -9,7 +9,7 @@ use Rattle.goal_graph.specs.Action.{Act, happened}
 use Rattle.goal_graph.specs.Matching.{pairs, partner}
 use Rattle.goal_graph.specs.Fault.{IsOp}
 use Rattle.goal_graph.specs.Laws.{IsSend, IsReceive}
-use Rattle.goal_graph.proofs.ForCallers.{allowed_fresh, allowed_arrive, allowed_post, happened_and_left}
+use Rattle.goal_graph.proofs.ForCallers.{allowed_fresh, allowed_arrive, allowed_post, happened_and_left, whole_back}
 use Rattle.goal_blocks.specs.Walk.{no_send}
 use Rattle.sim_match.specs.PostsAndArrivals.{PostsAndArrivals, is_post_or_arrival_class}
 use Rattle.sim_match.proofs.ForCallers.{happened_filtered}
@@ -18,12 +18,6 @@ use Rattle.goal_certify.specs.declared.walk.entry.Entry.{Entry}
 use Rattle.goal_certify.specs.Walked.{Walked, act_of, acts, with_class, with_entry, with_partner, met, more_met, entry_known, Represents}
 use Rattle.goal_certify.specs.WalkQueue.{may_act}
 use Rattle.goal_certify.proofs.Walked.{AfterMet, after_met, table_known, partner_there}
-
--- a slice of a whole list that is written back
-pub written_back : {A : Type 0} (n : ℕ) (new old : List A) → n ≡ length old → length new ≡ length old → take n (new ++ drop (length new) old) ≡ new
-written_back n new old e f =
-    let none : drop (length new) old ≡ [] = drop_all (length new) old (omega arith) in
-    ap (λ xs. take n (new ++ xs)) none ∙ take-append-le n new [] (omega arith) ∙ take_all n new (omega arith)
 
 -- one action more is the newest
 acts_push : (items : List Action) (a : Action) → acts (items ++ a ∷ []) ≡ act_of a ∷ acts items
@@ -93,7 +87,7 @@ module _ (plans : List Plan) (h : List Act) (entries : List Entry) (matcher : Po
 pub performed : (plans : List Plan) (items : List Action) (entries : List Entry) (matcher : PostsAndArrivals) (room : ℕ) (m : Represents plans (acts items) entries matcher room) (a : Action) (may : may_act plans (acts items) a.class a.op ≡ true)
     (new_items : List Action) (lent written : List Entry) (new_matcher : PostsAndArrivals) (new_room n : ℕ) (o : Option OpId) (entry done : Entry) → entry ≡ entry_known plans (acts items) a.op → done ≡ with_class a.class entry → new_items ≡ items ++ a ∷ [] → new_room ≡ room → n ≡ length entries → lent ≡ entries → length written ≡ length lent → o ≡ met matcher.plans matcher.actions a.class a.op → new_matcher.plans ≡ matcher.plans → new_matcher.actions ≡ more_met matcher.actions a.class a.op → written ≡ map (with_partner a.op o (with_entry a.op done (entry_known plans (acts items)))) (operations plans) → Represents plans (acts new_items) (take n (written ++ drop (length written) entries)) new_matcher new_room
 performed plans items entries matcher room m a may new_items lent written new_matcher new_room n o entry done was is_done pushed rooms count same kept is plans_same more told =
-    let table : take n (written ++ drop (length written) entries) ≡ written = written_back n written entries count (kept ∙ ap length same) in
+    let table : take n (written ++ drop (length written) entries) ≡ written = whole_back n written entries (kept ∙ ap length same) count in
     let list : act_of a ∷ acts items ≡ acts new_items = sym (ap acts pushed ∙ acts_push items a) in
     let known = table ∙ told ∙ ap (λ (e : Entry). map (with_partner a.op o (with_entry a.op e (entry_known plans (acts items)))) (operations plans)) is_done in
     let after : Represents plans (act_of a ∷ acts items) (take n (written ++ drop (length written) entries)) new_matcher new_room = represents_after plans (acts items) entries matcher room m (act_of a) may _ new_matcher new_room o entry was rooms is plans_same more known in

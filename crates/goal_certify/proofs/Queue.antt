@@ -1,7 +1,7 @@
 -- The queue of a walker: its keys stay, are put anew, and lead to the action that is next.
 use Rattle.std.proofs.Common.{◌≡◌, ◌≢◌, ◌+◌, ◌<◌, ◌≤◌, ◌⊎◌, ℕ, zero, suc, Bool, true, false, nat_lt, List, [], ◌∷◌, Contains, length, drop, set, get_or, slice_get, slice_set, Option, Some, None, inl, inr, refl, sym, ap, ◌∙◌, subst, arith, ltb-false}
 use Rattle.std.proofs.lemmas.Bool.{cases_eq, cases_Bool, cases_lt, both_ways}
-use Rattle.std.proofs.lemmas.List.{get_or-set_same, get_or-set_other, get_or_past, length-set, drop_more, drop_all}
+use Rattle.std.proofs.lemmas.List.{get_or-set_same, get_or-set_other, get_or_past, length-set}
 use Rattle.std.proofs.lemmas.Option.{slice_get-get_or, slice_get_within, get_or_from_slice_get, same_Some}
 use Rattle.goal_graph.specs.declared.action.OpId.{OpId}
 use Rattle.goal_graph.specs.declared.action.Class.{Class}
@@ -13,40 +13,11 @@ use Rattle.goal_graph.specs.Order.{IsBefore}
 use Rattle.goal_graph.specs.Matching.{pairs, partner}
 use Rattle.goal_graph.specs.Fault.{IsOp}
 use Rattle.goal_graph.specs.Interleaving.{IsInterleaving, IsCompleteInterleaving}
-use Rattle.goal_graph.proofs.ForCallers.{cases_op, same_op_false, allowed_listed, one_allowed, partners_met, allowed_stays, fits_receive, fits_send, operations_in_order, send_is_op, receive_is_op}
+use Rattle.goal_graph.proofs.ForCallers.{cases_op, same_op_false, allowed_listed, one_allowed, partners_met, allowed_stays, fits_receive, fits_send, operations_in_order, send_is_op, receive_is_op, other_place, newly_allowed, find_class}
 use Rattle.goal_blocks.specs.Walk.{no_send, ComesFirst}
 use Rattle.sim_queue.specs.Map.{key_at, IsEmptyMap, IsLeast}
-use Rattle.goal_certify.specs.WalkQueue.{Place, place_key, IsNamedIn, may_act, IsIdle, IsChoice, IsKeyOf, IsQueueBut, IsQueue, IsRefreshed, IsConcerned}
-use Rattle.goal_certify.proofs.Newly.{newly_allowed}
-use Rattle.goal_certify.proofs.Tables.{other_place}
+use Rattle.goal_certify.specs.WalkQueue.{Place, place_key, may_act, IsIdle, IsChoice, IsKeyOf, IsQueueBut, IsQueue, IsRefreshed, IsConcerned}
 use Rattle.std.proofs.lemmas.Bool.{false_from_ne_true, and_right}
-
--- what a partner is
-pub partner_exists : (plans : List Plan) (h : List Act) (x y : OpId) → partner (pairs plans h) x ≡ Some y → IsOp plans y
-partner_exists plans h x y e =
-    elim (partners_met plans h x y e) [ inl met ↦ receive_is_op plans y (fits_receive plans y x met.fit) | inr met ↦ send_is_op plans y (fits_send plans x y met.fit) ]
-
-abbrev IsKnown : (Class → Bool) → Class → Type 0
-IsKnown test c = (test c ≡ true) ⊎ (test c ≡ false)
-
-no_class : (test : Class → Bool) → test Arrive ≡ false → test Serve ≡ false → test Data ≡ false → test Post ≡ false → test Begin ≡ false → (c : Class) → test c ≡ false
-no_class test a s d p b Arrive = a
-no_class test a s d p b Serve = s
-no_class test a s d p b Data = d
-no_class test a s d p b Post = p
-no_class test a s d p b Begin = b
-
--- a test fails at each class, or passes at one
-some_class : (test : Class → Bool) → ((c : Class) → test c ≡ false) ⊎ ((c : Class) × (test c ≡ true))
-some_class test = go (cases_Bool (test Arrive)) (cases_Bool (test Serve)) (cases_Bool (test Data)) (cases_Bool (test Post)) (cases_Bool (test Begin))
-  where
-    go : IsKnown test Arrive → IsKnown test Serve → IsKnown test Data → IsKnown test Post → IsKnown test Begin → ((c : Class) → test c ≡ false) ⊎ ((c : Class) × (test c ≡ true))
-    go (inl t) s d p b = inr (Arrive, t)
-    go (inr a) (inl t) d p b = inr (Serve, t)
-    go (inr a) (inr s) (inl t) p b = inr (Data, t)
-    go (inr a) (inr s) (inr d) (inl t) b = inr (Post, t)
-    go (inr a) (inr s) (inr d) (inr p) (inl t) = inr (Begin, t)
-    go (inr a) (inr s) (inr d) (inr p) (inr b) = inl (no_class test a s d p b)
 
 module _ (plans : List Plan) (h : List Act) where
   -- the key of an operation that may act
@@ -193,11 +164,11 @@ module _ (plans : List Plan) (h : List Act) (a : Act) (now : IsInterleaving plan
 
   -- the key of an operation stays, or the action concerns it
   key_stays : (slot : ℕ) (x : OpId) (k : Option Place) → IsKeyOf plans h slot x k → IsKeyOf plans (a ∷ h) slot x k ⊎ IsConcerned plans (a ∷ h) a.op x
-  key_stays slot x None idle = go (some_class (λ c. may_act plans (a ∷ h) c x))
+  key_stays slot x None idle = go (find_class (λ c. may_act plans (a ∷ h) c x))
     where
-      go : ((c : Class) → may_act plans (a ∷ h) c x ≡ false) ⊎ ((c : Class) × (may_act plans (a ∷ h) c x ≡ true)) → IsIdle plans (a ∷ h) x ⊎ IsConcerned plans (a ∷ h) a.op x
-      go (inl none) = inl none
-      go (inr (c, t)) = elim (newly_allowed plans no_send a h now c x t) [ inl was ↦ absurd (both_ways _ (idle c) was) | inr new ↦ inr new ]
+      go : ((c : Class) × (may_act plans (a ∷ h) c x ≡ true)) ⊎ ((c : Class) → may_act plans (a ∷ h) c x ≡ false) → IsIdle plans (a ∷ h) x ⊎ IsConcerned plans (a ∷ h) a.op x
+      go (inr none) = inl none
+      go (inl (c, t)) = elim (newly_allowed plans no_send a h now c x t) [ inl was ↦ absurd (both_ways _ (idle c) was) | inr new ↦ inr new ]
   key_stays slot x (Some k) b = go (cases_op a.op x)
     where
       go : (a.op ≡ x) ⊎ (same_op a.op x ≡ false) → IsKeyOf plans (a ∷ h) slot x (Some k) ⊎ IsConcerned plans (a ∷ h) a.op x
@@ -210,19 +181,6 @@ module _ (plans : List Plan) (h : List Act) (a : Act) (now : IsInterleaving plan
     each = q.each;
     bounds = λ i x e. elim (q.bounds i x e) [ inl b ↦ key_stays i x (key_at keys i) b | inr none ↦ absurd none ];
   }
-
--- the needs that are not yet read
-pub named_rest : (items : List Need) (k : ℕ) (d : Need) (x y : OpId) → k < length items → IsNamedIn (drop k items) x y → ¬ (y ≡ needed x (get_or items k d)) → IsNamedIn (drop (k + 1) items) x y
-named_rest items k d x y l n differ = go (subst (λ ds. Contains ds n.need) (drop_more items k d l) n.listed)
-  where
-    go : Contains (get_or items k d ∷ drop (k + 1) items) n.need → IsNamedIn (drop (k + 1) items) x y
-    go (zero, b, e) = absurd (differ (n.named ∙ ap (needed x) (sym e)))
-    go (suc i, b, e) = record { need = n.need; listed = (i, omega (arith, b), e); named = n.named }
-
-pub none_named : (items : List Need) (k : ℕ) (x y : OpId) → length items ≤ k → IsNamedIn (drop k items) x y → ⊥
-none_named items k x y l n =
-    let none : Contains [] n.need = subst (λ ds. Contains ds n.need) (drop_all k items l) n.listed in
-    omega (arith, none.1)
 
 -- those from the next place on, where the operation of this place is no longer due
 pub next_due : (plans : List Plan) (items : List OpId) → items ≡ operations plans → (k : ℕ) (d : OpId) (slot : ℕ) (y : OpId) → slice_get (operations plans) slot ≡ Some y → k ≤ slot → ¬ (y ≡ get_or items k d) → k + 1 ≤ slot

@@ -20,6 +20,8 @@ use Rattle.goal_blocks.specs.Certification.{NamesLowSlots, moved_count, IsSmall}
 use Rattle.goal_blocks.proofs.ForCallers.{length_merge, stored_most, stored_set}
 use Rattle.goal_certify.specs.Carried.{size_of, AddsOver, AddsWithin}
 use Rattle.goal_certify.proofs.Places.{rank_below, notes_there}
+use Rattle.goal_certify.proofs.Counting.{length-slots_from}
+use Rattle.goal_graph.proofs.ForCallers.{all_none, all_one}
 
 abbrev pub IsLow : ℕ → Type 0
 IsLow k = k ≤ 65535
@@ -27,31 +29,19 @@ IsLow k = k ≤ 65535
 abbrev pub AddsLow : Adding → Type 0
 AddsLow a = (a.from ≤ 65535) × (a.to ≤ 65535)
 
-no_items : {A : Type 0} (P : A → Type 0) → All P []
-no_items P = λ k d l. absurd (omega (arith, l))
-
-one_item : {A : Type 0} (P : A → Type 0) (x : A) → P x → All P (x ∷ [])
-one_item P x p zero d l = p
-one_item P x p (suc k) d l = absurd (omega (arith, l))
-
 all_flat : {A B : Type 0} (P : B → Type 0) (f : A → List B) (Q : A → Type 0) → ((a : A) → Q a → All P (f a)) → (xs : List A) → All Q xs → All P (flat_map f xs)
-all_flat P f Q each [] all = no_items P
+all_flat P f Q each [] all = all_none P
 all_flat P f Q each (x ∷ xs) all =
     All-append P (f x) (flat_map f xs) (each x (all 0 x (omega arith))) (all_flat P f Q each xs (λ k d l. all (suc k) d (omega (arith, l))))
 
 low_from : (lo n : ℕ) → lo + n ≤ 65536 → All IsLow (slots_from lo n)
 unfolding slots_from
-low_from lo zero l = no_items IsLow
-low_from lo (suc n) l = All-append IsLow (lo ∷ []) (slots_from (lo + 1) n) (one_item IsLow lo (omega (arith, l))) (low_from (lo + 1) n (omega (arith, l)))
-
-length_from : (lo n : ℕ) → length (slots_from lo n) ≡ n
-unfolding slots_from
-length_from lo zero = refl
-length_from lo (suc n) = ap suc (length_from (lo + 1) n)
+low_from lo zero l = all_none IsLow
+low_from lo (suc n) l = All-append IsLow (lo ∷ []) (slots_from (lo + 1) n) (all_one IsLow lo (omega (arith, l))) (low_from (lo + 1) n (omega (arith, l)))
 
 none_from : (lo : ℕ) → All IsLow (slots_from lo 0)
 unfolding slots_from
-none_from lo = no_items IsLow
+none_from lo = all_none IsLow
 
 some_from : (lo n : ℕ) → (n ≡ 0) ⊎ (lo + n ≤ 65536) → All IsLow (slots_from lo n)
 some_from lo n (inl e) = subst (λ (m : ℕ). All IsLow (slots_from lo m)) (sym e) (none_from lo)
@@ -65,22 +55,22 @@ moved_low op (Moves of lo hi) low = go (of == op)
   where
     go : (b : Bool) → All IsLow (if b then slots_from lo (hi + 1 - lo) else [])
     go true = some_from lo (hi + 1 - lo) (cases_from lo hi low.1)
-    go false = no_items IsLow
-moved_low op (Adds of from to) low = no_items IsLow
+    go false = all_none IsLow
+moved_low op (Adds of from to) low = all_none IsLow
 
 added_low : (op : ℕ) (n : Note) → NamesLowSlots n → All AddsLow (added_by op n)
-added_low op (Moves of lo hi) low = no_items AddsLow
+added_low op (Moves of lo hi) low = all_none AddsLow
 added_low op (Adds of from to) low = go (of == op)
   where
     go : (b : Bool) → All AddsLow (if b then record { from = from; to = to } ∷ [] else [])
-    go true = one_item AddsLow (record { from = from; to = to }) low
-    go false = no_items AddsLow
+    go true = all_one AddsLow (record { from = from; to = to }) low
+    go false = all_none AddsLow
 
 moved_few : (op : ℕ) (n : Note) → length (moved_by op n) ≤ moved_count n
 moved_few op (Moves of lo hi) = go (of == op)
   where
     go : (b : Bool) → length (if b then slots_from lo (hi + 1 - lo) else []) ≤ hi + 1 - lo
-    go true = omega (arith, length_from lo (hi + 1 - lo))
+    go true = omega (arith, length-slots_from lo (hi + 1 - lo))
     go false = omega arith
 moved_few op (Adds of from to) = omega arith
 
@@ -173,10 +163,6 @@ none_added rank added others first ranks light = record {
 }
 
 module _ (rank : ℕ) (added : List Adding) (others : ℕ) (first now : Store) (ranks ranks_now i : ℕ) (so_far : NotesAdded rank added others first now ranks ranks_now i) where
-  pub held_now : stored ranks_now now + others ≤ 2 ^ 24
-  held_now =
-      omega (arith, so_far.within i (omega arith), ap (stored ranks) so_far.stores, ap (λ (n : ℕ). stored n now) so_far.same)
-
   module _ (d : Adding) (inside : i < length added) (below : rank < ranks) (low : All AddsLow added) (size total : ℕ) (size_is : size ≡ length (now rank (get_or added i d).from)) (total_is : total ≡ stored ranks_now now + others + size) where
     next_total : stored ranks (add_all rank (take (i + 1) added) first) + others ≡ total
     next_total =
@@ -192,10 +178,3 @@ module _ (rank : ℕ) (added : List Adding) (others : ℕ) (first now : Store) (
 
     pub added_over : 2 ^ 24 < total → AddsOver ranks rank added first others total
     added_over heavy = (i + 1, next_total, heavy, λ k l. so_far.within k (omega (arith, l)))
-
-  pub all_added : length added ≤ i → now ≡ add_all rank added first
-  all_added l =
-      so_far.stores ∙ ap (λ (items : List Adding). add_all rank items first) (take_all i added l)
-
-  pub all_within : length added ≤ i → AddsWithin ranks rank added first others
-  all_within l n = elim (cases_lt i n) [ inl past ↦ subst (λ (items : List Adding). stored ranks (add_all rank items first) + others ≤ 2 ^ 24) (take_all i added l ∙ sym (take_all n added (omega (arith, l, past)))) (so_far.within i (omega arith)) | inr le ↦ so_far.within n le ]

@@ -153,10 +153,6 @@ module _ (plans : List Plan) where
       least x l =
           none_holds 2 op_key (λ y. refl) (λ y. AreDouble plans y x) (λ y f. free no_store no_wish (DoubleChannel y x) (omega arith) (omega arith) (l, f)) l.holds.0 l.holds.1
 
-  pub unpaired_free : HasNoWildcard plans → IsFree plans 3 4 → HasNoUnpaired plans
-  unpaired_free known free =
-      unpaired_from plans known (none_holds 2 op_key (λ x. refl) (IsUnpaired plans) (λ x l. free no_store no_wish (Unpaired x) (omega arith) (omega arith) l))
-
   pub lengths_free : IsFree plans 4 5 → HasEqualLengths plans
   lengths_free free =
       lengths_from plans (λ m x d. none_holds 2 op_key (λ m. refl) (λ m. (x : OpId) × HaveOtherLengths plans m x) (λ m l. least m l) m (x, d))

@@ -12,25 +12,13 @@ use Rattle.goal_graph.specs.declared.plan.Kind.TheVariants.{Calc, Send, Recv}
 use Rattle.goal_graph.specs.declared.plan.Note.{Note}
 use Rattle.goal_graph.specs.declared.plan.Note.TheVariants.{Moves, Adds}
 use Rattle.goal_graph.specs.Schedule.{Plan, kind_at, op_at, ops_at}
-use Rattle.goal_graph.proofs.ForCallers.{contains_first, contains_more}
+use Rattle.goal_graph.proofs.ForCallers.{contains_first, contains_more, contains_source, contains_mapped}
 use Rattle.goal_blocks.specs.Certification.{NamesLowSlots}
 use Rattle.goal_blocks.specs.declared.slots.Adding.{Adding}
 use Rattle.goal_blocks.specs.Slots.{slots_from, notes_at, moved_by, added_by, slots, adds, written_in, touched_in, written, touched}
 use Rattle.goal_certify.specs.declared.races.touches.Touch.{Touch}
 use Rattle.goal_certify.specs.Before.{op_id}
 use Rattle.goal_certify.specs.Touches.{moved, touches_in, noted, touches_of, AreTouches}
-
--- members of mapped and joined lists
-in_map : {A B : Type 0} (f : A → B) (xs : List A) (y : B) → Contains (map f xs) y → (x : A) × Contains xs x × (f x ≡ y)
-in_map f [] y c = absurd (omega (arith, c.1))
-in_map f (x ∷ xs) y (zero, b, e) = (x, contains_first x xs x refl, e)
-in_map f (x ∷ xs) y (suc k, b, e) =
-    let r = in_map f xs y (k, omega (arith, b), e) in (r.0, contains_more x xs r.0 r.1, r.2)
-
-map_in : {A B : Type 0} (f : A → B) (xs : List A) (x : A) → Contains xs x → Contains (map f xs) (f x)
-map_in f [] x c = absurd (omega (arith, c.1))
-map_in f (y ∷ xs) x (zero, b, e) = contains_first (f y) (map f xs) (f x) (ap f e)
-map_in f (y ∷ xs) x (suc k, b, e) = contains_more (f y) (map f xs) (f x) (map_in f xs x (k, omega (arith, b), e))
 
 in_flat_map : {A B : Type 0} (f : A → List B) (xs : List A) (y : B) → Contains (flat_map f xs) y → (x : A) × Contains xs x × Contains (f x) y
 in_flat_map f [] y c = absurd (omega (arith, c.1))
@@ -156,10 +144,10 @@ module _ (plans : List Plan) (rank : ℕ) (p : Plan) (at : slice_get plans rank 
   sound : (n : Note) (q : Option Kind) (t : Touch) → Contains p.notes n → Contains (touches_in q n) t → (noted n ≡ t.op) × Fits q t
   unfolding moved
   sound (Moves op lo hi) (Some (Send bytes to tag)) t cn ct =
-      let m = in_map (λ (s : ℕ). record { op = op; slot = s; writes = false }) (slots_from lo (hi + 1 - lo)) t ct in
+      let m = contains_source (λ (s : ℕ). record { op = op; slot = s; writes = false }) (slots_from lo (hi + 1 - lo)) t ct in
       subst (λ (u : Touch). (op ≡ u.op) × Fits (Some (Send bytes to tag)) u) m.2 (refl, (moves_there op lo hi m.0 cn m.1, λ e. absurd (cc e)))
   sound (Moves op lo hi) (Some (Recv room from tag)) t cn ct =
-      let m = in_map (λ (s : ℕ). record { op = op; slot = s; writes = true }) (slots_from lo (hi + 1 - lo)) t ct in
+      let m = contains_source (λ (s : ℕ). record { op = op; slot = s; writes = true }) (slots_from lo (hi + 1 - lo)) t ct in
       subst (λ (u : Touch). (op ≡ u.op) × Fits (Some (Recv room from tag)) u) m.2 (refl, (moves_there op lo hi m.0 cn m.1, λ e. moves_there op lo hi m.0 cn m.1))
   sound (Moves op lo hi) (Some (Calc nanos)) t cn ct = absurd (omega (arith, ct.1))
   sound (Moves op lo hi) None t cn ct = absurd (omega (arith, ct.1))
@@ -168,7 +156,7 @@ module _ (plans : List Plan) (rank : ℕ) (p : Plan) (at : slice_get plans rank 
       subst (λ (u : Touch). (op ≡ u.op) × Fits (Some (Calc nanos)) u) e (refl, (flat_map_in (λ (a : Adding). a.from ∷ a.to ∷ []) (flat_map (added_by op) p.notes) a from (adds_there op from to cn) (contains_first from (to ∷ []) from refl), λ e. absurd (cc e)))
   sound (Adds op from to) (Some (Calc nanos)) t cn (suc zero, b, e) =
       let a : Adding = record { from = from; to = to } in
-      subst (λ (u : Touch). (op ≡ u.op) × Fits (Some (Calc nanos)) u) e (refl, (flat_map_in (λ (a : Adding). a.from ∷ a.to ∷ []) (flat_map (added_by op) p.notes) a to (adds_there op from to cn) (contains_more from (to ∷ []) to (contains_first to [] to refl)), λ e. map_in (λ (a : Adding). a.to) (flat_map (added_by op) p.notes) a (adds_there op from to cn)))
+      subst (λ (u : Touch). (op ≡ u.op) × Fits (Some (Calc nanos)) u) e (refl, (flat_map_in (λ (a : Adding). a.from ∷ a.to ∷ []) (flat_map (added_by op) p.notes) a to (adds_there op from to cn) (contains_more from (to ∷ []) to (contains_first to [] to refl)), λ e. contains_mapped (λ (a : Adding). a.to) (flat_map (added_by op) p.notes) a (adds_there op from to cn)))
   sound (Adds op from to) (Some (Calc nanos)) t cn (suc (suc k), b, e) = absurd (omega (arith, b))
   sound (Adds op from to) (Some (Send bytes target tag)) t cn ct = absurd (omega (arith, ct.1))
   sound (Adds op from to) (Some (Recv room source tag)) t cn ct = absurd (omega (arith, ct.1))
@@ -198,7 +186,7 @@ module _ (plans : List Plan) (rank : ℕ) (p : Plan) (at : slice_get plans rank 
         there : (lo hi : ℕ) → Contains p.notes (Moves k lo hi) → Contains (slots_from lo (hi + 1 - lo)) s → Found w
         there lo hi cn cs =
             let t : Touch = record { op = k; slot = s; writes = w } in
-            (t, in_all (Moves k lo hi) t cn (subst (λ (ts : List Touch). Contains ts t) (sym (ap (λ (r : Option Kind). touches_in r (Moves k lo hi)) is_kind ∙ shape lo hi)) (map_in (λ (s : ℕ). record { op = k; slot = s; writes = w }) (slots_from lo (hi + 1 - lo)) s cs)), refl, refl, refl)
+            (t, in_all (Moves k lo hi) t cn (subst (λ (ts : List Touch). Contains ts t) (sym (ap (λ (r : Option Kind). touches_in r (Moves k lo hi)) is_kind ∙ shape lo hi)) (contains_mapped (λ (s : ℕ). record { op = k; slot = s; writes = w }) (slots_from lo (hi + 1 - lo)) s cs)), refl, refl, refl)
 
         by_note : (n : Note) → Contains p.notes n → Contains (moved_by k n) s → Found w
         by_note (Moves of lo hi) cn cs = test (of == k) refl cs
@@ -262,7 +250,7 @@ module _ (plans : List Plan) (rank : ℕ) (p : Plan) (at : slice_get plans rank 
       go (Some (Send bytes to tag)) e c = absurd (omega (arith, c.1))
       go (Some (Recv room from tag)) e c = move_found k s (Some (Recv room from tag)) e true (λ lo hi. refl) c
       go (Some (Calc nanos)) e c =
-          let m = in_map (λ (a : Adding). a.to) (flat_map (added_by k) p.notes) s c in
+          let m = contains_source (λ (a : Adding). a.to) (flat_map (added_by k) p.notes) s c in
           let b = both k nanos e m.0 m.1 in
           (record { op = k; slot = m.0.to; writes = true }, b.1, refl, m.2, refl)
 
@@ -276,12 +264,12 @@ module _ (plans : List Plan) (rank : ℕ) (p : Plan) (at : slice_get plans rank 
   low : (n : Note) (q : Option Kind) (t : Touch) → NamesLowSlots n → Contains (touches_in q n) t → t.slot ≤ 65535
   unfolding moved
   low (Moves op lo hi) (Some (Send bytes to tag)) t l c =
-      let m = in_map (λ (s : ℕ). record { op = op; slot = s; writes = false }) (slots_from lo (hi + 1 - lo)) t c in
+      let m = contains_source (λ (s : ℕ). record { op = op; slot = s; writes = false }) (slots_from lo (hi + 1 - lo)) t c in
       let h : m.0 < lo + (hi + 1 - lo) = slots_high lo (hi + 1 - lo) m.0 m.1 in
       let f : m.0 ≡ t.slot = ap (λ (u : Touch). u.slot) m.2 in
       omega (arith, h, f, l.0, l.1)
   low (Moves op lo hi) (Some (Recv room from tag)) t l c =
-      let m = in_map (λ (s : ℕ). record { op = op; slot = s; writes = true }) (slots_from lo (hi + 1 - lo)) t c in
+      let m = contains_source (λ (s : ℕ). record { op = op; slot = s; writes = true }) (slots_from lo (hi + 1 - lo)) t c in
       let h : m.0 < lo + (hi + 1 - lo) = slots_high lo (hi + 1 - lo) m.0 m.1 in
       let f : m.0 ≡ t.slot = ap (λ (u : Touch). u.slot) m.2 in
       omega (arith, h, f, l.0, l.1)

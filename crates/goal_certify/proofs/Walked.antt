@@ -11,32 +11,16 @@ use Rattle.goal_graph.specs.Matching.{Pair, partner, new_pair, add_pair, pairs}
 use Rattle.goal_graph.specs.Fault.{IsOp}
 use Rattle.goal_graph.specs.Interleaving.{IsInterleaving}
 use Rattle.goal_graph.specs.Laws.{IsSend, IsReceive}
-use Rattle.goal_graph.proofs.ForCallers.{cases_op, happened_new, happened_other, is_act_from, same_op_true, same_op_from, not_send_receive, fits_receive, fits_send, new_pair_is, pairs_same, partner_other, IsListed, listed_partners, send_is_op, receive_is_op}
+use Rattle.goal_graph.proofs.ForCallers.{cases_op, happened_new, happened_other, is_act_from, same_op_true, same_op_from, not_send_receive, fits_receive, fits_send, new_pair_is, pairs_same, partner_other, IsListed, listed_partners, send_is_op, receive_is_op, same_tables, at_entry, off_entry, entry_written, same_op_swapped}
 use Rattle.goal_blocks.specs.Walk.{no_send}
 use Rattle.sim_match.specs.PostsAndArrivals.{is_post_or_arrival}
 use Rattle.sim_match.proofs.ForCallers.{send_for_filtered, receive_for_filtered}
 use Rattle.goal_certify.specs.declared.walk.entry.Entry.{Entry}
 use Rattle.goal_certify.specs.Walked.{with_class, with_entry, with_pairing, with_partner, met, entry_known}
-use Rattle.goal_certify.proofs.Tables.{same_tables}
-
-swapped : (x y : OpId) → same_op x y ≡ false → same_op y x ≡ false
-swapped x y d =
-    false_from_ne_true _ (λ t. both_ways _ d (same_op_from x y (sym (same_op_true y x t))))
-
--- the entry that is written, and the others
-at_entry : (y : OpId) (e : Entry) (f : OpId → Entry) (x : OpId) → x ≡ y → with_entry y e f x ≡ e
-at_entry y e f x s = cond-true _ _ _ (same_op_from x y s)
-
-off_entry : (y : OpId) (e : Entry) (f : OpId → Entry) (x : OpId) → same_op x y ≡ false → with_entry y e f x ≡ f x
-off_entry y e f x d = cond-false _ _ _ d
-
-written : (y : OpId) (e : Entry) (f g : OpId → Entry) → g y ≡ e → ((x : OpId) → same_op y x ≡ false → g x ≡ f x) → (x : OpId) → with_entry y e f x ≡ g x
-written y e f g now others x =
-    elim (cases_op x y) [ inl s ↦ at_entry y e f x s ∙ sym now ∙ ap g (sym s) | inr d ↦ off_entry y e f x d ∙ sym (others x (swapped x y d)) ]
 
 -- an entry is written, and two entries get their partners
 pair_written : (y m : OpId) (e : Entry) (f g : OpId → Entry) → same_op y m ≡ false → g y ≡ record e { paired = Some m } → g m ≡ record (f m) { paired = Some y } → ((x : OpId) → same_op y x ≡ false → same_op m x ≡ false → g x ≡ f x) → (x : OpId) → with_pairing m y (with_pairing y m (with_entry y e f)) x ≡ g x
-pair_written y m e f g differ here there others = written m _ first g second rest
+pair_written y m e f g differ here there others = entry_written m _ first g second rest
   where
     base : OpId → Entry
     base = with_entry y e f
@@ -46,11 +30,11 @@ pair_written y m e f g differ here there others = written m _ first g second res
 
     second : g m ≡ record (first m) { paired = Some y }
     second =
-        there ∙ ap (λ (d : Entry). record d { paired = Some y }) (sym (off_entry y _ base m (swapped y m differ) ∙ off_entry y e f m (swapped y m differ)))
+        there ∙ ap (λ (d : Entry). record d { paired = Some y }) (sym (off_entry y _ base m (same_op_swapped y m differ) ∙ off_entry y e f m (same_op_swapped y m differ)))
 
     rest : (x : OpId) → same_op m x ≡ false → g x ≡ first x
     rest x d =
-        elim (cases_op x y) [ inl s ↦ ap g s ∙ here ∙ ap (λ (d : Entry). record d { paired = Some m }) (sym (at_entry y e f y refl)) ∙ sym (at_entry y _ base x s) | inr o ↦ others x (swapped x y o) d ∙ sym (off_entry y _ base x o ∙ off_entry y e f x o) ]
+        elim (cases_op x y) [ inl s ↦ ap g s ∙ here ∙ ap (λ (d : Entry). record d { paired = Some m }) (sym (at_entry y e f y refl)) ∙ sym (at_entry y _ base x s) | inr o ↦ others x (same_op_swapped x y o) d ∙ sym (off_entry y _ base x o ∙ off_entry y e f x o) ]
 
 -- what is known of the partner is what was known
 same_paired : (c : Class) (e : Entry) → record (with_class c e) { paired = e.paired } ≡ with_class c e
@@ -104,7 +88,7 @@ module _ (plans : List Plan) (h : List Act) (a : Act) where
     receive_met p e =
         let met = send_met p e in
         record {
-          apart = swapped p.send p.recv met.apart;
+          apart = same_op_swapped p.send p.recv met.apart;
           exists = send_is_op plans p.send (fits_send plans p.recv p.send (new_pair_is plans a h p e).met.fit);
           this = met.that;
           that = met.this;
@@ -191,7 +175,7 @@ module _ (plans : List Plan) (h : List Act) (a : Act) where
   -- the entries after the action
   pub written_known : (o : Option OpId) → AfterMet o → (x : OpId) → with_partner a.op o (with_entry a.op (with_class a.class (before a.op)) before) x ≡ after x
   written_known None same x =
-      written a.op _ before after (this_entry _ (same a.op) ∙ same_paired a.class (before a.op)) (λ y d. other_entry y _ d (same y)) x
+      entry_written a.op _ before after (this_entry _ (same a.op) ∙ same_paired a.class (before a.op)) (λ y d. other_entry y _ d (same y)) x
   written_known (Some m) is x =
       pair_written a.op m _ before after is.apart (this_entry (Some m) is.this) (other_entry m (Some a.op) is.apart is.that) (λ y d f. other_entry y _ d (is.others y d f)) x
 

@@ -1,13 +1,13 @@
 -- Which operations may act next, in a queue by their places in the order of all, and how far their needs have been
 -- looked at.
-use Rattle.std.specs.Prelude.{ℕ, ◌≡◌, ◌≤◌, ◌⊎◌, Bool, true, false, List, length, take, Option, Some, None, Contains, slice_get, slice_set}
+use Rattle.std.specs.Prelude.{ℕ, ◌≡◌, ◌≤◌, ◌⊎◌, Bool, true, false, List, length, take, Option, Some, None, slice_get, slice_set}
 use Rattle.std.specs.List.{list_all}
 use Rattle.goal_graph.specs.declared.action.OpId.{OpId}
 use Rattle.goal_graph.specs.declared.action.Class.{Class}
 use Rattle.goal_graph.specs.declared.plan.Need.{Need}
-use Rattle.goal_graph.specs.Schedule.{Plan, needs, needed, waiting_on, operations}
+use Rattle.goal_graph.specs.Schedule.{Plan, needs, needed, operations}
 use Rattle.goal_graph.specs.Action.{Act}
-use Rattle.goal_graph.specs.Matching.{pairs, partner}
+pub use Rattle.goal_graph.specs.Concerned.{IsNamedIn, Waits, IsConcerned}
 use Rattle.goal_graph.specs.Allowed.{is_met, allowed}
 use Rattle.goal_blocks.specs.Walk.{no_send, TakesFirst}
 use Rattle.sim_order.specs.declared.order.Counted.{Counted}
@@ -20,17 +20,7 @@ Place = Counted ℕ
 abbrev pub place_key : ℕ → Place
 place_key slot = record { 0 = slot }
 
--- y is named in a list of needs of x's rank
-pub record IsNamedIn (needs : List Need) (x y : OpId) : Type 0 where
-  pub need : Need
-  pub listed : Contains needs need
-  pub named : y ≡ needed x need
-
 module _ (plans : List Plan) where
-  -- y needs x
-  abbrev pub Waits : OpId → OpId → Type 0
-  Waits x y = IsNamedIn (waiting_on plans x) x y
-
   module _ (h : List Act) where
     abbrev pub may_act : Class → OpId → Bool
     may_act class x = allowed plans no_send h class x
@@ -65,10 +55,6 @@ module _ (plans : List Plan) where
       pub key : Option Place
       pub bound : IsKeyOf slot x key
       pub put : new ≡ slice_set old slot key
-
-    -- an action of x may let one of y happen: y is x, or its partner, or needs it
-    abbrev pub IsConcerned : OpId → OpId → Type 0
-    IsConcerned x y = (y ≡ x) ⊎ ((partner (pairs plans h) x ≡ Some y) ⊎ Waits x y)
 
     -- whether the moment that x waits for by this need is there
     abbrev pub is_there : OpId → Need → Bool

@@ -4,7 +4,8 @@ use Rattle.goal_graph.specs.declared.action.OpId.{OpId}
 use Rattle.goal_graph.specs.declared.action.Class.{Class}
 use Rattle.goal_graph.specs.declared.action.Class.TheVariants.{Arrive, Serve, Data, Post, Begin}
 use Rattle.goal_graph.specs.Schedule.{Plan, operations}
-use Rattle.goal_graph.specs.Action.{Act, same_op, happened}
+use Rattle.goal_graph.specs.Action.{Act, happened}
+pub use Rattle.goal_graph.specs.Entries.{with_entry}
 use Rattle.goal_graph.specs.Matching.{pairs, partner}
 use Rattle.goal_graph.specs.Fault.{IsAccepted}
 use Rattle.goal_graph.specs.Interleaving.{IsInterleaving}
@@ -48,10 +49,6 @@ with_class Serve e = record e { served = true }
 with_class Data e = record e { sent = true }
 with_class Post e = record e { posted = true }
 with_class Begin e = record e { begun = true }
-
--- the entry of y is this one, and the others are those of f
-abbrev pub with_entry : OpId → Entry → (OpId → Entry) → OpId → Entry
-with_entry y entry f x = if same_op x y then entry else f x
 
 -- the entry of y says that it is paired with m, and the others are those of f
 abbrev pub with_pairing : OpId → OpId → (OpId → Entry) → OpId → Entry

@@ -12,7 +12,7 @@ use Rattle.goal_graph.specs.declared.plan.Op.{Op}
 use Rattle.goal_graph.specs.declared.plan.Dep.{Dep}
 use Rattle.goal_graph.specs.Schedule.{Plan}
 use Rattle.goal_graph.specs.Fault.{value_fits, has_peer, is_rank, dep_in_range, op_fault, dep_fault, first_fault, rank_fault, count_fault, count_over, op_count, dep_count, note_count, plain_fault, IsAccepted}
-use Rattle.goal_graph.proofs.ForCallers.{dep_in_range-parts}
+use Rattle.goal_graph.proofs.ForCallers.{dep_in_range-parts, not_over}
 use Rattle.goal_blocks.proofs.ForCallers.{first_fault-of_none, lower_have_depths}
 use Rattle.goal_collectives.specs.declared.draws.Round.{Round}
 use Rattle.goal_collectives.specs.declared.probe.TheConstants.{MAX_ROUNDS}
@@ -231,9 +231,6 @@ probed_notes (suc n) seed =
     let x = round_from (state_before seed n) in
     omega (arith, probed_notes n seed, round_sum (λ (p : Plan). length p.notes) 0 0 n x (probed n seed) (work_notes n x) (receive_notes n x))
 
-not_over : (limit found : ℕ) → found ≤ limit → count_over limit found ≡ None
-not_over limit found h = grind (arith, nat_tests)
-
 rank_sound : (n : ℕ) (p : Plan) → IsSound p → rank_fault 64 n p ≡ None
 unfolding rank_fault first_fault
 rank_sound n p sound =
@@ -302,11 +299,6 @@ small_at s x e = subst IsSmall (sym e) (small_round s)
 
 pub few_at : (n seed : ℕ) (ps : List Plan) → n ≤ MAX_ROUNDS → ps ≡ probed n seed → All (λ (p : Plan). length p.ops < 2 ^ 31) ps
 few_at n seed ps few e = rw e (few_enough n seed few)
-
--- plans that are written back whole
-pub written_back : (len : ℕ) (old new : List Plan) → length old ≡ len → length new ≡ len → take len (new ++ drop (length new) old) ≡ new
-written_back len old new a b =
-    rw (drop_all (length new) old (omega arith), append-nil new, sym b) (take_all (length new) new (omega arith))
 
 pub round_ranks : (i : ℕ) (x : Round) (ps : List Plan) → length (with_round i x ps) ≡ length ps
 round_ranks i x ps =

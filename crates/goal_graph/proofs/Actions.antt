@@ -1,5 +1,5 @@
 -- When two operations or actions are equal, and what has happened after one more action.
-use Rattle.std.proofs.Common.{◌≡◌, ℕ, zero, suc, true, false, ◌⊎◌, inl, inr, List, [], ◌∷◌, refl, sym, ap, ◌∙◌, subst}
+use Rattle.std.proofs.Common.{◌≡◌, ℕ, zero, suc, Bool, true, false, ◌⊎◌, inl, inr, List, [], ◌∷◌, refl, sym, ap, ◌∙◌, subst}
 use Rattle.std.proofs.lemmas.Bool.{and_parts, and_from, or_cases, or_left, or_right, eqb-true, cases_Bool, both_ways, false_from_ne_true}
 use Rattle.std.proofs.Common.{eq-eqb}
 use Rattle.goal_graph.specs.declared.action.OpId.{OpId}
@@ -24,6 +24,10 @@ same_op_itself x = and_from _ _ (eq-eqb x.rank x.rank refl) (eq-eqb x.op x.op re
 pub same_op_from : (x y : OpId) → x ≡ y → same_op x y ≡ true
 same_op_from x y e = subst (λ (z : OpId). same_op x z ≡ true) e (same_op_itself x)
 
+pub same_op_swapped : (x y : OpId) → same_op x y ≡ false → same_op y x ≡ false
+same_op_swapped x y d =
+    false_from_ne_true _ (λ t. both_ways _ d (same_op_from x y (sym (same_op_true y x t))))
+
 pub same_op_false : (x y : OpId) → same_op x y ≡ false → x ≡ y → ⊥
 same_op_false x y h e = both_ways _ h (same_op_from x y e)
 
@@ -47,6 +51,18 @@ class_at-place Begin = refl
 
 pub place_same : (c d : Class) → place c ≡ place d → c ≡ d
 place_same c d e = sym (class_at-place c) ∙ ap class_at e ∙ class_at-place d
+
+-- a class that passes a test, or none
+all_classes : (test : Class → Bool) → test Arrive ≡ false → test Serve ≡ false → test Data ≡ false → test Post ≡ false → test Begin ≡ false → (c : Class) → test c ≡ false
+all_classes test a s d p b Arrive = a
+all_classes test a s d p b Serve = s
+all_classes test a s d p b Data = d
+all_classes test a s d p b Post = p
+all_classes test a s d p b Begin = b
+
+pub find_class : (test : Class → Bool) → ((c : Class) × (test c ≡ true)) ⊎ ((c : Class) → test c ≡ false)
+find_class test =
+    elim (cases_Bool (test Arrive)) [ inl t ↦ inl (Arrive, t) | inr a ↦ elim (cases_Bool (test Serve)) [ inl t ↦ inl (Serve, t) | inr s ↦ elim (cases_Bool (test Data)) [ inl t ↦ inl (Data, t) | inr d ↦ elim (cases_Bool (test Post)) [ inl t ↦ inl (Post, t) | inr p ↦ elim (cases_Bool (test Begin)) [ inl t ↦ inl (Begin, t) | inr b ↦ inr (all_classes test a s d p b) ] ] ] ] ]
 
 pub is_act_class : (c : Class) (x : OpId) (a : Act) → is_act c x a ≡ true → a.class ≡ c
 is_act_class c x a h = place_same a.class c (eqb-true (place a.class) (place c) (and_parts _ _ h).0)

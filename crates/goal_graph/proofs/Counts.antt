@@ -8,7 +8,8 @@ use Rattle.goal_graph.specs.declared.rows.Listing.{Listing}
 use Rattle.goal_graph.specs.declared.rows.Listing.TheVariants.{Needs, WaitingOn}
 use Rattle.goal_graph.specs.Rows.{owner, entry, row}
 use Rattle.goal_graph.specs.Search.{is_among, unfinished, count_of}
-use Rattle.goal_graph.proofs.Numbers.{ne-eqb, or_false}
+use Rattle.goal_graph.proofs.Numbers.{ne-eqb}
+use Rattle.std.proofs.Math.Bool.{or-false}
 
 pub is_among-append : (xs ys : List ℕ) (op : ℕ) → is_among (xs ++ ys) op ≡ (is_among xs op || is_among ys op)
 unfolding is_among
@@ -22,7 +23,7 @@ is_among-append (x ∷ xs) ys op = go (eqb x op) (is_among-append xs ys op)
 -- one more at the end
 pub is_among-push : (xs : List ℕ) (x op : ℕ) → is_among (xs ++ x ∷ []) op ≡ (is_among xs op || eqb x op)
 unfolding is_among
-is_among-push xs x op = is_among-append xs (x ∷ []) op ∙ ap (λ b. is_among xs op || b) (or_false (eqb x op))
+is_among-push xs x op = is_among-append xs (x ∷ []) op ∙ ap (λ b. is_among xs op || b) (or-false (eqb x op))
 
 pub count_of-push : (ds : List Need) (d : Need) (op : ℕ) → count_of (ds ++ d ∷ []) op ≡ count_of ds op + (if eqb d.op op then 1 else 0)
 unfolding count_of
@@ -39,7 +40,7 @@ unfinished-push done e (d ∷ ds) fresh = go (cases_eq d.op e) (unfinished-push 
         → (if is_among (done ++ e ∷ []) d.op then 0 else 1) + unfinished (done ++ e ∷ []) ds + ((if eqb d.op e then 1 else 0) + count_of ds e) ≡ (if is_among done d.op then 0 else 1) + unfinished done ds
     go (inl same) rest = rw (is_among-push done e d.op, same, fresh, eq-eqb e e refl) (omega arith)
     go (inr other) rest =
-        rw (is_among-push done e d.op, ne-eqb d.op e other, ne-eqb e d.op (λ h. other (sym h)), or_false (is_among done d.op)) (omega arith)
+        rw (is_among-push done e d.op, ne-eqb d.op e other, ne-eqb e d.op (λ h. other (sym h)), or-false (is_among done d.op)) (omega arith)
 
 -- no operation is finished
 pub unfinished-nil : (ds : List Need) → unfinished [] ds ≡ length ds

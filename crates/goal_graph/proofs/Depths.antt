@@ -1,13 +1,14 @@
 -- Depths of operations.
 use Rattle.std.proofs.Common.{◌≡◌, ℕ, zero, suc, ◌+◌, ◌-◌, ◌<◌, ◌≤◌, ◌&&◌, ltb, Bool, true, false, List, [], ◌∷◌, refl, arith, zero-add}
 use Rattle.std.specs.List.{list_all}
-use Rattle.std.proofs.lemmas.Bool.{false≢true}
+use Rattle.std.proofs.lemmas.Bool.{false≢true, ltb-true}
 use Rattle.goal_graph.specs.declared.action.OpId.{OpId}
 use Rattle.goal_graph.specs.declared.plan.Need.{Need}
 use Rattle.goal_graph.specs.Schedule.{Plan, needs, needed}
 use Rattle.goal_graph.specs.Fault.{is_below, HasDepth}
 use Rattle.goal_graph.specs.Search.{op_id, is_among, unfinished}
-use Rattle.goal_graph.proofs.Numbers.{and_left, and_right, and_false, below_from_test}
+use Rattle.goal_graph.proofs.Numbers.{and_left, and_right}
+use Rattle.std.proofs.Math.Bool.{and-false}
 
 -- a weaker test passes where a stronger one does
 pub list_all-mono : {A : Type 0} (p q : A → Bool) → ((x : A) → p x ≡ true → q x ≡ true) → (xs : List A) → list_all p xs ≡ true → list_all q xs ≡ true
@@ -69,8 +70,8 @@ module _ (plans : List Plan) where
       blocked_list b stuck (d ∷ ds) in_range some = go (is_among done d.op) refl (blocked_list b stuck ds (and_right _ _ in_range))
         where
           go : (c : Bool) → is_among done d.op ≡ c → (0 < unfinished done ds → list_all (λ (d : Need). is_below plans b (op_id rank d.op)) ds ≡ false) → (is_below plans b (op_id rank d.op) && list_all (λ (d : Need). is_below plans b (op_id rank d.op)) ds) ≡ false
-          go true here rest = rw (rest (omega (arith, rw here at some))) (and_false (is_below plans b (op_id rank d.op)))
-          go false absent rest = rw (stuck d.op (below_from_test _ _ (and_left _ _ in_range)) absent) refl
+          go true here rest = rw (rest (omega (arith, rw here at some))) (and-false (is_below plans b (op_id rank d.op)))
+          go false absent rest = rw (stuck d.op (ltb-true _ _ (and_left _ _ in_range)) absent) refl
 
       -- operations that each need another one of them have no depth
       pub blocked : ((op : ℕ) → op < ops → is_among done op ≡ false → 0 < unfinished done (needs plans (op_id rank op))) → ((op : ℕ) → list_all (λ (d : Need). ltb d.op ops) (needs plans (op_id rank op)) ≡ true) → (b op : ℕ) → op < ops → is_among done op ≡ false → is_below plans b (op_id rank op) ≡ false

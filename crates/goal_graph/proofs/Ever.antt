@@ -25,10 +25,6 @@ module _ (plans : List Plan) (eager : OpId → Bool) where
   ever c x P stays at (a ∷ h) i e =
       elim (happened_cases c x a h e) [ inl was ↦ stays a h (ever c x P stays at h i.0 was) | inr now ↦ stays a h (at h i.0 (newest_allowed c x a h i now)) ]
 
-  pub arrived_send : (h : List Act) (m : OpId) → IsInterleaving plans eager h → happened Arrive m h ≡ true → IsSend plans m
-  arrived_send h m =
-      ever Arrive m (λ h. IsSend plans m) (λ a h p. p) (λ h i e. (allowed_arrive plans eager h m e).0) h
-
   pub arrived_begun : (h : List Act) (m : OpId) → IsInterleaving plans eager h → happened Arrive m h ≡ true → happened Begin m h ≡ true
   arrived_begun h m =
       ever Arrive m (λ h. happened Begin m h ≡ true) (λ a h p. happened_stays Begin m a h p) (λ h i e. (allowed_arrive plans eager h m e).1) h
@@ -49,10 +45,6 @@ module _ (plans : List Plan) (eager : OpId → Bool) where
   pub served_message : (h : List Act) (x : OpId) → IsInterleaving plans eager h → happened Serve x h ≡ true → is_served plans eager h (partner (pairs plans h) x) ≡ true
   served_message h x =
       ever Serve x (λ h. is_served plans eager h (partner (pairs plans h) x) ≡ true) (λ a h p. served_stays plans eager a h x p) (λ h i e. (allowed_serve plans eager h x e).1) h
-
-  pub posted_receive : (h : List Act) (x : OpId) → IsInterleaving plans eager h → happened Post x h ≡ true → IsReceive plans x
-  posted_receive h x =
-      ever Post x (λ h. IsReceive plans x) (λ a h p. p) (λ h i e. (allowed_post plans eager h x e).0) h
 
   pub posted_ready : (h : List Act) (x : OpId) → IsInterleaving plans eager h → happened Post x h ≡ true → is_ready plans eager h x ≡ true
   posted_ready h x =

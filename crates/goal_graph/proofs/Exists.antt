@@ -18,6 +18,7 @@ use Rattle.goal_graph.specs.Order.{IsBefore}
 use Rattle.goal_graph.proofs.Persist.{is_some_from, cases_some}
 use Rattle.goal_graph.proofs.Lists.{contains_first, contains_more}
 use Rattle.goal_graph.proofs.Rules.{allowed_may}
+use Rattle.goal_graph.proofs.Places.{length-places_of_rank}
 
 abbrev pub at : ℕ → ℕ → OpId
 at rank op = record { rank = rank; op = op }
@@ -134,7 +135,7 @@ listed_op plans x c =
       is = op_from_parts plans x place.plan place.op (ap (slice_get plans) rank ∙ place.is_plan) place.is_op;
     }
 
-at_kind : (plans : List Plan) (x : OpId) (o : Op) → op_at plans x ≡ Some o → kind_at plans x ≡ Some o.kind
+pub at_kind : (plans : List Plan) (x : OpId) (o : Op) → op_at plans x ≡ Some o → kind_at plans x ≡ Some o.kind
 unfolding kind_at
 at_kind plans x o e = ap (option_map (λ (o : Op). o.kind)) e
 
@@ -173,11 +174,6 @@ earlier_differ x y (inr l) e = omega (arith, l.1, ap (λ (z : OpId). z.op) e)
 pub operations_differ : (plans : List Plan) → AllPairs (λ (x y : OpId). x ≢ y) (operations plans)
 operations_differ plans i j d l b =
     earlier_differ _ _ (operations_in_order plans i j d l b)
-
-length-places_of_rank : (rank first : ℕ) (os : List Op) → length (places_of_rank rank first os) ≡ length os
-unfolding places_of_rank
-length-places_of_rank rank first [] = refl
-length-places_of_rank rank first (o ∷ os) = ap suc (length-places_of_rank rank (first + 1) os)
 
 length-places_from : (base : ℕ) (plans : List Plan) → length (places_from base plans) ≡ sum_by (λ (p : Plan). length p.ops) plans
 unfolding places_from

@@ -8,10 +8,10 @@ use Rattle.goal_graph.specs.declared.fault.PlanFault.TheVariants.{Cycle}
 use Rattle.goal_graph.specs.declared.plan.Need.{Need}
 use Rattle.goal_graph.specs.Schedule.{Plan, needs, waiting_on, needed}
 use Rattle.goal_graph.specs.Fault.{plain_fault, IsOp, IsFirstCycle, IsFault, IsAccepted}
-use Rattle.goal_graph.proofs.Numbers.{below_from_test}
 use Rattle.goal_graph.proofs.Order.{before_cases}
 use Rattle.goal_graph.proofs.Places.{no_plan, IsOp-located, IsOp-below}
 use Rattle.goal_graph.proofs.Ranges.{needs-in_range, waiting_on-in_range}
+use Rattle.std.proofs.lemmas.Bool.{ltb-true}
 
 -- there is one first operation without a depth
 pub IsFirstCycle-unique : (plans : List Plan) (x y : OpId) → IsFirstCycle plans x → IsFirstCycle plans y → x ≡ y
@@ -41,7 +41,7 @@ IsAccepted-no_fault plans f accepted (inr a) = a.1.first.cyclic (accepted.depths
 pub needs-exist : (plans : List Plan) (x : OpId) → plain_fault plans ≡ None → IsOp plans x → All (λ (d : Need). IsOp plans (needed x d)) (needs plans x)
 needs-exist plans x plain is_op k d inside =
     let located = IsOp-located plans x is_op in
-    let below = below_from_test _ _ (AllPass-from_list_all (λ (w : Need). ltb w.op (length (get_or plans x.rank no_plan).ops)) (needs plans x) (needs-in_range plans plain x.rank located.rank_in x.op) k d inside) in
+    let below = ltb-true _ _ (AllPass-from_list_all (λ (w : Need). ltb w.op (length (get_or plans x.rank no_plan).ops)) (needs plans x) (needs-in_range plans plain x.rank located.rank_in x.op) k d inside) in
     IsOp-below plans (needed x (get_or (needs plans x) k d)) located.rank_in below
 
 pub waiting_on-exist : (plans : List Plan) (x : OpId) → plain_fault plans ≡ None → IsOp plans x → All (λ (d : Need). IsOp plans (needed x d)) (waiting_on plans x)

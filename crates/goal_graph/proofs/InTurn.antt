@@ -5,15 +5,12 @@ use Rattle.std.proofs.lemmas.List.{take-append-le, reverse-reverse}
 use Rattle.std.proofs.lemmas.Option.{slice_get_within, same_Some}
 use Rattle.std.proofs.Math.Seq.{take-append_seam}
 use mathlib.Core.List.{reverse-cons}
+use Rattle.goal_graph.proofs.Lists.{get_last}
 
 slice_get_kept : {A : Type 0} (xs : List A) (y : A) (k : ℕ) → k < length xs → slice_get (xs ++ y ∷ []) k ≡ slice_get xs k
 slice_get_kept [] y k lt = absurd (omega arith)
 slice_get_kept (x ∷ xs) y zero lt = refl
 slice_get_kept (x ∷ xs) y (suc k) lt = slice_get_kept xs y k (omega arith)
-
-slice_get_last : {A : Type 0} (xs : List A) (y : A) → slice_get (xs ++ y ∷ []) (length xs) ≡ Some y
-slice_get_last [] y = refl
-slice_get_last (x ∷ xs) y = slice_get_last xs y
 
 -- `Next h a`: a may stand after h, of which the newest comes first
 module _ {A : Type 0} (Next : List A → A → Type 0) where
@@ -32,7 +29,7 @@ module _ {A : Type 0} (Next : List A → A → Type 0) where
 
       at_end : k ≡ length t → Next (reverse (take k (t ++ a ∷ []))) b
       at_end s =
-          let same : a ≡ b = same_Some a b (sym (slice_get_last t a) ∙ ap (slice_get (t ++ a ∷ [])) (sym s) ∙ e) in
+          let same : a ≡ b = same_Some a b (sym (get_last t a) ∙ ap (slice_get (t ++ a ∷ [])) (sym s) ∙ e) in
           let front : take k (t ++ a ∷ []) ≡ t = ap (λ n. take n (t ++ a ∷ [])) s ∙ take-append_seam t (a ∷ []) in
           subst (λ l. Next (reverse l) b) (sym front) (subst (λ c. Next (reverse t) c) same next)
 
@@ -49,7 +46,7 @@ module _ {A : Type 0} (Next : List A → A → Type 0) where
 
       last : Next (reverse t) a
       last =
-          subst (λ l. Next (reverse l) a) (take-append_seam t (a ∷ [])) (each (length t) a (slice_get_last t a))
+          subst (λ l. Next (reverse l) a) (take-append_seam t (a ∷ [])) (each (length t) a (get_last t a))
 
   -- `Run h`: each of h might stand after those before it
   module _ (Run : List A → Type 0) (none : Run []) (more : (a : A) (h : List A) → Run h → Next h a → Run (a ∷ h)) (parts : (a : A) (h : List A) → Run (a ∷ h) → Run h × Next h a) where

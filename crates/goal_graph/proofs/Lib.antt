@@ -32,4 +32,7 @@ pub mod Order
 pub mod OfKind
 pub mod InTurn
 pub mod NoLimits
+pub mod Newly
+pub mod Entries
+pub mod Choices
 pub mod ForCallers

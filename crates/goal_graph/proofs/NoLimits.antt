@@ -61,7 +61,7 @@ module _ (ranks rank : ℕ) where
       (among_any (dep_fault (length p.ops) rank) (λ dep d. told_unless (dep_in_range (length p.ops) d) (plan.DepRange rank dep) (λ limit. limit)) 0 p.deps)
       (among_any (note_fault p.ops rank) (λ note n. told_unless (note_fits p.ops n) (plan.NoteMisfit rank note) (λ limit. limit)) 0 p.notes))
 
-not_over : (limit found : ℕ) → found ≤ limit → count_over limit found ≡ None
+pub not_over : (limit found : ℕ) → found ≤ limit → count_over limit found ≡ None
 not_over limit found le = ap (λ (b : Bool). cond b (Some (plan.Count found limit)) None) (le-ltb limit found le)
 
 some-eqb : (n : ℕ) → 0 < n → eqb n 0 ≡ false

@@ -1,17 +1,17 @@
--- A send and a receive are operations.
-use Rattle.std.proofs.Common.{◌≡◌, ℕ, ◌≤◌, IsTrue, leb-true, List, Option, Some, None, refl, ap, sym, ◌∙◌}
-use Rattle.std.proofs.lemmas.Option.{same_Some}
-use Rattle.std.specs.Option.{option_map}
+-- The operation at a place, by its number or by its kind.
+use Rattle.std.proofs.Common.{◌≡◌, ℕ, ◌<◌, ◌≤◌, IsTrue, true, leb-true, List, [], ◌∷◌, length, slice_get, Option, Some, None, is_some, unwrap_or, refl, ap, sym, ◌∙◌, arith}
+use Rattle.std.proofs.lemmas.Option.{same_Some, slice_get-get_or}
+use Rattle.std.specs.Option.{option_map, option_and_then}
 use Rattle.goal_graph.specs.declared.action.OpId.{OpId}
 use Rattle.goal_graph.specs.declared.plan.Op.{Op}
 use Rattle.goal_graph.specs.declared.plan.Kind.{Kind}
-use Rattle.goal_graph.specs.Schedule.{Plan, op_at, kind_at}
+use Rattle.goal_graph.specs.Schedule.{Plan, op_at, ops_at, kind_at}
 use Rattle.goal_base.specs.declared.limits.TheConstants.{MAX_BYTES}
 use Rattle.goal_graph.specs.declared.plan.Kind.TheVariants.{Send}
 use Rattle.goal_graph.specs.Fault.{IsOp, value_fits}
 use Rattle.goal_graph.specs.Laws.{IsSend, IsReceive}
 
-op_of_kind : (plans : List Plan) (x : OpId) (k : Kind) → kind_at plans x ≡ Some k → IsOp plans x
+pub op_of_kind : (plans : List Plan) (x : OpId) (k : Kind) → kind_at plans x ≡ Some k → IsOp plans x
 unfolding kind_at
 op_of_kind plans x k e = go (op_at plans x) refl e
   where
@@ -24,6 +24,19 @@ send_is_op plans x s = op_of_kind plans x _ s.kind
 
 pub receive_is_op : (plans : List Plan) (x : OpId) → IsReceive plans x → IsOp plans x
 receive_is_op plans x r = op_of_kind plans x _ r.kind
+
+-- an operation is one whose number is below that of all of its rank
+pub is_op_below : (plans : List Plan) (x : OpId) → x.op < length (ops_at plans x.rank) → IsOp plans x
+unfolding op_at ops_at
+is_op_below plans x inside = go (slice_get plans x.rank) inside
+  where
+    go : (q : Option Plan) → x.op < length (unwrap_or (option_map (λ (p : Plan). p.ops) q) []) → is_some (option_and_then (λ (p : Plan). slice_get p.ops x.op) q) ≡ true
+    go None h = absurd (omega arith)
+    go (Some p) h = some p.ops x.op h
+      where
+        some : (os : List Op) (k : ℕ) → k < length os → is_some (slice_get os k) ≡ true
+        some [] k h = absurd (omega arith)
+        some (o ∷ os) k h = ap is_some (slice_get-get_or (o ∷ os) k o h)
 
 -- the kind of the operation at a place
 pub kind_from_op : (plans : List Plan) (x : OpId) (o : Op) (k : Kind) → op_at plans x ≡ Some o → o.kind ≡ k → kind_at plans x ≡ Some k

@@ -57,7 +57,7 @@ count_fault-none plans h =
     ranks_over n h = grind (arith, nat_tests)
 
 -- a test that would have told a fault has passed
-passed : (b : Bool) (fault : PlanFault) → (if b then None else Some fault) ≡ None → b ≡ true
+pub passed : (b : Bool) (fault : PlanFault) → (if b then None else Some fault) ≡ None → b ≡ true
 passed true fault h = refl
 passed false fault h = absurd (cc)
 

@@ -11,9 +11,10 @@ use Rattle.goal_graph.specs.declared.rows.Listing.TheVariants.{Needs, WaitingOn}
 use Rattle.goal_graph.specs.Schedule.{Plan, needs, waiting_on, deps_at}
 use Rattle.goal_graph.specs.Fault.{dep_in_range, dep_count, plain_fault}
 use Rattle.goal_graph.specs.Rows.{owner, entry, row}
-use Rattle.goal_graph.proofs.Numbers.{and_left, and_right, below_from_test}
+use Rattle.goal_graph.proofs.Numbers.{and_left, and_right}
 use Rattle.goal_graph.proofs.Plain.{plain-dep}
 use Rattle.goal_graph.proofs.Places.{no_plan, row-needs, row-waiting_on, deps_at-rank}
+use Rattle.std.proofs.lemmas.Bool.{ltb-true}
 
 entry-in_range : (ops : ℕ) (listing : Listing) (d : Dep) → dep_in_range ops d ≡ true → ltb (entry listing d).op ops ≡ true
 entry-in_range ops Needs d h = and_right (ltb d.later ops) (ltb d.earlier ops) h
@@ -51,7 +52,7 @@ module _ (plans : List Plan) (plain : plain_fault plans ≡ None) (rank : ℕ) (
   waiting_on-in_range op k w below =
       let x : OpId = record { rank = rank; op = op } in
       let each = rw (row-waiting_on plans x) at (plain-row WaitingOn op) in
-      below_from_test _ _ (AllPass-from_list_all (λ (w : Need). ltb w.op (length (get_or plans rank no_plan).ops)) (waiting_on plans x) each k w below)
+      ltb-true _ _ (AllPass-from_list_all (λ (w : Need). ltb w.op (length (get_or plans rank no_plan).ops)) (waiting_on plans x) each k w below)
 
   -- an operation has at most as many needs as there are dependencies
   pub length-needs-le : (op : ℕ) → length (needs plans (record { rank = rank; op = op })) ≤ dep_count plans

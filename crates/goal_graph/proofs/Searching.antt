@@ -10,11 +10,12 @@ use Rattle.goal_graph.specs.declared.plan.Need.{Need}
 use Rattle.goal_graph.specs.Schedule.{Plan, needs, waiting_on, deps_at}
 use Rattle.goal_graph.specs.Fault.{HasDepth, IsOp, plain_fault}
 use Rattle.goal_graph.specs.Search.{op_id, is_among, unfinished, count_of, IsSearch, CoversRank, IsFirstMissing, IsFirstInRank}
-use Rattle.goal_graph.proofs.Numbers.{ne-eqb, or_false, or_true}
+use Rattle.goal_graph.proofs.Numbers.{ne-eqb}
 use Rattle.goal_graph.proofs.Counts.{is_among-push, is_among-found, is_among-above, count_of-push, count_of-nil, count_of-rows, count_of-take-le, unfinished-push, unfinished-nil}
 use Rattle.goal_graph.proofs.Depths.{HasDepth-from_needs, blocked}
 use Rattle.goal_graph.proofs.Places.{no_plan, row-needs, row-waiting_on, IsOp-located, IsOp-below}
 use Rattle.goal_graph.proofs.Ranges.{waiting_on-in_range, needs-in_range}
+use Rattle.std.proofs.Math.Bool.{or-false, or-true}
 
 -- places of a list that gets one more item
 old_or_new : (xs : List ℕ) (x k : ℕ) → k < length (xs ++ x ∷ []) → (k < length xs) ⊎ (k ≡ length xs)
@@ -86,8 +87,8 @@ module _ (plans : List Plan) (rank : ℕ) where
         record {
           counted = begin-counted;
           listed = λ op inside. elim (old_or_new missing count op inside) [
-            | inl before ↦ rw (get_or_append_left missing (count ∷ []) 0 op before, is_among-push order (length missing) op, s.listed op before, ne-eqb (length missing) op (λ e. omega arith)) (or_false _)
-            | inr here ↦ rw (get_or_push missing count 0 op (sym here), here, is_among-push order (length missing) (length missing), none, eq-eqb (length missing) (length missing) refl) (or_true _)
+            | inl before ↦ rw (get_or_append_left missing (count ∷ []) 0 op before, is_among-push order (length missing) op, s.listed op before, ne-eqb (length missing) op (λ e. omega arith)) (or-false _)
+            | inr here ↦ rw (get_or_push missing count 0 op (sym here), here, is_among-push order (length missing) (length missing), none, eq-eqb (length missing) (length missing) refl) (or-true _)
           ];
           in_rank = push-in_rank order (length missing) (length (missing ++ count ∷ [])) (omega arith) begin-in_rank;
           once = push-once order (length missing) begin-fresh s.once;
@@ -165,9 +166,9 @@ module _ (plans : List Plan) (rank : ℕ) where
           counted = rw (take-append-le done order (w.op ∷ []) (omega (arith, next))) step-counted;
           listed = λ op within. elim (cases_eq op w.op) [
             | inl same ↦
-                rw (same, get_or-set_same missing w.op (get_or missing w.op 0 - 1) 0 in_rank, is_among-push order w.op w.op, eq-eqb w.op w.op refl, none) (or_true _)
+                rw (same, get_or-set_same missing w.op (get_or missing w.op 0 - 1) 0 in_rank, is_among-push order w.op w.op, eq-eqb w.op w.op refl, none) (or-true _)
             | inr other ↦
-                rw (get_or-set_other missing w.op op (get_or missing w.op 0 - 1) 0 other, is_among-push order w.op op, ne-eqb w.op op (λ e. other (sym e)), s.listed op (omega (arith, within))) (or_false _)
+                rw (get_or-set_other missing w.op op (get_or missing w.op 0 - 1) 0 other, is_among-push order w.op op, ne-eqb w.op op (λ e. other (sym e)), s.listed op (omega (arith, within))) (or-false _)
           ];
           in_rank = push-in_rank order w.op (length (set missing w.op (get_or missing w.op 0 - 1))) (omega (arith, in_rank)) step-in_rank;
           once = push-once order w.op step-fresh s.once;

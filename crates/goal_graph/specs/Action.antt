@@ -22,9 +22,13 @@ place Begin = 4
 abbrev pub same_op : OpId → OpId → Bool
 same_op x y = (x.rank == y.rank) && (x.op == y.op)
 
+-- this is an action of that class
+abbrev pub is_of : Class → Act → Bool
+is_of class a = place a.class == place class
+
 -- this is the action of that class and operation
 abbrev pub is_act : Class → OpId → Act → Bool
-is_act class x a = (place a.class == place class) && same_op a.op x
+is_act class x a = is_of class a && same_op a.op x
 
 -- the action of that class and operation has happened
 unfoldable pub happened : Class → OpId → List Act → Bool

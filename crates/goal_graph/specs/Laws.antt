@@ -91,7 +91,8 @@ HappenedIsListed = (class : Class) (x : OpId) (h : List Act) → (happened class
 
 -- what has happened after a newer action had happened before, or is that action
 abbrev pub HappenedCases : Type 0
-HappenedCases = (class : Class) (x : OpId) (a : Act) (h : List Act) → (happened class x (a ∷ h) ≡ true) ↔ ((happened class x h ≡ true) ⊎ (a ≡ record { class = class; op = x }))
+HappenedCases = (class : Class) (x : OpId) (a : Act) (h : List Act)
+    → (happened class x (a ∷ h) ≡ true) ↔ ((happened class x h ≡ true) ⊎ (a ≡ record { class = class; op = x }))
 
 -- what has happened stays so
 abbrev pub HappenedStays : Type 0
@@ -103,19 +104,29 @@ PartnerStays = (plans : List Plan) (a : Act) (h : List Act) (x y : OpId) → par
 
 -- what is ready stays ready
 abbrev pub ReadyStays : Type 0
-ReadyStays = (plans : List Plan) (eager : OpId → Bool) (a : Act) (h : List Act) (x : OpId) → is_ready plans eager h x ≡ true → is_ready plans eager (a ∷ h) x ≡ true
+ReadyStays = (plans : List Plan) (eager : OpId → Bool) (a : Act) (h : List Act) (x : OpId)
+    → is_ready plans eager h x ≡ true
+    → is_ready plans eager (a ∷ h) x ≡ true
 
 -- the message of a partner stays there
 abbrev pub MessageStays : Type 0
-MessageStays = (plans : List Plan) (eager : OpId → Bool) (a : Act) (h : List Act) (x : OpId) → is_served plans eager h (partner (pairs plans h) x) ≡ true → is_served plans eager (a ∷ h) (partner (pairs plans (a ∷ h)) x) ≡ true
+MessageStays = (plans : List Plan) (eager : OpId → Bool) (a : Act) (h : List Act) (x : OpId)
+    → is_served plans eager h (partner (pairs plans h) x) ≡ true
+    → is_served plans eager (a ∷ h) (partner (pairs plans (a ∷ h)) x) ≡ true
 
 -- an action that is allowed stays allowed until it happens
 abbrev pub AllowedStays : Type 0
-AllowedStays = (plans : List Plan) (eager : OpId → Bool) (a : Act) (h : List Act) (class : Class) (x : OpId) → is_act class x a ≡ false → allowed plans eager h class x ≡ true → allowed plans eager (a ∷ h) class x ≡ true
+AllowedStays = (plans : List Plan) (eager : OpId → Bool) (a : Act) (h : List Act) (class : Class) (x : OpId)
+    → is_act class x a ≡ false
+    → allowed plans eager h class x ≡ true
+    → allowed plans eager (a ∷ h) class x ≡ true
 
 -- my partner's partner is me
 abbrev pub PartnersAreMutual : Type 0
-PartnersAreMutual = (plans : List Plan) (eager : OpId → Bool) (h : List Act) (x y : OpId) → IsInterleaving plans eager h → partner (pairs plans h) x ≡ Some y → partner (pairs plans h) y ≡ Some x
+PartnersAreMutual = (plans : List Plan) (eager : OpId → Bool) (h : List Act) (x y : OpId)
+    → IsInterleaving plans eager h
+    → partner (pairs plans h) x ≡ Some y
+    → partner (pairs plans h) y ≡ Some x
 
 -- one of two partners is a send that has arrived, the other a receive that is posted, and they fit
 abbrev pub PartnersHaveMet : Type 0
@@ -127,39 +138,66 @@ FitsAreReceiveAndSend = (plans : List Plan) (x m : OpId) → fits plans x m ≡ 
 
 -- the two of each pair are partners of each other
 abbrev pub PairsArePartners : Type 0
-PairsArePartners = (plans : List Plan) (eager : OpId → Bool) (h : List Act) (p : Pair) → IsInterleaving plans eager h → Contains (pairs plans h) p → (partner (pairs plans h) p.send ≡ Some p.recv) × (partner (pairs plans h) p.recv ≡ Some p.send)
+PairsArePartners = (plans : List Plan) (eager : OpId → Bool) (h : List Act) (p : Pair)
+    → IsInterleaving plans eager h
+    → Contains (pairs plans h) p
+    → (partner (pairs plans h) p.send ≡ Some p.recv) × (partner (pairs plans h) p.recv ≡ Some p.send)
 
 -- partners stand in a pair
 abbrev pub PartnersArePaired : Type 0
-PartnersArePaired = (plans : List Plan) (h : List Act) (x y : OpId) → partner (pairs plans h) x ≡ Some y → Contains (pairs plans h) (pair_of x y) ⊎ Contains (pairs plans h) (pair_of y x)
+PartnersArePaired = (plans : List Plan) (h : List Act) (x y : OpId)
+    → partner (pairs plans h) x ≡ Some y
+    → Contains (pairs plans h) (pair_of x y) ⊎ Contains (pairs plans h) (pair_of y x)
 
 -- each operation is in at most one pair: two that share the send or the receive are the same
 abbrev pub OnePair : Type 0
-OnePair = (plans : List Plan) (eager : OpId → Bool) (h : List Act) (p q : Pair) → IsInterleaving plans eager h → Contains (pairs plans h) p → Contains (pairs plans h) q → ((p.send ≡ q.send) ⊎ (p.recv ≡ q.recv)) → p ≡ q
+OnePair = (plans : List Plan) (eager : OpId → Bool) (h : List Act) (p q : Pair)
+    → IsInterleaving plans eager h
+    → Contains (pairs plans h) p
+    → Contains (pairs plans h) q
+    → ((p.send ≡ q.send) ⊎ (p.recv ≡ q.recv))
+    → p ≡ q
 
 -- a message arrives after its send has begun
 abbrev pub ArrivesAfterBegin : Type 0
-ArrivesAfterBegin = (plans : List Plan) (eager : OpId → Bool) (h : List Act) (m : OpId) → IsInterleaving plans eager h → happened Arrive m h ≡ true → happened Begin m h ≡ true
+ArrivesAfterBegin = (plans : List Plan) (eager : OpId → Bool) (h : List Act) (m : OpId)
+    → IsInterleaving plans eager h
+    → happened Arrive m h ≡ true
+    → happened Begin m h ≡ true
 
 -- a send hands over its bytes after it is paired, and so after it has arrived
 abbrev pub DataAfterPairing : Type 0
-DataAfterPairing = (plans : List Plan) (eager : OpId → Bool) (h : List Act) (m : OpId) → IsInterleaving plans eager h → happened Data m h ≡ true → (is_paired (pairs plans h) m ≡ true) × (happened Arrive m h ≡ true)
+DataAfterPairing = (plans : List Plan) (eager : OpId → Bool) (h : List Act) (m : OpId)
+    → IsInterleaving plans eager h
+    → happened Data m h ≡ true
+    → (is_paired (pairs plans h) m ≡ true) × (happened Arrive m h ≡ true)
 
 -- a receive takes its message after it is posted, is paired then, and the message is there
 abbrev pub ServesAfterPost : Type 0
-ServesAfterPost = (plans : List Plan) (eager : OpId → Bool) (h : List Act) (x : OpId) → IsInterleaving plans eager h → happened Serve x h ≡ true → (happened Post x h ≡ true) × (is_served plans eager h (partner (pairs plans h) x) ≡ true)
+ServesAfterPost = (plans : List Plan) (eager : OpId → Bool) (h : List Act) (x : OpId)
+    → IsInterleaving plans eager h
+    → happened Serve x h ≡ true
+    → (happened Post x h ≡ true) × (is_served plans eager h (partner (pairs plans h) x) ≡ true)
 
 -- what has ended has started
 abbrev pub EndsAfterStart : Type 0
-EndsAfterStart = (plans : List Plan) (eager : OpId → Bool) (h : List Act) (x : OpId) → IsInterleaving plans eager h → has_ended plans eager x h ≡ true → has_started plans x h ≡ true
+EndsAfterStart = (plans : List Plan) (eager : OpId → Bool) (h : List Act) (x : OpId)
+    → IsInterleaving plans eager h
+    → has_ended plans eager x h ≡ true
+    → has_started plans x h ≡ true
 
 -- what has started was ready
 abbrev pub StartsWhenReady : Type 0
-StartsWhenReady = (plans : List Plan) (eager : OpId → Bool) (h : List Act) (x : OpId) → IsInterleaving plans eager h → has_started plans x h ≡ true → is_ready plans eager h x ≡ true
+StartsWhenReady = (plans : List Plan) (eager : OpId → Bool) (h : List Act) (x : OpId)
+    → IsInterleaving plans eager h
+    → has_started plans x h ≡ true
+    → is_ready plans eager h x ≡ true
 
 -- each action happens at most once
 abbrev pub HappensOnce : Type 0
-HappensOnce = (plans : List Plan) (eager : OpId → Bool) (h : List Act) (class : Class) (x : OpId) → IsInterleaving plans eager h → count_by (is_act class x) h ≤ 1
+HappensOnce = (plans : List Plan) (eager : OpId → Bool) (h : List Act) (class : Class) (x : OpId)
+    → IsInterleaving plans eager h
+    → count_by (is_act class x) h ≤ 1
 
 -- an operation has at most three actions
 abbrev pub AtMostThree : Type 0
@@ -167,23 +205,35 @@ AtMostThree = (plans : List Plan) (eager : OpId → Bool) (h : List Act) (x : Op
 
 -- what has happened and what is left are together at most three actions an operation
 abbrev pub AtMostThreeEach : Type 0
-AtMostThreeEach = (plans : List Plan) (eager : OpId → Bool) (h : List Act) → IsInterleaving plans eager h → length h + left plans h ≤ 3 * length (operations plans)
+AtMostThreeEach = (plans : List Plan) (eager : OpId → Bool) (h : List Act)
+    → IsInterleaving plans eager h
+    → length h + left plans h ≤ 3 * length (operations plans)
 
 -- with each allowed action less is left
 abbrev pub LeftFalls : Type 0
-LeftFalls = (plans : List Plan) (eager : OpId → Bool) (a : Act) (h : List Act) → allowed plans eager h a.class a.op ≡ true → left plans (a ∷ h) + 1 ≤ left plans h
+LeftFalls = (plans : List Plan) (eager : OpId → Bool) (a : Act) (h : List Act)
+    → allowed plans eager h a.class a.op ≡ true
+    → left plans (a ∷ h) + 1 ≤ left plans h
 
 -- at most one action of an operation is allowed at a time
 abbrev pub OneAllowed : Type 0
-OneAllowed = (plans : List Plan) (eager : OpId → Bool) (h : List Act) (class other : Class) (x : OpId) → IsInterleaving plans eager h → allowed plans eager h class x ≡ true → allowed plans eager h other x ≡ true → class ≡ other
+OneAllowed = (plans : List Plan) (eager : OpId → Bool) (h : List Act) (class other : Class) (x : OpId)
+    → IsInterleaving plans eager h
+    → allowed plans eager h class x ≡ true
+    → allowed plans eager h other x ≡ true
+    → class ≡ other
 
 -- a send that has arrived and a posted receive that fits it never both wait
 abbrev pub NeverBothWait : Type 0
-NeverBothWait = (plans : List Plan) (h : List Act) (m x : OpId) → HaveMet plans h m x → (is_paired (pairs plans h) m ≡ true) ⊎ (is_paired (pairs plans h) x ≡ true)
+NeverBothWait = (plans : List Plan) (h : List Act) (m x : OpId)
+    → HaveMet plans h m x
+    → (is_paired (pairs plans h) m ≡ true) ⊎ (is_paired (pairs plans h) x ≡ true)
 
 -- an allowed action is one of an operation of the schedule
 abbrev pub AllowedIsListed : Type 0
-AllowedIsListed = (plans : List Plan) (eager : OpId → Bool) (h : List Act) (class : Class) (x : OpId) → allowed plans eager h class x ≡ true → Contains (operations plans) x
+AllowedIsListed = (plans : List Plan) (eager : OpId → Bool) (h : List Act) (class : Class) (x : OpId)
+    → allowed plans eager h class x ≡ true
+    → Contains (operations plans) x
 
 -- the operations are those places at which the schedule has one
 abbrev pub OperationsAreListed : Type 0
@@ -208,16 +258,29 @@ InterleavingOldestFirst = (plans : List Plan) (eager : OpId → Bool) (h : List 
 
 -- where nothing is left to happen, what is paired has ended
 abbrev pub PairedHasEnded : Type 0
-PairedHasEnded = (plans : List Plan) (eager : OpId → Bool) (h : List Act) (x : OpId) → IsCompleteInterleaving plans eager h → is_paired (pairs plans h) x ≡ true → has_ended plans eager x h ≡ true
+PairedHasEnded = (plans : List Plan) (eager : OpId → Bool) (h : List Act) (x : OpId)
+    → IsCompleteInterleaving plans eager h
+    → is_paired (pairs plans h) x ≡ true
+    → has_ended plans eager x h ≡ true
 
 -- where nothing is left to happen, an operation that is ready and has no end is a large send or a receive that
 -- waits for a partner
 abbrev pub ReadyWaits : Type 0
-ReadyWaits = (plans : List Plan) (eager : OpId → Bool) (h : List Act) (x : OpId) → IsCompleteInterleaving plans eager h → Contains (operations plans) x → is_ready plans eager h x ≡ true → has_ended plans eager x h ≡ false → IsWaitingSend plans eager h x ⊎ IsWaitingReceive plans h x
+ReadyWaits = (plans : List Plan) (eager : OpId → Bool) (h : List Act) (x : OpId)
+    → IsCompleteInterleaving plans eager h
+    → Contains (operations plans) x
+    → is_ready plans eager h x ≡ true
+    → has_ended plans eager x h ≡ false
+    → IsWaitingSend plans eager h x ⊎ IsWaitingReceive plans h x
 
 -- and each operation that fits it has not started, or is paired with another
 abbrev pub FittingIsTaken : Type 0
-FittingIsTaken = (plans : List Plan) (eager : OpId → Bool) (h : List Act) (x y : OpId) → IsCompleteInterleaving plans eager h → is_ready plans eager h x ≡ true → has_ended plans eager x h ≡ false → ((fits plans x y ≡ true) ⊎ (fits plans y x ≡ true)) → (has_started plans y h ≡ false) ⊎ IsTaken plans h y x
+FittingIsTaken = (plans : List Plan) (eager : OpId → Bool) (h : List Act) (x y : OpId)
+    → IsCompleteInterleaving plans eager h
+    → is_ready plans eager h x ≡ true
+    → has_ended plans eager x h ≡ false
+    → ((fits plans x y ≡ true) ⊎ (fits plans y x ≡ true))
+    → (has_started plans y h ≡ false) ⊎ IsTaken plans h y x
 
 -- a send fits at most one receive, and a receive at most one send
 pub record IsApart (plans : List Plan) : Type 0 where
@@ -226,11 +289,20 @@ pub record IsApart (plans : List Plan) : Type 0 where
 
 -- there a send and a receive are partners once the one has arrived, the other is posted, and they fit
 abbrev pub ApartArePartners : Type 0
-ApartArePartners = (plans : List Plan) (eager : OpId → Bool) (h : List Act) (m x : OpId) → IsApart plans → IsInterleaving plans eager h → ((partner (pairs plans h) m ≡ Some x) × IsSend plans m) ↔ HaveMet plans h m x
+ApartArePartners = (plans : List Plan) (eager : OpId → Bool) (h : List Act) (m x : OpId)
+    → IsApart plans
+    → IsInterleaving plans eager h
+    → ((partner (pairs plans h) m ≡ Some x) × IsSend plans m) ↔ HaveMet plans h m x
 
 -- there what starts and ends in one interleaving does so in each complete one in which no fewer sends are eager
 abbrev pub ApartCompletesAlike : Type 0
-ApartCompletesAlike = (plans : List Plan) (eager fewer : OpId → Bool) (h w : List Act) → IsApart plans → IsCompleteInterleaving plans eager h → IsInterleaving plans fewer w → ((m : OpId) → fewer m ≡ true → eager m ≡ true) → (x : OpId) → (has_started plans x w ≡ true → has_started plans x h ≡ true) × (has_ended plans fewer x w ≡ true → has_ended plans eager x h ≡ true)
+ApartCompletesAlike = (plans : List Plan) (eager fewer : OpId → Bool) (h w : List Act)
+    → IsApart plans
+    → IsCompleteInterleaving plans eager h
+    → IsInterleaving plans fewer w
+    → ((m : OpId) → fewer m ≡ true → eager m ≡ true)
+    → (x : OpId)
+    → (has_started plans x w ≡ true → has_started plans x h ≡ true) × (has_ended plans fewer x w ≡ true → has_ended plans eager x h ≡ true)
 
 -- The laws of orders.
 
@@ -274,10 +346,15 @@ CountsAreWithin = (plans : List Plan) → IsAccepted plans → AreCountsWithin p
 
 -- the size or duration of each operation is within its limit, and its target or source is a rank
 abbrev pub ValuesAreWithin : Type 0
-ValuesAreWithin = (plans : List Plan) (x : OpId) (o : Op) → IsAccepted plans → op_at plans x ≡ Some o → (value_fits o.kind o.nic ≡ true) × (has_peer (length plans) o.kind ≡ true)
+ValuesAreWithin = (plans : List Plan) (x : OpId) (o : Op)
+    → IsAccepted plans
+    → op_at plans x ≡ Some o
+    → (value_fits o.kind o.nic ≡ true) × (has_peer (length plans) o.kind ≡ true)
 
 -- The law of what is eager.
 
 -- tests of what is eager that agree on the sends of a schedule allow the same interleavings
 abbrev pub EagerSendsAlone : Type 0
-EagerSendsAlone = (plans : List Plan) (eager other : OpId → Bool) (h : List Act) → ((m : OpId) → IsSend plans m → eager m ≡ other m) → IsInterleaving plans eager h ↔ IsInterleaving plans other h
+EagerSendsAlone = (plans : List Plan) (eager other : OpId → Bool) (h : List Act)
+    → ((m : OpId) → IsSend plans m → eager m ≡ other m)
+    → IsInterleaving plans eager h ↔ IsInterleaving plans other h

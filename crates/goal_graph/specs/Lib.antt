@@ -13,5 +13,8 @@ pub mod Widths
 pub mod Rows
 pub mod Tables
 pub mod Search
+pub mod Concerned
+pub mod Entries
+pub mod Choices
 -- Laws.
 pub mod Laws

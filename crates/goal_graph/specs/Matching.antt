@@ -7,7 +7,7 @@ use Rattle.goal_graph.specs.declared.action.Class.TheVariants.{Arrive, Serve, Da
 use Rattle.goal_graph.specs.declared.plan.Kind.{Kind}
 use Rattle.goal_graph.specs.declared.plan.Kind.TheVariants.{Send, Recv}
 use Rattle.goal_graph.specs.Schedule.{Plan, kind_at}
-use Rattle.goal_graph.specs.Action.{Act, place, same_op, oldest}
+use Rattle.goal_graph.specs.Action.{Act, is_of, same_op, oldest}
 
 -- a wildcard, or the number itself
 abbrev pub accepts : Option ℕ → ℕ → Bool
@@ -51,11 +51,11 @@ module _ (plans : List Plan) where
 
   -- a posted receive that no send has taken yet, and that fits m
   abbrev pub is_open_receive : List Pair → OpId → Act → Bool
-  is_open_receive ps m a = (place a.class == 3) && not (is_paired ps a.op) && fits a.op m
+  is_open_receive ps m a = is_of Post a && not (is_paired ps a.op) && fits a.op m
 
   -- an arrived send that no receive has taken yet, and that x fits
   abbrev pub is_open_send : List Pair → OpId → Act → Bool
-  is_open_send ps x a = (place a.class == 0) && not (is_paired ps a.op) && fits x a.op
+  is_open_send ps x a = is_of Arrive a && not (is_paired ps a.op) && fits x a.op
 
   -- An Arrive pairs its send with the first posted, unpaired receive that fits, a Post its receive with the
   -- first arrived, unpaired send that fits. No other action pairs.

@@ -10,11 +10,10 @@ use Rattle.goal_graph.specs.Fault.{IsOp}
 use Rattle.goal_graph.specs.Action.{place, same_op, is_act, plain, plain_act}
 use Rattle.goal_graph.specs.Allowed.{first_class, last_class}
 use Rattle.goal_graph.specs.Laws.{IsCalc, IsSend, IsReceive}
-use Rattle.goal_graph.proofs.ForCallers.{cases_op, is_act_class, same_op_true, same_op_from, not_send_receive, first_of_calc, first_of_send, first_of_receive, last_of_calc, last_of_eager, last_of_large, last_of_receive}
+use Rattle.goal_graph.proofs.ForCallers.{cases_op, is_act_class, same_op_true, same_op_from, not_send_receive, first_of_calc, first_of_send, first_of_receive, last_of_calc, last_of_eager, last_of_large, last_of_receive, same_tables, at_entry, off_entry, entry_written, same_op_swapped, send_is_op, receive_is_op}
 use Rattle.sim_params.specs.Costs.{CostModel, flight, flight_one, is_eager}
 use Rattle.sim_params.specs.Times.{mate, cpu_hold, Possible}
 use Rattle.sim_params.specs.Run.{IsRun}
-use Rattle.sim_resources.proofs.ForCallers.{send_is_op, receive_is_op}
 use Rattle.sim_match.specs.PostsAndArrivals.{is_post_or_arrival, is_post_or_arrival_class, send_for, receive_for}
 use Rattle.sim_events.specs.declared.entry.Entry.{Entry}
 use Rattle.sim_events.specs.declared.entry.Pairing.{Pairing}
@@ -22,7 +21,6 @@ use Rattle.sim_events.specs.Engine.{start_known, end_known}
 use Rattle.sim_events.specs.Enabled.{time_known}
 use Rattle.sim_events.specs.Tables.{with_entry, with_pairing, with_partner}
 use Rattle.sim_events.specs.Represents.{entry_known, paired_known, there_known}
-use Rattle.sim_events.proofs.Tables.{same_tables}
 use Rattle.sim_events.proofs.After.{other_op, other_class, start_same, start_new, end_same, end_new, arriving_same, arriving_calc, arriving_begun, arriving_arrived, there_same, there_new, paired_same, paired_new}
 use Rattle.sim_events.proofs.Pairings.{none_made, other_makes_none, post_none, post_some, arrive_none, arrive_some}
 
@@ -30,24 +28,9 @@ same_entry : (d e : Entry) → d.start ≡ e.start → d.end ≡ e.end → d.arr
 same_entry d e s n a p t =
     λ i. record { start = s i; end = n i; arriving = a i; paired = p i; there = t i }
 
-swapped : (x y : OpId) → same_op x y ≡ false → same_op y x ≡ false
-swapped x y d =
-    false_from_ne_true _ (λ t. both_ways _ d (same_op_from x y (sym (same_op_true y x t))))
-
--- the entry that is written, and the others
-at_entry : (y : OpId) (e : Entry) (f : OpId → Entry) (x : OpId) → x ≡ y → with_entry y e f x ≡ e
-at_entry y e f x s = cond-true _ _ _ (same_op_from x y s)
-
-off_entry : (y : OpId) (e : Entry) (f : OpId → Entry) (x : OpId) → same_op x y ≡ false → with_entry y e f x ≡ f x
-off_entry y e f x d = cond-false _ _ _ d
-
-written : (y : OpId) (e : Entry) (f g : OpId → Entry) → g y ≡ e → ((x : OpId) → same_op y x ≡ false → g x ≡ f x) → (x : OpId) → with_entry y e f x ≡ g x
-written y e f g now others x =
-    elim (cases_op x y) [ inl s ↦ at_entry y e f x s ∙ sym now ∙ ap g (sym s) | inr d ↦ off_entry y e f x d ∙ sym (others x (swapped x y d)) ]
-
 -- an entry is written, and two entries get their partners
 pair_written : (y m : OpId) (at : ℕ) (e : Entry) (f g : OpId → Entry) → same_op y m ≡ false → g y ≡ record e { paired = Some (record { with = m; at = at }) } → g m ≡ record (f m) { paired = Some (record { with = y; at = at }) } → ((x : OpId) → same_op y x ≡ false → same_op m x ≡ false → g x ≡ f x) → (x : OpId) → with_pairing m y at (with_pairing y m at (with_entry y e f)) x ≡ g x
-pair_written y m at e f g differ here there others = written m _ first g second rest
+pair_written y m at e f g differ here there others = entry_written m _ first g second rest
   where
     base : OpId → Entry
     base = with_entry y e f
@@ -57,11 +40,11 @@ pair_written y m at e f g differ here there others = written m _ first g second 
 
     second : g m ≡ record (first m) { paired = Some (record { with = y; at = at }) }
     second =
-        there ∙ ap (λ (d : Entry). record d { paired = Some (record { with = y; at = at }) }) (sym (off_entry y _ base m (swapped y m differ) ∙ off_entry y e f m (swapped y m differ)))
+        there ∙ ap (λ (d : Entry). record d { paired = Some (record { with = y; at = at }) }) (sym (off_entry y _ base m (same_op_swapped y m differ) ∙ off_entry y e f m (same_op_swapped y m differ)))
 
     rest : (x : OpId) → same_op m x ≡ false → g x ≡ first x
     rest x d =
-        elim (cases_op x y) [ inl s ↦ ap g s ∙ here ∙ ap (λ (d : Entry). record d { paired = Some (record { with = m; at = at }) }) (sym (at_entry y e f y refl)) ∙ sym (at_entry y _ base x s) | inr o ↦ others x (swapped x y o) d ∙ sym (off_entry y _ base x o ∙ off_entry y e f x o) ]
+        elim (cases_op x y) [ inl s ↦ ap g s ∙ here ∙ ap (λ (d : Entry). record d { paired = Some (record { with = m; at = at }) }) (sym (at_entry y e f y refl)) ∙ sym (at_entry y _ base x s) | inr o ↦ others x (same_op_swapped x y o) d ∙ sym (off_entry y _ base x o ∙ off_entry y e f x o) ]
 
 module _ (plans : List Plan) (costs : CostModel) (h : List Timed) (a : Timed) (run : IsRun plans costs h) (possible : Possible plans costs h a) where
   abbrev before : OpId → Entry
@@ -109,7 +92,7 @@ module _ (plans : List Plan) (costs : CostModel) (h : List Timed) (a : Timed) (r
 
     one_written : (n : Entry) → ((x : OpId) → mate plans costs (a ∷ h) x ≡ mate plans costs h x) → after a.op ≡ n → Becomes n
     one_written n mates now =
-        same_tables _ _ (operations plans) (λ i x s. written a.op n before after now (λ x d. other_same x (mates x) d) x)
+        same_tables _ _ (operations plans) (λ i x s. entry_written a.op n before after now (λ x d. other_same x (mates x) d) x)
 
     unpaired : (c : Class) → a.class ≡ c → is_post_or_arrival_class c ≡ false → (x : OpId) → mate plans costs (a ∷ h) x ≡ mate plans costs h x
     unpaired c same f = none_made plans costs h a (other_makes_none plans costs h a (ap is_post_or_arrival_class same ∙ f))
@@ -206,7 +189,7 @@ module _ (plans : List Plan) (costs : CostModel) (h : List Timed) (a : Timed) (r
     posted_pair : (m : OpId) → a.class ≡ Post → send_for plans (filter is_post_or_arrival (plain h)) a.op ≡ Some m → BecomePaired m (record e { start = Some a.time })
     posted_pair m c some =
         let p = post_some plans costs h a run possible c m some in
-        let differ = swapped m a.op (apart m a.op p.send p.receive) in
+        let differ = same_op_swapped m a.op (apart m a.op p.send p.receive) in
         let here = posted_entry (Some (record { with = m; at = a.time })) c p.receive (paired_new plans costs h a a.op m p.free_receive p.receive_taken) in
         same_tables _ _ (operations plans) (λ i x s. pair_written a.op m a.time _ before after differ here (partner_entry m differ p.free_send p.send_taken) (λ x d f. other_same x (p.others x f d) d) x)
 

@@ -1,9 +1,7 @@
-pub mod Tables
 pub mod Places
 pub mod Ready
 mod Cursors
 pub mod Keys
-pub mod Newly
 pub mod Queue
 pub mod Steps
 pub mod Empty

@@ -26,7 +26,7 @@ use Rattle.sim_events.specs.declared.station.Station.{Station}
 use Rattle.sim_events.specs.Stations.{station_by, HaveOneStation, AreStationed, free, free_of}
 use Rattle.sim_events.specs.Queue.{IsEarly, IsBoundOf, IsQueue, HasKey, lag, lags}
 use Rattle.sim_events.proofs.Queue.{key_found}
-use Rattle.sim_events.proofs.Tables.{other_place}
+use Rattle.goal_graph.proofs.ForCallers.{other_place}
 
 module _ (plans : List Plan) (costs : CostModel) (h : List Timed) where
   -- what waits is not possible before all is free

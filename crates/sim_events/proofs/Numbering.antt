@@ -7,15 +7,10 @@ use Rattle.std.proofs.lemmas.Option.{same_Some, slice_get_within}
 use Rattle.goal_graph.specs.declared.action.OpId.{OpId}
 use Rattle.goal_graph.specs.declared.plan.Op.{Op}
 use Rattle.goal_graph.specs.Schedule.{Plan, op_at, operations}
-use Rattle.sim_resources.proofs.ForCallers.{get_kept, get_last}
+use Rattle.sim_resources.proofs.ForCallers.{get_kept}
 use Rattle.sim_events.specs.declared.station.Station.{Station}
 use Rattle.sim_events.specs.Stations.{station_of, AreStationed, same_choice, same_station, HasNumber, HasStation}
-
-same_choice_true : (a b : Option ℕ) → same_choice a b ≡ true → a ≡ b
-same_choice_true None None e = refl
-same_choice_true None (Some n) e = absurd (both_ways false refl e)
-same_choice_true (Some k) None e = absurd (both_ways false refl e)
-same_choice_true (Some k) (Some n) e = ap (λ (i : ℕ). Some i) (eqb-true k n e)
+use Rattle.goal_graph.proofs.ForCallers.{same_choice_true, get_last}
 
 pub same_station_true : (p q : Station) → same_station p q ≡ true → p ≡ q
 same_station_true p q e =

@@ -14,12 +14,7 @@ use Rattle.sim_events.specs.declared.entry.Entry.{Entry}
 use Rattle.sim_events.specs.Engine.{View}
 use Rattle.sim_events.specs.Represents.{Represents, entry_known, KnowsPostsAndArrivals, AreFreeTimes}
 use Rattle.sim_events.proofs.Places.{possible_exists}
-
--- a slice of a whole list that is written back
-written_back : {A : Type 0} (n : ℕ) (new old : List A) → n ≡ length old → length new ≡ length old → take n (new ++ drop (length new) old) ≡ new
-written_back n new old e f =
-    let none : drop (length new) old ≡ [] = drop_all (length new) old (omega arith) in
-    ap (λ xs. take n (new ++ xs)) none ∙ take-append-le n new [] (omega arith) ∙ take_all n new (omega arith)
+use Rattle.goal_graph.proofs.ForCallers.{whole_back}
 
 -- one more at the end of a list is first in reverse
 reverse_push : {A : Type 0} (xs : List A) (x : A) → reverse (xs ++ x ∷ []) ≡ x ∷ reverse xs
@@ -78,7 +73,7 @@ module _ (plans : List Plan) (costs : CostModel) (old : Parts) (m : Represents p
 
   pub performed : (new : Change plans costs old a) → Represents plans costs (reverse new.items) (take new.count (new.written ++ drop (length new.written) old.entries)) new.matcher new.res new.room
   performed new =
-      let table : take new.count (new.written ++ drop (length new.written) old.entries) ≡ new.written = written_back new.count new.written old.entries new.whole (new.kept ∙ ap length new.same_table) in
+      let table : take new.count (new.written ++ drop (length new.written) old.entries) ≡ new.written = whole_back new.count new.written old.entries (new.kept ∙ ap length new.same_table) new.whole in
       let list : a ∷ reverse old.items ≡ reverse new.items = sym (ap reverse new.pushed ∙ reverse_push old.items a) in
       let after : Represents plans costs (a ∷ reverse old.items) (take new.count (new.written ++ drop (length new.written) old.entries)) new.matcher new.res new.room = record {
         accepted = m.accepted;

@@ -1,7 +1,7 @@
 -- The queue of an engine: its bounds stay, are put anew, and lead to the action that is next.
 use Rattle.std.proofs.Common.{◌≡◌, ◌≢◌, ◌+◌, ◌<◌, ◌≤◌, ◌⊎◌, ℕ, zero, suc, Bool, true, false, cond, List, [], ◌∷◌, Contains, length, drop, set, get_or, slice_get, slice_set, Option, Some, None, inl, inr, refl, sym, ap, ◌∙◌, subst, arith}
 use Rattle.std.proofs.lemmas.Bool.{cases_eq, cases_Bool, cases_lt, both_ways}
-use Rattle.std.proofs.lemmas.List.{get_or-set_same, get_or-set_other, get_or_past, length-set, drop_more, drop_all}
+use Rattle.std.proofs.lemmas.List.{get_or-set_same, get_or-set_other, get_or_past, length-set}
 use Rattle.std.proofs.lemmas.Option.{slice_get-get_or, slice_get_within, same_Some}
 use Rattle.goal_graph.specs.declared.action.OpId.{OpId}
 use Rattle.goal_graph.specs.declared.action.Timed.{Timed}
@@ -13,53 +13,20 @@ use Rattle.goal_graph.specs.Action.{plain, plain_act, same_op}
 use Rattle.goal_graph.specs.Allowed.{allowed}
 use Rattle.goal_graph.specs.Fault.{IsOp}
 use Rattle.goal_graph.specs.Interleaving.{IsInterleaving}
-use Rattle.goal_graph.proofs.ForCallers.{cases_op, same_op_false, allowed_listed, one_allowed, partners_met, allowed_stays, fits_receive, fits_send}
+use Rattle.goal_graph.proofs.ForCallers.{cases_op, same_op_false, allowed_listed, one_allowed, partners_met, allowed_stays, fits_receive, fits_send, other_place, newly_allowed, find_class, send_is_op, receive_is_op}
 use Rattle.sim_params.specs.Costs.{CostModel, is_eager}
 use Rattle.sim_params.specs.Times.{time, mate, Possible}
 use Rattle.sim_params.specs.Run.{IsNext, IsRun, IsFinished}
 use Rattle.sim_params.specs.Laws.{at_its_time, HasBound}
 use Rattle.sim_params.proofs.ForCallers.{time_grows, run_interleaving, possible_at, least_is_next}
 use Rattle.sim_order.specs.Events.{event_before}
-use Rattle.sim_resources.proofs.ForCallers.{send_is_op, receive_is_op}
 use Rattle.sim_queue.specs.Groups.{Grouped}
 use Rattle.sim_queue.specs.Map.{key_at, IsEmptyMap, IsLeast}
 use Rattle.sim_events.specs.Stations.{AreStationed}
-use Rattle.sim_events.specs.Queue.{IsNamedIn, IsIdle, IsEnabledActionOf, IsEarly, IsBoundOf, IsQueueBut, IsQueue, IsRefreshed, IsConcerned}
+use Rattle.sim_events.specs.Queue.{IsIdle, IsEnabledActionOf, IsEarly, IsBoundOf, IsQueueBut, IsQueue, IsRefreshed, IsConcerned}
 use Rattle.sim_events.proofs.After.{other_op}
 use Rattle.sim_events.proofs.Keys.{before_event}
-use Rattle.sim_events.proofs.Newly.{newly_allowed}
 use Rattle.sim_events.proofs.Places.{listed_exists, possible_exists}
-use Rattle.sim_events.proofs.Tables.{other_place}
-
-abbrev one_if : Bool → ℕ
-one_if b = cond b 1 0
-
--- what a partner is
-pub partner_exists : (plans : List Plan) (costs : CostModel) (h : List Timed) (x y : OpId) → mate plans costs h x ≡ Some y → IsOp plans y
-partner_exists plans costs h x y e =
-    elim (partners_met plans (plain h) x y e) [ inl met ↦ receive_is_op plans y (fits_receive plans y x met.fit) | inr met ↦ send_is_op plans y (fits_send plans x y met.fit) ]
-
-abbrev IsKnown : (Class → Bool) → Class → Type 0
-IsKnown test c = (test c ≡ true) ⊎ (test c ≡ false)
-
-no_class : (test : Class → Bool) → test Arrive ≡ false → test Serve ≡ false → test Data ≡ false → test Post ≡ false → test Begin ≡ false → (c : Class) → test c ≡ false
-no_class test a s d p b Arrive = a
-no_class test a s d p b Serve = s
-no_class test a s d p b Data = d
-no_class test a s d p b Post = p
-no_class test a s d p b Begin = b
-
--- a test fails at each class, or passes at one
-some_class : (test : Class → Bool) → ((c : Class) → test c ≡ false) ⊎ ((c : Class) × (test c ≡ true))
-some_class test = go (cases_Bool (test Arrive)) (cases_Bool (test Serve)) (cases_Bool (test Data)) (cases_Bool (test Post)) (cases_Bool (test Begin))
-  where
-    go : IsKnown test Arrive → IsKnown test Serve → IsKnown test Data → IsKnown test Post → IsKnown test Begin → ((c : Class) → test c ≡ false) ⊎ ((c : Class) × (test c ≡ true))
-    go (inl t) s d p b = inr (Arrive, t)
-    go (inr a) (inl t) d p b = inr (Serve, t)
-    go (inr a) (inr s) (inl t) p b = inr (Data, t)
-    go (inr a) (inr s) (inr d) (inl t) b = inr (Post, t)
-    go (inr a) (inr s) (inr d) (inr p) (inl t) = inr (Begin, t)
-    go (inr a) (inr s) (inr d) (inr p) (inr b) = inl (no_class test a s d p b)
 
 module _ (plans : List Plan) (costs : CostModel) where
   -- the possible action is a bound of itself
@@ -101,11 +68,11 @@ module _ (plans : List Plan) (costs : CostModel) where
 
     -- the bound of an operation stays, or the action concerns it
     bound_stays : (x : OpId) (k : Option Timed) → IsBoundOf plans costs h x k → IsBoundOf plans costs (a ∷ h) x k ⊎ IsConcerned plans costs (a ∷ h) a.op x
-    bound_stays x None idle = go (some_class (λ c. allowed plans (is_eager plans costs) (plain (a ∷ h)) c x))
+    bound_stays x None idle = go (find_class (λ c. allowed plans (is_eager plans costs) (plain (a ∷ h)) c x))
       where
-        go : ((c : Class) → allowed plans (is_eager plans costs) (plain (a ∷ h)) c x ≡ false) ⊎ ((c : Class) × (allowed plans (is_eager plans costs) (plain (a ∷ h)) c x ≡ true)) → IsIdle plans costs (a ∷ h) x ⊎ IsConcerned plans costs (a ∷ h) a.op x
-        go (inl none) = inl none
-        go (inr (c, t)) = elim (newly c x t) [ inl was ↦ absurd (both_ways _ (idle c) was) | inr new ↦ inr new ]
+        go : ((c : Class) × (allowed plans (is_eager plans costs) (plain (a ∷ h)) c x ≡ true)) ⊎ ((c : Class) → allowed plans (is_eager plans costs) (plain (a ∷ h)) c x ≡ false) → IsIdle plans costs (a ∷ h) x ⊎ IsConcerned plans costs (a ∷ h) a.op x
+        go (inr none) = inl none
+        go (inl (c, t)) = elim (newly c x t) [ inl was ↦ absurd (both_ways _ (idle c) was) | inr new ↦ inr new ]
     bound_stays x (Some e) b = go (cases_op a.op x)
       where
         go : (a.op ≡ x) ⊎ (same_op a.op x ≡ false) → IsEarly plans costs (a ∷ h) x e ⊎ IsConcerned plans costs (a ∷ h) a.op x
@@ -260,27 +227,3 @@ module _ (plans : List Plan) (costs : CostModel) where
     bound = subst (λ (k : Option Timed). IsBoundOf plans costs h x k) e (enabled_bound h x enabled is);
     put = set_there;
   }
-
--- those of a list that are not yet read
-pub still_left : {X : Type 0} (xs : List X) (k : ℕ) (d y : X) → k < length xs → Contains (drop k xs) y → ¬ (y ≡ get_or xs k d) → Contains (drop (k + 1) xs) y
-still_left xs k d y l left differ = go (subst (λ ds. Contains ds y) (drop_more xs k d l) left)
-  where
-    go : Contains (get_or xs k d ∷ drop (k + 1) xs) y → Contains (drop (k + 1) xs) y
-    go (zero, b, e) = absurd (differ (sym e))
-    go (suc i, b, e) = (i, omega (arith, b), e)
-
-pub none_left : {X : Type 0} (xs : List X) (k : ℕ) (y : X) → length xs ≤ k → Contains (drop k xs) y → ⊥
-none_left xs k y l left =
-    let none : Contains [] y = subst (λ ds. Contains ds y) (drop_all k xs l) left in
-    omega (arith, none.1)
-
--- the needs that are not yet read
-pub named_rest : (items : List Need) (k : ℕ) (d : Need) (x y : OpId) → k < length items → IsNamedIn (drop k items) x y → ¬ (y ≡ needed x (get_or items k d)) → IsNamedIn (drop (k + 1) items) x y
-named_rest items k d x y l n differ = record {
-  need = n.need;
-  listed = still_left items k d n.need l n.listed (λ e. differ (n.named ∙ ap (needed x) e));
-  named = n.named;
-}
-
-pub none_named : (items : List Need) (k : ℕ) (x y : OpId) → length items ≤ k → IsNamedIn (drop k items) x y → ⊥
-none_named items k x y l n = none_left items k n.need l n.listed

@@ -42,12 +42,3 @@ module _ {C : Type 0} (model : C → CostModel) where
   next_of v w r a e is next =
       let at_v : NextAt v a = subst (λ (o : Option Timed). IfSome o (IsNext v.plans (model v.costs) v.history)) is next in
       subst (λ (u : View C). NextAt u a) e at_v
-
-  pub finished_of : (v w : View C) (r : Option Timed) → v ≡ w → r ≡ None → IfNone r (IsFinished v.plans (model v.costs) v.history) → IsFinished w.plans (model w.costs) w.history
-  finished_of v w r e is none =
-      let at_v : IsFinished v.plans (model v.costs) v.history = subst (λ (o : Option Timed). IfNone o (IsFinished v.plans (model v.costs) v.history)) is none in
-      subst (λ (u : View C). IsFinished u.plans (model u.costs) u.history) e at_v
-
-  -- one action more is a run
-  pub run_after : (old new : View C) (a : Timed) → new ≡ record { plans = old.plans; costs = old.costs; history = a ∷ old.history } → RunAt old → NextAt old a → RunAt new
-  run_after old new a e run next = subst (λ (v : View C). RunAt v) (sym e) (run, next)

@@ -1,15 +1,16 @@
 -- What the queue of an engine holds: for each operation that has a possible action a time that is never too late.
-use Rattle.std.specs.Prelude.{ℕ, ◌-◌, ◌≡◌, ◌≤◌, ◌⊎◌, true, false, List, length, Option, Some, None, Contains, slice_get, slice_set}
+use Rattle.std.specs.Prelude.{ℕ, ◌-◌, ◌≡◌, ◌≤◌, ◌⊎◌, true, false, List, length, Option, Some, None, slice_get, slice_set}
 use Rattle.std.specs.List.{sum_by}
 use Rattle.goal_graph.specs.declared.action.OpId.{OpId}
 use Rattle.goal_graph.specs.declared.action.Timed.{Timed}
 use Rattle.goal_graph.specs.declared.action.Class.{Class}
-use Rattle.goal_graph.specs.declared.plan.Need.{Need}
-use Rattle.goal_graph.specs.Schedule.{Plan, needed, waiting_on, operations}
+use Rattle.goal_graph.specs.Schedule.{Plan, operations}
 use Rattle.goal_graph.specs.Action.{plain}
+pub use Rattle.goal_graph.specs.Concerned.{IsNamedIn, Waits}
+use Rattle.goal_graph.specs.Concerned as concerned
 use Rattle.goal_graph.specs.Allowed.{allowed}
 use Rattle.sim_params.specs.Costs.{CostModel, is_eager}
-use Rattle.sim_params.specs.Times.{time, mate, Possible}
+use Rattle.sim_params.specs.Times.{time, Possible}
 use Rattle.sim_queue.specs.Map.{key_at}
 use Rattle.sim_queue.specs.Groups.{Grouped}
 use Rattle.sim_events.specs.Stations.{AreStationed}
@@ -18,17 +19,7 @@ use Rattle.sim_events.specs.Stations.{AreStationed}
 abbrev pub HasKey : List (Option Timed) → Timed → Type 0
 HasKey keys e = (slot : ℕ) × (key_at keys slot ≡ Some e)
 
--- y is named in a list of needs of x's rank
-pub record IsNamedIn (needs : List Need) (x y : OpId) : Type 0 where
-  pub need : Need
-  pub listed : Contains needs need
-  pub named : y ≡ needed x need
-
 module _ (plans : List Plan) where
-  -- y needs x
-  abbrev pub Waits : OpId → OpId → Type 0
-  Waits x y = IsNamedIn (waiting_on plans x) x y
-
   module _ (costs : CostModel) (h : List Timed) where
     -- no action of x may happen
     abbrev pub IsIdle : OpId → Type 0
@@ -70,7 +61,7 @@ module _ (plans : List Plan) where
 
     -- an action of x may let one of y happen: y is x, or its partner, or needs it
     abbrev pub IsConcerned : OpId → OpId → Type 0
-    IsConcerned x y = (y ≡ x) ⊎ ((mate plans costs h x ≡ Some y) ⊎ Waits x y)
+    IsConcerned x y = concerned.IsConcerned plans (plain h) x y
 
     -- how far a key is before the time of its action, and how far the keys of a queue are
     abbrev pub lag : Option Timed → ℕ

@@ -9,6 +9,7 @@ use Rattle.goal_graph.specs.Schedule.{Plan, op_at, kind_at, operations}
 use Rattle.sim_params.specs.Costs.{CostModel}
 use Rattle.sim_params.specs.Times.{cpu, tx, rx}
 use Rattle.sim_events.specs.declared.station.Station.{Station}
+pub use Rattle.goal_graph.specs.Choices.{same_choice}
 
 abbrev pub station_by : OpId → Op → Kind → Station
 station_by x o (Calc nanos) = record { rank = x.rank; cpu = o.cpu; sends = None; receives = None }
@@ -44,13 +45,6 @@ module _ (plans : List Plan) where
 
   abbrev pub free : CostModel → List Timed → OpId → ℕ
   free costs h x = free_of costs h x (kind_at plans x)
-
--- What the code keeps: a number is the place of a station among those that were seen.
-abbrev pub same_choice : Option ℕ → Option ℕ → Bool
-same_choice None None = true
-same_choice None (Some n) = false
-same_choice (Some k) None = false
-same_choice (Some k) (Some n) = k == n
 
 abbrev pub same_station : Station → Station → Bool
 same_station p q = (p.rank == q.rank) && ((p.cpu == q.cpu) && (same_choice p.sends q.sends && same_choice p.receives q.receives))

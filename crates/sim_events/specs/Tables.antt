@@ -1,12 +1,8 @@
--- A table with an entry for each operation, after one entry is written.
-use Rattle.std.specs.Prelude.{ℕ, Option, Some, None, if◌then◌else◌}
+-- The entries of two operations, after they are paired.
+use Rattle.std.specs.Prelude.{ℕ, Option, Some, None}
 use Rattle.goal_graph.specs.declared.action.OpId.{OpId}
-use Rattle.goal_graph.specs.Action.{same_op}
+pub use Rattle.goal_graph.specs.Entries.{with_entry}
 use Rattle.sim_events.specs.declared.entry.Entry.{Entry}
-
--- the entry of y is this one, and the others are those of f
-abbrev pub with_entry : OpId → Entry → (OpId → Entry) → OpId → Entry
-with_entry y entry f x = if same_op x y then entry else f x
 
 -- the entry of y says that it is paired with m since that time, and the others are those of f
 abbrev pub with_pairing : OpId → OpId → ℕ → (OpId → Entry) → OpId → Entry

@@ -18,8 +18,8 @@ use Rattle.sim_match.specs.MatchLists.{entries_of}
 use Rattle.sim_match.specs.Waiting.{ops_of}
 use Rattle.sim_match.specs.Matcher.{ArePostsAndArrivals}
 use Rattle.sim_match.proofs.Ops.{oldest_found, ops_happened, action_suits, suited_receive, suited_send, ops_fewer}
-use Rattle.sim_match.proofs.Targets.{exists_kind}
 use Rattle.sim_match.proofs.Finding.{find_map, InOrder}
+use Rattle.goal_graph.proofs.ForCallers.{op_of_kind}
 
 -- the entries after one more action, of that class and of another
 pub entries_same : (class : Class) (a : Act) (h : List Act) → (place a.class == place class) ≡ true → entries_of class (a ∷ h) ≡ entries_of class h ++ record { op = a.op; at = length h } ∷ []
@@ -98,10 +98,10 @@ module _ (plans : List Plan) (h : List Act) (i : ArePostsAndArrivals plans h) wh
   arrived_sends = All-weaker (λ (e : MatchEntry). happened Arrive e.op h ≡ true) (λ (e : MatchEntry). IsSend plans e.op) (λ e was. suited_send plans e.op (action_suits plans h Arrive e.op i was)) (entries_of Arrive h) (entries_happened Arrive h)
 
   pub posted_exist : All (λ (e : MatchEntry). IsOp plans e.op) (entries_of Post h)
-  posted_exist = All-weaker (λ (e : MatchEntry). IsReceive plans e.op) (λ (e : MatchEntry). IsOp plans e.op) (λ e r. exists_kind plans e.op _ r.kind) (entries_of Post h) posted_receives
+  posted_exist = All-weaker (λ (e : MatchEntry). IsReceive plans e.op) (λ (e : MatchEntry). IsOp plans e.op) (λ e r. op_of_kind plans e.op _ r.kind) (entries_of Post h) posted_receives
 
   pub arrived_exist : All (λ (e : MatchEntry). IsOp plans e.op) (entries_of Arrive h)
-  arrived_exist = All-weaker (λ (e : MatchEntry). IsSend plans e.op) (λ (e : MatchEntry). IsOp plans e.op) (λ e s. exists_kind plans e.op _ s.kind) (entries_of Arrive h) arrived_sends
+  arrived_exist = All-weaker (λ (e : MatchEntry). IsSend plans e.op) (λ (e : MatchEntry). IsOp plans e.op) (λ e s. op_of_kind plans e.op _ s.kind) (entries_of Arrive h) arrived_sends
 
   -- an operation that is still to come finds room
   pub entries_fewer : (test : OpId → Bool) (class : Class) (x : OpId) → has_class (kind_at plans x) class ≡ true → happened class x h ≡ false → test x ≡ true → length (filter (λ (e : MatchEntry). test e.op) (entries_of class h)) < count_by test (operations plans)

@@ -1,11 +1,11 @@
 -- The first element of a list that passes a test.
-use Rattle.std.proofs.Common.{ℕ, zero, suc, ◌<◌, ◌≡◌, ◌&&◌, ◌||◌, Bool, true, false, cond, inl, inr, List, [], ◌∷◌, ◌++◌, length, get_or, map, Option, Some, None, All, AllPairs, filter, find, refl, arith, sym, ap, ◌∙◌, subst, append-nil, nat_lt, if◌then◌else◌}
+use Rattle.std.proofs.Common.{ℕ, zero, suc, ◌<◌, ◌≡◌, ◌&&◌, ◌||◌, Bool, true, false, cond, List, [], ◌∷◌, ◌++◌, length, get_or, map, Option, Some, None, All, AllPairs, filter, find, refl, arith, sym, ap, ◌∙◌, append-nil, nat_lt, if◌then◌else◌}
 use Rattle.std.specs.Option.{option_map}
-use Rattle.std.proofs.lemmas.Bool.{cases_Bool, cond-true, cond-false, lt-ltb, le-ltb}
-use Rattle.std.proofs.lemmas.Option.{none-some, same_Some}
+use Rattle.std.proofs.lemmas.Bool.{cond-true, cond-false, lt-ltb, le-ltb}
 use Rattle.std.proofs.lemmas.List.Elements.{All-head, All-tail, filter-append}
 use Rattle.sim_match.specs.declared.match_list.MatchEntry.{MatchEntry}
 use Rattle.sim_match.specs.MatchLists.{earlier}
+use Rattle.goal_graph.proofs.ForCallers.{find_all}
 
 module _ {X : Type 0} (p : X → Bool) where
   pub find_at_place : (xs : List X) (i : ℕ) (d : X) → i < length xs → p (get_or xs i d) ≡ true → ((k : ℕ) → k < i → p (get_or xs k d) ≡ false) → find p xs ≡ Some (get_or xs i d)
@@ -24,11 +24,6 @@ pub find_alike : {X : Type 0} (p q : X → Bool) (xs : List X) → All (λ x. p 
 find_alike p q [] agree = refl
 find_alike {X} p q (y ∷ ys) agree =
     ap (λ (b : Bool). cond b (Some y) (find p ys)) (All-head (λ x. p x ≡ q x) y ys agree) ∙ ap (λ (o : Option X). cond (q y) (Some y) o) (find_alike p q ys (All-tail (λ x. p x ≡ q x) y ys agree))
-
-pub find_agree : {X : Type 0} (p q : X → Bool) → ((x : X) → p x ≡ q x) → (xs : List X) → find p xs ≡ find q xs
-find_agree p q agree [] = refl
-find_agree {X} p q agree (y ∷ ys) =
-    ap (λ (b : Bool). cond b (Some y) (find p ys)) (agree y) ∙ ap (λ (o : Option X). cond (q y) (Some y) o) (find_agree p q agree ys)
 
 -- what is found among those that pass another test
 pub find_filter : {X : Type 0} (f g : X → Bool) (xs : List X) → find g (filter f xs) ≡ find (λ x. g x && f x) xs
@@ -49,12 +44,6 @@ find_map {X} {Y} f p (x ∷ xs) = go (p (f x)) (find_map f p xs)
     go : (b : Bool) → find p (map f xs) ≡ option_map f (find (λ y. p (f y)) xs) → cond b (Some (f x)) (find p (map f xs)) ≡ option_map f (cond b (Some x) (find (λ y. p (f y)) xs))
     go true rest = refl
     go false rest = rest
-
--- what holds of each element holds of the one that is found
-pub find_all : {X : Type 0} (P : X → Type 0) (p : X → Bool) (xs : List X) (z : X) → All P xs → find p xs ≡ Some z → P z
-find_all P p [] z each e = absurd (none-some z e)
-find_all P p (y ∷ ys) z each e =
-    elim (cases_Bool (p y)) [ inl t ↦ subst P (same_Some y z (sym (cond-true (p y) (Some y) (find p ys) t) ∙ e)) (All-head P y ys each) | inr f ↦ find_all P p ys z (All-tail P y ys each) (sym (cond-false (p y) (Some y) (find p ys) f) ∙ e) ]
 
 -- a last element that fails
 pub filter_last : {X : Type 0} (f : X → Bool) (xs : List X) (x : X) → f x ≡ false → filter f (xs ++ x ∷ []) ≡ filter f xs

@@ -1,10 +1,10 @@
 -- What a match table keeps, after one more post or arrival.
-use Rattle.std.proofs.Common.{ℕ, zero, suc, ◌+◌, ◌<◌, ◌≡◌, ◌&&◌, ◌||◌, Bool, true, false, not, if◌then◌else◌, inl, inr, List, [], ◌∷◌, ◌++◌, length, Option, Some, None, All, filter, find, map, reverse, take, drop, get_or, slice_get, slice_set, count_by, refl, arith, sym, ap, ◌∙◌, subst, eq-eqb, append-nil}
+use Rattle.std.proofs.Common.{ℕ, zero, suc, ◌+◌, ◌<◌, ◌≡◌, ◌&&◌, ◌||◌, Bool, true, false, not, if◌then◌else◌, inl, inr, List, [], ◌∷◌, ◌++◌, length, Option, Some, None, All, filter, find, map, reverse, take, get_or, slice_get, slice_set, count_by, refl, arith, sym, ap, ◌∙◌, subst, eq-eqb, append-nil}
 use Rattle.std.specs.Option.{IfSome, option_map}
 use Rattle.std.specs.List.{list_any}
 use Rattle.std.proofs.lemmas.Bool.{cases_eq, ne_eqb}
 use Rattle.std.proofs.lemmas.Option.{slice_get_read, same_Some}
-use Rattle.std.proofs.lemmas.List.{length-set, length-map, length-reverse, map_push, reverse-append, take_all, drop_all}
+use Rattle.std.proofs.lemmas.List.{length-set, length-map, length-reverse, map_push, reverse-append}
 use Rattle.std.proofs.lemmas.List.Elements.{All-weaker, All-filter, filter-append}
 use Rattle.std.proofs.lemmas.List.Folds.{list_any_more, list_any_at}
 use Rattle.goal_graph.specs.declared.action.OpId.{OpId}
@@ -14,7 +14,7 @@ use Rattle.goal_graph.specs.Fault.{IsOp}
 use Rattle.goal_graph.specs.Action.{Act, same_op, happened}
 use Rattle.goal_graph.specs.Matching.{Pair, pair_of, fits, is_paired, new_pair, pairs}
 use Rattle.goal_graph.specs.Laws.{IsSend, IsReceive}
-use Rattle.goal_graph.proofs.ForCallers.{pairs_same, paired_stays}
+use Rattle.goal_graph.proofs.ForCallers.{pairs_same, paired_stays, find_agree, find_all, op_of_kind}
 use Rattle.sim_match.specs.declared.match_table.Event.{Event}
 use Rattle.sim_match.specs.declared.pattern.Pattern.{Pattern}
 use Rattle.sim_match.specs.declared.match_list.MatchEntry.{MatchEntry}
@@ -25,8 +25,7 @@ use Rattle.sim_match.specs.Matcher.{act_of, PatternLists, actions_of, IsNew, Are
 use Rattle.sim_match.proofs.Ops.{post_suits, arrival_suits, actions_fewer}
 use Rattle.sim_match.proofs.Pairs.{in_pair, paired_more, pairs_with}
 use Rattle.sim_match.proofs.Written.{slice_get_written, slice_get_elsewhere}
-use Rattle.sim_match.proofs.Targets.{exists_kind}
-use Rattle.sim_match.proofs.Finding.{find_alike, find_agree, find_filter, find_none, find_all, find_either, filter_last, filter_last_passes}
+use Rattle.sim_match.proofs.Finding.{find_alike, find_filter, find_none, find_either, filter_last, filter_last_passes}
 use Rattle.sim_match.proofs.PatternLemmas.{fits_list, fits_any, lists_once, lists_within}
 use Rattle.sim_match.proofs.Entries.{entries_same, entries_other, entries_order, oldest_entry, posted_receives, posted_exist, arrived_exist, entries_fewer}
 use Rattle.sim_match.proofs.MatchListLemmas.{match_list_ready, match_list_kept, match_list_found, match_list_pushed, match_list_later}
@@ -64,12 +63,6 @@ and_or false t u = refl
 no_number : (o : Option ℕ) → same_number o None ≡ false
 no_number None = refl
 no_number (Some i) = refl
-
--- a list that was lent whole and comes back
-pub whole_back : {X : Type 0} (n : ℕ) (xs ys : List X) → length xs ≡ length ys → n ≡ length ys → take n (xs ++ drop (length xs) ys) ≡ xs
-whole_back {X} n xs ys long all =
-    let rest : drop (length xs) ys ≡ [] = drop_all (length xs) ys (omega (arith, long)) in
-    ap (λ (zs : List X). take n (xs ++ zs)) rest ∙ ap (take n) (append-nil xs) ∙ take_all n xs (omega (arith, long, all))
 
 -- what is found exists
 pub met_exists : (plans : List Plan) (es : List MatchEntry) (test : MatchEntry → Bool) (met : Option MatchEntry) → met ≡ find test es → All (λ (e : MatchEntry). IsOp plans e.op) es → IfSome met (λ (e : MatchEntry). IsOp plans e.op)
@@ -147,7 +140,7 @@ module _ (plans : List Plan) (keys : List Pattern) (lists : List PatternLists) (
         omega (arith, fewer, m.roomy)
 
     pub post_exists : IsOp plans x
-    post_exists = exists_kind plans x _ r.kind
+    post_exists = op_of_kind plans x _ r.kind
 
     pub post_listed : IsListed plans keys x
     post_listed = m.listed x r
@@ -239,7 +232,7 @@ module _ (plans : List Plan) (keys : List Pattern) (lists : List PatternLists) (
         omega (arith, fewer, m.roomy)
 
     pub arrival_exists : IsOp plans y
-    arrival_exists = exists_kind plans y _ s.kind
+    arrival_exists = op_of_kind plans y _ s.kind
 
     abbrev joins : List (Option ℕ) → ℕ → List MatchEntry
     joins numbers l = sends_of plans keys h l ++ (if list_any (same_number (Some l)) numbers then entry plans keys h y ∷ [] else [])

@@ -1,6 +1,5 @@
 pub mod Ops
 pub mod Pairs
-pub mod Targets
 pub mod Written
 pub mod Finding
 pub mod PatternLemmas

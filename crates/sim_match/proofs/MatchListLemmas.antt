@@ -9,7 +9,8 @@ use Rattle.goal_graph.specs.Fault.{IsOp}
 use Rattle.sim_match.specs.declared.match_list.MatchEntry.{MatchEntry}
 use Rattle.sim_match.specs.MatchLists.{MatchList, is_marked, IsReady, IsFirst, pushed}
 use Rattle.sim_match.specs.Matcher.{IsMatchList}
-use Rattle.sim_match.proofs.Finding.{find_agree, find_at_place, find_none}
+use Rattle.sim_match.proofs.Finding.{find_at_place, find_none}
+use Rattle.goal_graph.proofs.ForCallers.{find_agree}
 
 module _ (es : List MatchEntry) (paired : OpId → Bool) (room : ℕ) (old : MatchList) (is : IsMatchList es paired room old) where
   -- its first entry may be looked for, where what is paired is marked

@@ -1,12 +1,11 @@
 -- The operations that were posted or have arrived: each is there once, of the right kind, and there are no more than the schedule has.
-use Rattle.std.proofs.Common.{◌+◌, ◌<◌, ◌≤◌, ◌≡◌, ◌≢◌, ◌==◌, ◌&&◌, ◌⊎◌, Bool, true, false, not, cond, if◌then◌else◌, inl, inr, List, [], ◌∷◌, ◌++◌, length, Option, Some, None, All, AllPairs, Contains, find, count_by, refl, arith, sym, ap, ap₂, ◌∙◌, subst}
+use Rattle.std.proofs.Common.{◌+◌, ◌<◌, ◌≤◌, ◌≡◌, ◌==◌, ◌&&◌, ◌⊎◌, Bool, true, false, not, cond, if◌then◌else◌, inl, inr, List, [], ◌∷◌, ◌++◌, length, Option, Some, None, All, Contains, find, count_by, refl, arith, sym, ap, ap₂, ◌∙◌, subst}
 use Rattle.std.specs.Option.{option_or}
 use Rattle.std.proofs.lemmas.Bool.{cases_Bool, eqb-true, and_parts, and_from, and_right, both_ways, not-true, not_from_true, not_from_false}
 use Rattle.std.proofs.lemmas.List.{append-nil}
 use Rattle.std.proofs.lemmas.List.Sums.{sum_by_push}
 use Rattle.std.proofs.lemmas.List.Folds.{find-append}
 use Rattle.std.proofs.lemmas.List.Elements.{All-nil, All-push, All-weaker}
-use Rattle.std.proofs.lemmas.List.Quantifiers.{all_pairs_push}
 use Rattle.goal_graph.specs.declared.action.OpId.{OpId}
 use Rattle.goal_graph.specs.declared.action.Class.{Class}
 use Rattle.goal_graph.specs.declared.action.Class.TheVariants.{Arrive, Serve, Data, Post, Begin}
@@ -94,21 +93,6 @@ module _ (plans : List Plan) where
   action_suits [] c x i e = absurd (both_ways _ (happened_none c x) e)
   action_suits (a ∷ h) c x i e =
       elim (happened_cases c x a h e) [ inl was ↦ action_suits h c x i.0 was | inr now ↦ subst (λ (y : OpId). has_class (kind_at plans y) c ≡ true) (is_act_op c x a now) (subst (λ (d : Class). has_class (kind_at plans a.op) d ≡ true) (is_act_class c x a now) i.1.suited) ]
-
-  -- no operation stands twice
-  pub ops_apart : (class : Class) (h : List Act) → ArePostsAndArrivals plans h → AllPairs (λ (x y : OpId). x ≢ y) (ops_of class h)
-  unfolding ops_of
-  ops_apart class [] i = λ j k d l b. absurd (omega arith)
-  ops_apart class (a ∷ h) i = more (ops_apart class h i.0) (cases_Bool (place a.class == place class))
-    where
-      fresh : (place a.class == place class) ≡ true → happened class a.op h ≡ false
-      fresh t =
-          subst (λ (c : Class). happened c a.op h ≡ false) (place_same a.class class (eqb-true _ _ t)) i.1.fresh
-
-      more : AllPairs (λ (x y : OpId). x ≢ y) (ops_of class h) → (((place a.class == place class) ≡ true) ⊎ ((place a.class == place class) ≡ false)) → AllPairs (λ (x y : OpId). x ≢ y) (ops_of class (a ∷ h))
-      more before (inl t) =
-          subst (AllPairs (λ (x y : OpId). x ≢ y)) (sym (ops_same class a h t)) (all_pairs_push (λ (x y : OpId). x ≢ y) (ops_of class h) a.op before (λ k d b e. both_ways _ (fresh t) (subst (λ (x : OpId). happened class x h ≡ true) e (ops_happened class h k d b))))
-      more before (inr f) = subst (AllPairs (λ (x y : OpId). x ≢ y)) (sym (ops_other class a h f)) before
 
   -- an operation that passes the test and whose action of that class has not happened
   abbrev still_to_come : (OpId → Bool) → Class → List Act → OpId → Bool

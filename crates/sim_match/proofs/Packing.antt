@@ -143,14 +143,6 @@ pub record AreBuilt (side : Side) (capacities : List Capacity) (spans : List Spa
   pub within : (i : ℕ) (s : Span) → slice_get spans i ≡ Some s → s.end ≤ end
   pub empty : (entries : List MatchEntry) → map (list_at entries) spans ≡ map (empty_list side) capacities
 
-pub built_none : (side : Side) → AreBuilt side [] [] 0
-built_none side = record {
-  apart = λ i j s t b e f. absurd (none-some s e);
-  fits = λ i s e. absurd (none-some s e);
-  within = λ i s e. absurd (none-some s e);
-  empty = λ entries. refl;
-}
-
 -- one span more
 pub built_more : (side : Side) (capacities : List Capacity) (spans : List Span) (end : ℕ) → AreBuilt side capacities spans end → (c : Capacity) (stop : ℕ) → stop ≡ end + room_of side c → AreBuilt side (capacities ++ c ∷ []) (spans ++ record { start = end; len = 0; head = 0; end = stop } ∷ []) stop
 built_more side capacities spans end b c stop more = record {
@@ -172,10 +164,3 @@ built_more side capacities spans end b c stop more = record {
         go [] (suc i) e = absurd (none-some s e)
         go (x ∷ xs) zero e = inl e
         go (x ∷ xs) (suc i) e = elim (go xs i e) [ inl old ↦ inl old | inr its ↦ inr (ap suc its.0, its.1) ]
-
-pub built_packed : (side : Side) (capacities : List Capacity) (spans : List Span) (end : ℕ) → AreBuilt side capacities spans end → (entries : List MatchEntry) → length entries ≡ end → ArePacked spans entries
-built_packed side capacities spans end b entries long = record {
-  apart = b.apart;
-  fits = b.fits;
-  within = λ i s e. let low = b.within i s e in omega (arith, low, long);
-}

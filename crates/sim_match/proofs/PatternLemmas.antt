@@ -12,20 +12,10 @@ use Rattle.goal_graph.specs.declared.plan.Kind.TheVariants.{Calc, Send, Recv}
 use Rattle.goal_graph.specs.Schedule.{Plan, kind_at, operations}
 use Rattle.goal_graph.specs.Matching.{accepts, fits, fits_kinds}
 use Rattle.goal_graph.specs.Laws.{IsSend, IsReceive}
-use Rattle.goal_graph.proofs.ForCallers.{kind_listed}
+use Rattle.goal_graph.proofs.ForCallers.{kind_listed, same_choice_true, same_choice_itself}
 use Rattle.sim_match.specs.declared.pattern.Pattern.{Pattern}
 use Rattle.sim_match.specs.Patterns.{same_choice, same_pattern, pattern_of, patterns_for, same_number, number, list_number, numbers_for, list_of, lists_for, for_list, IsListed, AreListed}
 use Rattle.sim_match.specs.Capacities.{AreOnce, AreWithin}
-
-same_choice_true : (a b : Option ℕ) → same_choice a b ≡ true → a ≡ b
-same_choice_true None None e = refl
-same_choice_true None (Some n) e = absurd (both_ways false refl e)
-same_choice_true (Some k) None e = absurd (both_ways false refl e)
-same_choice_true (Some k) (Some n) e = ap (λ (i : ℕ). Some i) (eqb-true k n e)
-
-same_choice_itself : (a : Option ℕ) → same_choice a a ≡ true
-same_choice_itself None = refl
-same_choice_itself (Some k) = eq-eqb k k refl
 
 pub same_pattern_true : (p q : Pattern) → same_pattern p q ≡ true → p ≡ q
 same_pattern_true p q e =

@@ -7,7 +7,7 @@ use Rattle.goal_graph.specs.declared.action.Class.{Class}
 use Rattle.goal_graph.specs.declared.action.Class.TheVariants.{Arrive, Serve, Data, Post, Begin}
 use Rattle.goal_graph.specs.Schedule.{Plan}
 use Rattle.goal_graph.specs.Action.{Act, place, is_act, happened, oldest}
-use Rattle.goal_graph.specs.Matching.{Pair, pair_of, fits, is_paired, is_open_receive, is_open_send, add_pair, new_pair, pairs, partner}
+use Rattle.goal_graph.specs.Matching.{Pair, pair_of, fits, is_paired, is_open_receive, is_open_send, add_pair, new_pair, pairs}
 use Rattle.goal_graph.proofs.ForCallers.{place_same, is_act_class, happened_other}
 use Rattle.sim_match.specs.PostsAndArrivals.{is_post_or_arrival, is_post_or_arrival_class, send_for, receive_for}
 
@@ -87,9 +87,6 @@ module _ (plans : List Plan) where
 
   pub receive_for_filtered : (h : List Act) (m : OpId) → receive_for plans (filter is_post_or_arrival h) m ≡ receive_for plans h m
   receive_for_filtered h m = ap (option_map (λ (p : Pair). p.recv)) (new_pair_filtered h Arrive m)
-
-  pub partner_filtered : (h : List Act) (x : OpId) → partner (pairs plans (filter is_post_or_arrival h)) x ≡ partner (pairs plans h) x
-  partner_filtered h x = ap (λ (ps : List Pair). partner ps x) (pairs_filtered h)
 
 -- what is posted or has arrived
 pub happened_filtered : (class : Class) (x : OpId) (h : List Act) → is_post_or_arrival_class class ≡ true → happened class x (filter is_post_or_arrival h) ≡ happened class x h

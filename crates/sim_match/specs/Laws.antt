@@ -15,7 +15,8 @@ SamePairs = (plans : List Plan) (h : List Act) → pairs plans (filter is_post_o
 
 -- and so does the pair that one more action makes
 abbrev pub SameNewPair : Type 0
-SameNewPair = (plans : List Plan) (h : List Act) (class : Class) (x : OpId) → new_pair plans (pairs plans (filter is_post_or_arrival h)) (filter is_post_or_arrival h) class x ≡ new_pair plans (pairs plans h) h class x
+SameNewPair = (plans : List Plan) (h : List Act) (class : Class) (x : OpId)
+    → new_pair plans (pairs plans (filter is_post_or_arrival h)) (filter is_post_or_arrival h) class x ≡ new_pair plans (pairs plans h) h class x
 
 -- what is posted or has arrived among all actions is so among the posts and arrivals
 abbrev pub SameHappened : Type 0

@@ -1,10 +1,10 @@
 -- Marks of operations, entries of posts and arrivals, and match lists.
-use Rattle.std.specs.Prelude.{ℕ, ◌≡◌, ◌≤◌, ◌==◌, ◌||◌, not, Bool, true, false, List, [], ◌∷◌, ◌++◌, length, take, find, All, Option, Some, None, nat_lt, if◌then◌else◌, slice_get}
+use Rattle.std.specs.Prelude.{ℕ, ◌≡◌, ◌≤◌, ◌||◌, not, Bool, true, false, List, [], ◌∷◌, ◌++◌, length, take, find, All, Option, Some, None, nat_lt, if◌then◌else◌, slice_get}
 use Rattle.goal_graph.specs.declared.action.OpId.{OpId}
 use Rattle.goal_graph.specs.declared.action.Class.{Class}
 use Rattle.goal_graph.specs.Schedule.{Plan, operations}
 use Rattle.goal_graph.specs.Fault.{IsOp}
-use Rattle.goal_graph.specs.Action.{Act, place, same_op}
+use Rattle.goal_graph.specs.Action.{Act, is_of, same_op}
 use Rattle.sim_match.specs.declared.match_list.MatchEntry.{MatchEntry}
 
 -- a match list: its entries, oldest first, of which those before the head are skipped, and room for so many
@@ -40,7 +40,7 @@ earlier (Some e) (Some f) = if nat_lt f.at e.at then Some f else Some e
 unfoldable pub entries_of : Class → List Act → List MatchEntry
 entries_of class [] = []
 entries_of class (a ∷ h) =
-    entries_of class h ++ (if place a.class == place class then record { op = a.op; at = length h } ∷ [] else [])
+    entries_of class h ++ (if is_of class a then record { op = a.op; at = length h } ∷ [] else [])
 
 -- a match list of operations, each with its mark, of which those before the head are marked
 pub record IsReady (plans : List Plan) (marks : List Bool) (match_list : MatchList) : Type 0 where

@@ -90,7 +90,9 @@ module _ (plans : List Plan) (keys : List Pattern) where
   -- waits.
   pub record IsJoined (h : List Act) (m : OpId) (numbers : List (Option ℕ)) (lists : List PatternLists) (met : Option MatchEntry) : Type 0 where
     pub one_each : length lists ≡ length keys
-    pub each : (list : ℕ) (w : PatternLists) → slice_get lists list ≡ Some w → AreLists (is_paired (pairs plans h)) list (receives_of h list) (sends_of h list ++ (if list_any (same_number (Some list)) numbers then record { op = m; at = length h } ∷ [] else [])) w
+    pub each : (list : ℕ) (w : PatternLists)
+        → slice_get lists list ≡ Some w
+        → AreLists (is_paired (pairs plans h)) list (receives_of h list) (sends_of h list ++ (if list_any (same_number (Some list)) numbers then record { op = m; at = length h } ∷ [] else [])) w
     pub found : met ≡ find (λ (e : MatchEntry). not (is_paired (pairs plans h) e.op) && list_any (same_number (list_of plans keys e.op)) numbers) (entries_of Post h)
 
 -- what a match table keeps

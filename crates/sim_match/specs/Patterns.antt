@@ -1,5 +1,5 @@
 -- The patterns of receives, and the lists in which an operation stands.
-use Rattle.std.specs.Prelude.{ℕ, ◌≡◌, ◌<◌, ◌==◌, ◌&&◌, Bool, true, false, List, [], ◌∷◌, length, map, Option, Some, None, is_some, position}
+use Rattle.std.specs.Prelude.{ℕ, ◌≡◌, ◌<◌, ◌==◌, ◌&&◌, Bool, false, List, [], ◌∷◌, length, map, Option, Some, None, is_some, position}
 use Rattle.std.specs.List.{list_any, list_all}
 use Rattle.std.specs.List.Sorted.{IsStrictlySortedBy}
 use Rattle.std.specs.Option.{option_cmp}
@@ -11,13 +11,7 @@ use Rattle.goal_graph.specs.declared.plan.Kind.TheVariants.{Calc, Send, Recv}
 use Rattle.goal_graph.specs.Schedule.{Plan, kind_at}
 use Rattle.goal_graph.specs.Laws.{IsReceive}
 use Rattle.sim_match.specs.declared.pattern.Pattern.{Pattern}
-
--- the same number, or any both times
-abbrev pub same_choice : Option ℕ → Option ℕ → Bool
-same_choice None None = true
-same_choice None (Some n) = false
-same_choice (Some k) None = false
-same_choice (Some k) (Some n) = k == n
+pub use Rattle.goal_graph.specs.Choices.{same_choice}
 
 abbrev pub same_pattern : Pattern → Pattern → Bool
 same_pattern p q = (p.rank == q.rank) && (same_choice p.from q.from && same_choice p.tag q.tag)

@@ -135,10 +135,6 @@ module _ (ahead : List (Option Timed)) (waiting : Grouped Timed) (heads : List (
         go None f empty = let none : key_at new_waiting.keys other ≡ None = empty other e in absurd (cc)
         go (Some h) f least = renewed.at_floor h f
 
-    -- the slot itself
-    pub here_ahead : (k : Timed) → key_at new_ahead slot ≡ Some k → effective_at new_heads new_ahead new_waiting slot ≡ Some k
-    here_ahead k e = from_ahead new_heads new_ahead new_waiting slot k e
-
     pub here_nothing : key_at new_ahead slot ≡ None → key_at new_waiting.keys slot ≡ None → effective_at new_heads new_ahead new_waiting slot ≡ None
     here_nothing e f = from_nothing new_heads new_ahead new_waiting slot e f
 

@@ -10,7 +10,7 @@ use Rattle.goal_graph.specs.declared.action.OpId.{OpId}
 use Rattle.goal_graph.specs.declared.plan.Op.{Op}
 use Rattle.goal_graph.specs.Schedule.{Plan, ops_at, places_of_rank, places_from, operations}
 use Rattle.goal_graph.specs.Fault.{op_count, AreCountsWithin}
-use Rattle.goal_graph.proofs.ForCallers.{ops_at_some}
+use Rattle.goal_graph.proofs.ForCallers.{ops_at_some, length-places_of_rank}
 use Rattle.sim_order.specs.Order.{IsOrder}
 use Rattle.sim_queue.specs.declared.groups.Home.{Home}
 use Rattle.sim_queue.specs.Map.{key_at, IsEmptyMap, IsLeast}
@@ -34,11 +34,6 @@ in_rank rank first (o ∷ os) (suc i) x e =
     let rest = in_rank rank (first + 1) os i x e in
     (rest.0, omega (arith, rest.1), omega (arith, rest.2))
 
-length-rank : (rank first : ℕ) (ops : List Op) → length (places_of_rank rank first ops) ≡ length ops
-unfolding places_of_rank
-length-rank rank first [] = refl
-length-rank rank first (o ∷ os) = ap suc (length-rank rank (first + 1) os)
-
 -- an operation that stands at a slot, where the ranks are numbered from the first on
 pub record IsPlaced (plans : List Plan) (first slot : ℕ) (x : OpId) : Type 0 where
   pub rank : ℕ
@@ -60,7 +55,7 @@ placed_more first p plans slot x rest e = go (cases_lt slot (length here))
     read = get_or_from_slice_get (here ++ there) slot x x e
 
     size : length here ≡ length p.ops
-    size = length-rank first 0 p.ops
+    size = length-places_of_rank first 0 p.ops
 
     go : (slot < length here) ⊎ (length here ≤ slot) → IsPlaced (p ∷ plans) first slot x
     go (inl l) =
@@ -95,7 +90,7 @@ length-places : (first : ℕ) (plans : List Plan) → length (places_from first 
 unfolding places_from
 length-places first [] = refl
 length-places first (p ∷ plans) =
-    omega (arith, length-append (places_of_rank first 0 p.ops) (places_from (first + 1) plans), length-rank first 0 p.ops, length-places (first + 1) plans, sum_by-cons (λ n. n) (length p.ops) (map size_of plans))
+    omega (arith, length-append (places_of_rank first 0 p.ops) (places_from (first + 1) plans), length-places_of_rank first 0 p.ops, length-places (first + 1) plans, sum_by-cons (λ n. n) (length p.ops) (map size_of plans))
 
 -- so many operations fit
 pub few_in_all : (plans : List Plan) → AreCountsWithin plans → sum (map size_of plans) < 2 ^ 32
@@ -307,9 +302,6 @@ module _ {K : Type 0} where
 
       top : (place : ℕ) × IsLeast before (heap_at heaps rank) place head
       top = subst (IsHeadOf before (heap_at heaps rank)) least.has (is.headed rank top_in)
-
-      pub top_not_empty : IsEmptyMap (heap_at heaps rank) → ⊥
-      top_not_empty empty = no_key head (sym (empty top.0) ∙ top.1.has)
 
       module _ (place : ℕ) (key : K) (least_here : IsLeast before (heap_at heaps rank) place key) where
         slot_at : (slot : ℕ) × (slice_get homes slot ≡ Some (record { group = rank; place = place }))

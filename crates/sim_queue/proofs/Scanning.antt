@@ -1,11 +1,10 @@
 -- The best of the slots so far, one slot more, and all.
-use Rattle.std.proofs.Common.{◌≡◌, ℕ, ◌+◌, ◌<◌, ◌≤◌, ◌↔◌, ◌⊎◌, Bool, true, false, List, length, Option, Some, None, IsNone, IfSome, if◌then◌else◌, refl, subst, arith, inl, inr}
+use Rattle.std.proofs.Common.{◌≡◌, ℕ, ◌+◌, ◌<◌, ◌≤◌, ◌↔◌, ◌⊎◌, Bool, List, length, Option, Some, None, IsNone, IfSome, refl, subst, arith, inl, inr}
 use Rattle.std.proofs.lemmas.List.{get_or_past}
 use Rattle.std.proofs.lemmas.Bool.{cases_order}
 use Rattle.sim_order.specs.Order.{IsOrder}
 use Rattle.sim_queue.specs.Map.{key_at, IsEmptyMap, IsLeast}
-use Rattle.sim_queue.specs.Scan.{lesser, IsBestBelow}
-use Rattle.sim_queue.proofs.Weak.{not_both, through}
+use Rattle.sim_queue.specs.Scan.{IsBestBelow}
 
 module _ {K : Type 0} (before : K → K → Bool) (laws : IsOrder before) (keys : List (Option K)) where
   -- a slot below n + 1 is below n, or it is n
@@ -26,23 +25,6 @@ module _ {K : Type 0} (before : K → K → Bool) (laws : IsOrder before) (keys 
     has = h.has;
     least = λ other k p f. elim (last_or_below n other p) [ inl q ↦ h.least other k q f | inr q ↦ let g : key_at keys n ≡ Some k = subst (λ i. key_at keys i ≡ Some k) q f in absurd (cc) ];
   }
-
-  pub some_more : (n : ℕ) (best : Option (ℕ × K)) (key : K) → IsBestBelow before keys n best → key_at keys n ≡ Some key → IsBestBelow before keys (n + 1) (Some (lesser before best n key))
-  some_more n None key h e = record {
-    has = e;
-    least = λ other k p f. elim (last_or_below n other p) [ inl q ↦ let g : key_at keys other ≡ None = h other q in absurd (cc) | inr q ↦ let g : key_at keys n ≡ Some k = subst (λ i. key_at keys i ≡ Some k) q f in let s : k ≡ key = cc in rw s (laws.irreflexive key) ];
-  }
-  some_more n (Some r) key h e = go (before key r.1) refl
-    where
-      go : (b : Bool) → before key r.1 ≡ b → IsBestBelow before keys (n + 1) (Some (if b then (n, key) else r))
-      go true f = record {
-        has = e;
-        least = λ other k p g. elim (last_or_below n other p) [ inl q ↦ through before laws k r.1 key (h.least other k q g) (not_both before laws key r.1 f) | inr q ↦ let t : key_at keys n ≡ Some k = subst (λ i. key_at keys i ≡ Some k) q g in let s : k ≡ key = cc in rw s (laws.irreflexive key) ];
-      }
-      go false f = record {
-        has = h.has;
-        least = λ other k p g. elim (last_or_below n other p) [ inl q ↦ h.least other k q g | inr q ↦ let t : key_at keys n ≡ Some k = subst (λ i. key_at keys i ≡ Some k) q g in let s : k ≡ key = cc in rw s f ];
-      }
 
   -- past the end no slot has a key
   pub past_end : (slot : ℕ) → length keys ≤ slot → key_at keys slot ≡ None

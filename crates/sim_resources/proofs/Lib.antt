@@ -2,7 +2,6 @@ pub mod Lists
 pub mod Shares
 pub mod Numbered
 pub mod FreeTimes
-pub mod OfKind
 pub mod Worth
 pub mod HoldLemmas
 pub mod ForCallers

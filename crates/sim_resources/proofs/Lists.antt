@@ -11,10 +11,6 @@ get_kept [] ys i x e = absurd (cc e)
 get_kept (y ∷ xs) ys zero x e = e
 get_kept (y ∷ xs) ys (suc i) x e = get_kept xs ys i x e
 
-pub get_last : {X : Type 0} (xs : List X) (x : X) → slice_get (xs ++ x ∷ []) (length xs) ≡ Some x
-get_last [] x = refl
-get_last (y ∷ xs) x = get_last xs x
-
 -- each element is an earlier one or the new one
 pub get_either : {X : Type 0} (xs : List X) (x : X) (i : ℕ) (y : X) → slice_get (xs ++ x ∷ []) i ≡ Some y → (slice_get xs i ≡ Some y) ⊎ ((i ≡ length xs) × (y ≡ x))
 get_either [] x zero y e = inr (refl, sym (same_Some x y e))

@@ -8,8 +8,9 @@ use Rattle.goal_graph.specs.declared.plan.Op.{Op}
 use Rattle.goal_graph.specs.Schedule.{Plan, op_at, operations}
 use Rattle.sim_resources.specs.FreeTimes.{shares}
 use Rattle.sim_resources.specs.Slots.{HasSlot, IsNumbered}
-use Rattle.sim_resources.proofs.Lists.{get_kept, get_last, get_either, found_first, none_passes, none_first}
+use Rattle.sim_resources.proofs.Lists.{get_kept, get_either, found_first, none_passes, none_first}
 use Rattle.sim_resources.proofs.Shares.{shares-is, shares_itself, shares_back}
+use Rattle.goal_graph.proofs.ForCallers.{get_last}
 
 -- a key is a rank and the number of a cpu or of an interface
 abbrev pub same_key : ℕ × ℕ → ℕ × ℕ → Bool

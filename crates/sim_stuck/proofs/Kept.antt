@@ -33,12 +33,3 @@ contains_kept {X} p (y ∷ ys) x c t = go (contains_kept p ys x) (p y) refl (con
 pub kept_contained : {X : Type 0} (p : X → Bool) (xs : List X) (x : X) → Contains (filter p xs) x → Contains xs x × (p x ≡ true)
 kept_contained {X} p xs x c =
     (All-contains (Contains xs) (filter p xs) x (All-filter p (Contains xs) xs (All-contains_itself xs)) c, All-contains (λ (z : X). p z ≡ true) (filter p xs) x (filter_passes p xs) c)
-
--- what `map` gives comes from an element
-pub contains_source : {X Y : Type 0} (f : X → Y) (xs : List X) (y : Y) → Contains (map f xs) y → (x : X) × Contains xs x × (f x ≡ y)
-contains_source f [] y (k, b, e) = absurd (omega (arith, b))
-contains_source {X} {Y} f (z ∷ zs) y c = go (contains_source f zs y) (contains_cases (f z) (map f zs) y c)
-  where
-    go : (Contains (map f zs) y → (x : X) × Contains zs x × (f x ≡ y)) → ((f z ≡ y) ⊎ Contains (map f zs) y) → (x : X) × Contains (z ∷ zs) x × (f x ≡ y)
-    go rest (inl e) = (z, contains_first z zs z refl, e)
-    go rest (inr c) = let r = rest c in (r.0, contains_more z zs r.0 r.1, r.2)

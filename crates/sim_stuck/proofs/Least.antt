@@ -19,18 +19,7 @@ use Rattle.sim_stuck.specs.declared.pattern.Pattern.{Pattern}
 use Rattle.sim_stuck.specs.declared.partner.Firsts.{Firsts}
 use Rattle.sim_stuck.specs.Patterns.{pattern_cmp, op_cmp, is_for, is_by, least, AreFirsts}
 use Rattle.sim_stuck.proofs.PatternFacts.{alike_back, four, exact_of, any_tag_of, any_source_of, any_of}
-
--- what holds of each element holds of the one that is found
-find_all : {X : Type 0} (P : X → Type 0) (p : X → Bool) (xs : List X) (z : X) → All P xs → find p xs ≡ Some z → P z
-find_all P p [] z each e = absurd (none-some z e)
-find_all P p (y ∷ ys) z each e =
-    elim (cases_Bool (p y)) [ inl t ↦ subst P (same_Some y z (sym (cond-true (p y) (Some y) (find p ys) t) ∙ e)) (All-head P y ys each) | inr f ↦ find_all P p ys z (All-tail P y ys each) (sym (cond-false (p y) (Some y) (find p ys) f) ∙ e) ]
-
--- tests that agree find the same
-find_agree : {X : Type 0} (p q : X → Bool) → ((x : X) → p x ≡ q x) → (xs : List X) → find p xs ≡ find q xs
-find_agree p q agree [] = refl
-find_agree {X} p q agree (y ∷ ys) =
-    ap (λ (b : Bool). cond b (Some y) (find p ys)) (agree y) ∙ ap (λ (o : Option X). cond (q y) (Some y) o) (find_agree p q agree ys)
+use Rattle.goal_graph.proofs.ForCallers.{find_all, find_agree}
 
 find_nothing : {X : Type 0} (xs : List X) → find (λ (x : X). false) xs ≡ None
 find_nothing [] = refl

@@ -16,13 +16,13 @@ use Rattle.goal_graph.specs.Allowed.{has_started}
 use Rattle.goal_graph.specs.Interleaving.{IsInterleaving, IsCompleteInterleaving}
 use Rattle.goal_graph.specs.Order.{IsBefore}
 use Rattle.goal_graph.specs.Laws.{IsTaken}
-use Rattle.goal_graph.proofs.ForCallers.{listed_places, operations_in_order, needs-exist}
+use Rattle.goal_graph.proofs.ForCallers.{listed_places, operations_in_order, needs-exist, contains_source}
 use Rattle.sim_params.specs.Costs.{CostModel, is_eager}
 use Rattle.sim_params.specs.Run.{IsRun, IsFinished}
 use Rattle.sim_params.proofs.ForCallers.{run_interleaving, complete_interleaving, op_is_unmet, partner_is_absent, op_is_stuck, partner_is_stuck, alone_is_alone}
 use Rattle.sim_stuck.specs.StuckList.{ops_of, IsInOrder, NamesListed, with_reason, stuck_list, ListsStuck, AloneAreAlone}
 use Rattle.sim_params.specs.Stuck.{IsStuck, are_fit, lacks_end}
-use Rattle.sim_stuck.proofs.Kept.{contains_kept, kept_contained, contains_source}
+use Rattle.sim_stuck.proofs.Kept.{contains_kept, kept_contained}
 
 module _ (plans : List Plan) (costs : CostModel) (h : List Timed) where
   ops_of_reasons : (xs : List OpId) → ops_of (map (with_reason plans costs h) xs) ≡ xs

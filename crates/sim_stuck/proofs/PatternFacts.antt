@@ -8,40 +8,9 @@ use Rattle.std.proofs.lemmas.Bool.{both_ways, eqb-true, false_from_ne_true, le-l
 use Rattle.goal_graph.specs.Matching.{accepts}
 use Rattle.sim_stuck.specs.declared.pattern.Pattern.{Pattern}
 use Rattle.sim_stuck.specs.Patterns.{pattern_cmp}
-
-flip : (m n : ℕ) → (m == n) ≡ (n == m)
-flip m n = go (n == m) refl
-  where
-    go : (b : Bool) → (n == m) ≡ b → (m == n) ≡ b
-    go true e = eq-eqb m n (sym (eqb-true n m e))
-    go false e = false_from_ne_true (m == n) (λ t. both_ways (n == m) e (eq-eqb n m (sym (eqb-true m n t))))
-
-same_number : (m n : ℕ) → is_eq (nat_cmp m n) ≡ (m == n)
-same_number m n = go (nat_lt m n) (m == n) refl refl
-  where
-    go : (s t : Bool) → nat_lt m n ≡ s → (m == n) ≡ t → is_eq (cond s Less (cond t Equal Greater)) ≡ t
-    go true true e f = absurd (both_ways (nat_lt m n) (le-ltb m n (let same = eqb-true m n f in omega (arith, same))) e)
-    go true false e f = refl
-    go false true e f = refl
-    go false false e f = refl
-
-both : (a b : Ordering) → is_eq (ordering_then a b) ≡ (is_eq a && is_eq b)
-both Less b = refl
-both Equal b = refl
-both Greater b = refl
-
--- the same number, or any both times
-abbrev same_choice : Option ℕ → Option ℕ → Bool
-same_choice None None = true
-same_choice None (Some n) = false
-same_choice (Some k) None = false
-same_choice (Some k) (Some n) = k == n
-
-choice : (a b : Option ℕ) → is_eq (option_cmp nat_cmp a b) ≡ same_choice a b
-choice None None = refl
-choice None (Some n) = refl
-choice (Some k) None = refl
-choice (Some k) (Some n) = same_number k n
+use Rattle.goal_graph.proofs.ForCallers.{alike_numbers, alike_choices, eqb-swapped}
+use Rattle.std.specs.Cmp.{tied_then}
+use Rattle.goal_graph.specs.Choices.{same_choice}
 
 -- p, of a message, is the pattern q of a receive
 abbrev pub is_alike : Pattern → Pattern → Bool
@@ -49,7 +18,7 @@ is_alike p q = (p.rank == q.rank) && (same_choice q.from p.from && same_choice q
 
 pub alike_back : (p q : Pattern) → is_eq (pattern_cmp q p) ≡ is_alike p q
 alike_back p q =
-    both (nat_cmp q.rank p.rank) _ ∙ ap₂ (λ (s t : Bool). s && t) (same_number q.rank p.rank ∙ flip q.rank p.rank) (both (option_cmp nat_cmp q.from p.from) _ ∙ ap₂ (λ (s t : Bool). s && t) (choice q.from p.from) (choice q.tag p.tag))
+    sym (tied_then (nat_cmp q.rank p.rank) _) ∙ ap₂ (λ (s t : Bool). s && t) (alike_numbers q.rank p.rank ∙ eqb-swapped q.rank p.rank) (sym (tied_then (option_cmp nat_cmp q.from p.from) _) ∙ ap₂ (λ (s t : Bool). s && t) (alike_choices q.from p.from) (alike_choices q.tag p.tag))
 
 abbrev pub exact_of : ℕ → ℕ → ℕ → Pattern
 exact_of source to tag = record { rank = to; from = Some source; tag = Some tag }

@@ -14,6 +14,7 @@ use Rattle.sim_params.specs.Times.{greatest, end, start}
 use Rattle.sim_params.specs.Stuck.{lacks_end}
 use Rattle.sim_events.specs.Engine.{start_known, end_known}
 use Rattle.sim_timeline.specs.Timeline.{IsSummary, is_unread_send, is_unread, end_or_zero, operation_line, summary_line, first_line, line_by, line_of}
+use Rattle.goal_graph.proofs.ForCallers.{at_kind}
 
 -- the greatest of a list and one more
 pub greatest-append : {A : Type 0} (f : A → ℕ) (xs : List A) (x : A) → greatest f (xs ++ x ∷ []) ≡ max (greatest f xs) (f x)
@@ -23,11 +24,6 @@ greatest-append f (y ∷ ys) x = rw (greatest-append f ys x) (omega arith)
 
 count_by-append_one : {A : Type 0} (p : A → Bool) (xs : List A) (x : A) → count_by p (xs ++ x ∷ []) ≡ count_by p xs + cond (p x) 1 0
 count_by-append_one p xs x = simp fold-append
-
--- the kind of an operation that is there
-pub kind_found : (plans : List Plan) (x : OpId) (o : Op) → op_at plans x ≡ Some o → kind_at plans x ≡ Some o.kind
-unfolding kind_at
-kind_found plans x o h = rw h refl
 
 no_end : (b : Bool) (n : ℕ) → ◌≡◌ {A = ℕ} (cond (is_some (cond b (Some n) None)) 0 1) (cond (not b) 1 0)
 no_end true n = refl
@@ -45,7 +41,7 @@ module _ (plans : List Plan) (costs : CostModel) (h : List Timed) where
   unread_found : (x : OpId) (o : Op) → op_at plans x ≡ Some o
       → is_unread_send (Some o.kind) (start_known plans costs h x) (partner (pairs plans (plain h)) x) ≡ is_unread plans costs h x
   unread_found x o found =
-      ap (λ (k : Option Kind). is_unread_send k (start_known plans costs h x) (partner (pairs plans (plain h)) x)) (sym (kind_found plans x o found))
+      ap (λ (k : Option Kind). is_unread_send k (start_known plans costs h x) (partner (pairs plans (plain h)) x)) (sym (at_kind plans x o found))
       ∙ rw (started (has_started plans x (plain h)) (start plans costs h x)) refl
 
   -- the summary of operations and one more
@@ -71,4 +67,4 @@ module _ (plans : List Plan) (costs : CostModel) (h : List Timed) where
   pub line_is : (x : OpId) (o : Op) → op_at plans x ≡ Some o
       → operation_line x o.kind (start_known plans costs h x) (end_known plans costs h x) (partner (pairs plans (plain h)) x) ≡ line_of plans costs h x
   unfolding line_of
-  line_is x o found = ap (line_by plans costs h x) (sym (kind_found plans x o found))
+  line_is x o found = ap (line_by plans costs h x) (sym (at_kind plans x o found))

@@ -16,7 +16,6 @@ use goal_graph::{Class, Kind, OpId, Timed, When};
 use sim_eager::{begin_at, serve_at};
 use sim_params::Costs;
 use sim_rendezvous::{clear, data_at};
-use sim_resources::message_of;
 
 impl<'a, C: Costs> State<'a, C> {
     /// The possible action of an operation, if it has one. While it has not started its cursor goes on to the first need
@@ -184,7 +183,7 @@ impl<'a, C: Costs> State<'a, C> {
         requires { IsSend self.now.plans send }
         ensures { result ≡ is_eager self.now.plans (C.model self.now.costs) send }
     {
-        let message = message_of(self.sched(), send);
+        let message = self.sched().message(send);
         self.costs().eager(send.rank, message.to, message.bytes)
     }
 

@@ -1,7 +1,7 @@
 use Rattle.std.proofs.Common.{List, slice_set, ap, ◌∙◌}
 use Rattle.sim_events.specs.declared.entry.Entry.{Entry}
-use Rattle.sim_events.proofs.Tables.{written_entry}
 use Rattle.sim_events.proofs.entry.write.Goals as goal
+use Rattle.goal_graph.proofs.ForCallers.{written_entry}
 
 pub returns : goal.returns
 returns c =

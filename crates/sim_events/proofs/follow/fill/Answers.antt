@@ -2,8 +2,8 @@ use Rattle.std.proofs.Common.{◌<◌, List, Contains, length, get_or, ap, sym, 
 use Rattle.goal_graph.specs.declared.action.OpId.{OpId}
 use Rattle.goal_graph.specs.Schedule.{Plan, operations}
 use Rattle.goal_graph.specs.Fault.{IsOp}
-use Rattle.goal_graph.proofs.ForCallers.{listed_places}
-use Rattle.sim_events.proofs.Queue.{all_due, fewer_due, refreshed, still_left, none_left}
+use Rattle.goal_graph.proofs.ForCallers.{listed_places, still_left, none_left}
+use Rattle.sim_events.proofs.Queue.{all_due, fewer_due, refreshed}
 use Rattle.sim_events.proofs.follow.fill.Goals as goal
 
 abbrev first : OpId

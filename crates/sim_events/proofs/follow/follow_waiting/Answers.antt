@@ -3,8 +3,9 @@ use Rattle.goal_graph.specs.declared.plan.Need.{Need}
 use Rattle.goal_graph.specs.declared.plan.When.TheVariants.{AfterEnd}
 use Rattle.goal_graph.specs.Schedule.{Plan, needed, waiting_on}
 use Rattle.goal_graph.specs.Fault.{IsOp}
-use Rattle.sim_events.proofs.Queue.{refreshed, fewer_due, named_rest, none_named}
+use Rattle.sim_events.proofs.Queue.{refreshed, fewer_due}
 use Rattle.sim_events.proofs.follow.follow_waiting.Goals as goal
+use Rattle.goal_graph.proofs.ForCallers.{named_rest, none_named}
 
 abbrev none : Need
 none = record { op = 0; when = AfterEnd }

@@ -1,9 +1,9 @@
 use Rattle.std.proofs.Common.{◌≡◌, ℕ, [], ◌∷◌, ◌++◌, List, length, Some, slice_get, sym, ◌∙◌, ap, subst, arith, append-nil}
 use Rattle.std.proofs.lemmas.Option.{slice_get-get_or}
-use Rattle.sim_resources.proofs.ForCallers.{get_last}
 use Rattle.sim_events.specs.declared.station.Station.{Station}
 use Rattle.sim_events.proofs.Numbering.{same_station_true}
 use Rattle.sim_events.proofs.station.number_of.Goals as goal
+use Rattle.goal_graph.proofs.ForCallers.{get_last}
 
 pub returns-then-eq-clause-number : goal.returns-then-eq-clause-number
 returns-then-eq-clause-number c =

@@ -1,11 +1,10 @@
 use Rattle.std.proofs.Common.{◌<◌, ◌^◌, Some, length, get_or, arith, ap, ◌∙◌}
 use Rattle.goal_graph.specs.declared.plan.Kind.{Kind}
-use Rattle.sim_match.proofs.Kept.{whole_back}
 use Rattle.sim_match.proofs.PatternLemmas.{four_once, four_within}
 use Rattle.sim_match.proofs.CapacityLemmas.{receives_fit, receive_more, sends_fit, send_more, calc_more}
-use Rattle.sim_match.proofs.Targets.{kind_read}
 use Rattle.sim_match.proofs.capacities.capacities.Goals as goal
 use Rattle.sim_match.proofs.capacities.capacities.Goals.{in-Recv, in-Send, in-Calc}
+use Rattle.goal_graph.proofs.ForCallers.{whole_back, at_kind}
 
 pub list_of_receive-list-requires-clause-receive :
     goal.list_of_receive-list-requires-clause-receive
@@ -13,7 +12,7 @@ list_of_receive-list-requires-clause-receive c = record {
   room = c.in-Recv.bytes;
   from = c.in-Recv.from;
   tag = c.in-Recv.tag;
-  kind = kind_read _ _ _ c.op.ensures.op ∙ ap (λ (k : Kind). Some k) c.in-Recv.is;
+  kind = at_kind _ _ _ c.op.ensures.op ∙ ap (λ (k : Kind). Some k) c.in-Recv.is;
 }
 
 pub overflow_add-capacity : goal.overflow_add-capacity

@@ -1,8 +1,9 @@
 use Rattle.std.proofs.Common.{ℕ, ◌≡◌, true, below_more, subst, sym, arith}
 use Rattle.goal_graph.specs.Fault.{is_below}
 use Rattle.goal_certify.specs.Before.{op_id}
-use Rattle.goal_certify.proofs.Before.{is_op_below, depth_within}
+use Rattle.goal_certify.proofs.Before.{depth_within}
 use Rattle.goal_certify.proofs.races.before.fill_all.Goals as goal
+use Rattle.goal_graph.proofs.ForCallers.{is_op_below}
 
 pub fill-requires-clause-exists : goal.fill-requires-clause-exists
 fill-requires-clause-exists c = is_op_below c.args.sched.now (op_id c.args.rank c.loop-op.op) (omega arith)

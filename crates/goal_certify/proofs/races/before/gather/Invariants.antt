@@ -3,8 +3,8 @@ use Rattle.goal_graph.specs.declared.plan.Need.{Need}
 use Rattle.goal_graph.specs.Schedule.{needs}
 use Rattle.goal_certify.specs.Rows.{has}
 use Rattle.goal_certify.specs.Before.{op_id, AreRows}
-use Rattle.goal_certify.proofs.Before.{Leads}
 use Rattle.goal_certify.proofs.races.before.gather.Given as goal
+use Rattle.goal_blocks.proofs.ForCallers.{Leads}
 
 -- the row has what the needs so far lead to
 abbrev pub invariant-loop-need : goal.invariant-loop-need

@@ -1,6 +1,7 @@
 use Rattle.std.proofs.Common.{◌≡◌, ◌++◌, take, drop, length, arith, ap, ◌∙◌}
-use Rattle.goal_certify.proofs.Before.{rows_at_start, rows_same, whole_back}
+use Rattle.goal_certify.proofs.Before.{rows_at_start, rows_same}
 use Rattle.goal_certify.proofs.races.before.rows_before.Goals as goal
+use Rattle.goal_graph.proofs.ForCallers.{whole_back}
 
 pub fill_all-requires-clause-rows : goal.fill_all-requires-clause-rows
 fill_all-requires-clause-rows c =

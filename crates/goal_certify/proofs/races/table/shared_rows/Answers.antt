@@ -1,7 +1,7 @@
 use Rattle.std.proofs.Common.{◌≡◌, ◌++◌, take, drop, length, arith, ap, ◌∙◌}
-use Rattle.goal_certify.proofs.Before.{whole_back}
 use Rattle.goal_certify.proofs.Table.{empty_zeros, shared_same}
 use Rattle.goal_certify.proofs.races.table.shared_rows.Goals as goal
+use Rattle.goal_graph.proofs.ForCallers.{whole_back}
 
 pub share_all-requires-clause-empty : goal.share_all-requires-clause-empty
 share_all-requires-clause-empty c =

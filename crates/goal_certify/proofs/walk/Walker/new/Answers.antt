@@ -4,8 +4,8 @@ use Rattle.goal_graph.specs.Action.{Act}
 use Rattle.goal_blocks.specs.Walk.{TakesFirst}
 use Rattle.goal_certify.specs.WalkQueue.{AreCursors}
 use Rattle.goal_certify.proofs.Cursors.{cursors_start}
-use Rattle.goal_certify.proofs.Performed.{written_back}
 use Rattle.goal_certify.proofs.walk.Walker.new.Goals as goal
+use Rattle.goal_graph.proofs.ForCallers.{whole_back}
 
 pub fill-requires-clause-cursors : goal.fill-requires-clause-cursors
 fill-requires-clause-cursors c =
@@ -18,6 +18,6 @@ invariant_of-result c =
     let state = c.in_ok-state.state in
     record {
       queue = c.fill.ensures.queue;
-      are_cursors = subst (AreCursors state.plans state.history) (sym (written_back c.in_ok-cursors.cursors.len c.fill.new.cursors c.in_ok-cursors.cursors.items c.in_ok-cursors.cursors.ok.0 (c.fill.auto.cursors ∙ ap length c.deref_mut.ensures.value))) c.fill.ensures.cursors;
+      are_cursors = subst (AreCursors state.plans state.history) (sym (whole_back c.in_ok-cursors.cursors.len c.fill.new.cursors c.in_ok-cursors.cursors.items (c.fill.auto.cursors ∙ ap length c.deref_mut.ensures.value) c.in_ok-cursors.cursors.ok.0)) c.fill.ensures.cursors;
       in_order = subst (λ (h : List Act). TakesFirst state.plans h) (sym c.in_ok-state.ensures.empty) tt;
     }

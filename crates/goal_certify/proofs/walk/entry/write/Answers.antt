@@ -1,7 +1,7 @@
 use Rattle.std.proofs.Common.{List, slice_set, ap, ◌∙◌}
 use Rattle.goal_certify.specs.declared.walk.entry.Entry.{Entry}
-use Rattle.goal_certify.proofs.Tables.{written_entry}
 use Rattle.goal_certify.proofs.walk.entry.write.Goals as goal
+use Rattle.goal_graph.proofs.ForCallers.{written_entry}
 
 pub returns : goal.returns
 returns c =

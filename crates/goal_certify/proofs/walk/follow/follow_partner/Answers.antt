@@ -1,8 +1,9 @@
 use Rattle.std.proofs.Common.{◌≡◌, Some, inl, inr, sym, ◌∙◌}
 use Rattle.std.proofs.lemmas.Option.{same_Some}
 use Rattle.goal_graph.specs.Matching.{pairs, partner}
-use Rattle.goal_certify.proofs.Queue.{refreshed, fewer_due, partner_exists}
+use Rattle.goal_certify.proofs.Queue.{refreshed, fewer_due}
 use Rattle.goal_certify.proofs.walk.follow.follow_partner.Goals as goal
+use Rattle.goal_graph.proofs.ForCallers.{partner_exists}
 
 pub refresh-requires : goal.refresh-requires
 refresh-requires g c =

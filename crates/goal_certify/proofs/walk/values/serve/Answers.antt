@@ -8,9 +8,9 @@ use Rattle.goal_certify.proofs.Places.{rank_below}
 use Rattle.goal_certify.proofs.SlotFacts.{slots_low}
 use Rattle.goal_certify.specs.declared.walk.parcel.Parcel.{Parcel}
 use Rattle.goal_certify.specs.Walked.{act_of}
-use Rattle.goal_certify.proofs.Queue.{partner_exists}
 use Rattle.goal_certify.proofs.Applied.{op_there, light_before, partner_then, pair_from, as_many, parcel_is, parcel_at, parcel_known, size_within, size_told, received}
 use Rattle.goal_certify.proofs.walk.values.serve.Goals as goal
+use Rattle.goal_graph.proofs.ForCallers.{partner_exists}
 
 pub partner-requires : goal.partner-requires
 partner-requires c =

@@ -6,9 +6,8 @@ use Rattle.goal_graph.specs.Fault.{IsOp}
 use Rattle.goal_graph.specs.Action.{plain}
 use Rattle.goal_graph.specs.Allowed.{allowed}
 use Rattle.goal_graph.specs.Laws.{IsReceive}
-use Rattle.goal_graph.proofs.ForCallers.{allowed_begin, not_receive_calc, not_send_receive}
+use Rattle.goal_graph.proofs.ForCallers.{allowed_begin, not_receive_calc, not_send_receive, kind_from_op}
 use Rattle.sim_params.specs.Costs.{is_eager}
-use Rattle.sim_resources.proofs.ForCallers.{kind_from_op}
 use Rattle.sim_events.proofs.Places.{possible_exists}
 use Rattle.sim_events.proofs.state.State.begin.Goals as goal
 

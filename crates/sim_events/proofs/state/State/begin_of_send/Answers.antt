@@ -1,10 +1,10 @@
 use Rattle.std.proofs.Common.{subst, sym, ap₂, ◌∙◌, max}
 use Rattle.goal_graph.specs.declared.action.Class.TheVariants.{Begin}
 use Rattle.goal_graph.specs.Laws.{IsSend}
-use Rattle.sim_resources.proofs.ForCallers.{send_is_op}
 use Rattle.sim_events.proofs.Views.{free_at_view}
 use Rattle.sim_events.proofs.EnabledLemmas.{send_begins, begun_not_enabled, unready_not_enabled, ready_enabled, send_time}
 use Rattle.sim_events.proofs.state.State.begin_of_send.Goals as goal
+use Rattle.goal_graph.proofs.ForCallers.{send_is_op}
 
 pub entry-requires : goal.entry-requires
 entry-requires g c = send_is_op _ c.args.send c.requires.op

@@ -1,9 +1,9 @@
 use Rattle.std.proofs.Common.{List, sym, ap, ◌∙◌}
 use Rattle.goal_graph.specs.declared.plan.Kind.TheVariants.{Calc, Send, Recv}
 use Rattle.goal_graph.specs.Schedule.{Plan, op_at}
-use Rattle.sim_resources.proofs.ForCallers.{kind_from_op}
 use Rattle.sim_events.proofs.Choice.{calc_choice}
 use Rattle.sim_events.proofs.state.State.choice.Goals as goal
+use Rattle.goal_graph.proofs.ForCallers.{kind_from_op}
 
 pub begin_of_calc-requires-clause-op : goal.begin_of_calc-requires-clause-op
 begin_of_calc-requires-clause-op g c =

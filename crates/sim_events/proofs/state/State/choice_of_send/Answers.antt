@@ -1,7 +1,7 @@
 use Rattle.std.proofs.Common.{sym, refl}
-use Rattle.sim_resources.proofs.ForCallers.{send_is_op}
 use Rattle.sim_events.proofs.Choice.{send_choice, or_first, or_last}
 use Rattle.sim_events.proofs.state.State.choice_of_send.Goals as goal
+use Rattle.goal_graph.proofs.ForCallers.{send_is_op}
 
 pub arrival-arrival-requires : goal.arrival-arrival-requires
 arrival-arrival-requires g c = send_is_op c.args.self.now.plans c.args.send c.requires.op

@@ -2,10 +2,10 @@ use Rattle.std.proofs.Common.{List, max, sym, ap, ap₂, ◌∙◌, subst}
 use Rattle.goal_graph.specs.declared.plan.Kind.TheVariants.{Calc, Send, Recv}
 use Rattle.goal_graph.specs.Schedule.{Plan, op_at}
 use Rattle.goal_graph.specs.Laws.{IsSend, IsReceive}
-use Rattle.sim_resources.proofs.ForCallers.{kind_from_op}
 use Rattle.sim_events.specs.Stations.{free_of}
 use Rattle.sim_events.proofs.Views.{free_at_view}
 use Rattle.sim_events.proofs.state.State.free.Goals as goal
+use Rattle.goal_graph.proofs.ForCallers.{kind_from_op}
 
 pub tx-requires : goal.tx-requires
 tx-requires g c =

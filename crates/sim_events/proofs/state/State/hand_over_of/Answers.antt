@@ -1,11 +1,11 @@
 use Rattle.std.proofs.Common.{◌+◌, sym, ap, ap₂, ◌∙◌, max, arith}
 use Rattle.sim_params.specs.Costs.{latency}
-use Rattle.sim_resources.proofs.ForCallers.{send_is_op}
 use Rattle.sim_events.specs.Engine.{View}
 use Rattle.sim_events.proofs.Views.{free_at_view, run_at_view, within_at_view}
 use Rattle.sim_events.proofs.EnabledLemmas.{eager_data, handed_data, unpaired_data, paired_some, clears, data_enabled, data_time}
 use Rattle.sim_events.proofs.state.State.hand_over_of.Goals.{then-is_eager-via-then-is_eager, then-is_eager-via-else-is_eager+then-is_some}
 use Rattle.sim_events.proofs.state.State.hand_over_of.Goals as goal
+use Rattle.goal_graph.proofs.ForCallers.{send_is_op}
 
 pub entry-entry-requires : goal.entry-entry-requires
 entry-entry-requires g c = send_is_op _ c.args.send c.requires

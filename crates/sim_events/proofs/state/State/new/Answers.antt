@@ -2,9 +2,9 @@ use Rattle.std.proofs.Common.{reverse, sym, subst, arith}
 use Rattle.std.specs.Vec.{vec_capacity}
 use Rattle.goal_graph.specs.Schedule.{operations}
 use Rattle.sim_events.specs.Represents.{Represents}
-use Rattle.sim_events.proofs.Tables.{fresh_table}
 use Rattle.sim_events.proofs.Empty.{nothing_known, free_first, none_known, blank}
 use Rattle.sim_events.proofs.state.State.new.Goals as goal
+use Rattle.goal_graph.proofs.ForCallers.{fresh_table}
 
 pub invariant_of-result : goal.invariant_of-result
 invariant_of-result g c =

@@ -1,8 +1,8 @@
 use Rattle.std.proofs.Common.{sym, ◌∙◌}
 use Rattle.goal_graph.specs.declared.action.Class.TheVariants.{Post}
-use Rattle.sim_resources.proofs.ForCallers.{receive_is_op}
 use Rattle.sim_events.proofs.EnabledLemmas.{receive_begins, begun_not_enabled, unready_not_enabled, ready_enabled, post_time}
 use Rattle.sim_events.proofs.state.State.post_of.Goals as goal
+use Rattle.goal_graph.proofs.ForCallers.{receive_is_op}
 
 pub entry-requires : goal.entry-requires
 entry-requires g c = receive_is_op _ c.args.recv c.requires.op

@@ -1,8 +1,8 @@
 use Rattle.std.proofs.Common.{sym, ap₂, ◌∙◌, max}
-use Rattle.sim_resources.proofs.ForCallers.{receive_is_op}
 use Rattle.sim_events.proofs.Views.{free_at_view}
 use Rattle.sim_events.proofs.EnabledLemmas.{ended_serve, unpaired_serve, absent_serve, paired_some, pairing_send, message_is, serve_enabled, serve_time}
 use Rattle.sim_events.proofs.state.State.serve_of.Goals as goal
+use Rattle.goal_graph.proofs.ForCallers.{receive_is_op}
 
 pub entry-entry-requires : goal.entry-entry-requires
 entry-entry-requires g c = receive_is_op _ c.args.recv c.requires

@@ -1,6 +1,7 @@
 use Rattle.std.proofs.Common.{arith, ◌∙◌}
-use Rattle.sim_match.proofs.Kept.{length-actions_of, actions_of-push, whole_back, arrival_event_room, arrival_exists, arrival_met_exists, arrival_answers, arrival_keeps}
+use Rattle.sim_match.proofs.Kept.{length-actions_of, actions_of-push, arrival_event_room, arrival_exists, arrival_met_exists, arrival_answers, arrival_keeps}
 use Rattle.sim_match.proofs.match_table.MatchTable.arrive.Goals as goal
+use Rattle.goal_graph.proofs.ForCallers.{whole_back}
 
 pub push_reserved-requires : goal.push_reserved-requires
 push_reserved-requires c =

@@ -2,9 +2,10 @@ use Rattle.std.proofs.Common.{ℕ, ◌≡◌, length, arith, ap, ap₂, ◌∙�
 use Rattle.std.proofs.lemmas.List.{length-set}
 use Rattle.sim_match.specs.MatchLists.{pushed}
 use Rattle.sim_match.specs.Matcher.{actions_of, side_by_side}
-use Rattle.sim_match.proofs.Kept.{length-actions_of, actions_of-push, whole_back, post_event_room, post_exists, post_within, post_ready, post_room, post_met_exists, post_answers, post_keeps}
+use Rattle.sim_match.proofs.Kept.{length-actions_of, actions_of-push, post_event_room, post_exists, post_within, post_ready, post_room, post_met_exists, post_answers, post_keeps}
 use Rattle.sim_match.proofs.Sides.{sides_length, sides_read, sides_set, there_is}
 use Rattle.sim_match.proofs.match_table.MatchTable.post.Goals as goal
+use Rattle.goal_graph.proofs.ForCallers.{whole_back}
 
 pub push_reserved-requires : goal.push_reserved-requires
 push_reserved-requires c =

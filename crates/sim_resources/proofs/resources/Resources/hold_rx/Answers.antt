@@ -3,7 +3,7 @@ use Rattle.std.specs.Vec.{with_items}
 use Rattle.std.proofs.lemmas.List.{with_items_is}
 use Rattle.goal_graph.specs.Fault.{IsOp}
 use Rattle.sim_resources.specs.FreeTimes.{Holds}
-use Rattle.sim_resources.proofs.OfKind.{receive_is_op}
+use Rattle.goal_graph.proofs.ForCallers.{receive_is_op}
 use Rattle.sim_resources.proofs.FreeTimes.{place_in, slot_in}
 use Rattle.sim_resources.proofs.HoldLemmas.{rx_held, rx_numbered}
 use Rattle.sim_resources.proofs.resources.Resources.hold_rx.Goals as goal

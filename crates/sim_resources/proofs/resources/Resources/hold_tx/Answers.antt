@@ -3,7 +3,7 @@ use Rattle.std.specs.Vec.{with_items}
 use Rattle.std.proofs.lemmas.List.{with_items_is}
 use Rattle.goal_graph.specs.Fault.{IsOp}
 use Rattle.sim_resources.specs.FreeTimes.{Holds}
-use Rattle.sim_resources.proofs.OfKind.{send_is_op}
+use Rattle.goal_graph.proofs.ForCallers.{send_is_op}
 use Rattle.sim_resources.proofs.FreeTimes.{place_in, slot_in}
 use Rattle.sim_resources.proofs.HoldLemmas.{tx_held, tx_numbered}
 use Rattle.sim_resources.proofs.resources.Resources.hold_tx.Goals as goal

@@ -1,7 +1,7 @@
 use Rattle.std.proofs.Common.{◌≡◌, subst}
 use Rattle.goal_graph.specs.Fault.{IsOp}
 use Rattle.sim_resources.specs.FreeTimes.{Holds, rx_free}
-use Rattle.sim_resources.proofs.OfKind.{receive_is_op}
+use Rattle.goal_graph.proofs.ForCallers.{receive_is_op}
 use Rattle.sim_resources.proofs.FreeTimes.{place_in, slot_in, free_is}
 use Rattle.sim_resources.proofs.resources.Resources.rx.Goals as goal
 

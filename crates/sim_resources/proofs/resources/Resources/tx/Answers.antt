@@ -1,7 +1,7 @@
 use Rattle.std.proofs.Common.{◌≡◌, subst}
 use Rattle.goal_graph.specs.Fault.{IsOp}
 use Rattle.sim_resources.specs.FreeTimes.{Holds, tx_free}
-use Rattle.sim_resources.proofs.OfKind.{send_is_op}
+use Rattle.goal_graph.proofs.ForCallers.{send_is_op}
 use Rattle.sim_resources.proofs.FreeTimes.{place_in, slot_in, free_is}
 use Rattle.sim_resources.proofs.resources.Resources.tx.Goals as goal
 

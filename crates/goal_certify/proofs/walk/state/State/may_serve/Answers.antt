@@ -2,10 +2,9 @@ use Rattle.std.proofs.Common.{◌≡◌, ◌&&◌, not, Some, None, Option, refl
 use Rattle.goal_graph.specs.declared.action.OpId.{OpId}
 use Rattle.goal_graph.specs.Action.{happened}
 use Rattle.goal_graph.specs.declared.action.Class.TheVariants.{Data}
-use Rattle.goal_graph.proofs.ForCallers.{receive_is_op}
+use Rattle.goal_graph.proofs.ForCallers.{receive_is_op, partner_exists}
 use Rattle.goal_certify.specs.declared.walk.entry.Entry.{Entry}
 use Rattle.goal_certify.proofs.Choice.{serve_none, serve_some, and_then, and_else}
-use Rattle.goal_certify.proofs.Queue.{partner_exists}
 use Rattle.goal_certify.proofs.walk.state.State.may_serve.Goals as goal
 
 pub entry-entry-requires : goal.entry-entry-requires

@@ -3,9 +3,9 @@ use Rattle.std.specs.Vec.{vec_capacity}
 use Rattle.goal_graph.specs.Schedule.{operations}
 use Rattle.sim_match.specs.PostsAndArrivals.{PostsAndArrivals}
 use Rattle.goal_certify.specs.Walked.{acts, Represents}
-use Rattle.goal_certify.proofs.Tables.{fresh_table}
 use Rattle.goal_certify.proofs.Performed.{nothing_known}
 use Rattle.goal_certify.proofs.walk.state.State.new.Goals as goal
+use Rattle.goal_graph.proofs.ForCallers.{fresh_table}
 
 pub invariant_of-result : goal.invariant_of-result
 invariant_of-result c =

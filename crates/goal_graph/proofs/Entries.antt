@@ -6,9 +6,9 @@ use Rattle.std.proofs.lemmas.Option.{same_Some, slice_get-map, slice_get_within,
 use Rattle.goal_graph.specs.declared.action.OpId.{OpId}
 use Rattle.goal_graph.specs.Schedule.{Plan, operations}
 use Rattle.goal_graph.specs.Action.{same_op}
-use Rattle.goal_graph.proofs.ForCallers.{same_op_true, same_op_itself, operations_differ}
-use Rattle.sim_events.specs.declared.entry.Entry.{Entry}
-use Rattle.sim_events.specs.Tables.{with_entry}
+use Rattle.goal_graph.specs.Entries.{with_entry}
+use Rattle.goal_graph.proofs.Actions.{cases_op, same_op_true, same_op_from, same_op_itself, same_op_swapped}
+use Rattle.goal_graph.proofs.Exists.{operations_differ}
 
 -- the entry of an item
 pub entry_at : {X Y : Type 0} (f : X → Y) (xs : List X) (i : ℕ) (x : X) → slice_get xs i ≡ Some x → slice_get (map f xs) i ≡ Some (f x)
@@ -42,10 +42,6 @@ one_place plans i j x e f = elim (cases_order i j) [ inl same ↦ same | inr (in
 pub other_place : (plans : List Plan) (i j : ℕ) (x y : OpId) → slice_get (operations plans) i ≡ Some x → slice_get (operations plans) j ≡ Some y → i ≢ j → x ≢ y
 other_place plans i j x y e f d s = d (one_place plans i j y (e ∙ ap Some s) f)
 
--- what is read from a table
-pub read_entry : {X Y : Type 0} (f : X → Y) (xs : List X) (i : ℕ) (x : X) (ys : List Y) (v : Y) → ys ≡ map f xs → slice_get xs i ≡ Some x → v ≡ get_or ys i v → v ≡ f x
-read_entry f xs i x ys v table e read = read ∙ ap (λ zs. get_or zs i v) table ∙ entry_of f xs i x v e
-
 pub within_table : {X Y : Type 0} (f : X → Y) (xs : List X) (i : ℕ) (x : X) (ys : List Y) → ys ≡ map f xs → slice_get xs i ≡ Some x → i < length ys
 within_table f xs i x ys table e = slice_get_within ys i (f x) (ap (λ zs. slice_get zs i) table ∙ entry_at f xs i x e)
 
@@ -59,9 +55,20 @@ pub fresh_table : {Y : Type 0} (f : OpId → Y) (v : Y) (xs : List OpId) (n : �
 fresh_table f v xs n ys e made same = made ∙ ap (λ k. replicate k v) e ∙ replicated_table f v xs same
 
 -- the entry of an operation is written
-pub written_entry : (plans : List Plan) (j : ℕ) (y : OpId) (v : Entry) (f : OpId → Entry) → slice_get (operations plans) j ≡ Some y → set (map f (operations plans)) j v ≡ map (with_entry y v f) (operations plans)
+pub written_entry : {E : Type 0} (plans : List Plan) (j : ℕ) (y : OpId) (v : E) (f : OpId → E) → slice_get (operations plans) j ≡ Some y → set (map f (operations plans)) j v ≡ map (with_entry y v f) (operations plans)
 written_entry plans j y v f e =
     ap (set (map f (operations plans)) j) (sym (cond-true (same_op y y) v (f y) (same_op_itself y))) ∙ written_table f (with_entry y v f) (operations plans) j y e (λ i x s d. sym (cond-false (same_op x y) v (f x) (not_same x (other_place plans i j x y s e d))))
   where
     not_same : (x : OpId) → x ≢ y → same_op x y ≡ false
     not_same x d = false_from_ne_true (same_op x y) (λ t. d (same_op_true x y t))
+
+-- the entry that is written, and the others
+pub at_entry : {E : Type 0} (y : OpId) (e : E) (f : OpId → E) (x : OpId) → x ≡ y → with_entry y e f x ≡ e
+at_entry y e f x s = cond-true _ _ _ (same_op_from x y s)
+
+pub off_entry : {E : Type 0} (y : OpId) (e : E) (f : OpId → E) (x : OpId) → same_op x y ≡ false → with_entry y e f x ≡ f x
+off_entry y e f x d = cond-false _ _ _ d
+
+pub entry_written : {E : Type 0} (y : OpId) (e : E) (f g : OpId → E) → g y ≡ e → ((x : OpId) → same_op y x ≡ false → g x ≡ f x) → (x : OpId) → with_entry y e f x ≡ g x
+entry_written y e f g now others x =
+    elim (cases_op x y) [ inl s ↦ at_entry y e f x s ∙ sym now ∙ ap g (sym s) | inr d ↦ off_entry y e f x d ∙ sym (others x (same_op_swapped x y d)) ]

@@ -1,5 +1,6 @@
 -- What an action newly allows: actions of its own operation, of its partner, and of those that need it.
-use Rattle.std.proofs.Common.{⊎_elim, ◌≡◌, ◌==◌, ◌||◌, ◌⊎◌, ℕ, zero, suc, Bool, true, false, cond, List, [], ◌∷◌, Contains, filter, map, Option, Some, None, inl, inr, is_some, refl, sym, ap, ◌∙◌, subst, arith, eq-eqb}
+use Rattle.std.proofs.Common.{⊎_elim, ◌≡◌, ◌==◌, ◌||◌, ◌⊎◌, ◌+◌, ◌<◌, ◌≤◌, ℕ, zero, suc, Bool, true, false, cond, List, [], ◌∷◌, Contains, length, drop, get_or, filter, map, Option, Some, None, inl, inr, is_some, refl, sym, ap, ◌∙◌, subst, arith, eq-eqb}
+use Rattle.std.proofs.lemmas.List.{drop_more, drop_all}
 use Rattle.std.proofs.lemmas.Bool.{and_parts, and_from, or_cases, or_left, or_right, cases_Bool, both_ways, eqb-true}
 use Rattle.goal_graph.specs.declared.action.OpId.{OpId}
 use Rattle.goal_graph.specs.declared.action.Class.{Class}
@@ -13,10 +14,17 @@ use Rattle.goal_graph.specs.declared.plan.When.TheVariants.{AfterEnd, AfterStart
 use Rattle.goal_graph.specs.Schedule.{Plan, kind_at, deps_at, earlier_of, later_of, needs, needed, waiting_on}
 use Rattle.goal_graph.specs.Action.{Act, happened}
 use Rattle.goal_graph.specs.Matching.{Pair, new_pair, add_pair, pairs, partner, is_paired}
+use Rattle.goal_graph.specs.Fault.{IsOp}
 use Rattle.goal_graph.specs.Allowed.{first_class, last_class, is_met, is_ready, is_served, may, allowed}
 use Rattle.goal_graph.specs.Interleaving.{IsInterleaving}
-use Rattle.goal_graph.proofs.ForCallers.{happened_cases, happened_before, is_act_op, act_of, contains_first, contains_more, ready_need, unready_need, IsListed, new_pair_is, newly_paired, listed_partners, partners_mutual, is_some_from, partner_stays, allowed_fresh, allowed_may, allowed_from}
-use Rattle.sim_events.specs.Queue.{Waits}
+use Rattle.goal_graph.specs.Concerned.{IsNamedIn, Waits, IsConcerned}
+use Rattle.goal_graph.proofs.Lists.{contains_first, contains_more}
+use Rattle.goal_graph.proofs.Actions.{act_of, happened_before, happened_cases, is_act_op}
+use Rattle.goal_graph.proofs.Persist.{is_some_from, partner_stays}
+use Rattle.goal_graph.proofs.Rules.{allowed_fresh, allowed_from, allowed_may, fits_receive, fits_send}
+use Rattle.goal_graph.proofs.Partners.{IsListed, listed_partners, new_pair_is, newly_paired, partners_met, partners_mutual}
+use Rattle.goal_graph.proofs.Members.{ready_need, unready_need}
+use Rattle.goal_graph.proofs.OfKind.{receive_is_op, send_is_op}
 
 abbrev is_later : ℕ → Dep → Bool
 is_later op p = p.later == op
@@ -56,9 +64,8 @@ waits_from plans x y d c e =
     subst (λ (z : OpId). Waits plans z x) (sym e) waits
 
 module _ (plans : List Plan) (eager : OpId → Bool) (a : Act) (h : List Act) (now : IsInterleaving plans eager (a ∷ h)) where
-  -- an action of the operation of a may let one of y happen
-  abbrev pub MayConcern : OpId → Type 0
-  MayConcern y = (y ≡ a.op) ⊎ ((partner (pairs plans (a ∷ h)) a.op ≡ Some y) ⊎ Waits plans a.op y)
+  abbrev MayConcern : OpId → Type 0
+  MayConcern y = IsConcerned plans (a ∷ h) a.op y
 
   newly_happened : (c : Class) (y : OpId) → happened c y h ≡ false → happened c y (a ∷ h) ≡ true → a.op ≡ y
   newly_happened c y e f =
@@ -125,3 +132,32 @@ module _ (plans : List Plan) (eager : OpId → Bool) (a : Act) (h : List Act) (n
   newly_allowed c x e =
       let before = happened_before c x a h (allowed_fresh plans eager (a ∷ h) c x e) in
       ⊎_elim (λ m. inl (allowed_from plans eager h c x before m)) (λ m. inr m) (newly_may c x (kind_at plans x) (allowed_may plans eager (a ∷ h) c x e))
+
+-- a partner is an operation of the schedule
+pub partner_exists : (plans : List Plan) (h : List Act) (x y : OpId) → partner (pairs plans h) x ≡ Some y → IsOp plans y
+partner_exists plans h x y e =
+    elim (partners_met plans h x y e) [ inl met ↦ receive_is_op plans y (fits_receive plans y x met.fit) | inr met ↦ send_is_op plans y (fits_send plans x y met.fit) ]
+
+-- those of a list that are not yet read
+pub still_left : {X : Type 0} (xs : List X) (k : ℕ) (d y : X) → k < length xs → Contains (drop k xs) y → ¬ (y ≡ get_or xs k d) → Contains (drop (k + 1) xs) y
+still_left xs k d y l left differ = go (subst (λ ds. Contains ds y) (drop_more xs k d l) left)
+  where
+    go : Contains (get_or xs k d ∷ drop (k + 1) xs) y → Contains (drop (k + 1) xs) y
+    go (zero, b, e) = absurd (differ (sym e))
+    go (suc i, b, e) = (i, omega (arith, b), e)
+
+pub none_left : {X : Type 0} (xs : List X) (k : ℕ) (y : X) → length xs ≤ k → Contains (drop k xs) y → ⊥
+none_left xs k y l left =
+    let none : Contains [] y = subst (λ ds. Contains ds y) (drop_all k xs l) left in
+    omega (arith, none.1)
+
+-- the needs that are not yet read
+pub named_rest : (items : List Need) (k : ℕ) (d : Need) (x y : OpId) → k < length items → IsNamedIn (drop k items) x y → ¬ (y ≡ needed x (get_or items k d)) → IsNamedIn (drop (k + 1) items) x y
+named_rest items k d x y l n differ = record {
+  need = n.need;
+  listed = still_left items k d n.need l n.listed (λ e. differ (n.named ∙ ap (needed x) e));
+  named = n.named;
+}
+
+pub none_named : (items : List Need) (k : ℕ) (x y : OpId) → length items ≤ k → IsNamedIn (drop k items) x y → ⊥
+none_named items k x y l n = none_left items k n.need l n.listed
