@@ -160,6 +160,19 @@ other_twice e = λ i. record e { is_send = twice e.is_send i }
     twice true = refl
     twice false = refl
 
+-- of two operations at the two ends of a channel none is unpaired
+pub paired_ends : (plans : List Plan) (x z : OpId) (e : End) → end_of plans x ≡ Some e → end_of plans z ≡ Some (other_end e) → IsUnpaired plans x → ⊥
+paired_ends plans x z e at other un = go (cases_Bool e.is_send) un
+  where
+    s : StandsAt plans x e
+    s = stands_at plans x e at
+
+    go : (e.is_send ≡ true) ⊎ (e.is_send ≡ false) → IsUnpaired plans x → ⊥
+    go (inl b) (inl un) = un.1 z (ends_one plans x z e b at other)
+    go (inl b) (inr un) = not_both plans x (s.send b) un.0
+    go (inr b) (inl un) = not_both plans x un.0 (s.receive b)
+    go (inr b) (inr un) = un.1 z (ends_one plans z x (other_end e) (ap not b) other (at ∙ ap (λ (d : End). Some d) (sym (other_twice e))))
+
 module _ (plans : List Plan) (entries : List Entry) (are : AreEndsOf plans entries) where
   pub first_stands : (x : OpId) (e : End) → IsFirstAt entries e x → end_of plans x ≡ Some e
   first_stands x e first =
@@ -207,19 +220,7 @@ module _ (plans : List Plan) (entries : List Entry) (are : AreEndsOf plans entri
       ⊎_elim (λ b. inl (s.send b, λ y one. none y (receiving x y e at one).1)) (λ b. inr (s.receive b, λ m one. none m (sending m x e at one))) (cases_Bool e.is_send)
 
   pub paired_there : (x z : OpId) (e : End) → end_of plans x ≡ Some e → IsFirstAt entries (other_end e) z → IsUnpaired plans x → ⊥
-  paired_there x z e at first un = go (cases_Bool e.is_send) un
-    where
-      s : StandsAt plans x e
-      s = stands_at plans x e at
-
-      other : end_of plans z ≡ Some (other_end e)
-      other = first_stands z (other_end e) first
-
-      go : (e.is_send ≡ true) ⊎ (e.is_send ≡ false) → IsUnpaired plans x → ⊥
-      go (inl b) (inl un) = un.1 z (ends_one plans x z e b at other)
-      go (inl b) (inr un) = not_both plans x (s.send b) un.0
-      go (inr b) (inl un) = not_both plans x un.0 (s.receive b)
-      go (inr b) (inr un) = un.1 z (ends_one plans z x (other_end e) (ap not b) other (at ∙ ap (λ (d : End). Some d) (sym (other_twice e))))
+  paired_there x z e at first = paired_ends plans x z e at (first_stands z (other_end e) first)
 
   pub no_end_paired : HasNoWildcard plans → (x : OpId) → end_of plans x ≡ None → IsUnpaired plans x → ⊥
   no_end_paired known x none (inl un) = send_end plans x un.0 none

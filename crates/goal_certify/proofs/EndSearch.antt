@@ -1,9 +1,9 @@
 -- The least operation at an end is found by the order of entries.
-use Rattle.std.proofs.Common.{⊎_elim, ℕ, ◌+◌, ◌<◌, ◌≤◌, ◌≡◌, ◌==◌, ◌&&◌, Bool, true, false, eq-eqb, List, [], ◌∷◌, ◌++◌, length, get_or, slice_get, Contains, All, Some, None, inl, inr, refl, sym, ap, ◌∙◌, subst, arith}
+use Rattle.std.proofs.Common.{⊎_elim, ℕ, ◌+◌, ◌-◌, ◌<◌, ◌≤◌, ◌≡◌, ◌==◌, ◌&&◌, Bool, true, false, eq-eqb, List, [], ◌∷◌, ◌++◌, length, get_or, slice_get, Contains, All, Some, None, inl, inr, refl, sym, ap, ◌∙◌, subst, arith}
 use Rattle.std.specs.declared.cmp.Ordering.{Ordering}
 use Rattle.std.specs.declared.cmp.Ordering.TheVariants.{Less, Equal, Greater}
 use Rattle.std.specs.Cmp.{IsTotalOrder, bool_cmp_total}
-use Rattle.std.specs.List.Sorted.{IsSorted, IsPartitionedBy, IsPartitionPoint, IsNonDecreasingBy, IsPermutation}
+use Rattle.std.specs.List.Sorted.{IsSorted, IsSortedByKey, IsPartitionedBy, IsPartitionPoint, IsNonDecreasingBy, IsPermutation}
 use Rattle.std.proofs.lemmas.List.{get_or_default}
 use Rattle.std.specs.Ordering.{MatchOrdering, is_lt, nat_cmp, bool_cmp, ordering_then, ordering_index}
 use Rattle.std.specs.Bool.{beq}
@@ -123,16 +123,30 @@ equal_index Greater e l = absurd (omega (arith, l))
 abbrev pub is_under : End → Entry → Bool
 is_under e a = is_lt (end_cmp a.end e)
 
+-- entries in order are in order of their ends
+pub sorted_ends : (entries : List Entry) → IsSorted entry_cmp entries → IsSortedByKey (λ (a : Entry). a.end) end_cmp entries
+sorted_ends entries sorted k d low b =
+    not_less (end_cmp (get_or entries (k + 1) d).end (get_or entries k d).end) _ (sorted k d low b)
+  where
+    not_less : (a b : Ordering) → is_lt (ordering_then a b) ≡ false → is_lt a ≡ false
+    not_less Less b q = absurd (both_ways true q refl)
+    not_less Equal b q = refl
+    not_less Greater b q = refl
+
+-- the ends rise up to one place more
+pub rise_more : (entries read : List Entry) (place : ℕ) (e : Entry) → read ≡ entries → 1 ≤ place → place < length read → is_lt (end_cmp (get_or read (place - 1) e).end (get_or read place e).end) ≡ true → ((k : ℕ) (d : Entry) → k + 1 < place → is_lt (end_cmp (get_or entries k d).end (get_or entries (k + 1) d).end) ≡ true) → (k : ℕ) (d : Entry) → k + 1 < place + 1 → is_lt (end_cmp (get_or entries k d).end (get_or entries (k + 1) d).end) ≡ true
+rise_more entries read place e same some inside rises before k d l =
+    ⊎_elim (λ less. before k d less) (λ last.
+    let low : k ≡ place - 1 = omega (arith, l, last, some) in
+    let high : k + 1 ≡ place = omega (arith, l, last) in
+    let x : get_or entries k d ≡ get_or read (place - 1) e = ap (λ (xs : List Entry). get_or xs k d) (sym same) ∙ ap (λ (i : ℕ). get_or read i d) low ∙ get_or_default read (place - 1) d e (omega (arith, inside)) in
+    let y : get_or entries (k + 1) d ≡ get_or read place e = ap (λ (xs : List Entry). get_or xs (k + 1) d) (sym same) ∙ ap (λ (i : ℕ). get_or read i d) high ∙ get_or_default read place d e inside in
+    ap (λ (a : Entry). is_lt (end_cmp a.end (get_or entries (k + 1) d).end)) x ∙ ap (λ (b : Entry). is_lt (end_cmp (get_or read (place - 1) e).end b.end)) y ∙ rises) (cases_lt (k + 1) place)
+
 module _ (entries : List Entry) (sorted : IsSorted entry_cmp entries) (e : End) where
   -- the entries rise by their ends
   ends_rise : IsNonDecreasingBy (λ (a : Entry). ordering_index (end_cmp a.end e)) entries
-  ends_rise =
-      searchable_from_sorted end_total (λ (a : Entry). a.end) entries e (λ k d low b. not_less (end_cmp (get_or entries (k + 1) d).end (get_or entries k d).end) _ (sorted k d low b))
-    where
-      not_less : (a b : Ordering) → is_lt (ordering_then a b) ≡ false → is_lt a ≡ false
-      not_less Less b q = absurd (both_ways true q refl)
-      not_less Equal b q = refl
-      not_less Greater b q = refl
+  ends_rise = searchable_from_sorted end_total (λ (a : Entry). a.end) entries e (sorted_ends entries sorted)
 
   pub parted : IsPartitionedBy (is_under e) entries
   parted i j d le b t =

@@ -27,3 +27,4 @@ pub mod Applied
 pub mod Deciding
 pub mod ValueStage
 pub mod Started
+pub mod Pairs

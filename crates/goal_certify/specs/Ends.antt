@@ -1,7 +1,7 @@
 -- The ends of channels: that of its sends, and that of its receives.
-use Rattle.std.specs.Prelude.{◌≡◌, true, false, not, List, Contains, Option, Some, None, All}
+use Rattle.std.specs.Prelude.{ℕ, ◌+◌, ◌*◌, ◌<◌, ◌≡◌, true, false, not, List, length, slice_index_or, Contains, Option, Some, None, All}
 use Rattle.std.specs.declared.cmp.Ordering.{Ordering}
-use Rattle.std.specs.Ordering.{nat_cmp, bool_cmp, ordering_then}
+use Rattle.std.specs.Ordering.{nat_cmp, bool_cmp, ordering_then, is_lt}
 use Rattle.goal_graph.specs.declared.action.OpId.{OpId}
 use Rattle.goal_graph.specs.declared.plan.Kind.{Kind}
 use Rattle.goal_graph.specs.declared.plan.Kind.TheVariants.{Send, Recv}
@@ -44,3 +44,18 @@ pub record AreEndsOf (plans : List Plan) (entries : List Entry) : Type 0 where
 pub record IsFirstAt (entries : List Entry) (e : End) (x : OpId) : Type 0 where
   pub listed : Contains entries (record { end = e; op = x })
   pub none_before : (y : OpId) → IsBefore y x → Contains entries (record { end = e; op = y }) → ⊥
+
+-- the ends rise from each entry to the next
+abbrev pub DoRise : List Entry → Type 0
+DoRise entries = (k : ℕ) (d : Entry) → k + 1 < length entries → is_lt (end_cmp (slice_index_or entries k d).end (slice_index_or entries (k + 1) d).end) ≡ true
+
+-- at the places of each of so many pairs stand a receive and a send of its channel
+pub record DoAlternate (entries : List Entry) (pairs : ℕ) : Type 0 where
+  pub same : (k : ℕ) (d : Entry) → k < pairs → (slice_index_or entries (2 * k + 1) d).end ≡ other_end (slice_index_or entries (2 * k) d).end
+  pub receives : (k : ℕ) (d : Entry) → k < pairs → (slice_index_or entries (2 * k) d).end.is_send ≡ false
+
+-- so they all stand, and at each end one alone
+pub record ArePaired (entries : List Entry) (pairs : ℕ) : Type 0 where
+  pub all : length entries ≡ 2 * pairs
+  pub alternate : DoAlternate entries pairs
+  pub single : (e : End) (x y : OpId) → Contains entries (record { end = e; op = x }) → Contains entries (record { end = e; op = y }) → x ≡ y

@@ -1,7 +1,8 @@
 // The ends of channels, sorted: which operations send into a channel, and which receive from it.
-ghost use Rattle.std.specs.Prelude.{◌≡◌, Contains, IfOk, IfSome, IfNone, Some};
+ghost use Rattle.std.specs.Prelude.{◌≡◌, ◌+◌, ◌*◌, ◌<◌, ◌≤◌, false, length, slice_index_or, Contains, IfOk, IfSome, IfNone, IsTrue, Some};
 ghost use Rattle.goal_graph.specs.declared.action.OpId.{OpId};
-ghost use Rattle.goal_certify.specs.Ends.{end_in, other_end, AreEndsOf, IsFirstAt};
+ghost use Rattle.goal_certify.specs.declared.ends.Entry.{Entry};
+ghost use Rattle.goal_certify.specs.Ends.{end_in, other_end, AreEndsOf, IsFirstAt, DoRise, DoAlternate, ArePaired};
 
 use goal_graph::{Kind, OpId, Sched};
 use std::alloc::{AllocError, Global};
@@ -53,6 +54,13 @@ impl End {
             is_send: !self.is_send,
         }
     }
+}
+
+// Whether the first end is that of the receives of a channel, and the second that of its sends.
+fn are_two_ends(receive: End, send: End) -> bool
+    ensures { IsTrue result → (send ≡ other_end receive) × (receive.is_send ≡ false) }
+{
+    !receive.is_send && send == receive.other()
 }
 
 /// An operation with the end at which it stands.
@@ -108,5 +116,55 @@ impl Ends {
             Some(entry) if entry.end == end => Some(entry.op),
             _ => None,
         }
+    }
+
+    // Whether no two operations stand at one end.
+    fn do_rise(&self) -> bool
+        ensures { IsTrue result → DoRise self.now }
+    {
+        let entries = self.sorted.as_slice();
+        for place in 1..entries.len() {
+            let rises = entries[place - 1].end.cmp(&entries[place].end).is_lt();
+            if !rises {
+                return false;
+            }
+        }
+        true
+    }
+
+    // Whether at the places of each of so many pairs a receive and the send of its channel stand.
+    fn do_alternate(&self, pairs: usize) -> bool
+        requires { 2 * pairs ≤ length self.now }
+        ensures { IsTrue result → DoAlternate self.now pairs }
+    {
+        for pair in 0..pairs {
+            let receive = self.sorted[2 * pair].end;
+            let send = self.sorted[2 * pair + 1].end;
+            if !are_two_ends(receive, send) {
+                return false;
+            }
+        }
+        true
+    }
+
+    /// How many pairs there are, where the operations stand in pairs: at each end one alone, and the receive of a channel
+    /// right before its send.
+    pub fn pairs(&self) -> Option<usize>
+        ensures { IfSome result (ArePaired self.now) }
+    {
+        let pairs = self.sorted.len() / 2;
+        if self.sorted.len() % 2 == 0 && self.do_rise() && self.do_alternate(pairs) {
+            return Some(pairs);
+        }
+        None
+    }
+
+    /// The two operations of the pair of that number, the receive first.
+    pub fn pair(&self, number: usize) -> (OpId, OpId)
+        requires { 2 * number + 1 < length self.now }
+        ensures receive { (d : Entry) → result.0 ≡ (slice_index_or self.now (2 * number) d).op }
+        ensures send { (d : Entry) → result.1 ≡ (slice_index_or self.now (2 * number + 1) d).op }
+    {
+        (self.sorted[2 * number].op, self.sorted[2 * number + 1].op)
     }
 }

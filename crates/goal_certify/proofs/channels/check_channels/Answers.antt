@@ -9,6 +9,13 @@ returns-in_err-check_wildcards-clause-fault c =
     let p = err_from_is_err_and c.from_residual.result c.from_residual.ensures.1 in
     rw (p.1, p.2) (stopped_sooner c.args.sched.now 1 2 5 _ (omega arith) c.in_err-check_wildcards.ensures.fault)
 
+pub are_sound-requires-clause-no_wildcard : goal.are_sound-requires-clause-no_wildcard
+are_sound-requires-clause-no_wildcard c = wildcard_free c.args.sched.now c.in_ok-check_wildcards.ensures.free
+
+pub returns-then-are_sound-clause-free : goal.returns-then-are_sound-clause-free
+returns-then-are_sound-clause-free c =
+    free_joined c.args.sched.now 1 2 5 c.in_ok-check_wildcards.ensures.free (c.are_sound.ensures c.if-are_sound.true)
+
 pub returns-in_err-check_doubles-clause-fault : goal.returns-in_err-check_doubles-clause-fault
 returns-in_err-check_doubles-clause-fault c =
     let p = err_from_is_err_and c.from_residual-in_err-check_doubles.result c.from_residual-in_err-check_doubles.ensures.1 in
