@@ -1,5 +1,5 @@
 -- Where each value and each payload has a bound, and the bounds are together not too much, what is held is never too much.
-use Rattle.std.proofs.Common.{⊎_elim, ℕ, zero, suc, ◌+◌, ◌≤◌, ◌<◌, ◌^◌, ◌≡◌, ◌⊎◌, inl, inr, Bool, true, false, List, [], ◌∷◌, map, length, take, slice_index_or, Option, Some, None, if◌then◌else◌, refl, sym, ap, ◌∙◌, subst, arith}
+use Rattle.std.proofs.Common.{⊎_elim, ℕ, zero, suc, ◌+◌, ◌≤◌, ◌^◌, ◌≡◌, ◌⊎◌, inl, inr, Bool, true, false, List, [], ◌∷◌, map, length, take, slice_index_or, Option, Some, None, if◌then◌else◌, refl, sym, ap, ◌∙◌, subst, arith}
 use Rattle.std.specs.List.{sum_by}
 use Rattle.std.proofs.lemmas.Bool.{both_ways}
 use Rattle.goal_graph.specs.declared.action.OpId.{OpId}
@@ -24,19 +24,12 @@ use Rattle.goal_blocks.proofs.Orders.{Mem}
 use Rattle.goal_blocks.proofs.Ends.{ends, ends_once, ends_keep, held_by_ends}
 use Rattle.goal_blocks.proofs.Flow.{IsFlow, Flows, all_flows, state}
 use Rattle.goal_blocks.proofs.Totals.{sum_by_le}
-
-pub sum_below_le : (n : ℕ) (f g : ℕ → ℕ) → ((k : ℕ) → k < n → f k ≤ g k) → sum_below n f ≤ sum_below n g
-unfolding sum_below
-sum_below_le zero f g each = omega arith
-sum_below_le (suc n) f g each =
-    let rest = sum_below_le n f g (λ k l. each k (omega (arith, l))) in
-    let here = each n (omega arith) in
-    omega (arith, rest, here)
+use Rattle.goal_blocks.proofs.Trees.{sum_below_le}
 
 pub stored_le : (ranks : ℕ) (s : Store) (cap : ℕ → ℕ → ℕ) → ((r k : ℕ) → length (s r k) ≤ cap r k) → stored ranks s ≤ sum_below ranks (λ r. sum_below 65536 (cap r))
 unfolding stored
 stored_le ranks s cap each =
-    sum_below_le ranks (λ r. sum_below 65536 (λ k. length (s r k))) (λ r. sum_below 65536 (cap r)) (λ r l. sum_below_le 65536 (λ k. length (s r k)) (cap r) (λ k m. each r k))
+    sum_below_le (λ r. sum_below 65536 (λ k. length (s r k))) (λ r. sum_below 65536 (cap r)) ranks (λ r l. sum_below_le (λ k. length (s r k)) (cap r) 65536 (λ k m. each r k))
 
 -- of a list of at most one, the first few are none or all
 take_few : {A : Type 0} (n : ℕ) (xs : List A) → length xs ≤ 1 → (take n xs ≡ []) ⊎ (take n xs ≡ xs)

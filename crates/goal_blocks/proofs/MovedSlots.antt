@@ -13,14 +13,14 @@ use Rattle.goal_blocks.specs.Weight.{sum_below}
 use Rattle.goal_blocks.specs.Certification.{moved_count}
 use Rattle.goal_blocks.proofs.Orders.{Mem}
 use Rattle.goal_blocks.proofs.Blueprint.{sum_places}
-use Rattle.goal_blocks.proofs.Light.{sum_below_le}
+use Rattle.goal_blocks.proofs.Trees.{sum_below_le}
 
 -- where one number may be more by one
 sum_one_more : (n a : ℕ) (f g : ℕ → ℕ) → ((k : ℕ) → (k ≡ a → ⊥) → g k ≤ f k) → g a ≤ f a + 1 → sum_below n g ≤ sum_below n f + 1
 unfolding sum_below
 sum_one_more zero a f g others here = omega arith
 sum_one_more (suc n) a f g others here =
-    ⊎_elim (λ e. let rest = sum_below_le n g f (λ k l. others k (λ same. omega (arith, l, same, e))) in let last = subst (λ (k : ℕ). g k ≤ f k + 1) (sym e) here in omega (arith, rest, last)) (λ differ. let rest = sum_one_more n a f g others here in let last = others n differ in omega (arith, rest, last)) (cases_eq n a)
+    ⊎_elim (λ e. let rest = sum_below_le g f n (λ k l. others k (λ same. omega (arith, l, same, e))) in let last = subst (λ (k : ℕ). g k ≤ f k + 1) (sym e) here in omega (arith, rest, last)) (λ differ. let rest = sum_one_more n a f g others here in let last = others n differ in omega (arith, rest, last)) (cases_eq n a)
 
 -- a slot of a rank
 pub record Place : Type 0 where
@@ -32,7 +32,7 @@ total_of ranks f = sum_below ranks (λ r. sum_below 65536 (f r))
 
 total_le : (ranks : ℕ) (f g : ℕ → ℕ → ℕ) → ((r k : ℕ) → f r k ≤ g r k) → total_of ranks f ≤ total_of ranks g
 total_le ranks f g each =
-    sum_below_le ranks (λ r. sum_below 65536 (f r)) (λ r. sum_below 65536 (g r)) (λ r l. sum_below_le 65536 (f r) (g r) (λ k m. each r k))
+    sum_below_le (λ r. sum_below 65536 (f r)) (λ r. sum_below 65536 (g r)) ranks (λ r l. sum_below_le (f r) (g r) 65536 (λ k m. each r k))
 
 -- one more at a place
 more_at : Place → (ℕ → ℕ → ℕ) → ℕ → ℕ → ℕ
@@ -65,7 +65,7 @@ more_once p f r k = go ((r == p.rank) && (k == p.slot))
 
 total_more : (ranks : ℕ) (p : Place) (f : ℕ → ℕ → ℕ) → total_of ranks (more_at p f) ≤ total_of ranks f + 1
 total_more ranks p f =
-    sum_one_more ranks p.rank (λ r. sum_below 65536 (f r)) (λ r. sum_below 65536 (more_at p f r)) (λ r differ. sum_below_le 65536 (more_at p f r) (f r) (λ k l. more_elsewhere p f r k (λ e g. differ e))) (sum_one_more 65536 p.slot (f p.rank) (more_at p f p.rank) (λ k differ. more_elsewhere p f p.rank k (λ e g. differ g)) (more_once p f p.rank p.slot))
+    sum_one_more ranks p.rank (λ r. sum_below 65536 (f r)) (λ r. sum_below 65536 (more_at p f r)) (λ r differ. sum_below_le (more_at p f r) (f r) 65536 (λ k l. more_elsewhere p f r k (λ e g. differ e))) (sum_one_more 65536 p.slot (f p.rank) (more_at p f p.rank) (λ k differ. more_elsewhere p f p.rank k (λ e g. differ g)) (more_once p f p.rank p.slot))
 
 -- where each number is at most another, or more by one at one of these places
 pub total_places : (ranks : ℕ) (places : List Place) (f g : ℕ → ℕ → ℕ) → ((r k : ℕ) → (f r k ≤ g r k) ⊎ ((f r k ≤ g r k + 1) × Mem (record { rank = r; slot = k }) places)) → total_of ranks f ≤ total_of ranks g + length places

@@ -15,7 +15,7 @@ use Rattle.goal_blocks.specs.Positions.{digits}
 use Rattle.goal_blocks.proofs.Orders.{Mem}
 use Rattle.goal_blocks.proofs.EntryFacts.{length_plans}
 use Rattle.goal_blocks.proofs.RingAndTree.{digits_high, digits_few}
-use Rattle.goal_blocks.proofs.Light.{sum_below_le}
+use Rattle.goal_blocks.proofs.Trees.{sum_below_le}
 use Rattle.goal_blocks.proofs.Doubling.{doubling, doubling_zero, doubling_early, doubling_late, doubling_least}
 use Rattle.goal_blocks.proofs.Rounds.{rounds_count, rounds_entry, gained, length-gained, rounds_finds, rounds_leaves, rounds_level, Turn, turn_send, turn_recv, receive_writes, writes_are, leaves_other, rounds_blueprint}
 use Rattle.goal_blocks.proofs.Blueprint.{writes, Final, final_values}
@@ -106,7 +106,7 @@ module _ (ranks n bytes : ℕ) (to from : ℕ → ℕ → ℕ) (to_rank : (r k :
             let power : 2 ^ 12 ≤ 2 ^ n = pow_mono rounds.0 in
             let most = rounds.1 in
             let least = doubling_least n 65536 (omega (arith, most)) in
-            let each = sum_below_le 65536 (doubling n) (λ k. length ((held_after plans no_send first w).store r k)) (λ k m. held_at_end w is r k l) in
+            let each = sum_below_le (doubling n) (λ k. length ((held_after plans no_send first w).store r k)) 65536 (λ k m. held_at_end w is r k l) in
             omega (arith, power, least, each)
 
     pub rounds_too_heavy : (wanted : ℕ → ℕ → Value → Bool) → IsCertified plans first wanted → ⊥

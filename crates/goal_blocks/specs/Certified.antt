@@ -33,14 +33,10 @@ BcastOfTwoIsCertified = IsCertifiedFor (Bcast 0) (made (Bcast 0) 2 8)
 abbrev pub MadeIsCertified : Type 0
 MadeIsCertified = (what : Collective) (ranks bytes : ℕ) → IsPossible what ranks → bytes ≤ MAX_BYTES → IsCertifiedByProof what ranks → IsCertifiedFor what (made what ranks bytes)
 
--- and right everywhere
-abbrev pub MadeIsRight : Type 0
-MadeIsRight = (what : Collective) (ranks bytes : ℕ) → IsPossible what ranks → bytes ≤ MAX_BYTES → IsCertifiedByProof what ranks → IsRightFor what (made what ranks bytes)
-
 -- and only these are certified: those of more ranks hold more than 2^24 contributions at the end of the walk
 abbrev pub OnlyTheseAreCertified : Type 0
 OnlyTheseAreCertified = (what : Collective) (ranks bytes : ℕ) → IsPossible what ranks → IsCertifiedFor what (made what ranks bytes) → IsCertifiedByProof what ranks
 
 -- but all are right everywhere, those too that hold too much to be certified
-abbrev pub AllMadeAreRight : Type 0
-AllMadeAreRight = (what : Collective) (ranks bytes : ℕ) → IsPossible what ranks → bytes ≤ MAX_BYTES → IsRightFor what (made what ranks bytes)
+abbrev pub MadeIsRight : Type 0
+MadeIsRight = (what : Collective) (ranks bytes : ℕ) → IsPossible what ranks → bytes ≤ MAX_BYTES → IsRightFor what (made what ranks bytes)

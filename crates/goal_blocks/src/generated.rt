@@ -3,7 +3,7 @@
 ghost use Rattle.goal_blocks.specs.Fitting.{FittingIsAccepted};
 ghost use Rattle.goal_blocks.specs.Generated.{MadeIsAccepted};
 ghost use Rattle.goal_blocks.specs.Messages.{BcastIsPaired, AllgatherIsPaired, ScanIsPaired};
-ghost use Rattle.goal_blocks.specs.Certified.{MadeIsCertified, MadeIsRight, OnlyTheseAreCertified, AllMadeAreRight};
+ghost use Rattle.goal_blocks.specs.Certified.{MadeIsCertified, OnlyTheseAreCertified, MadeIsRight};
 
 use crate::collective::Collective;
 
@@ -51,11 +51,11 @@ impl Collective {
 ///   the limits.
 /// - `bcast_is_paired`, `allgather_is_paired`, `scan_is_paired`: in a broadcast, an allgather and a scan each send has
 ///   exactly one receive of its channel, and each receive one send.
-/// - `made_is_certified`, `made_is_right`: the schedules of the ten collectives, of the barrier and allreduce those up to
-///   2,048 ranks, are certified and right everywhere, for all ranks, roots and sizes within the limits, without a check.
+/// - `made_is_certified`: the schedules of the ten collectives, of the barrier and allreduce those up to 2,048 ranks, are
+///   certified, for all ranks, roots and sizes within the limits, without a check.
 /// - `only_these_are_certified`: those of the barrier and allreduce for more than 2,048 ranks are not certified, since at
 ///   the end of the walk too much is held.
-/// - `all_made_are_right`: the schedules of all ten are right everywhere, for all ranks, roots and sizes within the limits,
+/// - `made_is_right`: the schedules of all ten are right everywhere, for all ranks, roots and sizes within the limits,
 ///   those of the barrier and allreduce for more than 2,048 ranks too.
 pub fn laws_of_made_schedules()
     ensures fitting_is_accepted { FittingIsAccepted }
@@ -64,7 +64,6 @@ pub fn laws_of_made_schedules()
     ensures allgather_is_paired { AllgatherIsPaired }
     ensures scan_is_paired { ScanIsPaired }
     ensures made_is_certified { MadeIsCertified }
-    ensures made_is_right { MadeIsRight }
     ensures only_these_are_certified { OnlyTheseAreCertified }
-    ensures all_made_are_right { AllMadeAreRight }
+    ensures made_is_right { MadeIsRight }
 {}

@@ -58,9 +58,9 @@ pub fn generate(alloc: Global, what: Collective, ranks: u32, bytes: u64) -> Resu
     ensures accepted { IfOk result (λ sched. IsAccepted sched) }
     ensures exact { OnOk result (IsPossible what ranks) }
 
-    // Where that is proved of the collective, it is certified, and right in every interleaving.
+    // It is right in every interleaving, and certified but where it holds too much.
     ensures certified { IsCertifiedByProof what ranks → IfOk result (λ sched. IsCertifiedFor what sched) }
-    ensures right { IsCertifiedByProof what ranks → IfOk result (λ sched. IsRightFor what sched) }
+    ensures right { IfOk result (λ sched. IsRightFor what sched) }
 
     // A fault is told exactly where it is the first one; memory can only run out where there is none.
     ensures fault { IfErr result (λ fault. IsGenFault what ranks fault) }

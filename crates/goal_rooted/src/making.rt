@@ -50,9 +50,9 @@ pub fn generate_rooted(
     ensures accepted { IfOk result (λ sched. IsAccepted sched) }
     ensures exact { OnOk result (IsPossible what ranks) }
 
-    // Where that is proved of the collective, it is certified, and right in every interleaving.
+    // It is right in every interleaving, and certified but where it holds too much.
     ensures certified { IsCertifiedByProof what ranks → IfOk result (λ sched. IsCertifiedFor what sched) }
-    ensures right { IsCertifiedByProof what ranks → IfOk result (λ sched. IsRightFor what sched) }
+    ensures right { IfOk result (λ sched. IsRightFor what sched) }
 
     // A fault is told exactly where it is the first one; memory can only run out where there is none.
     ensures fault { IfErr result (λ fault. IsRootedFault what ranks fault) }

@@ -2,7 +2,7 @@ use Rattle.std.proofs.Common.{◌∙◌, List, sym, subst}
 use Rattle.goal_graph.specs.Schedule.{Plan}
 use Rattle.goal_blocks.specs.Certified.{IsCertifiedFor, IsRightFor}
 use Rattle.goal_blocks.specs.Generated.{made}
-use Rattle.goal_blocks.proofs.ForCallers.{made_certified, made_right}
+use Rattle.goal_blocks.proofs.ForCallers.{made_certified, all_made_right}
 use Rattle.goal_rooted.proofs.making.generate_rooted.Goals as goal
 
 pub returns-in-Ok-clause-made : goal.returns-in-Ok-clause-made
@@ -17,4 +17,4 @@ returns-in-Ok-clause-certified c =
 pub returns-in-Ok-clause-right : goal.returns-in-Ok-clause-right
 unfolding made
 returns-in-Ok-clause-right c =
-    λ proved. subst (λ (plans : List Plan). IsRightFor c.args.what plans) (sym (c.in-Ok.ensures.schedule ∙ c.in_ok-plans.ensures)) (made_right c.args.what c.args.ranks c.args.bytes c.in_ok-possible.ensures.possible c.requires.size proved)
+    subst (λ (plans : List Plan). IsRightFor c.args.what plans) (sym (c.in-Ok.ensures.schedule ∙ c.in_ok-plans.ensures)) (all_made_right c.args.what c.args.ranks c.args.bytes c.in_ok-possible.ensures.possible c.requires.size)
