@@ -9,6 +9,7 @@ pub mod Faults
 pub mod Plans
 pub mod Reads
 pub mod Reader
+pub mod TextRead
 pub mod FaultWords
 -- What only the code keeps.
 pub mod Slots

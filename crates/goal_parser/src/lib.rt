@@ -8,6 +8,8 @@
 //! - `Faults` has the tests of a token, each a fact about the token and the tokens before it, in their order.
 //! - `Reads` has the first fault of a text, and else its plans.
 //!
+//! [`TextReader`] takes the text in pieces, over the same `Reader`.
+//!
 //! The code reads in one pass. A `Reader` takes bytes, in pieces if need be, its `Parser` takes the tokens, and the
 //! labels of a block are numbered by slots up to the block's end. `Slots`, `Taken` and `Reader` say what these keep.
 #![tactic(auto)]
@@ -22,6 +24,7 @@ mod laws;
 mod names;
 mod numbers;
 mod parser;
+mod pieces;
 mod plans;
 mod ranks;
 mod reader;
@@ -32,4 +35,5 @@ mod text;
 
 pub use faults::TextFault;
 pub use laws::laws_of_texts;
+pub use pieces::TextReader;
 pub use text::read_text;

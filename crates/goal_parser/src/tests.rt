@@ -2,8 +2,9 @@
 ghost use Rattle.std.specs.Prelude.{◌≤◌, length};
 
 use crate::faults::TextFault;
-use crate::reader::Reader;
+use crate::pieces::TextReader;
 use crate::text::read_text;
+use goal_graph::Sched;
 use std::alloc::Global;
 use std::test::Fail;
 
@@ -86,21 +87,28 @@ fn faults(rt: HostRuntime) -> Result<(), Fail> {
     Ok(())
 }
 
+/// What is read of a text that is handed over in two pieces.
+fn read_cut(alloc: Global, text: &[u8], cut: usize) -> Result<Sched, TextFault>
+    requires { cut ≤ length text.now }
+{
+    let mut reader = TextReader::new(alloc);
+    reader.feed(&text[..cut])?;
+    reader.feed(&text[cut..])?;
+    reader.finish()
+}
+
 /// How many ranks, operations and dependencies a text has. It is handed over in two pieces.
 fn counted(alloc: Global, text: &[u8], cut: usize) -> Result<(usize, usize, usize), TextFault>
     requires { cut ≤ length text.now }
 {
-    let mut reader = Reader::new(alloc);
-    reader.feed(&text[..cut])?;
-    reader.feed(&text[cut..])?;
-    let plans = reader.finish()?;
+    let sched = read_cut(alloc, text, cut)?;
     let mut ops = 0usize;
     let mut deps = 0usize;
-    for plan in plans.iter() {
+    for plan in sched.plans().iter() {
         ops = ops.saturating_add(plan.ops.len());
         deps = deps.saturating_add(plan.deps.len());
     }
-    Ok((plans.len(), ops, deps))
+    Ok((sched.plans().len(), ops, deps))
 }
 
 #[test]
@@ -112,6 +120,30 @@ fn plans(rt: HostRuntime) -> Result<(), Fail> {
             Ok((2, 6, 3)),
             "cut at {cut}"
         );
+    }
+    Ok(())
+}
+
+#[test]
+fn cut_faults(rt: HostRuntime) -> Result<(), Fail> {
+    for (text, fault) in [
+        ("num_ranks 65537", TextFault::Number { at: 10 }),
+        (
+            "num_ranks 1 rank 0 { a: calc 1 a requires b }",
+            TextFault::UnknownLabel { at: 42 },
+        ),
+        ("num_ranks 1 rank 0 { calc 5x }", TextFault::Lex { at: 26 }),
+        ("num_ranks 1 rank 0 { calc 5 /*", TextFault::Lex { at: 28 }),
+    ] {
+        for cut in 0..=text.len() {
+            match read_cut(rt.alloc(), text.as_bytes(), cut) {
+                Ok(sched) => {
+                    drop(sched);
+                    assert!(rt; false, "{text} is read, cut at {cut}");
+                }
+                Err(found) => assert_eq!(rt; found, fault, "of {text} cut at {cut}"),
+            }
+        }
     }
     Ok(())
 }

@@ -10,7 +10,7 @@ use goal_graph::{PlanFault, Sched};
 use std::alloc::Global;
 
 /// The fault of the plans, as that of the text.
-fn fault_of_plans(fault: PlanFault) -> TextFault
+pub(crate) fn fault_of_plans(fault: PlanFault) -> TextFault
     ensures { result ≡ fault_of_plans fault }
 {
     match fault {
