@@ -1,4 +1,4 @@
--- Runs of certified schedules are right, and the schedules that are printed for some collectives are certified.
+-- Runs of certified schedules are right, and the schedules that `gen` prints are right, and certified.
 use Rattle.std.proofs.Common.{ℕ, ◌≤◌, ◌≡◌, List, length, sym, subst}
 use Rattle.goal_base.specs.declared.limits.TheConstants.{MAX_BYTES}
 use Rattle.goal_graph.specs.declared.action.Timed.{Timed}
@@ -8,10 +8,11 @@ use Rattle.goal_blocks.specs.declared.collective.Collective.{Collective}
 use Rattle.goal_blocks.specs.Collectives.{initial, wanted}
 use Rattle.goal_blocks.specs.Certification.{IsRight}
 use Rattle.goal_blocks.specs.Certified.{IsCertifiedFor, IsRightFor, IsCertifiedByProof}
-use Rattle.goal_blocks.proofs.ForCallers.{certified_right, made_certified, made_right}
+use Rattle.goal_blocks.proofs.ForCallers.{certified_right, made_certified, all_made_right}
 use Rattle.sim_params.specs.Costs.{CostModel, is_eager}
 use Rattle.sim_params.specs.Run.{IsCompleteRun}
 use Rattle.sim_params.proofs.ForCallers.{complete_interleaving}
+use Rattle.goal_parser.specs.Reads.{reads, plans}
 use Rattle.goal_print.specs.Canonical.{canonical}
 use Rattle.goal_cli.specs.Output.{IsGenerated}
 
@@ -19,10 +20,11 @@ pub runs_are_right : (what : Collective) (plans : List Plan) (costs : CostModel)
 runs_are_right what plans costs history certified complete =
     certified_right plans (initial what (length plans)) (wanted what (length plans)) certified (is_eager plans costs) (plain history) (complete_interleaving plans costs history complete)
 
-pub generated_certified : (what : Collective) (ranks bytes : ℕ) (output : List ℕ) → bytes ≤ MAX_BYTES → IsCertifiedByProof what ranks → IsGenerated what ranks bytes output → (sched : List Plan) × (output ≡ canonical sched) × IsCertifiedFor what sched × IsRightFor what sched
-generated_certified what ranks bytes output small proved is = (
+pub generated_certified : (what : Collective) (ranks bytes : ℕ) (output : List ℕ) → bytes ≤ MAX_BYTES → IsGenerated what ranks bytes output → (sched : List Plan) × (output ≡ canonical sched) × (reads output ≡ plans sched) × IsRightFor what sched × (IsCertifiedByProof what ranks → IsCertifiedFor what sched)
+generated_certified what ranks bytes output small is = (
   is.sched,
   is.shown,
-  subst (λ (plans : List Plan). IsCertifiedFor what plans) (sym is.is_made.made) (made_certified what ranks bytes is.is_made.possible small proved),
-  subst (λ (plans : List Plan). IsRightFor what plans) (sym is.is_made.made) (made_right what ranks bytes is.is_made.possible small proved),
+  is.read_back,
+  subst (λ (ps : List Plan). IsRightFor what ps) (sym is.is_made.made) (all_made_right what ranks bytes is.is_made.possible small),
+  λ proved. subst (λ (ps : List Plan). IsCertifiedFor what ps) (sym is.is_made.made) (made_certified what ranks bytes is.is_made.possible small proved),
 )

@@ -14,6 +14,7 @@ use Rattle.sim_timeline.specs.Timeline.{timeline}
 use Rattle.sim_stuck.specs.StuckList.{stuck_list}
 use Rattle.sim_stuck.specs.StuckText.{stuck_text}
 use Rattle.sim_waits.specs.WaitsText.{IsWaitsText}
+use Rattle.goal_parser.specs.Reads.{reads, plans}
 use Rattle.goal_print.specs.Canonical.{canonical}
 use Rattle.goal_binary.specs.File.{file}
 use Rattle.goal_blocks.specs.declared.collective.Collective.{Collective}
@@ -126,11 +127,12 @@ pub record IsMade (what : Collective) (ranks bytes : ℕ) (sched : List Plan) : 
   pub possible : IsPossible what ranks
   pub made : sched ≡ made what ranks bytes
 
--- the output is its canonical text
+-- the output is its canonical text, and what is read of that is the schedule
 pub record IsGenerated (what : Collective) (ranks bytes : ℕ) (output : List ℕ) : Type 0 where
   pub sched : List Plan
   pub is_made : IsMade what ranks bytes sched
   pub shown : output ≡ canonical sched
+  pub read_back : reads output ≡ plans sched
 
 -- the output is the verdict on the schedule that the input says, and this is its ending
 pub record IsJudged (what : Collective) (input output : List ℕ) (e : Ending) : Type 0 where

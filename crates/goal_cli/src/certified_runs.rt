@@ -7,8 +7,8 @@ ghost use Rattle.goal_cli.specs.CertifiedRuns.{CertifiedRunsAreRight, GeneratedA
 ///   channel and with no other, and leaves in each slot what the collective wants, with any costs and whichever sends
 ///   they make eager. The run that `sim` prints is the complete run (`headline` of `goal`), and so is that of
 ///   `Engine::run`.
-/// - `generated_are_certified`: what `gen` prints, for a collective and a number of ranks whose made schedules are
-///   certified by proof, is the text of a schedule that is certified and right in every interleaving.
+/// - `generated_are_certified`: what `gen` prints is the text of a schedule that is right in every interleaving, and that
+///   is certified, where that is proved of so many ranks; and what is read of the text is that schedule.
 pub fn laws_of_certified_runs()
     ensures certified_runs_are_right { CertifiedRunsAreRight }
     ensures generated_are_certified { GeneratedAreCertified }
