@@ -12,7 +12,7 @@ use Rattle.goal_blocks.proofs.ForCallers.{certified_right, made_certified, all_m
 use Rattle.sim_params.specs.Costs.{CostModel, is_eager}
 use Rattle.sim_params.specs.Run.{IsCompleteRun}
 use Rattle.sim_params.proofs.ForCallers.{complete_interleaving}
-use Rattle.goal_parser.specs.Reads.{reads, plans}
+use Rattle.goal_parser.specs.Reads as text
 use Rattle.goal_print.specs.Canonical.{canonical}
 use Rattle.goal_cli.specs.Output.{IsGenerated}
 
@@ -20,7 +20,7 @@ pub runs_are_right : (what : Collective) (plans : List Plan) (costs : CostModel)
 runs_are_right what plans costs history certified complete =
     certified_right plans (initial what (length plans)) (wanted what (length plans)) certified (is_eager plans costs) (plain history) (complete_interleaving plans costs history complete)
 
-pub generated_certified : (what : Collective) (ranks bytes : ℕ) (output : List ℕ) → bytes ≤ MAX_BYTES → IsGenerated what ranks bytes output → (sched : List Plan) × (output ≡ canonical sched) × (reads output ≡ plans sched) × IsRightFor what sched × (IsCertifiedByProof what ranks → IsCertifiedFor what sched)
+pub generated_certified : (what : Collective) (ranks bytes : ℕ) (output : List ℕ) → bytes ≤ MAX_BYTES → IsGenerated what ranks bytes output → (sched : List Plan) × (output ≡ canonical sched) × (text.reads output ≡ text.plans sched) × IsRightFor what sched × (IsCertifiedByProof what ranks → IsCertifiedFor what sched)
 generated_certified what ranks bytes output small is = (
   is.sched,
   is.shown,

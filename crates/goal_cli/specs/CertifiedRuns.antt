@@ -10,7 +10,7 @@ use Rattle.goal_blocks.specs.Certification.{IsRight}
 use Rattle.goal_blocks.specs.Certified.{IsCertifiedFor, IsRightFor, IsCertifiedByProof}
 use Rattle.sim_params.specs.Costs.{CostModel, is_eager}
 use Rattle.sim_params.specs.Run.{IsCompleteRun}
-use Rattle.goal_parser.specs.Reads.{reads, plans}
+use Rattle.goal_parser.specs.Reads as text
 use Rattle.goal_print.specs.Canonical.{canonical}
 use Rattle.goal_words.specs.Words.{Gen}
 use Rattle.goal_cli.specs.declared.answer.Ending.{Ending}
@@ -26,4 +26,4 @@ CertifiedRunsAreRight = (what : Collective) (plans : List Plan) (costs : CostMod
 -- what `gen` prints is the text of a schedule that is right everywhere, and certified where that is proved of so many ranks; and
 -- what is read of the text is that schedule
 abbrev pub GeneratedAreCertified : Type 0
-GeneratedAreCertified = (what : Collective) (ranks bytes : ℕ) (input output : List ℕ) (e : Ending) → bytes ≤ MAX_BYTES → IsOutput (Gen what ranks bytes) input output e → (sched : List Plan) × (output ≡ canonical sched) × (reads output ≡ plans sched) × IsRightFor what sched × (IsCertifiedByProof what ranks → IsCertifiedFor what sched)
+GeneratedAreCertified = (what : Collective) (ranks bytes : ℕ) (input output : List ℕ) (e : Ending) → bytes ≤ MAX_BYTES → IsOutput (Gen what ranks bytes) input output e → (sched : List Plan) × (output ≡ canonical sched) × (text.reads output ≡ text.plans sched) × IsRightFor what sched × (IsCertifiedByProof what ranks → IsCertifiedFor what sched)

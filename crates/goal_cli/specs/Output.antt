@@ -14,7 +14,7 @@ use Rattle.sim_timeline.specs.Timeline.{timeline}
 use Rattle.sim_stuck.specs.StuckList.{stuck_list}
 use Rattle.sim_stuck.specs.StuckText.{stuck_text}
 use Rattle.sim_waits.specs.WaitsText.{IsWaitsText}
-use Rattle.goal_parser.specs.Reads.{reads, plans}
+use Rattle.goal_parser.specs.Reads as text
 use Rattle.goal_print.specs.Canonical.{canonical}
 use Rattle.goal_binary.specs.File.{file}
 use Rattle.goal_blocks.specs.declared.collective.Collective.{Collective}
@@ -132,7 +132,7 @@ pub record IsGenerated (what : Collective) (ranks bytes : ℕ) (output : List �
   pub sched : List Plan
   pub is_made : IsMade what ranks bytes sched
   pub shown : output ≡ canonical sched
-  pub read_back : reads output ≡ plans sched
+  pub read_back : text.reads output ≡ text.plans sched
 
 -- the output is the verdict on the schedule that the input says, and this is its ending
 pub record IsJudged (what : Collective) (input output : List ℕ) (e : Ending) : Type 0 where
