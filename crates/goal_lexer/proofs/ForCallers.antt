@@ -2,3 +2,4 @@
 pub use Rattle.goal_lexer.proofs.StandsLaws.{finishes, goes_on}
 pub use Rattle.goal_lexer.proofs.FormLaws.{first_in_run}
 pub use Rattle.goal_lexer.proofs.OnlyLaws.{only_reading}
+pub use Rattle.goal_lexer.proofs.NothingLaws.{Each-push}

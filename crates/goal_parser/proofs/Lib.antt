@@ -8,3 +8,4 @@ pub mod LimitLaws
 pub mod GrammarLaws
 pub mod OneReading
 pub mod NoLimits
+pub mod ForCallers

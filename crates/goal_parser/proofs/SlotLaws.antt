@@ -42,7 +42,7 @@ first_outside-append test (f ∷ us) u = by (test f.label) (first_outside-append
     by true rest = rest
     by false rest = refl
 
-defined_as-append : (ds : List Definition) (d : Definition) (q : List ℕ) → defined_as (ds ++ d ∷ []) q ≡ option_or (defined_as ds q) (if bytes_eq q d.label then Some d.op else None)
+pub defined_as-append : (ds : List Definition) (d : Definition) (q : List ℕ) → defined_as (ds ++ d ∷ []) q ≡ option_or (defined_as ds q) (if bytes_eq q d.label then Some d.op else None)
 unfolding defined_as
 defined_as-append [] d q = refl
 defined_as-append (f ∷ ds) d q = by (bytes_eq q f.label) (defined_as-append ds d q)

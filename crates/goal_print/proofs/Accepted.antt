@@ -19,7 +19,7 @@ use Rattle.goal_graph.specs.declared.plan.Note.TheVariants.{Moves, Adds}
 use Rattle.goal_graph.specs.Schedule.{Plan}
 use Rattle.goal_graph.specs.Fault.{IsAccepted, AreCountsWithin, op_count, value_fits, has_peer, dep_in_range, note_fits, can_move, can_add, op_fault, dep_fault, note_fault, first_fault, rank_fault, count_fault, plain_fault}
 use Rattle.goal_graph.specs.Widths.{IsKindInWidth, IsOpInWidth, IsNoteInWidth, IsPlanInWidth, AreInWidth}
-use Rattle.goal_graph.proofs.ForCallers.{option_or-none}
+use Rattle.goal_graph.proofs.ForCallers.{option_or-none, passed}
 use Rattle.goal_parser.specs.Plans.{empty_plan}
 use Rattle.goal_print.proofs.Lexes.{within}
 use Rattle.goal_print.proofs.Fits.{WildFits, KindFits, OpFits, DepFits, NoteFits, PlanFits}
@@ -36,10 +36,6 @@ all_pass fault P holds n (x ∷ xs) none =
 all_both : {A : Type 0} (P Q R : A → Type 0) → ((x : A) → P x → Q x → R x) → (xs : List A) → AllByRecursion P xs → AllByRecursion Q xs → AllByRecursion R xs
 all_both P Q R joined [] ps qs = tt
 all_both P Q R joined (x ∷ xs) ps qs = (joined x ps.0 qs.0, all_both P Q R joined xs ps.1 qs.1)
-
-passed : (b : Bool) (fault : PlanFault) → (if b then None else Some fault) ≡ None → b ≡ true
-passed true fault h = refl
-passed false fault h = cc
 
 passed_first : (a b : Bool) (first second : PlanFault) → (if a then (if b then None else Some second) else Some first) ≡ None → a ≡ true
 passed_first true b first second h = refl

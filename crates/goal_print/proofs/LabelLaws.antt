@@ -7,6 +7,7 @@ use Rattle.std.proofs.lemmas.Slice.Eq.{bytes_eq-Decides}
 use Rattle.goal_parser.specs.declared.head.Mention.{Mention}
 use Rattle.goal_parser.specs.Items.{Definition, defined_as, first_outside}
 use Rattle.goal_print.specs.Canonical.{label}
+use Rattle.goal_parser.proofs.ForCallers.{defined_as-append}
 
 label_injective : (i j : ℕ) → i < 2 ^ 32 → j < 2 ^ 32 → label i ≡ label j → i ≡ j
 label_injective i j i_fits j_fits same =
@@ -23,16 +24,6 @@ label_other i j i_fits j_fits other = by (bytes_eq (label i) (label j)) refl
     by : (b : Bool) → bytes_eq (label i) (label j) ≡ b → bytes_eq (label i) (label j) ≡ false
     by true is = absurd (other (label_injective i j i_fits j_fits ((bytes_eq-Decides (label i) (label j)).0 is)))
     by false is = is
-
-defined_as-append : (ds : List Definition) (d : Definition) (q : List ℕ) → defined_as (ds ++ d ∷ []) q ≡ option_or (defined_as ds q) (if bytes_eq q d.label then Some d.op else None)
-unfolding defined_as
-defined_as-append [] d q = refl
-defined_as-append (f ∷ ds) d q = by (bytes_eq q f.label) (defined_as-append ds d q)
-  where
-    by : (b : Bool) → defined_as (ds ++ d ∷ []) q ≡ option_or (defined_as ds q) (if bytes_eq q d.label then Some d.op else None)
-        → (if b then Some f.op else defined_as (ds ++ d ∷ []) q) ≡ option_or (if b then Some f.op else defined_as ds q) (if bytes_eq q d.label then Some d.op else None)
-    by true rest = refl
-    by false rest = rest
 
 -- the first n labels are defined, each with its number, and no other
 pub record Knows (ds : List Definition) (n : ℕ) : Type 0 where

@@ -11,16 +11,12 @@ use Rattle.goal_lexer.specs.Numbers.{decimal_value, number_value}
 use Rattle.goal_lexer.specs.Pieces.{Each, AreWord, AreDigits}
 use Rattle.goal_lexer.specs.Runs.{run_kind}
 use Rattle.goal_print.specs.Canonical.{label}
+use Rattle.goal_lexer.proofs.ForCallers.{Each-push}
 
 -- decimal numbers are digits
-
-each_more : (test : ℕ → Bool) (cs : List ℕ) (c : ℕ) → Each test cs → test c ≡ true → Each test (cs ++ c ∷ [])
-each_more test [] c each passes = (passes, tt)
-each_more test (d ∷ cs) c each passes = (each.0, each_more test cs c each.1 passes)
-
 digits_more : (ds : List ℕ) (c : ℕ) → AreDigits ds → is_digit c ≡ true → AreDigits (ds ++ c ∷ [])
 digits_more [] c are digit = absurd are
-digits_more (d ∷ ds) c are digit = (are.0, each_more is_digit ds c are.1 digit)
+digits_more (d ∷ ds) c are digit = (are.0, Each-push is_digit ds c are.1 digit)
 
 is_digit-of : (m : ℕ) → m < 10 → is_digit (48 + m) ≡ true
 is_digit-of m h = grind (arith, nat_tests)
