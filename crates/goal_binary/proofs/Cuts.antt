@@ -5,7 +5,8 @@ use Rattle.std.proofs.lemmas.List.{take-append-drop, length-append, length-take}
 use Rattle.goal_graph.specs.Schedule.{Plan}
 use Rattle.goal_binary.specs.declared.fault.FileFault.{FileFault}
 use Rattle.goal_binary.specs.declared.fault.FileFault.TheVariants.{Short, Extra}
-use Rattle.goal_binary.specs.File.{file}
+use Rattle.goal_binary.specs.declared.layout.Layout.{Layout}
+use Rattle.goal_binary.specs.File.{written}
 use Rattle.goal_binary.specs.Fields.{Read, ◌>>=◌}
 use Rattle.goal_binary.specs.Meaning.{plans_at, meaning}
 use Rattle.goal_binary.specs.Laws.{IsSchedule, IsOfField}
@@ -44,40 +45,40 @@ first_extra len longer plans (Ok x) means placed less = go (ltb x.1 len) refl me
 first_extra len longer plans (Err f) means placed less = absurd cc
 
 -- the fault of a field is that of reading
-of_field : (len : ℕ) (fault : FileFault) (plans : List Plan) (r : Read (List Plan)) → judged len r ≡ Err fault → IsOfField fault → judged (length (file plans)) r ≡ Ok plans → ⊥
-of_field len fault plans (Ok x) means field whole = go (ltb x.1 len) means
+of_field : (len whole : ℕ) (fault : FileFault) (plans : List Plan) (r : Read (List Plan)) → judged len r ≡ Err fault → IsOfField fault → judged whole r ≡ Ok plans → ⊥
+of_field len all fault plans (Ok x) means field whole = go (ltb x.1 len) means
   where
     go : (b : Bool) → ended len x b ≡ Err fault → ⊥
     go true e = let same : Extra x.1 ≡ fault = cc in subst IsOfField (sym same) field
     go false e = absurd cc
-of_field len fault plans (Err f) means field whole = absurd cc
+of_field len all fault plans (Err f) means field whole = absurd cc
 
-module _ (plans : List Plan) (schedule : IsSchedule plans) where
-  whole : meaning (file plans) ≡ Ok plans
-  whole = meaning_again plans schedule.accepted schedule.widths
+module _ (l : Layout) (plans : List Plan) (schedule : IsSchedule plans) where
+  whole : meaning (written l plans) ≡ Ok plans
+  whole = meaning_again l plans schedule.accepted schedule.widths
 
-  pub cut_is_short : (n : ℕ) → n < length (file plans) → meaning (take n (file plans)) ≡ Err (Short n)
+  pub cut_is_short : (n : ℕ) → n < length (written l plans) → meaning (take n (written l plans)) ≡ Err (Short n)
   cut_is_short n less =
-      let front = take n (file plans) in
-      let joined : front ++ drop n (file plans) ≡ file plans = take-append-drop n (file plans) in
-      let len : length front ≡ n = omega (arith, length-take n (file plans)) in
-      let agree = subst (λ (bytes : List ℕ). Agree (length front) behind (plans_at front) (plans_at bytes)) joined (plans_follow front (drop n (file plans))) in
+      let front = take n (written l plans) in
+      let joined : front ++ drop n (written l plans) ≡ written l plans = take-append-drop n (written l plans) in
+      let len : length front ≡ n = omega (arith, length-take n (written l plans)) in
+      let agree = subst (λ (bytes : List ℕ). Agree (length front) behind (plans_at front) (plans_at bytes)) joined (plans_follow front (drop n (written l plans))) in
       elim agree.is [
         | inl e ↦ meaning_from front (Err (Short (length front))) e ∙ ap (λ (k : ℕ). Err (Short k)) len
-        | inr same ↦ absurd (not_early (length (file plans)) n plans (plans_at front) (sym (meaning_from (file plans) (plans_at front) same.0) ∙ whole) (subst (λ (k : ℕ). IsPlaced k behind (plans_at front)) len same.1) less)
+        | inr same ↦ absurd (not_early (length (written l plans)) n plans (plans_at front) (sym (meaning_from (written l plans) (plans_at front) same.0) ∙ whole) (subst (λ (k : ℕ). IsPlaced k behind (plans_at front)) len same.1) less)
       ]
 
-  pub more_is_extra : (b : ℕ) (more : List ℕ) → meaning (file plans ++ b ∷ more) ≡ Err (Extra (length (file plans)))
+  pub more_is_extra : (b : ℕ) (more : List ℕ) → meaning (written l plans ++ b ∷ more) ≡ Err (Extra (length (written l plans)))
   more_is_extra b more =
-      let agree = plans_follow (file plans) (b ∷ more) in
-      let judged_so : judged (length (file plans)) (plans_at (file plans)) ≡ Ok plans = sym (meaning_from (file plans) (plans_at (file plans)) refl) ∙ whole in
+      let agree = plans_follow (written l plans) (b ∷ more) in
+      let judged_so : judged (length (written l plans)) (plans_at (written l plans)) ≡ Ok plans = sym (meaning_from (written l plans) (plans_at (written l plans)) refl) ∙ whole in
       elim agree.is [
-        | inl e ↦ let short = sym (meaning_from (file plans) (Err (Short (length (file plans)))) e) ∙ whole in absurd cc
-        | inr same ↦ meaning_from (file plans ++ b ∷ more) (plans_at (file plans)) same.0
-            ∙ first_extra (length (file plans)) (length (file plans ++ b ∷ more)) plans (plans_at (file plans)) judged_so same.1 (omega (arith, length-append (file plans) (b ∷ more)))
+        | inl e ↦ let short = sym (meaning_from (written l plans) (Err (Short (length (written l plans)))) e) ∙ whole in absurd cc
+        | inr same ↦ meaning_from (written l plans ++ b ∷ more) (plans_at (written l plans)) same.0
+            ∙ first_extra (length (written l plans)) (length (written l plans ++ b ∷ more)) plans (plans_at (written l plans)) judged_so same.1 (omega (arith, length-append (written l plans) (b ∷ more)))
       ]
 
-  pub no_file_begins : (bytes more : List ℕ) (fault : FileFault) → meaning bytes ≡ Err fault → IsOfField fault → bytes ++ more ≡ file plans → ⊥
+  pub no_file_begins : (bytes more : List ℕ) (fault : FileFault) → meaning bytes ≡ Err fault → IsOfField fault → bytes ++ more ≡ written l plans → ⊥
   no_file_begins bytes more fault means field joined =
       let agree = subst (λ (all : List ℕ). Agree (length bytes) behind (plans_at bytes) (plans_at all)) joined (plans_follow bytes more) in
       elim agree.is [
@@ -85,5 +86,5 @@ module _ (plans : List Plan) (schedule : IsSchedule plans) where
             let said = sym means ∙ meaning_from bytes (Err (Short (length bytes))) e in
             let same : fault ≡ Short (length bytes) = cc in
             subst IsOfField same field
-        | inr same ↦ of_field (length bytes) fault plans (plans_at bytes) (sym (meaning_from bytes (plans_at bytes) refl) ∙ means) field (sym (meaning_from (file plans) (plans_at bytes) same.0) ∙ whole)
+        | inr same ↦ of_field (length bytes) (length (written l plans)) fault plans (plans_at bytes) (sym (meaning_from bytes (plans_at bytes) refl) ∙ means) field (sym (meaning_from (written l plans) (plans_at bytes) same.0) ∙ whole)
       ]

@@ -9,12 +9,11 @@ use Rattle.std.proofs.lemmas.List.{take_at, drop_at, drop_more, drop-drop, lengt
 use Rattle.std.proofs.lemmas.Nat.{from_le_bytes-to_le_bytes_4, from_le_bytes-to_le_bytes_8}
 use Rattle.std.proofs.lemmas.Option.{slice_get-get_or}
 use Rattle.std.proofs.lemmas.Slice.Eq.{bytes_eq-Decides}
-use Rattle.goal_base.specs.declared.limits.TheConstants.{MAX_RANKS}
-use Rattle.goal_binary.specs.declared.layout.TheConstants.{MAGIC, VERSION}
+use Rattle.goal_binary.specs.declared.layout.TheConstants.{MAGIC}
 use Rattle.goal_binary.specs.File.{spelled_u32, spelled_u64}
-use Rattle.goal_binary.specs.Fields.{Read, byte_or_short, byte_at, number_at, u32_at, u64_at, byte_up_to, u32_up_to, u64_up_to, count_at, magic_at, version_at, rank_count_at, header_at}
+use Rattle.goal_binary.specs.Fields.{Read, byte_or_short, byte_at, word_at, u32_at, u64_at, byte_up_to, u32_up_to, u64_up_to, magic_at}
 
-lt-ltb-true : (m n : ℕ) → m < n → ltb m n ≡ true
+pub lt-ltb-true : (m n : ℕ) → m < n → ltb m n ≡ true
 lt-ltb-true m n h = grind (arith, nat_tests)
 
 -- a reader gives this value, and the place from which on the bytes are these
@@ -43,8 +42,8 @@ module _ (bytes : List ℕ) where
       let here : slice_get bytes at ≡ Some b = slice_get-get_or bytes at 0 inside ∙ ap (λ (xs : List ℕ). Some (get_or xs 0 0)) both in
       record { place = at + 1; is = ap (byte_or_short bytes at) here; rest_is = ap (drop 1) both }
 
-  number_again : (w : Width) (limit : ℕ) (wide : IsWide w limit) (at n : ℕ) (rest : List ℕ) → n < limit → drop at bytes ≡ to_le_bytes w n ++ rest → IsReadAs bytes (number_at bytes w at) n rest
-  number_again w limit wide at n rest lt h =
+  word_again : (w : Width) (limit : ℕ) (wide : IsWide w limit) (at n : ℕ) (rest : List ℕ) → n < limit → drop at bytes ≡ to_le_bytes w n ++ rest → IsReadAs bytes (word_at bytes w at) n rest
+  word_again w limit wide at n rest lt h =
       let len = wide.len n in
       let long : ltb (length bytes - at) (byte_len w) ≡ false = le-ltb _ _ (omega (arith, length-drop at bytes, ap length h, length-append (to_le_bytes w n) rest)) in
       record {
@@ -55,11 +54,11 @@ module _ (bytes : List ℕ) where
 
   pub u32_again : (at n : ℕ) (rest : List ℕ) → n < 2 ^ 32 → drop at bytes ≡ spelled_u32 n ++ rest → IsReadAs bytes (u32_at bytes at) n rest
   unfolding u32_at
-  u32_again at n rest lt h = number_again w32 (2 ^ 32) wide32 at n rest lt h
+  u32_again at n rest lt h = word_again w32 (2 ^ 32) wide32 at n rest lt h
 
   pub u64_again : (at n : ℕ) (rest : List ℕ) → n < 2 ^ 64 → drop at bytes ≡ spelled_u64 n ++ rest → IsReadAs bytes (u64_at bytes at) n rest
   unfolding u64_at
-  u64_again at n rest lt h = number_again w64 (2 ^ 64) wide64 at n rest lt h
+  u64_again at n rest lt h = word_again w64 (2 ^ 64) wide64 at n rest lt h
 
   pub byte_up_to_again : (most at n : ℕ) (rest : List ℕ) → n ≤ most → drop at bytes ≡ n ∷ rest → IsReadAs bytes (byte_up_to bytes most at) n rest
   unfolding byte_up_to
@@ -79,22 +78,9 @@ module _ (bytes : List ℕ) where
       let r = u64_again at n rest lt h in
       record { place = r.place; is = rw (r.is, le-leb n most below) refl; rest_is = r.rest_is }
 
-  pub count_again : (limit before at n : ℕ) (rest : List ℕ) → n < 2 ^ 32 → before + n ≤ limit → drop at bytes ≡ spelled_u32 n ++ rest → IsReadAs bytes (count_at bytes limit before at) n rest
-  unfolding count_at
-  count_again limit before at n rest lt below h =
-      let r = u32_again at n rest lt h in
-      record { place = r.place; is = rw (r.is, le-leb (before + n) limit below) refl; rest_is = r.rest_is }
-
   pub magic_again : (rest : List ℕ) → bytes ≡ MAGIC ++ rest → magic_at bytes ≡ Ok 8
   unfolding magic_at
   magic_again rest h =
       let long : ltb (length bytes) 8 ≡ false = le-ltb _ _ (omega (arith, ap length h)) in
       let same : bytes_eq MAGIC (take 8 bytes) ≡ true = (bytes_eq-Decides MAGIC (take 8 bytes)).1 (sym (ap (take 8) h)) in
       rw (long, same) refl
-
-  pub header_again : (ranks : ℕ) (rest : List ℕ) → 0 < ranks → ranks ≤ MAX_RANKS → bytes ≡ MAGIC ++ (spelled_u32 VERSION ++ (spelled_u32 ranks ++ rest)) → IsReadAs bytes (header_at bytes) ranks rest
-  unfolding header_at version_at rank_count_at
-  header_again ranks rest some below h =
-      let v = u32_again 8 VERSION (spelled_u32 ranks ++ rest) (omega arith) (ap (drop 8) h) in
-      let n = u32_up_to_again MAX_RANKS v.place ranks rest (omega arith) below v.rest_is in
-      record { place = n.place; is = rw (magic_again _ h, v.is, n.is, lt-ltb-true 0 ranks some) refl; rest_is = n.rest_is }

@@ -1,25 +1,25 @@
 -- Each field is read by a reader.
-use Rattle.std.proofs.Common.{◌≡◌, ℕ, ◌+◌, ◌-◌, ◌<◌, ◌≤◌, Bool, true, false, cond, ltb, leb, ◌&&◌, List, [], ◌∷◌, ◌++◌, length, get_or, replicate, take, drop, Some, Ok, Err, refl, sym, ap, subst, ◌∙◌, arith, inl, inr}
+use Rattle.std.proofs.Common.{◌≡◌, ◌⊎◌, ℕ, ◌+◌, ◌-◌, ◌<◌, ◌≤◌, Bool, true, false, cond, ltb, leb, ◌&&◌, List, [], ◌∷◌, ◌++◌, length, get_or, replicate, take, drop, Some, Ok, Err, refl, sym, ap, subst, ◌∙◌, arith, inl, inr}
 use Rattle.std.specs.Prelude.{slice_get}
 use Rattle.std.specs.Int.{w32, w64, from_le_bytes}
 use Rattle.std.proofs.lemmas.Bool.{cases_lt, lt-ltb, le-ltb, ltb-false, le-leb}
 use Rattle.std.proofs.lemmas.Bool.Decides.{nat_tests}
 use Rattle.std.proofs.lemmas.List.{append-nil, take_at, drop-take, drop_at, length-append, length-take, get_or-drop, get_or-take, get_or-replicate, get_or_past, length-replicate}
 use Rattle.std.proofs.lemmas.Option.{slice_get_past, slice_get-get_or}
-use Rattle.goal_base.specs.declared.limits.TheConstants.{MAX_RANKS}
-use Rattle.goal_graph.proofs.ForCallers.{and_left, and_right}
 use Rattle.goal_binary.specs.declared.fault.FileFault.{FileFault}
 use Rattle.goal_binary.specs.declared.fault.FileFault.TheVariants.{Short, Field}
-use Rattle.goal_binary.specs.Fields.{Read, ◌>>=◌, allow, byte_or_short, byte_at, u32_at, u64_at, byte_up_to, u32_up_to, u64_up_to, count_at, rank_count_at}
+use Rattle.goal_binary.specs.declared.layout.Layout.{Layout}
+use Rattle.goal_binary.specs.declared.layout.Layout.TheVariants.{Fixed, Packed}
+use Rattle.goal_binary.specs.Fields.{Read, ◌>>=◌, allow, byte_or_short, byte_at, u32_at, u64_at, byte_up_to, u32_up_to, u64_up_to, some_byte_at}
 use Rattle.goal_binary.specs.Laws.{IsWidth}
 use Rattle.goal_binary.proofs.Steps.{IsBytes, ok_is}
 use Rattle.goal_binary.proofs.FieldsTaken.{leb-le}
 use Rattle.goal_binary.proofs.Readers.{Completed, Halts, Stop, Reads, field, reads_as}
 
 -- a text of the width has a value that passes
-pub record CanPass (width : ℕ) (value : List ℕ → ℕ) (test : ℕ → Bool) : Type 0 where
+pub record CanPass (l : Layout) (width : ℕ) (value : List ℕ → ℕ) (test : ℕ → Bool) : Type 0 where
   pub some : 0 < width
-  pub is_width : IsWidth width
+  pub is_width : IsWidth l width
   pub text : List ℕ
   pub len : length text ≡ width
   pub fits : IsBytes text
@@ -34,16 +34,16 @@ any n = Unit {0}
 pub take_all : (n : ℕ) (xs : List ℕ) → length xs ≡ n → take n xs ≡ xs
 take_all n xs len = ap (take n) (sym (append-nil xs)) ∙ take_at xs [] n len
 
-short_is : (m n : ℕ) → ltb m n ≡ true → m < n
+pub short_is : (m n : ℕ) → ltb m n ≡ true → m < n
 short_is m n h = grind (arith, nat_tests)
 
 pair_is : (x y a b : ℕ) → x ≡ y → a ≡ b → pair x a ≡ pair y b
 pair_is x y a b e f = cc
 
-abbrev fault_of : FileFault → Read ℕ
+abbrev pub fault_of : FileFault → Read ℕ
 fault_of f = Err f
 
-error_is : (d f : FileFault) → fault_of d ≡ fault_of f → d ≡ f
+pub error_is : (d f : FileFault) → fault_of d ≡ fault_of f → d ≡ f
 error_is d f e = cc
 
 -- what stands between two places is the same in bytes that are the same up to the later place
@@ -77,7 +77,7 @@ passes_from width value test some bytes at x after e = go (ltb (length bytes - a
           after_is = ap (λ (p : ℕ × ℕ). p.1) both;
         }
 
-module _ {V : ℕ → Type 0} (width : ℕ) (value : List ℕ → ℕ) (test : ℕ → Bool) (can : CanPass width value test) (valid : (n : ℕ) → test n ≡ true → V n) where
+module _ {V : ℕ → Type 0} (l : Layout) (width : ℕ) (value : List ℕ → ℕ) (test : ℕ → Bool) (can : CanPass l width value test) (valid : (n : ℕ) → test n ≡ true → V n) where
   field_is : (bytes : List ℕ) (at n : ℕ) → at + width ≤ length bytes → value (take width (drop at bytes)) ≡ n → field width value test bytes at ≡ allow (test n) at (n, at + width)
   unfolding field
   field_is bytes at n room is =
@@ -98,23 +98,23 @@ module _ {V : ℕ → Type 0} (width : ℕ) (value : List ℕ → ℕ) (test : �
         is = field_is (front ++ can.text) at (value can.text) room (ap value taken) ∙ ap (λ (b : Bool). allow b at (value can.text, at + width)) can.passes ∙ ap (λ (p : ℕ). Ok (value can.text, p)) place;
       }
 
-  stops : (bytes : List ℕ) (at : ℕ) (fault : FileFault) → at ≤ length bytes → field width value test bytes at ≡ Err fault → Stop (field width value test) bytes at fault
+  stops : (bytes : List ℕ) (at : ℕ) (fault : FileFault) → at ≤ length bytes → field width value test bytes at ≡ Err fault → Stop l (field width value test) bytes at fault
   unfolding field
   stops bytes at fault le e = go (ltb (length bytes - at) width) (test (value (take width (drop at bytes)))) refl refl e
     where
       front_len : length (take at bytes) ≡ at
       front_len = omega (arith, length-take at bytes, le)
 
-      made : (f : FileFault) → Halts (field width value test) bytes at at width f → Stop (field width value test) bytes at f
+      made : (f : FileFault) → Halts (field width value test) bytes at at width f → Stop l (field width value test) bytes at f
       made f how = record { place = at; width = width; from = omega arith; within = le; is_width = can.is_width; done = completed at (take at bytes) front_len; how = how }
 
       go : (short good : Bool) → ltb (length bytes - at) width ≡ short → test (value (take width (drop at bytes))) ≡ good
-          → cond short (Err (Short (length bytes))) (allow good at (pair (value (take width (drop at bytes))) (at + width))) ≡ Err fault → Stop (field width value test) bytes at fault
-      go true good is passed e = subst (λ (f : FileFault). Stop (field width value test) bytes at f) (error_is (Short (length bytes)) fault e) (made (Short (length bytes)) (refl, omega (arith, short_is (length bytes - at) width is)))
+          → cond short (Err (Short (length bytes))) (allow good at (pair (value (take width (drop at bytes))) (at + width))) ≡ Err fault → Stop l (field width value test) bytes at fault
+      go true good is passed e = subst (λ (f : FileFault). Stop l (field width value test) bytes at f) (error_is (Short (length bytes)) fault e) (made (Short (length bytes)) (refl, omega (arith, short_is (length bytes - at) width is)))
       go false true is passed e = absurd cc
       go false false is passed e =
           let room : at + width ≤ length bytes = omega (arith, ltb-false _ _ is, can.some) in
-          subst (λ (f : FileFault). Stop (field width value test) bytes at f) (error_is (Field at) fault e)
+          subst (λ (f : FileFault). Stop l (field width value test) bytes at f) (error_is (Field at) fault e)
           (made (Field at) (
             refl,
             room,
@@ -123,7 +123,7 @@ module _ {V : ℕ → Type 0} (width : ℕ) (value : List ℕ → ℕ) (test : �
                 ∙ ap (λ (b : Bool). allow b at (value (take width (drop at bytes)), at + width)) passed,
           ))
 
-  pub field_reads : Reads V (field width value test)
+  pub field_reads : Reads l V (field width value test)
   field_reads = record {
     inside = λ bytes at x after le e.
         let p = passes_from width value test can.some bytes at x after e in
@@ -178,90 +178,85 @@ byte_is bytes at = elim (cases_lt at (length bytes)) [
 ]
 
 -- zeros pass
-zeros_can : (width : ℕ) (value : List ℕ → ℕ) (test : ℕ → Bool) → 0 < width → IsWidth width → test (value (replicate width 0)) ≡ true → CanPass width value test
-zeros_can width value test some is_width passes =
+zeros_can : (l : Layout) (width : ℕ) (value : List ℕ → ℕ) (test : ℕ → Bool) → 0 < width → IsWidth l width → test (value (replicate width 0)) ≡ true → CanPass l width value test
+zeros_can l width value test some is_width passes =
     record { some = some; is_width = is_width; text = replicate width 0; len = length-replicate width 0; fits = zero_bytes width; passes = passes }
 
-pub byte_reads : Reads any byte_at
-byte_reads = reads_as (field 1 first_of always) byte_at byte_is (field_reads 1 first_of always (zeros_can 1 first_of always (omega arith) (inl refl) refl) (λ n passed. tt))
+-- a field of one byte is in both layouts
+is_one : (l : Layout) → IsWidth l 1
+is_one Fixed = inl refl
+is_one Packed = (omega arith, omega arith)
+
+pub byte_reads : (l : Layout) → Reads l any byte_at
+byte_reads l = reads_as (field 1 first_of always) byte_at byte_is (field_reads l 1 first_of always (zeros_can l 1 first_of always (omega arith) (is_one l) refl) (λ n passed. tt))
 
 pub u32_is : (bytes : List ℕ) (at : ℕ) → u32_at bytes at ≡ field 4 value_32 always bytes at
 unfolding field u32_at
 u32_is bytes at = refl
 
-pub u32_reads : Reads any u32_at
-u32_reads = reads_as (field 4 value_32 always) u32_at u32_is (field_reads 4 value_32 always (zeros_can 4 value_32 always (omega arith) (inr (inl refl)) refl) (λ n passed. tt))
+pub u32_reads : Reads Fixed any u32_at
+u32_reads = reads_as (field 4 value_32 always) u32_at u32_is (field_reads Fixed 4 value_32 always (zeros_can Fixed 4 value_32 always (omega arith) (inr (inl refl)) refl) (λ n passed. tt))
 
 abbrev pub up_to : ℕ → ℕ → Bool
 up_to most n = leb n most
 
-pub byte_test : (most : ℕ) (bytes : List ℕ) (at : ℕ) → byte_up_to bytes most at ≡ field 1 first_of (up_to most) bytes at
-unfolding field byte_up_to
-byte_test most bytes at =
-    ap (λ (r : Read ℕ). r >>= λ x. allow (up_to most x.0) at x) (byte_is bytes at)
-    ∙ one_test (ltb (length bytes - at) 1) (Short (length bytes)) (pair (first_of (take 1 (drop at bytes))) (at + 1)) (up_to most) at
+pub byte_test : (test : ℕ → Bool) (bytes : List ℕ) (at : ℕ) → (byte_at bytes at >>= λ x. allow (test x.0) at x) ≡ field 1 first_of test bytes at
+unfolding field
+byte_test test bytes at =
+    ap (λ (r : Read ℕ). r >>= λ x. allow (test x.0) at x) (byte_is bytes at)
+    ∙ one_test (ltb (length bytes - at) 1) (Short (length bytes)) (pair (first_of (take 1 (drop at bytes))) (at + 1)) test at
 
-pub byte_up_to_reads : (most : ℕ) → Reads (λ n. n ≤ most) (λ bytes at. byte_up_to bytes most at)
-byte_up_to_reads most =
-    reads_as (field 1 first_of (up_to most)) (λ bytes at. byte_up_to bytes most at) (byte_test most)
-    (field_reads 1 first_of (up_to most) (zeros_can 1 first_of (up_to most) (omega arith) (inl refl) (le-leb 0 most (omega arith))) (λ n passed. leb-le n most passed))
+pub byte_up_to_reads : (l : Layout) (most : ℕ) → Reads l (λ n. n ≤ most) (λ bytes at. byte_up_to bytes most at)
+unfolding byte_up_to
+byte_up_to_reads l most =
+    reads_as (field 1 first_of (up_to most)) (λ bytes at. byte_up_to bytes most at) (byte_test (up_to most))
+    (field_reads l 1 first_of (up_to most) (zeros_can l 1 first_of (up_to most) (omega arith) (is_one l) (le-leb 0 most (omega arith))) (λ n passed. leb-le n most passed))
+
+one_byte : IsBytes (1 ∷ [])
+one_byte i = grind arith
+
+-- a byte that is not 0
+pub some_byte_reads : (l : Layout) → Reads l any some_byte_at
+unfolding some_byte_at
+some_byte_reads l =
+    reads_as (field 1 first_of (ltb 0)) some_byte_at (byte_test (ltb 0))
+    (field_reads l 1 first_of (ltb 0) (record { some = omega arith; is_width = is_one l; text = 1 ∷ []; len = refl; fits = one_byte; passes = refl }) (λ n passed. tt))
+
+-- a byte that passes a test which 0 passes
+pub byte_tested_reads : (l : Layout) (test : ℕ → Bool) → test 0 ≡ true → Reads l any (λ bytes at. byte_at bytes at >>= λ x. allow (test x.0) at x)
+byte_tested_reads l test zero_passes =
+    reads_as (field 1 first_of test) (λ bytes at. byte_at bytes at >>= λ x. allow (test x.0) at x) (byte_test test)
+    (field_reads l 1 first_of test (zeros_can l 1 first_of test (omega arith) (is_one l) zero_passes) (λ n passed. tt))
 
 pub u32_test : (test : ℕ → Bool) (bytes : List ℕ) (at : ℕ) → (u32_at bytes at >>= λ x. allow (test x.0) at x) ≡ field 4 value_32 test bytes at
 unfolding field u32_at
 u32_test test bytes at = one_test (ltb (length bytes - at) 4) (Short (length bytes)) (pair (value_32 (take 4 (drop at bytes))) (at + 4)) test at
 
+one_number : IsBytes (1 ∷ 0 ∷ 0 ∷ 0 ∷ [])
+one_number i = grind arith
+
 pub u64_test : (test : ℕ → Bool) (bytes : List ℕ) (at : ℕ) → (u64_at bytes at >>= λ x. allow (test x.0) at x) ≡ field 8 value_64 test bytes at
 unfolding field u64_at
 u64_test test bytes at = one_test (ltb (length bytes - at) 8) (Short (length bytes)) (pair (value_64 (take 8 (drop at bytes))) (at + 8)) test at
 
-pub u32_up_to_reads : (most : ℕ) → Reads (λ n. n ≤ most) (λ bytes at. u32_up_to bytes most at)
+pub u32_up_to_reads : (most : ℕ) → Reads Fixed (λ n. n ≤ most) (λ bytes at. u32_up_to bytes most at)
 unfolding u32_up_to
 u32_up_to_reads most =
     reads_as (field 4 value_32 (up_to most)) (λ bytes at. u32_up_to bytes most at) (u32_test (up_to most))
-    (field_reads 4 value_32 (up_to most) (zeros_can 4 value_32 (up_to most) (omega arith) (inr (inl refl)) (le-leb 0 most (omega arith))) (λ n passed. leb-le n most passed))
+    (field_reads Fixed 4 value_32 (up_to most) (zeros_can Fixed 4 value_32 (up_to most) (omega arith) (inr (inl refl)) (le-leb 0 most (omega arith))) (λ n passed. leb-le n most passed))
 
-pub u64_up_to_reads : (most : ℕ) → Reads (λ n. n ≤ most) (λ bytes at. u64_up_to bytes most at)
+pub u64_up_to_reads : (most : ℕ) → Reads Fixed (λ n. n ≤ most) (λ bytes at. u64_up_to bytes most at)
 unfolding u64_up_to
 u64_up_to_reads most =
     reads_as (field 8 value_64 (up_to most)) (λ bytes at. u64_up_to bytes most at) (u64_test (up_to most))
-    (field_reads 8 value_64 (up_to most) (zeros_can 8 value_64 (up_to most) (omega arith) (inr (inr refl)) (le-leb 0 most (omega arith))) (λ n passed. leb-le n most passed))
+    (field_reads Fixed 8 value_64 (up_to most) (zeros_can Fixed 8 value_64 (up_to most) (omega arith) (inr (inr refl)) (le-leb 0 most (omega arith))) (λ n passed. leb-le n most passed))
 
-pub count_reads : (limit before : ℕ) → before ≤ limit → Reads (λ n. before + n ≤ limit) (λ bytes at. count_at bytes limit before at)
-unfolding count_at
-count_reads limit before within =
-    let fits : ℕ → Bool = λ n. leb (before + n) limit in
-    reads_as (field 4 value_32 fits) (λ bytes at. count_at bytes limit before at) (u32_test fits)
-    (field_reads 4 value_32 fits (zeros_can 4 value_32 fits (omega arith) (inr (inl refl)) (le-leb (before + 0) limit (omega arith))) (λ n passed. leb-le (before + n) limit passed))
-
--- a number of ranks
-abbrev rank_test : ℕ → Bool
-rank_test n = leb n MAX_RANKS && ltb 0 n
-
-pub record IsRankCount (n : ℕ) : Type 0 where
-  pub some : 0 < n
-  pub within : n ≤ MAX_RANKS
-
-two_tests : (f : FileFault) (short : Bool) (n : ℕ × ℕ) (first second : ℕ → Bool) (at : ℕ)
-    → ((cond short (Err f) (Ok n) >>= λ x. allow (first x.0) at x) >>= λ x. allow (second x.0) at x) ≡ cond short (Err f) (allow (first n.0 && second n.0) at n)
-two_tests f true n first second at = refl
-two_tests f false n first second at = go (first n.0)
+-- a number of four bytes that passes a test, which 0 or 1 passes
+pub u32_tested_reads : {V : ℕ → Type 0} (test : ℕ → Bool) → ((n : ℕ) → test n ≡ true → V n) → (test 0 ≡ true) ⊎ (test 1 ≡ true)
+    → Reads Fixed V (λ bytes at. u32_at bytes at >>= λ x. allow (test x.0) at x)
+u32_tested_reads test valid start =
+    reads_as (field 4 value_32 test) (λ bytes at. u32_at bytes at >>= λ x. allow (test x.0) at x) (u32_test test) (field_reads Fixed 4 value_32 test (can start) valid)
   where
-    go : (b : Bool) → (allow b at n >>= λ x. allow (second x.0) at x) ≡ allow (b && second n.0) at n
-    go true = refl
-    go false = refl
-
-one_byte : IsBytes (1 ∷ 0 ∷ 0 ∷ 0 ∷ [])
-one_byte i = grind arith
-
-rank_can : CanPass 4 value_32 rank_test
-rank_can = record { some = omega arith; is_width = inr (inl refl); text = 1 ∷ 0 ∷ 0 ∷ 0 ∷ []; len = refl; fits = one_byte; passes = refl }
-
-pub rank_count_reads : Reads IsRankCount rank_count_at
-unfolding field u32_at u32_up_to rank_count_at
-rank_count_reads =
-    reads_as (field 4 value_32 rank_test) rank_count_at
-    (λ bytes at. two_tests (Short (length bytes)) (ltb (length bytes - at) 4) (pair (value_32 (take 4 (drop at bytes))) (at + 4)) (up_to MAX_RANKS) (λ n. ltb 0 n) at)
-    (field_reads 4 value_32 rank_test rank_can (λ n passed. record {
-      some = short_is 0 n (and_right (leb n MAX_RANKS) (ltb 0 n) passed);
-      within = leb-le n MAX_RANKS (and_left (leb n MAX_RANKS) (ltb 0 n) passed);
-    }))
+    can : (test 0 ≡ true) ⊎ (test 1 ≡ true) → CanPass Fixed 4 value_32 test
+    can (inl zero_passes) = zeros_can Fixed 4 value_32 test (omega arith) (inr (inl refl)) zero_passes
+    can (inr one_passes) = record { some = omega arith; is_width = inr (inl refl); text = 1 ∷ 0 ∷ 0 ∷ 0 ∷ []; len = refl; fits = one_number; passes = one_passes }

@@ -3,7 +3,6 @@ use Rattle.std.proofs.Common.{◌≡◌, ℕ, ◌+◌, ◌-◌, ◌≤◌, Bool,
 use Rattle.std.specs.Prelude.{slice_get}
 use Rattle.std.specs.Bool.{Decides}
 use Rattle.std.specs.Str.{bytes_eq}
-use Rattle.goal_base.specs.declared.limits.TheConstants.{MAX_RANKS}
 use Rattle.std.specs.Int.{Width, w32, w64, byte_len, from_le_bytes, to_le_bytes}
 use Rattle.std.proofs.lemmas.Bool.{cases_lt, ltb-false, eqb-true}
 use Rattle.std.proofs.lemmas.Bool.Decides.{nat_tests}
@@ -12,10 +11,10 @@ use Rattle.std.proofs.lemmas.Nat.{le_bytes_4, le_bytes_8}
 use Rattle.std.proofs.lemmas.Option.{slice_get_within, get_or_from_slice_get}
 use Rattle.std.proofs.lemmas.Slice.Eq.{bytes_eq-Decides}
 use Rattle.goal_binary.specs.declared.fault.FileFault.{FileFault}
-use Rattle.goal_binary.specs.declared.fault.FileFault.TheVariants.{Short, Magic, Version}
-use Rattle.goal_binary.specs.declared.layout.TheConstants.{MAGIC, VERSION}
+use Rattle.goal_binary.specs.declared.fault.FileFault.TheVariants.{Short, Magic}
+use Rattle.goal_binary.specs.declared.layout.TheConstants.{MAGIC}
 use Rattle.goal_binary.specs.File.{spelled_u32, spelled_u64}
-use Rattle.goal_binary.specs.Fields.{Read, ◌>>=◌, allow, byte_or_short, byte_at, number_at, u32_at, u64_at, byte_up_to, u32_up_to, u64_up_to, count_at, magic_at, version_at, rank_count_at, header_at}
+use Rattle.goal_binary.specs.Fields.{Read, ◌>>=◌, allow, byte_or_short, byte_at, word_at, u32_at, u64_at, byte_up_to, u32_up_to, u64_up_to, magic_at}
 use Rattle.goal_binary.proofs.Steps.{IsBytes, bind_ok, allow_ok, ok_is, Takes, Takes-then}
 
 pub leb-le : (m n : ℕ) → leb m n ≡ true → m ≤ n
@@ -59,8 +58,8 @@ module _ (bytes : List ℕ) where
           subst (λ (y : ℕ × ℕ). Takes bytes at (y.0 ∷ []) y.1) (ok_is (b, at + 1) x e) (record { parts = front })
 
   module _ (fits : IsBytes bytes) where
-    number_taken : (w : Width) (wide : IsWide w) (at : ℕ) (x : ℕ × ℕ) → number_at bytes w at ≡ Ok x → Takes bytes at (to_le_bytes w x.0) x.1
-    number_taken w wide at x e =
+    word_taken : (w : Width) (wide : IsWide w) (at : ℕ) (x : ℕ × ℕ) → word_at bytes w at ≡ Ok x → Takes bytes at (to_le_bytes w x.0) x.1
+    word_taken w wide at x e =
         let rest = drop at bytes in
         let len = byte_len w in
         let g = guard_ok (ltb (length bytes - at) len) (Short (length bytes)) (from_le_bytes w (take len rest), at + len) x e in
@@ -73,36 +72,30 @@ module _ (bytes : List ℕ) where
 
     pub u32_taken : (at : ℕ) (x : ℕ × ℕ) → u32_at bytes at ≡ Ok x → Takes bytes at (spelled_u32 x.0) x.1
     unfolding u32_at
-    u32_taken at x e = number_taken w32 wide32 at x e
+    u32_taken at x e = word_taken w32 wide32 at x e
 
     pub u64_taken : (at : ℕ) (x : ℕ × ℕ) → u64_at bytes at ≡ Ok x → Takes bytes at (spelled_u64 x.0) x.1
     unfolding u64_at
-    u64_taken at x e = number_taken w64 wide64 at x e
+    u64_taken at x e = word_taken w64 wide64 at x e
 
   -- a field below its limit is the field
-  up_to : (read : Read ℕ) (most at : ℕ) (x : ℕ × ℕ) → (read >>= λ n. allow (leb n.0 most) at n) ≡ Ok x → (read ≡ Ok x) × (x.0 ≤ most)
-  up_to read most at x e =
+  pub up_to_ok : (read : Read ℕ) (most at : ℕ) (x : ℕ × ℕ) → (read >>= λ n. allow (leb n.0 most) at n) ≡ Ok x → (read ≡ Ok x) × (x.0 ≤ most)
+  up_to_ok read most at x e =
       let a = bind_ok read (λ n. allow (leb n.0 most) at n) x e in
       let t = allow_ok (leb a.0.0 most) at a.0 x a.2 in
       (a.1 ∙ ap Ok t.1, subst (λ (y : ℕ × ℕ). y.0 ≤ most) t.1 (leb-le a.0.0 most t.0))
 
   pub byte_up_to_ok : (most at : ℕ) (x : ℕ × ℕ) → byte_up_to bytes most at ≡ Ok x → (byte_at bytes at ≡ Ok x) × (x.0 ≤ most)
   unfolding byte_up_to
-  byte_up_to_ok most at x e = up_to (byte_at bytes at) most at x e
+  byte_up_to_ok most at x e = up_to_ok (byte_at bytes at) most at x e
 
   pub u32_up_to_ok : (most at : ℕ) (x : ℕ × ℕ) → u32_up_to bytes most at ≡ Ok x → (u32_at bytes at ≡ Ok x) × (x.0 ≤ most)
   unfolding u32_up_to
-  u32_up_to_ok most at x e = up_to (u32_at bytes at) most at x e
+  u32_up_to_ok most at x e = up_to_ok (u32_at bytes at) most at x e
 
   pub u64_up_to_ok : (most at : ℕ) (x : ℕ × ℕ) → u64_up_to bytes most at ≡ Ok x → (u64_at bytes at ≡ Ok x) × (x.0 ≤ most)
   unfolding u64_up_to
-  u64_up_to_ok most at x e = up_to (u64_at bytes at) most at x e
-
-  pub count_ok : (limit before at : ℕ) (x : ℕ × ℕ) → count_at bytes limit before at ≡ Ok x → u32_at bytes at ≡ Ok x
-  unfolding count_at
-  count_ok limit before at x e =
-      let a = bind_ok (u32_at bytes at) (λ n. allow (leb (before + n.0) limit) at n) x e in
-      a.1 ∙ ap Ok (allow_ok (leb (before + a.0.0) limit) at a.0 x a.2).1
+  u64_up_to_ok most at x e = up_to_ok (u64_at bytes at) most at x e
 
   -- the magic stands at the front
   pub magic_taken : (after : ℕ) → magic_at bytes ≡ Ok after → Takes bytes 0 MAGIC after
@@ -115,28 +108,3 @@ module _ (bytes : List ℕ) where
       go false true d e =
           let there : 8 ≡ after = ok_is 8 after e in
           subst (λ (n : ℕ). Takes bytes 0 MAGIC n) there (record { parts = sym (take-append-drop 8 bytes) ∙ ap (λ (front : List ℕ). front ++ drop 8 bytes) (sym (d.0 refl)) })
-
-  module _ (fits : IsBytes bytes) where
-    pub version_taken : (at after : ℕ) → version_at bytes at ≡ Ok after → Takes bytes at (spelled_u32 VERSION) after
-    unfolding version_at
-    version_taken at after e =
-        let a = bind_ok (u32_at bytes at) (λ n. cond (eqb n.0 VERSION) (Ok n.1) (Err (Version n.0))) after e in
-        go a.0 (eqb a.0.0 VERSION) refl a.2 (u32_taken fits at a.0 a.1)
-      where
-        go : (n : ℕ × ℕ) (b : Bool) → eqb n.0 VERSION ≡ b → cond b (Ok n.1) (Err (Version n.0)) ≡ Ok after → Takes bytes at (spelled_u32 n.0) n.1 → Takes bytes at (spelled_u32 VERSION) after
-        go n false is e t = absurd cc
-        go n true is e t = subst (λ (v : ℕ). Takes bytes at (spelled_u32 v) after) (eqb-true n.0 VERSION is) (subst (λ (p : ℕ). Takes bytes at (spelled_u32 n.0) p) (ok_is n.1 after e) t)
-
-    pub rank_count_taken : (at : ℕ) (x : ℕ × ℕ) → rank_count_at bytes at ≡ Ok x → Takes bytes at (spelled_u32 x.0) x.1
-    unfolding rank_count_at
-    rank_count_taken at x e =
-        let a = bind_ok (u32_up_to bytes MAX_RANKS at) (λ n. allow (ltb 0 n.0) at n) x e in
-        u32_taken fits at x ((u32_up_to_ok MAX_RANKS at a.0 a.1).0 ∙ ap Ok (allow_ok (ltb 0 a.0.0) at a.0 x a.2).1)
-
-    pub header_taken : (x : ℕ × ℕ) → header_at bytes ≡ Ok x → Takes bytes 0 (MAGIC ++ spelled_u32 VERSION ++ spelled_u32 x.0) x.1
-    unfolding header_at
-    header_taken x e =
-        let a = bind_ok (magic_at bytes) (λ m. version_at bytes m >>= λ v. rank_count_at bytes v) x e in
-        let b = bind_ok (version_at bytes a.0) (λ v. rank_count_at bytes v) x a.2 in
-        Takes-then bytes 0 MAGIC a.0 (spelled_u32 VERSION ++ spelled_u32 x.0) x.1 (magic_taken a.0 a.1)
-        (Takes-then bytes a.0 (spelled_u32 VERSION) b.0 (spelled_u32 x.0) x.1 (version_taken a.0 b.0 b.1) (rank_count_taken b.0 x b.2))

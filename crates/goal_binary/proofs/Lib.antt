@@ -10,6 +10,11 @@ pub mod ItemsAgain
 pub mod RanksAgain
 pub mod Round
 pub mod Follows
+pub mod Groups
+pub mod Packed
+pub mod NumbersTaken
+pub mod NumbersAgain
+pub mod NumbersRead
 pub mod Cuts
 pub mod Lengths
 pub mod Readers
@@ -19,3 +24,9 @@ pub mod Limits
 pub mod Opening
 pub mod Faults
 pub mod NoLimits
+pub mod FixedTaken
+pub mod PackedItems
+pub mod PackedTaken
+pub mod FixedAgain
+pub mod PackedAgain
+pub mod ItemsRead

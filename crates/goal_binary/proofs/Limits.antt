@@ -1,5 +1,5 @@
 -- What is read of bytes has a file: its numbers have room, its sizes and counts are within their limits.
-use Rattle.std.proofs.Common.{◌≡◌, ℕ, zero, suc, ◌^◌, ◌<◌, ◌≤◌, Bool, true, false, cond, eqb, Option, Some, None, List, [], ◌∷◌, ◌++◌, length, take, drop, Ok, All, refl, sym, ap, subst, ◌∙◌, arith}
+use Rattle.std.proofs.Common.{◌≡◌, ◌⊎◌, ℕ, zero, suc, ◌/◌, ◌%◌, ◌^◌, ◌<◌, ◌≤◌, Bool, true, false, cond, eqb, ltb, leb, ◌||◌, Option, Some, None, List, [], ◌∷◌, ◌++◌, length, take, drop, Ok, All, refl, sym, ap, subst, ◌∙◌, arith, inl, inr}
 use Rattle.std.specs.List.{AllByRecursion}
 use Rattle.std.proofs.lemmas.Bool.{le-leb}
 use Rattle.std.proofs.lemmas.Bool.Decides.{nat_tests}
@@ -11,14 +11,20 @@ use Rattle.goal_graph.specs.Fault.{op_count, dep_count, note_count}
 use Rattle.goal_graph.specs.Widths.{IsNoteInWidth}
 use Rattle.goal_binary.specs.declared.form.Form.{Form}
 use Rattle.goal_binary.specs.declared.form.Form.TheVariants as form
+use Rattle.goal_binary.specs.declared.form.Head.{Head}
+use Rattle.goal_binary.specs.declared.layout.Layout.{Layout}
+use Rattle.goal_binary.specs.declared.layout.Layout.TheVariants.{Fixed, Packed}
 use Rattle.goal_binary.specs.Fitting.{OpFits, DepFits, PlanFits}
-use Rattle.goal_binary.specs.Fields.{byte_at, u32_at, byte_up_to, u32_up_to, u64_up_to, count_at, rank_count_at}
-use Rattle.goal_binary.specs.Reading.{most_nic, most_peer, most_tag, most_size, note_of, list_at, form_at, op_at, dep_at, note_at, rank_at, ranks_at}
+use Rattle.goal_binary.specs.Fields.{Read, ◌>>=◌, allow, byte_at, u32_at, byte_up_to, u32_up_to, u64_up_to, packed_at, packed_up_to, some_byte_at, count_at, rank_count_at}
+use Rattle.goal_binary.specs.Reading.{form_of, most_nic, most_peer, most_tag, most_size, has_peer, has_tag, note_of, is_head, head_of, list_at, form_at, fixed_op_at, fixed_dep_at, fixed_note_at, head_byte_at, head_at, some_byte_if, packed_u32_at, packed_u32_if, packed_op_at, packed_dep_at, packed_note_at, op_at, dep_at, note_at, rank_at, ranks_at}
 use Rattle.goal_binary.proofs.Steps.{IsBytes, bind_ok, ok_is}
 use Rattle.goal_binary.proofs.FieldsTaken.{IsBytes-drop, IsBytes-take, leb-le}
 use Rattle.goal_binary.proofs.Readers.{Reader, then, give, field}
-use Rattle.goal_binary.proofs.FieldsRead.{passes_from, first_of, value_32, value_64, always, up_to, byte_is, byte_test, u32_is, u32_test, u64_test}
-use Rattle.goal_binary.proofs.RanksRead.{made_op, made_dep, made_plan, list_of, body}
+use Rattle.goal_binary.proofs.FieldsRead.{passes_from, first_of, value_32, value_64, always, up_to, byte_is, byte_test, short_is, u32_is, u32_test, u64_test}
+use Rattle.goal_binary.proofs.NumbersTaken.{packed_up_to_ok}
+use Rattle.goal_binary.proofs.PackedItems.{IsHead, head_is}
+use Rattle.goal_binary.proofs.ItemsRead.{made_op, made_dep, halved_dep}
+use Rattle.goal_binary.proofs.RanksRead.{made_plan, list_of, body, body_is}
 
 -- what a reader gives of bytes is so
 pub record Gives {A : Type 0} (V : A → Type 0) (P : Reader A) : Type 0 where
@@ -69,8 +75,9 @@ record IsUpTo (most bits n : ℕ) : Type 0 where
   width : n < 2 ^ bits
 
 byte_up_to_gives : (most : ℕ) → Gives (IsUpTo most 8) (λ bytes at. byte_up_to bytes most at)
+unfolding byte_up_to
 byte_up_to_gives most =
-    gives_as (field 1 first_of (up_to most)) (λ bytes at. byte_up_to bytes most at) (byte_test most)
+    gives_as (field 1 first_of (up_to most)) (λ bytes at. byte_up_to bytes most at) (byte_test (up_to most))
     (field_gives 1 first_of (up_to most) (omega arith) (λ text len fits passed. record { below = leb-le (first_of text) most passed; width = omega (arith, fits 0) }))
 
 u32_up_to_gives : (most : ℕ) → Gives (IsUpTo most 32) (λ bytes at. u32_up_to bytes most at)
@@ -98,25 +105,35 @@ unless : (any : Bool) (n bound v : ℕ) → n < bound → cond any None (some_of
 unless true n bound v lt e = absurd cc
 unless false n bound v lt e = omega (arith, lt, some_is n v e)
 
-op_fits : (f : Form) (peer tag size cpu nic : ℕ) → IsUpTo (most_nic f) 8 nic → cpu < 2 ^ 8 → IsUpTo (most_peer f) 32 peer → IsUpTo (most_tag f) 32 tag → IsUpTo (most_size f) 64 size → OpFits (made_op f peer tag size cpu nic)
+-- numbers that an operation of this form may have
+record AreNumbers (f : Form) (peer tag size cpu nic : ℕ) : Type 0 where
+  nic_below : nic ≤ most_nic f
+  nic_width : nic < 2 ^ 8
+  cpu_width : cpu < 2 ^ 8
+  peer_width : peer < 2 ^ 32
+  tag_width : tag < 2 ^ 32
+  size_below : size ≤ most_size f
+  size_width : size < 2 ^ 64
+
+op_fits : (f : Form) (peer tag size cpu nic : ℕ) → AreNumbers f peer tag size cpu nic → OpFits (made_op f peer tag size cpu nic)
 unfolding made_op
-op_fits form.Calc peer tag size cpu nic n c p t s = record {
-  width = record { kind = s.width; cpu = c; nic = n.width };
-  value = rw (le-leb size MAX_NANOS s.below, eqb-zero nic n.below) refl;
+op_fits form.Calc peer tag size cpu nic a = record {
+  width = record { kind = a.size_width; cpu = a.cpu_width; nic = a.nic_width };
+  value = rw (le-leb size MAX_NANOS a.size_below, eqb-zero nic a.nic_below) refl;
 }
-op_fits form.Send peer tag size cpu nic n c p t s = record {
-  width = record { kind = (s.width, p.width, t.width); cpu = c; nic = n.width };
-  value = le-leb size MAX_BYTES s.below;
+op_fits form.Send peer tag size cpu nic a = record {
+  width = record { kind = (a.size_width, a.peer_width, a.tag_width); cpu = a.cpu_width; nic = a.nic_width };
+  value = le-leb size MAX_BYTES a.size_below;
 }
-op_fits (form.Recv any_source any_tag) peer tag size cpu nic n c p t s = record {
-  width = record { kind = (s.width, λ v e. unless any_source peer (2 ^ 32) v p.width e, λ v e. unless any_tag tag (2 ^ 32) v t.width e); cpu = c; nic = n.width };
-  value = le-leb size MAX_BYTES s.below;
+op_fits (form.Recv any_source any_tag) peer tag size cpu nic a = record {
+  width = record { kind = (a.size_width, λ v e. unless any_source peer (2 ^ 32) v a.peer_width e, λ v e. unless any_tag tag (2 ^ 32) v a.tag_width e); cpu = a.cpu_width; nic = a.nic_width };
+  value = le-leb size MAX_BYTES a.size_below;
 }
 
-op_gives : Gives OpFits op_at
-unfolding op_at then give made_op
-op_gives =
-    gives_as _ op_at (λ bytes at. refl)
+fixed_op_gives : Gives OpFits fixed_op_at
+unfolding fixed_op_at then give made_op
+fixed_op_gives =
+    gives_as _ fixed_op_at (λ bytes at. refl)
     (gives_then (gives_any form_at) (λ f _.
     gives_then byte_gives (λ cpu c.
     gives_then (byte_up_to_gives (most_nic f)) (λ nic n.
@@ -124,12 +141,13 @@ op_gives =
     gives_then (u32_up_to_gives (most_tag f)) (λ tag t.
     gives_then (u32_up_to_gives 0) (λ unused u.
     gives_then (u64_up_to_gives (most_size f)) (λ size s.
-    gives_it {V = OpFits} (made_op f peer tag size cpu nic) (op_fits f peer tag size cpu nic n c p t s)))))))))
+    gives_it {V = OpFits} (made_op f peer tag size cpu nic) (op_fits f peer tag size cpu nic
+    (record { nic_below = n.below; nic_width = n.width; cpu_width = c; peer_width = p.width; tag_width = t.width; size_below = s.below; size_width = s.width }))))))))))
 
-dep_gives : Gives DepFits dep_at
-unfolding dep_at then give
-dep_gives =
-    gives_as _ dep_at (λ bytes at. refl)
+fixed_dep_gives : Gives DepFits fixed_dep_at
+unfolding fixed_dep_at then give
+fixed_dep_gives =
+    gives_as _ fixed_dep_at (λ bytes at. refl)
     (gives_then u32_gives (λ later l.
     gives_then u32_gives (λ earlier e.
     gives_then (u32_up_to_gives 1) (λ when w.
@@ -139,15 +157,127 @@ note_fits : (kind op first second : ℕ) → op < 2 ^ 32 → first < 2 ^ 32 → 
 note_fits zero op first second a b c = (a, b, c)
 note_fits (suc k) op first second a b c = (a, b, c)
 
-note_gives : Gives IsNoteInWidth note_at
-unfolding note_at then give
-note_gives =
-    gives_as _ note_at (λ bytes at. refl)
+fixed_note_gives : Gives IsNoteInWidth fixed_note_at
+unfolding fixed_note_at then give
+fixed_note_gives =
+    gives_as _ fixed_note_at (λ bytes at. refl)
     (gives_then (u32_up_to_gives 1) (λ kind k.
     gives_then u32_gives (λ op a.
     gives_then u32_gives (λ first b.
     gives_then u32_gives (λ second c.
     gives_it {V = IsNoteInWidth} (note_of kind op first second) (note_fits kind op first second a b c))))))
+
+-- a number that is 0 where it is not there
+record IsThere (there : Bool) (bits n : ℕ) : Type 0 where
+  width : n < 2 ^ bits
+  none : there ≡ false → n ≡ 0
+
+number_pair : (x y m n : ℕ) → ◌≡◌ {A = Read ℕ} (Ok (x, m)) (Ok (y, n)) → x ≡ y
+number_pair x y m n e = ap (λ (p : ℕ × ℕ). p.0) (ok_is (x, m) (y, n) e)
+
+some_byte_gives : (there : Bool) → Gives (IsThere there 8) (λ bytes at. some_byte_if bytes there at)
+unfolding some_byte_if some_byte_at
+some_byte_gives true =
+    gives_as (field 1 first_of (ltb 0)) (λ bytes at. some_byte_if bytes true at) (byte_test (ltb 0))
+    (field_gives 1 first_of (ltb 0) (omega arith) (λ text len fits passed. record { width = omega (arith, fits 0); none = λ e. absurd cc }))
+some_byte_gives false = record {
+  valid = λ bytes fits at x after e. let zero_is = number_pair 0 x at after e in record { width = omega (arith, zero_is); none = λ _. omega (arith, zero_is) };
+}
+
+packed_up_to_gives : (most : ℕ) → Gives (λ n. n ≤ most) (λ bytes at. packed_up_to bytes most at)
+packed_up_to_gives most = record { valid = λ bytes fits at x after e. (packed_up_to_ok bytes most at (x, after) e).1 }
+
+packed_u32_gives : Gives (λ n. n < 2 ^ 32) packed_u32_at
+unfolding packed_u32_at
+packed_u32_gives = record { valid = λ bytes fits at x after e. omega (arith, (packed_up_to_gives 4294967295).valid bytes fits at x after e) }
+
+packed_u32_if_gives : (there : Bool) → Gives (λ n. n < 2 ^ 32) (λ bytes at. packed_u32_if bytes there at)
+unfolding packed_u32_if
+packed_u32_if_gives true = record { valid = λ bytes fits at x after e. packed_u32_gives.valid bytes fits at x after e }
+packed_u32_if_gives false = record { valid = λ bytes fits at x after e. omega (arith, number_pair 0 x at after e) }
+
+-- a head has a nic only where its operation may
+abbrev HasRoom : Head → Type 0
+HasRoom h = (h.has_nic ≡ false) ⊎ (most_nic h.form ≡ 255)
+
+nic_of : (kind flags : ℕ) → 0 < kind → most_nic (form_of kind flags) ≡ 255
+nic_of zero flags some = absurd (omega (arith, some))
+nic_of (suc zero) flags some = refl
+nic_of (suc (suc k)) flags some = refl
+
+is_over : (m n : ℕ) → n < m → leb m n ≡ false
+is_over m n h = grind (arith, nat_tests)
+
+has_room : (head : ℕ) → IsHead head → HasRoom (head_of head)
+has_room head good = go (ltb head 32) refl good.nic_fits
+  where
+    go : (b : Bool) → ltb head 32 ≡ b → (b || ltb 0 (head % 4)) ≡ true → HasRoom (head_of head)
+    go true is e = inl (is_over 32 head (short_is head 32 is))
+    go false is e = inr (nic_of (head % 4) (head / 4 % 4) (short_is 0 (head % 4) e))
+
+head_gives : Gives HasRoom head_at
+unfolding head_at head_byte_at then give
+head_gives =
+    gives_as _ head_at (λ bytes at. refl)
+    (gives_then {V = λ head. is_head head ≡ true} {P = λ bytes at. byte_at bytes at >>= λ x. allow (is_head x.0) at x}
+    (gives_as (field 1 first_of is_head) (λ bytes at. byte_at bytes at >>= λ x. allow (is_head x.0) at x) (byte_test is_head) (field_gives 1 first_of is_head (omega arith) (λ text len fits passed. passed)))
+    (λ head passed. gives_it {V = HasRoom} (head_of head) (has_room head (head_is head passed))))
+
+nic_room : (h : Head) (nic : ℕ) → HasRoom h → IsThere h.has_nic 8 nic → nic ≤ most_nic h.form
+nic_room h nic (inl none) n = omega (arith, n.none none)
+nic_room h nic (inr some) n = omega (arith, some, n.width)
+
+size_room : (f : Form) (size : ℕ) → size ≤ most_size f → size < 2 ^ 64
+size_room form.Calc size h = omega (arith, h)
+size_room form.Send size h = omega (arith, h)
+size_room (form.Recv any_source any_tag) size h = omega (arith, h)
+
+packed_op_gives : Gives OpFits packed_op_at
+unfolding packed_op_at then give made_op
+packed_op_gives =
+    gives_as _ packed_op_at (λ bytes at. refl)
+    (gives_then head_gives (λ h room.
+    gives_then (some_byte_gives h.has_cpu) (λ cpu c.
+    gives_then (some_byte_gives h.has_nic) (λ nic n.
+    gives_then (packed_u32_if_gives (has_peer h.form)) (λ peer p.
+    gives_then (packed_u32_if_gives (has_tag h.form)) (λ tag t.
+    gives_then (packed_up_to_gives (most_size h.form)) (λ size s.
+    gives_it {V = OpFits} (made_op h.form peer tag size cpu nic) (op_fits h.form peer tag size cpu nic
+    (record { nic_below = nic_room h nic room n; nic_width = n.width; cpu_width = c.width; peer_width = p; tag_width = t; size_below = s; size_width = size_room h.form size s })))))))))
+
+packed_dep_gives : Gives DepFits packed_dep_at
+unfolding packed_dep_at then give
+packed_dep_gives =
+    gives_as _ packed_dep_at (λ bytes at. refl)
+    (gives_then packed_u32_gives (λ later l.
+    gives_then (packed_up_to_gives 8589934591) (λ number e.
+    gives_it {V = DepFits} (halved_dep later number) (record { later = l; earlier = omega (arith, e) }))))
+
+packed_note_gives : Gives IsNoteInWidth packed_note_at
+unfolding packed_note_at then give
+packed_note_gives =
+    gives_as _ packed_note_at (λ bytes at. refl)
+    (gives_then (byte_up_to_gives 1) (λ kind k.
+    gives_then packed_u32_gives (λ op a.
+    gives_then packed_u32_gives (λ first b.
+    gives_then packed_u32_gives (λ second c.
+    gives_it {V = IsNoteInWidth} (note_of kind op first second) (note_fits kind op first second a b c))))))
+
+-- in each layout
+op_gives : (l : Layout) → Gives OpFits (λ bytes at. op_at bytes l at)
+unfolding op_at
+op_gives Fixed = gives_as fixed_op_at (λ bytes at. op_at bytes Fixed at) (λ bytes at. refl) fixed_op_gives
+op_gives Packed = gives_as packed_op_at (λ bytes at. op_at bytes Packed at) (λ bytes at. refl) packed_op_gives
+
+dep_gives : (l : Layout) → Gives DepFits (λ bytes at. dep_at bytes l at)
+unfolding dep_at
+dep_gives Fixed = gives_as fixed_dep_at (λ bytes at. dep_at bytes Fixed at) (λ bytes at. refl) fixed_dep_gives
+dep_gives Packed = gives_as packed_dep_at (λ bytes at. dep_at bytes Packed at) (λ bytes at. refl) packed_dep_gives
+
+note_gives : (l : Layout) → Gives IsNoteInWidth (λ bytes at. note_at bytes l at)
+unfolding note_at
+note_gives Fixed = gives_as fixed_note_at (λ bytes at. note_at bytes Fixed at) (λ bytes at. refl) fixed_note_gives
+note_gives Packed = gives_as packed_note_at (λ bytes at. note_at bytes Packed at) (λ bytes at. refl) packed_note_gives
 
 list_gives : {A : Type 0} (V : A → Type 0) (item : Reader A) → Gives V item → (n : ℕ) → Gives (AllByRecursion V) (list_of item n)
 unfolding list_at then give
@@ -158,16 +288,16 @@ list_gives {A = A} V item gives (suc n) =
     gives_then (list_gives V item gives n) (λ xs vs.
     gives_it {V = AllByRecursion V} (x ∷ xs) (v, vs))))
 
-rank_gives : (ops deps notes : ℕ) → Gives PlanFits (λ bytes at. rank_at bytes ops deps notes at)
+rank_gives : (l : Layout) (ops deps notes : ℕ) → Gives PlanFits (λ bytes at. rank_at bytes l ops deps notes at)
 unfolding rank_at then give
-rank_gives ops deps notes =
-    gives_as _ (λ bytes at. rank_at bytes ops deps notes at) (λ bytes at. refl)
-    (gives_then (gives_any (λ bytes at. count_at bytes MAX_OPS ops at)) (λ op_number _.
-    gives_then (gives_any (λ bytes at. count_at bytes MAX_DEPS deps at)) (λ dep_number _.
-    gives_then (gives_any (λ bytes at. count_at bytes MAX_NOTES notes at)) (λ note_number _.
-    gives_then (list_gives OpFits op_at op_gives op_number) (λ op_list os.
-    gives_then (list_gives DepFits dep_at dep_gives dep_number) (λ dep_list ds.
-    gives_then (list_gives IsNoteInWidth note_at note_gives note_number) (λ note_list ns.
+rank_gives l ops deps notes =
+    gives_as _ (λ bytes at. rank_at bytes l ops deps notes at) (λ bytes at. refl)
+    (gives_then (gives_any (λ bytes at. count_at bytes l MAX_OPS ops at)) (λ op_number _.
+    gives_then (gives_any (λ bytes at. count_at bytes l MAX_DEPS deps at)) (λ dep_number _.
+    gives_then (gives_any (λ bytes at. count_at bytes l MAX_NOTES notes at)) (λ note_number _.
+    gives_then (list_gives OpFits (λ bytes at. op_at bytes l at) (op_gives l) op_number) (λ op_list os.
+    gives_then (list_gives DepFits (λ bytes at. dep_at bytes l at) (dep_gives l) dep_number) (λ dep_list ds.
+    gives_then (list_gives IsNoteInWidth (λ bytes at. note_at bytes l at) (note_gives l) note_number) (λ note_list ns.
     gives_it {V = PlanFits} (made_plan op_list dep_list note_list) (record {
       ops = All-from_recursion OpFits op_list os;
       deps = All-from_recursion DepFits dep_list ds;
@@ -177,13 +307,14 @@ rank_gives ops deps notes =
 one_more : (before : List Plan) (p : Plan) → All PlanFits before → PlanFits p → All PlanFits (before ++ p ∷ [])
 one_more before p all fits = All-append PlanFits before (p ∷ []) all (All-from_recursion PlanFits (p ∷ []) (fits, tt))
 
-ranks_give : (n : ℕ) (before : List Plan) → All PlanFits before → Gives (All PlanFits) (λ bytes at. ranks_at bytes n before at)
+ranks_give : (l : Layout) (n : ℕ) (before : List Plan) → All PlanFits before → Gives (All PlanFits) (λ bytes at. ranks_at bytes l n before at)
 unfolding ranks_at then give
-ranks_give zero before all = gives_as _ (λ bytes at. ranks_at bytes zero before at) (λ bytes at. refl) (gives_it {V = All PlanFits} before all)
-ranks_give (suc n) before all =
-    gives_as _ (λ bytes at. ranks_at bytes (suc n) before at) (λ bytes at. refl)
-    (gives_then (rank_gives (op_count before) (dep_count before) (note_count before)) (λ p fits. ranks_give n (before ++ p ∷ []) (one_more before p all fits)))
+ranks_give l zero before all = gives_as _ (λ bytes at. ranks_at bytes l zero before at) (λ bytes at. refl) (gives_it {V = All PlanFits} before all)
+ranks_give l (suc n) before all =
+    gives_as _ (λ bytes at. ranks_at bytes l (suc n) before at) (λ bytes at. refl)
+    (gives_then (rank_gives l (op_count before) (dep_count before) (note_count before)) (λ p fits. ranks_give l n (before ++ p ∷ []) (one_more before p all fits)))
 
-pub body_gives : Gives (All PlanFits) body
-unfolding body
-body_gives = gives_then (gives_any rank_count_at) (λ n _. ranks_give n [] (All-from_recursion PlanFits [] tt))
+pub body_gives : (l : Layout) → Gives (All PlanFits) (body l)
+body_gives l =
+    gives_as (then (λ bytes at. rank_count_at bytes l at) (λ n bytes at. ranks_at bytes l n [] at)) (body l) (body_is l)
+    (gives_then (gives_any (λ bytes at. rank_count_at bytes l at)) (λ n _. ranks_give l n [] (All-from_recursion PlanFits [] tt)))

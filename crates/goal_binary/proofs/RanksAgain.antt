@@ -15,11 +15,16 @@ use Rattle.goal_graph.specs.Fault.{op_count, dep_count, note_count, IsAccepted}
 use Rattle.goal_graph.specs.Widths.{IsNoteInWidth, AreInWidth}
 use Rattle.goal_graph.proofs.ForCallers.{plain-counts, plain-op, plain-dep, dep_in_range-parts, lengths-le}
 use Rattle.goal_binary.specs.Fitting.{OpFits, DepFits, PlanFits, HaveFile}
-use Rattle.goal_binary.specs.File.{spelled_u32, spelled_op, spelled_dep, spelled_note, spelled_counts, spelled_rank, header, file}
-use Rattle.goal_binary.specs.Fields.{count_at}
-use Rattle.goal_binary.specs.Reading.{list_at, op_at, dep_at, note_at, rank_at, ranks_at}
+use Rattle.goal_binary.specs.declared.layout.TheConstants.{MAGIC}
+use Rattle.goal_binary.specs.declared.layout.Layout.{Layout}
+use Rattle.goal_binary.specs.Layouts.{version_of}
+use Rattle.goal_binary.specs.File.{spelled_u32, spelled_count, spelled_op, spelled_dep, spelled_note, spelled_counts, spelled_rank, header, written}
+use Rattle.goal_binary.specs.Fields.{Read, ◌>>=◌, count_at, opening_at}
+use Rattle.goal_binary.specs.Reading.{list_at, op_at, dep_at, note_at, rank_at, ranks_at, records_at}
 use Rattle.goal_binary.specs.Meaning.{plans_at, meaning}
-use Rattle.goal_binary.proofs.FieldsAgain.{IsReadAs, count_again, header_again}
+use Rattle.goal_binary.proofs.FieldsAgain.{IsReadAs}
+use Rattle.goal_binary.proofs.NumbersAgain.{count_again, rank_count_again, opening_again}
+use Rattle.goal_binary.proofs.PackedAgain.{regroup}
 use Rattle.goal_binary.proofs.ItemsAgain.{op_again, dep_again, note_again, list_again}
 
 -- the counts of a rank, behind so many of the ranks before
@@ -46,42 +51,42 @@ few-next before p ps few = record {
   note_room = omega (arith, few.notes, split_sum (λ (p : Plan). length p.notes) note_count (λ ps. refl) before p ps);
 }
 
-module _ (bytes : List ℕ) where
+module _ (bytes : List ℕ) (l : Layout) where
   rank_steps : (ops deps notes at : ℕ) (op_number dep_number note_number : ℕ × ℕ) (op_list : List Op × ℕ) (dep_list : List Dep × ℕ) (note_list : List Note × ℕ)
-      → count_at bytes MAX_OPS ops at ≡ Ok op_number → count_at bytes MAX_DEPS deps op_number.1 ≡ Ok dep_number → count_at bytes MAX_NOTES notes dep_number.1 ≡ Ok note_number
-      → list_at (op_at bytes) op_number.0 note_number.1 ≡ Ok op_list → list_at (dep_at bytes) dep_number.0 op_list.1 ≡ Ok dep_list → list_at (note_at bytes) note_number.0 dep_list.1 ≡ Ok note_list
-      → rank_at bytes ops deps notes at ≡ Ok (record { ops = op_list.0; deps = dep_list.0; notes = note_list.0 }, note_list.1)
+      → count_at bytes l MAX_OPS ops at ≡ Ok op_number → count_at bytes l MAX_DEPS deps op_number.1 ≡ Ok dep_number → count_at bytes l MAX_NOTES notes dep_number.1 ≡ Ok note_number
+      → list_at (op_at bytes l) op_number.0 note_number.1 ≡ Ok op_list → list_at (dep_at bytes l) dep_number.0 op_list.1 ≡ Ok dep_list → list_at (note_at bytes l) note_number.0 dep_list.1 ≡ Ok note_list
+      → rank_at bytes l ops deps notes at ≡ Ok (record { ops = op_list.0; deps = dep_list.0; notes = note_list.0 }, note_list.1)
   unfolding rank_at
   rank_steps ops deps notes at op_number dep_number note_number op_list dep_list note_list a b c d e f = rw (a, b, c, d, e, f) refl
 
-  rank_again : (p : Plan) (ops deps notes at : ℕ) (rest : List ℕ) → PlanFits p → AreFew ops deps notes p → drop at bytes ≡ spelled_rank p ++ rest → IsReadAs bytes (rank_at bytes ops deps notes at) p rest
+  rank_again : (p : Plan) (ops deps notes at : ℕ) (rest : List ℕ) → PlanFits p → AreFew ops deps notes p → drop at bytes ≡ spelled_rank l p ++ rest → IsReadAs bytes (rank_at bytes l ops deps notes at) p rest
   unfolding spelled_rank spelled_counts
   rank_again p ops deps notes at rest fits few h =
-      let os = flat_map spelled_op p.ops in
-      let ds = flat_map spelled_dep p.deps in
-      let ns = flat_map spelled_note p.notes in
-      let regrouped : spelled_rank p ++ rest ≡ spelled_u32 (length p.ops) ++ (spelled_u32 (length p.deps) ++ (spelled_u32 (length p.notes) ++ (os ++ (ds ++ (ns ++ rest))))) =
-      append_assoc (spelled_counts p ++ os ++ ds) ns rest ∙ append_assoc (spelled_counts p ++ os) ds (ns ++ rest) ∙ append_assoc (spelled_counts p) os (ds ++ (ns ++ rest)) in
-      let a = count_again bytes MAX_OPS ops at (length p.ops) (spelled_u32 (length p.deps) ++ (spelled_u32 (length p.notes) ++ (os ++ (ds ++ (ns ++ rest))))) (omega (arith, few.op_room)) few.op_room (h ∙ regrouped) in
-      let b = count_again bytes MAX_DEPS deps a.place (length p.deps) (spelled_u32 (length p.notes) ++ (os ++ (ds ++ (ns ++ rest)))) (omega (arith, few.dep_room)) few.dep_room a.rest_is in
-      let c = count_again bytes MAX_NOTES notes b.place (length p.notes) (os ++ (ds ++ (ns ++ rest))) (omega (arith, few.note_room)) few.note_room b.rest_is in
-      let d = list_again bytes (op_at bytes) spelled_op OpFits (op_again bytes) p.ops c.place (ds ++ (ns ++ rest)) (recursion_from_All OpFits p.ops fits.ops) c.rest_is in
-      let f = list_again bytes (dep_at bytes) spelled_dep DepFits (dep_again bytes) p.deps d.place (ns ++ rest) (recursion_from_All DepFits p.deps fits.deps) d.rest_is in
-      let g = list_again bytes (note_at bytes) spelled_note IsNoteInWidth (note_again bytes) p.notes f.place rest (recursion_from_All IsNoteInWidth p.notes fits.notes) f.rest_is in
+      let os = flat_map (spelled_op l) p.ops in
+      let ds = flat_map (spelled_dep l) p.deps in
+      let ns = flat_map (spelled_note l) p.notes in
+      let regrouped : spelled_rank l p ++ rest ≡ spelled_count l (length p.ops) ++ (spelled_count l (length p.deps) ++ (spelled_count l (length p.notes) ++ (os ++ (ds ++ (ns ++ rest))))) =
+      regroup (spelled_count l (length p.ops)) (spelled_count l (length p.deps)) (spelled_count l (length p.notes)) os ds ns rest in
+      let a = count_again bytes l MAX_OPS ops at (length p.ops) (spelled_count l (length p.deps) ++ (spelled_count l (length p.notes) ++ (os ++ (ds ++ (ns ++ rest))))) (omega (arith, few.op_room)) few.op_room (h ∙ regrouped) in
+      let b = count_again bytes l MAX_DEPS deps a.place (length p.deps) (spelled_count l (length p.notes) ++ (os ++ (ds ++ (ns ++ rest)))) (omega (arith, few.dep_room)) few.dep_room a.rest_is in
+      let c = count_again bytes l MAX_NOTES notes b.place (length p.notes) (os ++ (ds ++ (ns ++ rest))) (omega (arith, few.note_room)) few.note_room b.rest_is in
+      let d = list_again bytes (op_at bytes l) (spelled_op l) OpFits (op_again bytes l) p.ops c.place (ds ++ (ns ++ rest)) (recursion_from_All OpFits p.ops fits.ops) c.rest_is in
+      let f = list_again bytes (dep_at bytes l) (spelled_dep l) DepFits (dep_again bytes l) p.deps d.place (ns ++ rest) (recursion_from_All DepFits p.deps fits.deps) d.rest_is in
+      let g = list_again bytes (note_at bytes l) (spelled_note l) IsNoteInWidth (note_again bytes l) p.notes f.place rest (recursion_from_All IsNoteInWidth p.notes fits.notes) f.rest_is in
       record {
         place = g.place;
         is = rank_steps ops deps notes at (length p.ops, a.place) (length p.deps, b.place) (length p.notes, c.place) (p.ops, d.place) (p.deps, f.place) (p.notes, g.place) a.is b.is c.is d.is f.is g.is;
         rest_is = g.rest_is;
       }
 
-  ranks_again : (ps before : List Plan) (at : ℕ) (rest : List ℕ) → AllByRecursion PlanFits ps → AreAllFew (before ++ ps) → drop at bytes ≡ flat_map spelled_rank ps ++ rest → IsReadAs bytes (ranks_at bytes (length ps) before at) (before ++ ps) rest
+  ranks_again : (ps before : List Plan) (at : ℕ) (rest : List ℕ) → AllByRecursion PlanFits ps → AreAllFew (before ++ ps) → drop at bytes ≡ flat_map (spelled_rank l) ps ++ rest → IsReadAs bytes (ranks_at bytes l (length ps) before at) (before ++ ps) rest
   unfolding ranks_at
   ranks_again [] before at rest fits few h =
       record { place = at; is = ap (λ (ps : List Plan). Ok (ps, at)) (sym (append-nil before)); rest_is = h }
   ranks_again (p ∷ ps) before at rest fits few h =
-      let regrouped : flat_map spelled_rank (p ∷ ps) ++ rest ≡ spelled_rank p ++ (flat_map spelled_rank ps ++ rest) = ap (λ (t : List ℕ). t ++ rest) (flat_map-cons spelled_rank p ps) ∙ append_assoc (spelled_rank p) (flat_map spelled_rank ps) rest in
+      let regrouped : flat_map (spelled_rank l) (p ∷ ps) ++ rest ≡ spelled_rank l p ++ (flat_map (spelled_rank l) ps ++ rest) = ap (λ (t : List ℕ). t ++ rest) (flat_map-cons (spelled_rank l) p ps) ∙ append_assoc (spelled_rank l p) (flat_map (spelled_rank l) ps) rest in
       let joined : (before ++ p ∷ []) ++ ps ≡ before ++ p ∷ ps = append_assoc before (p ∷ []) ps in
-      let a = rank_again p (op_count before) (dep_count before) (note_count before) at (flat_map spelled_rank ps ++ rest) fits.0 (few-next before p ps few) (h ∙ regrouped) in
+      let a = rank_again p (op_count before) (dep_count before) (note_count before) at (flat_map (spelled_rank l) ps ++ rest) fits.0 (few-next before p ps few) (h ∙ regrouped) in
       let r = ranks_again ps (before ++ p ∷ []) a.place rest fits.1 (subst AreAllFew (sym joined) few) a.rest_is in
       record { place = r.place; is = rw a.is (r.is ∙ ap (λ (qs : List Plan). Ok (qs, r.place)) joined); rest_is = r.rest_is }
 
@@ -102,16 +107,18 @@ module _ (plans : List Plan) (accepted : IsAccepted plans) (widths : AreInWidth 
   pub schedule_fits : HaveFile plans
   schedule_fits = record { counts = plain-counts plans accepted.plain; ranks = fits_all }
 
-pub meaning_fits : (plans : List Plan) → HaveFile plans → meaning (file plans) ≡ Ok plans
-unfolding meaning plans_at file header
-meaning_fits plans fit =
+pub meaning_fits : (l : Layout) (plans : List Plan) → HaveFile plans → meaning (written l plans) ≡ Ok plans
+unfolding meaning plans_at records_at written header
+meaning_fits l plans fit =
     let counts = fit.counts in
-    let bytes = file plans in
-    let records = flat_map spelled_rank plans in
-    let h = header_again bytes (length plans) records counts.some_rank counts.ranks refl in
-    let r = ranks_again bytes plans [] h.place [] (recursion_from_All PlanFits plans fit.ranks) (record { ops = counts.ops; deps = counts.deps; notes = counts.notes }) (h.rest_is ∙ sym (append-nil records)) in
+    let bytes = written l plans in
+    let records = flat_map (spelled_rank l) plans in
+    let count = spelled_count l (length plans) in
+    let o = opening_again bytes l (count ++ records) (append_assoc (MAGIC ++ spelled_u32 (version_of l)) count records) in
+    let n = rank_count_again bytes l o.place (length plans) records counts.some_rank counts.ranks o.rest_is in
+    let r = ranks_again bytes l plans [] n.place [] (recursion_from_All PlanFits plans fit.ranks) (record { ops = counts.ops; deps = counts.deps; notes = counts.notes }) (n.rest_is ∙ sym (append-nil records)) in
     let ended : ltb r.place (length bytes) ≡ false = le-ltb _ _ (omega (arith, length-drop r.place bytes, ap length r.rest_is)) in
-    rw (h.is, r.is, ended) refl
+    rw (o.is, n.is, r.is, ended) refl
 
-pub meaning_again : (plans : List Plan) → IsAccepted plans → AreInWidth plans → meaning (file plans) ≡ Ok plans
-meaning_again plans accepted widths = meaning_fits plans (schedule_fits plans accepted widths)
+pub meaning_again : (l : Layout) (plans : List Plan) → IsAccepted plans → AreInWidth plans → meaning (written l plans) ≡ Ok plans
+meaning_again l plans accepted widths = meaning_fits l plans (schedule_fits plans accepted widths)

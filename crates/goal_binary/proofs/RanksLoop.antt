@@ -4,6 +4,7 @@ use Rattle.std.proofs.lemmas.List.Sums.{sum_by_push}
 use Rattle.goal_graph.specs.Schedule.{Plan}
 use Rattle.goal_graph.specs.Fault.{op_count, dep_count, note_count}
 use Rattle.goal_binary.specs.declared.fault.FileFault.{FileFault}
+use Rattle.goal_binary.specs.declared.layout.Layout.{Layout}
 use Rattle.goal_binary.specs.Fields.{Read}
 use Rattle.goal_binary.specs.Reading.{rank_at, ranks_at}
 
@@ -25,30 +26,30 @@ pub no_counts : (op_count [] ≡ 0) × (dep_count [] ≡ 0) × (note_count [] �
 unfolding op_count dep_count note_count
 no_counts = (refl, refl, refl)
 
-module _ (bytes : List ℕ) where
+module _ (bytes : List ℕ) (layout : Layout) where
   -- the next rank, behind those before
   abbrev pub next_rank : List Plan → ℕ → Read Plan
-  next_rank before at = rank_at bytes (op_count before) (dep_count before) (note_count before) at
+  next_rank before at = rank_at bytes layout (op_count before) (dep_count before) (note_count before) at
 
   pub rank_goes_on : (before : List Plan) (count i at : ℕ) (p : Plan) (after : ℕ) (total : Read (List Plan)) → i < count → next_rank before at ≡ Ok (p, after)
-      → ranks_at bytes (count - i) before at ≡ total → ranks_at bytes (count - (i + 1)) (before ++ p ∷ []) after ≡ total
+      → ranks_at bytes layout (count - i) before at ≡ total → ranks_at bytes layout (count - (i + 1)) (before ++ p ∷ []) after ≡ total
   unfolding ranks_at
   rank_goes_on before count i at p after total lt h so_far =
       let k : count - i ≡ suc (count - (i + 1)) = omega arith in
-      let one : ranks_at bytes (count - i) before at ≡ ranks_at bytes (count - (i + 1)) (before ++ p ∷ []) after = rw (k, h) refl in
+      let one : ranks_at bytes layout (count - i) before at ≡ ranks_at bytes layout (count - (i + 1)) (before ++ p ∷ []) after = rw (k, h) refl in
       sym one ∙ so_far
 
   pub rank_ends : (f : FileFault) (before : List Plan) (count i at : ℕ) (total : Read (List Plan)) → i < count → next_rank before at ≡ Err f
-      → ranks_at bytes (count - i) before at ≡ total → total ≡ Err f
+      → ranks_at bytes layout (count - i) before at ≡ total → total ≡ Err f
   unfolding ranks_at
   rank_ends f before count i at total lt h so_far =
       let k : count - i ≡ suc (count - (i + 1)) = omega arith in
-      let one : ranks_at bytes (count - i) before at ≡ Err f = rw (k, h) refl in
+      let one : ranks_at bytes layout (count - i) before at ≡ Err f = rw (k, h) refl in
       sym so_far ∙ one
 
-  pub ranks_done : (before : List Plan) (count i at : ℕ) (total : Read (List Plan)) → count ≤ i → ranks_at bytes (count - i) before at ≡ total → total ≡ Ok (before, at)
+  pub ranks_done : (before : List Plan) (count i at : ℕ) (total : Read (List Plan)) → count ≤ i → ranks_at bytes layout (count - i) before at ≡ total → total ≡ Ok (before, at)
   unfolding ranks_at
   ranks_done before count i at total le so_far =
       let k : count - i ≡ 0 = omega arith in
-      let one : ranks_at bytes (count - i) before at ≡ Ok (before, at) = rw k refl in
+      let one : ranks_at bytes layout (count - i) before at ≡ Ok (before, at) = rw k refl in
       sym so_far ∙ one

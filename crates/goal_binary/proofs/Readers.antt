@@ -4,6 +4,7 @@ use Rattle.std.proofs.lemmas.Bool.{cases_lt}
 use Rattle.std.proofs.lemmas.List.{append-nil, take-take, take-append-le, length-append, length-take, get_or_append_left, get_or-append_right}
 use Rattle.goal_binary.specs.declared.fault.FileFault.{FileFault}
 use Rattle.goal_binary.specs.declared.fault.FileFault.TheVariants.{Short, Magic, Version, Field, Extra, Plan, NoMemory}
+use Rattle.goal_binary.specs.declared.layout.Layout.{Layout}
 use Rattle.goal_binary.specs.Fields.{Read, ◌>>=◌, allow}
 use Rattle.goal_binary.specs.Laws.{IsWidth}
 use Rattle.goal_binary.proofs.Steps.{IsBytes, bind_ok, ok_is}
@@ -34,21 +35,21 @@ Halts P bytes at place width (Field p) =
 Halts P bytes at place width _ = ⊥
 
 -- the field at which reading ends; the bytes before it can go on
-pub record Stop {A : Type 0} (P : Reader A) (bytes : List ℕ) (at : ℕ) (fault : FileFault) : Type 0 where
+pub record Stop {A : Type 0} (l : Layout) (P : Reader A) (bytes : List ℕ) (at : ℕ) (fault : FileFault) : Type 0 where
   pub place : ℕ
   pub width : ℕ
   pub from : at ≤ place
   pub within : place ≤ length bytes
-  pub is_width : IsWidth width
+  pub is_width : IsWidth l width
   pub done : Completed P at (take place bytes)
   pub how : Halts P bytes at place width fault
 
 -- what a reader does at each place
-pub record Reads {A : Type 0} (V : A → Type 0) (P : Reader A) : Type 0 where
+pub record Reads {A : Type 0} (l : Layout) (V : A → Type 0) (P : Reader A) : Type 0 where
   pub inside : (bytes : List ℕ) (at : ℕ) (x : A) (after : ℕ) → at ≤ length bytes → P bytes at ≡ Ok (x, after) → (at ≤ after) × (after ≤ length bytes) × V x
   pub same : (bytes other : List ℕ) (at : ℕ) (x : A) (after : ℕ) → at ≤ length bytes → P bytes at ≡ Ok (x, after) → take after other ≡ take after bytes → P other at ≡ Ok (x, after)
   pub starts : (front : List ℕ) → Completed P (length front) front
-  pub stops : (bytes : List ℕ) (at : ℕ) (fault : FileFault) → at ≤ length bytes → P bytes at ≡ Err fault → Stop P bytes at fault
+  pub stops : (bytes : List ℕ) (at : ℕ) (fault : FileFault) → at ≤ length bytes → P bytes at ≡ Err fault → Stop l P bytes at fault
 
 pub take-shorter : (m n : ℕ) (xs ys : List ℕ) → m ≤ n → take n xs ≡ take n ys → take m xs ≡ take m ys
 take-shorter m n xs ys le same = sym (take-take m n xs le) ∙ ap (take m) same ∙ take-take m n ys le
@@ -86,7 +87,7 @@ Halts-map P R bytes at from place width (Extra p) h f = h
 Halts-map P R bytes at from place width (Plan rule) h f = h
 Halts-map P R bytes at from place width NoMemory h f = h
 
-module _ {A : Type 0} {B : Type 0} {V : A → Type 0} {W : B → Type 0} {P : Reader A} {Q : A → Reader B} (first : Reads V P) (second : (x : A) → V x → Reads W (Q x)) where
+module _ {l : Layout} {A : Type 0} {B : Type 0} {V : A → Type 0} {W : B → Type 0} {P : Reader A} {Q : A → Reader B} (first : Reads l V P) (second : (x : A) → V x → Reads l W (Q x)) where
   -- what the first reader gives is followed by what the second gives
   join : (at : ℕ) (front : List ℕ) → at ≤ length front → Completed P at front → Completed (then P Q) at front
   unfolding then
@@ -121,7 +122,7 @@ module _ {A : Type 0} {B : Type 0} {V : A → Type 0} {W : B → Type 0} {P : Re
       bind_is (P other at) (λ x. Q x.0 other x.1) a.0 (first.same bytes other at a.0.0 a.0.1 le a.1 (take-shorter a.0.1 end other bytes q.0 same))
       ∙ (second a.0.0 p.2).same bytes other a.0.1 y end p.1 a.2 same
 
-  stops_first : (bytes : List ℕ) (at : ℕ) (fault : FileFault) → at ≤ length bytes → P bytes at ≡ Err fault → Stop (then P Q) bytes at fault
+  stops_first : (bytes : List ℕ) (at : ℕ) (fault : FileFault) → at ≤ length bytes → P bytes at ≡ Err fault → Stop l (then P Q) bytes at fault
   unfolding then
   stops_first bytes at fault le e =
       let s = first.stops bytes at fault le e in
@@ -135,7 +136,7 @@ module _ {A : Type 0} {B : Type 0} {V : A → Type 0} {W : B → Type 0} {P : Re
         how = Halts-map P (then P Q) bytes at at s.place s.width fault s.how (λ other same wide stopped. bind_err (P other at) (λ x. Q x.0 other x.1) fault stopped);
       }
 
-  stops_second : (bytes : List ℕ) (at : ℕ) (fault : FileFault) (x : A) (mid : ℕ) → at ≤ length bytes → P bytes at ≡ Ok (x, mid) → Q x bytes mid ≡ Err fault → Stop (then P Q) bytes at fault
+  stops_second : (bytes : List ℕ) (at : ℕ) (fault : FileFault) (x : A) (mid : ℕ) → at ≤ length bytes → P bytes at ≡ Ok (x, mid) → Q x bytes mid ≡ Err fault → Stop l (then P Q) bytes at fault
   unfolding then
   stops_second bytes at fault x mid le e f =
       let p = first.inside bytes at x mid le e in
@@ -153,15 +154,15 @@ module _ {A : Type 0} {B : Type 0} {V : A → Type 0} {W : B → Type 0} {P : Re
             bind_is (P other at) (λ y. Q y.0 other y.1) (x, mid) (first.same bytes other at x mid le e (take-shorter mid (s.place + s.width) other bytes (omega (arith, s.from)) same)) ∙ stopped);
       }
 
-  both_stop : (bytes : List ℕ) (at : ℕ) (fault : FileFault) → at ≤ length bytes → then P Q bytes at ≡ Err fault → Stop (then P Q) bytes at fault
+  both_stop : (bytes : List ℕ) (at : ℕ) (fault : FileFault) → at ≤ length bytes → then P Q bytes at ≡ Err fault → Stop l (then P Q) bytes at fault
   unfolding then
   both_stop bytes at fault le e = go (P bytes at) refl e
     where
-      go : (r : Read A) → P bytes at ≡ r → (r >>= λ x. Q x.0 bytes x.1) ≡ Err fault → Stop (then P Q) bytes at fault
+      go : (r : Read A) → P bytes at ≡ r → (r >>= λ x. Q x.0 bytes x.1) ≡ Err fault → Stop l (then P Q) bytes at fault
       go (Ok x) is f = stops_second bytes at fault x.0 x.1 le is f
       go (Err d) is f = let same : d ≡ fault = err_is {A = B} d fault f in stops_first bytes at fault le (is ∙ ap Err same)
 
-  pub then_reads : Reads W (then P Q)
+  pub then_reads : Reads l W (then P Q)
   then_reads = record {
     inside = both_inside;
     same = both_same;
@@ -169,8 +170,8 @@ module _ {A : Type 0} {B : Type 0} {V : A → Type 0} {W : B → Type 0} {P : Re
     stops = both_stop;
   }
 
-module _ {A : Type 0} {V : A → Type 0} where
-  pub give_reads : (x : A) → V x → Reads V (give x)
+module _ {l : Layout} {A : Type 0} {V : A → Type 0} where
+  pub give_reads : (x : A) → V x → Reads l V (give x)
   unfolding give
   give_reads x v = record {
     inside = λ bytes at y after le e. let is = ok_is (x, at) (y, after) e in
@@ -180,7 +181,7 @@ module _ {A : Type 0} {V : A → Type 0} where
     stops = λ bytes at fault le e. absurd cc;
   }
 
-  pub reads_as : (P R : Reader A) → ((bytes : List ℕ) (at : ℕ) → R bytes at ≡ P bytes at) → Reads V P → Reads V R
+  pub reads_as : (P R : Reader A) → ((bytes : List ℕ) (at : ℕ) → R bytes at ≡ P bytes at) → Reads l V P → Reads l V R
   reads_as P R is reads = record {
     inside = λ bytes at x after le e. reads.inside bytes at x after le (sym (is bytes at) ∙ e);
     same = λ bytes other at x after le e same. is other at ∙ reads.same bytes other at x after le (sym (is bytes at) ∙ e) same;
@@ -199,7 +200,7 @@ module _ {A : Type 0} {V : A → Type 0} where
   }
 
 -- the same reader, of which less is said
-pub reads_weaker : {A : Type 0} (V W : A → Type 0) (P : Reader A) → ((x : A) → V x → W x) → Reads V P → Reads W P
+pub reads_weaker : {l : Layout} {A : Type 0} (V W : A → Type 0) (P : Reader A) → ((x : A) → V x → W x) → Reads l V P → Reads l W P
 reads_weaker V W P less reads = record {
   inside = λ bytes at x after le e. let h = reads.inside bytes at x after le e in (h.0, h.1, less x h.2);
   same = reads.same;

@@ -1,5 +1,5 @@
 -- What is decoded is the file of the schedule, and the file of a schedule is decoded as the schedule.
-use Rattle.std.proofs.Common.{◌≡◌, ◌≢◌, ℕ, List, Result, Ok, Err, refl, sym, ap, subst, ◌∙◌}
+use Rattle.std.proofs.Common.{◌≡◌, ◌≢◌, ◌⊎◌, ℕ, List, Result, Ok, Err, refl, sym, ap, subst, ◌∙◌, inl, inr}
 use Rattle.std.specs.Prelude.{IfOk, IfErr, IsOkUnless}
 use Rattle.goal_graph.specs.Schedule.{Plan}
 use Rattle.goal_graph.specs.Fault.{IsAccepted}
@@ -7,14 +7,23 @@ use Rattle.goal_graph.specs.Widths.{AreInWidth}
 use Rattle.goal_graph.proofs.ForCallers.{IsAccepted-no_fault}
 use Rattle.goal_binary.specs.declared.fault.FileFault.{FileFault}
 use Rattle.goal_binary.specs.declared.fault.FileFault.TheVariants as fault
-use Rattle.goal_binary.specs.File.{file}
+use Rattle.goal_binary.specs.declared.layout.Layout.{Layout}
+use Rattle.goal_binary.specs.declared.layout.Layout.TheVariants.{Fixed, Packed}
+use Rattle.goal_binary.specs.File.{written, file, old}
 use Rattle.goal_binary.specs.Meaning.{meaning, IsFaultOf, IsFileFault}
 use Rattle.goal_binary.proofs.Steps.{IsBytes, ok_is}
 use Rattle.goal_binary.proofs.RanksTaken.{meaning_taken}
 use Rattle.goal_binary.proofs.RanksAgain.{meaning_again}
 
-pub is_file : (bytes : List ℕ) (r : Result (List Plan) FileFault) → IsBytes bytes → IfOk r (λ plans. meaning bytes ≡ Ok plans) → IfOk r (λ plans. bytes ≡ file plans)
-is_file bytes (Ok plans) fits said = meaning_taken bytes fits plans said
+two_files : (bytes : List ℕ) (plans : List Plan) (l : Layout) → bytes ≡ written l plans → (bytes ≡ file plans) ⊎ (bytes ≡ old plans)
+two_files bytes plans Packed is = inl is
+two_files bytes plans Fixed is = inr is
+
+pub meaning_is : (bytes : List ℕ) → IsBytes bytes → (plans : List Plan) → meaning bytes ≡ Ok plans → (bytes ≡ file plans) ⊎ (bytes ≡ old plans)
+meaning_is bytes fits plans said = let w = meaning_taken bytes fits plans said in two_files bytes plans w.layout w.is
+
+pub is_file : (bytes : List ℕ) (r : Result (List Plan) FileFault) → IsBytes bytes → IfOk r (λ plans. meaning bytes ≡ Ok plans) → IfOk r (λ plans. (bytes ≡ file plans) ⊎ (bytes ≡ old plans))
+is_file bytes (Ok plans) fits said = meaning_is bytes fits plans said
 is_file bytes (Err f) fits said = tt
 
 -- where plans are accepted, memory ran out
@@ -28,9 +37,13 @@ only_memory plans (fault.Field at) accepted told = absurd (told (λ e. absurd cc
 only_memory plans (fault.Extra at) accepted told = absurd (told (λ e. absurd cc))
 
 pub is_again : (bytes : List ℕ) (r : Result (List Plan) FileFault) → IfOk r (λ plans. meaning bytes ≡ Ok plans) → IfErr r (λ f. f ≢ fault.NoMemory → IsFileFault bytes f)
-    → (plans : List Plan) → IsAccepted plans → AreInWidth plans → bytes ≡ file plans → IfOk r (λ found. found ≡ plans) × IsOkUnless r fault.NoMemory
-is_again bytes r said told plans accepted widths same = go r said told (ap meaning same ∙ meaning_again plans accepted widths)
+    → (plans : List Plan) → IsAccepted plans → AreInWidth plans → (bytes ≡ file plans) ⊎ (bytes ≡ old plans) → IfOk r (λ found. found ≡ plans) × IsOkUnless r fault.NoMemory
+is_again bytes r said told plans accepted widths one = go r said told (means one)
   where
     go : (r : Result (List Plan) FileFault) → IfOk r (λ plans. meaning bytes ≡ Ok plans) → IfErr r (λ f. f ≢ fault.NoMemory → IsFileFault bytes f) → meaning bytes ≡ Ok plans → IfOk r (λ found. found ≡ plans) × IsOkUnless r fault.NoMemory
     go (Ok found) said told means = (ok_is found plans (sym said ∙ means), tt)
     go (Err f) said told means = (tt, only_memory plans f accepted (λ other. subst (λ m. IsFaultOf m f) means (told other)))
+
+    means : (bytes ≡ file plans) ⊎ (bytes ≡ old plans) → meaning bytes ≡ Ok plans
+    means (inl same) = ap meaning same ∙ meaning_again Packed plans accepted widths
+    means (inr same) = ap meaning same ∙ meaning_again Fixed plans accepted widths

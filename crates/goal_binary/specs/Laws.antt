@@ -1,27 +1,38 @@
--- The laws that join a schedule and its file.
-use Rattle.std.specs.Prelude.{◌≡◌, ◌≢◌, ◌<◌, ◌≤◌, ◌+◌, ◌⊎◌, ℕ, List, ◌∷◌, ◌++◌, length, take, drop, Ok, Err, All}
+-- The laws that join a schedule and its files.
+use Rattle.std.specs.Prelude.{◌≡◌, ◌≢◌, ◌<◌, ◌≤◌, ◌+◌, ◌^◌, ◌⊎◌, ℕ, List, ◌∷◌, ◌++◌, length, take, drop, Ok, Err, All, None}
 use Rattle.goal_base.specs.declared.limits.TheConstants.{MAX_INPUT}
 use Rattle.goal_graph.specs.Schedule.{Plan}
 use Rattle.goal_graph.specs.Fault.{IsAccepted, AreCountsWithin}
 use Rattle.goal_graph.specs.Widths.{AreInWidth}
 use Rattle.goal_binary.specs.declared.fault.FileFault.{FileFault}
 use Rattle.goal_binary.specs.declared.fault.FileFault.TheVariants.{Short, Magic, Version, Field, Extra}
-use Rattle.goal_binary.specs.declared.layout.TheConstants.{MAGIC, VERSION}
+use Rattle.goal_binary.specs.declared.layout.TheConstants.{MAGIC}
+use Rattle.goal_binary.specs.declared.layout.Layout.{Layout}
+use Rattle.goal_binary.specs.declared.layout.Layout.TheVariants.{Fixed, Packed}
+use Rattle.goal_binary.specs.Layouts.{layout_of}
 use Rattle.goal_binary.specs.Fitting.{HaveFile}
-use Rattle.goal_binary.specs.File.{spelled_u32, file, file_length}
+use Rattle.goal_binary.specs.File.{spelled_u32, packed, written, file, old, old_length}
 use Rattle.goal_binary.specs.Meaning.{meaning}
 
--- the file has so many bytes as the plans call for
+-- no packed number is the front of another
+abbrev pub PackedApart : Type 0
+PackedApart = (m n : ℕ) (xs ys : List ℕ) → m < 2 ^ 64 → n < 2 ^ 64 → packed m ++ xs ≡ packed n ++ ys → (m ≡ n) × (xs ≡ ys)
+
+-- the old file has so many bytes as the plans call for
 abbrev pub LengthIsTold : Type 0
-LengthIsTold = (plans : List Plan) → length (file plans) ≡ file_length plans
+LengthIsTold = (plans : List Plan) → length (old plans) ≡ old_length plans
 
--- plans whose counts are within the limits have a file that is read whole, of 93,061,136 bytes at most
+-- plans whose counts are within the limits have an old file that is read whole, of 93,061,136 bytes at most
 abbrev pub WithinInput : Type 0
-WithinInput = (plans : List Plan) → AreCountsWithin plans → (length (file plans) ≤ 93061136) × (length (file plans) ≤ MAX_INPUT)
+WithinInput = (plans : List Plan) → AreCountsWithin plans → (length (old plans) ≤ 93061136) × (length (old plans) ≤ MAX_INPUT)
 
--- bytes that mean plans are the file of these plans, so no schedule has a second file
-abbrev pub OneFile : Type 0
-OneFile = (bytes : List ℕ) (plans : List Plan) → All (λ b. b < 256) bytes → meaning bytes ≡ Ok plans → bytes ≡ file plans
+-- the file of plans that have one is no longer than the old one
+abbrev pub NoLonger : Type 0
+NoLonger = (plans : List Plan) → HaveFile plans → length (file plans) ≤ length (old plans)
+
+-- bytes that mean plans are the file of these plans in one of the layouts, so no schedule has a third file
+abbrev pub TwoFiles : Type 0
+TwoFiles = (bytes : List ℕ) (plans : List Plan) → All (λ b. b < 256) bytes → meaning bytes ≡ Ok plans → (bytes ≡ file plans) ⊎ (bytes ≡ old plans)
 
 -- a list of plans is a schedule, and its numbers fit their types
 pub record IsSchedule (plans : List Plan) : Type 0 where
@@ -30,55 +41,61 @@ pub record IsSchedule (plans : List Plan) : Type 0 where
 
 -- a file that is cut is short where it ends
 abbrev pub CutIsShort : Type 0
-CutIsShort = (plans : List Plan) (n : ℕ) → IsSchedule plans → n < length (file plans) → meaning (take n (file plans)) ≡ Err (Short n)
+CutIsShort = (layout : Layout) (plans : List Plan) (n : ℕ) → IsSchedule plans → n < length (written layout plans) → meaning (take n (written layout plans)) ≡ Err (Short n)
 
 -- of bytes behind a file the first is extra
 abbrev pub MoreIsExtra : Type 0
-MoreIsExtra = (plans : List Plan) (b : ℕ) (more : List ℕ) → IsSchedule plans → meaning (file plans ++ b ∷ more) ≡ Err (Extra (length (file plans)))
+MoreIsExtra = (layout : Layout) (plans : List Plan) (b : ℕ) (more : List ℕ) → IsSchedule plans
+    → meaning (written layout plans ++ b ∷ more) ≡ Err (Extra (length (written layout plans)))
 
 -- plans that bytes mean have a file
 abbrev pub WithinLimits : Type 0
 WithinLimits = (bytes : List ℕ) (plans : List Plan) → All (λ b. b < 256) bytes → meaning bytes ≡ Ok plans → HaveFile plans
 
--- plans that have a file are what it means, and a schedule has one
+-- plans that have a file are what it means, in each layout, and a schedule has one
 abbrev pub PlansAgain : Type 0
-PlansAgain = (plans : List Plan) → HaveFile plans → meaning (file plans) ≡ Ok plans
+PlansAgain = (layout : Layout) (plans : List Plan) → HaveFile plans → meaning (written layout plans) ≡ Ok plans
 
 abbrev pub SchedulesHaveFiles : Type 0
 SchedulesHaveFiles = (plans : List Plan) → IsSchedule plans → HaveFile plans
 
--- so the file of a schedule means the schedule
+-- so each file of a schedule means the schedule
 abbrev pub ReadAgain : Type 0
-ReadAgain = (plans : List Plan) → IsSchedule plans → meaning (file plans) ≡ Ok plans
+ReadAgain = (layout : Layout) (plans : List Plan) → IsSchedule plans → meaning (written layout plans) ≡ Ok plans
 
--- a file of some plans, which may break other rules, begins with these bytes
-pub record BeginAFile (front : List ℕ) : Type 0 where
+-- a file in this layout of some plans, which may break other rules, begins with these bytes
+pub record BeginAFile (layout : Layout) (front : List ℕ) : Type 0 where
   pub plans : List Plan
   pub more : List ℕ
   pub have_file : HaveFile plans
-  pub is : front ++ more ≡ file plans
+  pub is : front ++ more ≡ written layout plans
 
--- a field has one, four or eight bytes
-abbrev pub IsWidth : ℕ → Type 0
-IsWidth n = (n ≡ 1) ⊎ (n ≡ 4) ⊎ (n ≡ 8)
+-- a field has one, four or eight bytes, and with packed numbers any number of bytes up to ten
+abbrev pub IsWidth : Layout → ℕ → Type 0
+IsWidth Fixed n = (n ≡ 1) ⊎ (n ≡ 4) ⊎ (n ≡ 8)
+IsWidth Packed n = (0 < n) × (n ≤ 10)
 
 -- the bytes end in the field that begins at this place, and the whole fields before begin a file
 pub record EndInField (bytes : List ℕ) (n : ℕ) : Type 0 where
   pub length_is : n ≡ length bytes
+  pub layout : Layout
   pub at : ℕ
   pub width : ℕ
-  pub is_width : IsWidth width
+  pub is_width : IsWidth layout width
   pub begins : at ≤ n
   pub is_cut : n < at + width
-  pub before : BeginAFile (take at bytes)
+  pub before : BeginAFile layout (take at bytes)
 
--- the whole field at this place is one that no file has there: the bytes before it begin a file, with it they begin none
+-- The whole field at this place is one that no file of the version has there: the bytes before it, with the magic and
+-- the version, begin a file, with it they begin none.
 pub record IsFirstBadField (bytes : List ℕ) (at : ℕ) : Type 0 where
+  pub layout : Layout
+  pub behind : 12 ≤ at
   pub width : ℕ
-  pub is_width : IsWidth width
+  pub is_width : IsWidth layout width
   pub whole : at + width ≤ length bytes
-  pub before : BeginAFile (take at bytes)
-  pub none : BeginAFile (take (at + width) bytes) → ⊥
+  pub before : BeginAFile layout (take at bytes)
+  pub none : BeginAFile layout (take (at + width) bytes) → ⊥
 
 -- the first eight bytes are another magic
 pub record IsOtherMagic (bytes : List ℕ) : Type 0 where
@@ -90,14 +107,15 @@ pub record IsOtherVersion (bytes : List ℕ) (found : ℕ) : Type 0 where
   pub magic : take 8 bytes ≡ MAGIC
   pub whole : 12 ≤ length bytes
   pub is : take 4 (drop 8 bytes) ≡ spelled_u32 found
-  pub other : found ≢ VERSION
+  pub other : layout_of found ≡ None
 
 -- the bytes before are a whole file
 pub record IsBehindFile (bytes : List ℕ) (at : ℕ) : Type 0 where
   pub inside : at < length bytes
   pub plans : List Plan
   pub have_file : HaveFile plans
-  pub is : take at bytes ≡ file plans
+  pub layout : Layout
+  pub is : take at bytes ≡ written layout plans
 
 -- what each fault of bytes says of them
 abbrev pub IsTrueOf : List ℕ → FileFault → Type 0
@@ -120,4 +138,5 @@ IsOfField _ = ⊥
 
 -- no file begins with bytes of which a whole field is at fault
 abbrev pub NoFileBegins : Type 0
-NoFileBegins = (bytes more : List ℕ) (fault : FileFault) (plans : List Plan) → IsSchedule plans → meaning bytes ≡ Err fault → IsOfField fault → bytes ++ more ≢ file plans
+NoFileBegins = (layout : Layout) (bytes more : List ℕ) (fault : FileFault) (plans : List Plan) → IsSchedule plans → meaning bytes ≡ Err fault → IsOfField fault
+    → bytes ++ more ≢ written layout plans

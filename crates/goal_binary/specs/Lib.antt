@@ -1,4 +1,5 @@
--- What a reader must believe: the one file of a schedule, and the laws of what bytes mean.
+-- What a reader must believe: the two files of a schedule, and the laws of what bytes mean.
+pub mod Layouts
 pub mod File
 pub mod Fitting
 pub mod Laws

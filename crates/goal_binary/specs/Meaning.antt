@@ -7,14 +7,14 @@ use Rattle.goal_graph.specs.Fault.{IsFault}
 use Rattle.goal_graph.specs.Limits.{IsLimitRule}
 use Rattle.goal_binary.specs.declared.fault.FileFault.{FileFault}
 use Rattle.goal_binary.specs.declared.fault.FileFault.TheVariants as fault
-use Rattle.goal_binary.specs.Fields.{Read, ◌>>=◌, header_at}
-use Rattle.goal_binary.specs.Reading.{ranks_at}
+use Rattle.goal_binary.specs.Fields.{Read, ◌>>=◌, opening_at}
+use Rattle.goal_binary.specs.Reading.{records_at}
 
--- the header, and a record for each rank
+-- the magic and the version, and then the records in the layout that the version names
 unfoldable pub plans_at : List ℕ → Read (List Plan)
 plans_at bytes = do
-  ranks ← header_at bytes
-  ranks_at bytes ranks.0 [] ranks.1
+  layout ← opening_at bytes
+  records_at bytes layout.0 layout.1
 
 -- the same, and nothing behind it
 unfoldable pub meaning : List ℕ → Result (List Plan) FileFault

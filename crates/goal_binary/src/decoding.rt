@@ -1,14 +1,14 @@
 //! From a compiled file to its schedule.
-ghost use Rattle.std.specs.Prelude.{◌≡◌, ◌≢◌, List, Ok, IfOk, IfErr, IsOkUnless};
+ghost use Rattle.std.specs.Prelude.{◌≡◌, ◌≢◌, ◌⊎◌, List, Ok, IfOk, IfErr, IsOkUnless};
 ghost use Rattle.goal_graph.specs.Schedule.{Plan};
 ghost use Rattle.goal_graph.specs.Fault.{IsAccepted};
 ghost use Rattle.goal_graph.specs.Widths.{AreInWidth};
-ghost use Rattle.goal_binary.specs.File.{file};
+ghost use Rattle.goal_binary.specs.File.{file, old};
 ghost use Rattle.goal_binary.specs.Meaning.{plans_at, meaning, IsFileFault, IsLimitFault, fault_of_plans, Gives};
 
 use crate::fault::FileFault;
-use crate::fields::header_at;
-use crate::ranks::ranks_at;
+use crate::fields::opening_at;
+use crate::ranks::records_at;
 use goal_graph::{PlanFault, RankPlan, Sched};
 use std::alloc::Global;
 
@@ -17,8 +17,8 @@ use std::alloc::Global;
 fn plans_at(alloc: Global, bytes: &[u8]) -> Result<(Vec<RankPlan>, usize), FileFault>
     ensures { Gives (λ x. (x.0.items, x.1)) result (plans_at bytes.now) }
 {
-    let (count, ranks) = header_at(bytes)?;
-    ranks_at(alloc, bytes, count, ranks)
+    let (layout, ranks) = opening_at(bytes)?;
+    records_at(alloc, bytes, layout, ranks)
 }
 
 /// The plans that all of the bytes mean.
@@ -59,15 +59,15 @@ fn schedule_of(alloc: Global, bytes: &[u8]) -> Result<Sched, FileFault>
     }
 }
 
-/// The schedule of a compiled file.
+/// The schedule of a compiled file, of either version.
 ///
 /// The bytes are read once, from the front. Items are kept as they are read, and never for a count alone: a count in a
 /// damaged file takes no more memory than the bytes behind it can hold.
 ///
 /// # Errors
 ///
-/// The first fault: that of the first field, in the order of the file, that is not whole or that no file can have
-/// there; else that of bytes behind the last rank; else the first fault of the plans, which is neither `Count` nor
+/// The first fault: that of the first field, in the order of the file, that is not whole or that no file of the version
+/// can have there; else that of bytes behind the last rank; else the first fault of the plans, which is neither `Count` nor
 /// `Value`. And want of memory.
 pub fn decode(alloc: Global, bytes: &[u8]) -> Result<Sched, FileFault>
     // The plans are those that the bytes mean, and they are a schedule.
@@ -80,11 +80,11 @@ pub fn decode(alloc: Global, bytes: &[u8]) -> Result<Sched, FileFault>
     // A file that says plans keeps the limits of counts and values.
     ensures limits { IfErr result (λ fault. IsLimitFault fault → ⊥) }
 
-    // The bytes are the file of the schedule, so no second file is accepted for it.
-    ensures file { IfOk result (λ sched. bytes.now ≡ file sched) }
+    // The bytes are the file of the schedule or its old file, so no third file is accepted for it.
+    ensures file { IfOk result (λ sched. (bytes.now ≡ file sched) ⊎ (bytes.now ≡ old sched)) }
 
-    // The file of a schedule is read as this schedule, unless memory runs out.
-    ensures again { (plans : List Plan) → IsAccepted plans → AreInWidth plans → bytes.now ≡ file plans
+    // Each of the two files of a schedule is read as this schedule, unless memory runs out.
+    ensures again { (plans : List Plan) → IsAccepted plans → AreInWidth plans → ((bytes.now ≡ file plans) ⊎ (bytes.now ≡ old plans))
         → IfOk result (λ sched. sched ≡ plans) × IsOkUnless result FileFault.NoMemory }
 {
     schedule_of(alloc, bytes)

@@ -15,7 +15,7 @@ pub enum FileFault {
     Short { at: u64 },
     /// The file does not begin with the magic.
     Magic,
-    /// The file is of another version than 1.
+    /// The file is of another version than 1 and 2.
     Version { found: u32 },
     /// No file can have what the whole field that begins at `at` has.
     Field { at: u64 },

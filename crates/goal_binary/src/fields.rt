@@ -1,9 +1,9 @@
 //! The fields of a file. Each function gives the value at a place and the place behind it, or the first fault.
-ghost use Rattle.std.specs.Prelude.{◌≡◌, ◌+◌, ◌≤◌, length, IfOk};
-ghost use Rattle.goal_binary.specs.Fields.{byte_at, u32_at, u64_at, byte_up_to, u32_up_to, u64_up_to, count_at, magic_at, version_at, rank_count_at, header_at};
+ghost use Rattle.std.specs.Prelude.{◌≡◌, ◌+◌, ◌<◌, ◌≤◌, length, IfOk};
+ghost use Rattle.goal_binary.specs.Fields.{byte_at, u32_at, u64_at, below, groups_at, packed_at, byte_up_to, u32_up_to, u64_up_to, packed_up_to, some_byte_at, number_at, count_at, magic_at, layout_at, opening_at, rank_count_at};
 
 use crate::fault::FileFault;
-use crate::layout::{MAGIC, VERSION};
+use crate::layout::{Layout, MAGIC, layout_of};
 use goal_base::MAX_RANKS;
 
 /// The input ends before a field is whole.
@@ -16,7 +16,7 @@ fn short(bytes: &[u8]) -> FileFault
 }
 
 /// No file can have what the field at this place has.
-fn misfit(at: usize) -> FileFault
+pub fn misfit(at: usize) -> FileFault
     ensures { result ≡ FileFault.Field at }
 {
     FileFault::Field { at: at as u64 }
@@ -61,6 +61,46 @@ pub fn u64_at(bytes: &[u8], at: usize) -> Result<(u64, usize), FileFault>
     Ok((number, at + 8))
 }
 
+/// A group of seven bits of a packed number, and the number of the groups above it where there is one. There is none
+/// where the groups above are 0, since fewer bytes would do, nor above 64 bits.
+fn below(group: u8, others: Option<u64>) -> Option<u64>
+    requires { group < 128 }
+    ensures { result ≡ below group others }
+{
+    match others {
+        Some(others) if others > 0 && others < 1 << 57 => Some(u64::from(group) + 128 * others),
+        _ => None,
+    }
+}
+
+/// The groups of a packed number, `left` at most: the field ends with the first below 128, or else with the last.
+#[tactic(auto, unfolding(crate::specs::Fields::groups_at))]
+fn groups_at(bytes: &[u8], left: u32, at: usize) -> Result<(Option<u64>, usize), FileFault>
+    ensures { result ≡ groups_at bytes.now left at }
+{
+    if left == 0 {
+        return Ok((None, at));
+    }
+    let (group, others_at) = byte_at(bytes, at)?;
+    if group < 128 {
+        return Ok((Some(u64::from(group)), others_at));
+    }
+    let (others, after) = groups_at(bytes, left - 1, others_at)?;
+    Ok((below(group - 128, others), after))
+}
+
+/// A packed number.
+#[tactic(auto, unfolding(crate::specs::Fields::packed_at))]
+pub fn packed_at(bytes: &[u8], at: usize) -> Result<(u64, usize), FileFault>
+    ensures { result ≡ packed_at bytes.now at }
+{
+    let (number, after) = groups_at(bytes, 10, at)?;
+    match number {
+        Some(number) => Ok((number, after)),
+        None => Err(misfit(at)),
+    }
+}
+
 /// One byte that may be `most` at most.
 #[tactic(auto, unfolding(crate::specs::Fields::byte_up_to))]
 pub fn byte_up_to(bytes: &[u8], most: u8, at: usize) -> Result<(u8, usize), FileFault>
@@ -97,17 +137,63 @@ pub fn u64_up_to(bytes: &[u8], most: u64, at: usize) -> Result<(u64, usize), Fil
     Ok((number, after))
 }
 
-/// A count that may, added to the `before` of the ranks before, be `limit` at most.
-#[tactic(auto, unfolding(crate::specs::Fields::count_at))]
-pub fn count_at(bytes: &[u8], limit: u32, before: u32, at: usize) -> Result<(u32, usize), FileFault>
-    ensures count { result ≡ count_at bytes.now limit before at }
-    ensures within { IfOk result (λ x. before + x.0 ≤ limit) }
+/// A packed number that may be `most` at most.
+#[tactic(auto, unfolding(crate::specs::Fields::packed_up_to))]
+pub fn packed_up_to(bytes: &[u8], most: u64, at: usize) -> Result<(u64, usize), FileFault>
+    ensures number { result ≡ packed_up_to bytes.now most at }
+    ensures within { IfOk result (λ x. x.0 ≤ most) }
 {
-    let (number, after) = u32_at(bytes, at)?;
-    if u64::from(before) + u64::from(number) > u64::from(limit) {
+    let (number, after) = packed_at(bytes, at)?;
+    if number > most {
         return Err(misfit(at));
     }
     Ok((number, after))
+}
+
+/// One byte that is not 0.
+#[tactic(auto, unfolding(crate::specs::Fields::some_byte_at))]
+pub fn some_byte_at(bytes: &[u8], at: usize) -> Result<(u8, usize), FileFault>
+    ensures { result ≡ some_byte_at bytes.now at }
+{
+    let (byte, after) = byte_at(bytes, at)?;
+    if byte == 0 {
+        return Err(misfit(at));
+    }
+    Ok((byte, after))
+}
+
+/// A number in a layout.
+#[tactic(auto, unfolding(crate::specs::Fields::number_at))]
+fn number_at(bytes: &[u8], layout: Layout, at: usize) -> Result<(u64, usize), FileFault>
+    ensures { result ≡ number_at bytes.now layout at }
+{
+    match layout {
+        Layout::Fixed => {
+            let (number, after) = u32_at(bytes, at)?;
+            Ok((u64::from(number), after))
+        }
+        Layout::Packed => packed_at(bytes, at),
+    }
+}
+
+/// A count that may, added to the `before` of the ranks before, be `limit` at most.
+#[tactic(auto, unfolding(crate::specs::Fields::count_at))]
+pub fn count_at(
+    bytes: &[u8],
+    layout: Layout,
+    limit: u32,
+    before: u32,
+    at: usize,
+) -> Result<(u32, usize), FileFault>
+    ensures count { result ≡ count_at bytes.now layout limit before at }
+    ensures within { IfOk result (λ x. before + x.0 ≤ limit) }
+{
+    let (number, after) = number_at(bytes, layout, at)?;
+    let limit = u64::from(limit);
+    if number > limit || u64::from(before) + number > limit {
+        return Err(misfit(at));
+    }
+    Ok((number as u32, after))
 }
 
 /// The place behind the magic.
@@ -125,37 +211,35 @@ fn magic_at(bytes: &[u8]) -> Result<usize, FileFault>
     }
 }
 
-/// The place behind the version.
-#[tactic(auto, unfolding(crate::specs::Fields::version_at))]
-fn version_at(bytes: &[u8], at: usize) -> Result<usize, FileFault>
-    ensures { result ≡ version_at bytes.now at }
+/// The layout that the version names.
+#[tactic(auto, unfolding(crate::specs::Fields::layout_at))]
+fn layout_at(bytes: &[u8], at: usize) -> Result<(Layout, usize), FileFault>
+    ensures { result ≡ layout_at bytes.now at }
 {
     let (found, after) = u32_at(bytes, at)?;
-    if found == VERSION {
-        Ok(after)
-    } else {
-        Err(FileFault::Version { found })
+    match layout_of(found) {
+        Some(layout) => Ok((layout, after)),
+        None => Err(FileFault::Version { found }),
     }
+}
+
+/// The magic and the version: the layout.
+#[tactic(auto, unfolding(crate::specs::Fields::opening_at))]
+pub fn opening_at(bytes: &[u8]) -> Result<(Layout, usize), FileFault>
+    ensures { result ≡ opening_at bytes.now }
+{
+    let version_at = magic_at(bytes)?;
+    layout_at(bytes, version_at)
 }
 
 /// The number of ranks, at least one.
 #[tactic(auto, unfolding(crate::specs::Fields::rank_count_at))]
-fn rank_count_at(bytes: &[u8], at: usize) -> Result<(u32, usize), FileFault>
-    ensures { result ≡ rank_count_at bytes.now at }
+pub fn rank_count_at(bytes: &[u8], layout: Layout, at: usize) -> Result<(u32, usize), FileFault>
+    ensures { result ≡ rank_count_at bytes.now layout at }
 {
-    let (number, after) = u32_up_to(bytes, MAX_RANKS, at)?;
-    if number == 0 {
+    let (number, after) = number_at(bytes, layout, at)?;
+    if number > u64::from(MAX_RANKS) || number == 0 {
         return Err(misfit(at));
     }
-    Ok((number, after))
-}
-
-/// The header: the number of ranks.
-#[tactic(auto, unfolding(crate::specs::Fields::header_at))]
-pub fn header_at(bytes: &[u8]) -> Result<(u32, usize), FileFault>
-    ensures { result ≡ header_at bytes.now }
-{
-    let version = magic_at(bytes)?;
-    let ranks = version_at(bytes, version)?;
-    rank_count_at(bytes, ranks)
+    Ok((number as u32, after))
 }

@@ -1,9 +1,9 @@
-//! The form of an operation, which its first two bytes tell.
+//! The form of an operation, which its first two bytes tell, or in version 2 its first.
 ghost use Rattle.std.specs.Prelude.{◌≡◌};
-ghost use Rattle.goal_binary.specs.Reading.{most_flags, form_of, form_at, used_unless, most_nic, most_peer, most_tag, most_size, unless_any, kind_of};
+ghost use Rattle.goal_binary.specs.Reading.{most_flags, form_of, form_at, used_unless, most_nic, most_peer, most_tag, most_size, has_peer, has_tag, unless_any, kind_of, is_head, head_of, head_byte_at, head_at};
 
 use crate::fault::FileFault;
-use crate::fields::byte_up_to;
+use crate::fields::{byte_at, byte_up_to, misfit};
 use goal_base::{MAX_BYTES, MAX_NANOS};
 use goal_graph::Kind;
 
@@ -86,6 +86,28 @@ impl Form {
         }
     }
 
+    /// Whether there is a target or a source.
+    pub fn has_peer(self) -> bool
+        ensures { result ≡ has_peer self }
+    {
+        match self {
+            Form::Calc => false,
+            Form::Send => true,
+            Form::Recv { any_source, .. } => !any_source,
+        }
+    }
+
+    /// Whether there is a tag.
+    pub fn has_tag(self) -> bool
+        ensures { result ≡ has_tag self }
+    {
+        match self {
+            Form::Calc => false,
+            Form::Send => true,
+            Form::Recv { any_tag, .. } => !any_tag,
+        }
+    }
+
     /// The nanoseconds or the bytes, at most.
     pub fn most_size(self) -> u64
         ensures { result ≡ most_size self }
@@ -127,4 +149,52 @@ pub fn form_at(bytes: &[u8], at: usize) -> Result<(Form, usize), FileFault>
     let (kind, flags_at) = byte_up_to(bytes, 2, at)?;
     let (flags, after) = byte_up_to(bytes, most_flags(kind), flags_at)?;
     Ok((form_of(kind, flags), after))
+}
+
+/// What the first byte of an operation tells in version 2.
+#[derive(Clone, Copy, Debug, PartialEq, Eq)]
+pub struct Head {
+    pub form: Form,
+    pub has_cpu: bool,
+    pub has_nic: bool,
+}
+
+/// Whether an operation can begin with this byte: its kind and its flags have a meaning, and a calc has no interface.
+fn is_head(head: u8) -> bool
+    ensures { result ≡ is_head head }
+{
+    let kind = head % 4;
+    head < 64 && kind <= 2 && head / 4 % 4 <= most_flags(kind) && (head < 32 || 0 < kind)
+}
+
+/// What this byte tells.
+fn head_of(head: u8) -> Head
+    ensures { result ≡ head_of head }
+{
+    Head {
+        form: form_of(head % 4, head / 4 % 4),
+        has_cpu: head / 16 % 2 == 1,
+        has_nic: head >= 32,
+    }
+}
+
+/// The first byte of the operation at this place.
+#[tactic(auto, unfolding(crate::specs::Reading::head_byte_at))]
+fn head_byte_at(bytes: &[u8], at: usize) -> Result<(u8, usize), FileFault>
+    ensures { result ≡ head_byte_at bytes.now at }
+{
+    let (head, after) = byte_at(bytes, at)?;
+    if !is_head(head) {
+        return Err(misfit(at));
+    }
+    Ok((head, after))
+}
+
+/// What it tells.
+#[tactic(auto, unfolding(crate::specs::Reading::head_at))]
+pub fn head_at(bytes: &[u8], at: usize) -> Result<(Head, usize), FileFault>
+    ensures { result ≡ head_at bytes.now at }
+{
+    let (head, after) = head_byte_at(bytes, at)?;
+    Ok((head_of(head), after))
 }

@@ -1,13 +1,16 @@
 //! The laws of compiled files. Their function does nothing: a proof cites a law by a call.
-ghost use Rattle.goal_binary.specs.Laws.{LengthIsTold, WithinInput, OneFile, WithinLimits, PlansAgain, SchedulesHaveFiles, ReadAgain, FaultsAreTrue, CutIsShort, MoreIsExtra, NoFileBegins};
+ghost use Rattle.goal_binary.specs.Laws.{PackedApart, LengthIsTold, WithinInput, NoLonger, TwoFiles, WithinLimits, PlansAgain, SchedulesHaveFiles, ReadAgain, FaultsAreTrue, CutIsShort, MoreIsExtra, NoFileBegins};
 
 /// The laws of compiled files, for every schedule and all bytes:
 ///
-/// - `length_is_told`: the file has so many bytes as the numbers of its ranks, operations, dependencies and notes say.
+/// - `packed_apart`: no packed number is the front of another.
+/// - `length_is_told`: the file of version 1 has so many bytes as the numbers of its ranks, operations, dependencies and
+///   notes say.
 /// - `within_input`: where these are within their limits, it is short enough to be an input.
-/// - `one_file`: bytes that mean plans are the file of these plans, so no schedule has a second file.
+/// - `no_longer`: the file of version 2 is no longer than it.
+/// - `two_files`: bytes that mean plans are the file of these plans in one of the versions, so no schedule has a third.
 /// - `within_limits`: plans that bytes mean have counts, sizes and numbers that a file can have.
-/// - `plans_again`: the file of such plans means these plans.
+/// - `plans_again`: each of the two files of such plans means these plans.
 /// - `schedules_have_files`: a schedule has such plans.
 /// - `read_again`: so the file of a schedule means the schedule.
 /// - `faults_are_true`: the fault of bytes says of them what its name says. Up to the field at fault they begin a file
@@ -16,9 +19,11 @@ ghost use Rattle.goal_binary.specs.Laws.{LengthIsTold, WithinInput, OneFile, Wit
 /// - `more_is_extra`: of bytes behind a file the first is extra.
 /// - `no_file_begins`: no file begins with bytes of which a whole field is at fault.
 pub fn laws_of_files()
+    ensures packed_apart { PackedApart }
     ensures length_is_told { LengthIsTold }
     ensures within_input { WithinInput }
-    ensures one_file { OneFile }
+    ensures no_longer { NoLonger }
+    ensures two_files { TwoFiles }
     ensures within_limits { WithinLimits }
     ensures plans_again { PlansAgain }
     ensures schedules_have_files { SchedulesHaveFiles }

@@ -1,7 +1,38 @@
-//! What each compiled file begins with.
+//! What each compiled file begins with, and its two layouts.
+ghost use Rattle.std.specs.Prelude.{◌≡◌};
+ghost use Rattle.goal_binary.specs.Layouts.{version_of, layout_of};
 
 /// The first bytes of each compiled file.
 pub const MAGIC: [u8; 8] = [0x89, 0x47, 0x4F, 0x41, 0x4C, 0x0D, 0x0A, 0x1A];
 
-/// The version of the layout.
-pub const VERSION: u32 = 1;
+/// How a file lays its numbers out.
+#[derive(Clone, Copy, Debug, PartialEq, Eq)]
+pub enum Layout {
+    /// Version 1: a number has all the bytes of its field.
+    Fixed,
+    /// Version 2: a number has no more bytes than it needs.
+    Packed,
+}
+
+/// The layout that a version names.
+pub fn layout_of(version: u32) -> Option<Layout>
+    ensures { result ≡ layout_of version }
+{
+    match version {
+        1 => Some(Layout::Fixed),
+        2 => Some(Layout::Packed),
+        _ => None,
+    }
+}
+
+impl Layout {
+    /// The version that names it.
+    pub fn version(self) -> u32
+        ensures { result ≡ version_of self }
+    {
+        match self {
+            Layout::Fixed => 1,
+            Layout::Packed => 2,
+        }
+    }
+}

@@ -1,11 +1,12 @@
-//! The records of the ranks.
+//! The records of the ranks, which are alike in both layouts.
 ghost use Rattle.std.specs.Prelude.{◌≡◌, ◌+◌, ◌≤◌, [], length, IfOk};
-ghost use Rattle.goal_binary.specs.Reading.{rank_at, ranks_at};
+ghost use Rattle.goal_binary.specs.Reading.{rank_at, ranks_at, records_at};
 ghost use Rattle.goal_binary.specs.Meaning.{Gives};
 
 use crate::fault::FileFault;
-use crate::fields::count_at;
+use crate::fields::{count_at, rank_count_at};
 use crate::items::{deps_at, notes_at, ops_at};
+use crate::layout::Layout;
 use goal_base::{MAX_DEPS, MAX_NOTES, MAX_OPS};
 use goal_graph::RankPlan;
 use std::alloc::Global;
@@ -23,31 +24,39 @@ struct Totals {
 fn rank_at(
     alloc: Global,
     bytes: &[u8],
+    layout: Layout,
     before: Totals,
     at: usize,
 ) -> Result<(RankPlan, usize), FileFault>
-    ensures plan { Gives (λ x. x) result (rank_at bytes.now before.ops before.deps before.notes at) }
+    ensures plan { Gives (λ x. x) result (rank_at bytes.now layout before.ops before.deps before.notes at) }
     ensures ops { IfOk result (λ x. before.ops + length x.0.ops ≤ MAX_OPS) }
     ensures deps { IfOk result (λ x. before.deps + length x.0.deps ≤ MAX_DEPS) }
     ensures notes { IfOk result (λ x. before.notes + length x.0.notes ≤ MAX_NOTES) }
 {
-    let (op_count, deps_count_at) = count_at(bytes, MAX_OPS, before.ops, at)?;
-    let (dep_count, notes_count_at) = count_at(bytes, MAX_DEPS, before.deps, deps_count_at)?;
-    let (note_count, ops_from) = count_at(bytes, MAX_NOTES, before.notes, notes_count_at)?;
-    let (ops, deps_from) = ops_at(alloc, bytes, op_count, ops_from)?;
-    let (deps, notes_from) = deps_at(alloc, bytes, dep_count, deps_from)?;
-    let (notes, after) = notes_at(alloc, bytes, note_count, notes_from)?;
+    let (op_count, deps_count_at) = count_at(bytes, layout, MAX_OPS, before.ops, at)?;
+    let (dep_count, notes_count_at) = count_at(
+        bytes,
+        layout,
+        MAX_DEPS,
+        before.deps,
+        deps_count_at,
+    )?;
+    let (note_count, ops_from) = count_at(bytes, layout, MAX_NOTES, before.notes, notes_count_at)?;
+    let (ops, deps_from) = ops_at(alloc, bytes, layout, op_count, ops_from)?;
+    let (deps, notes_from) = deps_at(alloc, bytes, layout, dep_count, deps_from)?;
+    let (notes, after) = notes_at(alloc, bytes, layout, note_count, notes_from)?;
     Ok((RankPlan { ops, deps, notes }, after))
 }
 
 /// The records of so many ranks, which begin at this place.
-pub fn ranks_at(
+fn ranks_at(
     alloc: Global,
     bytes: &[u8],
+    layout: Layout,
     count: u32,
     at: usize,
 ) -> Result<(Vec<RankPlan>, usize), FileFault>
-    ensures { Gives (λ x. (x.0.items, x.1)) result (ranks_at bytes.now count [] at) }
+    ensures { Gives (λ x. (x.0.items, x.1)) result (ranks_at bytes.now layout count [] at) }
 {
     let mut plans: Vec<RankPlan> = Vec::new(alloc);
     let mut totals = Totals {
@@ -57,7 +66,7 @@ pub fn ranks_at(
     };
     let mut place = at;
     for _ in 0..count {
-        let (plan, after) = rank_at(alloc, bytes, totals, place)?;
+        let (plan, after) = rank_at(alloc, bytes, layout, totals, place)?;
         totals = Totals {
             ops: totals.ops + plan.ops.len() as u32,
             deps: totals.deps + plan.deps.len() as u32,
@@ -67,4 +76,18 @@ pub fn ranks_at(
         place = after;
     }
     Ok((plans, place))
+}
+
+/// The number of ranks, and their records.
+#[tactic(auto, unfolding(crate::specs::Reading::records_at))]
+pub fn records_at(
+    alloc: Global,
+    bytes: &[u8],
+    layout: Layout,
+    at: usize,
+) -> Result<(Vec<RankPlan>, usize), FileFault>
+    ensures { Gives (λ x. (x.0.items, x.1)) result (records_at bytes.now layout at) }
+{
+    let (count, ranks) = rank_count_at(bytes, layout, at)?;
+    ranks_at(alloc, bytes, layout, count, ranks)
 }

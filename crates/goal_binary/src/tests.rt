@@ -2,14 +2,28 @@
 ghost use Rattle.std.specs.Prelude.{◌≡◌, IfOk, IsOkUnless};
 
 use crate::decoding::decode;
-use crate::encoding::encode;
+use crate::encoding::{encode, encode_old};
 use crate::fault::FileFault;
-use goal_graph::{Kind, Op, PlanFault, RankPlan, Sched};
+use goal_base::NoMemory;
+use goal_graph::{Dep, Kind, Note, Op, PlanFault, RankPlan, Sched, When};
 use std::alloc::{AllocError, Global};
 use std::test::Fail;
 
 /// The file of two ranks, of which one sends ten bytes to the other.
-const MESSAGE: [u8; 88] = [
+const MESSAGE: [u8; 27] = [
+    0x89, 0x47, 0x4F, 0x41, 0x4C, 0x0D, 0x0A, 0x1A, 0x02, 0x00, 0x00, 0x00, 0x02, //
+    0x01, 0x00, 0x00, 0x01, 0x01, 0x00, 0x0A, //
+    0x01, 0x00, 0x00, 0x02, 0x00, 0x00, 0x0A,
+];
+
+/// The file of one rank, which calculates for 300 nanoseconds on cpu 3.
+const ON_CPU_3: [u8; 20] = [
+    0x89, 0x47, 0x4F, 0x41, 0x4C, 0x0D, 0x0A, 0x1A, 0x02, 0x00, 0x00, 0x00, 0x01, //
+    0x01, 0x00, 0x00, 0x10, 0x03, 0xAC, 0x02,
+];
+
+/// The file of version 1 of the message.
+const OLD_MESSAGE: [u8; 88] = [
     0x89, 0x47, 0x4F, 0x41, 0x4C, 0x0D, 0x0A, 0x1A, 0x01, 0x00, 0x00, 0x00, 0x02, 0x00, 0x00, 0x00,
     0x01, 0x00, 0x00, 0x00, 0x00, 0x00, 0x00, 0x00, 0x00, 0x00, 0x00, 0x00, 0x01, 0x00, 0x00, 0x00,
     0x01, 0x00, 0x00, 0x00, 0x00, 0x00, 0x00, 0x00, 0x00, 0x00, 0x00, 0x00, 0x0A, 0x00, 0x00, 0x00,
@@ -33,9 +47,8 @@ fn plan_of(alloc: Global, kind: Kind) -> Result<RankPlan, AllocError> {
     })
 }
 
-#[test]
-fn one_message(rt: HostRuntime) -> Result<(), Fail> {
-    let alloc = rt.alloc();
+/// The schedule of the message.
+fn message(alloc: Global) -> Result<Sched, PlanFault> {
     let send = Kind::Send {
         bytes: 10,
         to: 1,
@@ -47,19 +60,38 @@ fn one_message(rt: HostRuntime) -> Result<(), Fail> {
         tag: Some(0),
     };
     let plans = vec![in alloc; plan_of(alloc, send)?, plan_of(alloc, recv)?]?;
-    let sched = Sched::build(alloc, plans)?;
+    Sched::build(alloc, plans)
+}
+
+#[test]
+fn one_message(rt: HostRuntime) -> Result<(), Fail> {
+    let alloc = rt.alloc();
+    let sched = message(alloc)?;
     let bytes = encode(alloc, &sched)?;
     assert_eq!(rt; bytes.as_slice(), MESSAGE.as_slice());
+    let old = encode_old(alloc, &sched)?;
+    assert_eq!(rt; old.as_slice(), OLD_MESSAGE.as_slice());
     Ok(())
 }
 
-/// The schedule, written and read again: the contracts of both calls give that it is the same.
+/// The schedule, written in both versions and read again: the contracts of the calls give that it is the same.
 fn written_and_read(alloc: Global, sched: &Sched) -> Result<Sched, FileFault>
     ensures same { IfOk result (λ again. again ≡ sched.now) }
     ensures only { IsOkUnless result FileFault.NoMemory }
 {
     let _plans = sched.plans();
     match encode(alloc, sched) {
+        Ok(bytes) => decode(alloc, &bytes),
+        Err(_) => Err(FileFault::NoMemory),
+    }
+}
+
+fn written_as_before_and_read(alloc: Global, sched: &Sched) -> Result<Sched, FileFault>
+    ensures same { IfOk result (λ again. again ≡ sched.now) }
+    ensures only { IsOkUnless result FileFault.NoMemory }
+{
+    let _plans = sched.plans();
+    match encode_old(alloc, sched) {
         Ok(bytes) => decode(alloc, &bytes),
         Err(_) => Err(FileFault::NoMemory),
     }
@@ -88,6 +120,10 @@ fn the_message_is_read(rt: HostRuntime) -> Result<(), Fail> {
         .ok()
         .ok_or("the file is read again")?;
     assert_eq!(rt; again.count(), 2);
+    let again = written_as_before_and_read(alloc, &sched)
+        .ok()
+        .ok_or("the old file is read again")?;
+    assert_eq!(rt; again.count(), 2);
     Ok(())
 }
 
@@ -97,11 +133,99 @@ fn a_cut_file_is_short(rt: HostRuntime) -> Result<(), Fail> {
         let fault = decode(rt.alloc(), &MESSAGE[..len]).err();
         assert_eq!(rt; fault, Some(FileFault::Short { at: len as u64 }));
     }
+    for (len, _) in OLD_MESSAGE.iter().enumerate() {
+        let fault = decode(rt.alloc(), &OLD_MESSAGE[..len]).err();
+        assert_eq!(rt; fault, Some(FileFault::Short { at: len as u64 }));
+    }
     Ok(())
+}
+
+/// Puts a byte at a place, where there is one.
+fn put(bytes: &mut [u8], place: usize, byte: u8) {
+    if let Some(old) = bytes.get_mut(place) {
+        *old = byte;
+    }
+}
+
+/// The fault of a file of which one byte is another.
+fn damaged(
+    alloc: Global,
+    file: &[u8],
+    place: usize,
+    byte: u8,
+) -> Result<Option<FileFault>, AllocError> {
+    let mut bytes = Vec::from_slice(alloc, file)?;
+    put(&mut bytes, place, byte);
+    Ok(decode(alloc, &bytes).err())
 }
 
 #[test]
 fn faults(rt: HostRuntime) -> Result<(), Fail> {
+    let alloc = rt.alloc();
+    for (place, byte, fault) in [
+        (1, 0, FileFault::Magic),
+        (8, 3, FileFault::Version { found: 3 }),
+        (8, 0, FileFault::Version { found: 0 }),
+        (12, 0, FileFault::Field { at: 12 }),
+        (16, 3, FileFault::Field { at: 16 }),
+        (16, 5, FileFault::Field { at: 16 }),
+        (16, 32, FileFault::Field { at: 16 }),
+        (16, 65, FileFault::Field { at: 16 }),
+        (17, 128, FileFault::Field { at: 17 }),
+        (17, 2, FileFault::Plan(PlanFault::Peer { rank: 0, op: 0 })),
+        (26, 138, FileFault::Short { at: 27 }),
+    ] {
+        assert_eq!(rt; damaged(alloc, &MESSAGE, place, byte)?, Some(fault));
+    }
+    let mut longer = Vec::from_slice(alloc, &MESSAGE)?;
+    longer.push(0)?;
+    assert_eq!(rt;
+        decode(alloc, &longer).err(),
+        Some(FileFault::Extra { at: 27 })
+    );
+    Ok(())
+}
+
+#[test]
+fn faults_of_a_calc(rt: HostRuntime) -> Result<(), Fail> {
+    let alloc = rt.alloc();
+    assert_eq!(rt; decode(alloc, &ON_CPU_3).is_ok(), true);
+    let field = Some(FileFault::Field { at: 17 });
+    assert_eq!(rt; damaged(alloc, &ON_CPU_3, 17, 0)?, field);
+    let field = Some(FileFault::Field { at: 16 });
+    assert_eq!(rt; damaged(alloc, &ON_CPU_3, 16, 48)?, field);
+    let mut longer = Vec::from_slice(alloc, &ON_CPU_3[..19])?;
+    longer.push(0x82)?;
+    longer.push(0x00)?;
+    assert_eq!(rt;
+        decode(alloc, &longer).err(),
+        Some(FileFault::Field { at: 18 })
+    );
+    Ok(())
+}
+
+#[test]
+fn a_number_ends_with_its_tenth_byte(rt: HostRuntime) -> Result<(), Fail> {
+    let alloc = rt.alloc();
+    let mut bytes = Vec::from_slice(alloc, &ON_CPU_3[..18])?;
+    for _ in 0..9 {
+        bytes.push(0x80)?;
+        let at = bytes.len() as u64;
+        assert_eq!(rt; decode(alloc, &bytes).err(), Some(FileFault::Short { at }));
+    }
+    for last in [0x80, 0x02, 0x01, 0x00] {
+        let mut whole = Vec::from_slice(alloc, &bytes)?;
+        whole.push(last)?;
+        assert_eq!(rt;
+            decode(alloc, &whole).err(),
+            Some(FileFault::Field { at: 18 })
+        );
+    }
+    Ok(())
+}
+
+#[test]
+fn faults_of_version_1(rt: HostRuntime) -> Result<(), Fail> {
     let alloc = rt.alloc();
     for (place, byte, fault) in [
         (1, 0, FileFault::Magic),
@@ -119,17 +243,125 @@ fn faults(rt: HostRuntime) -> Result<(), Fail> {
         (52, 0, FileFault::Extra { at: 64 }),
         (32, 2, FileFault::Plan(PlanFault::Peer { rank: 0, op: 0 })),
     ] {
-        let mut bytes = Vec::from_slice(alloc, &MESSAGE)?;
-        if let Some(old) = bytes.get_mut(place) {
-            *old = byte;
-        }
-        assert_eq!(rt; decode(alloc, &bytes).err(), Some(fault));
+        assert_eq!(rt; damaged(alloc, &OLD_MESSAGE, place, byte)?, Some(fault));
     }
-    let mut longer = Vec::from_slice(alloc, &MESSAGE)?;
+    let mut longer = Vec::from_slice(alloc, &OLD_MESSAGE)?;
     longer.push(0)?;
     assert_eq!(rt;
         decode(alloc, &longer).err(),
         Some(FileFault::Extra { at: 88 })
     );
+    Ok(())
+}
+
+/// The next number of a sequence that a seed begins.
+fn next(state: u64) -> u64 {
+    state
+        .wrapping_mul(6_364_136_223_846_793_005)
+        .wrapping_add(1_442_695_040_888_963_407)
+}
+
+/// Some bits of it.
+fn bits(state: u64) -> u64 {
+    state >> 33
+}
+
+/// A drawn operation of a rank, and the next number.
+fn drawn_op(state: u64, rank: u32) -> (Op, u64) {
+    let kind_state = next(state);
+    let size_state = next(kind_state);
+    let place_state = next(size_state);
+    let any_state = next(place_state);
+    let size = bits(size_state) >> (bits(any_state) % 24);
+    let tag = (bits(place_state) % 300) as u32;
+    let any = bits(any_state) % 4;
+    let kind = match bits(kind_state) % 3 {
+        0 => Kind::Calc { nanos: size },
+        1 => Kind::Send {
+            bytes: size,
+            to: 1 - rank % 2,
+            tag,
+        },
+        _ => Kind::Recv {
+            bytes: size,
+            from: if any >= 2 { None } else { Some(1 - rank % 2) },
+            tag: if any % 2 == 1 { None } else { Some(tag) },
+        },
+    };
+    let cpu = (bits(kind_state) % 5) as u8;
+    let nic = match kind {
+        Kind::Calc { .. } => 0,
+        _ => (bits(size_state) % 3) as u8,
+    };
+    (Op { kind, cpu, nic }, any_state)
+}
+
+/// A drawn rank of two operations, the second after the first, with a note on a receive where there is one.
+fn drawn_plan(alloc: Global, seed: u64, rank: u32) -> Result<RankPlan, AllocError> {
+    let mut ops = Vec::new(alloc);
+    let mut deps = Vec::new(alloc);
+    let mut notes = Vec::new(alloc);
+    let mut state = seed;
+    for later in 0..2u32 {
+        let (op, after) = drawn_op(state, rank);
+        state = next(after);
+        if later == 1 {
+            let when = if bits(state) % 2 == 0 {
+                When::AfterEnd
+            } else {
+                When::AfterStart
+            };
+            deps.push(Dep {
+                later,
+                earlier: 0,
+                when,
+            })?;
+        }
+        if matches!(op.kind, Kind::Recv { .. }) && notes.is_empty() {
+            notes.push(Note::Moves {
+                op: later,
+                lo: 0,
+                hi: (bits(state) % 200) as u32 + 1,
+            })?;
+        }
+        ops.push(op)?;
+    }
+    Ok(RankPlan { ops, deps, notes })
+}
+
+/// Whether bytes are at fault, or say a schedule of which they are the file.
+fn is_fault_or_file(alloc: Global, bytes: &[u8]) -> Result<bool, NoMemory> {
+    let Ok(sched) = decode(alloc, bytes) else {
+        return Ok(true);
+    };
+    let file = encode(alloc, &sched)?;
+    let old = encode_old(alloc, &sched)?;
+    Ok(file.as_slice() == bytes || old.as_slice() == bytes)
+}
+
+#[test]
+fn each_byte_of_a_hundred_files_replaced(rt: HostRuntime) -> Result<(), Fail> {
+    let alloc = rt.alloc();
+    let mut files = 0;
+    for seed in 0..100u64 {
+        let first = drawn_plan(alloc, next(seed), 0)?;
+        let second = drawn_plan(alloc, next(next(seed)), 1)?;
+        let Ok(sched) = Sched::build(alloc, vec![in alloc; first, second]?) else {
+            continue;
+        };
+        files += 1;
+        let file = encode(alloc, &sched)?;
+        let mut bytes = Vec::from_slice(alloc, &file)?;
+        let mut neighbour = 0;
+        for (place, there) in file.iter().enumerate() {
+            for byte in [0, 1, 127, 128, 255, neighbour] {
+                put(&mut bytes, place, byte);
+                assert_eq!(rt; is_fault_or_file(alloc, &bytes)?, true);
+            }
+            put(&mut bytes, place, *there);
+            neighbour = *there;
+        }
+    }
+    assert_eq!(rt; files, 100);
     Ok(())
 }

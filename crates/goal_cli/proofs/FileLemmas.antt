@@ -5,13 +5,13 @@ use Rattle.goal_base.specs.declared.device.NoMemory.{NoMemory}
 use Rattle.goal_base.specs.declared.limits.TheConstants.{MAX_INPUT}
 use Rattle.goal_graph.specs.Schedule.{Plan}
 use Rattle.goal_graph.specs.Fault.{IsAccepted}
-use Rattle.goal_binary.specs.File.{file, header}
+use Rattle.goal_binary.specs.File.{file, written, header}
 use Rattle.goal_binary.specs.Meaning.{meaning}
 use Rattle.goal_cli.specs.Input.{is_compiled, IsReadAs}
 
 -- a file begins with the first byte of the magic
 begins_compiled : (plans : List Plan) → is_compiled (file plans) ≡ true
-unfolding file header
+unfolding written header
 begins_compiled plans = refl
 
 -- the file of a schedule says the schedule

@@ -113,6 +113,6 @@ fn compiled_again(rt: HostRuntime) -> Result<(), Fail> {
     assert_eq!(rt; host.file("b").ok_or("no file")?.len(), 16);
     let status = goal(alloc, &words, &mut host, &mut out, &mut err);
     assert_eq!(rt; status, Status::Done);
-    assert_eq!(rt; host.file("b").ok_or("no file")?.len(), 88);
+    assert_eq!(rt; host.file("b").ok_or("no file")?.len(), 27);
     Ok(())
 }

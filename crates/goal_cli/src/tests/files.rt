@@ -8,7 +8,14 @@ use std::process::Abort;
 use std::test::Fail;
 
 // The compiled file of the message.
-const FILE: [u8; 88] = [
+const FILE: [u8; 27] = [
+    0x89, 0x47, 0x4F, 0x41, 0x4C, 0x0D, 0x0A, 0x1A, 2, 0, 0, 0, 2, //
+    1, 0, 0, 1, 1, 0, 10, //
+    1, 0, 0, 2, 0, 0, 10,
+];
+
+// Its file of version 1.
+const OLD_FILE: [u8; 88] = [
     0x89, 0x47, 0x4F, 0x41, 0x4C, 0x0D, 0x0A, 0x1A, 1, 0, 0, 0, 2, 0, 0, 0, //
     1, 0, 0, 0, 0, 0, 0, 0, 0, 0, 0, 0, //
     1, 0, 0, 0, 1, 0, 0, 0, 0, 0, 0, 0, 0, 0, 0, 0, 10, 0, 0, 0, 0, 0, 0, 0, //
@@ -72,7 +79,22 @@ fn two_words(rt: HostRuntime) -> Result<(), Fail> {
     check_compiled(&rt, alloc, &mut host, &rows)
 }
 
-// A byte of the file of the message, another value for it, and the words of the refusal.
+// A file of version 1 says the same schedule, and is compiled to the file of version 2.
+#[test]
+fn message_of_version_1(rt: HostRuntime) -> Result<(), Fail> {
+    let alloc = rt.alloc();
+    let mut host = MemHost::new(alloc, 16, &[])?;
+    host.add("a", &OLD_FILE)?;
+    let rows = [
+        printed(&["show", "a"], MESSAGE_TEXT),
+        printed(&["sim", "a"], MESSAGE_RUN),
+    ];
+    check_compiled(&rt, alloc, &mut host, &rows)?;
+    assert_eq!(rt; host.file("b"), Some(FILE.as_slice()));
+    Ok(())
+}
+
+// A byte of the file of version 1 of the message, another value for it, and the words of the refusal.
 const DAMAGED: [(usize, u8, &str); 4] = [
     (41, 1, "file: field at 40"),
     (29, 1, "file: field at 29"),
@@ -83,7 +105,7 @@ const DAMAGED: [(usize, u8, &str); 4] = [
 #[test]
 fn damaged(rt: HostRuntime) -> Result<(), Fail> {
     for (place, byte, words) in &DAMAGED {
-        let mut file = FILE;
+        let mut file = OLD_FILE;
         if let Some(there) = file.get_mut(*place) {
             *there = *byte;
         }
@@ -94,7 +116,7 @@ fn damaged(rt: HostRuntime) -> Result<(), Fail> {
 
 #[test]
 fn longer(rt: HostRuntime) -> Result<(), Fail> {
-    let mut file = Vec::from_slice(rt.alloc(), &FILE)?;
+    let mut file = Vec::from_slice(rt.alloc(), &OLD_FILE)?;
     file.push(0)?;
     check_refused(
         &rt,
@@ -107,15 +129,33 @@ fn longer(rt: HostRuntime) -> Result<(), Fail> {
 
 #[test]
 fn cut_off(rt: HostRuntime) -> Result<(), Fail> {
-    for (length, _) in FILE.iter().enumerate().skip(1) {
+    for (length, _) in OLD_FILE.iter().enumerate().skip(1) {
         let words = format!(in rt.alloc(); "file: short at {length}")?;
         check_refused(
             &rt,
             rt.alloc(),
-            &FILE[..length],
+            &OLD_FILE[..length],
             &["show", "a"],
             words.as_str(),
         )?;
+    }
+    Ok(())
+}
+
+// The same of the file of version 2.
+#[test]
+fn damaged_packed(rt: HostRuntime) -> Result<(), Fail> {
+    for (place, byte, words) in [
+        (16, 3, "file: field at 16"),
+        (16, 5, "file: field at 16"),
+        (8, 3, "file: version 3"),
+        (1, 0, "file: magic"),
+    ] {
+        let mut file = FILE;
+        if let Some(there) = file.get_mut(place) {
+            *there = byte;
+        }
+        check_refused(&rt, rt.alloc(), &file, &["compile", "a", "b"], words)?;
     }
     Ok(())
 }

@@ -6,13 +6,13 @@ use Rattle.goal_binary.proofs.items.deps_at.Goals as goal
 
 pub returns-in_err-dep-clause-deps : goal.returns-in_err-dep-clause-deps
 returns-in_err-dep-clause-deps c =
-    let item_at = dep_at c.args.bytes.now in
+    let item_at = dep_at c.args.bytes.now c.args.layout in
     let p = err_from_is_err_and c.from_residual.result c.from_residual.ensures.1 in
     rw (p.1, p.2) (λ memory. ends item_at c.in_err-dep.field-0.0 c.loop.deps.items c.args.count c.loop.counter c.loop.place (list_at item_at c.args.count c.args.at) c.loop-test.true (sym c.in_err-dep.ensures) c.loop.invariant.so_far)
 
 pub loop-preserved : goal.loop-preserved
 loop-preserved c =
-    let item_at = dep_at c.args.bytes.now in
+    let item_at = dep_at c.args.bytes.now c.args.layout in
     let pushed : c.push.new.self.items ≡ c.loop.deps.items ++ c.in_ok-dep.dep ∷ [] = c.in_ok-push.ensures.items in
     rw pushed (record {
       so_far = goes_on item_at c.loop.deps.items c.args.count c.loop.counter c.loop.place c.in_ok-dep.dep c.in_ok-dep.after (list_at item_at c.args.count c.args.at) c.loop-test.true (sym c.in_ok-dep.ensures) c.loop.invariant.so_far;
@@ -21,5 +21,5 @@ loop-preserved c =
 
 pub returns-clause-deps : goal.returns-clause-deps
 returns-clause-deps c =
-    let item_at = dep_at c.args.bytes.now in
+    let item_at = dep_at c.args.bytes.now c.args.layout in
     is_done item_at c.loop.deps.items c.args.count c.loop.counter c.loop.place (list_at item_at c.args.count c.args.at) c.loop-test.false c.loop.invariant.so_far

@@ -6,13 +6,13 @@ use Rattle.goal_binary.proofs.items.ops_at.Goals as goal
 
 pub returns-in_err-op-clause-ops : goal.returns-in_err-op-clause-ops
 returns-in_err-op-clause-ops c =
-    let item_at = op_at c.args.bytes.now in
+    let item_at = op_at c.args.bytes.now c.args.layout in
     let p = err_from_is_err_and c.from_residual.result c.from_residual.ensures.1 in
     rw (p.1, p.2) (λ memory. ends item_at c.in_err-op.field-0.0 c.loop.ops.items c.args.count c.loop.counter c.loop.place (list_at item_at c.args.count c.args.at) c.loop-test.true (sym c.in_err-op.ensures) c.loop.invariant.so_far)
 
 pub loop-preserved : goal.loop-preserved
 loop-preserved c =
-    let item_at = op_at c.args.bytes.now in
+    let item_at = op_at c.args.bytes.now c.args.layout in
     let pushed : c.push.new.self.items ≡ c.loop.ops.items ++ c.in_ok-op.op ∷ [] = c.in_ok-push.ensures.items in
     rw pushed (record {
       so_far = goes_on item_at c.loop.ops.items c.args.count c.loop.counter c.loop.place c.in_ok-op.op c.in_ok-op.after (list_at item_at c.args.count c.args.at) c.loop-test.true (sym c.in_ok-op.ensures) c.loop.invariant.so_far;
@@ -21,5 +21,5 @@ loop-preserved c =
 
 pub returns-clause-ops : goal.returns-clause-ops
 returns-clause-ops c =
-    let item_at = op_at c.args.bytes.now in
+    let item_at = op_at c.args.bytes.now c.args.layout in
     is_done item_at c.loop.ops.items c.args.count c.loop.counter c.loop.place (list_at item_at c.args.count c.args.at) c.loop-test.false c.loop.invariant.so_far

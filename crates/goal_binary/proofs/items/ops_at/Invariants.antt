@@ -5,6 +5,6 @@ use Rattle.goal_binary.proofs.items.ops_at.Given as goal
 
 abbrev pub invariant-loop : goal.invariant-loop
 invariant-loop l = record {
-  so_far : with_front l.ops.items (list_at (op_at l.bytes) (l.count - l.counter) l.place) ≡ list_at (op_at l.bytes) l.count l.at;
+  so_far : with_front l.ops.items (list_at (op_at l.bytes l.layout) (l.count - l.counter) l.place) ≡ list_at (op_at l.bytes l.layout) l.count l.at;
   count : length l.ops.items ≡ l.counter;
 }

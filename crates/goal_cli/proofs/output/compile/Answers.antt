@@ -1,3 +1,8 @@
+use Rattle.std.proofs.Common.{◌≤◌, length, arith}
+use Rattle.goal_base.specs.declared.limits.TheConstants.{MAX_INPUT}
+use Rattle.goal_binary.specs.declared.layout.Layout.TheVariants.{Packed}
+use Rattle.goal_binary.specs.File.{file}
+use Rattle.goal_binary.specs.Laws.{IsSchedule}
 use Rattle.goal_cli.proofs.FileLemmas.{file_again, bytes_again}
 use Rattle.goal_cli.proofs.output.compile.Goals as goal
 
@@ -5,6 +10,7 @@ pub returns-clause-again : goal.returns-clause-again
 returns-clause-again c =
     let known = c.plans-plans.ensures in
     let files = c.laws_of_files.ensures in
-    bytes_again c.encode.result c.args.sched.now c.encode.ensures.file
-    (file_again c.args.sched.now known.accepted (files.within_input c.args.sched.now known.counts).1
-    (files.read_again c.args.sched.now (record { accepted = known.accepted; widths = known.widths })))
+    let plans = c.args.sched.now in
+    let schedule : IsSchedule plans = record { accepted = known.accepted; widths = known.widths } in
+    let short : length (file plans) ≤ MAX_INPUT = omega (arith, files.no_longer plans (files.schedules_have_files plans schedule), (files.within_input plans known.counts).1) in
+    bytes_again c.encode.result plans c.encode.ensures.file (file_again plans known.accepted short (files.read_again Packed plans schedule))

@@ -5,8 +5,8 @@ use Rattle.std.proofs.lemmas.List.Sums.{sum_by_more_le}
 use Rattle.goal_base.specs.declared.limits.TheConstants.{MAX_OPS, MAX_DEPS, MAX_NOTES}
 use Rattle.goal_graph.specs.Schedule.{Plan}
 use Rattle.goal_graph.specs.Fault.{op_count, dep_count, note_count}
-use Rattle.goal_binary.specs.File.{header, spelled_rank, file}
-use Rattle.goal_binary.proofs.encoding.encode.Goals as goal
+use Rattle.goal_binary.specs.File.{header, spelled_rank, written}
+use Rattle.goal_binary.proofs.encoding.write.Goals as goal
 
 -- a rank has no more than all ranks together
 within_all : (f : Plan → ℕ) (ps : List Plan) (i : ℕ) (p : Plan) (most : ℕ) → i < length ps → p ≡ get_or ps i p
@@ -37,7 +37,7 @@ put_rank-requires-clause-notes c =
     omega (arith, within_all (λ (p : Plan). length p.notes) plans c.loop-plan.plan-index c.plan-item.result _ c.loop-plan-test.true c.plan-item.is all)
 
 pub returns : goal.returns
-unfolding file
+unfolding written
 returns c =
     let plans = take_all c.loop-plan.plan-index c.plans-plans.result.now c.loop-plan-test.false ∙ c.plans-plans.ensures.plans in
-    record { file = c.loop-plan.invariant ∙ ap (λ (ps : List Plan). header c.args.sched.now ++ flat_map spelled_rank ps) plans }
+    record { file = c.loop-plan.invariant ∙ ap (λ (ps : List Plan). header c.args.layout c.args.sched.now ++ flat_map (spelled_rank c.args.layout) ps) plans }

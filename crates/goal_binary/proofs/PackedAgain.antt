@@ -1,0 +1,215 @@
+-- An operation, a dependency or a note that is spelled so in version 2 is read.
+use Rattle.std.proofs.Common.{Ok, ◌≡◌, ℕ, zero, suc, ◌+◌, ◌*◌, ◌/◌, ◌%◌, ◌^◌, ◌<◌, ◌≤◌, Bool, true, false, cond, not, ltb, leb, eqb, ◌||◌, List, [], ◌∷◌, ◌++◌, drop, Option, Some, None, refl, sym, ap, subst, ◌∙◌, append_assoc, arith}
+use Rattle.std.proofs.lemmas.Bool.{le-leb, lt-ltb, ltb-false}
+use Rattle.std.proofs.lemmas.Bool.Decides.{nat_tests}
+use Rattle.goal_graph.specs.declared.plan.Op.{Op}
+use Rattle.goal_graph.specs.declared.plan.Kind.{Kind}
+use Rattle.goal_graph.specs.declared.plan.Kind.TheVariants.{Calc, Send, Recv}
+use Rattle.goal_graph.specs.declared.plan.Dep.{Dep}
+use Rattle.goal_graph.specs.declared.plan.When.{When}
+use Rattle.goal_graph.specs.declared.plan.Note.{Note}
+use Rattle.goal_graph.specs.declared.plan.Note.TheVariants.{Moves, Adds}
+use Rattle.goal_graph.specs.Widths.{IsNoteInWidth}
+use Rattle.goal_binary.specs.declared.form.Form.{Form}
+use Rattle.goal_binary.specs.declared.form.Head.{Head}
+use Rattle.goal_binary.specs.Fitting.{OpFits, DepFits}
+use Rattle.goal_binary.specs.File.{packed, kind_code, flags_of, peer_in, tag_in, size_of, peer_of, tag_of, when_code, byte_unless_zero, flag_unless_zero, packed_if_some, head_code, packed_op, packed_dep, packed_note}
+use Rattle.goal_binary.specs.Fields.{Read, ◌>>=◌, allow, byte_at, byte_up_to, packed_up_to, some_byte_at}
+use Rattle.goal_binary.specs.Reading.{most_flags, form_of, has_peer, has_tag, most_size, kind_of, when_of, note_of, is_head, head_of, head_byte_at, head_at, some_byte_if, packed_u32_at, packed_u32_if, packed_op_at, packed_dep_at, packed_note_at}
+use Rattle.goal_binary.proofs.FieldsAgain.{IsReadAs, byte_again, byte_up_to_again}
+use Rattle.goal_binary.proofs.NumbersAgain.{packed_up_to_again}
+use Rattle.goal_binary.proofs.FixedAgain.{AreFitting, kind_again, kind_fits, when_again, when_code-le}
+use Rattle.goal_binary.proofs.PackedItems.{is_some, flag, joined, IsHead, HasParts, parts_of, head_passes, packed_if, flag_is, byte_is}
+
+-- the form of an operation, and what its head tells
+abbrev form_in : Kind → Form
+form_in k = form_of (kind_code k) (flags_of k)
+
+abbrev told : Op → Head
+told o = record { form = form_in o.kind; has_cpu = is_some o.cpu; has_nic = is_some o.nic }
+
+abbrev joined_in : Op → ℕ
+joined_in o = joined (kind_code o.kind) (flags_of o.kind) (is_some o.cpu) (is_some o.nic)
+
+code_is : (o : Op) → head_code o ≡ joined_in o
+code_is o = rw (flag_is 16 o.cpu, flag_is 32 o.nic) refl
+
+-- the peer and the tag, as they are spelled and as the form says
+pub peer_is : (k : Kind) → packed_if_some (peer_in k) ≡ packed_if (has_peer (form_in k)) (peer_of k)
+peer_is (Calc nanos) = refl
+peer_is (Send bytes to tag) = refl
+peer_is (Recv bytes None None) = refl
+peer_is (Recv bytes None (Some tag)) = refl
+peer_is (Recv bytes (Some from) None) = refl
+peer_is (Recv bytes (Some from) (Some tag)) = refl
+
+pub tag_is : (k : Kind) → packed_if_some (tag_in k) ≡ packed_if (has_tag (form_in k)) (tag_of k)
+tag_is (Calc nanos) = refl
+tag_is (Send bytes to tag) = refl
+tag_is (Recv bytes None None) = refl
+tag_is (Recv bytes None (Some tag)) = refl
+tag_is (Recv bytes (Some from) None) = refl
+tag_is (Recv bytes (Some from) (Some tag)) = refl
+
+no_peer : (k : Kind) → has_peer (form_in k) ≡ false → peer_of k ≡ 0
+no_peer (Calc nanos) e = refl
+no_peer (Send bytes to tag) e = absurd cc
+no_peer (Recv bytes None tag) e = refl
+no_peer (Recv bytes (Some from) None) e = absurd cc
+no_peer (Recv bytes (Some from) (Some tag)) e = absurd cc
+
+no_tag : (k : Kind) → has_tag (form_in k) ≡ false → tag_of k ≡ 0
+no_tag (Calc nanos) e = refl
+no_tag (Send bytes to tag) e = absurd cc
+no_tag (Recv bytes from None) e = refl
+no_tag (Recv bytes None (Some tag)) e = absurd cc
+no_tag (Recv bytes (Some from) (Some tag)) e = absurd cc
+
+flags-lt : (k : Kind) → flags_of k < 4
+flags-lt (Calc nanos) = omega arith
+flags-lt (Send bytes to tag) = omega arith
+flags-lt (Recv bytes None None) = omega arith
+flags-lt (Recv bytes None (Some tag)) = omega arith
+flags-lt (Recv bytes (Some from) None) = omega arith
+flags-lt (Recv bytes (Some from) (Some tag)) = omega arith
+
+-- the head of an operation that fits
+no_nic : (kind : ℕ) (nic : ℕ) → (kind ≡ 0 → nic ≡ 0) → (head : ℕ) → leb 32 head ≡ is_some nic → head % 4 ≡ kind → (ltb head 32 || ltb 0 (head % 4)) ≡ true
+no_nic zero nic none head is kind = go (none refl)
+  where
+    is_small : (m n : ℕ) → leb m n ≡ false → ltb n m ≡ true
+    is_small m n h = grind (arith, nat_tests)
+
+    go : nic ≡ 0 → (ltb head 32 || ltb 0 (head % 4)) ≡ true
+    go same = let low : leb 32 head ≡ false = is ∙ ap is_some same in rw (is_small 32 head low) refl
+no_nic (suc k) nic none head is kind = go (ltb head 32)
+  where
+    go : (b : Bool) → (b || ltb 0 (head % 4)) ≡ true
+    go true = refl
+    go false = lt-ltb 0 (head % 4) (omega (arith, kind))
+
+calc_no_nic : (k : Kind) (nic peer tag size : ℕ) → AreFitting (kind_code k) (flags_of k) nic peer tag size → kind_code k ≡ 0 → nic ≡ 0
+calc_no_nic (Calc nanos) nic peer tag size fits e = omega (arith, fits.fields.nic_fits)
+calc_no_nic (Send bytes to tag) nic peer tag' size fits e = absurd (omega (arith, e))
+calc_no_nic (Recv bytes from tag) nic peer tag' size fits e = absurd (omega (arith, e))
+
+pub regroup : (a b c d e f rest : List ℕ) → (a ++ b ++ c ++ d ++ e ++ f) ++ rest ≡ a ++ (b ++ (c ++ (d ++ (e ++ (f ++ rest)))))
+regroup a b c d e f rest = simp append_assoc
+
+regroup_4 : (a b c d rest : List ℕ) → (a ++ b ++ c ++ d) ++ rest ≡ a ++ (b ++ (c ++ (d ++ rest)))
+regroup_4 a b c d rest = simp append_assoc
+
+module _ (bytes : List ℕ) where
+  some_byte_again : (at n : ℕ) (rest : List ℕ) → drop at bytes ≡ byte_unless_zero n ++ rest → IsReadAs bytes (some_byte_if bytes (is_some n) at) n rest
+  unfolding some_byte_if some_byte_at
+  some_byte_again at n rest h = go (is_some n) refl (h ∙ ap (λ (t : List ℕ). t ++ rest) (byte_is n))
+    where
+      go : (b : Bool) → is_some n ≡ b → drop at bytes ≡ cond b (n ∷ []) [] ++ rest → IsReadAs bytes (some_byte_if bytes b at) n rest
+      go true is h =
+          let r = byte_again bytes at n rest h in
+          record { place = r.place; is = rw (r.is, is) refl; rest_is = r.rest_is }
+      go false is h =
+          let none : 0 ≡ n = omega (arith, ltb-false 0 n is) in
+          record { place = at; is = ap (λ (k : ℕ). Ok (k, at)) none; rest_is = h }
+
+  packed_u32_again : (at n : ℕ) (rest : List ℕ) → n < 2 ^ 32 → drop at bytes ≡ packed n ++ rest → IsReadAs bytes (packed_u32_at bytes at) n rest
+  unfolding packed_u32_at
+  packed_u32_again at n rest lt h = packed_up_to_again bytes 4294967295 at n rest (omega arith) (omega arith) h
+
+  packed_u32_if_again : (there : Bool) (at n : ℕ) (rest : List ℕ) → n < 2 ^ 32 → (there ≡ false → n ≡ 0) → drop at bytes ≡ packed_if there n ++ rest → IsReadAs bytes (packed_u32_if bytes there at) n rest
+  unfolding packed_u32_if
+  packed_u32_if_again true at n rest lt none h = packed_u32_again at n rest lt h
+  packed_u32_if_again false at n rest lt none h = record { place = at; is = ap (λ (k : ℕ). Ok (k, at)) (sym (none refl)); rest_is = h }
+
+  head_again : (at head : ℕ) (rest : List ℕ) → IsHead head → drop at bytes ≡ head ∷ rest → IsReadAs bytes (head_at bytes at) (head_of head) rest
+  unfolding head_at head_byte_at
+  head_again at head rest good h =
+      let b = byte_again bytes at head rest h in
+      record { place = b.place; is = rw (b.is, head_passes head good) refl; rest_is = b.rest_is }
+
+  op_steps : (at : ℕ) (head : Head × ℕ) (cpu nic peer tag size : ℕ × ℕ) → head_at bytes at ≡ Ok head → some_byte_if bytes head.0.has_cpu head.1 ≡ Ok cpu → some_byte_if bytes head.0.has_nic cpu.1 ≡ Ok nic
+      → packed_u32_if bytes (has_peer head.0.form) nic.1 ≡ Ok peer → packed_u32_if bytes (has_tag head.0.form) peer.1 ≡ Ok tag → packed_up_to bytes (most_size head.0.form) tag.1 ≡ Ok size
+      → packed_op_at bytes at ≡ Ok (record { kind = kind_of head.0.form peer.0 tag.0 size.0; cpu = cpu.0; nic = nic.0 }, size.1)
+  unfolding packed_op_at
+  op_steps at head cpu nic peer tag size a b c d e f = rw (a, b, c, d, e, f) refl
+
+  -- the head and what it tells
+  op_head : (o : Op) (at : ℕ) (rest : List ℕ) → OpFits o → drop at bytes ≡ head_code o ∷ rest → IsReadAs bytes (head_at bytes at) (told o) rest
+  op_head o at rest fits h =
+      let k = o.kind in
+      let all = kind_fits k o.nic fits.width.kind fits.width.nic fits.value in
+      let few : kind_code k < 4 = omega (arith, all.fields.kind_fits) in
+      let p = parts_of (kind_code k) (flags_of k) (is_some o.cpu) (is_some o.nic) few (flags-lt k) in
+      let good : IsHead (joined_in o) = record {
+        small = p.small;
+        kind_fits = rw p.kind_is all.fields.kind_fits;
+        flags_fit = rw (p.kind_is, p.flags_are) all.fields.flags_fit;
+        nic_fits = no_nic (kind_code k) o.nic (calc_no_nic k o.nic (peer_of k) (tag_of k) (size_of k) all) (joined_in o) p.nic_is p.kind_is;
+      } in
+      let same : head_of (joined_in o) ≡ told o = rw (p.kind_is, p.flags_are, p.cpu_is, p.nic_is) refl in
+      subst (λ (t : Head). IsReadAs bytes (head_at bytes at) t rest) same (head_again at (joined_in o) rest good (h ∙ ap (λ (n : ℕ). n ∷ rest) (code_is o)))
+
+  pub packed_op_again : (o : Op) (at : ℕ) (rest : List ℕ) → OpFits o → drop at bytes ≡ packed_op o ++ rest → IsReadAs bytes (packed_op_at bytes at) o rest
+  unfolding packed_op
+  packed_op_again o at rest fits h =
+      let k = o.kind in
+      let f = form_in k in
+      let all = kind_fits k o.nic fits.width.kind fits.width.nic fits.value in
+      let cpu = byte_unless_zero o.cpu in
+      let nic = byte_unless_zero o.nic in
+      let peer = packed_if_some (peer_in k) in
+      let tag = packed_if_some (tag_in k) in
+      let size = packed (size_of k) in
+      let a = op_head o at (cpu ++ (nic ++ (peer ++ (tag ++ (size ++ rest))))) fits (h ∙ regroup (head_code o ∷ []) cpu nic peer tag size rest) in
+      let b = some_byte_again a.place o.cpu (nic ++ (peer ++ (tag ++ (size ++ rest)))) a.rest_is in
+      let c = some_byte_again b.place o.nic (peer ++ (tag ++ (size ++ rest))) b.rest_is in
+      let d = packed_u32_if_again (has_peer f) c.place (peer_of k) (tag ++ (size ++ rest)) all.peer_width (no_peer k) (c.rest_is ∙ ap (λ (t : List ℕ). t ++ (tag ++ (size ++ rest))) (peer_is k)) in
+      let g = packed_u32_if_again (has_tag f) d.place (tag_of k) (size ++ rest) all.tag_width (no_tag k) (d.rest_is ∙ ap (λ (t : List ℕ). t ++ (size ++ rest)) (tag_is k)) in
+      let s = packed_up_to_again bytes (most_size f) g.place (size_of k) rest all.size_width all.size_fits g.rest_is in
+      record {
+        place = s.place;
+        is = op_steps at (told o, a.place) (o.cpu, b.place) (o.nic, c.place) (peer_of k, d.place) (tag_of k, g.place) (size_of k, s.place) a.is b.is c.is d.is g.is s.is
+            ∙ ap (λ (kind : Kind). Ok (record { kind = kind; cpu = o.cpu; nic = o.nic }, s.place)) (kind_again k);
+        rest_is = s.rest_is;
+      }
+
+  dep_steps : (at : ℕ) (later earlier : ℕ × ℕ) → packed_u32_at bytes at ≡ Ok later → packed_up_to bytes 8589934591 later.1 ≡ Ok earlier
+      → packed_dep_at bytes at ≡ Ok (record { later = later.0; earlier = earlier.0 / 2; when = when_of (earlier.0 % 2) }, earlier.1)
+  unfolding packed_dep_at
+  dep_steps at later earlier a b = rw (a, b) refl
+
+  pub packed_dep_again : (d : Dep) (at : ℕ) (rest : List ℕ) → DepFits d → drop at bytes ≡ packed_dep d ++ rest → IsReadAs bytes (packed_dep_at bytes at) d rest
+  unfolding packed_dep
+  packed_dep_again d at rest fits h =
+      let w = when_code-le d.when in
+      let number = 2 * d.earlier + when_code d.when in
+      let a = packed_u32_again at d.later (packed number ++ rest) fits.later (h ∙ append_assoc (packed d.later) (packed number) rest) in
+      let b = packed_up_to_again bytes 8589934591 a.place number rest (omega (arith, w, fits.earlier)) (omega (arith, w, fits.earlier)) a.rest_is in
+      let half : number / 2 ≡ d.earlier = omega (arith, w) in
+      let odd : number % 2 ≡ when_code d.when = omega (arith, w) in
+      let when : when_of (number % 2) ≡ d.when = ap when_of odd ∙ when_again d.when in
+      record {
+        place = b.place;
+        is = dep_steps at (d.later, a.place) (number, b.place) a.is b.is ∙ rw (half, when) refl;
+        rest_is = b.rest_is;
+      }
+
+  note_steps : (at : ℕ) (kind op first second : ℕ × ℕ) → byte_up_to bytes 1 at ≡ Ok kind → packed_u32_at bytes kind.1 ≡ Ok op → packed_u32_at bytes op.1 ≡ Ok first → packed_u32_at bytes first.1 ≡ Ok second
+      → packed_note_at bytes at ≡ Ok (note_of kind.0 op.0 first.0 second.0, second.1)
+  unfolding packed_note_at
+  note_steps at kind op first second a b c d = rw (a, b, c, d) refl
+
+  pub packed_note_again : (n : Note) (at : ℕ) (rest : List ℕ) → IsNoteInWidth n → drop at bytes ≡ packed_note n ++ rest → IsReadAs bytes (packed_note_at bytes at) n rest
+  unfolding packed_note
+  packed_note_again (Moves op lo hi) at rest fits h =
+      let k = byte_up_to_again bytes 1 at 0 (packed op ++ (packed lo ++ (packed hi ++ rest))) (omega arith) (h ∙ regroup_4 (0 ∷ []) (packed op) (packed lo) (packed hi) rest) in
+      let a = packed_u32_again k.place op (packed lo ++ (packed hi ++ rest)) fits.0 k.rest_is in
+      let b = packed_u32_again a.place lo (packed hi ++ rest) fits.1 a.rest_is in
+      let c = packed_u32_again b.place hi rest fits.2 b.rest_is in
+      record { place = c.place; is = note_steps at (0, k.place) (op, a.place) (lo, b.place) (hi, c.place) k.is a.is b.is c.is; rest_is = c.rest_is }
+  packed_note_again (Adds op from to) at rest fits h =
+      let k = byte_up_to_again bytes 1 at 1 (packed op ++ (packed from ++ (packed to ++ rest))) (omega arith) (h ∙ regroup_4 (1 ∷ []) (packed op) (packed from) (packed to) rest) in
+      let a = packed_u32_again k.place op (packed from ++ (packed to ++ rest)) fits.0 k.rest_is in
+      let b = packed_u32_again a.place from (packed to ++ rest) fits.1 a.rest_is in
+      let c = packed_u32_again b.place to rest fits.2 b.rest_is in
+      record { place = c.place; is = note_steps at (1, k.place) (op, a.place) (from, b.place) (to, c.place) k.is a.is b.is c.is; rest_is = c.rest_is }
