@@ -23,7 +23,7 @@ use Rattle.goal_binary.proofs.RanksAgain.{meaning_fits}
 use Rattle.goal_binary.proofs.Readers.{Completed, Halts, Stop, take-shorter, take-front, IsBytes-append}
 use Rattle.goal_binary.proofs.RanksRead.{body, body_reads}
 use Rattle.goal_binary.proofs.Limits.{body_gives}
-use Rattle.goal_binary.proofs.Opening.{front_bytes, plans_is, IsOpened, Opened, IsClosed, opened_is, open_or_closed}
+use Rattle.goal_binary.proofs.Opening.{front_bytes, plans_is, IsOpened, IsClosed, opened_is, open_or_closed}
 
 -- what plans mean that end at a place
 abbrev ended : ℕ → List Plan × ℕ → Result (List Plan) FileFault

@@ -1,5 +1,5 @@
 -- An operation, a dependency or a note that is spelled so in version 1 is read.
-use Rattle.std.proofs.Common.{Ok, ◌≡◌, ℕ, ◌^◌, ◌<◌, ◌≤◌, leb, eqb, true, List, [], ◌∷◌, ◌++◌, length, drop, Some, None, refl, ap, subst, ◌∙◌, append_assoc, arith}
+use Rattle.std.proofs.Common.{Ok, ◌≡◌, ℕ, ◌^◌, ◌<◌, ◌≤◌, leb, eqb, true, List, ◌∷◌, ◌++◌, drop, Some, None, refl, ap, subst, ◌∙◌, arith}
 use Rattle.std.proofs.lemmas.Bool.Decides.{nat_tests}
 use Rattle.goal_base.specs.declared.limits.TheConstants.{MAX_BYTES, MAX_NANOS}
 use Rattle.goal_graph.specs.declared.plan.Op.{Op}
@@ -16,7 +16,7 @@ use Rattle.goal_graph.proofs.ForCallers.{and_left, and_right}
 use Rattle.goal_binary.specs.declared.form.Form.{Form}
 use Rattle.goal_binary.specs.Fitting.{OpFits, DepFits}
 use Rattle.goal_binary.specs.File.{spelled_u32, spelled_u64, kind_code, flags_of, peer_of, tag_of, size_of, op_bytes, fixed_op, fixed_dep, fixed_note, when_code}
-use Rattle.goal_binary.specs.Fields.{Read, byte_at, u32_at, byte_up_to, u32_up_to, u64_up_to}
+use Rattle.goal_binary.specs.Fields.{byte_at, u32_at, byte_up_to, u32_up_to, u64_up_to}
 use Rattle.goal_binary.specs.Reading.{most_flags, form_of, most_nic, most_peer, most_tag, most_size, kind_of, when_of, note_of, form_at, fixed_op_at, fixed_dep_at, fixed_note_at}
 use Rattle.goal_binary.proofs.FieldsTaken.{leb-le}
 use Rattle.goal_binary.proofs.FixedTaken.{AreFields, made_op}

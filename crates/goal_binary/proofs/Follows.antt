@@ -1,5 +1,5 @@
 -- Bytes that follow do not matter for what is read before them.
-use Rattle.std.proofs.Common.{◌≡◌, ◌⊎◌, ℕ, zero, suc, ◌+◌, ◌-◌, ◌<◌, ◌≤◌, Bool, true, false, cond, ltb, List, ◌++◌, length, take, drop, Option, Some, None, Result, Ok, Err, refl, sym, ap, subst, ◌∙◌, arith, inl, inr}
+use Rattle.std.proofs.Common.{◌≡◌, ◌⊎◌, ℕ, ◌+◌, ◌≤◌, Bool, true, false, cond, ltb, List, ◌++◌, length, take, Option, Some, None, Result, Ok, Err, refl, sym, ap, subst, ◌∙◌, arith, inl, inr}
 use Rattle.std.specs.Str.{bytes_eq}
 use Rattle.std.proofs.lemmas.Bool.{cases_lt, lt-ltb, le-ltb}
 use Rattle.std.proofs.lemmas.List.{take-append-le, length-append}
@@ -7,7 +7,6 @@ use Rattle.goal_binary.specs.declared.fault.FileFault.{FileFault}
 use Rattle.goal_binary.specs.declared.fault.FileFault.TheVariants.{Short, Magic, Version, Field, Extra, Plan, NoMemory}
 use Rattle.goal_binary.specs.declared.layout.TheConstants.{MAGIC}
 use Rattle.goal_binary.specs.declared.layout.Layout.{Layout}
-use Rattle.goal_binary.specs.declared.layout.Layout.TheVariants.{Fixed, Packed}
 use Rattle.goal_binary.specs.Layouts.{layout_of}
 use Rattle.goal_binary.specs.Fields.{Read, ◌>>=◌, named, u32_at, magic_at, layout_at, opening_at}
 use Rattle.goal_binary.specs.Meaning.{plans_at}

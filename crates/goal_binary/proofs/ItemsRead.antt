@@ -1,14 +1,13 @@
 -- Operations, dependencies and notes are read by readers, in both layouts.
-use Rattle.std.proofs.Common.{◌≡◌, ℕ, ◌+◌, ◌/◌, ◌%◌, ◌≤◌, Bool, true, false, List, refl}
+use Rattle.std.proofs.Common.{ℕ, ◌/◌, ◌%◌, ◌≤◌, Bool, true, false, refl}
 use Rattle.goal_graph.specs.declared.plan.Op.{Op}
 use Rattle.goal_graph.specs.declared.plan.Dep.{Dep}
-use Rattle.goal_graph.specs.declared.plan.Note.{Note}
 use Rattle.goal_binary.specs.declared.form.Form.{Form}
 use Rattle.goal_binary.specs.declared.layout.Layout.{Layout}
 use Rattle.goal_binary.specs.declared.layout.Layout.TheVariants.{Fixed, Packed}
 use Rattle.goal_binary.specs.Fields.{byte_up_to, some_byte_at}
 use Rattle.goal_binary.specs.Reading.{most_flags, form_of, most_nic, most_peer, most_tag, most_size, has_peer, has_tag, kind_of, when_of, note_of, is_head, head_of, form_at, fixed_op_at, fixed_dep_at, fixed_note_at, head_byte_at, head_at, some_byte_if, packed_u32_at, packed_u32_if, packed_op_at, packed_dep_at, packed_note_at, op_at, dep_at, note_at}
-use Rattle.goal_binary.proofs.Readers.{Reader, Reads, then, give, then_reads, give_reads, reads_as, reads_weaker}
+use Rattle.goal_binary.proofs.Readers.{Reads, then, give, then_reads, give_reads, reads_as, reads_weaker}
 use Rattle.goal_binary.proofs.FieldsRead.{byte_reads, u32_reads, byte_up_to_reads, u32_up_to_reads, u64_up_to_reads, some_byte_reads, byte_tested_reads}
 use Rattle.goal_binary.proofs.NumbersRead.{packed_up_to_reads}
 

@@ -15,7 +15,7 @@ use Rattle.goal_binary.specs.declared.form.Head.{Head}
 use Rattle.goal_binary.specs.declared.layout.Layout.{Layout}
 use Rattle.goal_binary.specs.declared.layout.Layout.TheVariants.{Fixed, Packed}
 use Rattle.goal_binary.specs.Fitting.{OpFits, DepFits, PlanFits}
-use Rattle.goal_binary.specs.Fields.{Read, ◌>>=◌, allow, byte_at, u32_at, byte_up_to, u32_up_to, u64_up_to, packed_at, packed_up_to, some_byte_at, count_at, rank_count_at}
+use Rattle.goal_binary.specs.Fields.{Read, ◌>>=◌, allow, byte_at, u32_at, byte_up_to, u32_up_to, u64_up_to, packed_up_to, some_byte_at, count_at, rank_count_at}
 use Rattle.goal_binary.specs.Reading.{form_of, most_nic, most_peer, most_tag, most_size, has_peer, has_tag, note_of, is_head, head_of, list_at, form_at, fixed_op_at, fixed_dep_at, fixed_note_at, head_byte_at, head_at, some_byte_if, packed_u32_at, packed_u32_if, packed_op_at, packed_dep_at, packed_note_at, op_at, dep_at, note_at, rank_at, ranks_at}
 use Rattle.goal_binary.proofs.Steps.{IsBytes, bind_ok, ok_is}
 use Rattle.goal_binary.proofs.FieldsTaken.{IsBytes-drop, IsBytes-take, leb-le}

@@ -1,5 +1,5 @@
 -- A file whose plans are no schedule keeps the limits of counts and values.
-use Rattle.std.proofs.Common.{◌≡◌, ◌≢◌, ℕ, List, Result, Ok, Err, refl, sym, subst}
+use Rattle.std.proofs.Common.{◌≡◌, ◌≢◌, ℕ, List, Result, Ok, Err, refl, subst}
 use Rattle.std.specs.Prelude.{IfErr}
 use Rattle.goal_graph.specs.Schedule.{Plan}
 use Rattle.goal_graph.specs.Limits.{AreWithinLimits}

@@ -1,5 +1,5 @@
 -- A number, the magic and the version that are spelled so are read.
-use Rattle.std.proofs.Common.{◌≡◌, ℕ, ◌+◌, ◌^◌, ◌<◌, ◌≤◌, true, ltb, leb, ◌&&◌, List, ◌++◌, drop, Some, Option, Ok, refl, ap, ◌∙◌, arith}
+use Rattle.std.proofs.Common.{◌≡◌, ℕ, ◌+◌, ◌^◌, ◌<◌, ◌≤◌, List, ◌++◌, drop, Some, Option, refl, ap, arith}
 use Rattle.std.proofs.lemmas.Bool.{le-leb}
 use Rattle.goal_base.specs.declared.limits.TheConstants.{MAX_RANKS}
 use Rattle.goal_binary.specs.declared.layout.TheConstants.{MAGIC}
@@ -7,7 +7,7 @@ use Rattle.goal_binary.specs.declared.layout.Layout.{Layout}
 use Rattle.goal_binary.specs.declared.layout.Layout.TheVariants.{Fixed, Packed}
 use Rattle.goal_binary.specs.Layouts.{version_of, layout_of}
 use Rattle.goal_binary.specs.File.{packed, spelled_u32, spelled_count}
-use Rattle.goal_binary.specs.Fields.{Read, ◌>>=◌, named, packed_up_to, number_at, count_at, magic_at, layout_at, opening_at, rank_count_at}
+use Rattle.goal_binary.specs.Fields.{named, packed_up_to, number_at, count_at, layout_at, opening_at, rank_count_at}
 use Rattle.goal_binary.proofs.FieldsAgain.{IsReadAs, lt-ltb-true, u32_again, magic_again}
 use Rattle.goal_binary.proofs.Packed.{packed_again}
 

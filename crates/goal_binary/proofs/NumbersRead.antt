@@ -1,7 +1,7 @@
 -- Each number is read by a reader, in both layouts.
-use Rattle.std.proofs.Common.{◌≡◌, ◌⊎◌, ℕ, ◌+◌, ◌-◌, ◌<◌, ◌≤◌, Bool, true, false, ltb, leb, ◌&&◌, List, [], ◌∷◌, ◌++◌, length, take, drop, Option, Some, None, Ok, Err, refl, sym, ap, subst, ◌∙◌, arith, inl, inr}
+use Rattle.std.proofs.Common.{◌≡◌, ◌⊎◌, ℕ, ◌+◌, ◌-◌, ◌<◌, ◌≤◌, Bool, true, false, ltb, leb, ◌&&◌, List, [], ◌∷◌, ◌++◌, length, take, Option, Some, None, Ok, Err, refl, sym, ap, subst, ◌∙◌, arith, inl, inr}
 use Rattle.std.proofs.lemmas.Bool.{le-leb}
-use Rattle.std.proofs.lemmas.List.{append-nil, drop_at, length-drop, length-take}
+use Rattle.std.proofs.lemmas.List.{drop_at, length-drop, length-take}
 use Rattle.goal_base.specs.declared.limits.TheConstants.{MAX_RANKS}
 use Rattle.goal_graph.proofs.ForCallers.{and_left, and_right}
 use Rattle.goal_binary.specs.declared.fault.FileFault.{FileFault}
@@ -9,10 +9,10 @@ use Rattle.goal_binary.specs.declared.fault.FileFault.TheVariants.{Short, Field}
 use Rattle.goal_binary.specs.declared.layout.Layout.{Layout}
 use Rattle.goal_binary.specs.declared.layout.Layout.TheVariants.{Fixed, Packed}
 use Rattle.goal_binary.specs.Fields.{Read, ◌>>=◌, allow, given, groups_at, u32_at, packed_at, packed_up_to, number_at, count_at, rank_count_at}
-use Rattle.goal_binary.proofs.Steps.{IsBytes, bind_ok, allow_ok, ok_is}
+use Rattle.goal_binary.proofs.Steps.{IsBytes, bind_ok, allow_ok}
 use Rattle.goal_binary.proofs.FieldsTaken.{leb-le}
 use Rattle.goal_binary.proofs.Readers.{Reader, Completed, Halts, Stop, Reads, reads_as}
-use Rattle.goal_binary.proofs.FieldsRead.{pair, any, short_is, error_is, u32_tested_reads}
+use Rattle.goal_binary.proofs.FieldsRead.{pair, short_is, error_is, u32_tested_reads}
 use Rattle.goal_binary.proofs.Packed.{read_of, field_ends, groups_again-low, groups_cut, groups_same, packed_ok}
 
 -- a packed number that passes a test

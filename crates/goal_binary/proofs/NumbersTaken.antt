@@ -1,12 +1,12 @@
 -- A number, the magic and the version that are read are spelled so.
-use Rattle.std.proofs.Common.{◌≡◌, ℕ, zero, suc, ◌+◌, ◌≤◌, leb, ltb, ◌&&◌, List, ◌++◌, Option, Some, None, Ok, Err, refl, sym, ap, subst, ◌∙◌}
+use Rattle.std.proofs.Common.{◌≡◌, ℕ, zero, suc, ◌+◌, ◌≤◌, leb, ltb, ◌&&◌, List, ◌++◌, Option, Some, None, Ok, refl, sym, ap, subst, ◌∙◌}
 use Rattle.goal_base.specs.declared.limits.TheConstants.{MAX_RANKS}
 use Rattle.goal_binary.specs.declared.layout.TheConstants.{MAGIC}
 use Rattle.goal_binary.specs.declared.layout.Layout.{Layout}
 use Rattle.goal_binary.specs.declared.layout.Layout.TheVariants.{Fixed, Packed}
 use Rattle.goal_binary.specs.Layouts.{version_of, layout_of}
 use Rattle.goal_binary.specs.File.{spelled_u32, spelled_count}
-use Rattle.goal_binary.specs.Fields.{Read, ◌>>=◌, allow, named, u32_at, packed_at, packed_up_to, number_at, count_at, magic_at, layout_at, opening_at, rank_count_at}
+use Rattle.goal_binary.specs.Fields.{allow, named, u32_at, packed_at, packed_up_to, number_at, count_at, magic_at, layout_at, opening_at, rank_count_at}
 use Rattle.goal_binary.proofs.Steps.{IsBytes, bind_ok, allow_ok, ok_is, Takes, Takes-then}
 use Rattle.goal_binary.proofs.FieldsTaken.{u32_taken, magic_taken, up_to_ok}
 use Rattle.goal_binary.proofs.Packed.{packed_taken}

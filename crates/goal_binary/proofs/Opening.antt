@@ -1,12 +1,11 @@
 -- The magic and the version, with which each file begins.
-use Rattle.std.proofs.Common.{◌≡◌, ◌⊎◌, ℕ, ◌-◌, ◌<◌, ◌≤◌, Bool, true, false, ltb, List, [], ◌++◌, length, take, drop, Option, Some, None, Result, Ok, Err, refl, sym, ap, ◌∙◌, arith, inl, inr}
+use Rattle.std.proofs.Common.{◌≡◌, ◌⊎◌, ℕ, ◌-◌, ◌<◌, ◌≤◌, Bool, true, false, ltb, List, ◌++◌, length, take, drop, Option, Some, None, Result, Ok, Err, refl, sym, ap, ◌∙◌, arith, inl, inr}
 use Rattle.std.specs.Str.{bytes_eq}
 use Rattle.std.specs.Bool.{Decides}
 use Rattle.std.proofs.lemmas.Bool.{cases_lt, lt-ltb, le-ltb}
 use Rattle.std.proofs.lemmas.List.{take-take, take-append-drop, drop-take, length-take, length-drop}
 use Rattle.std.proofs.lemmas.Nat.{le_bytes_4}
 use Rattle.std.proofs.lemmas.Slice.Eq.{bytes_eq-Decides}
-use Rattle.goal_graph.specs.Schedule.{Plan}
 use Rattle.goal_binary.specs.declared.fault.FileFault.{FileFault}
 use Rattle.goal_binary.specs.declared.fault.FileFault.TheVariants.{Short, Magic, Version}
 use Rattle.goal_binary.specs.declared.layout.TheConstants.{MAGIC}
@@ -14,7 +13,7 @@ use Rattle.goal_binary.specs.declared.layout.Layout.{Layout}
 use Rattle.goal_binary.specs.declared.layout.Layout.TheVariants.{Fixed, Packed}
 use Rattle.goal_binary.specs.Layouts.{version_of, layout_of}
 use Rattle.goal_binary.specs.File.{spelled_u32}
-use Rattle.goal_binary.specs.Fields.{Read, ◌>>=◌, named, u32_at, magic_at, layout_at, opening_at}
+use Rattle.goal_binary.specs.Fields.{◌>>=◌, named, u32_at, magic_at, layout_at, opening_at}
 use Rattle.goal_binary.specs.Meaning.{plans_at}
 use Rattle.goal_binary.specs.Laws.{IsOtherMagic, IsOtherVersion}
 use Rattle.goal_binary.proofs.Steps.{IsBytes}

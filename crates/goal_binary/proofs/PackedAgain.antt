@@ -1,25 +1,24 @@
 -- An operation, a dependency or a note that is spelled so in version 2 is read.
-use Rattle.std.proofs.Common.{Ok, ◌≡◌, ℕ, zero, suc, ◌+◌, ◌*◌, ◌/◌, ◌%◌, ◌^◌, ◌<◌, ◌≤◌, Bool, true, false, cond, not, ltb, leb, eqb, ◌||◌, List, [], ◌∷◌, ◌++◌, drop, Option, Some, None, refl, sym, ap, subst, ◌∙◌, append_assoc, arith}
-use Rattle.std.proofs.lemmas.Bool.{le-leb, lt-ltb, ltb-false}
+use Rattle.std.proofs.Common.{Ok, ◌≡◌, ℕ, zero, suc, ◌+◌, ◌*◌, ◌/◌, ◌%◌, ◌^◌, ◌<◌, Bool, true, false, cond, ltb, leb, ◌||◌, List, [], ◌∷◌, ◌++◌, drop, Some, None, refl, sym, ap, subst, ◌∙◌, append_assoc, arith}
+use Rattle.std.proofs.lemmas.Bool.{lt-ltb, ltb-false}
 use Rattle.std.proofs.lemmas.Bool.Decides.{nat_tests}
 use Rattle.goal_graph.specs.declared.plan.Op.{Op}
 use Rattle.goal_graph.specs.declared.plan.Kind.{Kind}
 use Rattle.goal_graph.specs.declared.plan.Kind.TheVariants.{Calc, Send, Recv}
 use Rattle.goal_graph.specs.declared.plan.Dep.{Dep}
-use Rattle.goal_graph.specs.declared.plan.When.{When}
 use Rattle.goal_graph.specs.declared.plan.Note.{Note}
 use Rattle.goal_graph.specs.declared.plan.Note.TheVariants.{Moves, Adds}
 use Rattle.goal_graph.specs.Widths.{IsNoteInWidth}
 use Rattle.goal_binary.specs.declared.form.Form.{Form}
 use Rattle.goal_binary.specs.declared.form.Head.{Head}
 use Rattle.goal_binary.specs.Fitting.{OpFits, DepFits}
-use Rattle.goal_binary.specs.File.{packed, kind_code, flags_of, peer_in, tag_in, size_of, peer_of, tag_of, when_code, byte_unless_zero, flag_unless_zero, packed_if_some, head_code, packed_op, packed_dep, packed_note}
-use Rattle.goal_binary.specs.Fields.{Read, ◌>>=◌, allow, byte_at, byte_up_to, packed_up_to, some_byte_at}
-use Rattle.goal_binary.specs.Reading.{most_flags, form_of, has_peer, has_tag, most_size, kind_of, when_of, note_of, is_head, head_of, head_byte_at, head_at, some_byte_if, packed_u32_at, packed_u32_if, packed_op_at, packed_dep_at, packed_note_at}
+use Rattle.goal_binary.specs.File.{packed, kind_code, flags_of, peer_in, tag_in, size_of, peer_of, tag_of, when_code, byte_unless_zero, packed_if_some, head_code, packed_op, packed_dep, packed_note}
+use Rattle.goal_binary.specs.Fields.{byte_up_to, packed_up_to, some_byte_at}
+use Rattle.goal_binary.specs.Reading.{form_of, has_peer, has_tag, most_size, kind_of, when_of, note_of, head_of, head_byte_at, head_at, some_byte_if, packed_u32_at, packed_u32_if, packed_op_at, packed_dep_at, packed_note_at}
 use Rattle.goal_binary.proofs.FieldsAgain.{IsReadAs, byte_again, byte_up_to_again}
 use Rattle.goal_binary.proofs.NumbersAgain.{packed_up_to_again}
 use Rattle.goal_binary.proofs.FixedAgain.{AreFitting, kind_again, kind_fits, when_again, when_code-le}
-use Rattle.goal_binary.proofs.PackedItems.{is_some, flag, joined, IsHead, HasParts, parts_of, head_passes, packed_if, flag_is, byte_is}
+use Rattle.goal_binary.proofs.PackedItems.{is_some, joined, IsHead, parts_of, head_passes, packed_if, flag_is, byte_is}
 
 -- the form of an operation, and what its head tells
 abbrev form_in : Kind → Form

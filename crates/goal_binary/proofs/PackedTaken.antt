@@ -1,18 +1,18 @@
 -- An operation, a dependency or a note of version 2 that is read is spelled so.
-use Rattle.std.proofs.Common.{◌≡◌, ℕ, zero, suc, ◌+◌, ◌*◌, ◌/◌, ◌%◌, ◌<◌, ◌≤◌, Bool, true, false, ltb, leb, eqb, List, [], ◌∷◌, ◌++◌, Ok, refl, sym, ap, subst, ◌∙◌, arith}
+use Rattle.std.proofs.Common.{◌≡◌, ℕ, zero, suc, ◌+◌, ◌*◌, ◌/◌, ◌%◌, ◌≤◌, Bool, true, false, ltb, leb, eqb, List, [], ◌∷◌, ◌++◌, Ok, refl, sym, ap, subst, ◌∙◌, arith}
 use Rattle.goal_graph.specs.declared.plan.Op.{Op}
 use Rattle.goal_graph.specs.declared.plan.Dep.{Dep}
 use Rattle.goal_graph.specs.declared.plan.Note.{Note}
 use Rattle.goal_binary.specs.declared.form.Head.{Head}
 use Rattle.goal_binary.specs.File.{packed, when_code, byte_unless_zero, head_code, packed_note_bytes, packed_note_fields, packed_op, packed_dep, packed_note}
 use Rattle.goal_binary.specs.Fields.{Read, ◌>>=◌, allow, byte_at, byte_up_to, packed_up_to, some_byte_at}
-use Rattle.goal_binary.specs.Reading.{form_of, has_peer, has_tag, most_size, kind_of, when_of, note_of, is_head, head_of, head_byte_at, head_at, some_byte_if, packed_u32_at, packed_u32_if, packed_op_at, packed_dep_at, packed_note_at}
+use Rattle.goal_binary.specs.Reading.{has_peer, has_tag, most_size, kind_of, when_of, note_of, is_head, head_of, head_byte_at, head_at, some_byte_if, packed_u32_at, packed_u32_if, packed_op_at, packed_dep_at, packed_note_at}
 use Rattle.goal_binary.proofs.Steps.{IsBytes, bind_ok, allow_ok, ok_is, Takes, Takes-then}
 use Rattle.goal_binary.proofs.FieldsTaken.{byte_taken, byte_up_to_ok}
 use Rattle.goal_binary.proofs.NumbersTaken.{packed_up_to_ok}
 use Rattle.goal_binary.proofs.Packed.{packed_taken}
 use Rattle.goal_binary.proofs.FixedTaken.{when_of-code}
-use Rattle.goal_binary.proofs.PackedItems.{is_some, flag, joined, IsHead, head_is, head_joined, kind_code-of, flags_of-of, packed_if, peer_in-of, tag_in-of, size_of-of, flag_is, byte_is}
+use Rattle.goal_binary.proofs.PackedItems.{is_some, IsHead, head_is, head_joined, kind_code-of, flags_of-of, packed_if, peer_in-of, tag_in-of, size_of-of, flag_is, byte_is}
 
 -- the operation of these fields
 abbrev pub op_of : (head cpu nic peer tag size : ℕ) → Op

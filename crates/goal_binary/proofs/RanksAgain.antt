@@ -19,7 +19,7 @@ use Rattle.goal_binary.specs.declared.layout.TheConstants.{MAGIC}
 use Rattle.goal_binary.specs.declared.layout.Layout.{Layout}
 use Rattle.goal_binary.specs.Layouts.{version_of}
 use Rattle.goal_binary.specs.File.{spelled_u32, spelled_count, spelled_op, spelled_dep, spelled_note, spelled_counts, spelled_rank, header, written}
-use Rattle.goal_binary.specs.Fields.{Read, ◌>>=◌, count_at, opening_at}
+use Rattle.goal_binary.specs.Fields.{count_at}
 use Rattle.goal_binary.specs.Reading.{list_at, op_at, dep_at, note_at, rank_at, ranks_at, records_at}
 use Rattle.goal_binary.specs.Meaning.{plans_at, meaning}
 use Rattle.goal_binary.proofs.FieldsAgain.{IsReadAs}

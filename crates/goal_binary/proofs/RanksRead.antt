@@ -9,7 +9,7 @@ use Rattle.goal_graph.specs.declared.plan.Note.{Note}
 use Rattle.goal_graph.specs.Schedule.{Plan}
 use Rattle.goal_graph.specs.Fault.{op_count, dep_count, note_count, AreCountsWithin}
 use Rattle.goal_binary.specs.declared.layout.Layout.{Layout}
-use Rattle.goal_binary.specs.Fields.{count_at, rank_count_at}
+use Rattle.goal_binary.specs.Fields.{rank_count_at}
 use Rattle.goal_binary.specs.Reading.{list_at, op_at, dep_at, note_at, rank_at, ranks_at, records_at}
 use Rattle.goal_binary.proofs.Readers.{Reader, Reads, then, give, then_reads, give_reads, reads_as, reads_weaker}
 use Rattle.goal_binary.proofs.NumbersRead.{count_reads, rank_count_reads}
