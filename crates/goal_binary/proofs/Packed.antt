@@ -256,6 +256,27 @@ module _ (bytes other : List ℕ) where
       none_is other at ∙ ap (λ (p : Option ℕ × ℕ). Ok p) is
   groups_same (suc left) at v after le e same = step_same left (groups_same left) at v after le e same
 
+-- a packed number, its first group apart
+pub packed_step : (bytes : List ℕ) (at : ℕ) → packed_at bytes at
+    ≡ (byte_at bytes at >>= λ group. cond (ltb group.0 128) (Ok (group.0, group.1)) (groups_at bytes 9 group.1 >>= λ others. given at (below (group.0 - 128) others.0) others.1))
+unfolding packed_at
+packed_step bytes at = ap (λ (r : Read (Option ℕ)). r >>= λ number. given at number.0 number.1) (step_is bytes 9 at) ∙ first (byte_at bytes at)
+  where
+    above : (group : ℕ × ℕ) (r : Read (Option ℕ)) → ((r >>= λ others. Ok (read_of (below (group.0 - 128) others.0) others.1)) >>= λ number. given at number.0 number.1)
+        ≡ (r >>= λ others. given at (below (group.0 - 128) others.0) others.1)
+    above group (Ok others) = refl
+    above group (Err f) = refl
+
+    by_size : (group : ℕ × ℕ) (low : Bool) → (rest_of bytes 9 group low >>= λ number. given at number.0 number.1)
+        ≡ cond low (Ok (group.0, group.1)) (groups_at bytes 9 group.1 >>= λ others. given at (below (group.0 - 128) others.0) others.1)
+    by_size group true = refl
+    by_size group false = above group (groups_at bytes 9 group.1)
+
+    first : (r : Read ℕ) → ((r >>= λ group. rest_of bytes 9 group (ltb group.0 128)) >>= λ number. given at number.0 number.1)
+        ≡ (r >>= λ group. cond (ltb group.0 128) (Ok (group.0, group.1)) (groups_at bytes 9 group.1 >>= λ others. given at (below (group.0 - 128) others.0) others.1))
+    first (Ok group) = by_size group (ltb group.0 128)
+    first (Err f) = refl
+
 -- the whole number
 pub record IsPackedAt (bytes : List ℕ) (at n after : ℕ) : Type 0 where
   pub read : groups_at bytes 10 at ≡ Ok (read_of (Some n) after)

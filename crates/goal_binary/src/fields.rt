@@ -89,13 +89,17 @@ fn groups_at(bytes: &[u8], left: u32, at: usize) -> Result<(Option<u64>, usize),
     Ok((below(group - 128, others), after))
 }
 
-/// A packed number.
-#[tactic(auto, unfolding(crate::specs::Fields::packed_at))]
+/// A packed number. Most have one byte.
+#[tactic(auto, using(crate::proofs::Packed::packed_step))]
 pub fn packed_at(bytes: &[u8], at: usize) -> Result<(u64, usize), FileFault>
     ensures { result ≡ packed_at bytes.now at }
 {
-    let (number, after) = groups_at(bytes, 10, at)?;
-    match number {
+    let (group, others_at) = byte_at(bytes, at)?;
+    if group < 128 {
+        return Ok((u64::from(group), others_at));
+    }
+    let (others, after) = groups_at(bytes, 9, others_at)?;
+    match below(group - 128, others) {
         Some(number) => Ok((number, after)),
         None => Err(misfit(at)),
     }

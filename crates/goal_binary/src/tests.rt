@@ -342,14 +342,10 @@ fn is_fault_or_file(alloc: Global, bytes: &[u8]) -> Result<bool, NoMemory> {
 #[test]
 fn each_byte_of_a_hundred_files_replaced(rt: HostRuntime) -> Result<(), Fail> {
     let alloc = rt.alloc();
-    let mut files = 0;
     for seed in 0..100u64 {
         let first = drawn_plan(alloc, next(seed), 0)?;
         let second = drawn_plan(alloc, next(next(seed)), 1)?;
-        let Ok(sched) = Sched::build(alloc, vec![in alloc; first, second]?) else {
-            continue;
-        };
-        files += 1;
+        let sched = Sched::build(alloc, vec![in alloc; first, second]?)?;
         let file = encode(alloc, &sched)?;
         let mut bytes = Vec::from_slice(alloc, &file)?;
         let mut neighbour = 0;
@@ -362,6 +358,5 @@ fn each_byte_of_a_hundred_files_replaced(rt: HostRuntime) -> Result<(), Fail> {
             neighbour = *there;
         }
     }
-    assert_eq!(rt; files, 100);
     Ok(())
 }
