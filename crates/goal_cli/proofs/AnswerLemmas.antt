@@ -6,7 +6,7 @@ use Rattle.goal_base.specs.declared.limits.TheConstants.{MAX_INPUT}
 use Rattle.goal_base.specs.Device.{HostState, SinkState, Files, Later, KeepsFiles, KeepsReading, SameFiles, SameRest, ReadsAtMost, Holds, HoldsPart, Held, Grows, file_of, ReadFaulted, IsTooLong, SameReadCounts}
 use Rattle.goal_graph.specs.Schedule.{Plan}
 use Rattle.sim_params.specs.Costs.{Numbers, log_gops}
-use Rattle.goal_words.specs.Words.{Command, Sim, Waits, Compile, Show, Gen, Certify, Probe}
+use Rattle.goal_words.specs.Words.{Command, Sim, Waits, Knots, Compile, Show, Gen, Certify, Probe}
 use Rattle.goal_cli.specs.declared.answer.Answer.{Answer}
 use Rattle.goal_cli.specs.declared.answer.Answer.TheVariants as answer
 use Rattle.goal_cli.specs.declared.answer.Ending.{Ending}
@@ -619,6 +619,8 @@ module _ (old new : Devices) where
   ends_certify (Sim name numbers) (false, is) = cc
   ends_certify (Waits name numbers) (true, is) = cc
   ends_certify (Waits name numbers) (false, is) = cc
+  ends_certify (Knots name numbers) (true, is) = cc
+  ends_certify (Knots name numbers) (false, is) = cc
   ends_certify (Compile name file) is = cc
   ends_certify (Show name) is = cc
   ends_certify (Gen what ranks bytes) is = cc

@@ -8,7 +8,7 @@ use Rattle.sim_waits.specs.WaitsText.{IsWaitsText}
 use Rattle.sim_waits.proofs.ForCallers.{one_report}
 use Rattle.goal_print.specs.Canonical.{canonical}
 use Rattle.goal_binary.specs.File.{file}
-use Rattle.goal_words.specs.Words.{Command, Sim, Waits, Compile, Show, Gen, Certify, Probe}
+use Rattle.goal_words.specs.Words.{Command, Sim, Waits, Knots, Compile, Show, Gen, Certify, Probe}
 use Rattle.goal_blocks.specs.declared.collective.Collective.{Collective}
 use Rattle.goal_blocks.specs.Faults.{FaultExcludesCertified, OneFirstFault}
 use Rattle.goal_collectives.specs.Probe.{probed}
@@ -16,7 +16,7 @@ use Rattle.goal_cli.specs.Probe.{probe_text}
 use Rattle.goal_cli.specs.Verdict.{faulty_text, IsVerdictOn}
 use Rattle.goal_cli.specs.Input.{IsReadAs}
 use Rattle.goal_cli.specs.declared.answer.Ending.{Ending}
-use Rattle.goal_cli.specs.Output.{run_text, IsPrintedRun, IsReportedRun, IsSummedUp, ending_if, IsOutput}
+use Rattle.goal_cli.specs.Output.{run_text, knots_shown, IsPrintedRun, IsReportedRun, IsKnotted, IsSummedUp, ending_if, IsOutput}
 use Rattle.goal_cli.proofs.InputLemmas.{same_schedule}
 
 pub one_run : (costs : CostModel) (sched : List Plan) (one other : List ℕ) (stuck waits : Bool) → IsPrintedRun costs sched one stuck
@@ -30,6 +30,12 @@ pub one_reported : (costs : CostModel) (sched : List Plan) (one other : List ℕ
 one_reported costs sched one other stuck waits a b =
     let same = b.only a.history a.complete in
     (one_report sched costs b.history one other (subst (λ (h : List Timed). IsWaitsText sched costs h one) same a.reported) b.reported, a.stuck_is ∙ ap (is_stuck sched costs) same ∙ sym b.stuck_is)
+
+pub one_knotted : (costs : CostModel) (sched : List Plan) (one other : List ℕ) (stuck waits : Bool) → IsKnotted costs sched one stuck
+    → IsKnotted costs sched other waits → (one ≡ other) × (stuck ≡ waits)
+one_knotted costs sched one other stuck waits a b =
+    let same = b.only a.history a.complete in
+    (a.told ∙ ap (knots_shown sched costs) same ∙ sym b.told, a.stuck_is ∙ ap (is_stuck sched costs) same ∙ sym b.stuck_is)
 
 pub one_summed : (costs : CostModel) (sched : List Plan) (one other : List ℕ) (stuck waits : Bool) → IsSummedUp costs sched one stuck
     → IsSummedUp costs sched other waits → (one ≡ other) × (stuck ≡ waits)
@@ -59,6 +65,12 @@ module _ (excludes : FaultExcludesCertified) (single : OneFirstFault) where
   same_output (Waits name numbers) input again sched one other e d r s a b =
       let same =
       one_reported (log_gops numbers) sched one other a.stuck b.stuck
+      (rw (same_schedule input _ _ a.schedule.read r) at a.run)
+      (rw (same_schedule again _ _ b.schedule.read s) at b.run) in
+      (same.0, a.ends ∙ ap ending_if same.1 ∙ sym b.ends)
+  same_output (Knots name numbers) input again sched one other e d r s a b =
+      let same =
+      one_knotted (log_gops numbers) sched one other a.stuck b.stuck
       (rw (same_schedule input _ _ a.schedule.read r) at a.run)
       (rw (same_schedule again _ _ b.schedule.read s) at b.run) in
       (same.0, a.ends ∙ ap ending_if same.1 ∙ sym b.ends)

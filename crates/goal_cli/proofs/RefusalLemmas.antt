@@ -9,7 +9,7 @@ use Rattle.goal_blocks.specs.Generated.{most_ranks, IsPossible}
 use Rattle.goal_collectives.specs.declared.fault.GenFault.{GenFault}
 use Rattle.goal_collectives.specs.declared.fault.GenFault.TheVariants as gen
 use Rattle.goal_collectives.specs.GenFaults.{AreRanksWithin}
-use Rattle.goal_words.specs.Words.{Command, Sim, Waits, Compile, Show, Gen, Certify, Probe}
+use Rattle.goal_words.specs.Words.{Command, Sim, Waits, Knots, Compile, Show, Gen, Certify, Probe}
 use Rattle.goal_cli.specs.declared.answer.Ending.{Ending}
 use Rattle.goal_cli.specs.declared.answer.Refusal.{Refusal}
 use Rattle.goal_cli.specs.declared.answer.Refusal.TheVariants.{TooLong, Text, File, Generator, Budget}
@@ -21,6 +21,7 @@ use Rattle.goal_cli.proofs.InputLemmas.{same_schedule, same_text_fault, same_fil
 budget_read : (c : Command) (input : List ℕ) (s : ℕ) → IsRefusedBudget c input s → HasInput c → (sched : List Plan) × IsReadAs input sched
 budget_read (Sim name numbers) input s a has = (a.sched, a.read)
 budget_read (Waits name numbers) input s a has = (a.sched, a.read)
+budget_read (Knots name numbers) input s a has = (a.sched, a.read)
 budget_read (Compile name out) input s a has = absurd a
 budget_read (Show name) input s a has = absurd a
 budget_read (Certify what name) input s a has = absurd a
@@ -36,6 +37,7 @@ same_sum numbers input s t a b =
 same_budget : (c : Command) (input : List ℕ) (s t : ℕ) → IsRefusedBudget c input s → IsRefusedBudget c input t → s ≡ t
 same_budget (Sim name numbers) input s t a b = same_sum numbers input s t a b
 same_budget (Waits name numbers) input s t a b = same_sum numbers input s t a b
+same_budget (Knots name numbers) input s t a b = same_sum numbers input s t a b
 same_budget (Compile name out) input s t a b = absurd a
 same_budget (Show name) input s t a b = absurd a
 same_budget (Certify what name) input s t a b = absurd a
@@ -65,6 +67,7 @@ same_collective : (c : Command) (f g : GenFault) → IsRefusedCollective c f →
 same_collective (Gen what ranks bytes) f g a b = same_reason what ranks f g a b
 same_collective (Sim name numbers) f g a b = absurd a
 same_collective (Waits name numbers) f g a b = absurd a
+same_collective (Knots name numbers) f g a b = absurd a
 same_collective (Compile name out) f g a b = absurd a
 same_collective (Show name) f g a b = absurd a
 same_collective (Probe rounds seed numbers) f g a b = absurd a
@@ -75,6 +78,7 @@ no_input : (c : Command) (f : GenFault) → IsRefusedCollective c f → HasInput
 no_input (Gen what ranks bytes) f a has = cc
 no_input (Sim name numbers) f a has = a
 no_input (Waits name numbers) f a has = a
+no_input (Knots name numbers) f a has = a
 no_input (Compile name out) f a has = a
 no_input (Show name) f a has = a
 no_input (Probe rounds seed numbers) f a has = a
@@ -84,6 +88,7 @@ no_budget : (c : Command) (input : List ℕ) (f : GenFault) (s : ℕ) → IsRefu
 no_budget (Gen what ranks bytes) input f s a b = b
 no_budget (Sim name numbers) input f s a b = a
 no_budget (Waits name numbers) input f s a b = a
+no_budget (Knots name numbers) input f s a b = a
 no_budget (Compile name out) input f s a b = a
 no_budget (Show name) input f s a b = a
 no_budget (Probe rounds seed numbers) input f s a b = a
@@ -126,6 +131,7 @@ same_refusal c input (Budget s) (Budget t) a b = let same = same_budget c input 
 output_read : (c : Command) (input : List ℕ) (sched : List Plan) → HasOutput c input sched → HasInput c → IsReadAs input sched
 output_read (Sim name numbers) input sched a has = a.read
 output_read (Waits name numbers) input sched a has = a.read
+output_read (Knots name numbers) input sched a has = a.read
 output_read (Compile name out) input sched a has = a
 output_read (Show name) input sched a has = a
 output_read (Certify what name) input sched a has = a
@@ -150,6 +156,7 @@ probe_fits numbers rounds seed sched s a b =
 output_fits : (c : Command) (input : List ℕ) (sched : List Plan) (s : ℕ) → HasOutput c input sched → IsRefusedBudget c input s → ⊥
 output_fits (Sim name numbers) input sched s a b = fits numbers input sched s a b
 output_fits (Waits name numbers) input sched s a b = fits numbers input sched s a b
+output_fits (Knots name numbers) input sched s a b = fits numbers input sched s a b
 output_fits (Compile name out) input sched s a b = b
 output_fits (Show name) input sched s a b = b
 output_fits (Certify what name) input sched s a b = b
@@ -167,6 +174,7 @@ output_possible : (c : Command) (input : List ℕ) (sched : List Plan) (f : GenF
 output_possible (Gen what ranks bytes) input sched f a b = no_reason what ranks f a.possible b
 output_possible (Sim name numbers) input sched f a b = b
 output_possible (Waits name numbers) input sched f a b = b
+output_possible (Knots name numbers) input sched f a b = b
 output_possible (Compile name out) input sched f a b = b
 output_possible (Show name) input sched f a b = b
 output_possible (Probe rounds seed numbers) input sched f a b = b
@@ -184,6 +192,7 @@ no_refusal c input sched (Budget s) a b = output_fits c input sched s a b
 pub output_had : (c : Command) (input output : List ℕ) (e : Ending) → IsOutput c input output e → (sched : List Plan) × HasOutput c input sched
 output_had (Sim name numbers) input output e a = (a.sched, a.schedule)
 output_had (Waits name numbers) input output e a = (a.sched, a.schedule)
+output_had (Knots name numbers) input output e a = (a.sched, a.schedule)
 output_had (Compile name out) input output e a = (a.0.sched, a.0.read)
 output_had (Show name) input output e a = (a.0.sched, a.0.read)
 output_had (Certify what name) input output e a = (a.sched, a.read)

@@ -5,7 +5,7 @@ use Rattle.goal_base.specs.declared.limits.TheConstants.{MAX_INPUT}
 use Rattle.goal_base.specs.Device.{HostState, SinkState, Rose, Held, KeepsFiles, KeepsReading, SameRest, ReadsAtMost, SameReadCounts, Holds, HoldsPart, Grows, file_of, ReadFaulted}
 use Rattle.goal_graph.specs.Schedule.{Plan}
 use Rattle.sim_params.specs.Costs.{CostModel}
-use Rattle.goal_words.specs.Words.{Command, Sim, Waits, Compile, Show, Gen, Certify, Probe}
+use Rattle.goal_words.specs.Words.{Command, Sim, Waits, Knots, Compile, Show, Gen, Certify, Probe}
 use Rattle.goal_cli.specs.declared.answer.Answer.{Answer}
 use Rattle.goal_cli.specs.declared.answer.Answer.TheVariants as answer
 use Rattle.goal_cli.specs.declared.answer.Ending.{Ending}
@@ -72,6 +72,7 @@ pub data Target : Type 0 where
 abbrev pub target_of : Command → Target
 target_of (Sim name numbers) = ToOut
 target_of (Waits name numbers) = ToOut
+target_of (Knots name numbers) = ToOut
 target_of (Compile name out) = ToFile out
 target_of (Show name) = ToOut
 target_of (Gen what ranks bytes) = ToOut

@@ -10,7 +10,9 @@ use Rattle.sim_params.specs.Budget.{budget}
 use Rattle.sim_params.specs.Run.{IsCompleteRun}
 use Rattle.sim_params.specs.Stuck.{is_stuck}
 use Rattle.sim_events.specs.Engine.{View}
-use Rattle.sim_timeline.specs.Timeline.{timeline}
+use Rattle.sim_timeline.specs.Timeline.{first_line, timeline}
+use Rattle.sim_cycles.specs.Knots.{knots}
+use Rattle.sim_cycles.specs.KnotsText.{knots_text}
 use Rattle.sim_stuck.specs.StuckList.{stuck_list}
 use Rattle.sim_stuck.specs.StuckText.{stuck_text}
 use Rattle.sim_waits.specs.WaitsText.{IsWaitsText}
@@ -22,7 +24,7 @@ use Rattle.goal_blocks.specs.Generated.{made, IsPossible}
 use Rattle.goal_collectives.specs.declared.fault.GenFault.{GenFault}
 use Rattle.goal_collectives.specs.declared.fault.GenFault.TheVariants as gen
 use Rattle.goal_collectives.specs.GenFaults.{IsGenFault}
-use Rattle.goal_words.specs.Words.{Command, Sim, Waits, Compile, Show, Gen, Certify, Probe}
+use Rattle.goal_words.specs.Words.{Command, Sim, Waits, Knots, Compile, Show, Gen, Certify, Probe}
 use Rattle.goal_cli.specs.declared.answer.Ending.{Ending}
 use Rattle.goal_cli.specs.declared.answer.Ending.TheVariants as ending
 use Rattle.goal_cli.specs.declared.answer.Refusal.{Refusal}
@@ -38,6 +40,7 @@ use Rattle.goal_cli.specs.Input.{IsReadAs, IsTextFault, IsFaultOfFile}
 abbrev pub input_of : Command → Option (List ℕ)
 input_of (Sim name numbers) = Some name
 input_of (Waits name numbers) = Some name
+input_of (Knots name numbers) = Some name
 input_of (Compile name out) = Some name
 input_of (Show name) = Some name
 input_of (Gen what ranks bytes) = None
@@ -50,6 +53,10 @@ HasInput c = is_some (input_of c) ≡ true
 -- the timeline of a run, and then the lines of its stuck operations, each with its reason
 abbrev pub run_text : List Plan → CostModel → List Timed → List ℕ
 run_text sched costs history = timeline sched costs history ++ stuck_text (stuck_list sched costs history)
+
+-- the first line of the timeline of a run, and then the lines of the knots of its stuck operations
+abbrev pub knots_shown : List Plan → CostModel → List Timed → List ℕ
+knots_shown sched costs history = first_line sched costs history ++ knots_text (knots (stuck_list sched costs history))
 
 -- an engine whose run is over, that of this schedule with these costs
 pub record IsRunOf (costs : CostModel) (sched : List Plan) (engine : View LogGops) : Type 0 where
@@ -73,6 +80,14 @@ pub record IsReportedRun (costs : CostModel) (sched : List Plan) (output : List 
   pub complete : IsCompleteRun sched costs history
   pub only : (h : List Timed) → IsCompleteRun sched costs h → h ≡ history
   pub reported : IsWaitsText sched costs history output
+  pub stuck_is : stuck ≡ is_stuck sched costs history
+
+-- the output tells the knots of that run
+pub record IsKnotted (costs : CostModel) (sched : List Plan) (output : List ℕ) (stuck : Bool) : Type 0 where
+  pub history : List Timed
+  pub complete : IsCompleteRun sched costs history
+  pub only : (h : List Timed) → IsCompleteRun sched costs h → h ≡ history
+  pub told : output ≡ knots_shown sched costs history
   pub stuck_is : stuck ≡ is_stuck sched costs history
 
 -- the output sums up that run
@@ -107,6 +122,14 @@ pub record IsReported (numbers : Numbers) (input output : List ℕ) (e : Ending)
   pub schedule : HasRun numbers input sched
   pub stuck : Bool
   pub run : IsReportedRun (log_gops numbers) sched output stuck
+  pub ends : e ≡ ending_if stuck
+
+-- the input has a run, the output tells the knots of its stuck operations, and this is its ending
+pub record IsUntied (numbers : Numbers) (input output : List ℕ) (e : Ending) : Type 0 where
+  pub sched : List Plan
+  pub schedule : HasRun numbers input sched
+  pub stuck : Bool
+  pub run : IsKnotted (log_gops numbers) sched output stuck
   pub ends : e ≡ ending_if stuck
 
 -- the output is the compiled file of the schedule that the input says, and says the same schedule
@@ -157,6 +180,7 @@ pub record IsProbed (numbers : Numbers) (rounds seed : ℕ) (output : List ℕ) 
 abbrev pub IsOutput : Command → List ℕ → List ℕ → Ending → Type 0
 IsOutput (Sim name numbers) input output e = IsSimulated numbers input output e
 IsOutput (Waits name numbers) input output e = IsReported numbers input output e
+IsOutput (Knots name numbers) input output e = IsUntied numbers input output e
 IsOutput (Compile name out) input output e = IsCompiled input output × (e ≡ ending.Done)
 IsOutput (Show name) input output e = IsShown input output × (e ≡ ending.Done)
 IsOutput (Gen what ranks bytes) input output e = IsGenerated what ranks bytes output × (e ≡ ending.Done)
@@ -167,6 +191,7 @@ IsOutput (Probe rounds seed numbers) input output e = IsProbed numbers rounds se
 abbrev pub MayEnd : Command → Ending → Type 0
 MayEnd (Sim name numbers) e = (stuck : Bool) × (e ≡ ending_if stuck)
 MayEnd (Waits name numbers) e = (stuck : Bool) × (e ≡ ending_if stuck)
+MayEnd (Knots name numbers) e = (stuck : Bool) × (e ≡ ending_if stuck)
 MayEnd (Compile name out) e = e ≡ ending.Done
 MayEnd (Show name) e = e ≡ ending.Done
 MayEnd (Gen what ranks bytes) e = e ≡ ending.Done
@@ -182,16 +207,18 @@ IsCertify _ = ⊥
 abbrev pub IsScheduleOf : Command → List ℕ → List Plan → Type 0
 IsScheduleOf (Sim name numbers) input sched = IsReadAs input sched
 IsScheduleOf (Waits name numbers) input sched = IsReadAs input sched
+IsScheduleOf (Knots name numbers) input sched = IsReadAs input sched
 IsScheduleOf (Compile name out) input sched = IsReadAs input sched
 IsScheduleOf (Show name) input sched = IsReadAs input sched
 IsScheduleOf (Gen what ranks bytes) input sched = IsMade what ranks bytes sched
 IsScheduleOf (Certify what name) input sched = IsReadAs input sched
 IsScheduleOf (Probe rounds seed numbers) input sched = sched ≡ probed rounds seed
 
--- there is something for the command to write: a schedule to work on, and for `sim`, `waits` and `probe` a run of it
+-- there is something for the command to write: a schedule to work on, and for `sim`, `waits`, `knots` and `probe` a run of it
 abbrev pub HasOutput : Command → List ℕ → List Plan → Type 0
 HasOutput (Sim name numbers) input sched = HasRun numbers input sched
 HasOutput (Waits name numbers) input sched = HasRun numbers input sched
+HasOutput (Knots name numbers) input sched = HasRun numbers input sched
 HasOutput (Compile name out) input sched = IsReadAs input sched
 HasOutput (Show name) input sched = IsReadAs input sched
 HasOutput (Gen what ranks bytes) input sched = IsMade what ranks bytes sched
@@ -214,6 +241,7 @@ pub record IsProbeOverBudget (numbers : Numbers) (rounds seed sum : ℕ) : Type 
 abbrev pub IsRefusedBudget : Command → List ℕ → ℕ → Type 0
 IsRefusedBudget (Sim name numbers) input sum = IsOverBudget numbers input sum
 IsRefusedBudget (Waits name numbers) input sum = IsOverBudget numbers input sum
+IsRefusedBudget (Knots name numbers) input sum = IsOverBudget numbers input sum
 IsRefusedBudget (Compile name out) input sum = ⊥
 IsRefusedBudget (Show name) input sum = ⊥
 IsRefusedBudget (Gen what ranks bytes) input sum = ⊥

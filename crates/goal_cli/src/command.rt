@@ -130,6 +130,7 @@ fn name_of(line: &Line) -> Option<&str>
     match line {
         Line::Sim { name, .. } => Some(name.as_str()),
         Line::Waits { name, .. } => Some(name.as_str()),
+        Line::Knots { name, .. } => Some(name.as_str()),
         Line::Compile { name, .. } => Some(name.as_str()),
         Line::Show { name } => Some(name.as_str()),
         Line::Certify { name, .. } => Some(name.as_str()),
@@ -177,6 +178,7 @@ fn put<H: Host, W: Sink>(
     match line {
         Line::Sim { .. } => print(out, bytes),
         Line::Waits { .. } => print(out, bytes),
+        Line::Knots { .. } => print(out, bytes),
         Line::Compile { out: name, .. } => write_file(host, name.as_str(), bytes),
         Line::Show { .. } => print(out, bytes),
         Line::Gen { .. } => print(out, bytes),

@@ -12,7 +12,7 @@ ghost use Rattle.goal_blocks.specs.Collectives.{is_first};
 ghost use Rattle.goal_collectives.specs.Probe.{probed};
 ghost use Rattle.goal_words.specs.Words.{Command, Gen, command, IsSized};
 ghost use Rattle.goal_cli.specs.Input.{is_compiled, IsReadAs, IsTextFault, IsFaultOfFile};
-ghost use Rattle.goal_cli.specs.Output.{HasInput, run_text, IsPrintedRun, IsReportedRun, IsSummedUp, IsRunOf, ending_if, IsMade, IsOutput, MayEnd, IsScheduleOf, IsStop};
+ghost use Rattle.goal_cli.specs.Output.{HasInput, run_text, knots_shown, IsPrintedRun, IsReportedRun, IsKnotted, IsSummedUp, IsRunOf, ending_if, IsMade, IsOutput, MayEnd, IsScheduleOf, IsStop};
 
 use crate::answer::{Ending, Refusal};
 use crate::probe::probe_text;
@@ -26,10 +26,11 @@ use goal_parser::{TextFault, read_text};
 use goal_print::print_text;
 use goal_rooted::{RootedFault, generate_rooted};
 use goal_words::Line;
+use sim_cycles::{knots, knots_text};
 use sim_events::{Engine, EngineFault};
 use sim_params::{LogGops, Params};
 use sim_stuck::{explain, is_stuck, stuck_text};
-use sim_timeline::timeline;
+use sim_timeline::{first_line, timeline};
 use sim_waits::waits;
 use std::alloc::Global;
 
@@ -163,6 +164,7 @@ fn schedule_of(alloc: Global, line: &Line, input: &[u8]) -> Result<Sched, Stop>
     match line {
         Line::Sim { .. } => read_input(alloc, input),
         Line::Waits { .. } => read_input(alloc, input),
+        Line::Knots { .. } => read_input(alloc, input),
         Line::Compile { .. } => read_input(alloc, input),
         Line::Show { .. } => read_input(alloc, input),
         Line::Gen { what, ranks, bytes } => make_schedule(alloc, *what, *ranks, *bytes),
@@ -248,6 +250,46 @@ fn report_waits(alloc: Global, sched: &Sched, params: Params) -> Result<Output, 
     }
 }
 
+// The first line of the timeline of a run that is over, and the lines of the knots of its stuck operations.
+fn show_knots(
+    alloc: Global,
+    sched: &Sched,
+    engine: &Engine<'_, LogGops>,
+) -> Result<Vec<u8>, NoMemory>
+    requires same { engine.now.plans ≡ sched.now }
+    requires done { IsFinished engine.now.plans (log_gops (numbers engine.now.costs.params)) engine.now.history }
+    ensures { IfOk result (λ text.
+        text.items ≡ knots_shown sched.now (log_gops (numbers engine.now.costs.params)) engine.now.history) }
+{
+    let _at_most = sched.count();
+    let mut text = first_line(alloc, sched, engine)?;
+    let stuck = explain(alloc, sched, engine)?;
+    let found = knots(alloc, &stuck)?;
+    let told = knots_text(alloc, &found)?;
+    text.extend_from_slice(&told)?;
+    Ok(text)
+}
+
+// The knots of the run of a schedule.
+fn report_knots(alloc: Global, sched: &Sched, params: Params) -> Result<Output, EngineFault>
+    ensures fits { OnOk result (budget sched.now (log_gops (numbers params)) < 2 ^ 63) }
+    ensures run { IfOk result (λ output. (stuck : Bool) × (output.ending ≡ ending_if stuck)
+        × IsKnotted (log_gops (numbers params)) sched.now output.bytes.items stuck) }
+    ensures fault { IfErr result (IsEngineFault (budget sched.now (log_gops (numbers params)))) }
+{
+    let engine = match run(alloc, sched, params) {
+        Ok(engine) => engine,
+        Err(fault) => return Err(fault),
+    };
+    match show_knots(alloc, sched, &engine) {
+        Ok(bytes) => Ok(Output {
+            bytes,
+            ending: ending_if(is_stuck(&engine)),
+        }),
+        Err(NoMemory) => Err(EngineFault::NoMemory),
+    }
+}
+
 // The sum of the run of a schedule.
 fn sum_up_run(alloc: Global, sched: &Sched, params: Params) -> Result<Output, EngineFault>
     ensures fits { OnOk result (budget sched.now (log_gops (numbers params)) < 2 ^ 63) }
@@ -306,6 +348,11 @@ fn output_of(alloc: Global, line: &Line, input: &[u8], sched: &Sched) -> Result<
             Err(EngineFault::NoMemory) => Err(Stop::NoMemory),
         },
         Line::Waits { params, .. } => match report_waits(alloc, sched, *params) {
+            Ok(output) => Ok(output),
+            Err(EngineFault::Budget { sum }) => Err(Stop::Refused(Refusal::Budget { sum })),
+            Err(EngineFault::NoMemory) => Err(Stop::NoMemory),
+        },
+        Line::Knots { params, .. } => match report_knots(alloc, sched, *params) {
             Ok(output) => Ok(output),
             Err(EngineFault::Budget { sum }) => Err(Stop::Refused(Refusal::Budget { sum })),
             Err(EngineFault::NoMemory) => Err(Stop::NoMemory),

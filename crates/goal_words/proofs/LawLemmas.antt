@@ -19,7 +19,7 @@ use Rattle.goal_words.proofs.PartsLemmas.{all_keys, of_keys, same_all, same_give
 -- the options that the first word takes are some
 taken_for : (first : List ℕ) → (taken : Taken) × (words_of taken ≡ options_of first)
 taken_for first =
-    by (bytes_eq first (codes "sim") || bytes_eq first (codes "waits") || bytes_eq first (codes "probe")) (bytes_eq first (codes "gen") || bytes_eq first (codes "certify"))
+    by (bytes_eq first (codes "sim") || bytes_eq first (codes "waits") || bytes_eq first (codes "knots") || bytes_eq first (codes "probe")) (bytes_eq first (codes "gen") || bytes_eq first (codes "certify"))
   where
     by : (run gen : Bool) → (taken : Taken) × (words_of taken ≡ (if run then run_options else (if gen then root_option else [])))
     by true gen = (taken_by.Run, refl)

@@ -19,6 +19,8 @@ pub data Command : Type 0 where
   Sim : List ℕ → Numbers → Command
   -- to run it in the same way, and to report how long its operations waited
   Waits : List ℕ → Numbers → Command
+  -- to run it in the same way, and to write the knots of its stuck operations
+  Knots : List ℕ → Numbers → Command
   -- to write its compiled file to the file of the second name
   Compile : List ℕ → List ℕ → Command
   -- to write its canonical text
@@ -39,7 +41,7 @@ IsSized _ = Unit {0}
 -- the options that a command takes, by the first word
 abbrev pub options_of : List ℕ → List (List ℕ)
 options_of first =
-    if bytes_eq first (codes "sim") || bytes_eq first (codes "waits") || bytes_eq first (codes "probe") then run_options
+    if bytes_eq first (codes "sim") || bytes_eq first (codes "waits") || bytes_eq first (codes "knots") || bytes_eq first (codes "probe") then run_options
     else (if bytes_eq first (codes "gen") || bytes_eq first (codes "certify") then root_option else [])
 
 -- a number within these limits
@@ -82,6 +84,11 @@ abbrev pub waits_of : List (List ℕ) → Numbers → Option Command
 waits_of (name ∷ []) params = option_map (Waits name) (within_limits params)
 waits_of _ params = None
 
+-- `knots NAME`, with parameters
+abbrev pub knots_of : List (List ℕ) → Numbers → Option Command
+knots_of (name ∷ []) params = option_map (Knots name) (within_limits params)
+knots_of _ params = None
+
 -- `compile NAME OUT`
 abbrev pub compile_of : List (List ℕ) → Option Command
 compile_of (name ∷ out ∷ []) = Some (Compile name out)
@@ -118,11 +125,12 @@ abbrev pub command_by : List ℕ → List (List ℕ) → Numbers → Option ℕ 
 command_by first plain params root =
     if bytes_eq first (codes "sim") then sim_of plain params
     else (if bytes_eq first (codes "waits") then waits_of plain params
+    else (if bytes_eq first (codes "knots") then knots_of plain params
     else (if bytes_eq first (codes "compile") then compile_of plain
     else (if bytes_eq first (codes "show") then show_of plain
     else (if bytes_eq first (codes "gen") then gen_of plain root
     else (if bytes_eq first (codes "certify") then certify_of plain root
-    else (if bytes_eq first (codes "probe") then probe_of plain params else None))))))
+    else (if bytes_eq first (codes "probe") then probe_of plain params else None)))))))
 
 -- what stands at the words of a line after the first
 abbrev pub line_places : List ℕ → List (List ℕ) → List Place
@@ -144,6 +152,7 @@ command_in words = command_of (map string_bytes words)
 abbrev pub command : Line → Command
 command (line.Sim name params) = Sim name (numbers params)
 command (line.Waits name params) = Waits name (numbers params)
+command (line.Knots name params) = Knots name (numbers params)
 command (line.Compile name out) = Compile name out
 command (line.Show name) = Show name
 command (line.Gen what ranks bytes) = Gen what ranks bytes

@@ -2,6 +2,7 @@
 //!
 //!     sim NAME [--L N] [--o N] [--g N] [--G N] [--Gp N] [--O N] [--Op N] [--S N]
 //!     waits NAME [the same options]
+//!     knots NAME [the same options]
 //!     compile NAME OUT
 //!     show NAME
 //!     gen KIND RANKS BYTES [--root N]

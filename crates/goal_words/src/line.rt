@@ -1,6 +1,6 @@
 // Command lines.
 ghost use Rattle.std.specs.Prelude.{◌≡◌, None, Some, ◌⊎◌, IfOk, IfErr, IsErrOf, MatchOption};
-ghost use Rattle.goal_words.specs.Words.{command, command_by, command_in, options_of, sim_of, waits_of, compile_of, show_of, gen_of, certify_of, probe_of, IsSized};
+ghost use Rattle.goal_words.specs.Words.{command, command_by, command_in, options_of, sim_of, waits_of, knots_of, compile_of, show_of, gen_of, certify_of, probe_of, IsSized};
 ghost use Rattle.goal_words.specs.Reading.{listed, numbers_given, words_of};
 
 use crate::kinds::{MAX_ROUNDS, collective_of, number_from};
@@ -53,6 +53,11 @@ pub enum Line {
     },
     /// To run it in the same way, and to print how long its operations waited.
     Waits {
+        name: FileName,
+        params: Params,
+    },
+    /// To run it in the same way, and to print the knots of its stuck operations.
+    Knots {
         name: FileName,
         params: Params,
     },
@@ -131,7 +136,7 @@ fn taken_by(first: &str) -> Taken
     ensures { words_of result ≡ options_of first.now }
 {
     match first {
-        "sim" | "waits" | "probe" => Taken::Run,
+        "sim" | "waits" | "knots" | "probe" => Taken::Run,
         "gen" | "certify" => Taken::Root,
         _ => Taken::Nothing,
     }
@@ -145,6 +150,7 @@ fn read_line(alloc: Global, first: &str, plain: Few<'_>, given: Given) -> Result
     match first {
         "sim" => read_sim(alloc, plain, given),
         "waits" => read_waits(alloc, plain, given),
+        "knots" => read_knots(alloc, plain, given),
         "compile" => read_compile(alloc, plain),
         "show" => read_show(alloc, plain),
         "gen" => match read_gen(plain, given) {
@@ -188,6 +194,21 @@ fn read_waits(alloc: Global, plain: Few<'_>, given: Given) -> Result<Line, LineF
     };
     let name = FileName::new(alloc, name)?;
     Ok(Line::Waits { name, params })
+}
+
+// `knots NAME`.
+fn read_knots(alloc: Global, plain: Few<'_>, given: Given) -> Result<Line, LineFault>
+    ensures line { IfOk result (λ line. knots_of (listed plain.entry) (numbers_given given) ≡ Some (command line)) }
+    ensures bad { IfErr result (λ fault. fault ≡ LineFault.Bad → knots_of (listed plain.entry) (numbers_given given) ≡ None) }
+{
+    let Few::One(name) = plain else {
+        return Err(LineFault::Bad);
+    };
+    let Some(params) = given.params() else {
+        return Err(LineFault::Bad);
+    };
+    let name = FileName::new(alloc, name)?;
+    Ok(Line::Knots { name, params })
 }
 
 // `compile NAME OUT`.

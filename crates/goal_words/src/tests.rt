@@ -75,6 +75,14 @@ fn mixed_options(rt: HostRuntime) -> Result<(), Fail> {
         }
         _ => assert!(rt; false),
     }
+    let words = strings(alloc, &["knots", "a", "--L=3"])?;
+    match &read_words(alloc, &words) {
+        Ok(Line::Knots { name, params }) => {
+            assert_eq!(rt; name.as_str(), "a");
+            assert_eq!(rt; params.latency, 3);
+        }
+        _ => assert!(rt; false),
+    }
     Ok(())
 }
 

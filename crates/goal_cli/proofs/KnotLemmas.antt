@@ -1,0 +1,30 @@
+-- What the search for knots asks of stuck operations.
+use Rattle.std.proofs.Common.{ℕ, ◌≡◌, ◌≤◌, ◌⊎◌, inl, inr, List, length, map, filter, Contains, Option, Some, None, sym, ap, ◌∙◌, subst, arith}
+use Rattle.std.proofs.lemmas.List.{length-map}
+use Rattle.std.proofs.lemmas.List.Sums.{length-filter, count_by-le-length}
+use Rattle.goal_graph.specs.declared.action.OpId.{OpId}
+use Rattle.goal_graph.specs.declared.action.Timed.{Timed}
+use Rattle.goal_graph.specs.declared.action.Stuck.{Stuck}
+use Rattle.goal_graph.specs.declared.action.Why.{Why}
+use Rattle.goal_graph.specs.declared.action.Why.TheVariants.{Op, Partner, Alone}
+use Rattle.goal_graph.specs.Schedule.{Plan, operations}
+use Rattle.sim_params.specs.Costs.{CostModel}
+use Rattle.sim_params.specs.Stuck.{lacks_end}
+use Rattle.sim_stuck.specs.StuckList.{ops_of, stuck_list, with_reason, NamesListed}
+use Rattle.sim_cycles.specs.Knots.{named}
+use Rattle.sim_cycles.specs.Laws.{NamesListed as NamesAreListed}
+
+-- at most all operations are stuck
+pub few_stuck : (plans : List Plan) (costs : CostModel) (h : List Timed) → length (stuck_list plans costs h) ≤ length (operations plans)
+unfolding stuck_list
+few_stuck plans costs h =
+    omega (arith, length-map (filter (lacks_end plans costs h) (operations plans)) (with_reason plans costs h), length-filter (lacks_end plans costs h) (operations plans), count_by-le-length (lacks_end plans costs h) (operations plans))
+
+-- an operation that a reason names is one of those that it names as one or the other
+named_cases : (w : Why) (y : OpId) → named w ≡ Some y → (w ≡ Op y) ⊎ (w ≡ Partner y)
+named_cases (Op x) y e = let same : x ≡ y = cc in inl (ap Op same)
+named_cases (Partner x) y e = let same : x ≡ y = cc in inr (ap Partner same)
+named_cases Alone y e = absurd (cc)
+
+pub names_listed : (list : List Stuck) → NamesListed list → NamesAreListed list
+names_listed list all s y c e = all s y c (named_cases s.why y e)
