@@ -1,6 +1,7 @@
 use Rattle.std.proofs.Common.{rules, inr}
 use Rattle.goal_words.specs.Words.{command}
 use Rattle.goal_cli.specs.World.{devices}
+use Rattle.goal_cli.specs.Output.{input_of}
 use Rattle.goal_cli.proofs.AnswerLemmas.{too_long, refused_of, written_from, cut_off_from, rose_from, taken_still}
 use Rattle.goal_cli.proofs.command.carry_out_line.Goals as goal
 
@@ -23,3 +24,18 @@ returns-clause-cause g c =
     c.take_input.ensures.reads.later (command c.args.line.now)
     c.in-Ok.input.items c.in-Ok-make.output.bytes.items c.in-Ok-make.output.ending (search rules) (search rules)
     (search rules) (search rules) (search rules) (search rules))
+
+pub returns-in-Ok-put-clause-taken : goal.returns-in-Ok-put-clause-taken
+returns-in-Ok-put-clause-taken g c =
+    taken_still (input_of (command c.args.line.now)) (g.H.Host.state c.args.host.now) (g.H.Host.state c.take_input.new.host) (g.H.Host.state c.put.new.host)
+    c.take_input.ensures.reads.later c.take_input.ensures.taken c.put.ensures.kept
+
+pub returns-in-Err-Failed-clause-taken : goal.returns-in-Err-Failed-clause-taken
+returns-in-Err-Failed-clause-taken g c =
+    taken_still (input_of (command c.args.line.now)) (g.H.Host.state c.args.host.now) (g.H.Host.state c.take_input.new.host) (g.H.Host.state c.put.new.host)
+    c.take_input.ensures.reads.later c.take_input.ensures.taken c.put.ensures.kept
+
+pub returns-clause-taken : goal.returns-clause-taken
+returns-clause-taken g c =
+    taken_still (input_of (command c.args.line.now)) (g.H.Host.state c.args.host.now) (g.H.Host.state c.take_input.new.host) (g.H.Host.state c.put.new.host)
+    c.take_input.ensures.reads.later c.take_input.ensures.taken c.put.ensures.kept
