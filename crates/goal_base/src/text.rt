@@ -21,6 +21,7 @@ impl Model for TextOut {
 }
 
 impl TextOut {
+    ghost use Rattle.std.specs.Prelude.{ℕ, List};
     ghost use Rattle.goal_base.specs.Text.{pair_text, time_text};
 
     /// An empty text. It takes no memory.
@@ -50,14 +51,30 @@ impl TextOut {
         self.word(buffer.format(n))
     }
 
-    /// Appends two numbers with a blank between, as the rank and the number of an operation. At `Err` the text may
-    /// hold a part of them.
-    pub fn pair(&mut self, first: u32, second: u32) -> Result<(), NoMemory>
-        ensures { OnOk result (self.new ≡ self.old ++ pair_text first second) }
+    // Appends two numbers with a blank between. At `Err` a part of them may stand at the end.
+    fn put_pair(&mut self, first: u32, second: u32) -> Result<(), NoMemory>
+        ensures ok { OnOk result (self.new ≡ self.old ++ pair_text first second) }
+        ensures err { OnErr result ((part : List ℕ) × (self.new ≡ self.old ++ part)) }
     {
         self.number(u128::from(first))?;
         self.word(" ")?;
         self.number(u128::from(second))
+    }
+
+    /// Appends two numbers with a blank between, as the rank and the number of an operation. The text is as it was where
+    /// there was no memory left.
+    pub fn pair(&mut self, first: u32, second: u32) -> Result<(), NoMemory>
+        ensures ok { OnOk result (self.new ≡ self.old ++ pair_text first second) }
+        ensures err { OnErr result (self.new ≡ self.old) }
+    {
+        let before = self.bytes.len();
+        match self.put_pair(first, second) {
+            Ok(()) => Ok(()),
+            Err(NoMemory) => {
+                self.bytes.truncate(before);
+                Err(NoMemory)
+            }
+        }
     }
 
     /// Appends a time in nanoseconds, or a dash where there is none. The text is as it was where there was no memory
