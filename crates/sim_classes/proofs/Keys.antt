@@ -1,5 +1,5 @@
 -- The keys of the map of pairs of nodes.
-use Rattle.std.proofs.Common.{ℕ, ◌≡◌, ◌==◌, ◌&&◌, ◌<◌, Bool, true, false, cond, Option, Some, None, if◌then◌else◌, refl, sym, ap₂, ◌∙◌, subst}
+use Rattle.std.proofs.Common.{ℕ, ◌≡◌, ◌==◌, ◌&&◌, ◌<◌, Bool, true, false, cond, Some, if◌then◌else◌, refl, sym, ap₂, ◌∙◌, subst}
 use Rattle.std.specs.Ordering.{nat_cmp}
 use Rattle.std.specs.Cmp.{tied_then}
 use Rattle.std.specs.BTreeMap.{BTreeMap, get, is_at}

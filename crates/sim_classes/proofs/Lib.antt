@@ -4,3 +4,4 @@ pub mod Parts
 pub mod Keys
 pub mod Alike
 pub mod ClassLaws
+pub mod Whole

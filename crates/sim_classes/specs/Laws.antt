@@ -1,7 +1,8 @@
 -- The laws of machines. The function `laws_of_machines` ensures each.
-use Rattle.std.specs.Prelude.{ℕ, ◌≡◌, ◌<◌, length}
+use Rattle.std.specs.Prelude.{ℕ, ◌≡◌, ◌<◌, List, length, Ok}
 use Rattle.sim_params.specs.Costs.{Numbers, log_gops}
 use Rattle.sim_classes.specs.Machine.{Known, IsWhole, class_of, numbers_of, costs_of}
+use Rattle.sim_classes.specs.Form.{machine}
 
 -- each message has a class of the machine
 abbrev pub ClassesAreThere : Type 0
@@ -14,3 +15,7 @@ AlikeIsLogGops = (m : Known) (n : Numbers) → IsWhole m → ((class : ℕ) → 
 -- A message from a rank to itself, and one between two ranks of one node, has the class inside a node.
 abbrev pub OwnIsInside : Type 0
 OwnIsInside = (m : Known) (rank : ℕ) → class_of m rank rank ≡ m.inside
+
+-- a machine that a text says is whole
+abbrev pub SaidIsWhole : Type 0
+SaidIsWhole = (text : List ℕ) (m : Known) → machine text ≡ Ok m → IsWhole m
