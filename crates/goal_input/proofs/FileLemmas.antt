@@ -1,0 +1,30 @@
+-- A compiled file as an input.
+use Rattle.std.proofs.Common.{◌≡◌, ◌≤◌, ℕ, true, List, length, refl, Result, IfOk, Vec, Global}
+use Rattle.std.specs.declared.result.Result.TheVariants.{Ok, Err}
+use Rattle.goal_base.specs.declared.device.NoMemory.{NoMemory}
+use Rattle.goal_base.specs.declared.limits.TheConstants.{MAX_INPUT}
+use Rattle.goal_graph.specs.Schedule.{Plan}
+use Rattle.goal_graph.specs.Fault.{IsAccepted}
+use Rattle.goal_binary.specs.File.{file, written, header}
+use Rattle.goal_binary.specs.Meaning.{meaning}
+use Rattle.goal_input.specs.Input.{is_compiled, IsReadAs}
+
+-- a file begins with the first byte of the magic
+begins_compiled : (plans : List Plan) → is_compiled (file plans) ≡ true
+unfolding written header
+begins_compiled plans = refl
+
+-- the file of a schedule says the schedule
+pub file_again : (plans : List Plan) → IsAccepted plans → length (file plans) ≤ MAX_INPUT → meaning (file plans) ≡ Ok plans
+    → IsReadAs (file plans) plans
+file_again plans accepted short means = record {
+  short = short;
+  says = rw (begins_compiled plans) means;
+  accepted = accepted;
+}
+
+-- and so do bytes that are the file
+pub bytes_again : (r : Result (Vec ℕ Global) NoMemory) (plans : List Plan) → IfOk r (λ bytes. bytes.items ≡ file plans)
+    → IsReadAs (file plans) plans → IfOk r (λ bytes. IsReadAs bytes.items plans)
+bytes_again (Ok bytes) plans is again = rw is again
+bytes_again (Err e) plans is again = tt

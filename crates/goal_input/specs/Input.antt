@@ -1,0 +1,40 @@
+-- What the bytes of an input say: the plans of a schedule, as a compiled file or as a text.
+use Rattle.std.specs.Prelude.{ℕ, ◌≡◌, ◌≢◌, ◌≤◌, ◌==◌, Bool, true, false, List, [], ◌∷◌, length, Ok}
+use Rattle.goal_base.specs.declared.limits.TheConstants.{MAX_INPUT}
+use Rattle.goal_graph.specs.Schedule.{Plan}
+use Rattle.goal_graph.specs.Fault.{IsAccepted}
+use Rattle.goal_parser.specs.declared.faults.TextFault.{TextFault}
+use Rattle.goal_parser.specs.declared.faults.TextFault.TheVariants as text
+use Rattle.goal_parser.specs.Reads.{reads, plans, IsFaultOf}
+use Rattle.goal_binary.specs.declared.fault.FileFault.{FileFault}
+use Rattle.goal_binary.specs.declared.fault.FileFault.TheVariants as file
+use Rattle.goal_binary.specs.Meaning.{meaning, IsFileFault}
+
+-- a compiled file begins with the byte 0x89; any other input, the empty one too, is a text
+abbrev pub is_compiled : List ℕ → Bool
+is_compiled [] = false
+is_compiled (b ∷ bs) = b == 137
+
+abbrev pub SaysBy : Bool → List ℕ → List Plan → Type 0
+SaysBy true input sched = meaning input ≡ Ok sched
+SaysBy false input sched = reads input ≡ plans sched
+
+-- the input has at most 2^27 bytes, and says an accepted schedule
+pub record IsReadAs (input : List ℕ) (sched : List Plan) : Type 0 where
+  pub short : length input ≤ MAX_INPUT
+  pub says : SaysBy (is_compiled input) input sched
+  pub accepted : IsAccepted sched
+
+-- the input has at most 2^27 bytes and is a text, of which this is the first fault, or that of its plans
+pub record IsTextFault (input : List ℕ) (fault : TextFault) : Type 0 where
+  pub short : length input ≤ MAX_INPUT
+  pub form : is_compiled input ≡ false
+  pub told : fault ≢ text.NoMemory
+  pub first : IsFaultOf (reads input) fault
+
+-- the same of a compiled file
+pub record IsFaultOfFile (input : List ℕ) (fault : FileFault) : Type 0 where
+  pub short : length input ≤ MAX_INPUT
+  pub form : is_compiled input ≡ true
+  pub told : fault ≢ file.NoMemory
+  pub first : IsFileFault input fault

@@ -1,0 +1,6 @@
+-- What a reader must believe.
+pub mod Input
+pub mod Unread
+-- What the clauses cite of lower crates.
+pub use Rattle.goal_base.specs.Device
+pub use Rattle.goal_graph.specs.Schedule

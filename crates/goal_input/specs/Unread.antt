@@ -1,0 +1,49 @@
+-- What reading a schedule from a file answers.
+use Rattle.std.specs.Prelude.{ℕ, ◌≡◌, ◌≢◌, ◌<◌, true, List, length, Some, Result, Ok, Err}
+use Rattle.goal_base.specs.declared.limits.TheConstants.{MAX_INPUT}
+use Rattle.goal_base.specs.Device.{HostState, Later, KeepsFiles, SameReadCounts, file_of}
+use Rattle.goal_parser.specs.declared.faults.TextFault.TheVariants as text
+use Rattle.goal_binary.specs.declared.fault.FileFault.TheVariants as file
+use Rattle.goal_input.specs.declared.unread.Unread.{Unread}
+use Rattle.goal_input.specs.declared.unread.Unread.TheVariants as unread
+use Rattle.goal_input.specs.Input.{IsTextFault, IsFaultOfFile}
+
+-- where the host tells its files, the file of that name is there, and P holds of its bytes
+abbrev pub ForFile : HostState → List ℕ → (List ℕ → Type 0) → Type 0
+ForFile host name P = host.tells ≡ true → (input : List ℕ) × (file_of host name ≡ Some input) × P input
+
+-- where the host tells its files and the file of that name is there, P holds of its bytes
+abbrev pub IfFile : HostState → List ℕ → (List ℕ → Type 0) → Type 0
+IfFile host name P = host.tells ≡ true → (input : List ℕ) → file_of host name ≡ Some input → P input
+
+-- an input is not read as a schedule for this reason; want of memory is free
+abbrev pub IsFaultIn : List ℕ → Unread → Type 0
+IsFaultIn input unread.Fault = ⊥
+IsFaultIn input unread.TooLong = MAX_INPUT < length input
+IsFaultIn input (unread.Text fault) = IsTextFault input fault
+IsFaultIn input (unread.File fault) = IsFaultOfFile input fault
+IsFaultIn input unread.NoMemory = Unit {0}
+
+-- A file is not read as a schedule for this reason. Want of memory is free, and is no fault of a text or a compiled
+-- file; `CountsReading` says what is so at a fault of the host.
+abbrev pub IsUnread : HostState → List ℕ → Unread → Type 0
+IsUnread host name unread.Fault = Unit {0}
+IsUnread host name unread.TooLong = ForFile host name (λ input. IsFaultIn input unread.TooLong)
+IsUnread host name (unread.Text fault) = (fault ≢ text.NoMemory) × ForFile host name (λ input. IsTextFault input fault)
+IsUnread host name (unread.File fault) = (fault ≢ file.NoMemory) × ForFile host name (λ input. IsFaultOfFile input fault)
+IsUnread host name unread.NoMemory = Unit {0}
+
+-- what reading a schedule says of the counts of reading: at Fault they rose, as is said, and else they are as they were
+abbrev pub CountsReading : {A : Type 0} → Result A Unread → HostState → HostState → Type 0 → Type 0
+CountsReading (Ok a) old new faulted = SameReadCounts old new
+CountsReading (Err unread.Fault) old new faulted = faulted
+CountsReading (Err unread.TooLong) old new faulted = SameReadCounts old new
+CountsReading (Err (unread.Text fault)) old new faulted = SameReadCounts old new
+CountsReading (Err (unread.File fault)) old new faulted = SameReadCounts old new
+CountsReading (Err unread.NoMemory) old new faulted = SameReadCounts old new
+
+-- A schedule was read from a file, or not. No file changes.
+pub record ReadsSchedule {A : Type 0} (result : Result A Unread) (old new : HostState) (faulted : Type 0) : Type 0 where
+  pub counts : CountsReading result old new faulted
+  pub kept : KeepsFiles old new
+  pub later : Later old new
