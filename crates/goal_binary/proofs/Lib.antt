@@ -24,6 +24,7 @@ pub mod Limits
 pub mod Opening
 pub mod Faults
 pub mod NoLimits
+pub mod EachFault
 pub mod FixedTaken
 pub mod PackedItems
 pub mod PackedTaken

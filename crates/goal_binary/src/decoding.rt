@@ -1,5 +1,5 @@
 //! From a compiled file to its schedule.
-ghost use Rattle.std.specs.Prelude.{◌≡◌, ◌≢◌, ◌⊎◌, List, Ok, IfOk, IfErr, IsOkUnless};
+ghost use Rattle.std.specs.Prelude.{◌≡◌, ◌≢◌, ◌⊎◌, List, Ok, IfOk, IfErr, IsErrOf, IsOkUnless};
 ghost use Rattle.goal_graph.specs.Schedule.{Plan};
 ghost use Rattle.goal_graph.specs.Fault.{IsAccepted};
 ghost use Rattle.goal_graph.specs.Widths.{AreInWidth};
@@ -74,8 +74,10 @@ pub fn decode(alloc: Global, bytes: &[u8]) -> Result<Sched, FileFault>
     ensures ok { IfOk result (λ sched. meaning bytes.now ≡ Ok sched) }
     ensures accepted { IfOk result (λ sched. IsAccepted sched) }
 
-    // The fault is that of the bytes, or else that of their plans.
+    // The fault is that of the bytes, or else that of their plans; and where there is one, it is told.
     ensures fault { IfErr result (λ fault. fault ≢ FileFault.NoMemory → IsFileFault bytes.now fault) }
+    ensures faults { (fault : FileFault) → IsFileFault bytes.now fault
+        → IsErrOf result fault ⊎ IsErrOf result FileFault.NoMemory }
 
     // A file that says plans keeps the limits of counts and values.
     ensures limits { IfErr result (λ fault. IsLimitFault fault → ⊥) }

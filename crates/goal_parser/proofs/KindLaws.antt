@@ -10,6 +10,8 @@ use Rattle.goal_graph.specs.declared.plan.Op.{Op}
 use Rattle.goal_graph.specs.Schedule.{Plan}
 use Rattle.goal_parser.specs.declared.faults.TextFault.{TextFault}
 use Rattle.goal_parser.specs.declared.faults.TextFault.TheVariants.{Syntax, Number, Repeat, TooMany, UnknownLabel}
+use Rattle.goal_parser.specs.declared.token_faults.TokenFault.{TokenFault}
+use Rattle.goal_parser.specs.declared.token_faults.TokenFault.TheVariants as refused
 use Rattle.goal_parser.specs.declared.sentence.State.{State}
 use Rattle.goal_parser.specs.declared.sentence.State.TheVariants as state
 use Rattle.goal_parser.specs.declared.counts.Counts.{Counts}
@@ -27,6 +29,7 @@ use Rattle.goal_parser.specs.Actions.{draft_with, draft_of, op_of, has_option}
 use Rattle.goal_parser.specs.Items.{Definition, NamedDep, NamedNote, define, begins_item, ends_action, ended_ops, head_with, verb_head, low_head, ops_with, defined_with, used_with, deps_with, notes_with, note_uses, note_ended, dep_uses, dep_ended, dep_by, note_by, first_unknown, head_of, ops_of, defined_of, used_of, deps_of, notes_of}
 use Rattle.goal_parser.specs.Plans.{empty_plan, plans_with, plans_of}
 use Rattle.goal_parser.specs.Faults.{fault_if, fault_by, token_fault, syntax_fault, number_fault, rank_fault, rank_fault_of, numbered_rank_fault, option_fault, defined_fault, label_fault, count_fault, unknown_fault}
+use Rattle.goal_parser.specs.FaultInText.{fault_in_text}
 use Rattle.goal_parser.specs.Slots.{NamesHold}
 use Rattle.goal_parser.specs.Taken.{HasTaken, Takes, Refuses, IsAction, IsOption, IsVerb, IsPlain}
 use Rattle.goal_parser.proofs.SlotLaws.{option_or-none}
@@ -132,14 +135,14 @@ pub told : (p : Parser) (before : List Token) (t : Token) (next : State) (fault 
     → token_fault before t ≡ fault
 told p before t next fault taken enters rest = sym (fault_taken p before t fault taken (sym (rest_entered p before t next enters ∙ rest)))
 
-pub refuses_entry : (p : Parser) (t : Token) → entry p.state t.kind ≡ None → Refuses p t (Syntax t.start)
+pub refuses_entry : (p : Parser) (t : Token) → entry p.state t.kind ≡ None → Refuses p t (refused.Syntax t.start)
 unfolding fault_by syntax_fault
 refuses_entry p t none = λ before taken. sym (fault_taken p before t (Some (Syntax t.start)) taken
     (sym (ap (λ (o : Option State). option_or (fault_if (is_none o) (Syntax t.start)) (rest_fault p before t)) none)))
 
-pub refuses : (p : Parser) (t : Token) (next : State) (fault : TextFault) → entry p.state t.kind ≡ Some next
-    → ((before : List Token) → HasTaken p before → rest_fault p before t ≡ Some fault) → Refuses p t fault
-refuses p t next fault enters rest = λ before taken. told p before t next (Some fault) taken enters (rest before taken)
+pub refuses : (p : Parser) (t : Token) (next : State) (fault : TokenFault) → entry p.state t.kind ≡ Some next
+    → ((before : List Token) → HasTaken p before → rest_fault p before t ≡ Some (fault_in_text fault)) → Refuses p t fault
+refuses p t next fault enters rest = λ before taken. told p before t next (Some (fault_in_text fault)) taken enters (rest before taken)
 
 -- What a token gives.
 
@@ -473,9 +476,9 @@ takes_option old t next draft enters is new drafted =
     takes old (record old { state = next; draft = draft }) t next enters (λ before taken. rest_of_option old before t is ∙ ap (λ (b : Bool). fault_if b (Repeat t.start)) new)
     (gives_option old next draft t.kind t.start enters is drafted)
 
-pub refuses_option : (old : Parser) (t : Token) (next : State) → entry old.state t.kind ≡ Some next → IsOption t.kind → has_option t.kind old.draft ≡ true → Refuses old t (Repeat t.start)
+pub refuses_option : (old : Parser) (t : Token) (next : State) → entry old.state t.kind ≡ Some next → IsOption t.kind → has_option t.kind old.draft ≡ true → Refuses old t (refused.Repeat t.start)
 refuses_option old t next enters is again =
-    refuses old t next (Repeat t.start) enters (λ before taken. rest_of_option old before t is ∙ ap (λ (b : Bool). fault_if b (Repeat t.start)) again)
+    refuses old t next (refused.Repeat t.start) enters (λ before taken. rest_of_option old before t is ∙ ap (λ (b : Bool). fault_if b (Repeat t.start)) again)
 
 pub takes_size : (old : Parser) (t : Token) (next : State) (draft : Draft) (n : ℕ) → entry old.state t.kind ≡ Some next → t.kind ≡ token.Size n → number_within old.state old.draft.option n ≡ true
     → draft ≡ draft_with old.state t.kind old.draft → Takes old t (record old { state = next; draft = draft })
@@ -483,9 +486,9 @@ takes_size old t next draft n enters is within drafted =
     takes old (record old { state = next; draft = draft }) t next enters (λ before taken. rest_of_size old before t n is ∙ ap (λ (b : Bool). fault_if (not b) (Number t.start)) within)
     (gives_size old next draft n t.kind t.start is enters drafted)
 
-pub refuses_size : (old : Parser) (t : Token) (next : State) (n : ℕ) → entry old.state t.kind ≡ Some next → t.kind ≡ token.Size n → number_within old.state old.draft.option n ≡ false → Refuses old t (Number t.start)
+pub refuses_size : (old : Parser) (t : Token) (next : State) (n : ℕ) → entry old.state t.kind ≡ Some next → t.kind ≡ token.Size n → number_within old.state old.draft.option n ≡ false → Refuses old t (refused.Number t.start)
 refuses_size old t next n enters is beyond =
-    refuses old t next (Number t.start) enters (λ before taken. rest_of_size old before t n is ∙ ap (λ (b : Bool). fault_if (not b) (Number t.start)) beyond)
+    refuses old t next (refused.Number t.start) enters (λ before taken. rest_of_size old before t n is ∙ ap (λ (b : Bool). fault_if (not b) (Number t.start)) beyond)
 
 pub takes_action : (old new : Parser) (t : Token) (next : State) → entry old.state t.kind ≡ Some next → IsAction t.kind → is_too_many t.kind old.counts ≡ false
     → new.state ≡ next → new.ranks ≡ old.ranks → new.counts ≡ counts_with t.kind old.counts → new.draft ≡ draft_with old.state t.kind old.draft → new.head ≡ old.head
@@ -495,9 +498,9 @@ takes_action old new t next enters is few stated ranked counted drafted headed o
     takes old new t next enters (λ before taken. rest_of_action old before t is ∙ ap (λ (b : Bool). fault_if b (TooMany t.start)) few)
     (gives_action old new next t.kind t.start enters is stated ranked counted drafted headed opened named planned)
 
-pub refuses_action : (old : Parser) (t : Token) (next : State) → entry old.state t.kind ≡ Some next → IsAction t.kind → is_too_many t.kind old.counts ≡ true → Refuses old t (TooMany t.start)
+pub refuses_action : (old : Parser) (t : Token) (next : State) → entry old.state t.kind ≡ Some next → IsAction t.kind → is_too_many t.kind old.counts ≡ true → Refuses old t (refused.TooMany t.start)
 refuses_action old t next enters is many =
-    refuses old t next (TooMany t.start) enters (λ before taken. rest_of_action old before t is ∙ ap (λ (b : Bool). fault_if b (TooMany t.start)) many)
+    refuses old t next (refused.TooMany t.start) enters (λ before taken. rest_of_action old before t is ∙ ap (λ (b : Bool). fault_if b (TooMany t.start)) many)
 
 pub takes_verb : (old : Parser) (t : Token) (next : State) (counts : Counts) (head : ItemHead) → entry old.state t.kind ≡ Some next → IsVerb t.kind → is_too_many t.kind old.counts ≡ false
     → counts ≡ counts_with t.kind old.counts → head ≡ verb_head t.kind old.head → Takes old t (record old { state = next; counts = counts; head = head })
@@ -505,12 +508,12 @@ takes_verb old t next counts head enters is few counted headed =
     takes old (record old { state = next; counts = counts; head = head }) t next enters (λ before taken. rest_of_verb old before t is ∙ ap (λ (b : Bool). fault_if b (TooMany t.start)) few)
     (gives_verb old next counts head t.kind t.start enters is counted headed)
 
-pub refuses_verb : (old : Parser) (t : Token) (next : State) → entry old.state t.kind ≡ Some next → IsVerb t.kind → is_too_many t.kind old.counts ≡ true → Refuses old t (TooMany t.start)
+pub refuses_verb : (old : Parser) (t : Token) (next : State) → entry old.state t.kind ≡ Some next → IsVerb t.kind → is_too_many t.kind old.counts ≡ true → Refuses old t (refused.TooMany t.start)
 refuses_verb old t next enters is many =
-    refuses old t next (TooMany t.start) enters (λ before taken. rest_of_verb old before t is ∙ ap (λ (b : Bool). fault_if b (TooMany t.start)) many)
+    refuses old t next (refused.TooMany t.start) enters (λ before taken. rest_of_verb old before t is ∙ ap (λ (b : Bool). fault_if b (TooMany t.start)) many)
 
-pub refuses_colon : (old : Parser) (t : Token) (next : State) (fault : TextFault) → entry old.state t.kind ≡ Some next → t.kind ≡ token.Colon
-    → ((before : List Token) → HasTaken old before → defined_fault (defined_of before) old.head.subject ≡ Some fault) → Refuses old t fault
+pub refuses_colon : (old : Parser) (t : Token) (next : State) (fault : TokenFault) → entry old.state t.kind ≡ Some next → t.kind ≡ token.Colon
+    → ((before : List Token) → HasTaken old before → defined_fault (defined_of before) old.head.subject ≡ Some (fault_in_text fault)) → Refuses old t fault
 refuses_colon old t next fault enters is again = refuses old t next fault enters (λ before taken. rest_of_colon old before t is ∙ again before taken)
 
 pub takes_colon : (old new : Parser) (t : Token) (next : State) (op : ℕ) → entry old.state t.kind ≡ Some next → t.kind ≡ token.Colon → op ≡ length old.block.ops.items
@@ -536,9 +539,9 @@ takes_colon old new t next op enters is counted stated ranked same drafted heade
     }) enters)
 
 pub refuses_close : (old : Parser) (t : Token) (next : State) (at : ℕ) → entry old.state t.kind ≡ Some next → t.kind ≡ token.Close
-    → ((before : List Token) → HasTaken old before → first_unknown (defined_of before) (used_of before) ≡ Some at) → Refuses old t (UnknownLabel at)
+    → ((before : List Token) → HasTaken old before → first_unknown (defined_of before) (used_of before) ≡ Some at) → Refuses old t (refused.UnknownLabel at)
 refuses_close old t next at enters is unknown =
-    refuses old t next (UnknownLabel at) enters (λ before taken. rest_of_close old before t is ∙ ap (option_map UnknownLabel) (unknown before taken))
+    refuses old t next (refused.UnknownLabel at) enters (λ before taken. rest_of_close old before t is ∙ ap (option_map UnknownLabel) (unknown before taken))
 
 pub takes_close : (old new : Parser) (t : Token) (next : State) (plan : Plan) → entry old.state t.kind ≡ Some next → t.kind ≡ token.Close
     → ((before : List Token) → HasTaken old before → first_unknown (defined_of before) (used_of before) ≡ None)
@@ -597,8 +600,8 @@ takes_label old new t next label enters is other stated ranked same drafted head
 -- Numbers.
 
 module _ (old : Parser) (t : Token) (next : State) (n : ℕ) (enters : entry old.state t.kind ≡ Some next) (is : t.kind ≡ token.Number n) where
-  pub refuses_number : number_within old.state old.draft.option n ≡ false → Refuses old t (Number t.start)
-  refuses_number beyond = refuses old t next (Number t.start) enters (λ before taken. rest_of_number old before t n is
+  pub refuses_number : number_within old.state old.draft.option n ≡ false → Refuses old t (refused.Number t.start)
+  refuses_number beyond = refuses old t next (refused.Number t.start) enters (λ before taken. rest_of_number old before t n is
       ∙ ap (λ (b : Bool). option_or (fault_if (not b) (Number t.start)) (numbered_rank_fault old.state old.ranks.count old.ranks.blocks.keys n t.start)) beyond)
 
   rank_here : rank_fault old.state old.ranks.count old.ranks.blocks.keys t ≡ numbered_rank_fault old.state old.ranks.count old.ranks.blocks.keys n t.start
@@ -610,7 +613,7 @@ module _ (old : Parser) (t : Token) (next : State) (n : ℕ) (enters : entry old
   passed_number within before = rest_of_number old before t n is
       ∙ ap (λ (b : Bool). option_or (fault_if (not b) (Number t.start)) (numbered_rank_fault old.state old.ranks.count old.ranks.blocks.keys n t.start)) within
 
-  pub refuses_rank : (fault : TextFault) → number_within old.state old.draft.option n ≡ true → Some fault ≡ rank_fault old.state old.ranks.count old.ranks.blocks.keys t → Refuses old t fault
+  pub refuses_rank : (fault : TokenFault) → number_within old.state old.draft.option n ≡ true → Some (fault_in_text fault) ≡ rank_fault old.state old.ranks.count old.ranks.blocks.keys t → Refuses old t fault
   refuses_rank fault within ranked = refuses old t next fault enters (λ before taken. passed_number within before ∙ sym (ranked ∙ rank_here))
 
   pub new_rank : old.state ≡ state.Block → None ≡ rank_fault old.state old.ranks.count old.ranks.blocks.keys t → list_any (nat_eq n) old.ranks.blocks.keys ≡ false

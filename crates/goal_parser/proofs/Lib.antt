@@ -8,4 +8,5 @@ pub mod LimitLaws
 pub mod GrammarLaws
 pub mod OneReading
 pub mod NoLimits
+pub mod EachFault
 pub mod ForCallers

@@ -130,6 +130,9 @@ reads_plans text ps none are = ap (λ o. reading o (text_plans text)) none ∙ a
 pub IsFaultOf-reads : (text : List ℕ) (f : TextFault) → text_fault text ≡ Some f → IsFaultOf (reads text) f
 IsFaultOf-reads text f is = subst (λ (r : Reading). IsFaultOf r f) (reads_fault text f is) refl
 
+pub IsFaultOf-faulty : (text : List ℕ) (f : TextFault) → reads text ≡ faulty f → IsFaultOf (reads text) f
+IsFaultOf-faulty text f is = subst (λ (r : Reading). IsFaultOf r f) (sym is) refl
+
 pub fault_of_plans-reads : (text : List ℕ) (ps : List Plan) (f : PlanFault) → reads text ≡ plans ps → (f ≢ plan.NoMemory → IsFault ps f)
     → fault_of_plans f ≢ fault.NoMemory → IsFaultOf (reads text) (fault_of_plans f)
 fault_of_plans-reads text ps f is first memory = subst (λ (r : Reading). IsFaultOf r (fault_of_plans f)) (sym is) (by f first memory)

@@ -12,6 +12,7 @@ pub mod Reader
 pub mod TextRead
 pub mod FaultWords
 -- What only the code keeps.
+pub mod FaultInText
 pub mod Slots
 pub mod Taken
 -- Laws.

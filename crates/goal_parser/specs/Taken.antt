@@ -3,7 +3,7 @@ use Rattle.std.specs.Prelude.{◌≡◌, List, ◌∷◌, None, Some, ⊤}
 use Rattle.goal_lexer.specs.declared.tokens.Token.{Token}
 use Rattle.goal_lexer.specs.declared.tokens.TokenKind.{TokenKind}
 use Rattle.goal_lexer.specs.declared.tokens.TokenKind.TheVariants as token
-use Rattle.goal_parser.specs.declared.faults.TextFault.{TextFault}
+use Rattle.goal_parser.specs.declared.token_faults.TokenFault.{TokenFault}
 use Rattle.goal_parser.specs.declared.parser.Parser.{Parser}
 use Rattle.goal_parser.specs.Sentence.{state_of}
 use Rattle.goal_parser.specs.Ranks.{ranks_of, rank_of, blocks_of}
@@ -12,6 +12,7 @@ use Rattle.goal_parser.specs.Actions.{draft_of}
 use Rattle.goal_parser.specs.Items.{head_of, ops_of, defined_of, used_of, deps_of, notes_of}
 use Rattle.goal_parser.specs.Plans.{plans_of}
 use Rattle.goal_parser.specs.Faults.{token_fault}
+use Rattle.goal_parser.specs.FaultInText.{fault_in_text}
 use Rattle.goal_parser.specs.Slots.{NamesHold}
 
 -- The parser has taken these tokens, of which the newest stands first: it keeps what they give.
@@ -32,8 +33,8 @@ abbrev pub Takes : Parser → Token → Parser → Type 0
 Takes old token new = (before : List Token) → HasTaken old before → (token_fault before token ≡ None) × HasTaken new (token ∷ before)
 
 -- the parser refuses the token: this is the first test that it fails
-abbrev pub Refuses : Parser → Token → TextFault → Type 0
-Refuses old token fault = (before : List Token) → HasTaken old before → token_fault before token ≡ Some fault
+abbrev pub Refuses : Parser → Token → TokenFault → Type 0
+Refuses old token fault = (before : List Token) → HasTaken old before → token_fault before token ≡ Some (fault_in_text fault)
 
 -- the word of an action
 abbrev pub IsAction : TokenKind → Type 0

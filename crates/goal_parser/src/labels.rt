@@ -3,10 +3,11 @@ ghost use Rattle.std.specs.Prelude.{◌≡◌, ◌≢◌, ◌<◌, List, [], ◌
 ghost use Rattle.goal_parser.specs.Items.{Definition, first_unknown};
 ghost use Rattle.goal_parser.specs.declared.head.Mention.{Mention};
 ghost use Rattle.goal_parser.specs.Faults.{defined_fault};
+ghost use Rattle.goal_parser.specs.FaultInText.{fault_in_text};
 ghost use Rattle.goal_parser.specs.Slots.{Keeps, Grows, op_in, label_at, op_at};
 
-use crate::faults::TextFault;
 use crate::head::Mention;
+use crate::token_faults::TokenFault;
 use goal_lexer::Label;
 use indexmap::IndexMap;
 use std::alloc::{AllocError, Global};
@@ -62,16 +63,16 @@ impl Labels {
     /// # Errors
     ///
     /// `Repeat` where the label is defined already, and want of memory.
-    pub fn define(&mut self, mention: &Mention, op: u32) -> Result<(), TextFault>
+    pub fn define(&mut self, mention: &Mention, op: u32) -> Result<(), TokenFault>
         ensures ok { OnOk result ((ds : List Definition) (us : List Mention) → Keeps self.old.slots.entries ds us →
             (defined_fault ds (Some mention.now) ≡ None) × Keeps self.new.slots.entries (ds ++ record { label = mention.now.label; op = op } ∷ []) us) }
         ensures grows { OnOk result (Grows self.old.slots.entries self.new.slots.entries) }
-        ensures fault { IfErr result (λ f. f ≢ TextFault.NoMemory → (ds : List Definition) (us : List Mention) → Keeps self.old.slots.entries ds us → defined_fault ds (Some mention.now) ≡ Some f) }
+        ensures fault { IfErr result (λ f. f ≢ TokenFault.NoMemory → (ds : List Definition) (us : List Mention) → Keeps self.old.slots.entries ds us → defined_fault ds (Some mention.now) ≡ Some (fault_in_text f)) }
     {
         let at = mention.at;
         let before = self.slots.insert(mention.label, Slot { op: Some(op), at })?;
         match op_in(before) {
-            Some(_) => Err(TextFault::Repeat { at }),
+            Some(_) => Err(TokenFault::Repeat { at }),
             None => Ok(()),
         }
     }

@@ -32,6 +32,7 @@ mod sentence;
 #[cfg(test)]
 mod tests;
 mod text;
+mod token_faults;
 
 pub use faults::TextFault;
 pub use laws::laws_of_texts;

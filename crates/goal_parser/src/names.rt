@@ -5,11 +5,12 @@ ghost use Rattle.goal_parser.specs.Items.{Definition, NamedDep, NamedNote, defin
 ghost use Rattle.goal_parser.specs.Slots.{Keeps, NamesHold, dep_at, note_at};
 ghost use Rattle.goal_parser.specs.Numbers.{IsWithin};
 ghost use Rattle.goal_parser.specs.Faults.{defined_fault};
+ghost use Rattle.goal_parser.specs.FaultInText.{fault_in_text};
 
-use crate::faults::TextFault;
 use crate::head::{ItemHead, Mention, Verb};
 use crate::labels::Labels;
 use crate::sentence::State;
+use crate::token_faults::TokenFault;
 use goal_graph::{Dep, Note, When};
 use goal_lexer::{Label, TokenKind};
 use std::alloc::{AllocError, Global};
@@ -70,10 +71,10 @@ impl Names {
     /// # Errors
     ///
     /// `Repeat` where the block has defined the label before, and want of memory.
-    pub fn define(&mut self, subject: &Option<Mention>, op: u32) -> Result<(), TextFault>
+    pub fn define(&mut self, subject: &Option<Mention>, op: u32) -> Result<(), TokenFault>
         ensures ok { OnOk result ((ds : List Definition) (us : List Mention) (deps : List NamedDep) (notes : List NamedNote) → NamesHold self.old ds us deps notes →
             (defined_fault ds subject.now ≡ None) × NamesHold self.new (define subject.now op ds) us deps notes) }
-        ensures fault { IfErr result (λ f. f ≢ TextFault.NoMemory → (ds : List Definition) (us : List Mention) → Keeps self.old.labels.slots.entries ds us → defined_fault ds subject.now ≡ Some f) }
+        ensures fault { IfErr result (λ f. f ≢ TokenFault.NoMemory → (ds : List Definition) (us : List Mention) → Keeps self.old.labels.slots.entries ds us → defined_fault ds subject.now ≡ Some (fault_in_text f)) }
     {
         match subject {
             Some(subject) => self.labels.define(subject, op),

@@ -3,17 +3,18 @@ ghost use Rattle.std.specs.Prelude.{◌≡◌, ◌≢◌, List, [], ◌∷◌, N
 ghost use Rattle.goal_lexer.specs.declared.tokens.Token.{Token};
 ghost use Rattle.goal_parser.specs.Sentence.{entry};
 ghost use Rattle.goal_parser.specs.Faults.{token_fault};
+ghost use Rattle.goal_parser.specs.FaultInText.{fault_in_text};
 ghost use Rattle.goal_parser.specs.Taken.{HasTaken, IsAction, IsOption, IsVerb, IsPlain, Takes, Refuses};
 
 use crate::block::{Block, end_action};
 use crate::counts::Counts;
 use crate::draft::Draft;
-use crate::faults::TextFault;
 use crate::head::ItemHead;
 use crate::numbers::number_within;
 use crate::plans;
 use crate::ranks::Ranks;
 use crate::sentence::{State, entry};
+use crate::token_faults::TokenFault;
 use goal_graph::RankPlan;
 use goal_lexer::{Label, Token, TokenKind};
 use std::alloc::Global;
@@ -58,15 +59,15 @@ impl Parser {
 
     /// Takes a number.
     #[inline(always)]
-    fn take_number(&mut self, next: State, token: &Token, value: u64) -> Result<(), TextFault>
+    fn take_number(&mut self, next: State, token: &Token, value: u64) -> Result<(), TokenFault>
         requires next { entry self.old.state token.now.kind ≡ Some next }
         requires number { token.now.kind ≡ TokenKind.Number value }
         ensures ok { OnOk result (Takes self.old token.now self.new) }
-        ensures fault { IfErr result (λ f. f ≢ TextFault.NoMemory → Refuses self.old token.now f) }
+        ensures fault { IfErr result (λ f. f ≢ TokenFault.NoMemory → Refuses self.old token.now f) }
     {
         let state = self.state;
         if !number_within(state, self.draft.option, value) {
-            return Err(TextFault::Number { at: token.start });
+            return Err(TokenFault::Number { at: token.start });
         }
         self.state = next;
         match state {
@@ -99,14 +100,14 @@ impl Parser {
 
     /// Takes a size.
     #[inline(always)]
-    fn take_size(&mut self, next: State, token: &Token, value: u64) -> Result<(), TextFault>
+    fn take_size(&mut self, next: State, token: &Token, value: u64) -> Result<(), TokenFault>
         requires next { entry self.old.state token.now.kind ≡ Some next }
         requires size { token.now.kind ≡ TokenKind.Size value }
         ensures ok { OnOk result (Takes self.old token.now self.new) }
-        ensures fault { IfErr result (λ f. f ≢ TextFault.NoMemory → Refuses self.old token.now f) }
+        ensures fault { IfErr result (λ f. f ≢ TokenFault.NoMemory → Refuses self.old token.now f) }
     {
         if !number_within(self.state, self.draft.option, value) {
-            return Err(TextFault::Number { at: token.start });
+            return Err(TokenFault::Number { at: token.start });
         }
         self.draft.take(self.state, &token.kind);
         self.state = next;
@@ -115,14 +116,14 @@ impl Parser {
 
     /// Takes the word of an option.
     #[inline(always)]
-    fn take_option(&mut self, next: State, token: &Token) -> Result<(), TextFault>
+    fn take_option(&mut self, next: State, token: &Token) -> Result<(), TokenFault>
         requires next { entry self.old.state token.now.kind ≡ Some next }
         requires option { IsOption token.now.kind }
         ensures ok { OnOk result (Takes self.old token.now self.new) }
-        ensures fault { IfErr result (λ f. f ≢ TextFault.NoMemory → Refuses self.old token.now f) }
+        ensures fault { IfErr result (λ f. f ≢ TokenFault.NoMemory → Refuses self.old token.now f) }
     {
         if self.draft.has_option(&token.kind) {
-            return Err(TextFault::Repeat { at: token.start });
+            return Err(TokenFault::Repeat { at: token.start });
         }
         self.draft.take(self.state, &token.kind);
         self.state = next;
@@ -131,11 +132,11 @@ impl Parser {
 
     /// Takes a label.
     #[inline(always)]
-    fn take_label(&mut self, next: State, token: &Token, label: &Label) -> Result<(), TextFault>
+    fn take_label(&mut self, next: State, token: &Token, label: &Label) -> Result<(), TokenFault>
         requires next { entry self.old.state token.now.kind ≡ Some next }
         requires label { token.now.kind ≡ TokenKind.Label label.now }
         ensures ok { OnOk result (Takes self.old token.now self.new) }
-        ensures fault { IfErr result (λ f. f ≢ TextFault.NoMemory → Refuses self.old token.now f) }
+        ensures fault { IfErr result (λ f. f ≢ TokenFault.NoMemory → Refuses self.old token.now f) }
     {
         let state = self.state;
         self.state = next;
@@ -154,15 +155,15 @@ impl Parser {
 
     /// Takes a colon: it defines the label before it.
     #[inline(always)]
-    fn take_colon(&mut self, next: State, token: &Token) -> Result<(), TextFault>
+    fn take_colon(&mut self, next: State, token: &Token) -> Result<(), TokenFault>
         requires next { entry self.old.state token.now.kind ≡ Some next }
         requires colon { token.now.kind ≡ TokenKind.Colon }
         ensures ok { OnOk result (Takes self.old token.now self.new) }
-        ensures fault { IfErr result (λ f. f ≢ TextFault.NoMemory → Refuses self.old token.now f) }
+        ensures fault { IfErr result (λ f. f ≢ TokenFault.NoMemory → Refuses self.old token.now f) }
     {
         // More operations than 32 bits can number count as want of memory.
         let Ok(op) = u32::try_from(self.block.ops.len()) else {
-            return Err(TextFault::NoMemory);
+            return Err(TokenFault::NoMemory);
         };
         self.state = next;
         self.block.names.define(&self.head.subject, op)
@@ -170,14 +171,14 @@ impl Parser {
 
     /// Takes the word that an action begins with.
     #[inline(always)]
-    fn take_action(&mut self, next: State, token: &Token) -> Result<(), TextFault>
+    fn take_action(&mut self, next: State, token: &Token) -> Result<(), TokenFault>
         requires next { entry self.old.state token.now.kind ≡ Some next }
         requires action { IsAction token.now.kind }
         ensures ok { OnOk result (Takes self.old token.now self.new) }
-        ensures fault { IfErr result (λ f. f ≢ TextFault.NoMemory → Refuses self.old token.now f) }
+        ensures fault { IfErr result (λ f. f ≢ TokenFault.NoMemory → Refuses self.old token.now f) }
     {
         if self.counts.is_too_many(&token.kind) {
-            return Err(TextFault::TooMany { at: token.start });
+            return Err(TokenFault::TooMany { at: token.start });
         }
         end_action(&mut self.block.ops, self.state, &token.kind, &self.draft)?;
         self.counts.take(&token.kind);
@@ -188,14 +189,14 @@ impl Parser {
 
     /// Takes the word behind the label of a dependency or a note.
     #[inline(always)]
-    fn take_verb(&mut self, next: State, token: &Token) -> Result<(), TextFault>
+    fn take_verb(&mut self, next: State, token: &Token) -> Result<(), TokenFault>
         requires next { entry self.old.state token.now.kind ≡ Some next }
         requires verb { IsVerb token.now.kind }
         ensures ok { OnOk result (Takes self.old token.now self.new) }
-        ensures fault { IfErr result (λ f. f ≢ TextFault.NoMemory → Refuses self.old token.now f) }
+        ensures fault { IfErr result (λ f. f ≢ TokenFault.NoMemory → Refuses self.old token.now f) }
     {
         if self.counts.is_too_many(&token.kind) {
-            return Err(TextFault::TooMany { at: token.start });
+            return Err(TokenFault::TooMany { at: token.start });
         }
         self.counts.take(&token.kind);
         self.head.take_verb(&token.kind);
@@ -204,14 +205,14 @@ impl Parser {
     }
 
     /// Takes the sign that ends a block.
-    fn take_close(&mut self, next: State, token: &Token) -> Result<(), TextFault>
+    fn take_close(&mut self, next: State, token: &Token) -> Result<(), TokenFault>
         requires next { entry self.old.state token.now.kind ≡ Some next }
         requires close { token.now.kind ≡ TokenKind.Close }
         ensures ok { OnOk result (Takes self.old token.now self.new) }
-        ensures fault { IfErr result (λ f. f ≢ TextFault.NoMemory → Refuses self.old token.now f) }
+        ensures fault { IfErr result (λ f. f ≢ TokenFault.NoMemory → Refuses self.old token.now f) }
     {
         if let Some(at) = self.block.names.labels.first_unknown() {
-            return Err(TextFault::UnknownLabel { at });
+            return Err(TokenFault::UnknownLabel { at });
         }
         let plan = self.block.close(self.alloc, self.state, &self.draft)?;
         plans::put(&mut self.plans, self.ranks.present, plan);
@@ -242,12 +243,12 @@ impl Parser {
 
     /// Takes the next token. Only the tests that its kind can fail are made, in their order.
     #[inline(always)]
-    pub fn take(&mut self, token: &Token) -> Result<(), TextFault>
+    pub fn take(&mut self, token: &Token) -> Result<(), TokenFault>
         ensures ok { OnOk result ((before : List Token) → HasTaken self.old before → (token_fault before token.now ≡ None) × HasTaken self.new (token.now ∷ before)) }
-        ensures fault { IfErr result (λ f. f ≢ TextFault.NoMemory → (before : List Token) → HasTaken self.old before → token_fault before token.now ≡ Some f) }
+        ensures fault { IfErr result (λ f. f ≢ TokenFault.NoMemory → (before : List Token) → HasTaken self.old before → token_fault before token.now ≡ Some (fault_in_text f)) }
     {
         let Some(next) = entry(self.state, &token.kind) else {
-            return Err(TextFault::Syntax { at: token.start });
+            return Err(TokenFault::Syntax { at: token.start });
         };
         match &token.kind {
             TokenKind::Number { value } => self.take_number(next, token, *value),

@@ -2,12 +2,12 @@
 ghost use Rattle.std.specs.Prelude.{◌≡◌, ◌≢◌, ℕ, ◌+◌, ◌<◌, ◌^◌, List, [], ◌++◌, length, false, None, Some, Err, OnOk, IfOk, IfErr};
 ghost use Rattle.goal_graph.specs.Fault.{IsAccepted};
 ghost use Rattle.goal_graph.specs.Widths.{AreInWidth};
-ghost use Rattle.goal_parser.specs.Reads.{reads, faulty, plans, IsFaultOf};
+ghost use Rattle.goal_parser.specs.Reads.{reads, faulty, plans, IsFaultOf, fault_of_plans};
 
 use crate::faults::TextFault;
 use crate::reader::Reader;
-use crate::text::fault_of_plans;
-use goal_graph::Sched;
+use crate::token_faults::fault_in_text;
+use goal_graph::{PlanFault, Sched};
 use std::alloc::Global;
 
 /// Takes a text in pieces, cut at any places, and gives its schedule or its first fault. It keeps no byte of the text but
@@ -22,6 +22,16 @@ pub struct TextReader {
     // Where no fault was met, lexer and parser stand at the same place, and no run was handed out there.
     ghost together: { fault ≡ None → reader.lexer.place ≡ reader.place },
     ghost apart: { fault ≡ None → reader.lexer.ends_run ≡ false },
+}
+
+/// The fault of the plans, as that of the text.
+fn fault_of_plans(fault: PlanFault) -> TextFault
+    ensures { result ≡ fault_of_plans fault }
+{
+    match fault {
+        PlanFault::NoMemory => TextFault::NoMemory,
+        fault => TextFault::Plan(fault),
+    }
 }
 
 impl TextReader {
@@ -64,6 +74,7 @@ impl TextReader {
         match self.reader.feed(piece) {
             Ok(()) => Ok(()),
             Err(fault) => {
+                let fault = fault_in_text(fault);
                 self.fault = Some(fault);
                 Err(fault)
             }
@@ -93,7 +104,7 @@ impl TextReader {
         }
         let plans = match reader.finish() {
             Ok(plans) => plans,
-            Err(fault) => return Err(fault),
+            Err(fault) => return Err(fault_in_text(fault)),
         };
         match Sched::build(alloc, plans) {
             Ok(sched) => {

@@ -1,10 +1,12 @@
 //! The number of ranks, and the ranks of the blocks.
 ghost use Rattle.std.specs.Prelude.{◌≡◌, ◌++◌, [], ◌∷◌, None, OnOk, nat_eq, false};
 ghost use Rattle.std.specs.List.{list_any};
+ghost use Rattle.std.specs.Option.{option_map};
+ghost use Rattle.goal_parser.specs.FaultInText.{fault_in_text};
 ghost use Rattle.goal_parser.specs.Faults.{numbered_rank_fault, rank_fault};
 
-use crate::faults::TextFault;
 use crate::sentence::State;
+use crate::token_faults::TokenFault;
 use goal_lexer::{Token, TokenKind};
 use indexmap::IndexSet;
 use std::alloc::{AllocError, Global};
@@ -35,15 +37,15 @@ impl Ranks {
     }
 
     /// Why the number behind `rank` is refused, if it is.
-    fn numbered_fault(&self, state: State, value: u64, at: u64) -> Option<TextFault>
-        ensures { result ≡ numbered_rank_fault state self.now.count self.now.blocks.keys value at }
+    fn numbered_fault(&self, state: State, value: u64, at: u64) -> Option<TokenFault>
+        ensures { option_map fault_in_text result ≡ numbered_rank_fault state self.now.count self.now.blocks.keys value at }
     {
         match state {
             State::Block => {
                 if value >= self.count {
-                    Some(TextFault::Rank { at })
+                    Some(TokenFault::Rank { at })
                 } else if self.blocks.contains(&value) {
-                    Some(TextFault::Repeat { at })
+                    Some(TokenFault::Repeat { at })
                 } else {
                     None
                 }
@@ -54,8 +56,8 @@ impl Ranks {
 
     /// Why the token is refused as a rank, if it is.
     #[tactic(auto, unfolding(crate::specs::Faults::rank_fault))]
-    pub fn fault(&self, state: State, token: &Token) -> Option<TextFault>
-        ensures { result ≡ rank_fault state self.now.count self.now.blocks.keys token.now }
+    pub fn fault(&self, state: State, token: &Token) -> Option<TokenFault>
+        ensures { option_map fault_in_text result ≡ rank_fault state self.now.count self.now.blocks.keys token.now }
     {
         match &token.kind {
             TokenKind::Number { value } => self.numbered_fault(state, *value, token.start),

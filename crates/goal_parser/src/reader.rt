@@ -2,12 +2,14 @@
 ghost use Rattle.std.specs.Prelude.{◌≡◌, ◌≢◌, ℕ, ◌+◌, ◌<◌, ◌≤◌, ◌⊎◌, ◌^◌, true, false, List, [], ◌∷◌, ◌++◌, length, take, drop, None, Some, OnOk, IfOk, IfErr, reverse, option_to_list};
 ghost use Rattle.goal_lexer.specs.Stands.{begins_run};
 ghost use Rattle.goal_lexer.specs.declared.tokens.Token.{Token};
+ghost use Rattle.std.specs.Option.{option_map};
+ghost use Rattle.goal_parser.specs.FaultInText.{fault_in_text};
 ghost use Rattle.goal_parser.specs.Reads.{text_fault, text_plans, end_fault, first_fault};
 ghost use Rattle.goal_parser.specs.Taken.{HasTaken};
 
-use crate::faults::TextFault;
 use crate::parser::Parser;
 use crate::sentence::State;
+use crate::token_faults::TokenFault;
 use goal_graph::RankPlan;
 use goal_lexer::{Lexer, Token};
 use std::alloc::Global;
@@ -24,12 +26,12 @@ pub struct Reader {
 }
 
 /// Why the text may not end here, in this state, if it may not.
-fn end_fault(state: State, place: u64) -> Option<TextFault>
-    ensures { result ≡ end_fault state place }
+fn end_fault(state: State, place: u64) -> Option<TokenFault>
+    ensures { option_map fault_in_text result ≡ end_fault state place }
 {
     match state {
         State::Top => None,
-        _ => Some(TextFault::Syntax { at: place }),
+        _ => Some(TokenFault::Syntax { at: place }),
     }
 }
 
@@ -53,7 +55,7 @@ impl Reader {
     /// Takes bytes from the front of `rest` up to the end of a token, and that token, which is written to its place. The
     /// answer is how many.
     #[inline(always)]
-    fn step(&mut self, rest: &[u8], token: &mut Token) -> Result<usize, TextFault>
+    fn step(&mut self, rest: &[u8], token: &mut Token) -> Result<usize, TokenFault>
         requires some { 0 < length rest.now }
         requires place { self.old.place + length rest.now < 2 ^ 64 }
         requires same { self.old.lexer.place ≡ self.old.place }
@@ -65,10 +67,10 @@ impl Reader {
         ensures left { IfOk result (λ n. self.new.lexer.ends_run ≡ true → n < length rest.now) }
         ensures moves { IfOk result (λ n. (0 < n) ⊎ ((self.old.lexer.ends_run ≡ false) × (self.new.lexer.ends_run ≡ true))) }
         ensures stands { IfOk result (λ n. (text : List ℕ) → StandsFor self.old text → StandsFor self.new (text ++ take n rest.now)) }
-        ensures fault { IfErr result (λ f. f ≢ TextFault.NoMemory → (text more : List ℕ) → StandsFor self.old text → text_fault (text ++ rest.now ++ more) ≡ Some f) }
+        ensures fault { IfErr result (λ f. f ≢ TokenFault.NoMemory → (text more : List ℕ) → StandsFor self.old text → text_fault (text ++ rest.now ++ more) ≡ Some (fault_in_text f)) }
     {
         match self.lexer.next_token_into(rest, token) {
-            Err(fault) => Err(TextFault::Lex { at: fault.at }),
+            Err(fault) => Err(TokenFault::Lex { at: fault.at }),
             Ok(lexed) => {
                 self.place += lexed.taken as u64;
                 if lexed.found {
@@ -84,7 +86,7 @@ impl Reader {
     }
 
     /// Takes a piece of the text. The next piece goes on where this one ends.
-    pub fn feed(&mut self, piece: &[u8]) -> Result<(), TextFault>
+    pub fn feed(&mut self, piece: &[u8]) -> Result<(), TokenFault>
         requires place { self.old.place + length piece.now < 2 ^ 64 }
         requires same { self.old.lexer.place ≡ self.old.place }
         requires apart { self.old.lexer.ends_run ≡ false }
@@ -92,7 +94,7 @@ impl Reader {
         ensures same { OnOk result (self.new.lexer.place ≡ self.new.place) }
         ensures apart { OnOk result (self.new.lexer.ends_run ≡ false) }
         ensures stands { OnOk result ((text : List ℕ) → StandsFor self.old text → StandsFor self.new (text ++ piece.now)) }
-        ensures fault { IfErr result (λ f. f ≢ TextFault.NoMemory → (text more : List ℕ) → StandsFor self.old text → text_fault (text ++ piece.now ++ more) ≡ Some f) }
+        ensures fault { IfErr result (λ f. f ≢ TokenFault.NoMemory → (text more : List ℕ) → StandsFor self.old text → text_fault (text ++ piece.now ++ more) ≡ Some (fault_in_text f)) }
     {
         let mut token = Token::nowhere();
         let mut at = 0;
@@ -106,11 +108,11 @@ impl Reader {
     }
 
     /// Takes the last token of the text, if one is open.
-    fn close(parser: &mut Parser, last: &Option<Token>) -> Result<(), TextFault>
+    fn close(parser: &mut Parser, last: &Option<Token>) -> Result<(), TokenFault>
         ensures ok { OnOk result ((tokens : List Token) → first_fault [] tokens ≡ None → HasTaken parser.old (reverse tokens) →
             (first_fault [] (tokens ++ option_to_list last.now) ≡ None) × HasTaken parser.new (reverse (tokens ++ option_to_list last.now))) }
-        ensures fault { IfErr result (λ f. f ≢ TextFault.NoMemory → (tokens : List Token) → first_fault [] tokens ≡ None → HasTaken parser.old (reverse tokens) →
-            first_fault [] (tokens ++ option_to_list last.now) ≡ Some f) }
+        ensures fault { IfErr result (λ f. f ≢ TokenFault.NoMemory → (tokens : List Token) → first_fault [] tokens ≡ None → HasTaken parser.old (reverse tokens) →
+            first_fault [] (tokens ++ option_to_list last.now) ≡ Some (fault_in_text f)) }
     {
         match last {
             Some(token) => match parser.take(token) {
@@ -122,10 +124,10 @@ impl Reader {
     }
 
     /// The plans of the text, which ends here.
-    pub fn finish(self) -> Result<Vec<RankPlan>, TextFault>
+    pub fn finish(self) -> Result<Vec<RankPlan>, TokenFault>
         requires { self.lexer.place ≡ self.place }
         ensures ok { IfOk result (λ plans. (text : List ℕ) → StandsFor self text → (text_fault text ≡ None) × (plans.items ≡ text_plans text)) }
-        ensures fault { IfErr result (λ f. f ≢ TextFault.NoMemory → (text : List ℕ) → StandsFor self text → text_fault text ≡ Some f) }
+        ensures fault { IfErr result (λ f. f ≢ TokenFault.NoMemory → (text : List ℕ) → StandsFor self text → text_fault text ≡ Some (fault_in_text f)) }
     {
         let Reader {
             lexer,
@@ -134,7 +136,7 @@ impl Reader {
         } = self;
         let last = match lexer.finish() {
             Ok(last) => last,
-            Err(fault) => return Err(TextFault::Lex { at: fault.at }),
+            Err(fault) => return Err(TokenFault::Lex { at: fault.at }),
         };
         match Reader::close(&mut parser, &last) {
             Ok(()) => {}

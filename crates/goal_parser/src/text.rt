@@ -1,46 +1,25 @@
 //! From a text to its schedule.
-ghost use Rattle.std.specs.Prelude.{◌≡◌, ◌≢◌, IfOk, IfErr};
+ghost use Rattle.std.specs.Prelude.{◌≡◌, ◌≢◌, ◌⊎◌, IfOk, IfErr, IsErrOf};
 ghost use Rattle.goal_graph.specs.Fault.{IsAccepted};
 ghost use Rattle.goal_graph.specs.Widths.{AreInWidth};
-ghost use Rattle.goal_parser.specs.Reads.{reads, plans, IsFaultOf, IsLimitFault, fault_of_plans};
+ghost use Rattle.goal_parser.specs.Reads.{reads, plans, IsFaultOf, IsLimitFault};
 
 use crate::faults::TextFault;
-use crate::reader::Reader;
-use goal_graph::{PlanFault, Sched};
+use crate::pieces::TextReader;
+use goal_graph::Sched;
 use std::alloc::Global;
 
-/// The fault of the plans, as that of the text.
-pub(crate) fn fault_of_plans(fault: PlanFault) -> TextFault
-    ensures { result ≡ fault_of_plans fault }
-{
-    match fault {
-        PlanFault::NoMemory => TextFault::NoMemory,
-        fault => TextFault::Plan(fault),
-    }
-}
-
-/// The schedule of a text, or the first fault.
+/// The schedule of a text that is one piece, or the first fault.
 fn schedule_of(alloc: Global, text: &[u8]) -> Result<Sched, TextFault>
     ensures ok { IfOk result (λ sched. reads text.now ≡ plans sched) }
     ensures accepted { IfOk result (λ sched. IsAccepted sched) }
     ensures widths { IfOk result (λ sched. AreInWidth sched) }
     ensures fault { IfErr result (λ fault. fault ≢ TextFault.NoMemory → IsFaultOf (reads text.now) fault) }
 {
-    let mut reader = Reader::new(alloc);
+    let mut reader = TextReader::new(alloc);
     match reader.feed(text) {
-        Ok(()) => {}
-        Err(fault) => return Err(fault),
-    }
-    let plans = match reader.finish() {
-        Ok(plans) => plans,
-        Err(fault) => return Err(fault),
-    };
-    match Sched::build(alloc, plans) {
-        Ok(sched) => {
-            let _plans = sched.plans();
-            Ok(sched)
-        }
-        Err(fault) => Err(fault_of_plans(fault)),
+        Ok(()) => reader.finish(),
+        Err(fault) => Err(fault),
     }
 }
 
@@ -59,8 +38,10 @@ pub fn read_text(alloc: Global, text: &[u8]) -> Result<Sched, TextFault>
     // So it has a compiled file, which is read as it.
     ensures widths { IfOk result (λ sched. AreInWidth sched) }
 
-    // The fault is that of the text, or else that of its plans.
+    // The fault is that of the text, or else that of its plans; and where there is one, it is told.
     ensures fault { IfErr result (λ fault. fault ≢ TextFault.NoMemory → IsFaultOf (reads text.now) fault) }
+    ensures faults { (fault : TextFault) → IsFaultOf (reads text.now) fault
+        → IsErrOf result fault ⊎ IsErrOf result TextFault.NoMemory }
 
     // A text that says plans keeps the limits of counts and values.
     ensures limits { IfErr result (λ fault. IsLimitFault fault → ⊥) }

@@ -1,13 +1,15 @@
 use Rattle.std.proofs.Common.{◌≡◌, ◌≢◌, ◌∙◌, sym, ap, subst, rules}
 use Rattle.goal_parser.specs.declared.faults.TextFault.{TextFault}
 use Rattle.goal_parser.specs.declared.faults.TextFault.TheVariants as fault
+use Rattle.goal_parser.specs.FaultInText.{fault_in_text}
 use Rattle.goal_parser.specs.Reads.{reads, plans, IsFaultOf}
 use Rattle.goal_parser.proofs.ReaderLaws.{reads_plans, IsFaultOf-reads, fault_of_plans-reads}
 use Rattle.goal_parser.proofs.pieces.TextReader.finish.Goals as goal
 
 pub returns-in-Err-clause-fault : goal.returns-in-Err-clause-fault
 returns-in-Err-clause-fault c = λ memory text has.
-    IsFaultOf-reads text c.in-Err.fault (c.in-Err.ensures.fault memory text has.stands)
+    let told = c.in-Err.ensures.fault (λ same. memory (c.fault_in_text.ensures ∙ ap fault_in_text same)) text has.stands in
+    subst (λ (f : TextFault). IsFaultOf (reads text) f) (sym c.fault_in_text.ensures) (IsFaultOf-reads text (fault_in_text c.in-Err.fault) told)
 
 pub returns-in-Err-build-clause-fault : goal.returns-in-Err-build-clause-fault
 returns-in-Err-build-clause-fault c = λ memory text has.

@@ -2,6 +2,7 @@ use Rattle.std.proofs.Common.{◌≡◌, sym, ap, ◌∙◌, subst, List, ◌++�
 use Rattle.std.proofs.lemmas.List.{take_all}
 use Rattle.goal_lexer.specs.Stands.{begins_run}
 use Rattle.goal_parser.specs.Reads.{text_fault}
+use Rattle.goal_parser.specs.FaultInText.{fault_in_text}
 use Rattle.goal_parser.specs.Reader.{StandsFor}
 use Rattle.goal_parser.proofs.ReaderLaws.{take-plus, drop-plus}
 use Rattle.goal_parser.proofs.reader.Reader.feed.Goals as goal
@@ -36,9 +37,9 @@ returns-in-Err-clause-fault c = λ memory text more stood.
     let within = c.loop-at.invariant.within in
     let long = length-drop at piece in
     let rest_is : take (length piece - at) (drop at piece) ≡ drop at piece = take_all (length piece - at) (drop at piece) (omega (arith, long)) in
-    subst (λ (w : List ℕ). text_fault (w ++ more) ≡ Some c.in-Err.fault)
+    subst (λ (w : List ℕ). text_fault (w ++ more) ≡ Some (fault_in_text c.in-Err.fault))
     (append_assoc text (take at piece) (drop at piece) ∙ ap (λ (l : List ℕ). text ++ l) (take-append-drop at piece))
-    (subst (λ (l : List ℕ). text_fault (((text ++ take at piece) ++ l) ++ more) ≡ Some c.in-Err.fault) rest_is
+    (subst (λ (l : List ℕ). text_fault (((text ++ take at piece) ++ l) ++ more) ≡ Some (fault_in_text c.in-Err.fault)) rest_is
     (c.in-Err.ensures.fault memory (text ++ take at piece) more (c.loop-at.invariant.stands text stood)))
 
 pub returns-clause-stands : goal.returns-clause-stands
