@@ -1,3 +1,5 @@
 pub mod InputLemmas
 pub mod FileLemmas
+pub mod FollowLemmas
+pub mod IntakeLemmas
 pub mod ForCallers

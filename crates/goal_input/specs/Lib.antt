@@ -1,6 +1,9 @@
 -- What a reader must believe.
 pub mod Input
 pub mod Unread
+-- What only the code keeps.
+pub mod Follows
+pub mod Intake
 -- What the clauses cite of lower crates.
 pub use Rattle.goal_base.specs.Device
 pub use Rattle.goal_graph.specs.Schedule

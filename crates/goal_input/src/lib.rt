@@ -3,7 +3,10 @@
 //! `specs/Input` says what the bytes of an input say, and `specs/Unread` why a file is not read as a schedule.
 #![tactic(auto)]
 
+mod intake;
 mod read;
+#[cfg(test)]
+mod tests;
 mod unread;
 
 pub use read::read_schedule;

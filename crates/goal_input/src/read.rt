@@ -1,70 +1,23 @@
 //! Reading a schedule from a file.
-ghost use Rattle.std.specs.Prelude.{◌≡◌, ◌⊎◌, ◌+◌, ◌≤◌, true, false, length, IfOk, IfErr};
+ghost use Rattle.std.specs.Prelude.{◌≡◌, ◌⊎◌, ℕ, ◌+◌, ◌≤◌, true, List, length, IfOk, IfErr};
 ghost use Rattle.goal_base.specs.declared.limits.TheConstants.{MAX_INPUT};
-ghost use Rattle.goal_base.specs.Device.{SameRest, ReadsAtMost, ReadFaulted};
-ghost use Rattle.goal_input.specs.Input.{is_compiled, IsReadAs};
-ghost use Rattle.goal_input.specs.Unread.{ForFile, IsFaultIn, IsUnread, ReadsSchedule};
+ghost use Rattle.goal_base.specs.Device.{Rose, SameRest, Takes, ReadsAtMost, ReadFaulted};
+ghost use Rattle.goal_input.specs.Input.{IsReadAs};
+ghost use Rattle.goal_input.specs.Intake.{IsUnreadRest};
+ghost use Rattle.goal_input.specs.Unread.{ForFile, IsUnread, ReadsSchedule};
 
+use crate::intake::Intake;
 use crate::unread::Unread;
-use goal_base::{Host, ReadAll, read_all};
-use goal_binary::{FileFault, MAGIC, decode};
+use goal_base::{Host, IoFault, MAX_INPUT, OpenFault};
 use goal_graph::Sched;
-use goal_parser::{TextFault, read_text};
 use std::alloc::Global;
 
-// Whether an input is a compiled file: it begins with the first byte of the magic.
-fn is_compiled(input: &[u8]) -> bool
-    ensures { result ≡ is_compiled input.now }
-{
-    match input.first() {
-        Some(byte) => *byte == MAGIC[0],
-        None => false,
-    }
-}
-
-// The schedule of a text.
-fn read_as_text(alloc: Global, input: &[u8]) -> Result<Sched, Unread>
-    requires short { length input.now ≤ MAX_INPUT }
-    requires text { is_compiled input.now ≡ false }
-    ensures read { IfOk result (λ sched. IsReadAs input.now sched) }
-    ensures unread { IfErr result (λ unread. IsFaultIn input.now unread) }
-{
-    match read_text(alloc, input) {
-        Ok(sched) => Ok(sched),
-        Err(TextFault::NoMemory) => Err(Unread::NoMemory),
-        Err(fault) => Err(Unread::Text(fault)),
-    }
-}
-
-// The schedule of a compiled file.
-fn read_as_file(alloc: Global, input: &[u8]) -> Result<Sched, Unread>
-    requires short { length input.now ≤ MAX_INPUT }
-    requires compiled { is_compiled input.now ≡ true }
-    ensures read { IfOk result (λ sched. IsReadAs input.now sched) }
-    ensures unread { IfErr result (λ unread. IsFaultIn input.now unread) }
-{
-    match decode(alloc, input) {
-        Ok(sched) => Ok(sched),
-        Err(FileFault::NoMemory) => Err(Unread::NoMemory),
-        Err(fault) => Err(Unread::File(fault)),
-    }
-}
-
-// The schedule that an input says.
-fn read_input(alloc: Global, input: &[u8]) -> Result<Sched, Unread>
-    requires short { length input.now ≤ MAX_INPUT }
-    ensures read { IfOk result (λ sched. IsReadAs input.now sched) }
-    ensures unread { IfErr result (λ unread. IsFaultIn input.now unread) }
-{
-    if is_compiled(input) {
-        read_as_file(alloc, input)
-    } else {
-        read_as_text(alloc, input)
-    }
-}
+// How many bytes are asked for at once.
+const PIECE: usize = 65_536;
 
 /// Opens a file, reads it to its end or to 2^27+1 bytes, and gives the schedule that it says, as a text or as a compiled
-/// file. It changes no file and no output. Nothing of the file's bytes is kept.
+/// file. It changes no file and no output. A text is read as it comes, and none of its bytes is kept but those of a run that
+/// is open; a compiled file is kept until it is decoded.
 ///
 /// # Errors
 ///
@@ -86,10 +39,40 @@ pub fn read_schedule<H: Host>(alloc: Global, host: &mut H, name: &str) -> Result
     ensures taken { SameRest (H.state host.old) (H.state host.new)
         ⊎ ReadsAtMost (H.state host.old) (H.state host.new) name.now (MAX_INPUT + 1) }
 {
-    match read_all(alloc, host, name) {
-        Ok(input) => read_input(alloc, &input),
-        Err(ReadAll::Fault) => Err(Unread::Fault),
-        Err(ReadAll::TooLong) => Err(Unread::TooLong),
-        Err(ReadAll::NoMemory) => Err(Unread::NoMemory),
+    match host.open(name) {
+        Ok(()) => read_rest(alloc, host),
+        Err(OpenFault::NoMemory) => Err(Unread::NoMemory),
+        Err(OpenFault::Absent) => Err(Unread::Fault),
+        Err(OpenFault::Failed) => Err(Unread::Fault),
     }
+}
+
+// Reads the open input to its end, or to 2^27+1 bytes, and gives the schedule that it says.
+fn read_rest<H: Host>(alloc: Global, host: &mut H) -> Result<Sched, Unread>
+    requires open { (H.state host.old).reading ≡ true }
+
+    ensures read { IfOk result (λ sched. (H.state host.old).tells ≡ true → IsReadAs (H.state host.old).rest sched) }
+    ensures unread { IfErr result (λ unread. IsUnreadRest (H.state host.old) unread) }
+    ensures call { ReadsSchedule result (H.state host.old) (H.state host.new)
+        (Rose (H.state host.old).stops (H.state host.old).read_count (H.state host.new).read_count) }
+    ensures taken { (bytes : List ℕ) × (length bytes ≤ MAX_INPUT + 1)
+        × Takes (H.state host.old) (H.state host.new) bytes }
+{
+    let mut buffer = [0u8; PIECE];
+    let mut intake = Intake::Nothing;
+    let mut taken = 0;
+    'pieces: while taken <= MAX_INPUT {
+        let room = PIECE.min(MAX_INPUT + 1 - taken);
+        let count = match host.read(&mut buffer[..room]) {
+            Ok(count) => count,
+            Err(IoFault::Failed) => return Err(Unread::Fault),
+            Err(IoFault::NoMemory) => return Err(Unread::NoMemory),
+        };
+        if count == 0 {
+            return intake.finish(alloc);
+        }
+        intake = intake.take(alloc, &buffer[..count])?;
+        taken += count;
+    }
+    Err(Unread::TooLong)
 }

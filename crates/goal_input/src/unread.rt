@@ -1,5 +1,8 @@
 //! Why a file is not read as a schedule.
+ghost use Rattle.std.specs.Prelude.{◌≡◌};
+ghost use Rattle.goal_input.specs.declared.unread.Unread.TheVariants.{NoMemory};
 
+use goal_base::NoMemory;
 use goal_binary::FileFault;
 use goal_parser::TextFault;
 
@@ -17,4 +20,12 @@ pub enum Unread {
     File(FileFault),
     /// There was no memory left.
     NoMemory,
+}
+
+impl From<NoMemory> for Unread {
+    ghost from_gives = { λ _ unread. unread ≡ NoMemory };
+
+    fn from(_: NoMemory) -> Self {
+        Unread::NoMemory
+    }
 }

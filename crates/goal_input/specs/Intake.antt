@@ -1,0 +1,43 @@
+-- What is kept of an input that comes in pieces.
+use Rattle.std.specs.Prelude.{ℕ, ◌≡◌, ◌≢◌, ◌+◌, ◌≤◌, ◌==◌, Bool, true, false, List, [], ◌∷◌, length}
+use Rattle.goal_base.specs.declared.limits.TheConstants.{MAX_INPUT}
+use Rattle.goal_base.specs.Device.{HostState, Takes}
+use Rattle.goal_parser.specs.declared.faults.TextFault.TheVariants as text
+use Rattle.goal_binary.specs.declared.fault.FileFault.TheVariants as file
+use Rattle.goal_input.specs.declared.unread.Unread.{Unread}
+use Rattle.goal_input.specs.declared.unread.Unread.TheVariants as unread
+use Rattle.goal_input.specs.declared.intake.Intake.{Intake}
+use Rattle.goal_input.specs.declared.intake.Intake.TheVariants as intake
+use Rattle.goal_input.specs.Input.{IsTextFault, IsFaultOfFile}
+use Rattle.goal_input.specs.Unread.{IsFaultIn}
+use Rattle.goal_input.specs.Follows.{Follows}
+
+-- the input has a first byte, and this tells whether it is that of a compiled file
+abbrev pub Begins : Bool → List ℕ → Type 0
+Begins compiled [] = ⊥
+Begins compiled (b ∷ bs) = (b == 137) ≡ compiled
+
+-- these are the bytes that came
+abbrev pub Stands : Intake → List ℕ → Type 0
+Stands intake.Nothing input = input ≡ []
+Stands (intake.Text reader) input = Begins false input × Follows reader input
+Stands (intake.File bytes) input = Begins true input × (bytes.items ≡ input)
+
+-- with this piece at most a byte more came than an input may have
+abbrev pub HasRoom : Intake → List ℕ → Type 0
+HasRoom kept piece = (input : List ℕ) × Stands kept input × (length input + length piece ≤ MAX_INPUT + 1)
+
+-- so many bytes were taken from the input of a host, and these are those that came
+pub record HasTaken (old new : HostState) (kept : Intake) (count : ℕ) : Type 0 where
+  pub input : List ℕ
+  pub counted : length input ≡ count
+  pub stands : Stands kept input
+  pub takes : Takes old new input
+
+-- the rest of the open input is not read as a schedule for this reason: `IsUnread` says it of a file
+abbrev pub IsUnreadRest : HostState → Unread → Type 0
+IsUnreadRest host unread.Fault = Unit {0}
+IsUnreadRest host unread.TooLong = host.tells ≡ true → IsFaultIn host.rest unread.TooLong
+IsUnreadRest host (unread.Text fault) = (fault ≢ text.NoMemory) × (host.tells ≡ true → IsTextFault host.rest fault)
+IsUnreadRest host (unread.File fault) = (fault ≢ file.NoMemory) × (host.tells ≡ true → IsFaultOfFile host.rest fault)
+IsUnreadRest host unread.NoMemory = Unit {0}
