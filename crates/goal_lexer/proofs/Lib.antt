@@ -4,6 +4,7 @@ pub mod StandsLaws
 pub mod ReservedWords
 pub mod PieceLaws
 pub mod ByteLaws
+pub mod RunBytes
 pub mod FormLaws
 pub mod CommentLaws
 pub mod NothingLaws

@@ -1,13 +1,11 @@
 -- A lexer stands for each text of which it has taken whole pieces, and then what is open.
-use Rattle.std.proofs.Common.{◌≡◌, ℕ, ◌+◌, ◌<◌, ◌≤◌, Bool, true, false, ◌&&◌, not, List, [], ◌∷◌, ◌++◌, length, Option, None, IsSome, ◌==◌, refl, sym, ap, subst, ◌∙◌, arith, append_assoc, length-append}
+use Rattle.std.proofs.Common.{◌≡◌, ℕ, ◌+◌, ◌≤◌, Bool, true, false, ◌&&◌, not, List, [], ◌∷◌, ◌++◌, length, Option, None, IsSome, ◌==◌, refl, sym, ap, subst, ◌∙◌, arith, append_assoc, length-append}
 use Rattle.std.proofs.lemmas.Bool.{false≢true}
 use Rattle.std.proofs.lemmas.Bool.Decides.{nat_tests}
 use Rattle.std.proofs.lemmas.List.{append-nil}
-use Rattle.std.specs.List.{list_all}
 use Rattle.goal_lexer.specs.declared.tokens.Token.{Token}
 use Rattle.goal_lexer.specs.declared.tokens.TokenKind.{TokenKind}
 use Rattle.goal_lexer.specs.declared.mode.Form.{Form}
-use Rattle.goal_lexer.specs.declared.mode.Form.TheVariants.{Word, Digits, Sized}
 use Rattle.goal_lexer.specs.declared.mode.Mode.{Mode}
 use Rattle.goal_lexer.specs.declared.mode.Mode.TheVariants.{Between, Run, Slash, LineComment, BlockComment, Failed}
 use Rattle.goal_lexer.specs.Bytes.{is_blank, begins_word, is_digit, slash, star, line_feed}
@@ -16,7 +14,7 @@ use Rattle.goal_lexer.specs.Runs.{run_token}
 use Rattle.goal_lexer.specs.Sound.{IsSound, IsRun}
 use Rattle.goal_lexer.specs.State.{LexState}
 use Rattle.goal_lexer.specs.Stands.{Stands, handed}
-use Rattle.goal_lexer.specs.Pieces.{Piece, blank, line_comment, block_comment, run, sign, bytes_of, Each, HasForm, AreDigits, has_close, sign_kind, IsRight, spelled, AreRight, sign_tokens, piece_tokens, tokens_of}
+use Rattle.goal_lexer.specs.Pieces.{Piece, blank, line_comment, block_comment, run, sign, bytes_of, Each, HasForm, has_close, sign_kind, IsRight, spelled, AreRight, sign_tokens, piece_tokens, tokens_of}
 use Rattle.goal_lexer.specs.Open.{ends_in_star, IsOpen, IsTaken}
 use Rattle.goal_lexer.proofs.FormLaws.{form_from, first_in_run}
 use Rattle.goal_lexer.proofs.CommentLaws.{has_close-found, ends_in_star-push, before_star}

@@ -2,6 +2,17 @@
 ghost use Rattle.std.specs.Prelude.{◌≡◌};
 ghost use Rattle.goal_lexer.specs.Bytes.{is_blank, begins_word, is_digit, is_run_byte};
 
+/// The bytes of runs among all bytes: an `x` at each.
+const RUN_BYTES: [u8; 256] = *b"\
+................................\
+................xxxxxxxxxx......\
+.xxxxxxxxxxxxxxxxxxxxxxxxxx....x\
+.xxxxxxxxxxxxxxxxxxxxxxxxxx.....\
+................................\
+................................\
+................................\
+................................";
+
 /// Whether the byte is a space, a tab, a carriage return or a line feed.
 pub(crate) fn is_blank(byte: u8) -> bool
     ensures { result ≡ is_blank byte }
@@ -27,5 +38,5 @@ pub(crate) fn is_digit(byte: u8) -> bool
 pub(crate) fn is_run_byte(byte: u8) -> bool
     ensures { result ≡ is_run_byte byte }
 {
-    begins_word(byte) || is_digit(byte)
+    RUN_BYTES[byte as usize] == b'x'
 }

@@ -98,8 +98,9 @@ fn form_with(form: Form, byte: u8) -> Option<Form>
     }
 }
 
-/// Takes one byte at this place. A token that it ends is written to its place.
-fn take_byte(mode: &mut Mode, place: u64, byte: u8, token: &mut Token) -> Step
+/// Takes one byte at this place where a run or a comment may be open. Most runs and all blanks are taken without it.
+#[cold]
+fn take_open_byte(mode: &mut Mode, place: u64, byte: u8, token: &mut Token) -> Step
     requires { place + 1 < 2 ^ 64 }
     ensures { StepsTo result mode.old place byte mode.new token.new }
 {
@@ -157,6 +158,18 @@ fn take_byte(mode: &mut Mode, place: u64, byte: u8, token: &mut Token) -> Step
             Step::Nothing
         }
         Mode::Failed { at } => Step::Fault(*at),
+    }
+}
+
+/// Takes one byte at this place. A token that it ends is written to its place.
+#[inline(always)]
+fn take_byte(mode: &mut Mode, place: u64, byte: u8, token: &mut Token) -> Step
+    requires { place + 1 < 2 ^ 64 }
+    ensures { StepsTo result mode.old place byte mode.new token.new }
+{
+    match mode {
+        Mode::Between => begin_at(mode, place, byte, token),
+        _ => take_open_byte(mode, place, byte, token),
     }
 }
 

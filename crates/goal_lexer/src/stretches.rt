@@ -90,6 +90,26 @@ fn extend_run(run: &mut Label, form: Form, bytes: &[u8]) -> usize
     }
 }
 
+/// Takes bytes in front that end nothing where a run or a comment is open, and answers how many it took.
+#[cold]
+fn take_open_stretch(mode: &mut Mode, bytes: &[u8]) -> usize
+    requires { IsSound mode.old }
+    ensures within { result ≤ length bytes.now }
+    ensures quiet { (place : ℕ) → scan mode.old place (take result bytes.now) ≡ (mode.new, []) }
+    ensures sound { IsSound mode.new }
+{
+    match mode {
+        Mode::Run {
+            bytes: run,
+            form,
+            ..
+        } => extend_run(run, *form, bytes),
+        Mode::LineComment { .. } => count_in_line(bytes),
+        Mode::BlockComment { closes, .. } => { if *closes { 0 } else { count_before_star(bytes) } }
+        Mode::Between | Mode::Slash { .. } | Mode::Failed { .. } => 0,
+    }
+}
+
 /// Takes bytes in front that end nothing, and answers how many it took.
 pub(crate) fn take_stretch(mode: &mut Mode, bytes: &[u8]) -> usize
     requires { IsSound mode.old }
@@ -99,14 +119,7 @@ pub(crate) fn take_stretch(mode: &mut Mode, bytes: &[u8]) -> usize
 {
     match mode {
         Mode::Between => count_blanks(bytes),
-        Mode::Run {
-            bytes: run,
-            form,
-            ..
-        } => extend_run(run, *form, bytes),
-        Mode::LineComment { .. } => count_in_line(bytes),
-        Mode::BlockComment { closes, .. } => { if *closes { 0 } else { count_before_star(bytes) } }
-        Mode::Slash { .. } | Mode::Failed { .. } => 0,
+        _ => take_open_stretch(mode, bytes),
     }
 }
 

@@ -1,5 +1,6 @@
 //! The parser: from tokens to plans.
-ghost use Rattle.std.specs.Prelude.{◌≡◌, ◌≢◌, List, [], ◌∷◌, None, Some, OnOk, IfErr};
+ghost use Rattle.std.specs.Prelude.{◌≡◌, ◌≢◌, true, List, [], ◌∷◌, None, Some, OnOk, IfErr};
+ghost use Rattle.goal_parser.specs.Numbers.{number_within};
 ghost use Rattle.goal_lexer.specs.declared.tokens.Token.{Token};
 ghost use Rattle.goal_parser.specs.Sentence.{entry};
 ghost use Rattle.goal_parser.specs.Faults.{token_fault};
@@ -17,7 +18,7 @@ use crate::sentence::{State, entry};
 use crate::token_faults::TokenFault;
 use goal_graph::RankPlan;
 use goal_lexer::{Label, Token, TokenKind};
-use std::alloc::Global;
+use std::alloc::{AllocError, Global};
 
 /// Takes the tokens of a text, one by one, up to the first that fails a test.
 #[derive(Drop)]
@@ -57,6 +58,39 @@ impl Parser {
         }
     }
 
+    /// Takes the number of ranks.
+    #[cold]
+    fn take_rank_count(&mut self, next: State, token: &Token, value: u64) -> Result<(), AllocError>
+        requires next { entry self.old.state token.now.kind ≡ Some next }
+        requires number { token.now.kind ≡ TokenKind.Number value }
+        requires within { number_within self.old.state self.old.draft.option value ≡ true }
+        requires here { self.old.state ≡ State.Ranks }
+        ensures { OnOk result (Takes self.old token.now self.new) }
+    {
+        self.state = next;
+        self.plans = plans::empty_plans(self.alloc, value)?;
+        self.ranks.count = value;
+        Ok(())
+    }
+
+    /// Takes the rank of a block.
+    #[cold]
+    fn take_rank(&mut self, next: State, token: &Token, value: u64) -> Result<(), TokenFault>
+        requires next { entry self.old.state token.now.kind ≡ Some next }
+        requires number { token.now.kind ≡ TokenKind.Number value }
+        requires within { number_within self.old.state self.old.draft.option value ≡ true }
+        requires here { self.old.state ≡ State.Block }
+        ensures ok { OnOk result (Takes self.old token.now self.new) }
+        ensures fault { IfErr result (λ f. f ≢ TokenFault.NoMemory → Refuses self.old token.now f) }
+    {
+        if let Some(fault) = self.ranks.fault(self.state, token) {
+            return Err(fault);
+        }
+        self.state = next;
+        self.ranks.take(value)?;
+        Ok(())
+    }
+
     /// Takes a number.
     #[inline(always)]
     fn take_number(&mut self, next: State, token: &Token, value: u64) -> Result<(), TokenFault>
@@ -69,29 +103,24 @@ impl Parser {
         if !number_within(state, self.draft.option, value) {
             return Err(TokenFault::Number { at: token.start });
         }
-        self.state = next;
         match state {
             State::Ranks => {
-                self.plans = plans::empty_plans(self.alloc, value)?;
-                self.ranks.count = value;
+                self.take_rank_count(next, token, value)?;
                 Ok(())
             }
-            State::Block => {
-                if let Some(fault) = self.ranks.fault(state, token) {
-                    return Err(fault);
-                }
-                self.ranks.take(value)?;
-                Ok(())
-            }
+            State::Block => self.take_rank(next, token, value),
             State::Note1 => {
+                self.state = next;
                 self.head.take_number(state, value);
                 Ok(())
             }
             State::Note3 => {
+                self.state = next;
                 self.block.names.end_note(state, &self.head, value)?;
                 Ok(())
             }
             _ => {
+                self.state = next;
                 self.draft.take(state, &token.kind);
                 Ok(())
             }

@@ -1,9 +1,8 @@
-use Rattle.std.proofs.Common.{◌≡◌, [], Bool, take, refl, sym, ap, subst, ◌∙◌}
+use Rattle.std.proofs.Common.{◌≡◌, [], take, sym, subst}
 use Rattle.goal_lexer.specs.declared.mode.Mode.{Mode}
-use Rattle.goal_lexer.specs.declared.mode.Mode.TheVariants.{BlockComment}
-use Rattle.goal_lexer.specs.Bytes.{is_blank, star, line_feed}
+use Rattle.goal_lexer.specs.Bytes.{is_blank}
 use Rattle.goal_lexer.specs.Scan.{scan}
-use Rattle.goal_lexer.proofs.StretchLaws.{Each-take, differs, differs_by, scan_blanks, scan_in_line, scan_before_star}
+use Rattle.goal_lexer.proofs.StretchLaws.{Each-take, scan_blanks}
 use Rattle.goal_lexer.proofs.stretches.take_stretch.Goals as goal
 
 pub returns-in-Between-clause-quiet : goal.returns-in-Between-clause-quiet
@@ -12,30 +11,3 @@ returns-in-Between-clause-quiet c place =
     let n = c.count_blanks.result in
     subst (λ (m : Mode). scan m place (take n bytes) ≡ (m, [])) (sym c.in-Between.is)
     (scan_blanks place (take n bytes) (Each-take is_blank n bytes c.count_blanks.ensures.each c.count_blanks.ensures.within))
-
-pub returns-in-LineComment-clause-quiet : goal.returns-in-LineComment-clause-quiet
-returns-in-LineComment-clause-quiet c place =
-    let bytes = c.args.bytes.now in
-    let n = c.count_in_line.result in
-    subst (λ (m : Mode). scan m place (take n bytes) ≡ (m, [])) (sym c.in-LineComment.is)
-    (scan_in_line c.in-LineComment.start place (take n bytes)
-    (Each-take (differs line_feed) n bytes (λ k below. differs_by line_feed _ (c.count_in_line.ensures.each k below)) c.count_in_line.ensures.within))
-
-pub returns-then-closes-clause-quiet : goal.returns-then-closes-clause-quiet
-unfolding scan
-returns-then-closes-clause-quiet c place = ap (λ (m : Mode). (m, [])) c.in-BlockComment.is
-
-pub returns-else-closes-clause-quiet : goal.returns-else-closes-clause-quiet
-returns-else-closes-clause-quiet c place =
-    let bytes = c.args.bytes.now in
-    let n = c.count_before_star.result in
-    let start = c.in-BlockComment.start in
-    let said = c.count_before_star.ensures in
-    ap (λ (m : Mode). scan m place (take n bytes)) c.in-BlockComment.is
-    ∙ subst (λ (b : Bool). scan (BlockComment start b) place (take n bytes) ≡ (BlockComment start b, [])) (sym c.if-closes.false)
-    (scan_before_star start place (take n bytes)
-    (Each-take (differs star) n bytes (λ k below. differs_by star _ (said.each k below)) said.within))
-
-pub returns-in-Slash-clause-quiet : goal.returns-in-Slash-clause-quiet
-unfolding scan
-returns-in-Slash-clause-quiet c place = refl

@@ -1,6 +1,6 @@
-use Rattle.std.proofs.Common.{subst, List, [], ℕ, ap, sym, ◌∙◌}
+use Rattle.std.proofs.Common.{[], ap, sym, ◌∙◌}
 use Rattle.std.proofs.lemmas.List.{append-nil}
-use Rattle.goal_parser.specs.Reads.{reads, faulty}
+use Rattle.goal_parser.specs.Reads.{reads}
 use Rattle.goal_parser.proofs.ReaderLaws.{IsFaultOf-faulty}
 use Rattle.goal_parser.proofs.text.schedule_of.Goals as goal
 

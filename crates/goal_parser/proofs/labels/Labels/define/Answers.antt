@@ -1,6 +1,5 @@
-use Rattle.std.proofs.Common.{◌≡◌, ◌∙◌, sym, ap, Bool, false, true, Some, None, is_some, rules, ℕ, Option}
+use Rattle.std.proofs.Common.{◌≡◌, ◌∙◌, sym, ap, Bool, false, true, Some, is_some, rules, ℕ, Option}
 use Rattle.goal_parser.specs.Items.{is_defined}
-use Rattle.goal_parser.specs.Slots.{op_in}
 use Rattle.goal_parser.specs.Faults.{fault_if}
 use Rattle.goal_parser.specs.declared.faults.TextFault.TheVariants.{Repeat}
 use Rattle.goal_parser.proofs.SlotLaws.{Keeps-defined, Grows-insert, defined_before}

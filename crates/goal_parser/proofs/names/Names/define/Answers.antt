@@ -1,4 +1,4 @@
-use Rattle.std.proofs.Common.{◌≡◌, sym, subst, None, Some, Option, ◌∷◌, ◌++◌, []}
+use Rattle.std.proofs.Common.{◌≡◌, sym, subst, None, Option, ◌∷◌, ◌++◌, []}
 use Rattle.goal_parser.specs.declared.head.Mention.{Mention}
 use Rattle.goal_parser.specs.Items.{define}
 use Rattle.goal_parser.specs.Slots.{NamesHold}

@@ -1,0 +1,6 @@
+use Rattle.std.proofs.Common.{arith}
+use Rattle.goal_lexer.proofs.RunBytes.{marked}
+use Rattle.goal_lexer.proofs.bytes.is_run_byte.Goals as goal
+
+pub returns : goal.returns
+returns c = marked c.args.byte (omega (arith, c.ranges.byte))
