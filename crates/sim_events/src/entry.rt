@@ -42,12 +42,12 @@ impl Entry {
 }
 
 /// The entry of an operation.
-pub fn read(sched: &Sched, entries: &[Entry], id: OpId) -> Entry
+pub fn read<'e>(sched: &Sched, entries: &'e [Entry], id: OpId) -> &'e Entry
     requires exists { IsOp sched.now id }
     requires each { length entries.now ≡ length (operations sched.now) }
-    ensures { (f : OpId → Entry) → entries.now ≡ map f (operations sched.now) → result ≡ f id }
+    ensures { (f : OpId → Entry) → entries.now ≡ map f (operations sched.now) → result.now ≡ f id }
 {
-    entries[sched.index(id) as usize]
+    &entries[sched.index(id) as usize]
 }
 
 /// Writes the entry of an operation.
@@ -66,10 +66,10 @@ pub fn pair(sched: &Sched, entries: &mut [Entry], id: OpId, with: OpId, at: u64)
     requires each { length entries.old ≡ length (operations sched.now) }
     ensures { (f : OpId → Entry) → entries.old ≡ map f (operations sched.now) → entries.new ≡ map (with_pairing with id at (with_pairing id with at f)) (operations sched.now) }
 {
-    let first = read(sched, entries, id);
+    let first = *read(sched, entries, id);
     let paired = Some(Pairing { with, at });
     write(sched, entries, id, Entry { paired, ..first });
-    let second = read(sched, entries, with);
+    let second = *read(sched, entries, with);
     let paired = Some(Pairing { with: id, at });
     write(sched, entries, with, Entry { paired, ..second });
 }

@@ -159,9 +159,9 @@ impl<'a, C: Costs> State<'a, C> {
     }
 
     // What is known of an operation.
-    fn entry(&self, id: OpId) -> Entry
+    fn entry(&self, id: OpId) -> &Entry
         requires { IsOp self.now.plans id }
-        ensures { result ≡ entry_known self.now.plans (C.model self.now.costs) self.now.history id }
+        ensures { result.now ≡ entry_known self.now.plans (C.model self.now.costs) self.now.history id }
     {
         read(self.sched, &self.entries, id)
     }

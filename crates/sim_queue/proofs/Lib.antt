@@ -3,9 +3,10 @@ pub mod Scanning
 pub mod Maps
 pub mod Swapping
 pub mod Children
+pub mod Placed
+pub mod Shifting
 pub mod Sifting
 pub mod Stepping
-pub mod Placed
 pub mod Top
 pub mod Changing
 pub mod Bounds

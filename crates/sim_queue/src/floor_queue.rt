@@ -77,7 +77,7 @@ fn stop_waiting<L: Ledger>(
     ensures others { (key : Option Timed) → slice_set (seen_keys heads.new ahead.now waiting.new.keys waiting.new.groups) slot key
         ≡ slice_set (seen_keys heads.old ahead.now waiting.old.keys waiting.old.groups) slot key }
 {
-    if waiting.key(slot).is_none() {
+    if !waiting.has(slot) {
         return;
     }
     let group = waiting.group(slot);

@@ -1,5 +1,5 @@
 // Slots in groups.
-ghost use Rattle.std.specs.Prelude.{◌≡◌, ◌<◌, ◌^◌, All, IfOk, IfSome, IsNone, Some, None, length, map, replicate, slice_get, slice_set};
+ghost use Rattle.std.specs.Prelude.{◌≡◌, ◌<◌, ◌^◌, All, IfOk, IfSome, IsNone, Some, None, is_some, length, map, replicate, slice_get, slice_set};
 ghost use Rattle.sim_queue.specs.Map.{key_at};
 ghost use Rattle.sim_queue.specs.Groups.{IsEmptyGroup, IsLeastOf, AreHomes, no_keys};
 
@@ -22,16 +22,19 @@ pub struct Home {
 pub struct Groups<K: EventOrder> {
     homes: Vec<Home>,
     heaps: Vec<SlotHeap<K>>,
+    // whether each slot has a key
+    keyed: Vec<bool>,
 }
 
 impl<K: EventOrder> Model for Groups<K> {
+    ghost use Rattle.std.specs.Prelude.{◌≡◌, map, is_some};
     ghost use Rattle.sim_queue.specs.Groups.{Grouped, IsHoused, grouped};
 
     ghost Value = { Grouped K };
 
     ghost view = { λ q. grouped q.homes.items q.heaps.items };
 
-    ghost invariant = { λ q. IsHoused q.homes.items q.heaps.items };
+    ghost invariant = { λ q. IsHoused q.homes.items q.heaps.items × (q.keyed.items ≡ map is_some (grouped q.homes.items q.heaps.items).keys) };
 }
 
 // Homes for slots whose groups have these numbers: the slots of a group get its places in their order. Counts the slots
@@ -77,16 +80,20 @@ impl<K: EventOrder + Copy> Groups<K> {
         let mut counts = vec![in alloc; 0; groups as usize]?;
         let homes = homes(alloc, numbers, &mut counts)?;
         let heaps = heaps(alloc, &counts)?;
-        Ok(Groups { homes, heaps })
+        let keyed = vec![in alloc; false; numbers.len()]?;
+        Ok(Groups {
+            homes,
+            heaps,
+            keyed,
+        })
     }
 
-    /// The key of a slot, if it has one.
-    pub fn key(&self, slot: u32) -> Option<K>
+    /// Whether a slot has a key.
+    pub fn has(&self, slot: u32) -> bool
         requires { slot < length self.now.keys }
-        ensures { result ≡ key_at self.now.keys slot }
+        ensures { result ≡ is_some (key_at self.now.keys slot) }
     {
-        let home = self.homes[slot as usize];
-        self.heaps[home.group as usize].key(home.place)
+        self.keyed[slot as usize]
     }
 
     /// The group of a slot.
@@ -104,6 +111,7 @@ impl<K: EventOrder + Copy> Groups<K> {
     {
         let home = self.homes[slot as usize];
         self.heaps[home.group as usize].put(home.place, key, steps);
+        self.keyed[slot as usize] = true;
     }
 
     /// Takes a slot's key out. Where it has none nothing changes.
@@ -113,6 +121,7 @@ impl<K: EventOrder + Copy> Groups<K> {
     {
         let home = self.homes[slot as usize];
         self.heaps[home.group as usize].drop_slot(home.place, steps);
+        self.keyed[slot as usize] = false;
     }
 
     /// The least key of a group. None where no slot of the group has a key, or there is no such group.

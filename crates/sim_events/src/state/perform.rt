@@ -56,7 +56,7 @@ impl<'a, C: Costs> State<'a, C> {
         ensures { self.new ≡ record self.old { history = action ∷ self.old.history } }
     {
         let sched = self.sched;
-        let entry = self.entry(action.op);
+        let entry = *self.entry(action.op);
         let end = action.time + nanos;
         self.resources.hold_cpu(action.op, end);
         let begun = Entry {
@@ -77,7 +77,7 @@ impl<'a, C: Costs> State<'a, C> {
         ensures { self.new ≡ record self.old { history = action ∷ self.old.history } }
     {
         let sched = self.sched;
-        let entry = self.entry(action.op);
+        let entry = *self.entry(action.op);
         let begun = eager_begin(
             sched,
             &self.costs,
@@ -104,7 +104,7 @@ impl<'a, C: Costs> State<'a, C> {
         ensures { self.new ≡ record self.old { history = action ∷ self.old.history } }
     {
         let sched = self.sched;
-        let entry = self.entry(action.op);
+        let entry = *self.entry(action.op);
         let arrive = request(
             sched,
             &self.costs,
@@ -128,7 +128,7 @@ impl<'a, C: Costs> State<'a, C> {
         ensures { self.new ≡ record self.old { history = action ∷ self.old.history } }
     {
         let sched = self.sched;
-        let entry = self.entry(action.op);
+        let entry = *self.entry(action.op);
         let posted = Entry {
             start: Some(action.time),
             ..entry
@@ -146,7 +146,7 @@ impl<'a, C: Costs> State<'a, C> {
         ensures { self.new ≡ record self.old { history = action ∷ self.old.history } }
     {
         let sched = self.sched;
-        let entry = self.entry(action.op);
+        let entry = *self.entry(action.op);
         let arrived = Entry {
             arriving: None,
             ..entry
@@ -164,7 +164,7 @@ impl<'a, C: Costs> State<'a, C> {
         ensures { self.new ≡ record self.old { history = action ∷ self.old.history } }
     {
         let sched = self.sched;
-        let entry = self.entry(action.op);
+        let entry = *self.entry(action.op);
         let sent = data(
             sched,
             &self.costs,
@@ -188,7 +188,7 @@ impl<'a, C: Costs> State<'a, C> {
         ensures { self.new ≡ record self.old { history = action ∷ self.old.history } }
     {
         let sched = self.sched;
-        let entry = self.entry(action.op);
+        let entry = *self.entry(action.op);
         let Some(pairing) = entry.paired else {
             unreachable!()
         };

@@ -1,4 +1,4 @@
-use Rattle.std.proofs.Common.{ℕ, set, None, is_some, ap, sym, ◌∙◌, subst}
+use Rattle.std.proofs.Common.{ℕ, set, None, ap, sym, ◌∙◌, subst}
 use Rattle.std.proofs.lemmas.List.{set-set}
 use Rattle.sim_queue.specs.Floors.{IsRenewed}
 use Rattle.sim_queue.proofs.FloorSteps.{not_ahead, zeros, out_floored, out_seen, taken_now, no_key}
@@ -10,19 +10,19 @@ renew-requires-clause-at_zero g c =
 
 pub returns-clause-floored : goal.returns-clause-floored
 returns-clause-floored g c =
-    let idle = not_ahead c.args.ahead.now c.args.waiting.now c.args.heads.now c.requires.floored c.args.slot (ap is_some (sym c.key.ensures) ∙ c.if-is_none.ensures) in
+    let idle = not_ahead c.args.ahead.now c.args.waiting.now c.args.heads.now c.requires.floored c.args.slot (sym c.has.ensures ∙ c.if-not-has.false) in
     let renewed = subst (λ (n : ℕ). IsRenewed c.drop_slot.new.self c.args.heads.now c.renew.new.heads c.group-group.result n) c.floor-floor.ensures c.renew.ensures in
     out_floored c.args.ahead.now c.args.waiting.now c.args.heads.now c.requires.floored c.args.slot c.group-group.result c.group-group.ensures idle c.drop_slot.new.self c.drop_slot.ensures c.renew.new.heads renewed
 
 pub returns-clause-taken : goal.returns-clause-taken
 returns-clause-taken g c =
-    let idle = not_ahead c.args.ahead.now c.args.waiting.now c.args.heads.now c.requires.floored c.args.slot (ap is_some (sym c.key.ensures) ∙ c.if-is_none.ensures) in
+    let idle = not_ahead c.args.ahead.now c.args.waiting.now c.args.heads.now c.requires.floored c.args.slot (sym c.has.ensures ∙ c.if-not-has.false) in
     let renewed = subst (λ (n : ℕ). IsRenewed c.drop_slot.new.self c.args.heads.now c.renew.new.heads c.group-group.result n) c.floor-floor.ensures c.renew.ensures in
     taken_now c.args.ahead.now c.args.waiting.now c.args.heads.now c.requires.floored c.args.slot c.group-group.result c.group-group.ensures idle c.drop_slot.new.self c.drop_slot.ensures c.renew.new.heads renewed
 
 pub returns-clause-others : goal.returns-clause-others
 returns-clause-others g c =
-    let idle = not_ahead c.args.ahead.now c.args.waiting.now c.args.heads.now c.requires.floored c.args.slot (ap is_some (sym c.key.ensures) ∙ c.if-is_none.ensures) in
+    let idle = not_ahead c.args.ahead.now c.args.waiting.now c.args.heads.now c.requires.floored c.args.slot (sym c.has.ensures ∙ c.if-not-has.false) in
     let renewed = subst (λ (n : ℕ). IsRenewed c.drop_slot.new.self c.args.heads.now c.renew.new.heads c.group-group.result n) c.floor-floor.ensures c.renew.ensures in
     let out = out_seen c.args.ahead.now c.args.waiting.now c.args.heads.now c.requires.floored c.args.slot c.group-group.result c.group-group.ensures idle c.drop_slot.new.self c.drop_slot.ensures c.renew.new.heads renewed in
     λ key. ap (λ ks. set ks c.args.slot key) out ∙ set-set _ c.args.slot None key

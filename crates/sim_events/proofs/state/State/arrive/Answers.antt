@@ -61,10 +61,10 @@ invariant_of-self g c =
     let a = c.args.action in
     let m = c.self.invariant in
     let next = next_at g.C.Costs.model _ _ a c.self.view_is c.requires.next in
-    let was = entry_is g.C.Costs.model _ _ a.op c.entry-entry.result c.self.view_is c.entry-entry.ensures in
+    let was = entry_is g.C.Costs.model _ _ a.op c.entry-entry.result.now c.self.view_is c.entry-entry.ensures in
     let kind = arrives plans costs h a m.run next.possible c.requires.class in
     let taken : c.arrive-partner.result ≡ receive_for plans (filter is_post_or_arrival (plain h)) a.op = c.arrive-partner.ensures.taken ∙ (λ i. receive_for (m.posts_and_arrivals.same_plans i) (m.posts_and_arrivals.events i) a.op) in
-    let told = c.write_met.ensures (entry_known plans costs h) (c.deref_mut.ensures.value ∙ m.known) ∙ arrived plans costs h a m.run next.possible c.entry-entry.result was c.arrive-partner.result c.requires.class kind taken in
+    let told = c.write_met.ensures (entry_known plans costs h) (c.deref_mut.ensures.value ∙ m.known) ∙ arrived plans costs h a m.run next.possible c.entry-entry.result.now was c.arrive-partner.result c.requires.class kind taken in
     let posts_and_arrivals = arrival_known plans costs h a c.self.inside.matcher m.posts_and_arrivals c.arrive-partner.new.self c.requires.class c.arrive-partner.ensures.actions in
     let free = free_same plans costs h a c.self.inside.resources m.free (ap holds_cpu c.requires.class) (ap (λ (k : Class). holds_tx k (kind_at plans a.op)) c.requires.class) (ap holds_rx c.requires.class) in
     let parts : Parts = record { items = c.self.inside.history.items; entries = c.self.inside.entries.items; matcher = c.self.inside.matcher; res = c.self.inside.resources; room = vec_capacity c.self.inside.history } in

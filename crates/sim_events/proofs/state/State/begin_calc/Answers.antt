@@ -54,9 +54,9 @@ invariant_of-self g c =
     let next = next_at g.C.Costs.model _ _ a c.self.view_is c.requires.next in
     let kind = subst (λ (v : View _). kind_at v.plans a.op ≡ Some (Calc c.args.nanos)) (sym c.self.view_is) c.requires.calc in
     let calc : IsCalc plans a.op = record { nanos = c.args.nanos; kind = kind } in
-    let was = entry_is g.C.Costs.model _ _ a.op c.entry-entry.result c.self.view_is c.entry-entry.ensures in
+    let was = entry_is g.C.Costs.model _ _ a.op c.entry-entry.result.now c.self.view_is c.entry-entry.ensures in
     let until = ap (λ (n : ℕ). a.time + n) (sym (cpu_of_calc plans costs h a.class a.op c.args.nanos c.requires.class kind)) in
-    let told = c.write.ensures (entry_known plans costs h) (c.deref_mut.ensures.value ∙ m.known) ∙ calc_begun plans costs h a m.run next.possible c.entry-entry.result was _ until c.requires.class calc in
+    let told = c.write.ensures (entry_known plans costs h) (c.deref_mut.ensures.value ∙ m.known) ∙ calc_begun plans costs h a m.run next.possible c.entry-entry.result.now was _ until c.requires.class calc in
     let posts_and_arrivals = other_action plans costs h a c.self.inside.matcher m.posts_and_arrivals (ap is_post_or_arrival_class c.requires.class) in
     let free = free_calc plans costs h a c.self.inside.resources m.free c.hold_cpu.new.self _ (ap holds_cpu c.requires.class) until c.hold_cpu.ensures (tx_of_calc plans costs h a.class a.op c.args.nanos c.requires.class kind) (ap holds_rx c.requires.class) in
     let parts : Parts = record { items = c.self.inside.history.items; entries = c.self.inside.entries.items; matcher = c.self.inside.matcher; res = c.self.inside.resources; room = vec_capacity c.self.inside.history } in

@@ -58,12 +58,12 @@ invariant_of-self g c =
     let a = c.args.action in
     let m = c.self.invariant in
     let next = next_at g.C.Costs.model _ _ a c.self.view_is c.requires.next in
-    let was = entry_is g.C.Costs.model _ _ a.op c.entry-entry.result c.self.view_is c.entry-entry.ensures in
+    let was = entry_is g.C.Costs.model _ _ a.op c.entry-entry.result.now c.self.view_is c.entry-entry.ensures in
     let send = subst (λ (v : View _). IsSend v.plans a.op) (sym c.self.view_is) c.requires.send in
     let eager = subst (λ (v : View _). is_eager v.plans (g.C.Costs.model v.costs) a.op ≡ true) (sym c.self.view_is) c.requires.eager in
     let until = c.eager_begin-begun.ensures.end ∙ ap (λ (n : ℕ). a.time + n) (sym (cpu_of_eager plans costs h a.class a.op send c.requires.class eager)) in
     let sent = ap (λ (n : ℕ). a.time + n) (sym (tx_of_eager plans costs h a.class a.op send c.requires.class eager)) in
-    let told = c.write.ensures (entry_known plans costs h) (c.deref_mut.ensures.value ∙ m.known) ∙ eager_begun plans costs h a m.run next.possible c.entry-entry.result was _ until c.eager_begin-begun.result.arrive c.requires.class send eager c.eager_begin-begun.ensures.arrive in
+    let told = c.write.ensures (entry_known plans costs h) (c.deref_mut.ensures.value ∙ m.known) ∙ eager_begun plans costs h a m.run next.possible c.entry-entry.result.now was _ until c.eager_begin-begun.result.arrive c.requires.class send eager c.eager_begin-begun.ensures.arrive in
     let posts_and_arrivals = other_action plans costs h a c.self.inside.matcher m.posts_and_arrivals (ap is_post_or_arrival_class c.requires.class) in
     let free = free_send plans costs h a c.self.inside.resources m.free c.eager_begin-begun.new.res _ (ap holds_cpu c.requires.class) until _ c.eager_begin-begun.ensures.holds (sends_at_begin plans costs h a.class a.op send c.requires.class) sent (ap holds_rx c.requires.class) in
     let parts : Parts = record { items = c.self.inside.history.items; entries = c.self.inside.entries.items; matcher = c.self.inside.matcher; res = c.self.inside.resources; room = vec_capacity c.self.inside.history } in

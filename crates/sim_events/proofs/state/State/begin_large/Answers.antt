@@ -58,12 +58,12 @@ invariant_of-self g c =
     let a = c.args.action in
     let m = c.self.invariant in
     let next = next_at g.C.Costs.model _ _ a c.self.view_is c.requires.next in
-    let was = entry_is g.C.Costs.model _ _ a.op c.entry-entry.result c.self.view_is c.entry-entry.ensures in
+    let was = entry_is g.C.Costs.model _ _ a.op c.entry-entry.result.now c.self.view_is c.entry-entry.ensures in
     let send = subst (λ (v : View _). IsSend v.plans a.op) (sym c.self.view_is) c.requires.send in
     let large = subst (λ (v : View _). is_eager v.plans (g.C.Costs.model v.costs) a.op ≡ false) (sym c.self.view_is) c.requires.large in
     let until = ap (λ (n : ℕ). a.time + n) (sym (cpu_of_request plans costs h a.class a.op send c.requires.class large)) in
     let sent = ap (λ (n : ℕ). a.time + n) (sym (tx_of_request plans costs h a.class a.op send c.requires.class large)) in
-    let told = c.write.ensures (entry_known plans costs h) (c.deref_mut.ensures.value ∙ m.known) ∙ request_begun plans costs h a m.run next.possible c.entry-entry.result was c.request-arrive.result c.requires.class send large c.request-arrive.ensures.arrive in
+    let told = c.write.ensures (entry_known plans costs h) (c.deref_mut.ensures.value ∙ m.known) ∙ request_begun plans costs h a m.run next.possible c.entry-entry.result.now was c.request-arrive.result c.requires.class send large c.request-arrive.ensures.arrive in
     let posts_and_arrivals = other_action plans costs h a c.self.inside.matcher m.posts_and_arrivals (ap is_post_or_arrival_class c.requires.class) in
     let free = free_send plans costs h a c.self.inside.resources m.free c.request-arrive.new.res _ (ap holds_cpu c.requires.class) until _ c.request-arrive.ensures.holds (sends_at_begin plans costs h a.class a.op send c.requires.class) sent (ap holds_rx c.requires.class) in
     let parts : Parts = record { items = c.self.inside.history.items; entries = c.self.inside.entries.items; matcher = c.self.inside.matcher; res = c.self.inside.resources; room = vec_capacity c.self.inside.history } in

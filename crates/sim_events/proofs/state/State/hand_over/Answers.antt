@@ -54,12 +54,12 @@ invariant_of-self g c =
     let a = c.args.action in
     let m = c.self.invariant in
     let next = next_at g.C.Costs.model _ _ a c.self.view_is c.requires.next in
-    let was = entry_is g.C.Costs.model _ _ a.op c.entry-entry.result c.self.view_is c.entry-entry.ensures in
+    let was = entry_is g.C.Costs.model _ _ a.op c.entry-entry.result.now c.self.view_is c.entry-entry.ensures in
     let facts = sends plans costs h a m.run next.possible c.requires.class in
     let send = facts.0 in
     let until = c.data-sent.ensures.end ∙ ap (λ (n : ℕ). a.time + n) (sym (cpu_of_data plans costs h a.class a.op send c.requires.class)) in
     let sent = ap (λ (n : ℕ). a.time + n) (sym (tx_of_data plans costs h a.class a.op send c.requires.class)) in
-    let told = c.write.ensures (entry_known plans costs h) (c.deref_mut.ensures.value ∙ m.known) ∙ data_sent plans costs h a m.run next.possible c.entry-entry.result was _ until c.data-sent.result.arrive c.requires.class send facts.1 c.data-sent.ensures.arrive in
+    let told = c.write.ensures (entry_known plans costs h) (c.deref_mut.ensures.value ∙ m.known) ∙ data_sent plans costs h a m.run next.possible c.entry-entry.result.now was _ until c.data-sent.result.arrive c.requires.class send facts.1 c.data-sent.ensures.arrive in
     let posts_and_arrivals = other_action plans costs h a c.self.inside.matcher m.posts_and_arrivals (ap is_post_or_arrival_class c.requires.class) in
     let free = free_send plans costs h a c.self.inside.resources m.free c.data-sent.new.res _ (ap holds_cpu c.requires.class) until _ c.data-sent.ensures.holds (sends_at_data plans costs h a.class a.op send c.requires.class) sent (ap holds_rx c.requires.class) in
     let parts : Parts = record { items = c.self.inside.history.items; entries = c.self.inside.entries.items; matcher = c.self.inside.matcher; res = c.self.inside.resources; room = vec_capacity c.self.inside.history } in

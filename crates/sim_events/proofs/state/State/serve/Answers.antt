@@ -28,7 +28,7 @@ unreachable-requires g c =
     let h = reverse c.self.inside.history.items in
     let a = c.args.action in
     let next = next_at g.C.Costs.model _ _ a c.self.view_is c.requires.next in
-    let was = entry_is g.C.Costs.model _ _ a.op c.entry-entry.result c.self.view_is c.entry-entry.ensures in
+    let was = entry_is g.C.Costs.model _ _ a.op c.entry-entry.result.now c.self.view_is c.entry-entry.ensures in
     let told = known_mate plans costs h a a.op (serves plans costs h a c.self.invariant.run next.possible c.requires.class).1 in
     c.in_default.not-Some told.0 (ap (λ (e : Entry). e.paired) was ∙ told.1)
 
@@ -40,7 +40,7 @@ serve-end-requires g c =
     let a = c.args.action in
     let m = c.self.invariant in
     let next = next_at g.C.Costs.model _ _ a c.self.view_is c.requires.next in
-    let was = entry_is g.C.Costs.model _ _ a.op c.entry-entry.result c.self.view_is c.entry-entry.ensures in
+    let was = entry_is g.C.Costs.model _ _ a.op c.entry-entry.result.now c.self.view_is c.entry-entry.ensures in
     let receive = (serves plans costs h a m.run next.possible c.requires.class).0 in
     let partner = mate_of_known plans costs h a a.op c.in-Some.pairing (sym (ap (λ (e : Entry). e.paired) was) ∙ c.in-Some.is) in
     record {
@@ -73,12 +73,12 @@ invariant_of-self g c =
     let a = c.args.action in
     let m = c.self.invariant in
     let next = next_at g.C.Costs.model _ _ a c.self.view_is c.requires.next in
-    let was = entry_is g.C.Costs.model _ _ a.op c.entry-entry.result c.self.view_is c.entry-entry.ensures in
+    let was = entry_is g.C.Costs.model _ _ a.op c.entry-entry.result.now c.self.view_is c.entry-entry.ensures in
     let receive = (serves plans costs h a m.run next.possible c.requires.class).0 in
     let partner = mate_of_known plans costs h a a.op c.in-Some.pairing (sym (ap (λ (e : Entry). e.paired) was) ∙ c.in-Some.is) in
     let until = c.serve-end.ensures.end ∙ ap (λ (n : ℕ). a.time + n) (sym (cpu_of_serve plans costs h a.class a.op receive c.in-Some.pairing.with partner c.requires.class)) in
     let received = ap (λ (n : ℕ). a.time + n) (sym (rx_of_serve plans costs h a.class a.op receive c.in-Some.pairing.with partner c.requires.class)) in
-    let told = c.write.ensures (entry_known plans costs h) (c.deref_mut.ensures.value ∙ m.known) ∙ message_taken plans costs h a m.run next.possible c.entry-entry.result was _ until c.requires.class receive in
+    let told = c.write.ensures (entry_known plans costs h) (c.deref_mut.ensures.value ∙ m.known) ∙ message_taken plans costs h a m.run next.possible c.entry-entry.result.now was _ until c.requires.class receive in
     let posts_and_arrivals = other_action plans costs h a c.self.inside.matcher m.posts_and_arrivals (ap is_post_or_arrival_class c.requires.class) in
     let free = free_serve plans costs h a c.self.inside.resources m.free c.serve-end.new.res _ (ap holds_cpu c.requires.class) until _ c.serve-end.ensures.holds (ap (λ (k : Class). holds_tx k (kind_at plans a.op)) c.requires.class) (ap holds_rx c.requires.class) received in
     let parts : Parts = record { items = c.self.inside.history.items; entries = c.self.inside.entries.items; matcher = c.self.inside.matcher; res = c.self.inside.resources; room = vec_capacity c.self.inside.history } in

@@ -1,5 +1,5 @@
-use Rattle.std.proofs.Common.{◌<◌, None, length, set, ◌∙◌, ap, arith}
-use Rattle.std.proofs.lemmas.List.{length-map}
+use Rattle.std.proofs.Common.{◌<◌, None, length, map, set, is_some, false, sym, ◌∙◌, ap, arith}
+use Rattle.std.proofs.lemmas.List.{length-map, map-set}
 use Rattle.sim_queue.specs.Groups.{Grouped, key_of_home}
 use Rattle.sim_queue.proofs.Grouping.{home_read, heap_read, changed, still_housed}
 use Rattle.sim_queue.proofs.groups.Groups.drop_slot.Goals as goal
@@ -10,9 +10,13 @@ invariant_of-self g c =
     let heaps = c.self.inside.heaps.items in
     let home = c.index-home.result.now in
     let within : c.args.slot < length homes = omega (arith, c.requires, ap (λ (q : Grouped _). length q.keys) c.self.view_is, length-map homes (key_of_home heaps)) in
-    let at = home_read homes heaps c.self.invariant c.args.slot home within c.index-home.ensures in
-    let heap = heap_read homes heaps c.self.invariant home.group c.index_mut.result.now (c.self.invariant.group_in c.args.slot home at) c.index_mut.ensures.value in
-    still_housed homes heaps c.self.invariant c.args.slot home at None c.index_mut.result.now c.drop_slot.new.self heap c.drop_slot.ensures.dropped
+    let at = home_read homes heaps c.self.invariant.0 c.args.slot home within c.index-home.ensures in
+    let heap = heap_read homes heaps c.self.invariant.0 home.group c.index_mut.result.now (c.self.invariant.0.group_in c.args.slot home at) c.index_mut.ensures.value in (
+      still_housed homes heaps c.self.invariant.0 c.args.slot home at None c.index_mut.result.now c.drop_slot.new.self heap c.drop_slot.ensures.dropped,
+      ap (λ ks. set ks c.args.slot false) c.self.invariant.1
+          ∙ sym (map-set is_some (map (key_of_home heaps) homes) c.args.slot None)
+          ∙ sym (ap (λ (q : Grouped _). map is_some q.keys) (changed homes heaps c.self.invariant.0 c.args.slot home at None c.index_mut.result.now c.drop_slot.new.self heap c.drop_slot.ensures.dropped)),
+    )
 
 pub returns : goal.returns
 returns g c =
@@ -20,6 +24,6 @@ returns g c =
     let heaps = c.self.inside.heaps.items in
     let home = c.index-home.result.now in
     let within : c.args.slot < length homes = omega (arith, c.requires, ap (λ (q : Grouped _). length q.keys) c.self.view_is, length-map homes (key_of_home heaps)) in
-    let at = home_read homes heaps c.self.invariant c.args.slot home within c.index-home.ensures in
-    let heap = heap_read homes heaps c.self.invariant home.group c.index_mut.result.now (c.self.invariant.group_in c.args.slot home at) c.index_mut.ensures.value in
-    changed homes heaps c.self.invariant c.args.slot home at None c.index_mut.result.now c.drop_slot.new.self heap c.drop_slot.ensures.dropped ∙ ap (λ (q : Grouped _). record { keys = set q.keys c.args.slot None; groups = q.groups }) c.self.view_is
+    let at = home_read homes heaps c.self.invariant.0 c.args.slot home within c.index-home.ensures in
+    let heap = heap_read homes heaps c.self.invariant.0 home.group c.index_mut.result.now (c.self.invariant.0.group_in c.args.slot home at) c.index_mut.ensures.value in
+    changed homes heaps c.self.invariant.0 c.args.slot home at None c.index_mut.result.now c.drop_slot.new.self heap c.drop_slot.ensures.dropped ∙ ap (λ (q : Grouped _). record { keys = set q.keys c.args.slot None; groups = q.groups }) c.self.view_is
