@@ -1,25 +1,27 @@
 -- What follows from the table of causes.
-use Rattle.std.proofs.Common.{◌≡◌, ◌≢◌, ℕ, ◌<◌, ◌⊎◌, Bool, true, false, List, [], length, Option, Some, None, is_some, IfSome, IsSomeAnd, inl, inr, refl, sym, ap, ◌∙◌, subst, arith}
+use Rattle.std.proofs.Common.{◌≡◌, ◌≢◌, ℕ, ◌<◌, ◌⊎◌, true, false, List, [], length, Option, Some, None, IfSome, IsSomeAnd, inl, inr, refl, ap, ◌∙◌, subst, arith}
 use Rattle.std.proofs.Math.Seq.{take-length}
 use Rattle.std.specs.FinMap.{insert}
-use Rattle.goal_base.specs.declared.limits.TheConstants.{MAX_INPUT}
-use Rattle.goal_base.specs.Device.{HostState, SinkState, Files, Later, KeepsFiles, KeepsReading, SameFiles, SameRest, ReadsAtMost, Holds, HoldsPart, Held, Grows, file_of, ReadFaulted, IsTooLong, SameReadCounts}
+use Rattle.goal_base.specs.Device.{HostState, SinkState, Files, Later, KeepsFiles, KeepsReading, SameFiles, Holds, HoldsPart, Held, Grows, file_of, ReadFaulted, SameReadCounts}
 use Rattle.goal_graph.specs.Schedule.{Plan}
 use Rattle.sim_params.specs.Costs.{Numbers, log_gops}
+use Rattle.goal_input.specs.Unread.{IfFile}
 use Rattle.goal_words.specs.Words.{Command, Sim, Waits, Knots, Compile, Show, Gen, Certify, Probe}
 use Rattle.goal_cli.specs.declared.answer.Answer.{Answer}
 use Rattle.goal_cli.specs.declared.answer.Answer.TheVariants as answer
 use Rattle.goal_cli.specs.declared.answer.Ending.{Ending}
 use Rattle.goal_cli.specs.declared.answer.Ending.TheVariants as ending
 use Rattle.goal_cli.specs.declared.answer.Refusal.{Refusal}
-use Rattle.goal_cli.specs.declared.answer.Refusal.TheVariants as refusal
+use Rattle.goal_cli.specs.declared.output.Stop.{Stop}
+use Rattle.goal_cli.specs.declared.output.Stop.TheVariants.{Refused}
 use Rattle.goal_cli.specs.declared.answer.Status.{Status}
 use Rattle.goal_cli.specs.declared.answer.Status.TheVariants as status
-use Rattle.goal_cli.specs.Output.{input_of, ending_if, IsOutput, MayEnd, IsCertify, IsRefused, HasRun, HasOutput}
+use Rattle.goal_cli.specs.Output.{input_of, IsScheduleOf, IsOutput, MayEnd, IsCertify, IsRefused, IsStop, HasRun, HasOutput}
 use Rattle.goal_cli.specs.Refusal.{refused_line}
-use Rattle.goal_cli.specs.Answer.{ForFile, IfFile, ForNamed, IfNamed, ForInput, IfInput, IsGot, GrowsByPart, ReadsHeld, Target, ToOut, ToFile, target_of, Gets, GetsPart, Elsewhere, WritesRose, WritesHeld, WritesSame, InputHeld, GetsOutput, GetsPartOfOutput, AnswersWhole, PrintsRun, IsUntouched, IsWritten, IsCutOff, IsCauseOf, IsCauseOfNone, IsCause, line_for, status_at, status_of, Answers, AnswersWith, IsSilent, line_at, input_in, Says, IsCutShort, IsAnswered, IsTakenOf}
+use Rattle.goal_cli.specs.Answer.{ForNamed, IfNamed, ForInput, IfInput, GrowsByPart, ReadsHeld, Target, ToOut, ToFile, target_of, Gets, GetsPart, Elsewhere, WritesRose, WritesHeld, WritesSame, InputHeld, GetsOutput, GetsPartOfOutput, AnswersWhole, PrintsRun, IsUntouched, IsWritten, IsCutOff, IsCauseOf, IsCauseOfNone, IsCause, line_for, status_at, status_of, Answers, AnswersWith, IsSilent, line_at, input_in, Says, IsCutShort, IsAnswered, IsTakenOf}
+use Rattle.goal_cli.specs.Unmade.{IsUnmade}
 use Rattle.goal_cli.specs.World.{Devices, devices}
-use Rattle.goal_cli.proofs.InputLemmas.{same_schedule}
+use Rattle.goal_input.proofs.ForCallers.{same_schedule}
 use Rattle.goal_cli.proofs.RefusalLemmas.{same_refusal, no_refusal, output_had}
 
 -- all of a line is a prefix of it
@@ -44,10 +46,6 @@ same_file host name input other a b = cc
 
 -- what a command gets
 module _ (host : HostState) (P : List ℕ → Type 0) where
-  for_got : (o : Option (List ℕ)) (input : List ℕ) → IsGot host o input → P input → ForNamed host o P
-  for_got None input is p = subst P is p
-  for_got (Some name) input is p = λ told. (input, is told, p)
-
   if_all : (o : Option (List ℕ)) → ((input : List ℕ) → P input) → IfNamed host o P
   if_all None p = p []
   if_all (Some name) p = λ tells input file. p input
@@ -64,20 +62,26 @@ module _ (host : HostState) (P : List ℕ → Type 0) where
         let k = p tells in
         turn input (subst P (same_file host name input k.0 file k.1) k.2)
 
--- a file that is too long, as it stands in the table of causes
-long_file : (host : HostState) (o : Option (List ℕ)) → IsSomeAnd o (IsTooLong host)
-    → ForNamed host o (λ input. (is_some o ≡ true) × (MAX_INPUT < length input))
-long_file host None long = absurd long
-long_file host (Some name) long = λ told. let k = long.told told in (k.0, k.1, (refl, k.2))
-
-pub too_long : (host : HostState) (c : Command) → IsSomeAnd (input_of c) (IsTooLong host)
-    → ForNamed host (input_of c) (λ input. IsRefused c input refusal.TooLong)
-too_long host c long = long_file host (input_of c) long
-
 -- a refusal of what was got
-pub refused_of : (host : HostState) (c : Command) (input : List ℕ) (r : Refusal) → IsGot host (input_of c) input → IsRefused c input r
+pub refused_of : (host : HostState) (c : Command) (sched : List Plan) (stop : Stop) (r : Refusal) → stop ≡ Refused r
+    → ForNamed host (input_of c) (λ input. IsScheduleOf c input sched) → ((input : List ℕ) → IsScheduleOf c input sched → IsStop c input stop)
     → ForNamed host (input_of c) (λ input. IsRefused c input r)
-refused_of host c input r is refused = for_got host (λ (i : List ℕ). IsRefused c i r) (input_of c) input is refused
+refused_of host c sched stop r is got refused =
+    for_turned host (λ (i : List ℕ). IsScheduleOf c i sched) (λ (i : List ℕ). IsRefused c i r)
+    (λ input from. subst (λ (s : Stop). IsStop c input s) is (refused input from)) (input_of c) got
+
+-- why there is no schedule, as it stands in the table of causes
+module _ (a b : HostState) (out : SinkState) (c : Command) (kept : KeepsFiles a b) where
+  still : IsUntouched (devices a out) (devices b out)
+  still = record { files = kept; sink = refl }
+
+  pub unmade_cause : (answer : Answer) → IsUnmade a b c answer → IsCauseOf (devices a out) (devices b out) c answer
+  unmade_cause (answer.Written e) is = absurd is
+  unmade_cause answer.BadLine is = absurd is
+  unmade_cause (answer.Refused r) is = (is.0, is.1, still)
+  unmade_cause answer.ReadFault is = (is, still)
+  unmade_cause answer.WriteFault is = absurd is
+  unmade_cause answer.NoMemory is = inl still
 
 -- what is taken of an input, where nothing more is asked of it later
 pub taken_still : (o : Option (List ℕ)) (a b d : HostState) → Later a b → IsTakenOf o a b → KeepsReading b d → IsTakenOf o a d
@@ -150,15 +154,16 @@ module _ (a b : HostState) (out : SinkState) (new : Devices) (kept : KeepsFiles 
     absent_count = then.absent_count ∙ first.absent_count;
   }
 
-  -- what is so after an output was written whole, of an input that was read before
-  pub written_from : (c : Command) (input output : List ℕ) (e : Ending) → IsGot a (input_of c) input → SameReadCounts a b
-      → IsOutput c input output e → MayEnd c e → Gets (devices b out) new (target_of c) output
+  -- what is so after an output was written whole, of a schedule that was read before
+  pub written_from : (c : Command) (sched : List Plan) (output : List ℕ) (e : Ending)
+      → ForNamed a (input_of c) (λ input. IsScheduleOf c input sched) → SameReadCounts a b
+      → ((input : List ℕ) → IsScheduleOf c input sched → IsOutput c input output e) → MayEnd c e → Gets (devices b out) new (target_of c) output
       → WritesSame (devices b out) new (target_of c) → SameReadCounts b new.host → Elsewhere (devices b out) new (target_of c)
       → IsWritten (devices a out) new e c
-  written_from c input output e got counts is ends all same reads elsewhere = record {
+  written_from c sched output e got counts is ends all same reads elsewhere = record {
     output =
-        for_got a (GetsOutput (devices a out) new e c) (input_of c) input got
-        (output, is, gets_from (target_of c) output all);
+        for_turned a (λ (i : List ℕ). IsScheduleOf c i sched) (GetsOutput (devices a out) new e c)
+        (λ input from. (output, is input from, gets_from (target_of c) output all)) (input_of c) got;
     ends = ends;
     reads = reads_from counts reads;
     writes = same_count_from (target_of c) same;
@@ -166,13 +171,14 @@ module _ (a b : HostState) (out : SinkState) (new : Devices) (kept : KeepsFiles 
   }
 
   -- what is so after it was cut off
-  pub cut_off_from : (c : Command) (input output : List ℕ) (e : Ending) → IsGot a (input_of c) input → SameReadCounts a b
-      → IsOutput c input output e → GetsPart (devices b out) new (target_of c) output → SameReadCounts b new.host
+  pub cut_off_from : (c : Command) (sched : List Plan) (output : List ℕ) (e : Ending)
+      → ForNamed a (input_of c) (λ input. IsScheduleOf c input sched) → SameReadCounts a b
+      → ((input : List ℕ) → IsScheduleOf c input sched → IsOutput c input output e) → GetsPart (devices b out) new (target_of c) output → SameReadCounts b new.host
       → Elsewhere (devices b out) new (target_of c) → IsCutOff (devices a out) new c
-  cut_off_from c input output e got counts is part reads elsewhere = record {
+  cut_off_from c sched output e got counts is part reads elsewhere = record {
     output =
-        for_got a (GetsPartOfOutput (devices a out) new c) (input_of c) input got
-        (output, (e, is), part_from (target_of c) output part);
+        for_turned a (λ (i : List ℕ). IsScheduleOf c i sched) (GetsPartOfOutput (devices a out) new c)
+        (λ input from. (output, (e, is input from), part_from (target_of c) output part)) (input_of c) got;
     reads = reads_from counts reads;
     elsewhere = elsewhere_from (target_of c) elsewhere;
   }

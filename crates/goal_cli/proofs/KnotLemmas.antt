@@ -1,5 +1,5 @@
 -- What the search for knots asks of stuck operations.
-use Rattle.std.proofs.Common.{ℕ, ◌≡◌, ◌≤◌, ◌⊎◌, inl, inr, List, length, map, filter, Contains, Option, Some, None, sym, ap, ◌∙◌, subst, arith}
+use Rattle.std.proofs.Common.{◌≡◌, ◌≤◌, ◌⊎◌, inl, inr, List, length, filter, Some, ap, arith}
 use Rattle.std.proofs.lemmas.List.{length-map}
 use Rattle.std.proofs.lemmas.List.Sums.{length-filter, count_by-le-length}
 use Rattle.goal_graph.specs.declared.action.OpId.{OpId}
@@ -10,7 +10,7 @@ use Rattle.goal_graph.specs.declared.action.Why.TheVariants.{Op, Partner, Alone}
 use Rattle.goal_graph.specs.Schedule.{Plan, operations}
 use Rattle.sim_params.specs.Costs.{CostModel}
 use Rattle.sim_params.specs.Stuck.{lacks_end}
-use Rattle.sim_stuck.specs.StuckList.{ops_of, stuck_list, with_reason, NamesListed}
+use Rattle.sim_stuck.specs.StuckList.{stuck_list, with_reason, NamesListed}
 use Rattle.sim_cycles.specs.Knots.{named}
 use Rattle.sim_cycles.specs.Laws.{NamesListed as NamesAreListed}
 

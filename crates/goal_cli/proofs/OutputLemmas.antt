@@ -14,10 +14,10 @@ use Rattle.goal_blocks.specs.Faults.{FaultExcludesCertified, OneFirstFault}
 use Rattle.goal_collectives.specs.Probe.{probed}
 use Rattle.goal_cli.specs.Probe.{probe_text}
 use Rattle.goal_cli.specs.Verdict.{faulty_text, IsVerdictOn}
-use Rattle.goal_cli.specs.Input.{IsReadAs}
+use Rattle.goal_input.specs.Input.{IsReadAs}
 use Rattle.goal_cli.specs.declared.answer.Ending.{Ending}
 use Rattle.goal_cli.specs.Output.{run_text, knots_shown, IsPrintedRun, IsReportedRun, IsKnotted, IsSummedUp, ending_if, IsOutput}
-use Rattle.goal_cli.proofs.InputLemmas.{same_schedule}
+use Rattle.goal_input.proofs.ForCallers.{same_schedule}
 
 pub one_run : (costs : CostModel) (sched : List Plan) (one other : List ℕ) (stuck waits : Bool) → IsPrintedRun costs sched one stuck
     → IsPrintedRun costs sched other waits → (one ≡ other) × (stuck ≡ waits)

@@ -13,9 +13,9 @@ use Rattle.goal_words.specs.Words.{Command, Sim, Waits, Knots, Compile, Show, Ge
 use Rattle.goal_cli.specs.declared.answer.Ending.{Ending}
 use Rattle.goal_cli.specs.declared.answer.Refusal.{Refusal}
 use Rattle.goal_cli.specs.declared.answer.Refusal.TheVariants.{TooLong, Text, File, Generator, Budget}
-use Rattle.goal_cli.specs.Input.{IsReadAs, IsTextFault, IsFaultOfFile}
+use Rattle.goal_input.specs.Input.{IsReadAs, IsTextFault, IsFaultOfFile}
 use Rattle.goal_cli.specs.Output.{HasInput, HasRun, HasOutput, IsOutput, IsProbe, IsProbeOverBudget, IsOverBudget, IsRefusedBudget, IsNotMade, IsRefusedCollective, IsRefused}
-use Rattle.goal_cli.proofs.InputLemmas.{same_schedule, same_text_fault, same_file_fault, not_both, no_text_fault, no_file_fault, not_too_long}
+use Rattle.goal_input.proofs.ForCallers.{same_schedule, same_text_fault, same_file_fault, not_both, no_text_fault, no_file_fault, not_too_long}
 
 -- the input of a budget says a schedule
 budget_read : (c : Command) (input : List ℕ) (s : ℕ) → IsRefusedBudget c input s → HasInput c → (sched : List Plan) × IsReadAs input sched

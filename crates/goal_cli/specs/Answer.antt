@@ -1,10 +1,11 @@
 -- What each answer of `goal` says of the call, and what `err` gets.
-use Rattle.std.specs.Prelude.{ℕ, ◌+◌, ◌≡◌, ◌⊎◌, Bool, true, false, List, [], ◌++◌, take, Option, Some, None, IsSomeAnd, IfSome, codes}
+use Rattle.std.specs.Prelude.{ℕ, ◌+◌, ◌≡◌, ◌⊎◌, Bool, false, List, [], ◌++◌, take, Option, Some, None, IsSomeAnd, IfSome, codes}
 use Rattle.goal_base.specs.Text.{line_feed}
 use Rattle.goal_base.specs.declared.limits.TheConstants.{MAX_INPUT}
-use Rattle.goal_base.specs.Device.{HostState, SinkState, Rose, Held, KeepsFiles, KeepsReading, SameRest, ReadsAtMost, SameReadCounts, Holds, HoldsPart, Grows, file_of, ReadFaulted}
+use Rattle.goal_base.specs.Device.{HostState, SinkState, Rose, Held, KeepsFiles, KeepsReading, SameRest, ReadsAtMost, SameReadCounts, Holds, HoldsPart, Grows, ReadFaulted}
 use Rattle.goal_graph.specs.Schedule.{Plan}
 use Rattle.sim_params.specs.Costs.{CostModel}
+use Rattle.goal_input.specs.Unread.{ForFile, IfFile}
 use Rattle.goal_words.specs.Words.{Command, Sim, Waits, Knots, Compile, Show, Gen, Certify, Probe}
 use Rattle.goal_cli.specs.declared.answer.Answer.{Answer}
 use Rattle.goal_cli.specs.declared.answer.Answer.TheVariants as answer
@@ -21,15 +22,7 @@ abbrev pub input_in : Option Command → Option (List ℕ)
 input_in None = None
 input_in (Some c) = input_of c
 
--- where the host tells its files, the file of that name is there, and P holds of its bytes
-abbrev pub ForFile : HostState → List ℕ → (List ℕ → Type 0) → Type 0
-ForFile host name P = host.tells ≡ true → (input : List ℕ) × (file_of host name ≡ Some input) × P input
-
--- where the host tells its files and the file of that name is there, P holds of its bytes
-abbrev pub IfFile : HostState → List ℕ → (List ℕ → Type 0) → Type 0
-IfFile host name P = host.tells ≡ true → (input : List ℕ) → file_of host name ≡ Some input → P input
-
--- the same of what a command gets: the bytes of the file of that name, and none where it has no input
+-- P holds of what a command gets: the bytes of the file of that name, and none where it has no input
 abbrev pub ForNamed : HostState → Option (List ℕ) → (List ℕ → Type 0) → Type 0
 ForNamed host None P = P []
 ForNamed host (Some name) P = ForFile host name P
@@ -44,11 +37,6 @@ ForInput command host P = IsSomeAnd command (λ c. ForNamed host (input_of c) (P
 
 abbrev pub IfInput : Option Command → HostState → (Command → List ℕ → Type 0) → Type 0
 IfInput command host P = IfSome command (λ c. IfNamed host (input_of c) (P c))
-
--- these bytes are what is got
-abbrev pub IsGot : HostState → Option (List ℕ) → List ℕ → Type 0
-IsGot host None input = input ≡ []
-IsGot host (Some name) input = host.tells ≡ true → file_of host name ≡ Some input
 
 -- the sink got a prefix of these bytes
 abbrev pub GrowsByPart : SinkState → SinkState → List ℕ → Type 0

@@ -1,11 +1,12 @@
 -- What a reader must believe.
 pub mod World
-pub mod Input
 pub mod Verdict
 pub mod Probe
 pub mod Output
 pub mod Refusal
 pub mod Answer
+-- What only the code keeps.
+pub mod Unmade
 -- Laws.
 pub mod CertifiedRuns
 -- What the clauses cite of lower crates.
@@ -14,6 +15,8 @@ pub use Rattle.goal_base.specs.Text
 pub use Rattle.goal_binary.specs.File
 pub use Rattle.goal_blocks.specs.Collectives
 pub use Rattle.goal_graph.specs.Schedule
+pub use Rattle.goal_input.specs.Input
+pub use Rattle.goal_input.specs.Unread
 pub use Rattle.goal_print.specs.Canonical
 pub use Rattle.goal_words.specs.Words
 pub use Rattle.sim_events.specs.Engine

@@ -34,7 +34,7 @@ use Rattle.goal_cli.specs.declared.output.Stop.TheVariants.{Refused, NoMemory}
 use Rattle.goal_collectives.specs.Probe.{probed}
 use Rattle.goal_cli.specs.Verdict.{IsVerdictOn}
 use Rattle.goal_cli.specs.Probe.{probe_text}
-use Rattle.goal_cli.specs.Input.{IsReadAs, IsTextFault, IsFaultOfFile}
+use Rattle.goal_input.specs.Input.{IsReadAs, IsTextFault, IsFaultOfFile}
 
 -- the name of the file that a command reads as its input; None for a command without an input
 abbrev pub input_of : Command → Option (List ℕ)

@@ -1,20 +1,21 @@
 // The top call: from the words of a command line to what is written, and a status.
-ghost use Rattle.std.specs.Prelude.{ℕ, ◌≡◌, ◌⊎◌, ◌<◌, ◌≤◌, true, length, List, None, Some, IfOk, OnOk, OnErr, IsErrOf, IsSomeAnd, MatchOption};
-ghost use Rattle.goal_base.specs.declared.limits.TheConstants.{MAX_INPUT};
-ghost use Rattle.goal_base.specs.Device.{Rose, Held, Later, SinkLater, KeepsReading, Grows, ReadsFile, ReadFaulted, IsTooLong};
+ghost use Rattle.std.specs.Prelude.{ℕ, ◌≡◌, ◌⊎◌, List, Some, OnOk, OnErr, IsErrOf};
+ghost use Rattle.goal_base.specs.Device.{Rose, Held, SinkLater, KeepsReading, Grows};
 ghost use Rattle.goal_graph.specs.Schedule.{Plan};
 ghost use Rattle.sim_params.specs.Costs.{Numbers, log_gops};
+ghost use Rattle.goal_input.specs.Unread.{IfFile};
 ghost use Rattle.goal_words.specs.Words.{Sim, command, command_in, IsSized};
-ghost use Rattle.goal_cli.specs.Answer.{IfFile, IfInput, IsGot, GrowsByPart, ReadsHeld, InputHeld, target_of, Gets, GetsPart, Elsewhere, WritesRose, WritesHeld, WritesSame, AnswersWhole, PrintsRun, IsCauseOf, IsCause, AnswersWith, Says, IsCutShort, IsAnswered, Answered, IsTaken};
+ghost use Rattle.goal_cli.specs.Answer.{IfInput, GrowsByPart, ReadsHeld, InputHeld, target_of, Gets, GetsPart, Elsewhere, WritesRose, WritesHeld, WritesSame, AnswersWhole, PrintsRun, IsCauseOf, IsCause, AnswersWith, Says, IsCutShort, IsAnswered, Answered, IsTaken};
 ghost use Rattle.goal_cli.specs.World.{devices, world, DevicesLater, WorldLater};
-ghost use Rattle.goal_cli.specs.Output.{input_of, HasOutput, HasRun, IsRefused};
+ghost use Rattle.goal_cli.specs.Output.{HasOutput, HasRun, IsRefused};
 ghost use Rattle.goal_cli.specs.Refusal.{refused_line};
 ghost use Rattle.goal_cli.specs.declared.answer.Refusal.{Refusal};
 
-use crate::answer::{Answer, Ending, Refusal, Status};
-use crate::output::{Stop, make};
+use crate::answer::{Answer, Ending, Status};
+use crate::output::{Stop, output_of};
 use crate::refusal::refused_line;
-use goal_base::{Host, IoFault, NoMemory, ReadAll, Sink, read_all, write_all, write_file};
+use crate::source::schedule_of;
+use goal_base::{Host, IoFault, NoMemory, Sink, write_all, write_file};
 use goal_words::{Line, LineFault, read_words};
 use std::alloc::Global;
 
@@ -105,13 +106,11 @@ fn carry_out_line<H: Host, W: Sink>(alloc: Global, line: &Line, host: &mut H, ou
     ensures later { DevicesLater (devices (H.state host.old) (W.state out.old))
         (devices (H.state host.new) (W.state out.new)) }
 {
-    let input = match take_input(alloc, host, line) {
-        Ok(input) => input,
-        Err(ReadAll::Fault) => return Answer::ReadFault,
-        Err(ReadAll::TooLong) => return Answer::Refused(Refusal::TooLong),
-        Err(ReadAll::NoMemory) => return Answer::NoMemory,
+    let sched = match schedule_of(alloc, host, line) {
+        Ok(sched) => sched,
+        Err(answer) => return answer,
     };
-    let output = match make(alloc, line, &input) {
+    let output = match output_of(alloc, line, &sched) {
         Ok(output) => output,
         Err(Stop::Refused(refusal)) => return Answer::Refused(refusal),
         Err(Stop::NoMemory) => return Answer::NoMemory,
@@ -120,38 +119,6 @@ fn carry_out_line<H: Host, W: Sink>(alloc: Global, line: &Line, host: &mut H, ou
         Ok(()) => Answer::Written(output.ending),
         Err(IoFault::Failed) => Answer::WriteFault,
         Err(IoFault::NoMemory) => Answer::NoMemory,
-    }
-}
-
-// The name of the input of a command.
-fn name_of(line: &Line) -> Option<&str>
-    ensures { MatchOption result (input_of (command line.now) ≡ None) (λ name. input_of (command line.now) ≡ Some name.now) }
-{
-    match line {
-        Line::Sim { name, .. } => Some(name.as_str()),
-        Line::Waits { name, .. } => Some(name.as_str()),
-        Line::Knots { name, .. } => Some(name.as_str()),
-        Line::Compile { name, .. } => Some(name.as_str()),
-        Line::Show { name } => Some(name.as_str()),
-        Line::Certify { name, .. } => Some(name.as_str()),
-        Line::Gen { .. } => None,
-        Line::Probe { .. } => None,
-    }
-}
-
-// The bytes of the input of a command. A command without an input gets none, and the host is asked nothing.
-fn take_input<H: Host>(alloc: Global, host: &mut H, line: &Line) -> Result<Vec<u8>, ReadAll>
-    ensures got { IfOk result (λ input. IsGot (H.state host.old) (input_of (command line.now)) input.items) }
-    ensures short { IfOk result (λ input. length input.items ≤ MAX_INPUT) }
-    ensures too_long { IsErrOf result ReadAll.TooLong
-        → IsSomeAnd (input_of (command line.now)) (IsTooLong (H.state host.old)) }
-    ensures reads { ReadsFile result (H.state host.old) (H.state host.new)
-        (IsSomeAnd (input_of (command line.now)) (ReadFaulted (H.state host.old) (H.state host.new))) }
-    ensures taken { IsTaken (Some (command line.now)) (H.state host.old) (H.state host.new) }
-{
-    match name_of(line) {
-        Some(name) => read_all(alloc, host, name),
-        None => Ok(Vec::new(alloc)),
     }
 }
 

@@ -4,7 +4,7 @@ ghost use Rattle.goal_base.specs.Device.{file_of, ReadFaulted};
 ghost use Rattle.goal_graph.specs.Schedule.{Plan};
 ghost use Rattle.sim_params.specs.Costs.{CostModel};
 ghost use Rattle.goal_words.specs.Words.{Command, Compile};
-ghost use Rattle.goal_cli.specs.Input.{IsReadAs};
+ghost use Rattle.goal_input.specs.Input.{IsReadAs};
 ghost use Rattle.goal_cli.specs.Output.{input_of, IsCertify, IsPrintedRun, IsOutput, IsRefused};
 ghost use Rattle.goal_cli.specs.Refusal.{refused_line};
 ghost use Rattle.goal_cli.specs.World.{World, but_err};

@@ -14,6 +14,7 @@ mod laws;
 mod output;
 mod probe;
 mod refusal;
+mod source;
 #[cfg(test)]
 mod tests;
 mod verdict;

@@ -1,6 +1,5 @@
-// From the bytes of an input, or from words alone, to what a command makes of them.
-ghost use Rattle.std.specs.Prelude.{ℕ, List, Bool, ◌≡◌, ◌<◌, ◌≤◌, ◌^◌, true, false, length, Ok, OnOk, IfOk, IfErr};
-ghost use Rattle.goal_base.specs.declared.limits.TheConstants.{MAX_INPUT};
+// From the schedule that a command works on to what it makes of it.
+ghost use Rattle.std.specs.Prelude.{ℕ, List, Bool, ◌≡◌, ◌<◌, ◌^◌, Ok, OnOk, IfOk, IfErr};
 ghost use Rattle.sim_params.specs.Numbers.{numbers};
 ghost use Rattle.sim_params.specs.Costs.{log_gops};
 ghost use Rattle.sim_params.specs.Budget.{budget};
@@ -8,23 +7,17 @@ ghost use Rattle.sim_params.specs.Run.{IsFinished};
 ghost use Rattle.sim_events.specs.Engine.{IsEngineFault};
 ghost use Rattle.goal_print.specs.Canonical.{canonical};
 ghost use Rattle.goal_binary.specs.File.{file};
-ghost use Rattle.goal_blocks.specs.Collectives.{is_first};
-ghost use Rattle.goal_collectives.specs.Probe.{probed};
-ghost use Rattle.goal_words.specs.Words.{Command, Gen, command, IsSized};
-ghost use Rattle.goal_cli.specs.Input.{is_compiled, IsReadAs, IsTextFault, IsFaultOfFile};
-ghost use Rattle.goal_cli.specs.Output.{HasInput, run_text, knots_shown, IsPrintedRun, IsReportedRun, IsKnotted, IsSummedUp, IsRunOf, ending_if, IsMade, IsOutput, MayEnd, IsScheduleOf, IsStop};
+ghost use Rattle.goal_words.specs.Words.{command};
+ghost use Rattle.goal_input.specs.Input.{IsReadAs};
+ghost use Rattle.goal_cli.specs.Output.{run_text, knots_shown, IsPrintedRun, IsReportedRun, IsKnotted, IsSummedUp, IsRunOf, ending_if, IsOutput, MayEnd, IsScheduleOf, IsStop};
 
 use crate::answer::{Ending, Refusal};
 use crate::probe::probe_text;
 use crate::verdict::verdict;
-use goal_base::{MAX_BYTES, NoMemory};
-use goal_binary::{FileFault, MAGIC, decode, encode, laws_of_files};
-use goal_blocks::Collective;
-use goal_collectives::{GenFault, MAX_ROUNDS, generate, probe_plan};
+use goal_base::NoMemory;
+use goal_binary::{encode, laws_of_files};
 use goal_graph::Sched;
-use goal_parser::{TextFault, read_text};
 use goal_print::print_text;
-use goal_rooted::{RootedFault, generate_rooted};
 use goal_words::Line;
 use sim_cycles::{knots, knots_text};
 use sim_events::{Engine, EngineFault};
@@ -45,132 +38,6 @@ pub struct Output {
 pub enum Stop {
     Refused(Refusal),
     NoMemory,
-}
-
-// Whether an input is a compiled file: it begins with the first byte of the magic.
-fn is_compiled(input: &[u8]) -> bool
-    ensures { result ≡ is_compiled input.now }
-{
-    match input.first() {
-        Some(byte) => *byte == MAGIC[0],
-        None => false,
-    }
-}
-
-// The schedule of a text.
-fn read_as_text(alloc: Global, input: &[u8]) -> Result<Sched, Stop>
-    requires short { length input.now ≤ MAX_INPUT }
-    requires text { is_compiled input.now ≡ false }
-    ensures read { IfOk result (λ sched. IsReadAs input.now sched) }
-    ensures stop { IfErr result (λ stop. (c : Command) → HasInput c → IsStop c input.now stop) }
-{
-    match read_text(alloc, input) {
-        Ok(sched) => Ok(sched),
-        Err(TextFault::NoMemory) => Err(Stop::NoMemory),
-        Err(fault) => Err(Stop::Refused(Refusal::Text(fault))),
-    }
-}
-
-// The schedule of a compiled file.
-fn read_as_file(alloc: Global, input: &[u8]) -> Result<Sched, Stop>
-    requires short { length input.now ≤ MAX_INPUT }
-    requires compiled { is_compiled input.now ≡ true }
-    ensures read { IfOk result (λ sched. IsReadAs input.now sched) }
-    ensures stop { IfErr result (λ stop. (c : Command) → HasInput c → IsStop c input.now stop) }
-{
-    match decode(alloc, input) {
-        Ok(sched) => Ok(sched),
-        Err(FileFault::NoMemory) => Err(Stop::NoMemory),
-        Err(fault) => Err(Stop::Refused(Refusal::File(fault))),
-    }
-}
-
-// The schedule that an input says.
-fn read_input(alloc: Global, input: &[u8]) -> Result<Sched, Stop>
-    requires short { length input.now ≤ MAX_INPUT }
-    ensures read { IfOk result (λ sched. IsReadAs input.now sched) }
-    ensures stop { IfErr result (λ stop. (c : Command) → HasInput c → IsStop c input.now stop) }
-{
-    if is_compiled(input) {
-        read_as_file(alloc, input)
-    } else {
-        read_as_text(alloc, input)
-    }
-}
-
-// The schedule of a broadcast, barrier, allgather, allreduce or alltoall.
-fn make_first(alloc: Global, what: Collective, ranks: u32, bytes: u64) -> Result<Sched, Stop>
-    requires first { is_first what ≡ true }
-    requires size { bytes ≤ MAX_BYTES }
-    ensures made { IfOk result (λ sched. IsMade what ranks bytes sched) }
-    ensures stop { IfErr result (λ stop. (input : List ℕ) → IsStop (Gen what ranks bytes) input stop) }
-{
-    match generate(alloc, what, ranks, bytes) {
-        Ok(sched) => Ok(sched),
-        Err(GenFault::NoMemory) => Err(Stop::NoMemory),
-        Err(fault) => Err(Stop::Refused(Refusal::Generator(fault))),
-    }
-}
-
-// The schedule of a reduce, gather, scatter, reduce_scatter or scan.
-fn make_rooted(alloc: Global, what: Collective, ranks: u32, bytes: u64) -> Result<Sched, Stop>
-    requires second { is_first what ≡ false }
-    requires size { bytes ≤ MAX_BYTES }
-    ensures made { IfOk result (λ sched. IsMade what ranks bytes sched) }
-    ensures stop { IfErr result (λ stop. (input : List ℕ) → IsStop (Gen what ranks bytes) input stop) }
-{
-    match generate_rooted(alloc, what, ranks, bytes) {
-        Ok(sched) => Ok(sched),
-        Err(RootedFault::Ranks { limit }) => {
-            Err(Stop::Refused(Refusal::Generator(GenFault::Ranks { limit })))
-        }
-        Err(RootedFault::Root) => Err(Stop::Refused(Refusal::Generator(GenFault::Root))),
-        Err(RootedFault::NoMemory) => Err(Stop::NoMemory),
-    }
-}
-
-// The schedule of a collective.
-fn make_schedule(alloc: Global, what: Collective, ranks: u32, bytes: u64) -> Result<Sched, Stop>
-    requires size { bytes ≤ MAX_BYTES }
-    ensures made { IfOk result (λ sched. IsMade what ranks bytes sched) }
-    ensures stop { IfErr result (λ stop. (input : List ℕ) → IsStop (Gen what ranks bytes) input stop) }
-{
-    if what.is_first() {
-        make_first(alloc, what, ranks, bytes)
-    } else {
-        make_rooted(alloc, what, ranks, bytes)
-    }
-}
-
-// The schedule of a probe.
-fn draw(alloc: Global, rounds: u32, seed: u64) -> Result<Sched, Stop>
-    requires few { rounds ≤ MAX_ROUNDS }
-    ensures drawn { IfOk result (λ sched. sched ≡ probed rounds seed) }
-    ensures stop { IfErr result (λ stop. stop ≡ Stop.NoMemory) }
-{
-    match probe_plan(alloc, rounds, seed) {
-        Ok(sched) => Ok(sched),
-        Err(NoMemory) => Err(Stop::NoMemory),
-    }
-}
-
-// The schedule that a command works on: what its input says, or what it makes.
-fn schedule_of(alloc: Global, line: &Line, input: &[u8]) -> Result<Sched, Stop>
-    requires short { length input.now ≤ MAX_INPUT }
-    requires sized { IsSized (command line.now) }
-    ensures schedule { IfOk result (λ sched. IsScheduleOf (command line.now) input.now sched) }
-    ensures stop { IfErr result (λ stop. IsStop (command line.now) input.now stop) }
-{
-    match line {
-        Line::Sim { .. } => read_input(alloc, input),
-        Line::Waits { .. } => read_input(alloc, input),
-        Line::Knots { .. } => read_input(alloc, input),
-        Line::Compile { .. } => read_input(alloc, input),
-        Line::Show { .. } => read_input(alloc, input),
-        Line::Gen { what, ranks, bytes } => make_schedule(alloc, *what, *ranks, *bytes),
-        Line::Certify { .. } => read_input(alloc, input),
-        Line::Probe { rounds, seed, .. } => draw(alloc, *rounds, *seed),
-    }
 }
 
 // How a run ends a command.
@@ -335,11 +202,12 @@ fn compile(alloc: Global, sched: &Sched) -> Result<Vec<u8>, NoMemory>
 }
 
 // What a command makes of the schedule that it works on.
-fn output_of(alloc: Global, line: &Line, input: &[u8], sched: &Sched) -> Result<Output, Stop>
-    requires schedule { IsScheduleOf (command line.now) input.now sched.now }
-    ensures output { IfOk result (λ output. IsOutput (command line.now) input.now output.bytes.items output.ending) }
+pub fn output_of(alloc: Global, line: &Line, sched: &Sched) -> Result<Output, Stop>
+    ensures output { IfOk result (λ output. (input : List ℕ) → IsScheduleOf (command line.now) input sched.now
+        → IsOutput (command line.now) input output.bytes.items output.ending) }
     ensures ends { IfOk result (λ output. MayEnd (command line.now) output.ending) }
-    ensures stop { IfErr result (λ stop. IsStop (command line.now) input.now stop) }
+    ensures stop { IfErr result (λ stop. (input : List ℕ) → IsScheduleOf (command line.now) input sched.now
+        → IsStop (command line.now) input stop) }
 {
     match line {
         Line::Sim { params, .. } => match print_run(alloc, sched, *params) {
@@ -369,19 +237,5 @@ fn output_of(alloc: Global, line: &Line, input: &[u8], sched: &Sched) -> Result<
             Ok(output) => Ok(output),
             Err(NoMemory) => Err(Stop::NoMemory),
         },
-    }
-}
-
-// What a command makes of its input, or of its words alone.
-pub fn make(alloc: Global, line: &Line, input: &[u8]) -> Result<Output, Stop>
-    requires short { length input.now ≤ MAX_INPUT }
-    requires sized { IsSized (command line.now) }
-    ensures output { IfOk result (λ output. IsOutput (command line.now) input.now output.bytes.items output.ending) }
-    ensures ends { IfOk result (λ output. MayEnd (command line.now) output.ending) }
-    ensures stop { IfErr result (λ stop. IsStop (command line.now) input.now stop) }
-{
-    match schedule_of(alloc, line, input) {
-        Ok(sched) => output_of(alloc, line, input, &sched),
-        Err(stop) => Err(stop),
     }
 }

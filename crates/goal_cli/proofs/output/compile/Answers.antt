@@ -3,7 +3,7 @@ use Rattle.goal_base.specs.declared.limits.TheConstants.{MAX_INPUT}
 use Rattle.goal_binary.specs.declared.layout.Layout.TheVariants.{Packed}
 use Rattle.goal_binary.specs.File.{file}
 use Rattle.goal_binary.specs.Laws.{IsSchedule}
-use Rattle.goal_cli.proofs.FileLemmas.{file_again, bytes_again}
+use Rattle.goal_input.proofs.ForCallers.{file_again, bytes_again}
 use Rattle.goal_cli.proofs.output.compile.Goals as goal
 
 pub returns-clause-again : goal.returns-clause-again
