@@ -1,11 +1,10 @@
 -- Dependencies and notes by slots, and by the labels of these slots.
-use Rattle.std.proofs.Common.{◌≡◌, ℕ, ◌<◌, ◌≤◌, true, false, List, [], ◌∷◌, ◌++◌, Some, None, length, slice_get, map, refl, sym, ap, subst, ◌∙◌, arith, bytes_eq, unwrap_or, if◌then◌else◌, nat_lt, rules, tests, inl, inr}
+use Rattle.std.proofs.Common.{◌≡◌, ℕ, ◌<◌, ◌≤◌, true, false, List, [], ◌∷◌, ◌++◌, Some, length, slice_get, map, refl, sym, ap, subst, ◌∙◌, arith, bytes_eq, unwrap_or, if◌then◌else◌, nat_lt, rules, tests}
 use Rattle.std.specs.List.{AllZip}
-use Rattle.std.proofs.lemmas.Option.{slice_get_cases}
 use Rattle.std.specs.Map.{lookup}
 use Rattle.goal_graph.specs.declared.plan.Dep.{Dep}
 use Rattle.goal_graph.specs.declared.plan.Note.{Note}
-use Rattle.goal_parser.specs.declared.labels.Slot.{Slot}
+use Rattle.goal_labels.specs.declared.label_map.Slot.{Slot}
 use Rattle.goal_parser.specs.declared.labels.Labels.{Labels}
 use Rattle.goal_parser.specs.declared.head.Mention.{Mention}
 use Rattle.goal_parser.specs.declared.head.Verb.{Verb}
@@ -46,24 +45,24 @@ IsNote-grows es fs grows d n is = record { slot = is.slot; subject = IsSlot-grow
 
 -- the labels change, and the slots stay
 pub NamesHold-labels : (names : Names) (labels : Labels) (ds es : List Definition) (us vs : List Mention) (deps : List NamedDep) (notes : List NamedNote)
-    → Grows names.labels.slots.entries labels.slots.entries → Keeps labels.slots.entries es vs → NamesHold names ds us deps notes → NamesHold (record names { labels = labels }) es vs deps notes
+    → Grows names.labels.slots labels.slots → Keeps labels.slots es vs → NamesHold names ds us deps notes → NamesHold (record names { labels = labels }) es vs deps notes
 NamesHold-labels names labels ds es us vs deps notes grows keeps holds = record {
   labels = keeps;
-  deps = AllZip-weaker (IsDep names.labels.slots.entries) (IsDep labels.slots.entries) (IsDep-grows names.labels.slots.entries labels.slots.entries grows) names.deps.items deps holds.deps;
-  notes = AllZip-weaker (IsNote names.labels.slots.entries) (IsNote labels.slots.entries) (IsNote-grows names.labels.slots.entries labels.slots.entries grows) names.notes.items notes holds.notes;
+  deps = AllZip-weaker (IsDep names.labels.slots) (IsDep labels.slots) (IsDep-grows names.labels.slots labels.slots grows) names.deps.items deps holds.deps;
+  notes = AllZip-weaker (IsNote names.labels.slots) (IsNote labels.slots) (IsNote-grows names.labels.slots labels.slots grows) names.notes.items notes holds.notes;
 }
 
 -- a dependency more
 pub NamesHold-dep : (old new : Names) (between : Labels) (ds : List Definition) (us : List Mention) (deps : List NamedDep) (notes : List NamedNote) (s u : Mention) (v : Verb) (later earlier : ℕ)
-    → Grows old.labels.slots.entries between.slots.entries → Grows between.slots.entries new.labels.slots.entries
-    → Keeps new.labels.slots.entries ds ((us ++ s ∷ []) ++ u ∷ [])
-    → IsSlot between.slots.entries later s.label → IsSlot new.labels.slots.entries earlier u.label
+    → Grows old.labels.slots between.slots → Grows between.slots new.labels.slots
+    → Keeps new.labels.slots ds ((us ++ s ∷ []) ++ u ∷ [])
+    → IsSlot between.slots later s.label → IsSlot new.labels.slots earlier u.label
     → new.deps.items ≡ old.deps.items ++ record { later = later; earlier = earlier; when = when_of v } ∷ [] → new.notes.items ≡ old.notes.items
     → NamesHold old ds us deps notes → NamesHold new ds ((us ++ s ∷ []) ++ u ∷ []) (deps ++ record { later = s.label; earlier = u.label; when = when_of v } ∷ []) notes
 NamesHold-dep old new between ds us deps notes s u v later earlier g1 g2 keeps first second pushed same holds =
-    let es = old.labels.slots.entries in
-    let ms = between.slots.entries in
-    let fs = new.labels.slots.entries in
+    let es = old.labels.slots in
+    let ms = between.slots in
+    let fs = new.labels.slots in
     record {
       labels = keeps;
       deps = subst (λ l. AllZip (IsDep fs) l (deps ++ record { later = s.label; earlier = u.label; when = when_of v } ∷ [])) (sym pushed)
@@ -76,12 +75,12 @@ NamesHold-dep old new between ds us deps notes s u v later earlier g1 g2 keeps f
 
 -- a note more
 pub NamesHold-note : (old new : Names) (ds : List Definition) (us : List Mention) (deps : List NamedDep) (notes : List NamedNote) (s : Mention) (v : Verb) (slot first second : ℕ)
-    → Grows old.labels.slots.entries new.labels.slots.entries → Keeps new.labels.slots.entries ds (us ++ s ∷ []) → IsSlot new.labels.slots.entries slot s.label
+    → Grows old.labels.slots new.labels.slots → Keeps new.labels.slots ds (us ++ s ∷ []) → IsSlot new.labels.slots slot s.label
     → new.deps.items ≡ old.deps.items → new.notes.items ≡ old.notes.items ++ note_as v slot first second ∷ []
     → NamesHold old ds us deps notes → NamesHold new ds (us ++ s ∷ []) deps (notes ++ record { subject = s.label; verb = v; first = first; second = second } ∷ [])
 NamesHold-note old new ds us deps notes s v slot first second grows keeps is same pushed holds =
-    let es = old.labels.slots.entries in
-    let fs = new.labels.slots.entries in
+    let es = old.labels.slots in
+    let fs = new.labels.slots in
     record {
       labels = keeps;
       deps = subst (λ l. AllZip (IsDep fs) l deps) (sym same) (AllZip-weaker (IsDep es) (IsDep fs) (IsDep-grows es fs grows) old.deps.items deps holds.deps);
@@ -141,6 +140,3 @@ deps_of_labels es ds us deps named keeps all = AllZip-maps (IsDep es) (dep_at es
 
 pub notes_of_labels : (es : Entries) (ds : List Definition) (us : List Mention) (notes : List Note) (named : List NamedNote) → Keeps es ds us → AllZip (IsNote es) notes named → map (note_at es) notes ≡ map (note_by ds) named
 notes_of_labels es ds us notes named keeps all = AllZip-maps (IsNote es) (note_at es) (note_by ds) (note_of_labels es ds us keeps) notes named all
-
-pub past_none : (es : Entries) (i : ℕ) → slice_get es i ≡ None → length es ≤ i
-past_none es i h = elim (slice_get_cases es i).1 [ inl w ↦ absurd (cc (h, w.2)) | inr w ↦ w.0 ]

@@ -1,17 +1,15 @@
 -- Labels that are defined and used, one more at a time.
 use Rattle.std.proofs.Common.{◌≡◌, ℕ, ◌+◌, ◌<◌, ◌≤◌, Bool, true, false, cond, List, [], ◌∷◌, ◌++◌, Option, Some, None, length, get_or, slice_get, take, zero, suc, rules, refl, sym, ap, subst, ◌∙◌, arith, bytes_eq, is_some, if◌then◌else◌, length-append}
 use Rattle.std.specs.Option.{option_or}
-use Rattle.std.specs.List.{list_any}
-use Rattle.std.specs.Map.{lookup, lookup_key, keys_of}
+use Rattle.std.specs.Map.{lookup, keys_of}
+use Rattle.std.proofs.lemmas.Bool.{false≢true}
 use Rattle.std.proofs.lemmas.Cmp.{nat_list_eq_equiv}
 use Rattle.std.proofs.lemmas.Slice.Eq.{bytes_eq-Decides}
 use Rattle.std.proofs.lemmas.Option.{slice_get-map, get_or_from_slice_get, slice_get_within}
 use Rattle.std.proofs.lemmas.List.{take_more, take_all}
 use Rattle.std.proofs.Math.ListN.{get_or-append}
-use Rattle.std.proofs.Math.Seq.{get_or-append_seam}
-use Rattle.indexmap.specs.IndexMap.{insert_entry}
-use Rattle.indexmap.proofs.SetLemmas.{keys_insert_entry}
-use Rattle.goal_parser.specs.declared.labels.Slot.{Slot}
+use Rattle.goal_labels.specs.Entries.{put}
+use Rattle.goal_labels.specs.declared.label_map.Slot.{Slot}
 use Rattle.goal_parser.specs.declared.head.Mention.{Mention}
 use Rattle.goal_parser.specs.Items.{Definition, defined_as, is_defined, first_outside, first_unknown}
 use Rattle.goal_parser.specs.Slots.{Entries, op_in, op_by, first_by, label_at, Keeps, Grows}
@@ -54,52 +52,44 @@ defined_as-append (f ∷ ds) d q = by (bytes_eq q f.label) (defined_as-append ds
 
 -- an entry that is put in
 
-module _ (eq : List ℕ → List ℕ → Bool) (x : List ℕ) (v : Slot) where
-  insert-absent : (es : Entries) → lookup (eq x) es ≡ None → insert_entry eq es x v ≡ es ++ (x, v) ∷ []
-  insert-absent [] none = refl
-  insert-absent (e ∷ es) none = by (eq x e.0) none (insert-absent es)
+module _ (x : List ℕ) (v : Slot) where
+  put-absent : (es : Entries) → lookup (bytes_eq x) es ≡ None → put es x v ≡ es ++ (x, v) ∷ []
+  put-absent [] none = refl
+  put-absent (e ∷ es) none = by (bytes_eq x e.0) none (put-absent es)
     where
-      by : (b : Bool) → cond b (Some e.1) (lookup (eq x) es) ≡ None → (lookup (eq x) es ≡ None → insert_entry eq es x v ≡ es ++ (x, v) ∷ [])
-          → (if b then (e.0, v) ∷ es else e ∷ insert_entry eq es x v) ≡ e ∷ (es ++ (x, v) ∷ [])
+      by : (b : Bool) → cond b (Some e.1) (lookup (bytes_eq x) es) ≡ None → (lookup (bytes_eq x) es ≡ None → put es x v ≡ es ++ (x, v) ∷ [])
+          → (if b then (e.0, v) ∷ es else e ∷ put es x v) ≡ e ∷ (es ++ (x, v) ∷ [])
       by true h rest = cc
       by false h rest = ap (λ l. e ∷ l) (rest h)
 
   -- a label that passes the test counts for nothing
-  first_by-present : (test : List ℕ → Bool) (es : Entries) (s : Slot) → ((q : List ℕ) → eq x q ≡ true → q ≡ x) → lookup (eq x) es ≡ Some s → test x ≡ true
-      → first_by test (insert_entry eq es x v) ≡ first_by test es
+  first_by-present : (test : List ℕ → Bool) (es : Entries) (s : Slot) → ((q : List ℕ) → bytes_eq x q ≡ true → q ≡ x) → lookup (bytes_eq x) es ≡ Some s → test x ≡ true
+      → first_by test (put es x v) ≡ first_by test es
   unfolding first_by
   first_by-present test [] s exact there passes = cc
-  first_by-present test (e ∷ es) s exact there passes = by (eq x e.0) refl there (λ h. first_by-present test es s exact h passes)
+  first_by-present test (e ∷ es) s exact there passes = by (bytes_eq x e.0) refl there (λ h. first_by-present test es s exact h passes)
     where
-      by : (b : Bool) → eq x e.0 ≡ b → cond b (Some e.1) (lookup (eq x) es) ≡ Some s → (lookup (eq x) es ≡ Some s → first_by test (insert_entry eq es x v) ≡ first_by test es)
-          → first_by test (if b then (e.0, v) ∷ es else e ∷ insert_entry eq es x v) ≡ first_by test (e ∷ es)
+      by : (b : Bool) → bytes_eq x e.0 ≡ b → cond b (Some e.1) (lookup (bytes_eq x) es) ≡ Some s → (lookup (bytes_eq x) es ≡ Some s → first_by test (put es x v) ≡ first_by test es)
+          → first_by test (if b then (e.0, v) ∷ es else e ∷ put es x v) ≡ first_by test (e ∷ es)
       by true q h rest =
           let passed : test e.0 ≡ true = ap test (exact e.0 q) ∙ passes in
           ap (λ (b : Bool). if b then first_by test es else Some v.at) passed ∙ sym (ap (λ (b : Bool). if b then first_by test es else Some e.1.at) passed)
       by false q h rest = ap (λ r. if test e.0 then r else Some e.1.at) (rest h)
 
   -- where its label fails a test, some label fails it
-  first_by-some : (test : List ℕ → Bool) (es : Entries) (s : Slot) → ((q : List ℕ) → eq x q ≡ true → q ≡ x) → lookup (eq x) es ≡ Some s → test x ≡ false → is_some (first_by test es) ≡ true
+  first_by-some : (test : List ℕ → Bool) (es : Entries) (s : Slot) → ((q : List ℕ) → bytes_eq x q ≡ true → q ≡ x) → lookup (bytes_eq x) es ≡ Some s → test x ≡ false → is_some (first_by test es) ≡ true
   unfolding first_by
   first_by-some test [] s exact there fails = cc
-  first_by-some test (e ∷ es) s exact there fails = by (eq x e.0) refl there (λ h. first_by-some test es s exact h fails)
+  first_by-some test (e ∷ es) s exact there fails = by (bytes_eq x e.0) refl there (λ h. first_by-some test es s exact h fails)
     where
       at_test : (b : Bool) → (is_some (first_by test es) ≡ true) → is_some (if b then first_by test es else Some e.1.at) ≡ true
       at_test true h = h
       at_test false h = refl
 
-      by : (b : Bool) → eq x e.0 ≡ b → cond b (Some e.1) (lookup (eq x) es) ≡ Some s → (lookup (eq x) es ≡ Some s → is_some (first_by test es) ≡ true)
+      by : (b : Bool) → bytes_eq x e.0 ≡ b → cond b (Some e.1) (lookup (bytes_eq x) es) ≡ Some s → (lookup (bytes_eq x) es ≡ Some s → is_some (first_by test es) ≡ true)
           → is_some (if test e.0 then first_by test es else Some e.1.at) ≡ true
       by true q h rest = subst (λ b. is_some (if b then first_by test es else Some e.1.at) ≡ true) (sym (ap test (exact e.0 q) ∙ fails)) refl
       by false q h rest = at_test (test e.0) (rest h)
-
-  key_found : (es : Entries) (k : List ℕ) → lookup_key (eq x) es ≡ Some k → eq x k ≡ true
-  key_found [] k h = cc
-  key_found (e ∷ es) k h = by (eq x e.0) refl h (key_found es k)
-    where
-      by : (b : Bool) → eq x e.0 ≡ b → cond b (Some e.0) (lookup_key (eq x) es) ≡ Some k → (lookup_key (eq x) es ≡ Some k → eq x k ≡ true) → eq x k ≡ true
-      by true q h rest = let k : e.0 ≡ k = cc in subst (λ z. eq x z ≡ true) k q
-      by false q h rest = rest h
 
 exact : (x q : List ℕ) → bytes_eq x q ≡ true → q ≡ x
 exact x q h = sym ((bytes_eq-Decides x q).0 h)
@@ -110,9 +100,6 @@ pub label_of_entry : (es : Entries) (i : ℕ) (k : List ℕ) (v : Slot) → slic
 unfolding label_at
 label_of_entry es i k v h =
     (slice_get_within es i (k, v) h, get_or_from_slice_get (keys_of es) i k [] (slice_get-map (λ (e : List ℕ × Slot). e.0) es i ∙ ap (λ (o : Option (List ℕ × Slot)). elim o [ None ↦ None | Some e ↦ Some e.0 ]) h))
-
-pub label_of_found : (es : Entries) (i : ℕ) (x k : List ℕ) (v : Slot) → slice_get es i ≡ Some (k, v) → lookup_key (bytes_eq x) es ≡ Some k → label_at es i ≡ x
-label_of_found es i x k v h found = (label_of_entry es i k v h).1 ∙ exact x k (key_found bytes_eq x v es k found)
 
 length-keys : (es : Entries) → length (keys_of es) ≡ length es
 length-keys [] = refl
@@ -128,12 +115,44 @@ Grows-by_keys es fs more same = record {
   labels = λ i h. ap (λ ks. get_or ks i []) same ∙ get_or-append (keys_of es) more [] i (omega (arith, length-keys es));
 }
 
-pub Grows-insert : (es fs : Entries) (x : List ℕ) (v : Slot) → fs ≡ insert_entry bytes_eq es x v → Grows es fs
-Grows-insert es fs x v same = by (list_any (bytes_eq x) (keys_of es)) (ap keys_of same ∙ keys_insert_entry bytes_eq es x v)
+keys_put : (es : Entries) (x : List ℕ) (v : Slot) → (more : List (List ℕ)) × (keys_of (put es x v) ≡ keys_of es ++ more)
+keys_put [] x v = (x ∷ [], refl)
+keys_put (e ∷ es) x v = by (bytes_eq x e.0) (keys_put es x v)
   where
-    by : (b : Bool) → keys_of fs ≡ (if b then keys_of es else keys_of es ++ x ∷ []) → Grows es fs
-    by true h = Grows-by_keys es fs [] (h ∙ search (rules))
-    by false h = Grows-by_keys es fs (x ∷ []) h
+    by : (b : Bool) → (more : List (List ℕ)) × (keys_of (put es x v) ≡ keys_of es ++ more)
+        → (more : List (List ℕ)) × (keys_of (if b then (e.0, v) ∷ es else e ∷ put es x v) ≡ e.0 ∷ (keys_of es ++ more))
+    by true rest = ([], search (rules))
+    by false rest = (rest.0, ap (λ ks. e.0 ∷ ks) rest.1)
+
+pub Grows-put : (es fs : Entries) (x : List ℕ) (v : Slot) → fs ≡ put es x v → Grows es fs
+Grows-put es fs x v same = Grows-by_keys es fs (keys_put es x v).0 (ap keys_of same ∙ (keys_put es x v).1)
+
+-- what a look-up finds then
+pub lookup-put : (es : Entries) (x : List ℕ) (v : Slot) (q : List ℕ) → lookup (bytes_eq q) (put es x v) ≡ cond (bytes_eq x q) (Some v) (lookup (bytes_eq q) es)
+lookup-put [] x v q = ap (λ b. cond b (Some v) None) (nat_list_eq_equiv.symm q x)
+lookup-put (e ∷ es) x v q = by (bytes_eq x e.0) refl (lookup-put es x v q)
+  where
+    after : (b c : Bool) (o : Option Slot) → (b ≡ true → c ≡ true → ⊥) → cond c (Some e.1) (cond b (Some v) o) ≡ cond b (Some v) (cond c (Some e.1) o)
+    after true true o apart = absurd (apart refl refl)
+    after true false o apart = refl
+    after false c o apart = refl
+
+    twice : (b : Bool) (o : Option Slot) → cond b (Some v) o ≡ cond b (Some v) (cond b (Some e.1) o)
+    twice true o = refl
+    twice false o = refl
+
+    by : (b : Bool) → bytes_eq x e.0 ≡ b → lookup (bytes_eq q) (put es x v) ≡ cond (bytes_eq x q) (Some v) (lookup (bytes_eq q) es)
+        → lookup (bytes_eq q) (if b then (e.0, v) ∷ es else e ∷ put es x v) ≡ cond (bytes_eq x q) (Some v) (cond (bytes_eq q e.0) (Some e.1) (lookup (bytes_eq q) es))
+    by true h rest =
+        let same : bytes_eq q e.0 ≡ bytes_eq x q = ap (bytes_eq q) (exact x e.0 h) ∙ nat_list_eq_equiv.symm q x in
+        ap (λ b. cond b (Some v) (lookup (bytes_eq q) es)) same ∙ twice (bytes_eq x q) (lookup (bytes_eq q) es)
+        ∙ ap (λ b. cond (bytes_eq x q) (Some v) (cond b (Some e.1) (lookup (bytes_eq q) es))) (sym same)
+    by false h rest =
+        ap (cond (bytes_eq q e.0) (Some e.1)) rest
+        ∙ after (bytes_eq x q) (bytes_eq q e.0) (lookup (bytes_eq q) es) (λ one two. false≢true (sym h ∙ ap (λ k. bytes_eq k e.0) (sym (exact x q one)) ∙ two))
+
+pub updated : (es fs : Entries) (x : List ℕ) (v : Slot) → fs ≡ put es x v → (q : List ℕ) → lookup (bytes_eq q) fs ≡ cond (bytes_eq x q) (Some v) (lookup (bytes_eq q) es)
+updated es fs x v same q = ap (lookup (bytes_eq q)) same ∙ lookup-put es x v q
 
 -- what the slots know
 
@@ -155,11 +174,8 @@ Keeps-again es ds us u s there k = record { numbers = k.numbers; firsts = λ tes
     by : (test : List ℕ → Bool) (b : Bool) → test u.label ≡ b → first_by test es ≡ first_outside test us → first_by test es ≡ option_or (first_outside test us) (if b then None else Some u.at)
     by test true q h = h ∙ sym (option_or-none (first_outside test us))
     by test false q h =
-        let some : is_some (first_outside test us) ≡ true = subst (λ o. is_some o ≡ true) h (first_by-some bytes_eq u.label s test es s (exact u.label) there q) in
+        let some : is_some (first_outside test us) ≡ true = subst (λ o. is_some o ≡ true) h (first_by-some u.label s test es s (exact u.label) there q) in
         h ∙ sym (option_or-some (first_outside test us) (Some u.at) some)
-
-Updated : (x : List ℕ) (v : Slot) (es fs : Entries) → Type 0
-Updated x v es fs = (q : List ℕ) → lookup (bytes_eq q) fs ≡ cond (bytes_eq x q) (Some v) (lookup (bytes_eq q) es)
 
 none_outside : (ds : List Definition) (x : List ℕ) → is_defined ds x ≡ false → defined_as ds x ≡ None
 none_outside ds x h = by (defined_as ds x) h
@@ -170,12 +186,12 @@ none_outside ds x h = by (defined_as ds x) h
 
 -- a label stands for the first time, and is used
 pub Keeps-used : (es fs : Entries) (ds : List Definition) (us : List Mention) (u : Mention) → lookup (bytes_eq u.label) es ≡ None
-    → fs ≡ insert_entry bytes_eq es u.label (record { op = None; at = u.at }) → ((q : List ℕ) → lookup (bytes_eq q) fs ≡ cond (bytes_eq u.label q) (Some (record { op = None; at = u.at })) (lookup (bytes_eq q) es))
+    → fs ≡ put es u.label (record { op = None; at = u.at }) → ((q : List ℕ) → lookup (bytes_eq q) fs ≡ cond (bytes_eq u.label q) (Some (record { op = None; at = u.at })) (lookup (bytes_eq q) es))
     → Keeps es ds us → Keeps fs ds (us ++ u ∷ [])
 unfolding op_by
-Keeps-used es fs ds us u none put updated k = record {
+Keeps-used es fs ds us u none is_put updated k = record {
   numbers = λ q. ap op_in (updated q) ∙ by q (bytes_eq u.label q) refl;
-  firsts = λ test all. ap (first_by test) (put ∙ insert-absent bytes_eq u.label (record { op = None; at = u.at }) es none)
+  firsts = λ test all. ap (first_by test) (is_put ∙ put-absent u.label (record { op = None; at = u.at }) es none)
       ∙ first_by-append test es (u.label, record { op = None; at = u.at })
       ∙ ap (λ o. option_or o (if test u.label then None else Some u.at)) (k.firsts test all)
       ∙ sym (first_outside-append test us u);
@@ -204,12 +220,12 @@ defined_now ds x op = ap is_some (defined_as-append ds (record { label = x; op =
 
 -- a label is defined
 pub Keeps-defined : (es fs : Entries) (ds : List Definition) (us : List Mention) (x : List ℕ) (op place : ℕ)
-    → fs ≡ insert_entry bytes_eq es x (record { op = Some op; at = place }) → ((q : List ℕ) → lookup (bytes_eq q) fs ≡ cond (bytes_eq x q) (Some (record { op = Some op; at = place })) (lookup (bytes_eq q) es))
+    → fs ≡ put es x (record { op = Some op; at = place }) → ((q : List ℕ) → lookup (bytes_eq q) fs ≡ cond (bytes_eq x q) (Some (record { op = Some op; at = place })) (lookup (bytes_eq q) es))
     → Keeps es ds us → is_defined ds x ≡ false → Keeps fs (ds ++ record { label = x; op = op } ∷ []) us
 unfolding op_by
-Keeps-defined es fs ds us x op place put updated k fresh = record {
+Keeps-defined es fs ds us x op place is_put updated k fresh = record {
   numbers = λ q. ap op_in (updated q) ∙ by q (bytes_eq x q) refl ∙ sym (defined_as-append ds (record { label = x; op = op }) q);
-  firsts = λ test all. ap (first_by test) put
+  firsts = λ test all. ap (first_by test) is_put
       ∙ firsts test (lookup (bytes_eq x) es) refl (all x (defined_now ds x op))
       ∙ k.firsts test (λ q h. all q (defined_more ds (record { label = x; op = op }) q h));
 }
@@ -222,14 +238,14 @@ Keeps-defined es fs ds us x op place put updated k fresh = record {
     by q false h =
         k.numbers q ∙ sym (ap (λ b. option_or (defined_as ds q) (if b then Some op else None)) (nat_list_eq_equiv.symm q x ∙ h) ∙ option_or-none (defined_as ds q))
 
-    firsts : (test : List ℕ → Bool) (o : Option Slot) → lookup (bytes_eq x) es ≡ o → test x ≡ true → first_by test (insert_entry bytes_eq es x (record { op = Some op; at = place })) ≡ first_by test es
+    firsts : (test : List ℕ → Bool) (o : Option Slot) → lookup (bytes_eq x) es ≡ o → test x ≡ true → first_by test (put es x (record { op = Some op; at = place })) ≡ first_by test es
     firsts test None h passes =
-        ap (first_by test) (insert-absent bytes_eq x (record { op = Some op; at = place }) es h)
+        ap (first_by test) (put-absent x (record { op = Some op; at = place }) es h)
         ∙ first_by-append test es (x, record { op = Some op; at = place })
         ∙ ap (λ b. option_or (first_by test es) (if b then None else Some place)) passes
         ∙ option_or-none (first_by test es)
     firsts test (Some s) h passes =
-        first_by-present bytes_eq x (record { op = Some op; at = place }) test es s (exact x) h passes
+        first_by-present x (record { op = Some op; at = place }) test es s (exact x) h passes
 
 -- what was known of a label that is defined now
 pub defined_before : (es : Entries) (ds : List Definition) (us : List Mention) (x : List ℕ) (o : Option Slot) → Keeps es ds us → o ≡ lookup (bytes_eq x) es → is_defined ds x ≡ is_some (op_in o)
@@ -286,16 +302,3 @@ pub front_all : (es : Entries) (i : ℕ) → IsFrontDefined es i → length es �
 unfolding IsFrontDefined
 front_all es i front all ds us keeps =
     sym (front ds us keeps) ∙ ap (first_by (is_defined ds)) (take_all i es all) ∙ keeps.firsts (is_defined ds) (λ q h. h)
-
-keys-push : (l : Entries) (e : List ℕ × Slot) → keys_of (l ++ e ∷ []) ≡ keys_of l ++ e.0 ∷ []
-keys-push [] e = refl
-keys-push (f ∷ l) e = ap (λ ks. f.0 ∷ ks) (keys-push l e)
-
--- a new label goes last
-pub label_of_new : (es fs : Entries) (x : List ℕ) (v : Slot) (n : ℕ) → lookup (bytes_eq x) es ≡ None → fs ≡ insert_entry bytes_eq es x v → n ≡ length es → label_at fs n ≡ x
-unfolding label_at
-label_of_new es fs x v n none put last =
-    ap (λ (l : Entries). get_or (keys_of l) n []) (put ∙ insert-absent bytes_eq x v es none)
-    ∙ ap (λ ks. get_or ks n []) (keys-push es (x, v))
-    ∙ ap (λ m. get_or (keys_of es ++ x ∷ []) m []) (last ∙ sym (length-keys es))
-    ∙ get_or-append_seam (keys_of es) x [] []

@@ -6,12 +6,10 @@ use Rattle.goal_graph.specs.declared.plan.Dep.{Dep}
 use Rattle.goal_graph.specs.declared.plan.Note.{Note}
 use Rattle.goal_graph.specs.declared.plan.Note.TheVariants.{Moves, Adds}
 use Rattle.goal_parser.specs.declared.names.Names.{Names}
-use Rattle.goal_parser.specs.declared.labels.Slot.{Slot}
+pub use Rattle.goal_labels.specs.Entries.{Entries}
+use Rattle.goal_labels.specs.declared.label_map.Slot.{Slot}
 use Rattle.goal_parser.specs.declared.head.Mention.{Mention}
 use Rattle.goal_parser.specs.Items.{Definition, defined_as, is_defined, first_outside, NamedDep, NamedNote, note_as}
-
-abbrev pub Entries : Type 0
-Entries = List (List ℕ × Slot)
 
 abbrev pub op_in : Option Slot → Option ℕ
 op_in None = None
@@ -70,6 +68,6 @@ pub record IsNote (entries : Entries) (n : Note) (named : NamedNote) : Type 0 wh
 
 -- what is kept of a block's labels, dependencies and notes
 pub record NamesHold (names : Names) (ds : List Definition) (us : List Mention) (named_deps : List NamedDep) (named_notes : List NamedNote) : Type 0 where
-  pub labels : Keeps names.labels.slots.entries ds us
-  pub deps : AllZip (IsDep names.labels.slots.entries) names.deps.items named_deps
-  pub notes : AllZip (IsNote names.labels.slots.entries) names.notes.items named_notes
+  pub labels : Keeps names.labels.slots ds us
+  pub deps : AllZip (IsDep names.labels.slots) names.deps.items named_deps
+  pub notes : AllZip (IsNote names.labels.slots) names.notes.items named_notes

@@ -8,18 +8,9 @@ ghost use Rattle.goal_parser.specs.Slots.{Keeps, Grows, op_in, label_at, op_at};
 
 use crate::head::Mention;
 use crate::token_faults::TokenFault;
+use goal_labels::{LabelMap, Slot};
 use goal_lexer::Label;
-use indexmap::IndexMap;
 use std::alloc::{AllocError, Global};
-
-/// What is known of a label.
-#[derive(Clone, Copy, Debug, PartialEq, Eq)]
-pub struct Slot {
-    /// The number of its operation, once it is defined.
-    pub op: Option<u32>,
-    /// The place where it stood first, as long as it isn't defined.
-    pub at: u64,
-}
 
 /// The number of a slot's operation, if there is a slot and it has one.
 fn op_in(slot: Option<Slot>) -> Option<u32>
@@ -35,27 +26,26 @@ fn op_in(slot: Option<Slot>) -> Option<u32>
 #[derive(Drop)]
 pub struct Labels {
     /// The labels with their slots.
-    pub slots: IndexMap<Label, Slot>,
+    pub slots: LabelMap,
 }
 
 impl Labels {
     /// No labels.
     pub fn new(alloc: Global) -> Labels
-        ensures kept { Keeps result.slots.entries [] [] }
-        ensures empty { result.slots.entries ≡ [] }
+        ensures kept { Keeps result.slots [] [] }
+        ensures empty { result.slots ≡ [] }
     {
         Labels {
-            slots: IndexMap::new(alloc),
+            slots: LabelMap::new(alloc),
         }
     }
 
     /// Forgets all labels. Their memory stays for the next block.
     pub fn clear(&mut self)
-        ensures kept { Keeps self.new.slots.entries [] [] }
-        ensures empty { self.new.slots.entries ≡ [] }
+        ensures kept { Keeps self.new.slots [] [] }
+        ensures empty { self.new.slots ≡ [] }
     {
-        // It takes time by the labels that go, and not by those that there is memory for.
-        self.slots.truncate(0);
+        self.slots.clear();
     }
 
     /// Defines a label: it stands before the operation of this number.
@@ -64,13 +54,14 @@ impl Labels {
     ///
     /// `Repeat` where the label is defined already, and want of memory.
     pub fn define(&mut self, mention: &Mention, op: u32) -> Result<(), TokenFault>
-        ensures ok { OnOk result ((ds : List Definition) (us : List Mention) → Keeps self.old.slots.entries ds us →
-            (defined_fault ds (Some mention.now) ≡ None) × Keeps self.new.slots.entries (ds ++ record { label = mention.now.label; op = op } ∷ []) us) }
-        ensures grows { OnOk result (Grows self.old.slots.entries self.new.slots.entries) }
-        ensures fault { IfErr result (λ f. f ≢ TokenFault.NoMemory → (ds : List Definition) (us : List Mention) → Keeps self.old.slots.entries ds us → defined_fault ds (Some mention.now) ≡ Some (fault_in_text f)) }
+        ensures ok { OnOk result ((ds : List Definition) (us : List Mention) → Keeps self.old.slots ds us →
+            (defined_fault ds (Some mention.now) ≡ None) × Keeps self.new.slots (ds ++ record { label = mention.now.label; op = op } ∷ []) us) }
+        ensures grows { OnOk result (Grows self.old.slots self.new.slots) }
+        ensures fault { IfErr result (λ f. f ≢ TokenFault.NoMemory → (ds : List Definition) (us : List Mention) → Keeps self.old.slots ds us → defined_fault ds (Some mention.now) ≡ Some (fault_in_text f)) }
     {
         let at = mention.at;
-        let before = self.slots.insert(mention.label, Slot { op: Some(op), at })?;
+        let slot = Slot { op: Some(op), at };
+        let before = self.slots.insert(&mention.label, slot)?;
         match op_in(before) {
             Some(_) => Err(TokenFault::Repeat { at }),
             None => Ok(()),
@@ -79,27 +70,23 @@ impl Labels {
 
     /// The index of a label that is used here, with a slot of its own from now on.
     fn place(&mut self, label: &Label, at: u64) -> Result<usize, AllocError>
-        ensures kept { OnOk result ((ds : List Definition) (us : List Mention) → Keeps self.old.slots.entries ds us →
-            Keeps self.new.slots.entries ds (us ++ record { label = label.now; at = at } ∷ [])) }
-        ensures grows { OnOk result (Grows self.old.slots.entries self.new.slots.entries) }
-        ensures within { IfOk result (λ slot. slot < length self.new.slots.entries) }
-        ensures label { IfOk result (λ slot. label_at self.new.slots.entries slot ≡ label.now) }
+        ensures kept { OnOk result ((ds : List Definition) (us : List Mention) → Keeps self.old.slots ds us →
+            Keeps self.new.slots ds (us ++ record { label = label.now; at = at } ∷ [])) }
+        ensures grows { OnOk result (Grows self.old.slots self.new.slots) }
+        ensures within { IfOk result (λ slot. slot < length self.new.slots) }
+        ensures label { IfOk result (λ slot. label_at self.new.slots slot ≡ label.now) }
     {
-        if let Some((slot, _, _)) = self.slots.get_full(label) {
-            return Ok(slot);
-        }
-        let slot = self.slots.len();
-        self.slots.insert(*label, Slot { op: None, at })?;
+        let slot = self.slots.number(label, Slot { op: None, at })?;
         Ok(slot)
     }
 
     /// The slot of a label that is used here.
     pub fn mention(&mut self, label: &Label, at: u64) -> Result<u32, AllocError>
-        ensures kept { OnOk result ((ds : List Definition) (us : List Mention) → Keeps self.old.slots.entries ds us →
-            Keeps self.new.slots.entries ds (us ++ record { label = label.now; at = at } ∷ [])) }
-        ensures grows { OnOk result (Grows self.old.slots.entries self.new.slots.entries) }
-        ensures within { IfOk result (λ slot. slot < length self.new.slots.entries) }
-        ensures label { IfOk result (λ slot. label_at self.new.slots.entries slot ≡ label.now) }
+        ensures kept { OnOk result ((ds : List Definition) (us : List Mention) → Keeps self.old.slots ds us →
+            Keeps self.new.slots ds (us ++ record { label = label.now; at = at } ∷ [])) }
+        ensures grows { OnOk result (Grows self.old.slots self.new.slots) }
+        ensures within { IfOk result (λ slot. slot < length self.new.slots) }
+        ensures label { IfOk result (λ slot. label_at self.new.slots slot ≡ label.now) }
     {
         let slot = self.place(label, at)?;
         // More slots than 32 bits can number count as want of memory.
@@ -111,10 +98,10 @@ impl Labels {
 
     /// The number of a slot's operation, or 0 where it has none.
     pub fn op(&self, slot: u32) -> u32
-        ensures { result ≡ op_at self.now.slots.entries slot }
+        ensures { result ≡ op_at self.now.slots slot }
     {
-        match self.slots.get_index(slot as usize) {
-            Some((_, slot)) => match slot.op {
+        match self.slots.get(slot as usize) {
+            Some(slot) => match slot.op {
                 Some(op) => op,
                 None => 0,
             },
@@ -124,10 +111,10 @@ impl Labels {
 
     /// The place of the first label that is used and not defined, if there is one.
     pub fn first_unknown(&self) -> Option<u64>
-        ensures { (ds : List Definition) (us : List Mention) → Keeps self.now.slots.entries ds us → result ≡ first_unknown ds us }
+        ensures { (ds : List Definition) (us : List Mention) → Keeps self.now.slots ds us → result ≡ first_unknown ds us }
     {
         for i in 0..self.slots.len() {
-            if let Some((_, slot)) = self.slots.get_index(i) {
+            if let Some(slot) = self.slots.get(i) {
                 if slot.op.is_none() {
                     return Some(slot.at);
                 }

@@ -74,7 +74,7 @@ impl Names {
     pub fn define(&mut self, subject: &Option<Mention>, op: u32) -> Result<(), TokenFault>
         ensures ok { OnOk result ((ds : List Definition) (us : List Mention) (deps : List NamedDep) (notes : List NamedNote) → NamesHold self.old ds us deps notes →
             (defined_fault ds subject.now ≡ None) × NamesHold self.new (define subject.now op ds) us deps notes) }
-        ensures fault { IfErr result (λ f. f ≢ TokenFault.NoMemory → (ds : List Definition) (us : List Mention) → Keeps self.old.labels.slots.entries ds us → defined_fault ds subject.now ≡ Some (fault_in_text f)) }
+        ensures fault { IfErr result (λ f. f ≢ TokenFault.NoMemory → (ds : List Definition) (us : List Mention) → Keeps self.old.labels.slots ds us → defined_fault ds subject.now ≡ Some (fault_in_text f)) }
     {
         match subject {
             Some(subject) => self.labels.define(subject, op),
@@ -122,8 +122,8 @@ impl Names {
 
     /// Puts the numbers of operations in the place of slots.
     pub fn resolve(&mut self)
-        ensures deps { self.new.deps.items ≡ map (dep_at self.old.labels.slots.entries) self.old.deps.items }
-        ensures notes { self.new.notes.items ≡ map (note_at self.old.labels.slots.entries) self.old.notes.items }
+        ensures deps { self.new.deps.items ≡ map (dep_at self.old.labels.slots) self.old.deps.items }
+        ensures notes { self.new.notes.items ≡ map (note_at self.old.labels.slots) self.old.notes.items }
     {
         resolve_deps(&self.labels, &mut self.deps);
         resolve_notes(&self.labels, &mut self.notes);
@@ -132,7 +132,7 @@ impl Names {
 
 /// A dependency of slots, by the numbers of their operations.
 fn dep_at(labels: &Labels, dep: &Dep) -> Dep
-    ensures { result ≡ dep_at labels.now.slots.entries dep.now }
+    ensures { result ≡ dep_at labels.now.slots dep.now }
 {
     Dep {
         later: labels.op(dep.later),
@@ -143,7 +143,7 @@ fn dep_at(labels: &Labels, dep: &Dep) -> Dep
 
 /// A note of a slot, by the number of its operation.
 fn note_at(labels: &Labels, note: &Note) -> Note
-    ensures { result ≡ note_at labels.now.slots.entries note.now }
+    ensures { result ≡ note_at labels.now.slots note.now }
 {
     match note {
         Note::Moves { op, lo, hi } => Note::Moves {
@@ -161,7 +161,7 @@ fn note_at(labels: &Labels, note: &Note) -> Note
 
 /// Puts the numbers of operations in the place of slots.
 fn resolve_deps(labels: &Labels, deps: &mut [Dep])
-    ensures { deps.new ≡ map (dep_at labels.now.slots.entries) deps.old }
+    ensures { deps.new ≡ map (dep_at labels.now.slots) deps.old }
 {
     for dep in deps.iter_mut() {
         *dep = dep_at(labels, dep);
@@ -170,7 +170,7 @@ fn resolve_deps(labels: &Labels, deps: &mut [Dep])
 
 /// Puts the numbers of operations in the place of slots.
 fn resolve_notes(labels: &Labels, notes: &mut [Note])
-    ensures { notes.new ≡ map (note_at labels.now.slots.entries) notes.old }
+    ensures { notes.new ≡ map (note_at labels.now.slots) notes.old }
 {
     for note in notes.iter_mut() {
         *note = note_at(labels, note);

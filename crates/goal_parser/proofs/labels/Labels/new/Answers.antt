@@ -3,4 +3,4 @@ use Rattle.goal_parser.proofs.SlotLaws.{Keeps-empty}
 use Rattle.goal_parser.proofs.labels.Labels.new.Goals as goal
 
 pub returns-clause-kept : goal.returns-clause-kept
-returns-clause-kept c = Keeps-empty c.new.result.entries (search rules)
+returns-clause-kept c = Keeps-empty c.new.result (search rules)

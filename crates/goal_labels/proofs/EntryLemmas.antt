@@ -1,0 +1,133 @@
+-- Entries, each the only one of its label.
+use Rattle.std.proofs.Common.{◌≡◌, ℕ, zero, suc, ◌<◌, Bool, true, false, cond, List, [], ◌∷◌, ◌++◌, Option, Some, None, length, slice_get, slice_set, refl, sym, ap, subst, ◌∙◌, arith, bytes_eq, if◌then◌else◌, length-append, ltb, Decides}
+use Rattle.std.specs.Map.{lookup}
+use Rattle.std.specs.Option.{option_map_or}
+use Rattle.std.proofs.lemmas.Cmp.{nat_list_eq_equiv}
+use Rattle.std.proofs.lemmas.Slice.Eq.{bytes_eq-Decides}
+use Rattle.std.proofs.lemmas.Bool.Decides.{Decides-ltb, not_from_Decides}
+use Rattle.std.proofs.lemmas.Option.{slice_get_within}
+use Rattle.goal_labels.specs.declared.label_map.Slot.{Slot}
+use Rattle.goal_labels.specs.Entries.{Entries, put, is_at, IsAt, IsAbsent, AreUnique}
+use Rattle.goal_labels.proofs.ChainLemmas.{slice_get-left, slice_get-before, slice_get-last}
+
+equal : (x y : List ℕ) → bytes_eq x y ≡ true → x ≡ y
+equal x y h = (bytes_eq-Decides x y).0 h
+
+own : (x : List ℕ) → bytes_eq x x ≡ true
+own x = nat_list_eq_equiv.refl x
+
+-- the test of an entry
+
+pub is_at-yes : (es : Entries) (label : List ℕ) (i : ℕ) → is_at es label i ≡ true → IsAt es label i
+unfolding is_at
+is_at-yes es label i h = by (slice_get es i) refl h
+  where
+    by : (o : Option (List ℕ × Slot)) → slice_get es i ≡ o → option_map_or (λ e. bytes_eq e.0 label) o false ≡ true → IsAt es label i
+    by None at h = cc
+    by (Some e) at h = (e.1, at ∙ ap (λ k. Some (k, e.1)) (equal e.0 label h))
+
+pub is_at-no : (es : Entries) (label : List ℕ) (i : ℕ) → is_at es label i ≡ false → IsAt es label i → ⊥
+unfolding is_at
+is_at-no es label i h there =
+    let told : bytes_eq label label ≡ false = sym (ap (λ (o : Option (List ℕ × Slot)). option_map_or (λ e. bytes_eq e.0 label) o false) there.1) ∙ h in
+    let mine = own label in
+    absurd (cc)
+
+-- an entry is added
+
+pub IsAt-left : (es : Entries) (e : List ℕ × Slot) (label : List ℕ) (i : ℕ) → IsAt es label i → IsAt (es ++ e ∷ []) label i
+IsAt-left es e label i at = (at.0, slice_get-left es (e ∷ []) i (label, at.0) at.1)
+
+pub IsAt-before : (es : Entries) (e : List ℕ × Slot) (label : List ℕ) (i : ℕ) → i < length es → IsAt (es ++ e ∷ []) label i → IsAt es label i
+IsAt-before es e label i within at = (at.0, slice_get-before es (e ∷ []) i (label, at.0) within at.1)
+
+pub IsAt-within : (es : Entries) (label : List ℕ) (i : ℕ) → IsAt es label i → i < length es
+IsAt-within es label i at = slice_get_within es i (label, at.0) at.1
+
+pub IsAt-last : (es : Entries) (label : List ℕ) (slot : Slot) → IsAt (es ++ (label, slot) ∷ []) label (length es)
+IsAt-last es label slot = (slot, slice_get-last es (label, slot))
+
+last-label : (es : Entries) (label q : List ℕ) (slot : Slot) (i : ℕ) → i ≡ length es → IsAt (es ++ (label, slot) ∷ []) q i → q ≡ label
+last-label es label q slot i same at =
+    let one : Some (q, at.0) ≡ Some (label, slot) = sym at.1 ∙ ap (slice_get (es ++ (label, slot) ∷ [])) same ∙ slice_get-last es (label, slot) in
+    ap (λ (o : Option (List ℕ × Slot)). option_map_or (λ e. e.0) o []) one
+
+pub AreUnique-more : (es : Entries) (label : List ℕ) (slot : Slot) → AreUnique es → IsAbsent es label → AreUnique (es ++ (label, slot) ∷ [])
+AreUnique-more es label slot unique absent i j q a b = by (ltb i (length es)) (Decides-ltb _ _) (ltb j (length es)) (Decides-ltb _ _)
+  where
+    bound : (k : ℕ) → IsAt (es ++ (label, slot) ∷ []) q k → (k < length es → ⊥) → k ≡ length es
+    bound k at past = omega (arith, past, IsAt-within (es ++ (label, slot) ∷ []) q k at, length-append es ((label, slot) ∷ []))
+
+    by : (c : Bool) → Decides c (i < length es) → (d : Bool) → Decides d (j < length es) → i ≡ j
+    by true p true q' = unique i j q (IsAt-before es _ q i (p.0 refl) a) (IsAt-before es _ q j (q'.0 refl) b)
+    by true p false q' =
+        let last = bound j b (not_from_Decides false q' refl) in
+        absurd (absent i (subst (λ k. IsAt es k i) (last-label es label q slot j last b) (IsAt-before es _ q i (p.0 refl) a)))
+    by false p true q' =
+        let last = bound i a (not_from_Decides false p refl) in
+        absurd (absent j (subst (λ k. IsAt es k j) (last-label es label q slot i last a) (IsAt-before es _ q j (q'.0 refl) b)))
+    by false p false q' = bound i a (not_from_Decides false p refl) ∙ sym (bound j b (not_from_Decides false q' refl))
+
+-- the entries without the first
+
+IsAt-tail : (e : List ℕ × Slot) (es : Entries) (label : List ℕ) (i : ℕ) → IsAt es label i → IsAt (e ∷ es) label (suc i)
+IsAt-tail e es label i at = at
+
+AreUnique-tail : (e : List ℕ × Slot) (es : Entries) → AreUnique (e ∷ es) → AreUnique es
+AreUnique-tail e es unique i j q a b =
+    let one : suc i ≡ suc j = unique (suc i) (suc j) q (IsAt-tail e es q i a) (IsAt-tail e es q j b) in
+    omega (arith, one)
+
+IsAbsent-tail : (e : List ℕ × Slot) (es : Entries) (label : List ℕ) → IsAbsent (e ∷ es) label → IsAbsent es label
+IsAbsent-tail e es label absent i at = absent (suc i) (IsAt-tail e es label i at)
+
+-- the head is another's, where the label's entry is further on
+other : (e : List ℕ × Slot) (es : Entries) (label : List ℕ) (i : ℕ) → AreUnique (e ∷ es) → IsAt es label i → bytes_eq label e.0 ≡ false
+other e es label i unique at = by (bytes_eq label e.0) refl
+  where
+    by : (b : Bool) → bytes_eq label e.0 ≡ b → b ≡ false
+    by false h = refl
+    by true h =
+        let one : 0 ≡ suc i = unique 0 (suc i) label (e.1, ap (λ k. Some (k, e.1)) (sym (equal label e.0 h))) (IsAt-tail e es label i at) in
+        absurd (omega (arith, one))
+
+not_first : (e : List ℕ × Slot) (es : Entries) (label : List ℕ) → IsAbsent (e ∷ es) label → bytes_eq label e.0 ≡ false
+not_first e es label absent = by (bytes_eq label e.0) refl
+  where
+    by : (b : Bool) → bytes_eq label e.0 ≡ b → b ≡ false
+    by false h = refl
+    by true h = absurd (absent 0 (e.1, ap (λ k. Some (k, e.1)) (sym (equal label e.0 h))))
+
+-- what a look-up finds, and what is put
+
+pub lookup-there : (es : Entries) (label : List ℕ) (i : ℕ) (slot : Slot) → AreUnique es → slice_get es i ≡ Some (label, slot) → lookup (bytes_eq label) es ≡ Some slot
+lookup-there [] label i slot unique at = cc
+lookup-there (e ∷ es) label zero slot unique at =
+    let here : e ≡ (label, slot) = cc in
+    let first : e.0 ≡ label = ap (λ p. p.0) here in
+    ap (λ b. cond b (Some e.1) (lookup (bytes_eq label) es)) (ap (bytes_eq label) first ∙ own label) ∙ ap (λ p. Some p.1) here
+lookup-there (e ∷ es) label (suc i) slot unique at =
+    ap (λ b. cond b (Some e.1) (lookup (bytes_eq label) es)) (other e es label i unique (slot, at))
+    ∙ lookup-there es label i slot (AreUnique-tail e es unique) at
+
+pub lookup-absent : (es : Entries) (label : List ℕ) → IsAbsent es label → lookup (bytes_eq label) es ≡ None
+lookup-absent [] label absent = refl
+lookup-absent (e ∷ es) label absent =
+    ap (λ b. cond b (Some e.1) (lookup (bytes_eq label) es)) (not_first e es label absent) ∙ lookup-absent es label (IsAbsent-tail e es label absent)
+
+pub put-absent : (es : Entries) (label : List ℕ) (slot : Slot) → IsAbsent es label → es ++ (label, slot) ∷ [] ≡ put es label slot
+put-absent [] label slot absent = refl
+put-absent (e ∷ es) label slot absent =
+    ap (λ l. e ∷ l) (put-absent es label slot (IsAbsent-tail e es label absent))
+    ∙ sym (ap (λ (b : Bool). if b then (e.0, slot) ∷ es else e ∷ put es label slot) (not_first e es label absent))
+
+pub put-there : (es : Entries) (label : List ℕ) (i : ℕ) (old slot : Slot) → AreUnique es → slice_get es i ≡ Some (label, old)
+    → slice_set es i (label, slot) ≡ put es label slot
+put-there [] label i old slot unique at = cc
+put-there (e ∷ es) label zero old slot unique at =
+    let here : e ≡ (label, old) = cc in
+    let first : e.0 ≡ label = ap (λ p. p.0) here in
+    sym (ap (λ (b : Bool). if b then (e.0, slot) ∷ es else e ∷ put es label slot) (ap (bytes_eq label) first ∙ own label) ∙ ap (λ k. (k, slot) ∷ es) first)
+put-there (e ∷ es) label (suc i) old slot unique at =
+    ap (λ l. e ∷ l) (put-there es label i old slot (AreUnique-tail e es unique) at)
+    ∙ sym (ap (λ (b : Bool). if b then (e.0, slot) ∷ es else e ∷ put es label slot) (other e es label i unique (old, at)))

@@ -1,0 +1,152 @@
+-- The index of the entries, once one more has a number.
+use Rattle.std.proofs.Common.{◌≡◌, ◌≢◌, ℕ, ◌+◌, ◌-◌, ◌<◌, ◌≤◌, Bool, true, false, cond, List, [], ◌∷◌, ◌++◌, Option, Some, None, length, slice_get, slice_set, refl, sym, ap, subst, ◌∙◌, arith, inl, inr, ◌⊎◌, length-append, bytes_eq, nat_cmp, eqb}
+use Rattle.std.specs.Cmp.Lexicographic.{slice_cmp}
+use Rattle.std.specs.BTreeMap.{Updates}
+use Rattle.std.proofs.lemmas.Map.Text.{is_eq-slice_cmp}
+use Rattle.std.proofs.lemmas.Slice.Eq.{bytes_eq-Decides}
+use Rattle.std.proofs.lemmas.Bool.Decides.{eqb_tells}
+use Rattle.std.proofs.lemmas.Option.{slice_get_within}
+use Rattle.goal_labels.specs.declared.chains.Link.{Link}
+use Rattle.goal_labels.specs.declared.chains.Chains.{Chains}
+use Rattle.goal_labels.specs.declared.label_map.Slot.{Slot}
+use Rattle.goal_labels.specs.Chains.{head_of, Leads, IsLinked}
+use Rattle.goal_labels.specs.Entries.{Entries, IsAt, IsAbsent, AreUnique}
+use Rattle.goal_labels.specs.Indexed.{label_hash, Apart, apart_at, IsFound, IsIndexed, IsMap}
+use Rattle.std.proofs.lemmas.List.{length-set}
+use Rattle.goal_labels.proofs.ChainLemmas.{Leads-step, slice_get-before, slice_get-last, slice_get-set, slice_get-apart}
+use Rattle.goal_labels.proofs.EntryLemmas.{IsAt-within, IsAt-before, AreUnique-more}
+
+-- nothing has a number
+pub IsIndexed-none : (es : Entries) (chains : Chains) (apart : Apart) → chains.links.items ≡ [] → IsIndexed es 0 chains apart
+IsIndexed-none es chains apart none = record {
+  count = ap length none;
+  hashes = λ i label l at has. absurd (omega (arith, slice_get_within chains.links.items i l has, ap length none));
+  found = λ i label below at. absurd (omega (arith, below));
+}
+
+pub IsMap-none : (es : Entries) (chains : Chains) (apart : Apart) → es ≡ [] → chains.links.items ≡ [] → IsMap es chains apart
+IsMap-none es chains apart none unlinked = record {
+  indexed = subst (λ n. IsIndexed es n chains apart) (sym (ap length none)) (IsIndexed-none es chains apart unlinked);
+  unique = λ i j label a b. absurd (omega (arith, IsAt-within es label i a, ap length none));
+}
+
+-- an entry follows
+pub IsIndexed-left : (es : Entries) (e : List ℕ × Slot) (chains : Chains) (apart : Apart) → IsIndexed es (length es) chains apart → IsIndexed (es ++ e ∷ []) (length es) chains apart
+IsIndexed-left es e chains apart indexed = record {
+  count = indexed.count;
+  hashes = λ i label l at has. indexed.hashes i label l (IsAt-before es e label i (omega (arith, slice_get_within chains.links.items i l has, indexed.count)) at) has;
+  found = λ i label below at. indexed.found i label below (IsAt-before es e label i below at);
+}
+
+-- the apart labels, once one more is apart
+module _ (old new : Apart) (label : List ℕ) (n : ℕ) (updates : Updates (slice_cmp nat_cmp) old new label (Some n)) where
+  at : (q : List ℕ) (b : Bool) → bytes_eq label q ≡ b → apart_at new q ≡ cond b (Some n) (apart_at old q)
+  at q b told = updates.0 q ∙ ap (λ c. cond c (Some n) (apart_at old q)) (is_eq-slice_cmp label q ∙ told)
+
+  pub apart_here : apart_at new label ≡ Some n
+  apart_here = updates.1
+
+  pub apart_other : (q : List ℕ) (i : ℕ) → apart_at old q ≡ Some i → (label ≡ q → ⊥) → apart_at new q ≡ Some i
+  apart_other q i was other = by (bytes_eq label q) refl
+    where
+      by : (b : Bool) → bytes_eq label q ≡ b → apart_at new q ≡ Some i
+      by true told = absurd (other ((bytes_eq-Decides label q).0 told))
+      by false told = at q false told ∙ was
+
+-- one more entry has a number: it is linked, or apart
+module _ (es : Entries) (n : ℕ) (old new : Chains) (was now : Apart) (label : List ℕ) (linked : Bool)
+    (indexed : IsIndexed es n old was) (unique : AreUnique es) (there : IsAt es label n) (push : IsLinked old new (label_hash label) linked) where
+  own : (q : List ℕ) → IsAt es q n → q ≡ label
+  own q at = ap (λ (o : Option (List ℕ × Slot)). elim o [ None ↦ [] | Some e ↦ e.0 ]) (sym at.1 ∙ there.1)
+
+  abbrev pub links : List Link
+  links = old.links.items ++ record { hash = label_hash label; next = push.next } ∷ []
+
+  pub IsIndexed-more : ((q : List ℕ) (i : ℕ) → i < n → IsAt es q i → apart_at was q ≡ Some i → apart_at now q ≡ Some i)
+      → IsFound new now label n → IsIndexed es (n + 1) new now
+  IsIndexed-more stay one = record {
+    count = ap length push.links ∙ length-append old.links.items _ ∙ ap (λ k. k + 1) indexed.count;
+    hashes = hashes;
+    found = found;
+  }
+    where
+      hashes : (i : ℕ) (q : List ℕ) (l : Link) → IsAt es q i → slice_get new.links.items i ≡ Some l → l.hash ≡ label_hash q
+      hashes i q l at has = by (eqb_tells i n)
+        where
+          has_now : slice_get links i ≡ Some l
+          has_now = ap (λ xs. slice_get xs i) (sym push.links) ∙ has
+
+          by : ((eqb i n ≡ true) × (i ≡ n)) ⊎ ((eqb i n ≡ false) × (i ≢ n)) → l.hash ≡ label_hash q
+          by (inl told) =
+              let last : Some (record { hash = label_hash label; next = push.next }) ≡ Some l =
+              sym (slice_get-last old.links.items (record { hash = label_hash label; next = push.next })) ∙ ap (slice_get links) (indexed.count ∙ sym told.1) ∙ has_now in
+              ap (λ (o : Option Link). elim o [ None ↦ 0 | Some k ↦ k.hash ]) (sym last)
+              ∙ ap label_hash (sym (own q (subst (IsAt es q) told.1 at)))
+          by (inr told) =
+              indexed.hashes i q l at
+              (slice_get-before old.links.items _ i l (omega (arith, told.1, slice_get_within links i l has_now, length-append old.links.items (record { hash = label_hash label; next = push.next } ∷ []), indexed.count)) has_now)
+
+      found : (i : ℕ) (q : List ℕ) → i < n + 1 → IsAt es q i → IsFound new now q i
+      found i q below at = by (eqb_tells i n)
+        where
+          kept : (k : ℕ) → k < n → IsAt es q k → IsFound old was q k → IsFound new now q k
+          kept k less is (inl leads) = inl (push.kept (label_hash q) k leads)
+          kept k less is (inr apart) = inr (stay q k less is apart)
+
+          by : ((eqb i n ≡ true) × (i ≡ n)) ⊎ ((eqb i n ≡ false) × (i ≢ n)) → IsFound new now q i
+          by (inl told) = subst (λ k. IsFound new now k i) (sym (own q (subst (IsAt es q) told.1 at))) (subst (IsFound new now label) (sym told.1) one)
+          by (inr told) =
+              let less : i < n = omega (arith, told.1, below) in
+              kept i less at (indexed.found i q less at)
+
+-- a label that is found in no way has no entry
+pub find-absent : (es : Entries) (chains : Chains) (apart : Apart) (label : List ℕ) (first hash : ℕ) → IsMap es chains apart → hash ≡ label_hash label → first ≡ head_of chains.heads.items hash
+    → ((i : ℕ) → Leads chains.links.items i first → IsAt es label i → ⊥) → ((i : ℕ) → apart_at apart label ≡ Some i → IsAt es label i → ⊥) → IsAbsent es label
+find-absent es chains apart label first hash map is_hash is_first no_link not_apart i at = by (map.indexed.found i label (IsAt-within es label i at) at)
+  where
+    by : IsFound chains apart label i → ⊥
+    by (inl leads) = no_link i (subst (Leads chains.links.items i) (sym (is_first ∙ ap (head_of chains.heads.items) is_hash)) leads) at
+    by (inr is_apart) = not_apart i is_apart at
+
+-- an entry whose slot changes
+pub IsAt-set : (es : Entries) (i : ℕ) (label : List ℕ) (old slot : Slot) → slice_get es i ≡ Some (label, old) → (q : List ℕ) (j : ℕ) → IsAt (slice_set es i (label, slot)) q j → IsAt es q j
+IsAt-set es i label old slot there q j at = by (eqb_tells j i)
+  where
+    by : ((eqb j i ≡ true) × (j ≡ i)) ⊎ ((eqb j i ≡ false) × (j ≢ i)) → IsAt es q j
+    by (inl told) =
+        let one : Some (label, slot) ≡ Some (q, at.0) =
+        sym (slice_get-set es i (label, slot) (slice_get_within es i (label, old) there)) ∙ ap (slice_get (slice_set es i (label, slot))) (sym told.1) ∙ at.1 in
+        let same : label ≡ q = ap (λ (o : Option (List ℕ × Slot)). elim o [ None ↦ [] | Some e ↦ e.0 ]) one in
+        (old, ap (slice_get es) told.1 ∙ there ∙ ap (λ k. Some (k, old)) same)
+    by (inr told) = (at.0, sym (slice_get-apart es i j (label, slot) told.1) ∙ at.1)
+
+pub IsMap-set : (es : Entries) (chains : Chains) (apart : Apart) (i : ℕ) (label : List ℕ) (old slot : Slot) → slice_get es i ≡ Some (label, old) → IsMap es chains apart
+    → IsMap (slice_set es i (label, slot)) chains apart
+IsMap-set es chains apart i label old slot there map = record {
+  indexed = record {
+    count = map.indexed.count ∙ sym (length-set es i (label, slot));
+    hashes = λ j q l at has. map.indexed.hashes j q l (IsAt-set es i label old slot there q j at) has;
+    found = λ j q below at. map.indexed.found j q (omega (arith, below, length-set es i (label, slot))) (IsAt-set es i label old slot there q j at);
+  };
+  unique = λ j k q a b. map.unique j k q (IsAt-set es i label old slot there q j a) (IsAt-set es i label old slot there q k b);
+}
+
+-- one step of the search goes on
+pub seek-on : (es : Entries) (links : List Link) (label : List ℕ) (i at : ℕ) (l : Link) → 0 < at → slice_get links (at - 1) ≡ Some l → (IsAt es label (at - 1) → ⊥)
+    → IsAt es label i → Leads links i at → (l.next < at) × Leads links i l.next
+seek-on es links label i at l some has other is leads = by (Leads-step links i at leads (at - 1) (omega (arith, some)))
+  where
+    by : (m : Link) × (slice_get links (at - 1) ≡ Some m) × ((i ≡ at - 1) ⊎ ((m.next ≤ at - 1) × Leads links i m.next)) → (l.next < at) × Leads links i l.next
+    by (m, there, inl here) = absurd (other (subst (IsAt es label) here is))
+    by (m, there, inr on) =
+        let one : Some m ≡ Some l = sym there ∙ has in
+        let same : m.next ≡ l.next = ap (λ (o : Option Link). elim o [ None ↦ 0 | Some k ↦ k.next ]) one in
+        (omega (arith, same, on.0, some), subst (Leads links i) same on.1)
+
+-- a new label has an entry, and a number
+pub IsMap-more : (es fs : Entries) (chains : Chains) (apart : Apart) (label : List ℕ) (slot : Slot) → fs ≡ es ++ (label, slot) ∷ [] → AreUnique es → IsAbsent es label
+    → IsIndexed fs (length es + 1) chains apart → IsMap fs chains apart
+IsMap-more es fs chains apart label slot same unique absent indexed = record {
+  indexed = subst (λ n. IsIndexed fs n chains apart) (sym (length-append es ((label, slot) ∷ [])) ∙ sym (ap length same)) indexed;
+  unique = subst AreUnique (sym same) (AreUnique-more es label slot unique absent);
+}

@@ -1,0 +1,6 @@
+use Rattle.std.proofs.Common.{sym, subst}
+use Rattle.goal_labels.specs.Entries.{Entries, IsAbsent}
+use Rattle.goal_labels.proofs.label_map.LabelMap.add.Goals as goal
+
+pub append-added-requires-clause-absent : goal.append-added-requires-clause-absent
+append-added-requires-clause-absent c = subst (λ (es : Entries). IsAbsent es c.args.label.now) (sym c.self.view_is) c.requires

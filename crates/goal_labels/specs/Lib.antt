@@ -1,0 +1,5 @@
+-- What a reader must believe.
+pub mod Entries
+-- What only the code keeps.
+pub mod Chains
+pub mod Indexed
