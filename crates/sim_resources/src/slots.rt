@@ -1,12 +1,11 @@
 // Slots of operations: two operations have the same slot where they use the same cpu, or the same interface.
-ghost use Rattle.std.specs.Prelude.{◌≡◌, ◌<◌, max, Some, IfOk, All, length, slice_get, slice_index, slice_set};
+ghost use Rattle.std.specs.Prelude.{◌≡◌, ◌≢◌, ℕ, ◌<◌, max, Some, None, replicate, IfOk, IfSome, IfNone, All, length, slice_get, slice_index, slice_set};
 ghost use Rattle.sim_resources.specs.declared.holds.Hold.{Hold};
 ghost use Rattle.sim_resources.specs.Slots.{part_of, users, IsNumbered};
 
 use crate::Hold;
 use goal_base::NoMemory;
 use goal_graph::{Op, Sched};
-use indexmap::IndexSet;
 use std::alloc::Global;
 
 /// What an operation uses of its rank.
@@ -35,21 +34,60 @@ pub struct Numbering {
     pub holds: Vec<Hold>,
 }
 
+// The slot that a number was given last, and the rank whose cpu or interface it is.
+#[derive(Clone, Copy, Debug)]
+pub struct Latest {
+    pub rank: u32,
+    pub slot: u32,
+}
+
+// The slot that a number was given last, where that was of this rank.
+fn given(latest: Option<Latest>, rank: u32) -> Option<u32>
+    ensures some { IfSome result (λ slot. latest ≡ Some (record { rank = rank; slot = slot })) }
+    ensures none { IfNone result ((slot : ℕ) → latest ≢ Some (record { rank = rank; slot = slot })) }
+{
+    match latest {
+        Some(latest) if latest.rank == rank => Some(latest.slot),
+        _ => None,
+    }
+}
+
+// How many cpus a rank has, and how many interfaces.
+const NUMBERS: usize = 256;
+
+// No number was given a slot.
+fn no_slots() -> [Option<Latest>; NUMBERS]
+    ensures { result ≡ replicate 256 None }
+{
+    [None; NUMBERS]
+}
+
 /// Numbers what the operations use, in the order in which they first use it. The holds are until 0.
+///
+/// The operations of a rank stand one after another, so what a number was given last is of the same rank, or of one that is
+/// over.
 pub fn number(alloc: Global, sched: &Sched, part: Part) -> Result<Numbering, NoMemory>
     ensures numbered { IfOk result (λ n. IsNumbered (part_of part) sched.now n.slots.items (users n.holds.items)) }
     ensures unheld { IfOk result (λ n. All (λ h. h.until ≡ 0) n.holds.items) }
 {
-    let mut keys = IndexSet::new(alloc);
+    let mut latest = no_slots();
     let mut slots = Vec::with_capacity(alloc, sched.count() as usize)?;
     let mut holds = Vec::new(alloc);
     for id in sched.operations() {
-        let key = (id.rank, part.number(sched.op(*id)));
-        let (slot, is_new) = keys.insert_full(key)?;
-        slots.push(slot as u32)?;
-        if is_new {
-            holds.push(Hold { op: *id, until: 0 })?;
-        }
+        let number = part.number(sched.op(*id)) as usize;
+        let slot = match given(latest[number], id.rank) {
+            Some(slot) => slot,
+            None => {
+                let slot = holds.len() as u32;
+                holds.push(Hold { op: *id, until: 0 })?;
+                latest[number] = Some(Latest {
+                    rank: id.rank,
+                    slot,
+                });
+                slot
+            }
+        };
+        slots.push(slot)?;
     }
     Ok(Numbering { slots, holds })
 }
