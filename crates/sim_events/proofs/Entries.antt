@@ -1,6 +1,6 @@
 -- What is known of each operation after one more action, class by class.
 use Rattle.std.proofs.Common.{◌≡◌, ◌==◌, ◌+◌, ℕ, Bool, true, false, List, ◌∷◌, map, Option, Some, None, IfSome, filter, if◌then◌else◌, inl, inr, refl, sym, ap, ◌∙◌, subst}
-use Rattle.std.proofs.lemmas.Bool.{cases_Bool, cond-true, cond-false, both_ways, false_from_ne_true}
+use Rattle.std.proofs.lemmas.Bool.{cases_Bool, false_from_ne_true}
 use Rattle.goal_graph.specs.declared.action.OpId.{OpId}
 use Rattle.goal_graph.specs.declared.action.Timed.{Timed}
 use Rattle.goal_graph.specs.declared.action.Class.{Class}
@@ -10,7 +10,7 @@ use Rattle.goal_graph.specs.Fault.{IsOp}
 use Rattle.goal_graph.specs.Action.{place, same_op, is_act, plain, plain_act}
 use Rattle.goal_graph.specs.Allowed.{first_class, last_class}
 use Rattle.goal_graph.specs.Laws.{IsCalc, IsSend, IsReceive}
-use Rattle.goal_graph.proofs.ForCallers.{cases_op, is_act_class, same_op_true, same_op_from, not_send_receive, first_of_calc, first_of_send, first_of_receive, last_of_calc, last_of_eager, last_of_large, last_of_receive, same_tables, at_entry, off_entry, entry_written, same_op_swapped, send_is_op, receive_is_op}
+use Rattle.goal_graph.proofs.ForCallers.{cases_op, is_act_class, same_op_true, not_send_receive, first_of_calc, first_of_send, first_of_receive, last_of_calc, last_of_eager, last_of_large, last_of_receive, same_tables, at_entry, off_entry, entry_written, same_op_swapped, send_is_op, receive_is_op}
 use Rattle.sim_params.specs.Costs.{CostModel, flight, flight_one, is_eager}
 use Rattle.sim_params.specs.Times.{mate, cpu_hold, Possible}
 use Rattle.sim_params.specs.Run.{IsRun}

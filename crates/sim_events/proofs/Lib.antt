@@ -2,6 +2,7 @@ pub mod Places
 pub mod Ready
 mod Cursors
 pub mod Keys
+pub mod Done
 pub mod Queue
 pub mod Steps
 pub mod Empty

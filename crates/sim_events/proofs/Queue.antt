@@ -1,21 +1,20 @@
 -- The queue of an engine: its bounds stay, are put anew, and lead to the action that is next.
-use Rattle.std.proofs.Common.{◌≡◌, ◌≢◌, ◌+◌, ◌<◌, ◌≤◌, ◌⊎◌, ℕ, zero, suc, Bool, true, false, cond, List, [], ◌∷◌, Contains, length, drop, set, get_or, slice_get, slice_set, Option, Some, None, inl, inr, refl, sym, ap, ◌∙◌, subst, arith}
-use Rattle.std.proofs.lemmas.Bool.{cases_eq, cases_Bool, cases_lt, both_ways}
+use Rattle.std.proofs.Common.{◌≡◌, ◌≢◌, ◌<◌, ◌≤◌, ◌⊎◌, ℕ, true, false, List, ◌∷◌, Contains, length, set, get_or, slice_get, slice_set, Option, Some, None, inl, inr, refl, sym, ap, ◌∙◌, subst, arith}
+use Rattle.std.proofs.lemmas.Bool.{cases_eq, cases_lt, both_ways}
 use Rattle.std.proofs.lemmas.List.{get_or-set_same, get_or-set_other, get_or_past, length-set}
 use Rattle.std.proofs.lemmas.Option.{slice_get-get_or, slice_get_within, same_Some}
 use Rattle.goal_graph.specs.declared.action.OpId.{OpId}
 use Rattle.goal_graph.specs.declared.action.Timed.{Timed}
 use Rattle.goal_graph.specs.declared.action.Class.{Class}
-use Rattle.goal_graph.specs.declared.action.Class.TheVariants.{Arrive, Serve, Data, Post, Begin}
-use Rattle.goal_graph.specs.declared.plan.Need.{Need}
-use Rattle.goal_graph.specs.Schedule.{Plan, operations, needed}
+use Rattle.goal_graph.specs.declared.action.Class.TheVariants.{Serve}
+use Rattle.goal_graph.specs.Schedule.{Plan, operations}
 use Rattle.goal_graph.specs.Action.{plain, plain_act, same_op}
 use Rattle.goal_graph.specs.Allowed.{allowed}
 use Rattle.goal_graph.specs.Fault.{IsOp}
 use Rattle.goal_graph.specs.Interleaving.{IsInterleaving}
-use Rattle.goal_graph.proofs.ForCallers.{cases_op, same_op_false, allowed_listed, one_allowed, partners_met, allowed_stays, fits_receive, fits_send, other_place, newly_allowed, find_class, send_is_op, receive_is_op}
+use Rattle.goal_graph.proofs.ForCallers.{cases_op, same_op_false, allowed_listed, one_allowed, allowed_stays, other_place, newly_allowed, find_class, allowed_serve}
 use Rattle.sim_params.specs.Costs.{CostModel, is_eager}
-use Rattle.sim_params.specs.Times.{time, mate, Possible}
+use Rattle.sim_params.specs.Times.{time, Possible}
 use Rattle.sim_params.specs.Run.{IsNext, IsRun, IsFinished}
 use Rattle.sim_params.specs.Laws.{at_its_time, HasBound}
 use Rattle.sim_params.proofs.ForCallers.{time_grows, run_interleaving, possible_at, least_is_next}
@@ -23,8 +22,9 @@ use Rattle.sim_order.specs.Events.{event_before}
 use Rattle.sim_queue.specs.Groups.{Grouped}
 use Rattle.sim_queue.specs.Map.{key_at, IsEmptyMap, IsLeast}
 use Rattle.sim_events.specs.Stations.{AreStationed}
-use Rattle.sim_events.specs.Queue.{IsIdle, IsEnabledActionOf, IsEarly, IsBoundOf, IsQueueBut, IsQueue, IsRefreshed, IsConcerned}
-use Rattle.sim_events.proofs.After.{other_op}
+use Rattle.sim_events.specs.Queue.{IsIdle, IsEnabledActionOf, IsEarly, IsBoundOf, IsQueueBut, IsQueue, IsRefreshed, IsConcerned, IsDueAfter}
+use Rattle.sim_events.proofs.After.{other_op, happened_this}
+use Rattle.sim_events.proofs.Done.{serve_or_not, served_is_done}
 use Rattle.sim_events.proofs.Keys.{before_event}
 use Rattle.sim_events.proofs.Places.{listed_exists, possible_exists}
 
@@ -66,16 +66,27 @@ module _ (plans : List Plan) (costs : CostModel) where
     stays c x d e =
         elim (cases_op a.op x) [ inl s ↦ absurd (d (sym s)) | inr o ↦ allowed_stays plans (is_eager plans costs) (plain_act a) (plain h) c x (other_op plans costs h a c x o) e ]
 
-    -- the bound of an operation stays, or the action concerns it
-    bound_stays : (x : OpId) (k : Option Timed) → IsBoundOf plans costs h x k → IsBoundOf plans costs (a ∷ h) x k ⊎ IsConcerned plans costs (a ∷ h) a.op x
+    -- what it concerns is due, but a send whose message is taken, which is done
+    due : (c : Class) (x : OpId) → allowed plans (is_eager plans costs) (plain (a ∷ h)) c x ≡ true → IsConcerned plans costs (a ∷ h) a.op x → IsDueAfter plans costs (a ∷ h) a x
+    due c x t (inl e) = inl e
+    due c x t (inr (inr w)) = inr (inr w)
+    due c x t (inr (inl p)) = elim (serve_or_not a.class) [ inl e ↦ absurd (taken e) | inr n ↦ inr (inl (n, p)) ]
+      where
+        taken : a.class ≡ Serve → ⊥
+        taken e =
+            let serves : allowed plans (is_eager plans costs) (plain h) Serve a.op ≡ true = subst (λ (d : Class). allowed plans (is_eager plans costs) (plain h) d a.op ≡ true) e possible.allowed in
+            served_is_done plans (is_eager plans costs) (plain (a ∷ h)) a.op x interleaving (allowed_serve plans (is_eager plans costs) (plain h) a.op serves).0 (happened_this plans costs h a Serve e) p c t
+
+    -- the bound of an operation stays, or it is due
+    bound_stays : (x : OpId) (k : Option Timed) → IsBoundOf plans costs h x k → IsBoundOf plans costs (a ∷ h) x k ⊎ IsDueAfter plans costs (a ∷ h) a x
     bound_stays x None idle = go (find_class (λ c. allowed plans (is_eager plans costs) (plain (a ∷ h)) c x))
       where
-        go : ((c : Class) × (allowed plans (is_eager plans costs) (plain (a ∷ h)) c x ≡ true)) ⊎ ((c : Class) → allowed plans (is_eager plans costs) (plain (a ∷ h)) c x ≡ false) → IsIdle plans costs (a ∷ h) x ⊎ IsConcerned plans costs (a ∷ h) a.op x
+        go : ((c : Class) × (allowed plans (is_eager plans costs) (plain (a ∷ h)) c x ≡ true)) ⊎ ((c : Class) → allowed plans (is_eager plans costs) (plain (a ∷ h)) c x ≡ false) → IsIdle plans costs (a ∷ h) x ⊎ IsDueAfter plans costs (a ∷ h) a x
         go (inr none) = inl none
-        go (inl (c, t)) = elim (newly c x t) [ inl was ↦ absurd (both_ways _ (idle c) was) | inr new ↦ inr new ]
+        go (inl (c, t)) = elim (newly c x t) [ inl was ↦ absurd (both_ways _ (idle c) was) | inr new ↦ inr (due c x t new) ]
     bound_stays x (Some e) b = go (cases_op a.op x)
       where
-        go : (a.op ≡ x) ⊎ (same_op a.op x ≡ false) → IsEarly plans costs (a ∷ h) x e ⊎ IsConcerned plans costs (a ∷ h) a.op x
+        go : (a.op ≡ x) ⊎ (same_op a.op x ≡ false) → IsEarly plans costs (a ∷ h) x e ⊎ IsDueAfter plans costs (a ∷ h) a x
         go (inl s) = inr (inl (sym s))
         go (inr o) = inl (record {
           op = b.op;
@@ -84,7 +95,7 @@ module _ (plans : List Plan) (costs : CostModel) where
         })
 
     -- so after an action those are due that it concerns
-    pub queue_after : (queue : Grouped Timed) → IsQueue plans costs h queue → IsQueueBut plans costs (a ∷ h) (IsConcerned plans costs (a ∷ h) a.op) queue
+    pub queue_after : (queue : Grouped Timed) → IsQueue plans costs h queue → IsQueueBut plans costs (a ∷ h) (IsDueAfter plans costs (a ∷ h) a) queue
     queue_after queue q = record {
       each = q.each;
       bounds = λ i x e. elim (q.bounds i x e) [ inl b ↦ bound_stays x (key_at queue.keys i) b | inr none ↦ absurd none ];

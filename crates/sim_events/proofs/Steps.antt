@@ -1,5 +1,5 @@
 -- The queue of an engine over one step, said of views.
-use Rattle.std.proofs.Common.{◌≡◌, ◌↔◌, List, ◌∷◌, Option, Some, None, IfSome, IfNone, sym, ap, subst}
+use Rattle.std.proofs.Common.{◌≡◌, ◌↔◌, List, ◌∷◌, Option, Some, IfSome, sym, ap, subst}
 use Rattle.goal_graph.specs.declared.action.Timed.{Timed}
 use Rattle.goal_graph.specs.Schedule.{Plan}
 use Rattle.goal_graph.specs.Fault.{IsOp}
@@ -8,7 +8,7 @@ use Rattle.sim_params.specs.Run.{IsNext, IsRun, IsFinished}
 use Rattle.sim_queue.specs.Groups.{Grouped}
 use Rattle.sim_queue.specs.Map.{IsEmptyMap}
 use Rattle.sim_events.specs.Engine.{View}
-use Rattle.sim_events.specs.Queue.{IsQueue, IsQueueBut, IsConcerned}
+use Rattle.sim_events.specs.Queue.{IsQueue, IsQueueBut, IsDueAfter}
 use Rattle.sim_events.proofs.Places.{possible_exists}
 use Rattle.sim_events.proofs.Queue.{queue_after, finished, empty_from}
 
@@ -23,9 +23,9 @@ module _ {C : Type 0} (model : C → CostModel) where
   NextAt v a = IsNext v.plans (model v.costs) v.history a
 
   -- after an action those are due that it concerns
-  pub due_after : (old new : View C) (a : Timed) (queued : Grouped Timed) → new ≡ record { plans = old.plans; costs = old.costs; history = a ∷ old.history } → RunAt old → NextAt old a → QueueAt old queued → IsQueueBut new.plans (model new.costs) new.history (IsConcerned new.plans (model new.costs) new.history a.op) queued
+  pub due_after : (old new : View C) (a : Timed) (queued : Grouped Timed) → new ≡ record { plans = old.plans; costs = old.costs; history = a ∷ old.history } → RunAt old → NextAt old a → QueueAt old queued → IsQueueBut new.plans (model new.costs) new.history (IsDueAfter new.plans (model new.costs) new.history a) queued
   due_after old new a queued e run next q =
-      subst (λ (v : View C). IsQueueBut v.plans (model v.costs) v.history (IsConcerned v.plans (model v.costs) v.history a.op) queued) (sym e) (queue_after old.plans (model old.costs) old.history a run next.possible queued q)
+      subst (λ (v : View C). IsQueueBut v.plans (model v.costs) v.history (IsDueAfter v.plans (model v.costs) v.history a) queued) (sym e) (queue_after old.plans (model old.costs) old.history a run next.possible queued q)
 
   pub op_after : (old new : View C) (a : Timed) → new ≡ record { plans = old.plans; costs = old.costs; history = a ∷ old.history } → NextAt old a → IsOp new.plans a.op
   op_after old new a e next =

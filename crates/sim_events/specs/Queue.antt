@@ -1,16 +1,17 @@
 -- What the queue of an engine holds: for each operation that has a possible action a time that is never too late.
-use Rattle.std.specs.Prelude.{ℕ, ◌-◌, ◌≡◌, ◌≤◌, ◌⊎◌, true, false, List, length, Option, Some, None, slice_get, slice_set}
+use Rattle.std.specs.Prelude.{ℕ, ◌-◌, ◌≡◌, ◌≢◌, ◌≤◌, ◌⊎◌, true, false, List, length, Option, Some, None, slice_get, slice_set}
 use Rattle.std.specs.List.{sum_by}
 use Rattle.goal_graph.specs.declared.action.OpId.{OpId}
 use Rattle.goal_graph.specs.declared.action.Timed.{Timed}
 use Rattle.goal_graph.specs.declared.action.Class.{Class}
+use Rattle.goal_graph.specs.declared.action.Class.TheVariants.{Serve}
 use Rattle.goal_graph.specs.Schedule.{Plan, operations}
 use Rattle.goal_graph.specs.Action.{plain}
 pub use Rattle.goal_graph.specs.Concerned.{IsNamedIn, Waits}
 use Rattle.goal_graph.specs.Concerned as concerned
 use Rattle.goal_graph.specs.Allowed.{allowed}
 use Rattle.sim_params.specs.Costs.{CostModel, is_eager}
-use Rattle.sim_params.specs.Times.{time, Possible}
+use Rattle.sim_params.specs.Times.{mate, time, Possible}
 use Rattle.sim_queue.specs.Map.{key_at}
 use Rattle.sim_queue.specs.Groups.{Grouped}
 use Rattle.sim_events.specs.Stations.{AreStationed}
@@ -62,6 +63,10 @@ module _ (plans : List Plan) where
     -- an action of x may let one of y happen: y is x, or its partner, or needs it
     abbrev pub IsConcerned : OpId → OpId → Type 0
     IsConcerned x y = concerned.IsConcerned plans (plain h) x y
+
+    -- so after an action y is due where it is its operation, or its partner, but after a Serve, or needs it
+    abbrev pub IsDueAfter : Timed → OpId → Type 0
+    IsDueAfter a y = (y ≡ a.op) ⊎ (((a.class ≢ Serve) × (mate plans costs h a.op ≡ Some y)) ⊎ Waits plans a.op y)
 
     -- how far a key is before the time of its action, and how far the keys of a queue are
     abbrev pub lag : Option Timed → ℕ

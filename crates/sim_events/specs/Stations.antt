@@ -1,5 +1,5 @@
 -- What an operation waits for before it works: its cpu and, where it sends or receives, that side of its interface.
-use Rattle.std.specs.Prelude.{ℕ, ◌≡◌, ◌≤◌, ◌&&◌, ◌==◌, ◌++◌, Bool, true, false, List, length, Option, Some, None, max, slice_get}
+use Rattle.std.specs.Prelude.{ℕ, ◌≡◌, ◌≤◌, ◌&&◌, ◌==◌, ◌++◌, Bool, List, length, Option, Some, None, max, slice_get}
 use Rattle.goal_graph.specs.declared.action.OpId.{OpId}
 use Rattle.goal_graph.specs.declared.action.Timed.{Timed}
 use Rattle.goal_graph.specs.declared.plan.Kind.{Kind}

@@ -219,7 +219,7 @@ impl<'a, C: Costs> Engine<'a, C> {
             &self.state,
             &mut self.queue,
             &mut self.cursors,
-            action.op,
+            action,
             &mut steps,
         );
         Some(action)

@@ -1,5 +1,6 @@
 // The queue of an engine: what it holds, and how it follows what happens.
 ghost use Rattle.std.specs.Prelude.{◌≡◌, ◌≢◌, ℕ, ◌<◌, ◌≤◌, ◌+◌, ◌↔◌, ◌⊎◌, IsTrue, IfSome, IfNone, IsNone, Some, length};
+ghost use Rattle.goal_graph.specs.declared.action.Class.TheVariants.{Serve};
 ghost use Rattle.goal_graph.specs.Schedule.{operations};
 ghost use Rattle.goal_graph.specs.Fault.{IsOp};
 ghost use Rattle.sim_params.specs.Times.{Possible, mate};
@@ -9,7 +10,7 @@ ghost use Rattle.sim_queue.specs.Map.{IsEmptyMap, IsLeast};
 ghost use Rattle.sim_queue.specs.Floors.{waits_for_room};
 ghost use Rattle.sim_events.specs.Stations.{AreStationed};
 ghost use Rattle.sim_events.specs.Cursors.{IsCursorOf, AreCursors};
-ghost use Rattle.sim_events.specs.Queue.{IsEarly, IsQueue, IsQueueBut, IsRefreshed, IsConcerned, Waits, HasKey, IsEnabledActionOf, lags};
+ghost use Rattle.sim_events.specs.Queue.{IsEarly, IsQueue, IsQueueBut, IsRefreshed, IsDueAfter, Waits, HasKey, IsEnabledActionOf, lags};
 
 use crate::cursor::Cursor;
 use crate::state::State;
@@ -141,41 +142,44 @@ fn key_of(action: Timed) -> EventKey
     EventKey::new(action.time, action.class, action.op)
 }
 
-/// Gives their keys to those whose next action may be another after an action of this operation: it, its partner, and
-/// the operations that need it.
+/// Gives their keys to those whose next action may be another after an action: its operation, the partner, and the
+/// operations that need it.
 pub fn follow<C: Costs, L: Ledger>(
     state: &State<C>,
     queue: &mut Queue,
     cursors: &mut [Cursor],
-    id: OpId,
+    action: Timed,
     steps: &mut Steps<L>,
 )
-    requires exists { IsOp state.now.plans id }
-    requires rest { IsQueueBut state.now.plans (C.model state.now.costs) state.now.history (IsConcerned state.now.plans (C.model state.now.costs) state.now.history id) queue.old }
+    requires exists { IsOp state.now.plans action.op }
+    requires rest { IsQueueBut state.now.plans (C.model state.now.costs) state.now.history (IsDueAfter state.now.plans (C.model state.now.costs) state.now.history action) queue.old }
     requires cursors { AreCursors state.now.plans (C.model state.now.costs) state.now.history cursors.old }
     ensures queue { IsQueue state.now.plans (C.model state.now.costs) state.now.history queue.new }
     ensures cursors { AreCursors state.now.plans (C.model state.now.costs) state.now.history cursors.new }
 {
-    refresh(state, queue, cursors, id, steps);
-    follow_partner(state, queue, cursors, id, steps);
-    follow_waiting(state, queue, cursors, id, steps);
+    refresh(state, queue, cursors, action.op, steps);
+    follow_partner(state, queue, cursors, action, steps);
+    follow_waiting(state, queue, cursors, action.op, steps);
 }
 
-// Gives its key to the partner of an operation, if it has one.
+// Gives its key to the partner of the operation of an action, if it has one. After a Serve the partner is done.
 fn follow_partner<C: Costs, L: Ledger>(
     state: &State<C>,
     queue: &mut Queue,
     cursors: &mut [Cursor],
-    id: OpId,
+    action: Timed,
     steps: &mut Steps<L>,
 )
-    requires exists { IsOp state.now.plans id }
-    requires rest { IsQueueBut state.now.plans (C.model state.now.costs) state.now.history (λ y. (mate state.now.plans (C.model state.now.costs) state.now.history id ≡ Some y) ⊎ Waits state.now.plans id y) queue.old }
+    requires exists { IsOp state.now.plans action.op }
+    requires rest { IsQueueBut state.now.plans (C.model state.now.costs) state.now.history (λ y. ((action.class ≢ Serve) × (mate state.now.plans (C.model state.now.costs) state.now.history action.op ≡ Some y)) ⊎ Waits state.now.plans action.op y) queue.old }
     requires cursors { AreCursors state.now.plans (C.model state.now.costs) state.now.history cursors.old }
-    ensures queue { IsQueueBut state.now.plans (C.model state.now.costs) state.now.history (Waits state.now.plans id) queue.new }
+    ensures queue { IsQueueBut state.now.plans (C.model state.now.costs) state.now.history (Waits state.now.plans action.op) queue.new }
     ensures cursors { AreCursors state.now.plans (C.model state.now.costs) state.now.history cursors.new }
 {
-    let Some(partner) = state.partner(id) else {
+    if let Class::Serve = action.class {
+        return;
+    }
+    let Some(partner) = state.partner(action.op) else {
         return;
     };
     refresh(state, queue, cursors, partner, steps);

@@ -1,0 +1,39 @@
+-- A send whose message was taken has no action left.
+use Rattle.std.proofs.Common.{◌≡◌, ◌≢◌, ◌⊎◌, ◌||◌, Bool, true, List, Option, Some, inl, inr, refl, ap, subst, arith}
+use Rattle.std.proofs.lemmas.Bool.{both_ways, or_cases}
+use Rattle.goal_graph.specs.declared.action.OpId.{OpId}
+use Rattle.goal_graph.specs.declared.action.Class.{Class}
+use Rattle.goal_graph.specs.declared.action.Class.TheVariants.{Arrive, Serve, Data, Post, Begin}
+use Rattle.goal_graph.specs.Schedule.{Plan}
+use Rattle.goal_graph.specs.Action.{Act, place, happened}
+use Rattle.goal_graph.specs.Matching.{pairs, partner}
+use Rattle.goal_graph.specs.Allowed.{is_served, allowed}
+use Rattle.goal_graph.specs.Interleaving.{IsInterleaving}
+use Rattle.goal_graph.specs.Laws.{IsReceive}
+use Rattle.goal_graph.proofs.ForCallers.{allowed_fresh, allowed_data, allowed_post, allowed_serve, arrived_begun, fits_send, not_send_receive, partner_of_receive, served_message}
+
+another : (c : Class) → (place c ≡ place Serve → ⊥) → c ≢ Serve
+another c n e = n (ap place e)
+
+pub serve_or_not : (c : Class) → (c ≡ Serve) ⊎ (c ≢ Serve)
+serve_or_not Arrive = inr (another Arrive (λ e. omega (arith, e)))
+serve_or_not Serve = inl refl
+serve_or_not Data = inr (another Data (λ e. omega (arith, e)))
+serve_or_not Post = inr (another Post (λ e. omega (arith, e)))
+serve_or_not Begin = inr (another Begin (λ e. omega (arith, e)))
+
+module _ (plans : List Plan) (eager : OpId → Bool) (h : List Act) (x y : OpId) (interleaving : IsInterleaving plans eager h) (receive : IsReceive plans x) (served : happened Serve x h ≡ true) (mates : partner (pairs plans h) x ≡ Some y) where
+  sent : (eager y || happened Data y h) ≡ true
+  sent =
+      subst (λ (o : Option OpId). is_served plans eager h o ≡ true) mates (served_message plans eager h x interleaving served)
+
+  pub served_is_done : (c : Class) → allowed plans eager h c y ≡ true → ⊥
+  served_is_done Begin t =
+      both_ways _ (allowed_fresh plans eager h Begin y t) (arrived_begun plans eager h y interleaving (partner_of_receive plans h x y receive mates).arrived)
+  served_is_done Arrive t = both_ways _ (allowed_fresh plans eager h Arrive y t) (partner_of_receive plans h x y receive mates).arrived
+  served_is_done Data t =
+      elim (or_cases (eager y) (happened Data y h) sent) [ inl e ↦ both_ways _ (allowed_data plans eager h y t).1 e | inr s ↦ both_ways _ (allowed_fresh plans eager h Data y t) s ]
+  served_is_done Post t =
+      not_send_receive plans y (fits_send plans x y (partner_of_receive plans h x y receive mates).fit) (allowed_post plans eager h y t).0
+  served_is_done Serve t =
+      not_send_receive plans y (fits_send plans x y (partner_of_receive plans h x y receive mates).fit) (allowed_serve plans eager h y t).0
