@@ -1,28 +1,35 @@
 -- What follows from the table of causes.
-use Rattle.std.proofs.Common.{◌≡◌, ◌≢◌, ℕ, ◌<◌, ◌⊎◌, true, false, List, [], length, Option, Some, None, IfSome, IsSomeAnd, inl, inr, refl, ap, ◌∙◌, subst, arith}
+use Rattle.std.proofs.Common.{◌≡◌, ◌≢◌, ℕ, ◌+◌, ◌<◌, ◌≤◌, ◌⊎◌, Bool, true, false, List, [], length, Option, Some, None, is_some, IfSome, IsSomeAnd, inl, inr, refl, sym, ap, ◌∙◌, subst, arith}
 use Rattle.std.proofs.Math.Seq.{take-length}
-use Rattle.std.specs.FinMap.{insert}
-use Rattle.goal_base.specs.Device.{HostState, SinkState, Files, Later, KeepsFiles, KeepsReading, SameFiles, Holds, HoldsPart, Held, Grows, file_of, ReadFaulted, SameReadCounts}
+use Rattle.std.specs.FinMap.{get, insert}
+use Rattle.goal_base.specs.declared.limits.TheConstants.{MAX_INPUT}
+use Rattle.goal_base.specs.Device as device
+use Rattle.goal_base.specs.Device.{HostState, SinkState, Files, Later, KeepsFiles, KeepsReading, SameFiles, SameRest, ReadsAtMost, Holds, HoldsPart, Held, Grows, file_of, ReadFaulted, SameReadCounts}
 use Rattle.goal_graph.specs.Schedule.{Plan}
 use Rattle.sim_params.specs.Costs.{Numbers, log_gops}
-use Rattle.goal_input.specs.Unread.{IfFile}
-use Rattle.goal_words.specs.Words.{Command, Sim, Waits, Knots, Compile, Show, Gen, Certify, Probe}
+use Rattle.sim_classes.specs.Machine.{Known, costs_of}
+use Rattle.goal_parser.specs.declared.faults.TextFault.{TextFault}
+use Rattle.goal_binary.specs.declared.fault.FileFault.{FileFault}
+use Rattle.goal_input.specs.Input.{IsTextFault, IsFaultOfFile}
+use Rattle.goal_input.specs.Unread.{ForFile, IfFile}
+use Rattle.goal_words.specs.Words.{Command, Sim, Waits, Knots, Nodes, Compile, Show, Gen, Certify, Probe}
 use Rattle.goal_cli.specs.declared.answer.Answer.{Answer}
 use Rattle.goal_cli.specs.declared.answer.Answer.TheVariants as answer
 use Rattle.goal_cli.specs.declared.answer.Ending.{Ending}
 use Rattle.goal_cli.specs.declared.answer.Ending.TheVariants as ending
 use Rattle.goal_cli.specs.declared.answer.Refusal.{Refusal}
+use Rattle.goal_cli.specs.declared.answer.Refusal.TheVariants as refusal
 use Rattle.goal_cli.specs.declared.output.Stop.{Stop}
 use Rattle.goal_cli.specs.declared.output.Stop.TheVariants.{Refused}
 use Rattle.goal_cli.specs.declared.answer.Status.{Status}
 use Rattle.goal_cli.specs.declared.answer.Status.TheVariants as status
-use Rattle.goal_cli.specs.Output.{input_of, IsScheduleOf, IsOutput, MayEnd, IsCertify, IsRefused, IsStop, HasRun, HasOutput}
+use Rattle.goal_cli.specs.Output.{Input, input_with, input_of, machine_of, HasInput, ending_if, IsScheduleOf, IsWorkOf, IsOutput, MayEnd, IsCertify, IsTooLong, IsRefused, IsStop, HasRun, HasRunOn, HasOutput}
 use Rattle.goal_cli.specs.Refusal.{refused_line}
-use Rattle.goal_cli.specs.Answer.{ForNamed, IfNamed, ForInput, IfInput, GrowsByPart, ReadsHeld, Target, ToOut, ToFile, target_of, Gets, GetsPart, Elsewhere, WritesRose, WritesHeld, WritesSame, InputHeld, GetsOutput, GetsPartOfOutput, AnswersWhole, PrintsRun, IsUntouched, IsWritten, IsCutOff, IsCauseOf, IsCauseOfNone, IsCause, line_for, status_at, status_of, Answers, AnswersWith, IsSilent, line_at, input_in, Says, IsCutShort, IsAnswered, IsTakenOf}
-use Rattle.goal_cli.specs.Unmade.{IsUnmade}
+use Rattle.goal_cli.specs.Answer.{ForNamed, IfNamed, ForRead, IfRead, ForInput, IfInput, ReadsFaulted, GrowsByPart, ReadsHeld, Target, ToOut, ToFile, target_of, Gets, GetsPart, Elsewhere, WritesRose, WritesHeld, WritesSame, InputHeld, GetsOutput, GetsPartOfOutput, AnswersWhole, PrintsRun, IsUntouched, IsWritten, IsCutOff, IsCauseOf, IsCauseOfNone, IsCause, line_for, status_at, status_of, Answers, AnswersWith, IsSilent, line_at, input_in, machine_in, Says, IsCutShort, IsAnswered, IsTakenOf}
+use Rattle.goal_cli.specs.Unmade.{IsUnmade, IsUntold, IsIdle, IsGot, IsTakenFrom}
 use Rattle.goal_cli.specs.World.{Devices, devices}
 use Rattle.goal_input.proofs.ForCallers.{same_schedule}
-use Rattle.goal_cli.proofs.RefusalLemmas.{same_refusal, no_refusal, output_had}
+use Rattle.goal_cli.proofs.RefusalLemmas.{same_refusal, no_refusal, output_had, one_machine}
 
 -- all of a line is a prefix of it
 pub all_is_part : (old new : SinkState) (bytes : List ℕ) → Grows old new bytes → GrowsByPart old new bytes
@@ -40,11 +47,21 @@ pub answered : (old new : SinkState) (s t : Status) (line : List ℕ)
 answered old new s t line (inl said) = inl said
 answered old new s t line (inr none) = inr (none.0, inl none.1)
 
+-- the same of a line that is another's equal
+pub said_as : (old new : SinkState) (s t : Status) (line wanted : List ℕ) → line ≡ wanted
+    → ((s ≡ t) × Says old new line) ⊎ ((s ≡ status.NoMemory) × IsCutShort old new line)
+    → ((s ≡ t) × Says old new wanted)
+    ⊎ ((s ≡ status.NoMemory) × (IsCutShort old new wanted ⊎ GrowsByPart old new (line_for answer.NoMemory)))
+said_as old new s t line wanted is said =
+    subst
+    (λ (l : List ℕ). ((s ≡ t) × Says old new l) ⊎ ((s ≡ status.NoMemory) × (IsCutShort old new l ⊎ GrowsByPart old new (line_for answer.NoMemory))))
+    is (answered old new s t line said)
+
 -- a name has one file
 same_file : (host : HostState) (name input other : List ℕ) → file_of host name ≡ Some input → file_of host name ≡ Some other → other ≡ input
 same_file host name input other a b = cc
 
--- what a command gets
+-- what is in the file of a name
 module _ (host : HostState) (P : List ℕ → Type 0) where
   if_all : (o : Option (List ℕ)) → ((input : List ℕ) → P input) → IfNamed host o P
   if_all None p = p []
@@ -62,45 +79,120 @@ module _ (host : HostState) (P : List ℕ → Type 0) where
         let k = p tells in
         turn input (subst P (same_file host name input k.0 file k.1) k.2)
 
--- a refusal of what was got
-pub refused_of : (host : HostState) (c : Command) (sched : List Plan) (stop : Stop) (r : Refusal) → stop ≡ Refused r
-    → ForNamed host (input_of c) (λ input. IsScheduleOf c input sched) → ((input : List ℕ) → IsScheduleOf c input sched → IsStop c input stop)
-    → ForNamed host (input_of c) (λ input. IsRefused c input r)
-refused_of host c sched stop r is got refused =
-    for_turned host (λ (i : List ℕ). IsScheduleOf c i sched) (λ (i : List ℕ). IsRefused c i r)
-    (λ input from. subst (λ (s : Stop). IsStop c input s) is (refused input from)) (input_of c) got
+-- what a command reads
+module _ (host : HostState) (c : Command) (P : Input → Type 0) where
+  read_all : ((input : Input) → P input) → IfRead host c P
+  read_all p =
+      if_all host (λ s. IfNamed host (machine_of c) (λ m. P (input_with s m))) (input_of c)
+      (λ s. if_all host (λ m. P (input_with s m)) (machine_of c) (λ m. p (input_with s m)))
 
--- why there is no schedule, as it stands in the table of causes
+  module _ (Q : Input → Type 0) (turn : (input : Input) → P input → Q input) where
+    read_turned : ForRead host c P → ForRead host c Q
+    read_turned p =
+        for_turned host (λ s. ForNamed host (machine_of c) (λ m. P (input_with s m)))
+        (λ s. ForNamed host (machine_of c) (λ m. Q (input_with s m)))
+        (λ s q. for_turned host (λ m. P (input_with s m)) (λ m. Q (input_with s m)) (λ m r. turn (input_with s m) r) (machine_of c) q)
+        (input_of c) p
+
+    read_for : ForRead host c P → IfRead host c Q
+    read_for p =
+        if_for host (λ s. ForNamed host (machine_of c) (λ m. P (input_with s m)))
+        (λ s. IfNamed host (machine_of c) (λ m. Q (input_with s m)))
+        (λ s q. if_for host (λ m. P (input_with s m)) (λ m. Q (input_with s m)) (λ m r. turn (input_with s m) r) (machine_of c) q)
+        (input_of c) p
+
+-- a refusal of what was got
+pub refused_of : (host : HostState) (c : Command) (sched : List Plan) (machine : List ℕ) (stop : Stop) (r : Refusal) → stop ≡ Refused r
+    → ForRead host c (IsWorkOf c sched machine) → ((input : Input) → IsWorkOf c sched machine input → IsStop c input stop)
+    → ForRead host c (λ input. IsRefused c input r)
+refused_of host c sched machine stop r is got refused =
+    read_turned host c (IsWorkOf c sched machine) (λ (i : Input). IsRefused c i r)
+    (λ input from. subst (λ (s : Stop). IsStop c input s) is (refused input from)) got
+
+-- why there is nothing to work on, as it stands in the table of causes
 module _ (a b : HostState) (out : SinkState) (c : Command) (kept : KeepsFiles a b) where
   still : IsUntouched (devices a out) (devices b out)
   still = record { files = kept; sink = refl }
 
-  pub unmade_cause : (answer : Answer) → IsUnmade a b c answer → IsCauseOf (devices a out) (devices b out) c answer
-  unmade_cause (answer.Written e) is = absurd is
-  unmade_cause answer.BadLine is = absurd is
-  unmade_cause (answer.Refused r) is = (is.0, is.1, still)
-  unmade_cause answer.ReadFault is = (is, still)
-  unmade_cause answer.WriteFault is = absurd is
-  unmade_cause answer.NoMemory is = inl still
+  pub idle_cause : (answer : Answer) → IsIdle a b c answer → IsCauseOf (devices a out) (devices b out) c answer
+  idle_cause (answer.Written e) is = absurd is
+  idle_cause answer.BadLine is = absurd is
+  idle_cause (answer.Refused r) is = (is.0, is.1, still)
+  idle_cause answer.ReadFault is = (is, still)
+  idle_cause answer.WriteFault is = absurd is
+  idle_cause answer.NoMemory is = inl still
 
 -- what is taken of an input, where nothing more is asked of it later
-pub taken_still : (o : Option (List ℕ)) (a b d : HostState) → Later a b → IsTakenOf o a b → KeepsReading b d → IsTakenOf o a d
-taken_still None a b d later taken kept = record {
-  rest = record { told = λ t. kept.rest.told (later.tells ∙ t) ∙ taken.rest.told t };
+still_most : (a b d : HostState) (name : List ℕ) → Later a b → ReadsAtMost a b name (MAX_INPUT + 1) → SameRest b d
+    → ReadsAtMost a d name (MAX_INPUT + 1)
+still_most a b d name later most kept = record {
+  taken = most.taken;
+  no_more = most.no_more;
+  told = λ t. rw (kept.told (later.tells ∙ t)) (most.told t);
+}
+
+still_rest : (a b d : HostState) → Later a b → SameRest a b → SameRest b d → SameRest a d
+still_rest a b d later same kept = record { told = λ t. kept.told (later.tells ∙ t) ∙ same.told t }
+
+still_kept : (a b d : HostState) → Later a b → KeepsReading a b → KeepsReading b d → KeepsReading a d
+still_kept a b d later taken kept = record {
+  rest = still_rest a b d later taken.rest kept.rest;
   reading = kept.reading ∙ taken.reading;
   counts = record {
     read_count = kept.counts.read_count ∙ taken.counts.read_count;
     absent_count = kept.counts.absent_count ∙ taken.counts.absent_count;
   };
 }
-taken_still (Some name) a b d later (inl same) kept =
-    inl (record { told = λ t. kept.rest.told (later.tells ∙ t) ∙ same.told t })
-taken_still (Some name) a b d later (inr most) kept =
-    inr (record {
-      taken = most.taken;
-      no_more = most.no_more;
-      told = λ t. rw (kept.rest.told (later.tells ∙ t)) (most.told t);
-    })
+
+still_other : (a b d : HostState) (o : Option (List ℕ)) → Later a b → IsSomeAnd o (λ other. ReadsAtMost a b other (MAX_INPUT + 1)) → SameRest b d
+    → IsSomeAnd o (λ other. ReadsAtMost a d other (MAX_INPUT + 1))
+still_other a b d None later most kept = most
+still_other a b d (Some name) later most kept = still_most a b d name later most kept
+
+pub taken_still : (o m : Option (List ℕ)) (a b d : HostState) → Later a b → IsTakenOf o m a b → KeepsReading b d → IsTakenOf o m a d
+taken_still None m a b d later taken kept = still_kept a b d later taken kept
+taken_still (Some name) m a b d later (inl same) kept = inl (still_rest a b d later same kept.rest)
+taken_still (Some name) m a b d later (inr (inl most)) kept = inr (inl (still_most a b d name later most kept.rest))
+taken_still (Some name) m a b d later (inr (inr most)) kept = inr (inr (still_other a b d m later most kept.rest))
+
+-- what is taken of an input, and then of a machine
+moved_most : (a b d : HostState) (name : List ℕ) → Later a b → KeepsFiles a b → ReadsAtMost b d name (MAX_INPUT + 1)
+    → ReadsAtMost a d name (MAX_INPUT + 1)
+moved_most a b d name later kept most = record {
+  taken = most.taken;
+  no_more = most.no_more;
+  told = λ t. ap (λ (f : Files). get f name) (sym (kept.files.files t)) ∙ most.told (later.tells ∙ t);
+}
+
+pub taken_both : (c : Command) (a b d : HostState) → Later a b → KeepsFiles a b → IsTakenFrom a b (input_of c) → IsTakenFrom b d (machine_of c)
+    → IsTakenOf (input_of c) (machine_of c) a d
+taken_both c a b d later kept first second = by (input_of c) (machine_of c) (λ none. no_machine_there c none) first second
+  where
+    no_machine_there : (c : Command) → input_of c ≡ None → machine_of c ≡ None
+    no_machine_there (Sim name numbers) none = refl
+    no_machine_there (Waits name numbers) none = refl
+    no_machine_there (Knots name numbers) none = refl
+    no_machine_there (Nodes name machine) none = cc
+    no_machine_there (Compile name out) none = refl
+    no_machine_there (Show name) none = refl
+    no_machine_there (Gen what ranks bytes) none = refl
+    no_machine_there (Certify what name) none = refl
+    no_machine_there (Probe rounds seed numbers) none = refl
+
+    by : (o m : Option (List ℕ)) → (o ≡ None → m ≡ None) → IsTakenFrom a b o → IsTakenFrom b d m → IsTakenOf o m a d
+    by None None none p q = still_kept a b d later p q
+    by None (Some m) none p q = let e : Some m ≡ None = none refl in absurd cc
+    by (Some name) None none (inl same) q = inl (still_rest a b d later same q.rest)
+    by (Some name) None none (inr most) q = inr (inl (still_most a b d name later most q.rest))
+    by (Some name) (Some m) none (inl same) (inl q) = inl (still_rest a b d later same q)
+    by (Some name) (Some m) none (inr most) (inl q) = inr (inl (still_most a b d name later most q))
+    by (Some name) (Some m) none p (inr q) = inr (inr (moved_most a b d m later kept q))
+
+-- where only the input was read
+pub taken_first : (o m : Option (List ℕ)) (a b : HostState) → IsTakenFrom a b o → IsTakenOf o m a b
+taken_first None m a b first = first
+taken_first (Some name) m a b (inl same) = inl same
+taken_first (Some name) m a b (inr most) = inr (inl most)
 
 -- what was written to a host whose files are those of another
 module _ (a b d : HostState) (kept : KeepsFiles a b) (later : Later a b) where
@@ -155,15 +247,14 @@ module _ (a b : HostState) (out : SinkState) (new : Devices) (kept : KeepsFiles 
   }
 
   -- what is so after an output was written whole, of a schedule that was read before
-  pub written_from : (c : Command) (sched : List Plan) (output : List ℕ) (e : Ending)
-      → ForNamed a (input_of c) (λ input. IsScheduleOf c input sched) → SameReadCounts a b
-      → ((input : List ℕ) → IsScheduleOf c input sched → IsOutput c input output e) → MayEnd c e → Gets (devices b out) new (target_of c) output
+  pub written_from : (c : Command) (sched : List Plan) (machine output : List ℕ) (e : Ending) → ForRead a c (IsWorkOf c sched machine)
+      → SameReadCounts a b → ((input : Input) → IsWorkOf c sched machine input → IsOutput c input output e) → MayEnd c e → Gets (devices b out) new (target_of c) output
       → WritesSame (devices b out) new (target_of c) → SameReadCounts b new.host → Elsewhere (devices b out) new (target_of c)
       → IsWritten (devices a out) new e c
-  written_from c sched output e got counts is ends all same reads elsewhere = record {
+  written_from c sched machine output e got counts is ends all same reads elsewhere = record {
     output =
-        for_turned a (λ (i : List ℕ). IsScheduleOf c i sched) (GetsOutput (devices a out) new e c)
-        (λ input from. (output, is input from, gets_from (target_of c) output all)) (input_of c) got;
+        read_turned a c (IsWorkOf c sched machine) (GetsOutput (devices a out) new e c)
+        (λ input from. (output, is input from, gets_from (target_of c) output all)) got;
     ends = ends;
     reads = reads_from counts reads;
     writes = same_count_from (target_of c) same;
@@ -171,14 +262,13 @@ module _ (a b : HostState) (out : SinkState) (new : Devices) (kept : KeepsFiles 
   }
 
   -- what is so after it was cut off
-  pub cut_off_from : (c : Command) (sched : List Plan) (output : List ℕ) (e : Ending)
-      → ForNamed a (input_of c) (λ input. IsScheduleOf c input sched) → SameReadCounts a b
-      → ((input : List ℕ) → IsScheduleOf c input sched → IsOutput c input output e) → GetsPart (devices b out) new (target_of c) output → SameReadCounts b new.host
+  pub cut_off_from : (c : Command) (sched : List Plan) (machine output : List ℕ) (e : Ending) → ForRead a c (IsWorkOf c sched machine)
+      → SameReadCounts a b → ((input : Input) → IsWorkOf c sched machine input → IsOutput c input output e) → GetsPart (devices b out) new (target_of c) output → SameReadCounts b new.host
       → Elsewhere (devices b out) new (target_of c) → IsCutOff (devices a out) new c
-  cut_off_from c sched output e got counts is part reads elsewhere = record {
+  cut_off_from c sched machine output e got counts is part reads elsewhere = record {
     output =
-        for_turned a (λ (i : List ℕ). IsScheduleOf c i sched) (GetsPartOfOutput (devices a out) new c)
-        (λ input from. (output, (e, is input from), part_from (target_of c) output part)) (input_of c) got;
+        read_turned a c (IsWorkOf c sched machine) (GetsPartOfOutput (devices a out) new c)
+        (λ input from. (output, (e, is input from), part_from (target_of c) output part)) got;
     reads = reads_from counts reads;
     elsewhere = elsewhere_from (target_of c) elsewhere;
   }
@@ -189,12 +279,12 @@ module _ (old new : Devices) where
   whole_is_part ToOut bytes got = all_is_part old.out new.out bytes got
   whole_is_part (ToFile name) bytes got = inr (length bytes, omega arith, rw (take-length bytes) got)
 
-  part_of : (e : Ending) (c : Command) (input : List ℕ) → GetsOutput old new e c input → GetsPartOfOutput old new c input
+  part_of : (e : Ending) (c : Command) (input : Input) → GetsOutput old new e c input → GetsPartOfOutput old new c input
   part_of e c input got = (got.0, (e, got.1), whole_is_part (target_of c) got.0 got.2)
 
   cut_off : (e : Ending) (c : Command) → IsWritten old new e c → IsCutOff old new c
   cut_off e c w = record {
-    output = for_turned old.host (GetsOutput old new e c) (GetsPartOfOutput old new c) (part_of e c) (input_of c) w.output;
+    output = read_turned old.host c (GetsOutput old new e c) (GetsPartOfOutput old new c) (part_of e c) w.output;
     reads = w.reads;
     elsewhere = w.elsewhere;
   }
@@ -221,7 +311,7 @@ module _ (old new : Devices) where
   any (Some c) a cause = any_of c a cause
 
   no_memory_part : (c : Command) → IsCauseOf old new c answer.NoMemory
-      → IsUntouched old new ⊎ ForNamed old.host (input_of c) (GetsPartOfOutput old new c)
+      → IsUntouched old new ⊎ ForRead old.host c (GetsPartOfOutput old new c)
   no_memory_part c (inl untouched) = inl untouched
   no_memory_part c (inr cut) = inr cut.output
 
@@ -261,7 +351,7 @@ module _ (old new : Devices) where
   part_said command err err' answer.NoMemory s cause (inl (e, told)) none = (answer.NoMemory, cause, told)
 
   -- what was written, or a part of it, is not refused
-  not_refused : (c : Command) (input : List ℕ) (r : Refusal) → IsRefused c input r → GetsPartOfOutput old new c input → ⊥
+  not_refused : (c : Command) (input : Input) (r : Refusal) → IsRefused c input r → GetsPartOfOutput old new c input → ⊥
   not_refused c input r refused got =
       let had = output_had c input got.0 got.1.0 got.1.1 in
       no_refusal c input had.0 r had.1 refused
@@ -270,43 +360,65 @@ module _ (old new : Devices) where
   held_reads name input told file held (inl rose) = omega arith
   held_reads name input told file held (inr absent) = let none = absent.1 told in cc
 
-  -- a fault of reading, where the input is there
-  read_faulted : (P : List ℕ → Type 0) (o : Option (List ℕ)) → IsSomeAnd o (ReadFaulted old.host new.host)
-      → ((input : List ℕ) → (IfSome o (λ name. ReadsHeld old.host new.host) → ⊥) → P input) → IfNamed old.host o P
-  read_faulted P None faulted f = absurd faulted
-  read_faulted P (Some name) faulted f =
-      λ tells input file. f input (λ held. held_reads name input tells file held faulted)
+  -- a fault of reading, where both files are there
+  file_faulted : (P : List ℕ → Type 0) (o : Option (List ℕ)) → IsSomeAnd o (ReadFaulted old.host new.host)
+      → ((input : List ℕ) → (ReadsHeld old.host new.host → ⊥) → P input) → IfNamed old.host o P
+  file_faulted P None faulted f = absurd faulted
+  file_faulted P (Some name) faulted f = λ tells input file. f input (λ held. held_reads name input tells file held faulted)
+
+  read_faulted : (c : Command) (P : Input → Type 0) → ReadsFaulted old.host new.host c
+      → ((input : Input) → (ReadsHeld old.host new.host → ⊥) → P input) → IfRead old.host c P
+  read_faulted c P (inl faulted) f =
+      file_faulted (λ s. IfNamed old.host (machine_of c) (λ m. P (input_with s m))) (input_of c) faulted
+      (λ s no. if_all old.host (λ m. P (input_with s m)) (machine_of c) (λ m. f (input_with s m) no))
+  read_faulted c P (inr faulted) f =
+      if_all old.host (λ s. IfNamed old.host (machine_of c) (λ m. P (input_with s m))) (input_of c)
+      (λ s. file_faulted (λ m. P (input_with s m)) (machine_of c) faulted (λ m no. f (input_with s m) no))
+
+  -- only a command with an input has one
+  held_input : (c : Command) → ReadsFaulted old.host new.host c → InputHeld old new c → ReadsHeld old.host new.host
+  held_input (Sim name numbers) faulted held = held
+  held_input (Waits name numbers) faulted held = held
+  held_input (Knots name numbers) faulted held = held
+  held_input (Nodes name machine) faulted held = held
+  held_input (Compile name out) faulted held = held
+  held_input (Show name) faulted held = held
+  held_input (Certify what name) faulted held = held
+  held_input (Gen what ranks bytes) (inl faulted) held = absurd faulted
+  held_input (Gen what ranks bytes) (inr faulted) held = absurd faulted
+  held_input (Probe rounds seed numbers) (inl faulted) held = absurd faulted
+  held_input (Probe rounds seed numbers) (inr faulted) held = absurd faulted
 
   held_writes : (t : Target) → WritesHeld old new t → WritesRose old new t → ⊥
   held_writes ToOut held rose = omega arith
   held_writes (ToFile name) held rose = omega arith
 
   -- an input that is refused gets its refusal's line
-  abbrev RefusedAs : Command → SinkState → SinkState → Status → List ℕ → Type 0
+  abbrev RefusedAs : Command → SinkState → SinkState → Status → Input → Type 0
   RefusedAs c err err' s input =
       (r : Refusal) → IsRefused c input r → InputHeld old new c → AnswersWith s status.Refused (Says err err' (refused_line r))
 
   refused_by : (c : Command) (err err' : SinkState) (a : Answer) (s : Status) → IsCauseOf old new c a → IsAnswered err err' a s
-      → IfNamed old.host (input_of c) (RefusedAs c err err' s)
+      → IfRead old.host c (RefusedAs c err err' s)
   refused_by c err err' a s cause (inr (e, part)) =
-      if_all old.host (RefusedAs c err err' s) (input_of c) (λ input r refused held. inr e)
+      read_all old.host c (RefusedAs c err err' s) (λ input r refused held. inr e)
   refused_by c err err' (answer.Written ends) s cause (inl (e, told)) =
-      if_for old.host (GetsOutput old new ends c) (RefusedAs c err err' s)
+      read_for old.host c (GetsOutput old new ends c) (RefusedAs c err err' s)
       (λ input got r refused held. absurd (not_refused c input r refused (part_of ends c input got)))
-      (input_of c) cause.output
+      cause.output
   refused_by c err err' answer.BadLine s cause (inl (e, told)) = absurd cause
   refused_by c err err' (answer.Refused q) s cause (inl (e, told)) =
-      if_for old.host (λ (i : List ℕ). IsRefused c i q) (RefusedAs c err err' s)
+      read_for old.host c (λ (i : Input). IsRefused c i q) (RefusedAs c err err' s)
       (λ input is r refused held. let same = same_refusal c input r q refused is in inl (e, rw same told))
-      (input_of c) cause.0
+      cause.0
   refused_by c err err' answer.ReadFault s cause (inl (e, told)) =
-      read_faulted (RefusedAs c err err' s) (input_of c) cause.0 (λ input no r refused held. absurd (no held))
+      read_faulted c (RefusedAs c err err' s) cause.0 (λ input no r refused held. absurd (no (held_input c cause.0 held)))
   refused_by c err err' answer.WriteFault s cause (inl (e, told)) =
-      if_for old.host (GetsPartOfOutput old new c) (RefusedAs c err err' s)
+      read_for old.host c (GetsPartOfOutput old new c) (RefusedAs c err err' s)
       (λ input got r refused held. absurd (not_refused c input r refused got))
-      (input_of c) cause.0.output
+      cause.0.output
   refused_by c err err' answer.NoMemory s cause (inl (e, told)) =
-      if_all old.host (RefusedAs c err err' s) (input_of c) (λ input r refused held. inr e)
+      read_all old.host c (RefusedAs c err err' s) (λ input r refused held. inr e)
 
   pub refused_as : (command : Option Command) (err err' : SinkState) (a : Answer) (s : Status) → IsCause old new command a
       → IsAnswered err err' a s
@@ -316,28 +428,28 @@ module _ (old new : Devices) where
   refused_as (Some c) err err' a s cause told = refused_by c err err' a s cause told
 
   -- an input of which the command makes something has it written whole
-  abbrev WrittenAs : Command → Status → List ℕ → Type 0
+  abbrev WrittenAs : Command → Status → Input → Type 0
   WrittenAs c s input =
       (sched : List Plan) → HasOutput c input sched → InputHeld old new c → WritesHeld old new (target_of c) → AnswersWhole old new s c input
 
   written_by : (c : Command) (err err' : SinkState) (a : Answer) (s : Status) → IsCauseOf old new c a → IsAnswered err err' a s
-      → IfNamed old.host (input_of c) (WrittenAs c s)
+      → IfRead old.host c (WrittenAs c s)
   written_by c err err' a s cause (inr (e, part)) =
-      if_all old.host (WrittenAs c s) (input_of c) (λ input sched has reads writes. inr e)
+      read_all old.host c (WrittenAs c s) (λ input sched has reads writes. inr e)
   written_by c err err' (answer.Written ends) s cause (inl (e, told)) =
-      if_for old.host (GetsOutput old new ends c) (WrittenAs c s)
-      (λ input got sched has reads writes. inl (ends, e, got)) (input_of c) cause.output
+      read_for old.host c (GetsOutput old new ends c) (WrittenAs c s)
+      (λ input got sched has reads writes. inl (ends, e, got)) cause.output
   written_by c err err' answer.BadLine s cause (inl (e, told)) = absurd cause
   written_by c err err' (answer.Refused q) s cause (inl (e, told)) =
-      if_for old.host (λ (i : List ℕ). IsRefused c i q) (WrittenAs c s)
-      (λ input is sched has reads writes. absurd (no_refusal c input sched q has is)) (input_of c) cause.0
+      read_for old.host c (λ (i : Input). IsRefused c i q) (WrittenAs c s)
+      (λ input is sched has reads writes. absurd (no_refusal c input sched q has is)) cause.0
   written_by c err err' answer.ReadFault s cause (inl (e, told)) =
-      read_faulted (WrittenAs c s) (input_of c) cause.0 (λ input no sched has reads writes. absurd (no reads))
+      read_faulted c (WrittenAs c s) cause.0 (λ input no sched has reads writes. absurd (no (held_input c cause.0 reads)))
   written_by c err err' answer.WriteFault s cause (inl (e, told)) =
-      if_all old.host (WrittenAs c s) (input_of c)
+      read_all old.host c (WrittenAs c s)
       (λ input sched has reads writes. absurd (held_writes (target_of c) writes cause.1))
   written_by c err err' answer.NoMemory s cause (inl (e, told)) =
-      if_all old.host (WrittenAs c s) (input_of c) (λ input sched has reads writes. inr e)
+      read_all old.host c (WrittenAs c s) (λ input sched has reads writes. inr e)
 
   pub written_whole : (command : Option Command) (err err' : SinkState) (a : Answer) (s : Status) → IsCause old new command a
       → IsAnswered err err' a s
@@ -348,11 +460,11 @@ module _ (old new : Devices) where
   written_whole (Some c) err err' a s cause told = written_by c err err' a s cause told
 
   -- the printed run of what the input says
-  printed_run : (p : Numbers) (name input : List ℕ) (sched : List Plan) (s : Status) → HasRun p input sched
+  printed_run : (p : Numbers) (name : List ℕ) (input : Input) (sched : List Plan) (s : Status) → HasRun p input.schedule sched
       → AnswersWhole old new s (Sim name p) input → PrintsRun s old.out new.out (log_gops p) sched
   printed_run p name input sched s has (inr e) = inr e
   printed_run p name input sched s has (inl (ends, e, (output, simulated, got))) =
-      inl (output, (simulated.stuck, rw (same_schedule input _ _ simulated.schedule.read has.read) at simulated.run, e ∙ ap status_at simulated.ends), got)
+      inl (output, (simulated.stuck, rw (same_schedule input.schedule _ _ simulated.schedule.read has.read) at simulated.run, e ∙ ap status_at simulated.ends), got)
 
   pub run_printed : (command : Option Command) (err err' : SinkState) (a : Answer) (s : Status) → IsCause old new command a
       → IsAnswered err err' a s
@@ -362,8 +474,35 @@ module _ (old new : Devices) where
       → PrintsRun s old.out new.out (log_gops p) sched)
   run_printed command err err' a s cause told name p is =
       λ tells input file sched has reads writes.
-      printed_run p name input sched s has
+      printed_run p name (input_with input []) sched s has
       (written_by (Sim name p) err err' a s (rw is at cause) told tells input file sched has reads writes)
+
+  -- the same on a machine
+  printed_on : (name text : List ℕ) (m : Known) (input : Input) (sched : List Plan) (s : Status) → HasRunOn m input.schedule input.machine sched
+      → AnswersWhole old new s (Nodes name text) input → PrintsRun s old.out new.out (costs_of m) sched
+  printed_on name text m input sched s has (inr e) = inr e
+  printed_on name text m input sched s has (inl (ends, e, (output, simulated, got))) =
+      inl (
+        output,
+        (
+          simulated.stuck,
+          rw (same_schedule input.schedule _ _ simulated.runs.read.read has.read.read, one_machine input.machine _ _ simulated.runs.read.said has.read.said) at simulated.run,
+          e ∙ ap status_at simulated.ends,
+        ),
+        got,
+      )
+
+  pub run_printed_on : (command : Option Command) (err err' : SinkState) (a : Answer) (s : Status) → IsCause old new command a
+      → IsAnswered err err' a s
+      → (name machine : List ℕ) → command ≡ Some (Nodes name machine)
+      → IfFile old.host name
+      (λ schedule. IfFile old.host machine
+      (λ text. (sched : List Plan) (m : Known) → HasRunOn m schedule text sched → ReadsHeld old.host new.host
+      → Held old.out.stops old.out.count new.out.count → PrintsRun s old.out new.out (costs_of m) sched))
+  run_printed_on command err err' a s cause told name machine is =
+      λ tells schedule file tells_too text other sched m has reads writes.
+      printed_on name machine m (input_with schedule text) sched s has
+      (written_by (Nodes name machine) err err' a s (rw is at cause) told tells schedule file tells_too text other sched (m, has) reads writes)
 
   -- the counts of reading rose at a fault of reading alone, those of writing at a fault of writing, but for want of memory
   reads_kept_by : (c : Command) (a : Answer) → IsCauseOf old new c a
@@ -448,30 +587,50 @@ module _ (old new : Devices) where
   no_file P None name is tells none got = cc
   no_file P (Some n) name is tells none got = let k = (got tells).1 in cc
 
-  absent_by : (c : Command) (name : List ℕ) (a : Answer) → input_of c ≡ Some name → IsCauseOf old new c a → old.host.tells ≡ true
+  -- where the input was got, so was what is got besides
+  of_each : (P : List ℕ → Type 0) (o : Option (List ℕ)) → old.host.tells ≡ true → ForNamed old.host o P → (input : List ℕ) × P input
+  of_each P None tells got = ([], got)
+  of_each P (Some name) tells got = let k = got tells in (k.0, k.2)
+
+  -- one of the names of a command
+  abbrev IsNameOf : Command → List ℕ → Type 0
+  IsNameOf c name = (input_of c ≡ Some name) ⊎ (machine_of c ≡ Some name)
+
+  no_files : (c : Command) (P : Input → Type 0) (name : List ℕ) → IsNameOf c name → old.host.tells ≡ true
+      → file_of old.host name ≡ None → ForRead old.host c P → ⊥
+  no_files c P name (inl is) tells none got =
+      no_file (λ s. ForNamed old.host (machine_of c) (λ m. P (input_with s m))) (input_of c) name is tells none got
+  no_files c P name (inr is) tells none got =
+      let k = of_each (λ s. ForNamed old.host (machine_of c) (λ m. P (input_with s m))) (input_of c) tells got in
+      no_file (λ m. P (input_with k.0 m)) (machine_of c) name is tells none k.1
+
+  absent_by : (c : Command) (name : List ℕ) (a : Answer) → IsNameOf c name → IsCauseOf old new c a → old.host.tells ≡ true
       → file_of old.host name ≡ None → (a ≡ answer.ReadFault) ⊎ (a ≡ answer.NoMemory)
-  absent_by c name (answer.Written e) is cause tells none =
-      absurd (no_file (GetsOutput old new e c) (input_of c) name is tells none cause.output)
+  absent_by c name (answer.Written e) is cause tells none = absurd (no_files c (GetsOutput old new e c) name is tells none cause.output)
   absent_by c name answer.BadLine is cause tells none = absurd cause
-  absent_by c name (answer.Refused r) is cause tells none =
-      absurd (no_file (λ (i : List ℕ). IsRefused c i r) (input_of c) name is tells none cause.0)
+  absent_by c name (answer.Refused r) is cause tells none = absurd (no_files c (λ (i : Input). IsRefused c i r) name is tells none cause.0)
   absent_by c name answer.ReadFault is cause tells none = inl refl
-  absent_by c name answer.WriteFault is cause tells none =
-      absurd (no_file (GetsPartOfOutput old new c) (input_of c) name is tells none cause.0.output)
+  absent_by c name answer.WriteFault is cause tells none = absurd (no_files c (GetsPartOfOutput old new c) name is tells none cause.0.output)
   absent_by c name answer.NoMemory is cause tells none = inr refl
 
-  absent_of : (c : Command) (o : Option (List ℕ)) (err err' : SinkState) (a : Answer) (s : Status) → input_of c ≡ o
-      → IsCauseOf old new c a → IsAnswered err err' a s
+  absent_of : (c : Command) (o : Option (List ℕ)) (err err' : SinkState) (a : Answer) (s : Status)
+      → ((name : List ℕ) → o ≡ Some name → IsNameOf c name) → IsCauseOf old new c a → IsAnswered err err' a s
       → IfSome o (λ name. old.host.tells ≡ true → file_of old.host name ≡ None → Answers s status.ReadFault)
   absent_of c None err err' a s is cause told = tt
   absent_of c (Some name) err err' a s is cause told =
-      λ tells none. at_status err err' a answer.ReadFault s told (absent_by c name a is cause tells none)
+      λ tells none. at_status err err' a answer.ReadFault s told (absent_by c name a (is name refl) cause tells none)
 
   pub absent_named : (command : Option Command) (err err' : SinkState) (a : Answer) (s : Status) → IsCause old new command a
       → IsAnswered err err' a s
       → IfSome (input_in command) (λ name. old.host.tells ≡ true → file_of old.host name ≡ None → Answers s status.ReadFault)
   absent_named None err err' a s cause told = tt
-  absent_named (Some c) err err' a s cause told = absent_of c (input_of c) err err' a s refl cause told
+  absent_named (Some c) err err' a s cause told = absent_of c (input_of c) err err' a s (λ name is. inl is) cause told
+
+  pub absent_machine : (command : Option Command) (err err' : SinkState) (a : Answer) (s : Status) → IsCause old new command a
+      → IsAnswered err err' a s
+      → IfSome (machine_in command) (λ name. old.host.tells ≡ true → file_of old.host name ≡ None → Answers s status.ReadFault)
+  absent_machine None err err' a s cause told = tt
+  absent_machine (Some c) err err' a s cause told = absent_of c (machine_of c) err err' a s (λ name is. inr is) cause told
 
   -- the refusal that was told
   pub told_refusal : (command : Option Command) (err err' : SinkState) (a : Answer) (s : Status) → IsCause old new command a
@@ -492,7 +651,7 @@ module _ (old new : Devices) where
   pub cut_off_told : (command : Option Command) (err err' : SinkState) (a : Answer) (s : Status) → IsCause old new command a
       → IsAnswered err err' a s → s ≡ status.WriteFault
       → IsSomeAnd command
-      (λ c. WritesRose old new (target_of c) × ForNamed old.host (input_of c) (GetsPartOfOutput old new c))
+      (λ c. WritesRose old new (target_of c) × ForRead old.host c (GetsPartOfOutput old new c))
   cut_off_told command err err' a s cause (inr (e, part)) is = cc
   cut_off_told command err err' (answer.Written ending.Done) s cause (inl (e, told)) is = cc
   cut_off_told command err err' (answer.Written ending.Stuck) s cause (inl (e, told)) is = cc
@@ -562,7 +721,7 @@ module _ (old new : Devices) where
   -- the input was not read
   pub read_fault : (command : Option Command) (err err' : SinkState) (a : Answer) (s : Status) → IsCause old new command a
       → IsAnswered err err' a s → s ≡ status.ReadFault
-      → IsSomeAnd (input_in command) (ReadFaulted old.host new.host)
+      → IsSomeAnd command (ReadsFaulted old.host new.host)
   read_fault command err err' a s cause (inr (e, part)) is = cc
   read_fault command err err' (answer.Written ending.Done) s cause (inl (e, told)) is = cc
   read_fault command err err' (answer.Written ending.Stuck) s cause (inl (e, told)) is = cc
@@ -627,6 +786,8 @@ module _ (old new : Devices) where
   ends_certify (Waits name numbers) (false, is) = cc
   ends_certify (Knots name numbers) (true, is) = cc
   ends_certify (Knots name numbers) (false, is) = cc
+  ends_certify (Nodes name machine) (true, is) = cc
+  ends_certify (Nodes name machine) (false, is) = cc
   ends_certify (Compile name file) is = cc
   ends_certify (Show name) is = cc
   ends_certify (Gen what ranks bytes) is = cc

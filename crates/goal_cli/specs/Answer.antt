@@ -6,14 +6,14 @@ use Rattle.goal_base.specs.Device.{HostState, SinkState, Rose, Held, KeepsFiles,
 use Rattle.goal_graph.specs.Schedule.{Plan}
 use Rattle.sim_params.specs.Costs.{CostModel}
 use Rattle.goal_input.specs.Unread.{ForFile, IfFile}
-use Rattle.goal_words.specs.Words.{Command, Sim, Waits, Knots, Compile, Show, Gen, Certify, Probe}
+use Rattle.goal_words.specs.Words.{Command, Sim, Waits, Knots, Nodes, Compile, Show, Gen, Certify, Probe}
 use Rattle.goal_cli.specs.declared.answer.Answer.{Answer}
 use Rattle.goal_cli.specs.declared.answer.Answer.TheVariants as answer
 use Rattle.goal_cli.specs.declared.answer.Ending.{Ending}
 use Rattle.goal_cli.specs.declared.answer.Ending.TheVariants as ending
 use Rattle.goal_cli.specs.declared.answer.Status.{Status}
 use Rattle.goal_cli.specs.declared.answer.Status.TheVariants as status
-use Rattle.goal_cli.specs.Output.{input_of, IsPrintedRun, ending_if, IsOutput, MayEnd, IsRefused}
+use Rattle.goal_cli.specs.Output.{input_of, machine_of, Input, input_with, IsPrintedRun, ending_if, IsOutput, MayEnd, IsRefused}
 use Rattle.goal_cli.specs.Refusal.{refused_line}
 use Rattle.goal_cli.specs.World.{Devices, World, but_err}
 
@@ -22,7 +22,12 @@ abbrev pub input_in : Option Command → Option (List ℕ)
 input_in None = None
 input_in (Some c) = input_of c
 
--- P holds of what a command gets: the bytes of the file of that name, and none where it has no input
+-- the same of the machine
+abbrev pub machine_in : Option Command → Option (List ℕ)
+machine_in None = None
+machine_in (Some c) = machine_of c
+
+-- the same of the bytes of the file of that name, and of no bytes where there is no name
 abbrev pub ForNamed : HostState → Option (List ℕ) → (List ℕ → Type 0) → Type 0
 ForNamed host None P = P []
 ForNamed host (Some name) P = ForFile host name P
@@ -31,12 +36,25 @@ abbrev pub IfNamed : HostState → Option (List ℕ) → (List ℕ → Type 0) �
 IfNamed host None P = P []
 IfNamed host (Some name) P = IfFile host name P
 
--- the same of what the command gets that the words are
-abbrev pub ForInput : Option Command → HostState → (Command → List ℕ → Type 0) → Type 0
-ForInput command host P = IsSomeAnd command (λ c. ForNamed host (input_of c) (P c))
+-- the same of what a command reads
+abbrev pub ForRead : HostState → Command → (Input → Type 0) → Type 0
+ForRead host c P =
+    ForNamed host (input_of c) (λ schedule. ForNamed host (machine_of c) (λ machine. P (input_with schedule machine)))
 
-abbrev pub IfInput : Option Command → HostState → (Command → List ℕ → Type 0) → Type 0
-IfInput command host P = IfSome command (λ c. IfNamed host (input_of c) (P c))
+abbrev pub IfRead : HostState → Command → (Input → Type 0) → Type 0
+IfRead host c P =
+    IfNamed host (input_of c) (λ schedule. IfNamed host (machine_of c) (λ machine. P (input_with schedule machine)))
+
+-- the same of what the command reads that the words are
+abbrev pub ForInput : Option Command → HostState → (Command → Input → Type 0) → Type 0
+ForInput command host P = IsSomeAnd command (λ c. ForRead host c (P c))
+
+abbrev pub IfInput : Option Command → HostState → (Command → Input → Type 0) → Type 0
+IfInput command host P = IfSome command (λ c. IfRead host c (P c))
+
+-- a count of reading rose, for one of the files of a command
+abbrev pub ReadsFaulted : HostState → HostState → Command → Type 0
+ReadsFaulted old new c = IsSomeAnd (input_of c) (ReadFaulted old new) ⊎ IsSomeAnd (machine_of c) (ReadFaulted old new)
 
 -- the sink got a prefix of these bytes
 abbrev pub GrowsByPart : SinkState → SinkState → List ℕ → Type 0
@@ -61,6 +79,7 @@ abbrev pub target_of : Command → Target
 target_of (Sim name numbers) = ToOut
 target_of (Waits name numbers) = ToOut
 target_of (Knots name numbers) = ToOut
+target_of (Nodes name machine) = ToOut
 target_of (Compile name out) = ToFile out
 target_of (Show name) = ToOut
 target_of (Gen what ranks bytes) = ToOut
@@ -103,14 +122,14 @@ module _ (old new : Devices) where
   InputHeld c = IfSome (input_of c) (λ name. ReadsHeld old.host new.host)
 
   -- what the command makes of the input was written, whole or in part
-  abbrev pub GetsOutput : Ending → Command → List ℕ → Type 0
+  abbrev pub GetsOutput : Ending → Command → Input → Type 0
   GetsOutput e c input = (output : List ℕ) × IsOutput c input output e × Gets (target_of c) output
 
-  abbrev pub GetsPartOfOutput : Command → List ℕ → Type 0
+  abbrev pub GetsPartOfOutput : Command → Input → Type 0
   GetsPartOfOutput c input = (output : List ℕ) × ((e : Ending) × IsOutput c input output e) × GetsPart (target_of c) output
 
   -- what the command makes of the input was written whole, at its status, or want of memory is answered
-  abbrev pub AnswersWhole : Status → Command → List ℕ → Type 0
+  abbrev pub AnswersWhole : Status → Command → Input → Type 0
   AnswersWhole result c input =
       ((e : Ending) × (result ≡ status_at e) × GetsOutput e c input) ⊎ (result ≡ status.NoMemory)
 
@@ -121,7 +140,7 @@ module _ (old new : Devices) where
 
   -- what is so after an output was written whole
   pub record IsWritten (e : Ending) (c : Command) : Type 0 where
-    pub output : ForNamed old.host (input_of c) (GetsOutput e c)
+    pub output : ForRead old.host c (GetsOutput e c)
     pub ends : MayEnd c e
     pub reads : SameReadCounts old.host new.host
     pub writes : WritesSame (target_of c)
@@ -129,7 +148,7 @@ module _ (old new : Devices) where
 
   -- what is so after it was cut off
   pub record IsCutOff (c : Command) : Type 0 where
-    pub output : ForNamed old.host (input_of c) (GetsPartOfOutput c)
+    pub output : ForRead old.host c (GetsPartOfOutput c)
     pub reads : SameReadCounts old.host new.host
     pub elsewhere : Elsewhere (target_of c)
 
@@ -138,8 +157,8 @@ module _ (old new : Devices) where
   IsCauseOf c (answer.Written e) = IsWritten e c
   IsCauseOf c answer.BadLine = ⊥
   IsCauseOf c (answer.Refused r) =
-      ForNamed old.host (input_of c) (λ input. IsRefused c input r) × SameReadCounts old.host new.host × IsUntouched
-  IsCauseOf c answer.ReadFault = IsSomeAnd (input_of c) (ReadFaulted old.host new.host) × IsUntouched
+      ForRead old.host c (λ input. IsRefused c input r) × SameReadCounts old.host new.host × IsUntouched
+  IsCauseOf c answer.ReadFault = ReadsFaulted old.host new.host c × IsUntouched
   IsCauseOf c answer.WriteFault = IsCutOff c × WritesRose (target_of c)
   IsCauseOf c answer.NoMemory = IsUntouched ⊎ IsCutOff c
 
@@ -224,11 +243,13 @@ pub record Answered (command : Option Command) (old new : World) (result : Statu
   pub cause : IsCause (but_err old) (but_err new) command answer
   pub told : IsAnswered old.err new.err answer result
 
--- Of the input of that name at most a byte more than an input may have is taken. Without an input nothing is asked of what
--- can be read: the input that was open is as it was, and nothing was counted.
-abbrev pub IsTakenOf : Option (List ℕ) → HostState → HostState → Type 0
-IsTakenOf None old new = KeepsReading old new
-IsTakenOf (Some name) old new = SameRest old new ⊎ ReadsAtMost old new name (MAX_INPUT + 1)
+-- Of a file that a command reads at most a byte more than an input may have is taken. The host has one open input: it is as it
+-- was, or what is left of the file that was opened last. Without an input nothing is asked of what can be read: the input that
+-- was open is as it was, and nothing was counted.
+abbrev pub IsTakenOf : Option (List ℕ) → Option (List ℕ) → HostState → HostState → Type 0
+IsTakenOf None machine old new = KeepsReading old new
+IsTakenOf (Some name) machine old new =
+    SameRest old new ⊎ ReadsAtMost old new name (MAX_INPUT + 1) ⊎ IsSomeAnd machine (λ other. ReadsAtMost old new other (MAX_INPUT + 1))
 
 abbrev pub IsTaken : Option Command → HostState → HostState → Type 0
-IsTaken command old new = IsTakenOf (input_in command) old new
+IsTaken command old new = IsTakenOf (input_in command) (machine_in command) old new

@@ -14,7 +14,7 @@ use Rattle.goal_parser.specs.Reads as text
 use Rattle.goal_print.specs.Canonical.{canonical}
 use Rattle.goal_words.specs.Words.{Gen}
 use Rattle.goal_cli.specs.declared.answer.Ending.{Ending}
-use Rattle.goal_cli.specs.Output.{IsOutput}
+use Rattle.goal_cli.specs.Output.{Input, IsOutput}
 
 -- The laws. The function `laws_of_certified_runs` ensures each.
 
@@ -26,4 +26,4 @@ CertifiedRunsAreRight = (what : Collective) (plans : List Plan) (costs : CostMod
 -- what `gen` prints is the text of a schedule that is right everywhere, and certified where that is proved of so many ranks; and
 -- what is read of the text is that schedule
 abbrev pub GeneratedAreCertified : Type 0
-GeneratedAreCertified = (what : Collective) (ranks bytes : ℕ) (input output : List ℕ) (e : Ending) → bytes ≤ MAX_BYTES → IsOutput (Gen what ranks bytes) input output e → (sched : List Plan) × (output ≡ canonical sched) × (text.reads output ≡ text.plans sched) × IsRightFor what sched × (IsCertifiedByProof what ranks → IsCertifiedFor what sched)
+GeneratedAreCertified = (what : Collective) (ranks bytes : ℕ) (input : Input) (output : List ℕ) (e : Ending) → bytes ≤ MAX_BYTES → IsOutput (Gen what ranks bytes) input output e → (sched : List Plan) × (output ≡ canonical sched) × (text.reads output ≡ text.plans sched) × IsRightFor what sched × (IsCertifiedByProof what ranks → IsCertifiedFor what sched)

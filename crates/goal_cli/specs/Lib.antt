@@ -20,6 +20,8 @@ pub use Rattle.goal_input.specs.Unread
 pub use Rattle.goal_print.specs.Canonical
 pub use Rattle.goal_words.specs.Words
 pub use Rattle.sim_events.specs.Engine
+pub use Rattle.sim_classes.specs.Form
+pub use Rattle.sim_classes.specs.Machine
 pub use Rattle.sim_params.specs.Budget
 pub use Rattle.sim_params.specs.Costs
 pub use Rattle.sim_params.specs.Numbers

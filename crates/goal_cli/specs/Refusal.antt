@@ -9,6 +9,8 @@ use Rattle.goal_binary.specs.declared.fault.FileFault.{FileFault}
 use Rattle.goal_binary.specs.declared.fault.FileFault.TheVariants as file
 use Rattle.goal_collectives.specs.declared.fault.GenFault.{GenFault}
 use Rattle.goal_collectives.specs.declared.fault.GenFault.TheVariants as gen
+use Rattle.sim_classes.specs.declared.fault.MachineFault.{MachineFault}
+use Rattle.sim_classes.specs.declared.fault.MachineFault.TheVariants as sayings
 use Rattle.goal_cli.specs.declared.answer.Refusal.{Refusal}
 use Rattle.goal_cli.specs.declared.answer.Refusal.TheVariants as refusal
 
@@ -49,6 +51,13 @@ file_words (file.Extra at) = at_text (codes "file: extra at ") at
 file_words (file.Plan fault) = plan_words fault
 file_words file.NoMemory = []
 
+-- the first fault of a machine
+abbrev pub machine_words : MachineFault → List ℕ
+machine_words (sayings.Syntax at) = at_text (codes "machine: syntax at ") at
+machine_words (sayings.Number at) = at_text (codes "machine: number at ") at
+machine_words (sayings.Repeat at) = at_text (codes "machine: repeat at ") at
+machine_words sayings.NoMemory = []
+
 -- why a collective has no schedule
 abbrev pub generator_words : GenFault → List ℕ
 generator_words (gen.Ranks limit) = at_text (codes "generator: ranks ") limit
@@ -60,6 +69,8 @@ abbrev pub refusal_words : Refusal → List ℕ
 refusal_words refusal.TooLong = codes "input longer than 134217728 bytes"
 refusal_words (refusal.Text fault) = text_words fault
 refusal_words (refusal.File fault) = file_words fault
+refusal_words (refusal.Machine fault) = machine_words fault
+refusal_words (refusal.MachineRanks ranks) = at_text (codes "machine: ranks ") ranks
 refusal_words (refusal.Generator fault) = generator_words fault
 refusal_words (refusal.Budget sum) = at_text (codes "budget ") sum
 

@@ -1,15 +1,43 @@
--- What is so where a command has no schedule to work on.
-use Rattle.std.specs.Prelude.{IsSomeAnd}
-use Rattle.goal_base.specs.Device.{HostState, SameReadCounts, ReadFaulted}
+-- What is so where a command has nothing to work on, while its files are read.
+use Rattle.std.specs.Prelude.{ℕ, ◌+◌, ◌≡◌, ◌≤◌, ◌⊎◌, true, List, [], length, Option, Some, None, IsSomeAnd}
+use Rattle.goal_base.specs.declared.limits.TheConstants.{MAX_INPUT}
+use Rattle.goal_base.specs.Device.{HostState, SameReadCounts, KeepsReading, SameRest, ReadsAtMost, ReadFaulted, IsTooLong, file_of}
 use Rattle.goal_words.specs.Words.{Command}
 use Rattle.goal_cli.specs.declared.answer.Answer.{Answer}
 use Rattle.goal_cli.specs.declared.answer.Answer.TheVariants as answer
-use Rattle.goal_cli.specs.Output.{input_of, IsRefused}
-use Rattle.goal_cli.specs.Answer.{ForNamed}
+use Rattle.goal_cli.specs.declared.answer.Refusal.TheVariants as refusal
+use Rattle.goal_cli.specs.Output.{input_of, machine_of, input_with, IsRefused}
+use Rattle.goal_cli.specs.Answer.{ForNamed, ForRead, ReadsFaulted}
 
--- why there is none; want of memory is free
+-- why there is no schedule, whatever the machine is, as long as that is not too long; want of memory is free
 abbrev pub IsUnmade : HostState → HostState → Command → Answer → Type 0
 IsUnmade old new c answer.ReadFault = IsSomeAnd (input_of c) (ReadFaulted old new)
-IsUnmade old new c (answer.Refused r) = ForNamed old (input_of c) (λ input. IsRefused c input r) × SameReadCounts old new
+IsUnmade old new c (answer.Refused r) =
+    ForNamed old (input_of c) (λ schedule. (machine : List ℕ) → length machine ≤ MAX_INPUT → IsRefused c (input_with schedule machine) r)
+    × SameReadCounts old new
 IsUnmade old new c answer.NoMemory = Unit {0}
 IsUnmade old new c _ = ⊥
+
+-- why the file of that name was not read whole
+abbrev pub IsUntold : HostState → HostState → Option (List ℕ) → Answer → Type 0
+IsUntold old new o answer.ReadFault = IsSomeAnd o (ReadFaulted old new)
+IsUntold old new o (answer.Refused r) = (r ≡ refusal.TooLong) × IsSomeAnd o (IsTooLong old) × SameReadCounts old new
+IsUntold old new o answer.NoMemory = Unit {0}
+IsUntold old new o _ = ⊥
+
+-- why there is nothing to work on
+abbrev pub IsIdle : HostState → HostState → Command → Answer → Type 0
+IsIdle old new c answer.ReadFault = ReadsFaulted old new c
+IsIdle old new c (answer.Refused r) = ForRead old c (λ input. IsRefused c input r) × SameReadCounts old new
+IsIdle old new c answer.NoMemory = Unit {0}
+IsIdle old new c _ = ⊥
+
+-- these bytes are what is in the file of that name, and none where there is no name
+abbrev pub IsGot : HostState → Option (List ℕ) → List ℕ → Type 0
+IsGot host None bytes = bytes ≡ []
+IsGot host (Some name) bytes = host.tells ≡ true → file_of host name ≡ Some bytes
+
+-- at most a byte more than an input may have was taken of the file of that name; without a name nothing was asked
+abbrev pub IsTakenFrom : HostState → HostState → Option (List ℕ) → Type 0
+IsTakenFrom old new None = KeepsReading old new
+IsTakenFrom old new (Some name) = SameRest old new ⊎ ReadsAtMost old new name (MAX_INPUT + 1)

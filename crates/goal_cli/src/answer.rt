@@ -3,6 +3,7 @@
 use goal_binary::FileFault;
 use goal_collectives::GenFault;
 use goal_parser::TextFault;
+use sim_classes::MachineFault;
 
 /// How a call of `goal` ends. The numbers of the statuses are 0 to 7 in this order.
 #[derive(Clone, Copy, Debug, PartialEq, Eq)]
@@ -50,12 +51,16 @@ pub enum Answer {
 /// Why a command makes nothing of its input or its words.
 #[derive(Clone, Copy, Debug, PartialEq, Eq)]
 pub enum Refusal {
-    /// The input has more than 2^27 bytes.
+    /// The input, or the machine, has more than 2^27 bytes.
     TooLong,
     /// As a text it has this first fault.
     Text(TextFault),
     /// As a compiled file it has this first fault.
     File(FileFault),
+    /// The machine has this first fault.
+    Machine(MachineFault),
+    /// The machine has a node for so many ranks, which is not the schedule's number of ranks.
+    MachineRanks { ranks: u32 },
     /// The collective has no schedule for so many ranks: this is the first reason.
     Generator(GenFault),
     /// The time budget of the run, this sum in nanoseconds, exceeds 2^63-1.

@@ -4,17 +4,18 @@ ghost use Rattle.goal_base.specs.Device.{Rose, Held, SinkLater, KeepsReading, Gr
 ghost use Rattle.goal_graph.specs.Schedule.{Plan};
 ghost use Rattle.sim_params.specs.Costs.{Numbers, log_gops};
 ghost use Rattle.goal_input.specs.Unread.{IfFile};
-ghost use Rattle.goal_words.specs.Words.{Sim, command, command_in, IsSized};
+ghost use Rattle.sim_classes.specs.Machine.{Known, costs_of};
+ghost use Rattle.goal_words.specs.Words.{Sim, Nodes, command, command_in, IsSized};
 ghost use Rattle.goal_cli.specs.Answer.{IfInput, GrowsByPart, ReadsHeld, InputHeld, target_of, Gets, GetsPart, Elsewhere, WritesRose, WritesHeld, WritesSame, AnswersWhole, PrintsRun, IsCauseOf, IsCause, AnswersWith, Says, IsCutShort, IsAnswered, Answered, IsTaken};
 ghost use Rattle.goal_cli.specs.World.{devices, world, DevicesLater, WorldLater};
-ghost use Rattle.goal_cli.specs.Output.{HasOutput, HasRun, IsRefused};
+ghost use Rattle.goal_cli.specs.Output.{HasOutput, HasRun, HasRunOn, IsRefused};
 ghost use Rattle.goal_cli.specs.Refusal.{refused_line};
 ghost use Rattle.goal_cli.specs.declared.answer.Refusal.{Refusal};
 
 use crate::answer::{Answer, Ending, Status};
 use crate::output::{Stop, output_of};
 use crate::refusal::refused_line;
-use crate::source::schedule_of;
+use crate::source::gather;
 use goal_base::{Host, IoFault, NoMemory, Sink, write_all, write_file};
 use goal_words::{Line, LineFault, read_words};
 use std::alloc::Global;
@@ -29,7 +30,8 @@ const OUT_OF_MEMORY: &[u8] = b"goal: out of memory\n";
 
 /// Carries out a command line, given by the words after the program's name. Some read a schedule from the file NAME of
 /// `host`, a text or a compiled file: `sim NAME`, with options for the parameters, runs it and writes the printed run to
-/// `out`, with the reason for each stuck operation; `waits NAME`, with the same options, runs it and writes the report on
+/// `out`, with the reason for each stuck operation; `nodes NAME MACHINE` does the same with the costs of the machine that the file
+/// MACHINE says; `waits NAME`, with the same options, runs it and writes the report on
 /// waits to `out`; `compile NAME OUT` writes its compiled file to the file OUT; `show NAME` writes its canonical text to
 /// `out`; `certify KIND NAME` writes to `out` whether it is certified for a collective, or its first fault.
 /// `gen KIND RANKS BYTES` has no input: it makes the schedule of a collective and writes its canonical text to `out`.
@@ -54,6 +56,14 @@ pub fn goal<H: Host, W: Sink, E: Sink>(
         → Held (W.state out.old).stops (W.state out.old).count (W.state out.new).count
         → PrintsRun result (W.state out.old) (W.state out.new) (log_gops p) sched) }
 
+    // The same with the costs of a machine: each message has the parameters of its class.
+    ensures headline_on_a_machine { (name machine : List ℕ) → command_in words.now ≡ Some (Nodes name machine)
+        → IfFile (H.state host.old) name (λ schedule. IfFile (H.state host.old) machine (λ text. (sched : List Plan) (m : Known)
+        → HasRunOn m schedule text sched
+        → ReadsHeld (H.state host.old) (H.state host.new)
+        → Held (W.state out.old).stops (W.state out.old).count (W.state out.new).count
+        → PrintsRun result (W.state out.old) (W.state out.new) (costs_of m) sched)) }
+
     // The words lead to an answer whose cause holds, and the status and what `err` got are that answer's.
     ensures answered { Answered (command_in words.now)
         (world (H.state host.old) (W.state out.old) (E.state err.old))
@@ -73,7 +83,7 @@ pub fn goal<H: Host, W: Sink, E: Sink>(
         → IsRefused c input refusal → InputHeld old new c
         → AnswersWith result Status.Refused (Says (E.state err.old) (E.state err.new) (refused_line refusal))) }
 
-    // Of the input at most 2^27+1 bytes are taken. A command without an input leaves alone what can be read.
+    // Of each input at most 2^27+1 bytes are taken. A command without an input leaves alone what can be read.
     ensures taken { IsTaken (command_in words.now) (H.state host.old) (H.state host.new) }
     ensures later { WorldLater (world (H.state host.old) (W.state out.old) (E.state err.old))
         (world (H.state host.new) (W.state out.new) (E.state err.new)) }
@@ -106,11 +116,11 @@ fn carry_out_line<H: Host, W: Sink>(alloc: Global, line: &Line, host: &mut H, ou
     ensures later { DevicesLater (devices (H.state host.old) (W.state out.old))
         (devices (H.state host.new) (W.state out.new)) }
 {
-    let sched = match schedule_of(alloc, host, line) {
-        Ok(sched) => sched,
+    let work = match gather(alloc, host, line) {
+        Ok(work) => work,
         Err(answer) => return answer,
     };
-    let output = match output_of(alloc, line, &sched) {
+    let output = match output_of(alloc, line, &work.sched, &work.machine) {
         Ok(output) => output,
         Err(Stop::Refused(refusal)) => return Answer::Refused(refusal),
         Err(Stop::NoMemory) => return Answer::NoMemory,
@@ -146,6 +156,7 @@ fn put<H: Host, W: Sink>(
         Line::Sim { .. } => print(out, bytes),
         Line::Waits { .. } => print(out, bytes),
         Line::Knots { .. } => print(out, bytes),
+        Line::Nodes { .. } => print(out, bytes),
         Line::Compile { out: name, .. } => write_file(host, name.as_str(), bytes),
         Line::Show { .. } => print(out, bytes),
         Line::Gen { .. } => print(out, bytes),

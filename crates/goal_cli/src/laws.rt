@@ -1,14 +1,16 @@
 // Laws. Their functions do nothing: a proof cites a law by a call.
-ghost use Rattle.std.specs.Prelude.{◌≡◌, ◌≢◌, ◌⊎◌, ◌<◌, ℕ, Bool, true, false, List, Option, None, IsSomeAnd, IfSome};
-ghost use Rattle.goal_base.specs.Device.{file_of, ReadFaulted};
+ghost use Rattle.std.specs.Prelude.{◌≡◌, ◌⊎◌, ◌<◌, ℕ, Bool, true, List, length, Option, None, Ok, IsSomeAnd, IfSome};
+ghost use Rattle.goal_base.specs.Device.{file_of};
 ghost use Rattle.goal_graph.specs.Schedule.{Plan};
-ghost use Rattle.sim_params.specs.Costs.{CostModel};
-ghost use Rattle.goal_words.specs.Words.{Command, Compile};
+ghost use Rattle.sim_params.specs.Costs.{Numbers, CostModel};
+ghost use Rattle.sim_classes.specs.Machine.{Known, numbers_of};
+ghost use Rattle.sim_classes.specs.Form.{machine};
+ghost use Rattle.goal_words.specs.Words.{Command, Sim, Nodes, Compile};
 ghost use Rattle.goal_input.specs.Input.{IsReadAs};
-ghost use Rattle.goal_cli.specs.Output.{input_of, IsCertify, IsPrintedRun, IsOutput, IsRefused};
+ghost use Rattle.goal_cli.specs.Output.{Input, IsCertify, IsPrintedRun, IsSameMachine, IsOutput, IsRefused};
 ghost use Rattle.goal_cli.specs.Refusal.{refused_line};
 ghost use Rattle.goal_cli.specs.World.{World, but_err};
-ghost use Rattle.goal_cli.specs.Answer.{input_in, target_of, ForNamed, ForInput, GrowsByPart, Elsewhere, WritesRose, GetsPartOfOutput, IsUntouched, IsWritten, IsCause, line_for, Answers, IsSilent, line_at, Says, Answered};
+ghost use Rattle.goal_cli.specs.Answer.{input_in, machine_in, target_of, ForRead, ForInput, ReadsFaulted, GrowsByPart, Elsewhere, WritesRose, GetsPartOfOutput, IsUntouched, IsWritten, IsCause, line_for, Answers, IsSilent, line_at, Says, Answered};
 ghost use Rattle.goal_cli.specs.declared.answer.Answer.{Answer};
 ghost use Rattle.goal_cli.specs.declared.answer.Ending.{Ending};
 ghost use Rattle.goal_cli.specs.declared.answer.Refusal.{Refusal};
@@ -16,31 +18,37 @@ ghost use Rattle.goal_cli.specs.declared.answer.Status.{Status};
 
 use crate::answer::{Ending, Status};
 use goal_blocks::laws_of_faults;
+use sim_classes::laws_of_machines;
 
 /// What is written is a function of the schedule and the parameters.
 ///
 /// - `one_run`: a schedule has one printed run with given costs, and one status.
-/// - `same_output`: two inputs that say the same schedule give the same bytes and the same status. What a command without
-///   an input writes is a function of its words.
+/// - `same_output`: two inputs that say the same schedule, and for `nodes` the same machine, give the same bytes and the same
+///   status. What a command without an input writes is a function of its words.
 /// - `compiled_again`: what `compile` writes for an input says the same schedule, so a command makes the same of both.
+/// - `alike`: where all classes of the machine have the same parameters, `nodes` writes what `sim` writes with these.
 pub fn laws_of_outputs()
     ensures one_run { (costs : CostModel) (sched : List Plan) (one other : List ℕ) (stuck waits : Bool)
         → IsPrintedRun costs sched one stuck → IsPrintedRun costs sched other waits
         → (one ≡ other) × (stuck ≡ waits) }
-    ensures same_output { (c : Command) (input again : List ℕ) (sched : List Plan) (one other : List ℕ) (e d : Ending)
-        → IsReadAs input sched → IsReadAs again sched
+    ensures same_output { (c : Command) (input again : Input) (sched : List Plan) (one other : List ℕ) (e d : Ending)
+        → IsReadAs input.schedule sched → IsReadAs again.schedule sched → IsSameMachine c input again
         → IsOutput c input one e → IsOutput c again other d → (one ≡ other) × (e ≡ d) }
-    ensures compiled_again { (name out input output : List ℕ) (e : Ending) (sched : List Plan)
-        → IsReadAs input sched → IsOutput (Compile name out) input output e → IsReadAs output sched }
+    ensures compiled_again { (name out : List ℕ) (input : Input) (output : List ℕ) (e : Ending) (sched : List Plan)
+        → IsReadAs input.schedule sched → IsOutput (Compile name out) input output e → IsReadAs output sched }
+    ensures alike { (name text : List ℕ) (input : Input) (m : Known) (p : Numbers) (output : List ℕ) (e : Ending)
+        → machine input.machine ≡ Ok m → ((class : ℕ) → class < length m.classes → numbers_of m class ≡ p)
+        → IsOutput (Nodes name text) input output e → IsOutput (Sim name p) input output e }
 {
     laws_of_faults();
+    laws_of_machines();
 }
 
 /// What each status of an answered command line means, and what leads to it.
 ///
 /// - `bad_line`, `bad_line_exact`: the words are no command line.
-/// - `read_fault`, `read_risen`, `absent_risen`, `absent_name`: the host failed, or has no file NAME. Only a command with an
-///   input comes to it.
+/// - `read_fault`, `read_risen`, `absent_risen`, `absent_name`, `absent_machine`: the host failed, or has no file NAME, or for
+///   `nodes` no file MACHINE. Only a command with an input comes to it.
 /// - `refused`: the command refuses its input or its words, and `err` gets the words of the refusal.
 /// - `write_fault`, `write_risen`, `file_risen`: writing failed, after a part of the output.
 /// - `done`, `stuck`, `not_certified`: the output was written whole, `stuck` for a run with an operation that has no end,
@@ -55,7 +63,7 @@ pub fn laws_of_answers()
         → command ≡ None → Answers result Status.BadLine }
     ensures read_fault { (command : Option Command) (old new : World) (result : Status) → Answered command old new result
         → result ≡ Status.ReadFault
-        → IsSomeAnd (input_in command) (ReadFaulted old.host new.host) }
+        → IsSomeAnd command (ReadsFaulted old.host new.host) }
     ensures read_risen { (command : Option Command) (old new : World) (result : Status) → Answered command old new result
         → old.host.read_count < new.host.read_count → Answers result Status.ReadFault }
     ensures absent_risen { (command : Option Command) (old new : World) (result : Status) → Answered command old new result
@@ -63,13 +71,16 @@ pub fn laws_of_answers()
     ensures absent_name { (command : Option Command) (old new : World) (result : Status) → Answered command old new result
         → IfSome (input_in command) (λ name. old.host.tells ≡ true → file_of old.host name ≡ None
         → Answers result Status.ReadFault) }
+    ensures absent_machine { (command : Option Command) (old new : World) (result : Status) → Answered command old new result
+        → IfSome (machine_in command) (λ name. old.host.tells ≡ true → file_of old.host name ≡ None
+        → Answers result Status.ReadFault) }
     ensures refused { (command : Option Command) (old new : World) (result : Status) → Answered command old new result
         → result ≡ Status.Refused → (refusal : Refusal)
         × ForInput command old.host (λ c input. IsRefused c input refusal)
         × Says old.err new.err (refused_line refusal) }
     ensures write_fault { (command : Option Command) (old new : World) (result : Status) → Answered command old new result
         → result ≡ Status.WriteFault → IsSomeAnd command (λ c. WritesRose (but_err old) (but_err new) (target_of c)
-        × ForNamed old.host (input_of c) (GetsPartOfOutput (but_err old) (but_err new) c)) }
+        × ForRead old.host c (GetsPartOfOutput (but_err old) (but_err new) c)) }
     ensures write_risen { (command : Option Command) (old new : World) (result : Status) → Answered command old new result
         → old.out.count < new.out.count → Answers result Status.WriteFault }
     ensures file_risen { (command : Option Command) (old new : World) (result : Status) → Answered command old new result

@@ -1,5 +1,6 @@
-// From the schedule that a command works on to what it makes of it.
-ghost use Rattle.std.specs.Prelude.{ℕ, List, Bool, ◌≡◌, ◌<◌, ◌^◌, Ok, OnOk, IfOk, IfErr};
+// From what a command works on to what it makes of it.
+ghost use Rattle.std.specs.Prelude.{ℕ, List, Bool, ◌≡◌, ◌<◌, ◌≤◌, ◌^◌, length, Ok, OnOk, IfOk, IfErr};
+ghost use Rattle.goal_base.specs.declared.limits.TheConstants.{MAX_INPUT};
 ghost use Rattle.sim_params.specs.Numbers.{numbers};
 ghost use Rattle.sim_params.specs.Costs.{log_gops};
 ghost use Rattle.sim_params.specs.Budget.{budget};
@@ -7,9 +8,9 @@ ghost use Rattle.sim_params.specs.Run.{IsFinished};
 ghost use Rattle.sim_events.specs.Engine.{IsEngineFault};
 ghost use Rattle.goal_print.specs.Canonical.{canonical};
 ghost use Rattle.goal_binary.specs.File.{file};
-ghost use Rattle.goal_words.specs.Words.{command};
+ghost use Rattle.goal_words.specs.Words.{command, Nodes};
 ghost use Rattle.goal_input.specs.Input.{IsReadAs};
-ghost use Rattle.goal_cli.specs.Output.{run_text, knots_shown, IsPrintedRun, IsReportedRun, IsKnotted, IsSummedUp, IsRunOf, ending_if, IsOutput, MayEnd, IsScheduleOf, IsStop};
+ghost use Rattle.goal_cli.specs.Output.{Input, input_with, run_text, knots_shown, IsPrintedRun, IsReportedRun, IsKnotted, IsSummedUp, IsRunOf, ending_if, IsOutput, IsSimulatedOn, MayEnd, IsWorkOf, IsStop};
 
 use crate::answer::{Ending, Refusal};
 use crate::probe::probe_text;
@@ -19,9 +20,10 @@ use goal_binary::{encode, laws_of_files};
 use goal_graph::Sched;
 use goal_print::print_text;
 use goal_words::Line;
+use sim_classes::{MachineFault, read_machine};
 use sim_cycles::{knots, knots_text};
 use sim_events::{Engine, EngineFault};
-use sim_params::{LogGops, Params};
+use sim_params::{Costs, LogGops, Params};
 use sim_stuck::{explain, is_stuck, stuck_text};
 use sim_timeline::{first_line, timeline};
 use sim_waits::waits;
@@ -47,13 +49,18 @@ fn ending_if(stuck: bool) -> Ending
     if stuck { Ending::Stuck } else { Ending::Done }
 }
 
-// The run of a schedule, to its end.
-fn run(alloc: Global, sched: &Sched, params: Params) -> Result<Engine<'_, LogGops>, EngineFault>
-    ensures fits { OnOk result (budget sched.now (log_gops (numbers params)) < 2 ^ 63) }
-    ensures run { IfOk result (λ engine. IsRunOf (log_gops (numbers params)) sched.now engine) }
-    ensures fault { IfErr result (IsEngineFault (budget sched.now (log_gops (numbers params)))) }
+// The run of a schedule with these costs, to its end.
+fn run<C: Costs + Drop>(
+    alloc: Global,
+    sched: &Sched,
+    costs: C,
+) -> Result<Engine<'_, C>, EngineFault>
+    ensures fits { OnOk result (budget sched.now (C.model costs) < 2 ^ 63) }
+    ensures run { IfOk result (λ engine. IsRunOf (C.model costs) sched.now engine) }
+    ensures costs { IfOk result (λ engine. C.model engine.costs ≡ C.model costs) }
+    ensures fault { IfErr result (IsEngineFault (budget sched.now (C.model costs))) }
 {
-    match Engine::new(alloc, sched, LogGops { params }) {
+    match Engine::new(alloc, sched, costs) {
         Ok(engine) => {
             let mut engine = engine;
             engine.run();
@@ -64,11 +71,15 @@ fn run(alloc: Global, sched: &Sched, params: Params) -> Result<Engine<'_, LogGop
 }
 
 // The timeline of a run that is over, and the lines of its stuck operations.
-fn run_text(alloc: Global, sched: &Sched, engine: &Engine<'_, LogGops>) -> Result<Vec<u8>, NoMemory>
+fn run_text<C: Costs>(
+    alloc: Global,
+    sched: &Sched,
+    engine: &Engine<'_, C>,
+) -> Result<Vec<u8>, NoMemory>
     requires same { engine.now.plans ≡ sched.now }
-    requires done { IsFinished engine.now.plans (log_gops (numbers engine.now.costs.params)) engine.now.history }
+    requires done { IsFinished engine.now.plans (C.model engine.now.costs) engine.now.history }
     ensures { IfOk result (λ text.
-        text.items ≡ run_text sched.now (log_gops (numbers engine.now.costs.params)) engine.now.history) }
+        text.items ≡ run_text sched.now (C.model engine.now.costs) engine.now.history) }
 {
     let mut text = timeline(alloc, sched, engine)?;
     let stuck = explain(alloc, sched, engine)?;
@@ -77,14 +88,14 @@ fn run_text(alloc: Global, sched: &Sched, engine: &Engine<'_, LogGops>) -> Resul
     Ok(text)
 }
 
-// The printed run of a schedule.
-fn print_run(alloc: Global, sched: &Sched, params: Params) -> Result<Output, EngineFault>
-    ensures fits { OnOk result (budget sched.now (log_gops (numbers params)) < 2 ^ 63) }
+// The printed run of a schedule with these costs.
+fn print_run<C: Costs + Drop>(alloc: Global, sched: &Sched, costs: C) -> Result<Output, EngineFault>
+    ensures fits { OnOk result (budget sched.now (C.model costs) < 2 ^ 63) }
     ensures run { IfOk result (λ output. (stuck : Bool) × (output.ending ≡ ending_if stuck)
-        × IsPrintedRun (log_gops (numbers params)) sched.now output.bytes.items stuck) }
-    ensures fault { IfErr result (IsEngineFault (budget sched.now (log_gops (numbers params)))) }
+        × IsPrintedRun (C.model costs) sched.now output.bytes.items stuck) }
+    ensures fault { IfErr result (IsEngineFault (budget sched.now (C.model costs))) }
 {
-    let engine = match run(alloc, sched, params) {
+    let engine = match run(alloc, sched, costs) {
         Ok(engine) => engine,
         Err(fault) => return Err(fault),
     };
@@ -97,6 +108,31 @@ fn print_run(alloc: Global, sched: &Sched, params: Params) -> Result<Output, Eng
     }
 }
 
+// The printed run of a schedule on the machine of a text.
+fn print_run_on(alloc: Global, sched: &Sched, text: &[u8]) -> Result<Output, Stop>
+    requires short { length text.now ≤ MAX_INPUT }
+    ensures output { IfOk result (λ output. (schedule : List ℕ) → IsReadAs schedule sched.now
+        → IsSimulatedOn schedule text.now output.bytes.items output.ending) }
+    ensures ends { IfOk result (λ output. (stuck : Bool) × (output.ending ≡ ending_if stuck)) }
+    ensures stop { IfErr result (λ stop. (name machine schedule : List ℕ) → IsReadAs schedule sched.now
+        → IsStop (Nodes name machine) (input_with schedule text.now) stop) }
+{
+    let machine = match read_machine(alloc, text) {
+        Ok(machine) => machine,
+        Err(MachineFault::NoMemory) => return Err(Stop::NoMemory),
+        Err(fault) => return Err(Stop::Refused(Refusal::Machine(fault))),
+    };
+    let ranks = machine.ranks();
+    if ranks as usize != sched.plans().len() {
+        return Err(Stop::Refused(Refusal::MachineRanks { ranks }));
+    }
+    match print_run(alloc, sched, machine) {
+        Ok(output) => Ok(output),
+        Err(EngineFault::Budget { sum }) => Err(Stop::Refused(Refusal::Budget { sum })),
+        Err(EngineFault::NoMemory) => Err(Stop::NoMemory),
+    }
+}
+
 // The report on the waits of the run of a schedule.
 fn report_waits(alloc: Global, sched: &Sched, params: Params) -> Result<Output, EngineFault>
     ensures fits { OnOk result (budget sched.now (log_gops (numbers params)) < 2 ^ 63) }
@@ -104,7 +140,7 @@ fn report_waits(alloc: Global, sched: &Sched, params: Params) -> Result<Output, 
         × IsReportedRun (log_gops (numbers params)) sched.now output.bytes.items stuck) }
     ensures fault { IfErr result (IsEngineFault (budget sched.now (log_gops (numbers params)))) }
 {
-    let engine = match run(alloc, sched, params) {
+    let engine = match run(alloc, sched, LogGops { params }) {
         Ok(engine) => engine,
         Err(fault) => return Err(fault),
     };
@@ -144,7 +180,7 @@ fn report_knots(alloc: Global, sched: &Sched, params: Params) -> Result<Output, 
         × IsKnotted (log_gops (numbers params)) sched.now output.bytes.items stuck) }
     ensures fault { IfErr result (IsEngineFault (budget sched.now (log_gops (numbers params)))) }
 {
-    let engine = match run(alloc, sched, params) {
+    let engine = match run(alloc, sched, LogGops { params }) {
         Ok(engine) => engine,
         Err(fault) => return Err(fault),
     };
@@ -164,7 +200,7 @@ fn sum_up_run(alloc: Global, sched: &Sched, params: Params) -> Result<Output, En
         × IsSummedUp (log_gops (numbers params)) sched.now output.bytes.items stuck) }
     ensures fault { IfErr result (IsEngineFault (budget sched.now (log_gops (numbers params)))) }
 {
-    let engine = match run(alloc, sched, params) {
+    let engine = match run(alloc, sched, LogGops { params }) {
         Ok(engine) => engine,
         Err(fault) => return Err(fault),
     };
@@ -201,16 +237,17 @@ fn compile(alloc: Global, sched: &Sched) -> Result<Vec<u8>, NoMemory>
     encode(alloc, sched)
 }
 
-// What a command makes of the schedule that it works on.
-pub fn output_of(alloc: Global, line: &Line, sched: &Sched) -> Result<Output, Stop>
-    ensures output { IfOk result (λ output. (input : List ℕ) → IsScheduleOf (command line.now) input sched.now
+// What a command makes of the schedule that it works on, and of the text of its machine.
+pub fn output_of(alloc: Global, line: &Line, sched: &Sched, machine: &[u8]) -> Result<Output, Stop>
+    requires short { length machine.now ≤ MAX_INPUT }
+    ensures output { IfOk result (λ output. (input : Input) → IsWorkOf (command line.now) sched.now machine.now input
         → IsOutput (command line.now) input output.bytes.items output.ending) }
     ensures ends { IfOk result (λ output. MayEnd (command line.now) output.ending) }
-    ensures stop { IfErr result (λ stop. (input : List ℕ) → IsScheduleOf (command line.now) input sched.now
+    ensures stop { IfErr result (λ stop. (input : Input) → IsWorkOf (command line.now) sched.now machine.now input
         → IsStop (command line.now) input stop) }
 {
     match line {
-        Line::Sim { params, .. } => match print_run(alloc, sched, *params) {
+        Line::Sim { params, .. } => match print_run(alloc, sched, LogGops { params: *params }) {
             Ok(output) => Ok(output),
             Err(EngineFault::Budget { sum }) => Err(Stop::Refused(Refusal::Budget { sum })),
             Err(EngineFault::NoMemory) => Err(Stop::NoMemory),
@@ -225,6 +262,7 @@ pub fn output_of(alloc: Global, line: &Line, sched: &Sched) -> Result<Output, St
             Err(EngineFault::Budget { sum }) => Err(Stop::Refused(Refusal::Budget { sum })),
             Err(EngineFault::NoMemory) => Err(Stop::NoMemory),
         },
+        Line::Nodes { .. } => print_run_on(alloc, sched, machine),
         Line::Compile { .. } => whole(compile(alloc, sched)),
         Line::Show { .. } => whole(print_text(alloc, sched)),
         Line::Gen { .. } => whole(print_text(alloc, sched)),

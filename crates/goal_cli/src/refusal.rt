@@ -1,7 +1,7 @@
 // The words of refusals.
 ghost use Rattle.std.specs.Prelude.{◌≡◌, ◌++◌, List, IfOk, OnOk, codes};
 ghost use Rattle.goal_base.specs.Text.{pair_text};
-ghost use Rattle.goal_cli.specs.Refusal.{at_text, plan_words, text_words, file_words, generator_words, refusal_words, refused_line};
+ghost use Rattle.goal_cli.specs.Refusal.{at_text, plan_words, text_words, file_words, machine_words, generator_words, refusal_words, refused_line};
 
 use crate::answer::Refusal;
 use goal_base::{NoMemory, TextOut};
@@ -9,6 +9,7 @@ use goal_binary::FileFault;
 use goal_collectives::GenFault;
 use goal_graph::PlanFault;
 use goal_parser::TextFault;
+use sim_classes::MachineFault;
 use std::alloc::Global;
 
 /// The line to `err` of a refusal.
@@ -30,6 +31,8 @@ fn put_refusal(out: &mut TextOut, refusal: Refusal) -> Result<(), NoMemory>
         Refusal::TooLong => out.word("input longer than 134217728 bytes"),
         Refusal::Text(fault) => put_text_fault(out, fault),
         Refusal::File(fault) => put_file_fault(out, fault),
+        Refusal::Machine(fault) => put_machine_fault(out, fault),
+        Refusal::MachineRanks { ranks } => put_at(out, "machine: ranks ", u64::from(ranks)),
         Refusal::Generator(fault) => put_generator_fault(out, fault),
         Refusal::Budget { sum } => {
             out.word("budget ")?;
@@ -80,6 +83,18 @@ fn put_plan_fault(out: &mut TextOut, fault: PlanFault) -> Result<(), NoMemory>
         PlanFault::NoteMisfit { rank, note } => put_pair(out, "plan: note ", rank, note),
         PlanFault::Cycle { rank, op } => put_pair(out, "plan: cycle ", rank, op),
         PlanFault::Count { .. } | PlanFault::Value { .. } | PlanFault::NoMemory => Ok(()),
+    }
+}
+
+// Appends the words of the fault of a machine.
+fn put_machine_fault(out: &mut TextOut, fault: MachineFault) -> Result<(), NoMemory>
+    ensures { OnOk result (out.new ≡ out.old ++ machine_words fault) }
+{
+    match fault {
+        MachineFault::Syntax { at } => put_at(out, "machine: syntax at ", at),
+        MachineFault::Number { at } => put_at(out, "machine: number at ", at),
+        MachineFault::Repeat { at } => put_at(out, "machine: repeat at ", at),
+        MachineFault::NoMemory => Ok(()),
     }
 }
 

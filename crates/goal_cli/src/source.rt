@@ -1,17 +1,18 @@
-// The schedule that a command works on: what its input says, or what it makes.
-ghost use Rattle.std.specs.Prelude.{◌≡◌, ◌≤◌, true, false, Some, OnOk, IfOk, IfErr};
+// What a command works on: the schedule that its input says or that it makes, and the text of its machine.
+ghost use Rattle.std.specs.Prelude.{ℕ, ◌≡◌, ◌≤◌, true, false, List, length, None, Some, OnOk, IfOk, IfErr, MatchOption};
+ghost use Rattle.goal_base.specs.declared.limits.TheConstants.{MAX_INPUT};
 ghost use Rattle.goal_base.specs.Device.{HostState, Later, KeepsFiles, SameReadCounts};
 ghost use Rattle.goal_input.specs.Input.{IsReadAs};
 ghost use Rattle.goal_input.specs.Unread.{ForFile};
 ghost use Rattle.goal_blocks.specs.Collectives.{is_first};
 ghost use Rattle.goal_collectives.specs.Probe.{probed};
 ghost use Rattle.goal_words.specs.Words.{Command, Gen, command, IsSized};
-ghost use Rattle.goal_cli.specs.Output.{input_of, IsMade, IsScheduleOf};
-ghost use Rattle.goal_cli.specs.Answer.{ForNamed, IsTakenOf, IsTaken};
-ghost use Rattle.goal_cli.specs.Unmade.{IsUnmade};
+ghost use Rattle.goal_cli.specs.Output.{input_of, machine_of, input_with, IsMade, IsScheduleOf, IsWorkOf};
+ghost use Rattle.goal_cli.specs.Answer.{ForNamed, ForRead, IsTaken};
+ghost use Rattle.goal_cli.specs.Unmade.{IsUnmade, IsUntold, IsIdle, IsGot, IsTakenFrom};
 
 use crate::answer::{Answer, Refusal};
-use goal_base::{Host, MAX_BYTES, NoMemory};
+use goal_base::{Host, MAX_BYTES, NoMemory, ReadAll, read_all};
 use goal_blocks::Collective;
 use goal_collectives::{GenFault, MAX_ROUNDS, generate, probe_plan};
 use goal_graph::Sched;
@@ -84,7 +85,7 @@ fn read_input<H: Host>(alloc: Global, host: &mut H, name: &str) -> Result<Sched,
     ensures counts { OnOk result (SameReadCounts (H.state host.old) (H.state host.new)) }
     ensures kept { KeepsFiles (H.state host.old) (H.state host.new) }
     ensures later { Later (H.state host.old) (H.state host.new) }
-    ensures taken { IsTakenOf (Some name.now) (H.state host.old) (H.state host.new) }
+    ensures taken { IsTakenFrom (H.state host.old) (H.state host.new) (Some name.now) }
 {
     match read_schedule(alloc, host, name) {
         Ok(sched) => Ok(sched),
@@ -97,25 +98,92 @@ fn read_input<H: Host>(alloc: Global, host: &mut H, name: &str) -> Result<Sched,
 }
 
 // The schedule that a command works on: what its input says, or what it makes. Without an input the host is asked nothing.
-// Where there is none, this is the answer.
-pub fn schedule_of<H: Host>(alloc: Global, host: &mut H, line: &Line) -> Result<Sched, Answer>
+// Where there is none, this is the answer, as long as the machine is not too long.
+fn schedule_of<H: Host>(alloc: Global, host: &mut H, line: &Line) -> Result<Sched, Answer>
     requires sized { IsSized (command line.now) }
     ensures schedule { IfOk result (λ sched. ForNamed (H.state host.old) (input_of (command line.now))
-        (λ input. IsScheduleOf (command line.now) input sched)) }
+        (λ schedule. (machine : List ℕ) → IsScheduleOf (command line.now) (input_with schedule machine) sched)) }
     ensures unmade { IfErr result (IsUnmade (H.state host.old) (H.state host.new) (command line.now)) }
     ensures counts { OnOk result (SameReadCounts (H.state host.old) (H.state host.new)) }
     ensures kept { KeepsFiles (H.state host.old) (H.state host.new) }
     ensures later { Later (H.state host.old) (H.state host.new) }
-    ensures taken { IsTaken (Some (command line.now)) (H.state host.old) (H.state host.new) }
+    ensures taken { IsTakenFrom (H.state host.old) (H.state host.new) (input_of (command line.now)) }
 {
     match line {
         Line::Sim { name, .. } => read_input(alloc, host, name.as_str()),
         Line::Waits { name, .. } => read_input(alloc, host, name.as_str()),
         Line::Knots { name, .. } => read_input(alloc, host, name.as_str()),
+        Line::Nodes { name, .. } => read_input(alloc, host, name.as_str()),
         Line::Compile { name, .. } => read_input(alloc, host, name.as_str()),
         Line::Show { name } => read_input(alloc, host, name.as_str()),
         Line::Gen { what, ranks, bytes } => make_schedule(alloc, *what, *ranks, *bytes),
         Line::Certify { name, .. } => read_input(alloc, host, name.as_str()),
         Line::Probe { rounds, seed, .. } => draw(alloc, *rounds, *seed),
+    }
+}
+
+// The name of the machine of a command.
+fn machine_of(line: &Line) -> Option<&str>
+    ensures { MatchOption result (machine_of (command line.now) ≡ None) (λ name. machine_of (command line.now) ≡ Some name.now) }
+{
+    match line {
+        Line::Nodes { machine, .. } => Some(machine.as_str()),
+        Line::Sim { .. } | Line::Waits { .. } | Line::Knots { .. } | Line::Compile { .. } => None,
+        Line::Show { .. } | Line::Gen { .. } | Line::Certify { .. } | Line::Probe { .. } => None,
+    }
+}
+
+// The text of the machine of a command. Without one there is no text, and the host is asked nothing.
+fn take_machine<H: Host>(alloc: Global, host: &mut H, line: &Line) -> Result<Vec<u8>, Answer>
+    ensures got { IfOk result (λ text. IsGot (H.state host.old) (machine_of (command line.now)) text.items) }
+    ensures short { IfOk result (λ text. length text.items ≤ MAX_INPUT) }
+    ensures untold { IfErr result (IsUntold (H.state host.old) (H.state host.new) (machine_of (command line.now))) }
+    ensures counts { OnOk result (SameReadCounts (H.state host.old) (H.state host.new)) }
+    ensures kept { KeepsFiles (H.state host.old) (H.state host.new) }
+    ensures later { Later (H.state host.old) (H.state host.new) }
+    ensures taken { IsTakenFrom (H.state host.old) (H.state host.new) (machine_of (command line.now)) }
+{
+    let Some(name) = machine_of(line) else {
+        return Ok(Vec::new(alloc));
+    };
+    match read_all(alloc, host, name) {
+        Ok(text) => Ok(text),
+        Err(ReadAll::Fault) => Err(Answer::ReadFault),
+        Err(ReadAll::TooLong) => Err(Answer::Refused(Refusal::TooLong)),
+        Err(ReadAll::NoMemory) => Err(Answer::NoMemory),
+    }
+}
+
+// What a command works on: a schedule, and the text of a machine.
+#[derive(Drop)]
+pub struct Work {
+    pub sched: Sched,
+    pub machine: Vec<u8>,
+}
+
+// What a command works on. Each of its files is read to its end before one is refused. Where there is nothing to work on, this
+// is the answer.
+#[tactic(auto, using(crate::proofs::AnswerLemmas::taken_both))]
+pub fn gather<H: Host>(alloc: Global, host: &mut H, line: &Line) -> Result<Work, Answer>
+    requires sized { IsSized (command line.now) }
+    ensures work { IfOk result (λ work. ForRead (H.state host.old) (command line.now)
+        (IsWorkOf (command line.now) work.sched work.machine.items)) }
+    ensures short { IfOk result (λ work. length work.machine.items ≤ MAX_INPUT) }
+    ensures idle { IfErr result (IsIdle (H.state host.old) (H.state host.new) (command line.now)) }
+    ensures counts { OnOk result (SameReadCounts (H.state host.old) (H.state host.new)) }
+    ensures kept { KeepsFiles (H.state host.old) (H.state host.new) }
+    ensures later { Later (H.state host.old) (H.state host.new) }
+    ensures taken { IsTaken (Some (command line.now)) (H.state host.old) (H.state host.new) }
+{
+    match schedule_of(alloc, host, line) {
+        Ok(sched) => match take_machine(alloc, host, line) {
+            Ok(machine) => Ok(Work { sched, machine }),
+            Err(answer) => Err(answer),
+        },
+        Err(Answer::Refused(refusal)) => match take_machine(alloc, host, line) {
+            Ok(_) => Err(Answer::Refused(refusal)),
+            Err(answer) => Err(answer),
+        },
+        Err(answer) => Err(answer),
     }
 }

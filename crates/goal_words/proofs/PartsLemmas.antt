@@ -234,23 +234,24 @@ command_read taken first words same =
     judged true w plain given = refl
     judged false w plain given = refl
 
-neither : (a b c d e f g h : Bool)
-    → ◌≡◌ {A = Option Command} (if a then None else (if b then None else (if c then None else (if d then None else (if e then None else (if f then None else (if g then None else (if h then None else None)))))))) None
-neither true b c d e f g h = refl
-neither false true c d e f g h = refl
-neither false false true d e f g h = refl
-neither false false false true e f g h = refl
-neither false false false false true f g h = refl
-neither false false false false false true g h = refl
-neither false false false false false false true h = refl
-neither false false false false false false false true = refl
-neither false false false false false false false false = refl
+neither : (a b c d e f g h i : Bool)
+    → ◌≡◌ {A = Option Command} (if a then None else (if b then None else (if c then None else (if d then None else (if e then None else (if f then None else (if g then None else (if h then None else (if i then None else None))))))))) None
+neither true b c d e f g h i = refl
+neither false true c d e f g h i = refl
+neither false false true d e f g h i = refl
+neither false false false true e f g h i = refl
+neither false false false false true f g h i = refl
+neither false false false false false true g h i = refl
+neither false false false false false false true h i = refl
+neither false false false false false false false true i = refl
+neither false false false false false false false false true = refl
+neither false false false false false false false false false = refl
 
 -- no command of these
 unnamed : (first : List ℕ)
-    → ◌≡◌ {A = Option Command} (if bytes_eq first (codes "sim") then None else (if bytes_eq first (codes "waits") then None else (if bytes_eq first (codes "knots") then None else (if bytes_eq first (codes "compile") then None else (if bytes_eq first (codes "show") then None else (if bytes_eq first (codes "gen") then None else (if bytes_eq first (codes "certify") then None else (if bytes_eq first (codes "probe") then None else None)))))))) None
+    → ◌≡◌ {A = Option Command} (if bytes_eq first (codes "sim") then None else (if bytes_eq first (codes "waits") then None else (if bytes_eq first (codes "knots") then None else (if bytes_eq first (codes "nodes") then None else (if bytes_eq first (codes "compile") then None else (if bytes_eq first (codes "show") then None else (if bytes_eq first (codes "gen") then None else (if bytes_eq first (codes "certify") then None else (if bytes_eq first (codes "probe") then None else None))))))))) None
 unnamed first =
-    neither (bytes_eq first (codes "sim")) (bytes_eq first (codes "waits")) (bytes_eq first (codes "knots")) (bytes_eq first (codes "compile")) (bytes_eq first (codes "show")) (bytes_eq first (codes "gen")) (bytes_eq first (codes "certify")) (bytes_eq first (codes "probe"))
+    neither (bytes_eq first (codes "sim")) (bytes_eq first (codes "waits")) (bytes_eq first (codes "knots")) (bytes_eq first (codes "nodes")) (bytes_eq first (codes "compile")) (bytes_eq first (codes "show")) (bytes_eq first (codes "gen")) (bytes_eq first (codes "certify")) (bytes_eq first (codes "probe"))
 
 -- every command has one to three plain words
 pub too_few_or_many : (first : List ℕ) (plain : List (List ℕ)) (params : Numbers) (root : Option ℕ) → are_few plain ≡ false → command_by first plain params root ≡ None

@@ -6,7 +6,7 @@ use Rattle.goal_base.specs.declared.limits.TheConstants.{MAX_RANKS, MAX_BYTES}
 use Rattle.sim_params.specs.Costs.{Numbers}
 use Rattle.goal_words.specs.declared.kinds.TheConstants.{MAX_ROUNDS}
 use Rattle.goal_words.specs.Options.{value_of, within_limits}
-use Rattle.goal_words.specs.Words.{Command, Sim, Waits, Knots, Gen, Certify, Probe, IsSized, sim_of, waits_of, knots_of, compile_of, show_of, gen_of, certify_of, probe_of, number_from, collective_of, command_by}
+use Rattle.goal_words.specs.Words.{Command, Sim, Waits, Knots, Gen, Certify, Probe, IsSized, sim_of, waits_of, knots_of, nodes_of, compile_of, show_of, gen_of, certify_of, probe_of, number_from, collective_of, command_by}
 
 tested : (most n : ℕ) (low high : Bool) → nat_le n most ≡ high → IfSome (if low && high then Some n else None) (λ m. m ≤ most)
 tested most n true true h = leb-true n most h
@@ -50,6 +50,12 @@ knots_sized : (plain : List (List ℕ)) (params : Numbers) → IfSome (knots_of 
 knots_sized [] params = tt
 knots_sized (name ∷ []) params = mapped (Knots name) (within_limits params) (always (within_limits params))
 knots_sized (name ∷ other ∷ plain) params = tt
+
+nodes_sized : (plain : List (List ℕ)) → IfSome (nodes_of plain) IsSized
+nodes_sized [] = tt
+nodes_sized (name ∷ []) = tt
+nodes_sized (name ∷ machine ∷ []) = tt
+nodes_sized (name ∷ machine ∷ other ∷ plain) = tt
 
 compile_sized : (plain : List (List ℕ)) → IfSome (compile_of plain) IsSized
 compile_sized [] = tt
@@ -101,9 +107,10 @@ command_sized first plain params root =
     either (bytes_eq first (codes "sim")) _ _ (sim_sized plain params)
     (either (bytes_eq first (codes "waits")) _ _ (waits_sized plain params)
     (either (bytes_eq first (codes "knots")) _ _ (knots_sized plain params)
+    (either (bytes_eq first (codes "nodes")) _ _ (nodes_sized plain)
     (either (bytes_eq first (codes "compile")) _ _ (compile_sized plain)
     (either (bytes_eq first (codes "show")) _ _ (show_sized plain) (either (bytes_eq first (codes "gen")) _ _ (gen_sized plain root)
-    (either (bytes_eq first (codes "certify")) _ _ (certify_sized plain root) (either (bytes_eq first (codes "probe")) _ _ (probe_sized plain params) tt)))))))
+    (either (bytes_eq first (codes "certify")) _ _ (certify_sized plain root) (either (bytes_eq first (codes "probe")) _ _ (probe_sized plain params) tt))))))))
 
 pub sized : (first : List ℕ) (plain : List (List ℕ)) (params : Numbers) (root : Option ℕ) (c : Command) → command_by first plain params root ≡ Some c → IsSized c
 sized first plain params root c is = subst (λ o. IfSome o IsSized) is (command_sized first plain params root)

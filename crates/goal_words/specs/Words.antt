@@ -21,6 +21,8 @@ pub data Command : Type 0 where
   Waits : List ℕ → Numbers → Command
   -- to run it in the same way, and to write the knots of its stuck operations
   Knots : List ℕ → Numbers → Command
+  -- to run it in the same way, with the costs of the machine that the file of the second name says
+  Nodes : List ℕ → List ℕ → Command
   -- to write its compiled file to the file of the second name
   Compile : List ℕ → List ℕ → Command
   -- to write its canonical text
@@ -89,6 +91,11 @@ abbrev pub knots_of : List (List ℕ) → Numbers → Option Command
 knots_of (name ∷ []) params = option_map (Knots name) (within_limits params)
 knots_of _ params = None
 
+-- `nodes NAME MACHINE`
+abbrev pub nodes_of : List (List ℕ) → Option Command
+nodes_of (name ∷ machine ∷ []) = Some (Nodes name machine)
+nodes_of _ = None
+
 -- `compile NAME OUT`
 abbrev pub compile_of : List (List ℕ) → Option Command
 compile_of (name ∷ out ∷ []) = Some (Compile name out)
@@ -126,11 +133,12 @@ command_by first plain params root =
     if bytes_eq first (codes "sim") then sim_of plain params
     else (if bytes_eq first (codes "waits") then waits_of plain params
     else (if bytes_eq first (codes "knots") then knots_of plain params
+    else (if bytes_eq first (codes "nodes") then nodes_of plain
     else (if bytes_eq first (codes "compile") then compile_of plain
     else (if bytes_eq first (codes "show") then show_of plain
     else (if bytes_eq first (codes "gen") then gen_of plain root
     else (if bytes_eq first (codes "certify") then certify_of plain root
-    else (if bytes_eq first (codes "probe") then probe_of plain params else None)))))))
+    else (if bytes_eq first (codes "probe") then probe_of plain params else None))))))))
 
 -- what stands at the words of a line after the first
 abbrev pub line_places : List ℕ → List (List ℕ) → List Place
@@ -153,6 +161,7 @@ abbrev pub command : Line → Command
 command (line.Sim name params) = Sim name (numbers params)
 command (line.Waits name params) = Waits name (numbers params)
 command (line.Knots name params) = Knots name (numbers params)
+command (line.Nodes name machine) = Nodes name machine
 command (line.Compile name out) = Compile name out
 command (line.Show name) = Show name
 command (line.Gen what ranks bytes) = Gen what ranks bytes

@@ -3,13 +3,14 @@
 //!     sim NAME [--L N] [--o N] [--g N] [--G N] [--Gp N] [--O N] [--Op N] [--S N]
 //!     waits NAME [the same options]
 //!     knots NAME [the same options]
+//!     nodes NAME MACHINE
 //!     compile NAME OUT
 //!     show NAME
 //!     gen KIND RANKS BYTES [--root N]
 //!     certify KIND NAME [--root N]
 //!     probe ROUNDS SEED [the options of `sim`]
 //!
-//! NAME and OUT are any words that do not begin with `-`. Options and plain words may be mixed after the first word. Each
+//! NAME, MACHINE and OUT are any words that do not begin with `-`. Options and plain words may be mixed after the first word. Each
 //! option stands at most once, and its value follows it, or is joined to it as in `--S=0`. A number has 1 to 20 digits, and
 //! is within its limit.
 #![tactic(auto)]

@@ -1,6 +1,6 @@
 // Command lines.
 ghost use Rattle.std.specs.Prelude.{◌≡◌, None, Some, ◌⊎◌, IfOk, IfErr, IsErrOf, MatchOption};
-ghost use Rattle.goal_words.specs.Words.{command, command_by, command_in, options_of, sim_of, waits_of, knots_of, compile_of, show_of, gen_of, certify_of, probe_of, IsSized};
+ghost use Rattle.goal_words.specs.Words.{command, command_by, command_in, options_of, sim_of, waits_of, knots_of, nodes_of, compile_of, show_of, gen_of, certify_of, probe_of, IsSized};
 ghost use Rattle.goal_words.specs.Reading.{listed, numbers_given, words_of};
 
 use crate::kinds::{MAX_ROUNDS, collective_of, number_from};
@@ -60,6 +60,11 @@ pub enum Line {
     Knots {
         name: FileName,
         params: Params,
+    },
+    /// To run it in the same way, with the costs of the machine of the file `machine`, and to print the run.
+    Nodes {
+        name: FileName,
+        machine: FileName,
     },
     /// To write the compiled file of the schedule of `name` to the file `out`.
     Compile {
@@ -151,6 +156,7 @@ fn read_line(alloc: Global, first: &str, plain: Few<'_>, given: Given) -> Result
         "sim" => read_sim(alloc, plain, given),
         "waits" => read_waits(alloc, plain, given),
         "knots" => read_knots(alloc, plain, given),
+        "nodes" => read_nodes(alloc, plain),
         "compile" => read_compile(alloc, plain),
         "show" => read_show(alloc, plain),
         "gen" => match read_gen(plain, given) {
@@ -209,6 +215,19 @@ fn read_knots(alloc: Global, plain: Few<'_>, given: Given) -> Result<Line, LineF
     };
     let name = FileName::new(alloc, name)?;
     Ok(Line::Knots { name, params })
+}
+
+// `nodes NAME MACHINE`.
+fn read_nodes(alloc: Global, plain: Few<'_>) -> Result<Line, LineFault>
+    ensures line { IfOk result (λ line. nodes_of (listed plain.entry) ≡ Some (command line)) }
+    ensures bad { IfErr result (λ fault. fault ≡ LineFault.Bad → nodes_of (listed plain.entry) ≡ None) }
+{
+    let Few::Two(name, machine) = plain else {
+        return Err(LineFault::Bad);
+    };
+    let name = FileName::new(alloc, name)?;
+    let machine = FileName::new(alloc, machine)?;
+    Ok(Line::Nodes { name, machine })
 }
 
 // `compile NAME OUT`.

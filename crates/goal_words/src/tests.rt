@@ -45,6 +45,14 @@ fn other_lines(rt: HostRuntime) -> Result<(), Fail> {
         }
         _ => assert!(rt; false),
     }
+    let words = strings(alloc, &["nodes", "a", "b"])?;
+    match &read_words(alloc, &words) {
+        Ok(Line::Nodes { name, machine }) => {
+            assert_eq!(rt; name.as_str(), "a");
+            assert_eq!(rt; machine.as_str(), "b");
+        }
+        _ => assert!(rt; false),
+    }
     let words = strings(alloc, &["show", "b"])?;
     match &read_words(alloc, &words) {
         Ok(Line::Show { name }) => assert_eq!(rt; name.as_str(), "b"),
@@ -142,7 +150,7 @@ fn certify_and_probe(rt: HostRuntime) -> Result<(), Fail> {
     Ok(())
 }
 
-const NO_LINES: [&[&str]; 28] = [
+const NO_LINES: [&[&str]; 30] = [
     &[],
     &["sim"],
     &["sim", "a", "b"],
@@ -168,6 +176,8 @@ const NO_LINES: [&[&str]; 28] = [
     &["sim", "a", "--L=", "5"],
     &["sim", "--L", "--o", "5", "a"],
     &["compile", "a", "b", "--S", "1"],
+    &["nodes", "a"],
+    &["nodes", "a", "b", "--S", "1"],
     &["sim", "a", "--O", "1048576"],
     &["sim", "a", "--Gp", "1000"],
     &["sim", "a", "--S", "000000000000000000001"],

@@ -1,49 +1,57 @@
 use Rattle.std.proofs.Common.{rules, inr}
 use Rattle.goal_words.specs.Words.{command}
 use Rattle.goal_cli.specs.World.{devices}
-use Rattle.goal_cli.specs.Output.{input_of}
-use Rattle.goal_cli.proofs.AnswerLemmas.{refused_of, cut_off_from, rose_from, taken_still}
+use Rattle.goal_cli.specs.Output.{input_of, machine_of}
+use Rattle.goal_cli.proofs.AnswerLemmas.{idle_cause, refused_of, written_from, cut_off_from, rose_from, taken_still}
 use Rattle.goal_cli.proofs.command.carry_out_line.Goals as goal
 
 pub returns-in-Err-Failed-clause-cause : goal.returns-in-Err-Failed-clause-cause
 returns-in-Err-Failed-clause-cause g c =
-    let read = g.H.Host.state c.schedule_of.new.host in
+    let read = g.H.Host.state c.gather.new.host in
     let new = devices (g.H.Host.state c.put.new.host) (g.W.Sink.state c.put.new.out) in (
-      cut_off_from (g.H.Host.state c.args.host.now) read (g.W.Sink.state c.args.out.now) new c.schedule_of.ensures.kept
-          c.schedule_of.ensures.later (command c.args.line.now)
-          c.in-Ok.sched c.in-Ok-output_of.output.bytes.items c.in-Ok-output_of.output.ending (search rules) (search rules)
+      cut_off_from (g.H.Host.state c.args.host.now) read (g.W.Sink.state c.args.out.now) new c.gather.ensures.kept
+          c.gather.ensures.later (command c.args.line.now)
+          c.in-Ok.work.sched c.in-Ok.work.machine.items c.in-Ok-output_of.output.bytes.items c.in-Ok-output_of.output.ending (search rules) (search rules)
           (search rules) (search rules) (search rules) (search rules),
-      rose_from (g.H.Host.state c.args.host.now) read (g.W.Sink.state c.args.out.now) new c.schedule_of.ensures.kept
-          c.schedule_of.ensures.later _ (search rules),
+      rose_from (g.H.Host.state c.args.host.now) read (g.W.Sink.state c.args.out.now) new c.gather.ensures.kept
+          c.gather.ensures.later _ (search rules),
     )
 
 pub returns-clause-cause : goal.returns-clause-cause
 returns-clause-cause g c =
-    inr (cut_off_from (g.H.Host.state c.args.host.now) (g.H.Host.state c.schedule_of.new.host) (g.W.Sink.state c.args.out.now)
-    (devices (g.H.Host.state c.put.new.host) (g.W.Sink.state c.put.new.out)) c.schedule_of.ensures.kept
-    c.schedule_of.ensures.later (command c.args.line.now)
-    c.in-Ok.sched c.in-Ok-output_of.output.bytes.items c.in-Ok-output_of.output.ending (search rules) (search rules)
+    inr (cut_off_from (g.H.Host.state c.args.host.now) (g.H.Host.state c.gather.new.host) (g.W.Sink.state c.args.out.now)
+    (devices (g.H.Host.state c.put.new.host) (g.W.Sink.state c.put.new.out)) c.gather.ensures.kept
+    c.gather.ensures.later (command c.args.line.now)
+    c.in-Ok.work.sched c.in-Ok.work.machine.items c.in-Ok-output_of.output.bytes.items c.in-Ok-output_of.output.ending (search rules) (search rules)
     (search rules) (search rules) (search rules) (search rules))
 
 pub returns-in-Ok-put-clause-taken : goal.returns-in-Ok-put-clause-taken
 returns-in-Ok-put-clause-taken g c =
-    taken_still (input_of (command c.args.line.now)) (g.H.Host.state c.args.host.now) (g.H.Host.state c.schedule_of.new.host) (g.H.Host.state c.put.new.host)
-    c.schedule_of.ensures.later c.schedule_of.ensures.taken c.put.ensures.kept
+    taken_still (input_of (command c.args.line.now)) (machine_of (command c.args.line.now)) (g.H.Host.state c.args.host.now) (g.H.Host.state c.gather.new.host) (g.H.Host.state c.put.new.host)
+    c.gather.ensures.later c.gather.ensures.taken c.put.ensures.kept
 
 pub returns-in-Err-Failed-clause-taken : goal.returns-in-Err-Failed-clause-taken
 returns-in-Err-Failed-clause-taken g c =
-    taken_still (input_of (command c.args.line.now)) (g.H.Host.state c.args.host.now) (g.H.Host.state c.schedule_of.new.host) (g.H.Host.state c.put.new.host)
-    c.schedule_of.ensures.later c.schedule_of.ensures.taken c.put.ensures.kept
+    taken_still (input_of (command c.args.line.now)) (machine_of (command c.args.line.now)) (g.H.Host.state c.args.host.now) (g.H.Host.state c.gather.new.host) (g.H.Host.state c.put.new.host)
+    c.gather.ensures.later c.gather.ensures.taken c.put.ensures.kept
 
 pub returns-clause-taken : goal.returns-clause-taken
 returns-clause-taken g c =
-    taken_still (input_of (command c.args.line.now)) (g.H.Host.state c.args.host.now) (g.H.Host.state c.schedule_of.new.host) (g.H.Host.state c.put.new.host)
-    c.schedule_of.ensures.later c.schedule_of.ensures.taken c.put.ensures.kept
+    taken_still (input_of (command c.args.line.now)) (machine_of (command c.args.line.now)) (g.H.Host.state c.args.host.now) (g.H.Host.state c.gather.new.host) (g.H.Host.state c.put.new.host)
+    c.gather.ensures.later c.gather.ensures.taken c.put.ensures.kept
 
 pub returns-in-Err-Refused-clause-cause : goal.returns-in-Err-Refused-clause-cause
 returns-in-Err-Refused-clause-cause g c = (
-  refused_of (g.H.Host.state c.args.host.now) (command c.args.line.now) c.in-Ok.sched c.in-Err-Refused.field-0 c.in-Err-Refused.refusal
-      (search rules) c.in-Ok.ensures.schedule c.in-Err-Refused.ensures.stop,
+  refused_of (g.H.Host.state c.args.host.now) (command c.args.line.now) c.in-Ok.work.sched c.in-Ok.work.machine.items c.in-Err-Refused.field-0 c.in-Err-Refused.refusal
+      (search rules) c.in-Ok.ensures.work (rw c.deref.ensures.value at c.in-Err-Refused.ensures.stop),
   search rules,
   search rules,
 )
+
+pub returns-in-Ok-put-clause-cause : goal.returns-in-Ok-put-clause-cause
+returns-in-Ok-put-clause-cause g c =
+    written_from (g.H.Host.state c.args.host.now) (g.H.Host.state c.gather.new.host) (g.W.Sink.state c.args.out.now)
+    (devices (g.H.Host.state c.put.new.host) (g.W.Sink.state c.put.new.out)) c.gather.ensures.kept
+    c.gather.ensures.later (command c.args.line.now)
+    c.in-Ok.work.sched c.in-Ok.work.machine.items c.in-Ok-output_of.output.bytes.items c.in-Ok-output_of.output.ending (search rules) (search rules)
+    (search rules) (search rules) (search rules) (search rules) (search rules) (search rules)

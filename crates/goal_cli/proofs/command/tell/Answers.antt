@@ -1,4 +1,5 @@
-use Rattle.goal_cli.proofs.AnswerLemmas.{answered}
+use Rattle.std.proofs.Common.{rules}
+use Rattle.goal_cli.proofs.AnswerLemmas.{answered, said_as}
 use Rattle.goal_cli.proofs.command.tell.Goals as goal
 
 pub returns-in-BadLine-clause-answered : goal.returns-in-BadLine-clause-answered
@@ -9,3 +10,6 @@ returns-in-ReadFault-clause-answered g c = rw c.in-ReadFault.is (answered _ _ _ 
 
 pub returns-in-WriteFault-clause-answered : goal.returns-in-WriteFault-clause-answered
 returns-in-WriteFault-clause-answered g c = rw c.in-WriteFault.is (answered _ _ _ _ _ c.say-in-WriteFault.ensures.said)
+
+pub returns-in-Ok-clause-answered : goal.returns-in-Ok-clause-answered
+returns-in-Ok-clause-answered g c = rw c.in-Refused.is (said_as _ _ _ _ c.deref.result.now _ (search rules) c.say-in-Ok.ensures.said)

@@ -4,7 +4,7 @@ use Rattle.goal_cli.specs.declared.answer.Status.{Status}
 use Rattle.goal_cli.specs.declared.answer.Status.TheVariants as status
 use Rattle.goal_cli.specs.World.{World, but_err}
 use Rattle.goal_cli.specs.Answer.{Answers, Answered}
-use Rattle.goal_cli.proofs.AnswerLemmas.{no_line, no_line_told, read_fault, reads_risen, absent_risen, absent_named, told_refusal, cut_off_told, writes_risen, files_risen, done, stuck, not_certified, only_certify, part_or_none, untouched, kept_elsewhere, line_said, nothing_at, part_said}
+use Rattle.goal_cli.proofs.AnswerLemmas.{no_line, no_line_told, read_fault, reads_risen, absent_risen, absent_named, absent_machine, told_refusal, cut_off_told, writes_risen, files_risen, done, stuck, not_certified, only_certify, part_or_none, untouched, kept_elsewhere, line_said, nothing_at, part_said}
 use Rattle.goal_cli.proofs.laws.laws_of_answers.Goals as goal
 
 line_missed : (command : Option Command) (old new : World) (result : Status) → Answered command old new result → command ≡ None
@@ -29,6 +29,9 @@ returns-clause-absent_risen c = λ command old new result w. absent_risen (but_e
 
 pub returns-clause-absent_name : goal.returns-clause-absent_name
 returns-clause-absent_name c = λ command old new result w. absent_named (but_err old) (but_err new) command old.err new.err w.answer result w.cause w.told
+
+pub returns-clause-absent_machine : goal.returns-clause-absent_machine
+returns-clause-absent_machine c = λ command old new result w. absent_machine (but_err old) (but_err new) command old.err new.err w.answer result w.cause w.told
 
 pub returns-clause-refused : goal.returns-clause-refused
 returns-clause-refused c = λ command old new result w. told_refusal (but_err old) (but_err new) command old.err new.err w.answer result w.cause w.told

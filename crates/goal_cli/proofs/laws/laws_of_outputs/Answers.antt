@@ -1,4 +1,4 @@
-use Rattle.goal_cli.proofs.OutputLemmas.{one_run, same_output, compiled_again}
+use Rattle.goal_cli.proofs.OutputLemmas.{one_run, same_output, compiled_again, as_sim}
 use Rattle.goal_cli.proofs.laws.laws_of_outputs.Goals as goal
 
 pub returns-clause-one_run : goal.returns-clause-one_run
@@ -10,3 +10,6 @@ returns-clause-same_output c =
 
 pub returns-clause-compiled_again : goal.returns-clause-compiled_again
 returns-clause-compiled_again c = compiled_again
+
+pub returns-clause-alike : goal.returns-clause-alike
+returns-clause-alike c = as_sim c.laws_of_machines.ensures.whole c.laws_of_machines.ensures.alike

@@ -17,8 +17,8 @@ returns-in-Ok-waits-clause-run c =
         complete = r.complete;
         only = r.only;
         reported =
-            subst (λ (costs : CostModel). IsWaitsText c.args.sched.now costs h c.in-Ok-waits.bytes.items) r.costs_are c.in-Ok-waits.ensures;
+            subst (λ (costs : CostModel). IsWaitsText c.args.sched.now costs h c.in-Ok-waits.bytes.items) c.in-Ok.ensures.costs c.in-Ok-waits.ensures;
         stuck_is =
-            c.is_stuck.ensures ∙ ap (λ (sched : List Plan). is_stuck sched (log_gops (numbers c.in-Ok.engine.costs.params)) h) r.plans ∙ ap (λ (costs : CostModel). is_stuck c.args.sched.now costs h) r.costs_are;
+            c.is_stuck.ensures ∙ ap (λ (sched : List Plan). is_stuck sched (log_gops (numbers c.in-Ok.engine.costs.params)) h) r.plans ∙ ap (λ (costs : CostModel). is_stuck c.args.sched.now costs h) c.in-Ok.ensures.costs;
       },
     )

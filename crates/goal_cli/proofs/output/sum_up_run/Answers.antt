@@ -16,8 +16,8 @@ returns-in-Ok-probe_text-clause-run c =
         history = h;
         complete = r.complete;
         only = r.only;
-        summed = c.in-Ok-probe_text.ensures ∙ ap (λ (costs : CostModel). probe_text c.args.sched.now costs h) r.costs_are;
+        summed = c.in-Ok-probe_text.ensures ∙ ap (λ (costs : CostModel). probe_text c.args.sched.now costs h) c.in-Ok.ensures.costs;
         stuck_is =
-            c.is_stuck.ensures ∙ ap (λ (sched : List Plan). is_stuck sched (log_gops (numbers c.in-Ok.engine.costs.params)) h) r.plans ∙ ap (λ (costs : CostModel). is_stuck c.args.sched.now costs h) r.costs_are;
+            c.is_stuck.ensures ∙ ap (λ (sched : List Plan). is_stuck sched (log_gops (numbers c.in-Ok.engine.costs.params)) h) r.plans ∙ ap (λ (costs : CostModel). is_stuck c.args.sched.now costs h) c.in-Ok.ensures.costs;
       },
     )

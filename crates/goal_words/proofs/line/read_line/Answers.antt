@@ -9,6 +9,7 @@ returns-in_default-clause-bad c =
       unlike w (codes "sim") c.in_default.not-sim,
       unlike w (codes "waits") c.in_default.not-waits,
       unlike w (codes "knots") c.in_default.not-knots,
+      unlike w (codes "nodes") c.in_default.not-nodes,
       unlike w (codes "compile") c.in_default.not-compile,
       unlike w (codes "show") c.in_default.not-show,
       unlike w (codes "gen") c.in_default.not-gen,
