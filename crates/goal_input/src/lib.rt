@@ -4,10 +4,12 @@
 #![tactic(auto)]
 
 mod intake;
+mod laws;
 mod read;
 #[cfg(test)]
 mod tests;
 mod unread;
 
+pub use laws::laws_of_inputs;
 pub use read::read_schedule;
 pub use unread::Unread;
