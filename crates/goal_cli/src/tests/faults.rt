@@ -1,5 +1,6 @@
 // Devices that fail.
-use super::{MESSAGE, strings};
+use super::files::FILE;
+use super::{MESSAGE, MESSAGE_RUN, strings};
 use crate::answer::Status;
 use crate::command::goal;
 use goal_base::{MemHost, MemSink};
@@ -7,73 +8,54 @@ use std::alloc::Global;
 use std::process::Abort;
 use std::test::Fail;
 
+// A schedule whose operations follow a cycle: the file `bad`.
+const BAD: &str = "num_ranks 1 rank 0 { l1: calc 1 l2: calc 1 l1 requires l2 l2 requires l1 }";
+
 // A command line, which calls of the devices fail, and what comes of it.
 #[derive(Clone, Copy)]
 struct Fault<'a> {
     words: &'a [&'a str],
     host_fails: &'a [u64],
-    out_fails: &'a [u64],
     err_fails: &'a [u64],
     status: Status,
-    out: &'a str,
     err: &'a str,
 }
 
-const FAULTS: [Fault<'static>; 6] = [
+const FAULTS: [Fault<'static>; 5] = [
     Fault {
         words: &["sim", "a"],
         host_fails: &[2],
-        out_fails: &[],
         err_fails: &[],
         status: Status::ReadFault,
-        out: "",
         err: "goal: reading failed\n",
     },
     Fault {
         words: &["sim", "b"],
         host_fails: &[],
-        out_fails: &[],
         err_fails: &[],
         status: Status::ReadFault,
-        out: "",
         err: "goal: reading failed\n",
-    },
-    Fault {
-        words: &["sim", "a"],
-        host_fails: &[],
-        out_fails: &[3],
-        err_fails: &[],
-        status: Status::WriteFault,
-        out: "ranks 2 ops 2 stuck ",
-        err: "goal: writing failed\n",
-    },
-    // Calls 2 to 9 read the file, call 10 makes the compiled file.
-    Fault {
-        words: &["compile", "a", "b"],
-        host_fails: &[12],
-        out_fails: &[],
-        err_fails: &[],
-        status: Status::WriteFault,
-        out: "",
-        err: "goal: writing failed\n",
     },
     // A failure of `err` changes no status: its first write moves 10 bytes.
     Fault {
         words: &["sim", "b"],
         host_fails: &[],
-        out_fails: &[],
         err_fails: &[2],
         status: Status::ReadFault,
-        out: "",
         err: "goal: read",
+    },
+    Fault {
+        words: &["sim", "bad"],
+        host_fails: &[],
+        err_fails: &[1],
+        status: Status::Refused,
+        err: "",
     },
     Fault {
         words: &["show"],
         host_fails: &[],
-        out_fails: &[],
         err_fails: &[1],
         status: Status::BadLine,
-        out: "",
         err: "",
     },
 ];
@@ -81,11 +63,12 @@ const FAULTS: [Fault<'static>; 6] = [
 fn check_fault(rt: &impl Abort, alloc: Global, row: &Fault) -> Result<(), Fail> {
     let mut host = MemHost::new(alloc, 16, row.host_fails)?;
     host.add("a", MESSAGE.as_bytes())?;
-    let mut out = MemSink::new(alloc, 10, row.out_fails)?;
+    host.add("bad", BAD.as_bytes())?;
+    let mut out = MemSink::new(alloc, 10, &[])?;
     let mut err = MemSink::new(alloc, 10, row.err_fails)?;
     let words = strings(alloc, row.words)?;
     let status = goal(alloc, &words, &mut host, &mut out, &mut err);
-    assert_eq!(rt; out.bytes(), row.out.as_bytes());
+    assert!(rt; out.bytes().is_empty());
     assert_eq!(rt; err.bytes(), row.err.as_bytes());
     assert_eq!(rt; status, row.status);
     Ok(())
@@ -95,6 +78,85 @@ fn check_fault(rt: &impl Abort, alloc: Global, row: &Fault) -> Result<(), Fail> 
 fn faults(rt: HostRuntime) -> Result<(), Fail> {
     for row in &FAULTS {
         check_fault(&rt, rt.alloc(), row)?;
+    }
+    Ok(())
+}
+
+// A host that moves at most so many bytes a call, its calls from a number to another, and what comes of `compile a b` where one
+// of them fails: the status, and how many bytes `b` then has. Of each host these are the calls that open and read `a`, that
+// create `b`, that write it and finish it, and one that is never made.
+const CALLS: [(usize, u64, u64, Status, Option<usize>); 17] = [
+    (4096, 1, 3, Status::ReadFault, None),
+    (4096, 4, 4, Status::WriteFault, None),
+    (4096, 5, 5, Status::WriteFault, Some(0)),
+    (4096, 6, 6, Status::WriteFault, Some(27)),
+    (4096, 7, 7, Status::Done, Some(27)),
+    (30, 1, 6, Status::ReadFault, None),
+    (30, 7, 7, Status::WriteFault, None),
+    (30, 8, 8, Status::WriteFault, Some(0)),
+    (30, 9, 9, Status::WriteFault, Some(27)),
+    (30, 10, 10, Status::Done, Some(27)),
+    (10, 1, 13, Status::ReadFault, None),
+    (10, 14, 14, Status::WriteFault, None),
+    (10, 15, 15, Status::WriteFault, Some(0)),
+    (10, 16, 16, Status::WriteFault, Some(10)),
+    (10, 17, 17, Status::WriteFault, Some(20)),
+    (10, 18, 18, Status::WriteFault, Some(27)),
+    (10, 19, 19, Status::Done, Some(27)),
+];
+
+// Compiles `a` to `b` over a host whose call of this number fails. The file that is left is the front of the whole one.
+fn check_call(
+    rt: &impl Abort,
+    alloc: Global,
+    most: usize,
+    call: u64,
+    status: Status,
+    made: Option<usize>,
+) -> Result<(), Fail> {
+    let mut host = MemHost::new(alloc, most, &[call])?;
+    host.add("a", MESSAGE.as_bytes())?;
+    let mut out = MemSink::new(alloc, 10, &[])?;
+    let mut err = MemSink::new(alloc, 10, &[])?;
+    let words = strings(alloc, &["compile", "a", "b"])?;
+    assert_eq!(rt; goal(alloc, &words, &mut host, &mut out, &mut err), status);
+    assert!(rt; out.bytes().is_empty());
+    assert_eq!(rt; host.file("b"), made.and_then(|length| FILE.get(..length)));
+    Ok(())
+}
+
+#[test]
+fn each_call_of_the_host(rt: HostRuntime) -> Result<(), Fail> {
+    for (most, first, last, status, made) in &CALLS {
+        for call in *first..=*last {
+            check_call(&rt, rt.alloc(), *most, call, *status, *made)?;
+        }
+    }
+    Ok(())
+}
+
+// The run has 121 bytes, which a sink that takes 10 a call takes by 13 calls.
+#[test]
+fn each_write_of_the_run(rt: HostRuntime) -> Result<(), Fail> {
+    let alloc = rt.alloc();
+    let words = strings(alloc, &["sim", "a"])?;
+    for done in 0..14 {
+        let mut host = MemHost::new(alloc, 4096, &[])?;
+        host.add("a", MESSAGE.as_bytes())?;
+        let mut out = MemSink::new(alloc, 10, &[done as u64 + 1])?;
+        let mut err = MemSink::new(alloc, 100, &[])?;
+        let status = goal(alloc, &words, &mut host, &mut out, &mut err);
+        let (wanted, line) = if done < 13 {
+            (Status::WriteFault, "goal: writing failed\n")
+        } else {
+            (Status::Done, "")
+        };
+        assert_eq!(&rt; status, wanted);
+        assert_eq!(&rt;
+            Some(out.bytes()),
+            MESSAGE_RUN.as_bytes().get(..(10 * done).min(121))
+        );
+        assert_eq!(&rt; err.bytes(), line.as_bytes());
     }
     Ok(())
 }

@@ -8,7 +8,7 @@ use std::process::Abort;
 use std::test::Fail;
 
 // The compiled file of the message.
-const FILE: [u8; 27] = [
+pub const FILE: [u8; 27] = [
     0x89, 0x47, 0x4F, 0x41, 0x4C, 0x0D, 0x0A, 0x1A, 2, 0, 0, 0, 2, //
     1, 0, 0, 1, 1, 0, 10, //
     1, 0, 0, 2, 0, 0, 10,
