@@ -27,7 +27,7 @@ abbrev pub machine_in : Option Command → Option (List ℕ)
 machine_in None = None
 machine_in (Some c) = machine_of c
 
--- the same of the bytes of the file of that name, and of no bytes where there is no name
+-- P holds of the bytes of the file of that name, where the host tells its files and it is there, and of no bytes where there is no name
 abbrev pub ForNamed : HostState → Option (List ℕ) → (List ℕ → Type 0) → Type 0
 ForNamed host None P = P []
 ForNamed host (Some name) P = ForFile host name P

@@ -29,13 +29,17 @@ const WRITE_FAULT: &[u8] = b"goal: writing failed\n";
 const OUT_OF_MEMORY: &[u8] = b"goal: out of memory\n";
 
 /// Carries out a command line, given by the words after the program's name. Some read a schedule from the file NAME of
-/// `host`, a text or a compiled file: `sim NAME`, with options for the parameters, runs it and writes the printed run to
-/// `out`, with the reason for each stuck operation; `nodes NAME MACHINE` does the same with the costs of the machine that the file
-/// MACHINE says; `waits NAME`, with the same options, runs it and writes the report on
-/// waits to `out`; `compile NAME OUT` writes its compiled file to the file OUT; `show NAME` writes its canonical text to
-/// `out`; `certify KIND NAME` writes to `out` whether it is certified for a collective, or its first fault.
-/// `gen KIND RANKS BYTES` has no input: it makes the schedule of a collective and writes its canonical text to `out`.
-/// What went wrong is said in a line to `err`.
+/// `host`, a text or a compiled file:
+///
+/// - `sim NAME`, with options for the parameters, runs it and writes the printed run to `out`, with the reason for each
+///   stuck operation; `nodes NAME MACHINE` does the same with the costs of the machine that the file MACHINE says.
+/// - `waits NAME` and `knots NAME`, with the same options, run it and write the report on waits, or the knots of its stuck
+///   operations, to `out`.
+/// - `compile NAME OUT` writes its compiled file to the file OUT, and `show NAME` its canonical text to `out`.
+/// - `certify KIND NAME` writes to `out` that it is certified for a collective, or its first fault.
+///
+/// Two have no input: `gen KIND RANKS BYTES` makes the schedule of a collective and writes its canonical text to `out`,
+/// `probe ROUNDS SEED` runs one that is drawn and writes a summary. What went wrong is said in a line to `err`.
 ///
 /// Any status may give way to `NoMemory`. A failure of `err` changes no status. `laws_of_answers` lists what follows from
 /// `answered`, answer by answer.
