@@ -1,4 +1,6 @@
 // Devices that fail.
+ghost use Rattle.std.specs.Prelude.{◌<◌};
+
 use super::files::FILE;
 use super::{MESSAGE, MESSAGE_RUN, strings};
 use crate::answer::Status;
@@ -82,30 +84,42 @@ fn faults(rt: HostRuntime) -> Result<(), Fail> {
     Ok(())
 }
 
-// A host that moves at most so many bytes a call, its calls from a number to another, and what comes of `compile a b` where one
-// of them fails: the status, and how many bytes `b` then has. Of each host these are the calls that open and read `a`, that
-// create `b`, that write it and finish it, and one that is never made.
-const CALLS: [(usize, u64, u64, Status, Option<usize>); 17] = [
-    (4096, 1, 3, Status::ReadFault, None),
-    (4096, 4, 4, Status::WriteFault, None),
-    (4096, 5, 5, Status::WriteFault, Some(0)),
-    (4096, 6, 6, Status::WriteFault, Some(27)),
-    (4096, 7, 7, Status::Done, Some(27)),
-    (30, 1, 6, Status::ReadFault, None),
-    (30, 7, 7, Status::WriteFault, None),
-    (30, 8, 8, Status::WriteFault, Some(0)),
-    (30, 9, 9, Status::WriteFault, Some(27)),
-    (30, 10, 10, Status::Done, Some(27)),
-    (10, 1, 13, Status::ReadFault, None),
-    (10, 14, 14, Status::WriteFault, None),
-    (10, 15, 15, Status::WriteFault, Some(0)),
-    (10, 16, 16, Status::WriteFault, Some(10)),
-    (10, 17, 17, Status::WriteFault, Some(20)),
-    (10, 18, 18, Status::WriteFault, Some(27)),
-    (10, 19, 19, Status::Done, Some(27)),
+// Calls of a host from a number to another, and what comes of `compile a b` where one of them fails: the status, and how
+// many bytes `b` then has.
+type Calls = (u64, u64, Status, Option<usize>);
+
+// Of a host that moves both files at once: the calls that open and read `a`, that create `b`, that write it and finish it,
+// and one that is never made.
+const AT_ONCE: [Calls; 5] = [
+    (1, 3, Status::ReadFault, None),
+    (4, 4, Status::WriteFault, None),
+    (5, 5, Status::WriteFault, Some(0)),
+    (6, 6, Status::WriteFault, Some(27)),
+    (7, 7, Status::Done, Some(27)),
 ];
 
-// Compiles `a` to `b` over a host whose call of this number fails. The file that is left is the front of the whole one.
+// The same of one that moves 30 bytes a call.
+const BY_30: [Calls; 5] = [
+    (1, 6, Status::ReadFault, None),
+    (7, 7, Status::WriteFault, None),
+    (8, 8, Status::WriteFault, Some(0)),
+    (9, 9, Status::WriteFault, Some(27)),
+    (10, 10, Status::Done, Some(27)),
+];
+
+// The same of one that moves 10.
+const BY_10: [Calls; 7] = [
+    (1, 13, Status::ReadFault, None),
+    (14, 14, Status::WriteFault, None),
+    (15, 15, Status::WriteFault, Some(0)),
+    (16, 16, Status::WriteFault, Some(10)),
+    (17, 17, Status::WriteFault, Some(20)),
+    (18, 18, Status::WriteFault, Some(27)),
+    (19, 19, Status::Done, Some(27)),
+];
+
+// Compiles `a` to `b` over a host that moves so many bytes a call, and whose call of this number fails. The file that is
+// left is the front of the whole one.
 fn check_call(
     rt: &impl Abort,
     alloc: Global,
@@ -113,7 +127,9 @@ fn check_call(
     call: u64,
     status: Status,
     made: Option<usize>,
-) -> Result<(), Fail> {
+) -> Result<(), Fail>
+    requires { 0 < most }
+{
     let mut host = MemHost::new(alloc, most, &[call])?;
     host.add("a", MESSAGE.as_bytes())?;
     let mut out = MemSink::new(alloc, 10, &[])?;
@@ -125,14 +141,22 @@ fn check_call(
     Ok(())
 }
 
-#[test]
-fn each_call_of_the_host(rt: HostRuntime) -> Result<(), Fail> {
-    for (most, first, last, status, made) in &CALLS {
+fn check_calls(rt: &impl Abort, alloc: Global, most: usize, calls: &[Calls]) -> Result<(), Fail>
+    requires { 0 < most }
+{
+    for (first, last, status, made) in calls {
         for call in *first..=*last {
-            check_call(&rt, rt.alloc(), *most, call, *status, *made)?;
+            check_call(rt, alloc, most, call, *status, *made)?;
         }
     }
     Ok(())
+}
+
+#[test]
+fn each_call_of_the_host(rt: HostRuntime) -> Result<(), Fail> {
+    check_calls(&rt, rt.alloc(), 4096, &AT_ONCE)?;
+    check_calls(&rt, rt.alloc(), 30, &BY_30)?;
+    check_calls(&rt, rt.alloc(), 10, &BY_10)
 }
 
 // The run has 121 bytes, which a sink that takes 10 a call takes by 13 calls.
