@@ -8,20 +8,13 @@ use crate::mode::Form;
 use crate::numbers::number_value;
 use crate::tokens::TokenKind;
 
-/// Whether the bytes are those of the word.
-fn spells(bytes: &[u8], word: &str) -> bool
-    ensures { result ≡ bytes_eq bytes.now word.now }
-{
-    bytes == word.as_bytes()
-}
-
 /// Whether the two bytes are those of the word.
 #[inline(always)]
 fn are_two(bytes: &[u8], word: [u8; 2]) -> bool
     requires { length bytes.now ≡ 2 }
     ensures { result ≡ bytes_eq bytes.now word }
 {
-    [bytes[0], bytes[1]] == word
+    bytes[0] == word[0] && bytes[1] == word[1]
 }
 
 /// Whether the three bytes are those of the word.
@@ -30,7 +23,7 @@ fn are_three(bytes: &[u8], word: [u8; 3]) -> bool
     requires { length bytes.now ≡ 3 }
     ensures { result ≡ bytes_eq bytes.now word }
 {
-    [bytes[0], bytes[1], bytes[2]] == word
+    bytes[0] == word[0] && bytes[1] == word[1] && bytes[2] == word[2]
 }
 
 /// Whether the four bytes are those of the word.
@@ -39,7 +32,36 @@ fn are_four(bytes: &[u8], word: [u8; 4]) -> bool
     requires { length bytes.now ≡ 4 }
     ensures { result ≡ bytes_eq bytes.now word }
 {
-    [bytes[0], bytes[1], bytes[2], bytes[3]] == word
+    bytes[0] == word[0] && bytes[1] == word[1] && bytes[2] == word[2] && bytes[3] == word[3]
+}
+
+/// Whether the five bytes are those of the word.
+#[inline(always)]
+fn are_five(bytes: &[u8], word: [u8; 5]) -> bool
+    requires { length bytes.now ≡ 5 }
+    ensures { result ≡ bytes_eq bytes.now word }
+{
+    are_two(&bytes[..2], [word[0], word[1]]) && are_three(&bytes[2..], [word[2], word[3], word[4]])
+}
+
+/// Whether the eight bytes are those of the word.
+#[inline(always)]
+fn are_eight(bytes: &[u8], word: [u8; 8]) -> bool
+    requires { length bytes.now ≡ 8 }
+    ensures { result ≡ bytes_eq bytes.now word }
+{
+    are_four(&bytes[..4], [word[0], word[1], word[2], word[3]])
+        && are_four(&bytes[4..], [word[4], word[5], word[6], word[7]])
+}
+
+/// Whether the nine bytes are those of the word.
+#[inline(always)]
+fn are_nine(bytes: &[u8], word: [u8; 9]) -> bool
+    requires { length bytes.now ≡ 9 }
+    ensures { result ≡ bytes_eq bytes.now word }
+{
+    are_four(&bytes[..4], [word[0], word[1], word[2], word[3]])
+        && are_five(&bytes[4..], [word[4], word[5], word[6], word[7], word[8]])
 }
 
 /// Writes the token of a word of two bytes.
@@ -98,12 +120,12 @@ fn kind_of_four(word: &[u8], kind: &mut TokenKind)
 }
 
 /// Writes the token of a word of five bytes.
+#[inline(always)]
 fn kind_of_five(word: &[u8], kind: &mut TokenKind)
-    requires some { 0 < length word.now }
-    requires most { length word.now ≤ 64 }
+    requires { length word.now ≡ 5 }
     ensures { kind.new ≡ kind_among (words_of_length 5 reserved_words) word.now }
 {
-    if spells(word, "moves") {
+    if are_five(word, *b"moves") {
         *kind = TokenKind::Moves;
     } else {
         *kind = TokenKind::Label(Label::of(word));
@@ -111,12 +133,12 @@ fn kind_of_five(word: &[u8], kind: &mut TokenKind)
 }
 
 /// Writes the token of a word of eight bytes.
+#[inline(always)]
 fn kind_of_eight(word: &[u8], kind: &mut TokenKind)
-    requires some { 0 < length word.now }
-    requires most { length word.now ≤ 64 }
+    requires { length word.now ≡ 8 }
     ensures { kind.new ≡ kind_among (words_of_length 8 reserved_words) word.now }
 {
-    if spells(word, "requires") {
+    if are_eight(word, *b"requires") {
         *kind = TokenKind::Requires;
     } else {
         *kind = TokenKind::Label(Label::of(word));
@@ -124,14 +146,14 @@ fn kind_of_eight(word: &[u8], kind: &mut TokenKind)
 }
 
 /// Writes the token of a word of nine bytes.
+#[inline(always)]
 fn kind_of_nine(word: &[u8], kind: &mut TokenKind)
-    requires some { 0 < length word.now }
-    requires most { length word.now ≤ 64 }
+    requires { length word.now ≡ 9 }
     ensures { kind.new ≡ kind_among (words_of_length 9 reserved_words) word.now }
 {
-    if spells(word, "num_ranks") {
+    if are_nine(word, *b"num_ranks") {
         *kind = TokenKind::NumRanks;
-    } else if spells(word, "irequires") {
+    } else if are_nine(word, *b"irequires") {
         *kind = TokenKind::Irequires;
     } else {
         *kind = TokenKind::Label(Label::of(word));
