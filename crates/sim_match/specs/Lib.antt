@@ -1,6 +1,7 @@
 pub mod PostsAndArrivals
 pub mod Waiting
 pub mod Patterns
+pub mod ListNumbers
 pub mod MatchLists
 pub mod Capacities
 pub mod Packed

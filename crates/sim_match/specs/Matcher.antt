@@ -17,6 +17,7 @@ use Rattle.sim_match.specs.declared.match_list.MatchEntry.{MatchEntry}
 use Rattle.sim_match.specs.PostsAndArrivals.{is_post_or_arrival}
 use Rattle.sim_match.specs.Waiting.{is_message}
 use Rattle.sim_match.specs.Patterns.{same_number, list_of, in_list, for_list, AreListed}
+use Rattle.sim_match.specs.ListNumbers.{AreNumbered}
 use Rattle.sim_match.specs.MatchLists.{MatchList, is_marked, entries_of}
 
 -- what is kept of a post, of an arrival
@@ -98,4 +99,5 @@ module _ (plans : List Plan) (keys : List Pattern) where
 -- what a match table keeps
 pub record IsKept (plans : List Plan) (table : MatchTable) : Type 0 where
   pub as_many : length table.receives ≡ length table.sends
-  pub mirrors : Mirrors plans table.patterns (side_by_side table.receives table.sends) table.marks.items (actions_of table.events.items) (vec_capacity table.events)
+  pub numbered : AreNumbered plans table.numbers
+  pub mirrors : Mirrors plans table.numbers.patterns (side_by_side table.receives table.sends) table.marks.items (actions_of table.events.items) (vec_capacity table.events)

@@ -40,6 +40,13 @@ pattern_of x (Some (Send bytes to tag)) = None
 pattern_of x (Some (Recv room from tag)) = Some (record { rank = x.rank; from = from; tag = tag })
 pattern_of x None = None
 
+-- an operation's own pattern: what a receive asks for, or what names the source and the tag of a send
+abbrev pub own_pattern : OpId → Option Kind → Option Pattern
+own_pattern x (Some (Calc nanos)) = None
+own_pattern x (Some (Send bytes to tag)) = Some (record { rank = to; from = Some x.rank; tag = Some tag })
+own_pattern x (Some (Recv room from tag)) = Some (record { rank = x.rank; from = from; tag = tag })
+own_pattern x None = None
+
 -- the patterns of the receives that a message fits
 abbrev pub patterns_for : ℕ → ℕ → ℕ → List Pattern
 patterns_for source to tag =
@@ -73,6 +80,10 @@ module _ (plans : List Plan) (keys : List Pattern) where
   -- the list of a receive, by its pattern
   abbrev pub list_of : OpId → Option ℕ
   list_of x = list_number keys (pattern_of x (kind_at plans x))
+
+  -- the list of an operation's own pattern
+  abbrev pub own_list : OpId → Option ℕ
+  own_list x = list_number keys (own_pattern x (kind_at plans x))
 
   -- the lists of a send, where the schedule has the patterns that it takes
   abbrev pub lists_for : OpId → List (Option ℕ)

@@ -4,10 +4,10 @@ ghost use Rattle.goal_graph.specs.Schedule.{operations};
 ghost use Rattle.goal_graph.specs.Fault.{IsOp};
 ghost use Rattle.sim_match.specs.declared.capacities.Capacity.{Capacity};
 ghost use Rattle.sim_match.specs.Waiting.{is_message, is_message_kind};
-ghost use Rattle.sim_match.specs.Patterns.{AreListed};
+ghost use Rattle.sim_match.specs.ListNumbers.{AreNumbered};
 ghost use Rattle.sim_match.specs.Capacities.{room_of, AreCapacities, AreCounted, AreOnce, AreWithin};
 
-use crate::pattern::{Patterns, list_of_receive, lists_for};
+use crate::list_numbers::ListNumbers;
 use goal_graph::{Kind, OpId, Sched};
 use std::alloc::{AllocError, Global};
 
@@ -59,25 +59,25 @@ fn count_send(capacities: &mut [Capacity], numbers: [Option<usize>; 4])
 pub fn capacities(
     alloc: Global,
     sched: &Sched,
-    patterns: &Patterns,
+    numbers: &ListNumbers,
 ) -> Result<Vec<Capacity>, AllocError>
-    requires { AreListed sched.now patterns.now }
-    ensures { IfOk result (λ capacities. AreCapacities sched.now patterns.now (operations sched.now) capacities.items) }
+    requires { AreNumbered sched.now numbers.now }
+    ensures { IfOk result (λ capacities. AreCapacities sched.now numbers.now.patterns (operations sched.now) capacities.items) }
 {
     let none = Capacity {
         receives: 0,
         sends: 0,
     };
-    let mut capacities = vec![in alloc; none; patterns.len()]?;
+    let mut capacities = vec![in alloc; none; numbers.patterns.len()]?;
     for id in sched.operations() {
         match sched.op(*id).kind {
             Kind::Recv { .. } => {
-                let list = list_of_receive(patterns, sched, *id);
+                let list = numbers.list_of_receive(sched, *id);
                 let capacity = &mut capacities[list];
                 capacity.receives += 1;
             }
-            Kind::Send { to, tag, .. } => {
-                count_send(&mut capacities, lists_for(patterns, id.rank, to, tag));
+            Kind::Send { .. } => {
+                count_send(&mut capacities, numbers.lists_of_send(sched, *id));
             }
             Kind::Calc { .. } => {}
         }

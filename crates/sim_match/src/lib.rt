@@ -3,6 +3,7 @@
 
 mod capacities;
 mod laws;
+mod list_numbers;
 mod match_list;
 mod match_lists;
 mod match_table;

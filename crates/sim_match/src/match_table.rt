@@ -11,11 +11,11 @@ ghost use Rattle.sim_match.specs.Patterns.{lists_for};
 ghost use Rattle.sim_match.specs.Matcher.{actions_of, side_by_side, ArePaired, IsJoined, IsKept};
 
 use crate::capacities::{Side, capacities, message_count};
+use crate::list_numbers::ListNumbers;
 use crate::match_list::{MatchEntry, earlier, mark};
 use crate::match_lists::MatchLists;
-use crate::pattern::{Patterns, list_of_receive, lists_for};
 use goal_base::NoMemory;
-use goal_graph::{Kind, OpId, Sched};
+use goal_graph::{OpId, Sched};
 use std::alloc::Global;
 
 /// A receive is posted, or a message or the request of a large one arrives.
@@ -29,22 +29,11 @@ pub enum Event {
 /// pattern, and the sends that they fit. An operation is marked once it is paired.
 #[derive(Drop)]
 pub struct MatchTable {
-    pub patterns: Patterns,
+    pub numbers: ListNumbers,
     pub receives: MatchLists,
     pub sends: MatchLists,
     pub marks: Vec<bool>,
     pub events: Vec<Event>,
-}
-
-// The numbers of the lists of a send.
-fn lists_of_send(patterns: &Patterns, sched: &Sched, send: OpId) -> [Option<usize>; 4]
-    requires { IsSend sched.now send }
-    ensures { result ≡ lists_for sched.now patterns.now send }
-{
-    match sched.op(send).kind {
-        Kind::Send { to, tag, .. } => lists_for(patterns, send.rank, to, tag),
-        Kind::Calc { .. } | Kind::Recv { .. } => unreachable!(),
-    }
 }
 
 // Marks an operation and the one that it has met. Answers the latter.
@@ -73,14 +62,14 @@ impl MatchTable {
         ensures events { IfOk result (λ table. table.events.items ≡ []) }
     {
         sched.known();
-        let patterns = Patterns::of(alloc, sched)?;
-        let capacities = capacities(alloc, sched, &patterns)?;
+        let numbers = ListNumbers::of(alloc, sched)?;
+        let capacities = capacities(alloc, sched, &numbers)?;
         let receives = MatchLists::new(alloc, &capacities, Side::Receives)?;
         let sends = MatchLists::new(alloc, &capacities, Side::Sends)?;
         let marks = vec![in alloc; false; sched.count() as usize]?;
         let events = Vec::with_capacity(alloc, message_count(sched))?;
         Ok(MatchTable {
-            patterns,
+            numbers,
             receives,
             sends,
             marks,
@@ -102,7 +91,7 @@ impl MatchTable {
             at: self.events.len(),
         };
         self.events.push_reserved(Event::Post(recv));
-        let list = list_of_receive(&self.patterns, sched, recv);
+        let list = self.numbers.list_of_receive(sched, recv);
         self.receives.push(list, entry);
         let met = self.sends.first(list, sched, &self.marks);
         pair(sched, &mut self.marks, recv, met)
@@ -113,8 +102,8 @@ impl MatchTable {
         requires kept { IsKept sched.now self.old }
         requires send { IsSend sched.now send }
         requires fresh { happened Arrive send (actions_of self.old.events.items) ≡ false }
-        ensures joined { IsJoined sched.now self.old.patterns (actions_of self.old.events.items) send (lists_for sched.now self.old.patterns send) (side_by_side self.new.receives self.new.sends) result }
-        ensures patterns { self.new.patterns ≡ self.old.patterns }
+        ensures joined { IsJoined sched.now self.old.numbers.patterns (actions_of self.old.events.items) send (lists_for sched.now self.old.numbers.patterns send) (side_by_side self.new.receives self.new.sends) result }
+        ensures numbers { self.new.numbers ≡ self.old.numbers }
         ensures as_many { length self.new.receives ≡ length self.new.sends }
         ensures marks { self.new.marks ≡ self.old.marks }
         ensures events { self.new.events ≡ self.old.events }
@@ -124,7 +113,7 @@ impl MatchTable {
             at: self.events.len(),
         };
         let mut met = None;
-        for number in lists_of_send(&self.patterns, sched, send) {
+        for number in self.numbers.lists_of_send(sched, send) {
             match number {
                 Some(list) => {
                     self.sends.push(list, entry);

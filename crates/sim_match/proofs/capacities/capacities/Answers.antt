@@ -1,7 +1,8 @@
 use Rattle.std.proofs.Common.{◌<◌, ◌^◌, Some, length, get_or, arith, ap, ◌∙◌}
 use Rattle.goal_graph.specs.declared.plan.Kind.{Kind}
-use Rattle.sim_match.proofs.PatternLemmas.{four_once, four_within}
-use Rattle.sim_match.proofs.CapacityLemmas.{receives_fit, receive_more, sends_fit, send_more, calc_more}
+use Rattle.goal_graph.specs.Laws.{IsSend}
+use Rattle.sim_match.proofs.PatternLemmas.{lists_once, lists_within}
+use Rattle.sim_match.proofs.CapacityLemmas.{receives_fit, receive_more, its_lists, sends_fit, send_more, calc_more}
 use Rattle.sim_match.proofs.capacities.capacities.Goals as goal
 use Rattle.sim_match.proofs.capacities.capacities.Goals.{in-Recv, in-Send, in-Calc}
 use Rattle.goal_graph.proofs.ForCallers.{whole_back, at_kind}
@@ -21,12 +22,29 @@ overflow_add-capacity c =
     let fits = receives_fit _ _ c.operations-id-items.result.now c.loop-id.id-index (record { rank = 0; op = 0 }) (omega arith) _ c.loop-id.invariant _ c.op.ensures.op _ _ _ c.in-Recv.is _ c.list_of_receive-list.ensures.list c.list_of_receive-list.ensures.within _ c.index_mut-capacity.ensures.value short in
     omega (arith, fits)
 
+-- the send of this turn
+this_send : (c : goal.After-lists_of_send) → IsSend c.args.sched.now (get_or c.operations-id-items.result.now c.loop-id.id-index (record { rank = 0; op = 0 }))
+this_send c = record {
+  bytes = c.in-Send.bytes;
+  to = c.in-Send.to;
+  tag = c.in-Send.tag;
+  kind = at_kind _ _ _ c.op.ensures.op ∙ ap (λ (k : Kind). Some k) c.in-Send.is;
+}
+
+pub lists_of_send-requires-clause-send : goal.lists_of_send-requires-clause-send
+lists_of_send-requires-clause-send c = record {
+  bytes = c.in-Send.bytes;
+  to = c.in-Send.to;
+  tag = c.in-Send.tag;
+  kind = at_kind _ _ _ c.op.ensures.op ∙ ap (λ (k : Kind). Some k) c.in-Send.is;
+}
+
 pub count_send-requires-clause-once : goal.count_send-requires-clause-once
-count_send-requires-clause-once c = rw c.lists_for.ensures (four_once c.args.patterns.now (get_or c.operations-id-items.result.now c.loop-id.id-index (record { rank = 0; op = 0 })).rank c.in-Send.to c.in-Send.tag)
+count_send-requires-clause-once c = rw c.lists_of_send.ensures (lists_once _ _ _ (this_send c))
 
 pub count_send-requires-clause-within : goal.count_send-requires-clause-within
 count_send-requires-clause-within c = λ k i e.
-    let low = four_within c.args.patterns.now (get_or c.operations-id-items.result.now c.loop-id.id-index (record { rank = 0; op = 0 })).rank c.in-Send.to c.in-Send.tag k i (rw c.lists_for.ensures at e) in
+    let low = lists_within _ _ _ (this_send c) k i (rw c.lists_of_send.ensures at e) in
     omega (arith, low, c.deref_mut.ensures.len, c.loop-id.invariant.one_each, c.loop-id.capacities.ok.0)
 
 pub count_send-requires-clause-small : goal.count_send-requires-clause-small
@@ -38,7 +56,8 @@ pub loop-id-preserved : goal.loop-id-preserved
 loop-id-preserved c = elim c.match-op.branch [
   | in-Recv w ↦ rw w.capacities-is (receive_more _ _ c.operations-id-items.result.now c.loop-id.id-index (record { rank = 0; op = 0 }) (omega arith) _ c.loop-id.invariant _ c.op.ensures.op _ _ _ w.in-Recv.is _ w.list_of_receive-list.ensures.list w.list_of_receive-list.ensures.within _ w.index_mut-capacity.ensures.value)
   | in-Send w ↦
-      let counted = rw (w.lists_for.ensures, w.deref_mut.ensures.value) at w.count_send.ensures in
+      let its = w.lists_of_send.ensures ∙ its_lists _ _ c.operations-id-items.result.now c.loop-id.id-index (record { rank = 0; op = 0 }) (omega arith) _ c.loop-id.invariant _ c.op.ensures.op _ _ _ w.in-Send.is in
+      let counted = rw (its, w.deref_mut.ensures.value) at w.count_send.ensures in
       let back = whole_back c.loop-id.capacities.len w.count_send.new.capacities c.loop-id.capacities.items counted.one_each (omega (arith, c.loop-id.capacities.ok.0)) in
       rw (w.capacities-is, back) (send_more _ _ c.operations-id-items.result.now c.loop-id.id-index (record { rank = 0; op = 0 }) (omega arith) _ c.loop-id.invariant _ c.op.ensures.op _ _ _ w.in-Send.is w.count_send.new.capacities counted)
   | in-Calc w ↦ rw w.capacities-is (calc_more _ _ c.operations-id-items.result.now c.loop-id.id-index (record { rank = 0; op = 0 }) (omega arith) _ c.loop-id.invariant _ c.op.ensures.op _ w.in-Calc.is)

@@ -3,4 +3,4 @@ use Rattle.sim_match.specs.Capacities.{AreCapacities}
 use Rattle.sim_match.proofs.capacities.capacities.Given as goal
 
 abbrev pub invariant-loop-id : goal.invariant-loop-id
-invariant-loop-id l = AreCapacities l.sched l.patterns (take l.id-index l.id-items) l.capacities.items
+invariant-loop-id l = AreCapacities l.sched l.numbers.patterns (take l.id-index l.id-items) l.capacities.items

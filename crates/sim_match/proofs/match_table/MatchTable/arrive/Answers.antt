@@ -24,7 +24,8 @@ returns-clause-kept c =
     let kept = arrival_keeps _ _ _ _ _ _ c.requires.kept.mirrors c.args.send c.requires.send c.requires.fresh _ _ c.join-met.ensures.joined c.pair.new.marks changes long in
     record {
       as_many = c.join-met.ensures.as_many;
-      mirrors = rw (back, c.push_reserved.ensures.items, c.push_reserved.ensures.capacity, c.join-met.ensures.patterns, c.join-met.ensures.events, actions_of-push) kept;
+      numbered = rw c.join-met.ensures.numbers c.requires.kept.numbered;
+      mirrors = rw (back, c.push_reserved.ensures.items, c.push_reserved.ensures.capacity, c.join-met.ensures.numbers, c.join-met.ensures.events, actions_of-push) kept;
     }
 
 pub returns-clause-taken : goal.returns-clause-taken

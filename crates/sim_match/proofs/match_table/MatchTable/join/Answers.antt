@@ -12,21 +12,21 @@ pub loop-number-init : goal.loop-number-init
 loop-number-init c = record {
   joined = joined_none _ _ _ _ _ _ c.requires.kept.mirrors c.args.send c.requires.send c.requires.fresh;
   as_many = c.requires.kept.as_many;
-  patterns = refl;
+  numbers = refl;
   marks = refl;
   events = refl;
 }
 
 pub push-requires-clause-within : goal.push-requires-clause-within
 push-requires-clause-within c =
-    let inside : c.loop-number.number-index < length (lists_for c.args.sched.now c.args.self.now.patterns c.args.send) = omega (arith, c.loop-number-test.true, ap length c.lists_of_send-number-items.ensures) in
+    let inside : c.loop-number.number-index < length (lists_for c.args.sched.now c.args.self.now.numbers.patterns c.args.send) = omega (arith, c.loop-number-test.true, ap length c.lists_of_send-number-items.ensures) in
     let within = join_within _ _ _ _ _ _ c.requires.kept.mirrors c.args.send c.requires.send c.requires.fresh c.loop-number.number-index _ inside _ _ c.loop-number.invariant.joined c.in-Some.list (rw c.lists_of_send-number-items.ensures at c.in-Some.is) in
     let long = sides_length c.loop-number.self.receives c.loop-number.self.sends c.loop-number.invariant.as_many in
     omega (arith, within, long, c.loop-number.invariant.as_many)
 
 pub push-requires-clause-room : goal.push-requires-clause-room
 push-requires-clause-room c = λ w e.
-    let inside : c.loop-number.number-index < length (lists_for c.args.sched.now c.args.self.now.patterns c.args.send) = omega (arith, c.loop-number-test.true, ap length c.lists_of_send-number-items.ensures) in
+    let inside : c.loop-number.number-index < length (lists_for c.args.sched.now c.args.self.now.numbers.patterns c.args.send) = omega (arith, c.loop-number-test.true, ap length c.lists_of_send-number-items.ensures) in
     let within = join_within _ _ _ _ _ _ c.requires.kept.mirrors c.args.send c.requires.send c.requires.fresh c.loop-number.number-index _ inside _ _ c.loop-number.invariant.joined c.in-Some.list (rw c.lists_of_send-number-items.ensures at c.in-Some.is) in
     let long = sides_length c.loop-number.self.receives c.loop-number.self.sends c.loop-number.invariant.as_many in
     let r = there_is c.loop-number.self.receives c.in-Some.list (omega (arith, within, long)) in
@@ -35,14 +35,14 @@ push-requires-clause-room c = λ w e.
 
 pub first-first-requires-clause-within : goal.first-first-requires-clause-within
 first-first-requires-clause-within c =
-    let inside : c.loop-number.number-index < length (lists_for c.args.sched.now c.args.self.now.patterns c.args.send) = omega (arith, c.loop-number-test.true, ap length c.lists_of_send-number-items.ensures) in
+    let inside : c.loop-number.number-index < length (lists_for c.args.sched.now c.args.self.now.numbers.patterns c.args.send) = omega (arith, c.loop-number-test.true, ap length c.lists_of_send-number-items.ensures) in
     let within = join_within _ _ _ _ _ _ c.requires.kept.mirrors c.args.send c.requires.send c.requires.fresh c.loop-number.number-index _ inside _ _ c.loop-number.invariant.joined c.in-Some.list (rw c.lists_of_send-number-items.ensures at c.in-Some.is) in
     let long = sides_length c.loop-number.self.receives c.loop-number.self.sends c.loop-number.invariant.as_many in
     omega (arith, within, long)
 
 pub first-first-requires-clause-ready : goal.first-first-requires-clause-ready
 first-first-requires-clause-ready c = λ w e.
-    let inside : c.loop-number.number-index < length (lists_for c.args.sched.now c.args.self.now.patterns c.args.send) = omega (arith, c.loop-number-test.true, ap length c.lists_of_send-number-items.ensures) in
+    let inside : c.loop-number.number-index < length (lists_for c.args.sched.now c.args.self.now.numbers.patterns c.args.send) = omega (arith, c.loop-number-test.true, ap length c.lists_of_send-number-items.ensures) in
     let within = join_within _ _ _ _ _ _ c.requires.kept.mirrors c.args.send c.requires.send c.requires.fresh c.loop-number.number-index _ inside _ _ c.loop-number.invariant.joined c.in-Some.list (rw c.lists_of_send-number-items.ensures at c.in-Some.is) in
     let long = sides_length c.loop-number.self.receives c.loop-number.self.sends c.loop-number.invariant.as_many in
     let r = there_is c.loop-number.self.receives c.in-Some.list (omega (arith, within, long)) in
@@ -51,7 +51,7 @@ first-first-requires-clause-ready c = λ w e.
 
 pub loop-number-preserved : goal.loop-number-preserved
 loop-number-preserved c =
-    let inside : c.loop-number.number-index < length (lists_for c.args.sched.now c.args.self.now.patterns c.args.send) = omega (arith, c.loop-number-test.true, ap length c.lists_of_send-number-items.ensures) in
+    let inside : c.loop-number.number-index < length (lists_for c.args.sched.now c.args.self.now.numbers.patterns c.args.send) = omega (arith, c.loop-number-test.true, ap length c.lists_of_send-number-items.ensures) in
     elim c.match-number.branch [
       | in-Some w ↦
           let within = join_within _ _ _ _ _ _ c.requires.kept.mirrors c.args.send c.requires.send c.requires.fresh c.loop-number.number-index _ inside _ _ c.loop-number.invariant.joined w.in-Some.list (rw c.lists_of_send-number-items.ensures at w.in-Some.is) in
@@ -69,14 +69,14 @@ loop-number-preserved c =
           record {
             joined = rw (w.self-is, w.met-is, w.earlier-met.ensures, sides) joined;
             as_many = rw w.self-is (omega (arith, more, less, c.loop-number.invariant.as_many));
-            patterns = rw w.self-is c.loop-number.invariant.patterns;
+            numbers = rw w.self-is c.loop-number.invariant.numbers;
             marks = rw w.self-is c.loop-number.invariant.marks;
             events = rw w.self-is c.loop-number.invariant.events;
           }
       | in-None w ↦ record {
         joined = rw (w.self-is, w.met-is) (joined_without _ _ _ _ _ _ c.requires.kept.mirrors c.args.send c.requires.send c.requires.fresh c.loop-number.number-index _ inside _ _ c.loop-number.invariant.joined (rw c.lists_of_send-number-items.ensures at w.in-None.is));
         as_many = rw w.self-is c.loop-number.invariant.as_many;
-        patterns = rw w.self-is c.loop-number.invariant.patterns;
+        numbers = rw w.self-is c.loop-number.invariant.numbers;
         marks = rw w.self-is c.loop-number.invariant.marks;
         events = rw w.self-is c.loop-number.invariant.events;
       }

@@ -9,10 +9,11 @@ use Rattle.sim_match.proofs.match_table.MatchTable.new.Goals as goal
 pub returns-clause-kept : goal.returns-clause-kept
 returns-clause-kept c =
     let unmarked : c.in_ok-marks.marks.items ≡ replicate (length (operations c.args.sched.now)) false = rw c.count.ensures.count at (c.in_ok-marks.ensures.items_if_clones_equal (search rules)) in
-    let kept = begins _ _ _ _ _ c.known.ensures.accepted c.in_ok-patterns.ensures c.in_ok-capacities.ensures unmarked (omega (arith, c.message_count.ensures, c.in_ok-events.ensures.exact)) in
+    let kept = begins _ _ _ _ _ c.known.ensures.accepted c.in_ok-numbers.ensures.listed c.in_ok-capacities.ensures unmarked (omega (arith, c.message_count.ensures, c.in_ok-events.ensures.exact)) in
     let receives = ap length (rw c.deref.ensures.value at c.in_ok-receives.ensures) ∙ length-map c.in_ok-capacities.capacities.items (empty_list Receives) in
     let sends = ap length (rw c.deref-2.ensures.value at c.in_ok-sends.ensures) ∙ length-map c.in_ok-capacities.capacities.items (empty_list Sends) in
     record {
       as_many = receives ∙ sym sends;
+      numbered = c.in_ok-numbers.ensures;
       mirrors = rw (c.in_ok-events.ensures.items, c.in_ok-receives.ensures, c.in_ok-sends.ensures, c.deref.ensures.value, c.deref-2.ensures.value) kept;
     }

@@ -72,6 +72,7 @@ returns-clause-kept c =
     let more = ap length (c.push.ensures r.0 r.1) ∙ length-set c.args.self.now.receives c.list_of_receive-list.result _ in
     let less = ap length first.1 ∙ length-set c.args.self.now.sends c.list_of_receive-list.result _ in
     record {
+      numbered = c.requires.kept.numbered;
       as_many = omega (arith, more, less, c.requires.kept.as_many);
       mirrors = rw (sides, back, c.push_reserved.ensures.items, c.push_reserved.ensures.capacity, actions_of-push) kept;
     }

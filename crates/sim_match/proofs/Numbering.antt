@@ -1,0 +1,40 @@
+-- The list of an operation's own pattern: of a receive its list, of a send the first of its lists.
+use Rattle.std.proofs.Common.{ℕ, ◌<◌, ◌≡◌, ◌-◌, ◌^◌, true, List, [], ◌∷◌, length, Option, Some, None, refl, arith, sym, ap, ◌∙◌}
+use Rattle.std.specs.List.{list_all}
+use Rattle.std.proofs.lemmas.Option.{none-some}
+use Rattle.goal_graph.specs.declared.action.OpId.{OpId}
+use Rattle.goal_graph.specs.declared.plan.Kind.{Kind}
+use Rattle.goal_graph.specs.Schedule.{Plan, kind_at}
+use Rattle.goal_graph.specs.Laws.{IsSend, IsReceive}
+use Rattle.sim_match.specs.declared.pattern.Pattern.{Pattern}
+use Rattle.sim_match.specs.Patterns.{pattern_of, own_pattern, number, list_number, list_of, own_list, lists_for, names_a_source, names_a_tag}
+use Rattle.sim_match.specs.ListNumbers.{IsCodable}
+use Rattle.sim_match.proofs.PatternLemmas.{number_within, send_lists, unnamed}
+
+module _ (plans : List Plan) (keys : List Pattern) (x : OpId) where
+  pub own_codable : length keys < 2 ^ 32 - 1 → IsCodable (own_list plans keys x)
+  own_codable few list = go (own_pattern x (kind_at plans x))
+    where
+      go : (p : Option Pattern) → list_number keys p ≡ Some list → list < 2 ^ 32 - 1
+      go None e = absurd (none-some list e)
+      go (Some p) e = let within = number_within keys p list e in omega (arith, within, few)
+
+  pub own_of_receive : IsReceive plans x → own_list plans keys x ≡ list_of plans keys x
+  own_of_receive r =
+      ap (λ (k : Option Kind). list_number keys (own_pattern x k)) r.kind ∙ sym (ap (λ (k : Option Kind). list_number keys (pattern_of x k)) r.kind)
+
+  module _ (s : IsSend plans x) where
+    own_of_send : own_list plans keys x ≡ number keys (record { rank = s.to; from = Some x.rank; tag = Some s.tag })
+    own_of_send = ap (λ (k : Option Kind). list_number keys (own_pattern x k)) s.kind
+
+    -- all lists of the send
+    pub lists_of_send : lists_for plans keys x ≡ own_list plans keys x ∷ number keys (record { rank = s.to; from = Some x.rank; tag = None }) ∷ number keys (record { rank = s.to; from = None; tag = Some s.tag }) ∷ number keys (record { rank = s.to; from = None; tag = None }) ∷ []
+    lists_of_send = send_lists plans keys x s ∙ ap (λ (o : Option ℕ). o ∷ number keys (record { rank = s.to; from = Some x.rank; tag = None }) ∷ number keys (record { rank = s.to; from = None; tag = Some s.tag }) ∷ number keys (record { rank = s.to; from = None; tag = None }) ∷ []) (sym own_of_send)
+
+    -- where each pattern names a source and a tag
+    pub lists_where_named : list_all names_a_source keys ≡ true → list_all names_a_tag keys ≡ true → lists_for plans keys x ≡ own_list plans keys x ∷ None ∷ None ∷ None ∷ []
+    lists_where_named sources tags =
+        let any_tag = unnamed (λ (p : Pattern). p.tag) keys (record { rank = s.to; from = Some x.rank; tag = None }) tags refl in
+        let any_source = unnamed (λ (p : Pattern). p.from) keys (record { rank = s.to; from = None; tag = Some s.tag }) sources refl in
+        let any = unnamed (λ (p : Pattern). p.from) keys (record { rank = s.to; from = None; tag = None }) sources refl in
+        lists_of_send ∙ (λ i. own_list plans keys x ∷ sym any_tag i ∷ sym any_source i ∷ sym any i ∷ [])

@@ -1,0 +1,109 @@
+// The number of each operation's list, found once.
+ghost use Rattle.std.specs.Prelude.{ℕ, ◌≡◌, ◌<◌, ◌≤◌, ◌-◌, ◌^◌, Option, Some, length, map, IfOk, OnOk};
+ghost use Rattle.goal_graph.specs.Schedule.{operations};
+ghost use Rattle.goal_graph.specs.Fault.{IsOp};
+ghost use Rattle.goal_graph.specs.Laws.{IsSend, IsReceive};
+ghost use Rattle.sim_match.specs.Patterns.{own_list, list_of, lists_for, AreListed};
+ghost use Rattle.sim_match.specs.ListNumbers.{coded, IsCodable, AreNumbered};
+
+use crate::pattern::{Pattern, Patterns, own_list};
+use goal_base::NoMemory;
+use goal_graph::{Message, OpId, Sched};
+use std::alloc::{AllocError, Global};
+
+/// The patterns of a schedule, and for each operation, in the order of all, the number of the list of its own pattern:
+/// of what a receive asks for, and of what names the source and the tag of a send. `NO_LIST` stands where the schedule
+/// doesn't have that pattern.
+#[derive(Drop)]
+pub struct ListNumbers {
+    pub patterns: Patterns,
+    pub own: Vec<u32>,
+}
+
+const NO_LIST: u32 = u32::MAX;
+
+// A number, or none, as it is kept.
+fn coded(number: Option<usize>) -> u32
+    requires { IsCodable number }
+    ensures { result ≡ coded number }
+{
+    match number {
+        Some(list) => list as u32,
+        None => NO_LIST,
+    }
+}
+
+// The number that is kept so, or none.
+fn decoded(kept: u32) -> Option<usize>
+    ensures { (number : Option ℕ) → kept ≡ coded number → IsCodable number → result ≡ number }
+{
+    if kept == NO_LIST {
+        None
+    } else {
+        Some(kept as usize)
+    }
+}
+
+// The numbers of all operations.
+fn own_numbers(alloc: Global, sched: &Sched, patterns: &Patterns) -> Result<Vec<u32>, AllocError>
+    requires { length patterns.now ≤ length (operations sched.now) }
+    ensures few { OnOk result (length patterns.now < 2 ^ 32 - 1) }
+    ensures numbers { IfOk result (λ numbers. numbers.items ≡ map (λ x. coded (own_list sched.now patterns.now x)) (operations sched.now)) }
+{
+    let mut numbers = Vec::with_capacity(alloc, sched.count() as usize)?;
+    for id in sched.operations() {
+        numbers.push_reserved(coded(own_list(patterns, sched, *id)));
+    }
+    Ok(numbers)
+}
+
+impl ListNumbers {
+    /// The numbers of a schedule. Each pattern is looked up here, by halving.
+    pub fn of(alloc: Global, sched: &Sched) -> Result<ListNumbers, NoMemory>
+        ensures { IfOk result (λ numbers. AreNumbered sched.now numbers) }
+    {
+        let patterns = Patterns::of(alloc, sched)?;
+        let own = own_numbers(alloc, sched, &patterns)?;
+        Ok(ListNumbers { patterns, own })
+    }
+
+    // What is kept of an operation.
+    fn own(&self, sched: &Sched, id: OpId) -> u32
+        requires op { IsOp sched.now id }
+        requires numbered { AreNumbered sched.now self.now }
+        ensures { result ≡ coded (own_list sched.now self.now.patterns id) }
+    {
+        self.own[sched.index(id) as usize]
+    }
+
+    /// The number of the list of a receive.
+    pub fn list_of_receive(&self, sched: &Sched, recv: OpId) -> usize
+        requires receive { IsReceive sched.now recv }
+        requires numbered { AreNumbered sched.now self.now }
+        ensures list { list_of sched.now self.now.patterns recv ≡ Some result }
+        ensures within { result < length self.now.patterns }
+    {
+        self.own(sched, recv) as usize
+    }
+
+    /// The numbers of the lists of a send. Only those of patterns that take any source or any tag are looked up, where
+    /// the schedule has such patterns.
+    pub fn lists_of_send(&self, sched: &Sched, send: OpId) -> [Option<usize>; 4]
+        requires send { IsSend sched.now send }
+        requires numbered { AreNumbered sched.now self.now }
+        ensures { result ≡ lists_for sched.now self.now.patterns send }
+    {
+        let own = decoded(self.own(sched, send));
+        if self.patterns.name_all() {
+            return [own, None, None, None];
+        }
+        let Message { to, tag, .. } = sched.message(send);
+        [
+            own,
+            self.patterns
+                .number(Pattern::new(to, Some(send.rank), None)),
+            self.patterns.number(Pattern::new(to, None, Some(tag))),
+            self.patterns.number(Pattern::new(to, None, None)),
+        ]
+    }
+}
