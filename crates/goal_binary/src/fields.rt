@@ -89,6 +89,20 @@ fn groups_at(bytes: &[u8], left: u32, at: usize) -> Result<(Option<u64>, usize),
     Ok((below(group - 128, others), after))
 }
 
+/// The groups behind the first of a packed number. Where there are some, most often it is one.
+#[inline(always)]
+#[tactic(auto, unfolding(crate::specs::Fields::groups_at))]
+fn groups_behind(bytes: &[u8], at: usize) -> Result<(Option<u64>, usize), FileFault>
+    ensures { result ≡ groups_at bytes.now 9 at }
+{
+    let (group, others_at) = byte_at(bytes, at)?;
+    if group < 128 {
+        return Ok((Some(u64::from(group)), others_at));
+    }
+    let (others, after) = groups_at(bytes, 8, others_at)?;
+    Ok((below(group - 128, others), after))
+}
+
 /// A packed number. Most have one byte.
 #[tactic(auto, using(crate::proofs::Packed::packed_step))]
 pub fn packed_at(bytes: &[u8], at: usize) -> Result<(u64, usize), FileFault>
@@ -98,7 +112,7 @@ pub fn packed_at(bytes: &[u8], at: usize) -> Result<(u64, usize), FileFault>
     if group < 128 {
         return Ok((u64::from(group), others_at));
     }
-    let (others, after) = groups_at(bytes, 9, others_at)?;
+    let (others, after) = groups_behind(bytes, others_at)?;
     match below(group - 128, others) {
         Some(number) => Ok((number, after)),
         None => Err(misfit(at)),

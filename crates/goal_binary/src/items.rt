@@ -1,5 +1,5 @@
 //! The operations, dependencies and notes of a rank.
-ghost use Rattle.std.specs.Prelude.{◌≡◌, length, IfOk};
+ghost use Rattle.std.specs.Prelude.{◌≡◌, ◌≤◌, length, IfOk};
 ghost use Rattle.goal_binary.specs.Reading.{fixed_op_at, packed_op_at, op_at, fixed_dep_at, packed_dep_at, dep_at, when_of, fixed_note_at, packed_note_at, note_at, note_of, some_byte_if, packed_u32_at, packed_u32_if, list_at};
 ghost use Rattle.goal_binary.specs.Meaning.{Gives};
 
@@ -200,6 +200,14 @@ fn note_at(bytes: &[u8], layout: Layout, at: usize) -> Result<(Note, usize), Fil
     }
 }
 
+/// Room for so many items at this place, but for no more than the bytes behind it can hold.
+fn room(bytes: &[u8], count: u32, at: usize) -> usize
+    ensures { result ≤ count }
+{
+    let most = bytes.len().saturating_sub(at) / 2;
+    most.min(count as usize)
+}
+
 /// So many operations.
 pub fn ops_at(
     alloc: Global,
@@ -211,7 +219,7 @@ pub fn ops_at(
     ensures ops { Gives (λ x. (x.0.items, x.1)) result (list_at (op_at bytes.now layout) count at) }
     ensures count { IfOk result (λ x. length x.0.items ≡ count) }
 {
-    let mut ops = Vec::new(alloc);
+    let mut ops = Vec::with_capacity(alloc, room(bytes, count, at))?;
     let mut place = at;
     for _ in 0..count {
         let (op, after) = op_at(bytes, layout, place)?;
@@ -232,7 +240,7 @@ pub fn deps_at(
     ensures deps { Gives (λ x. (x.0.items, x.1)) result (list_at (dep_at bytes.now layout) count at) }
     ensures count { IfOk result (λ x. length x.0.items ≡ count) }
 {
-    let mut deps = Vec::new(alloc);
+    let mut deps = Vec::with_capacity(alloc, room(bytes, count, at))?;
     let mut place = at;
     for _ in 0..count {
         let (dep, after) = dep_at(bytes, layout, place)?;
@@ -253,7 +261,7 @@ pub fn notes_at(
     ensures notes { Gives (λ x. (x.0.items, x.1)) result (list_at (note_at bytes.now layout) count at) }
     ensures count { IfOk result (λ x. length x.0.items ≡ count) }
 {
-    let mut notes = Vec::new(alloc);
+    let mut notes = Vec::with_capacity(alloc, room(bytes, count, at))?;
     let mut place = at;
     for _ in 0..count {
         let (note, after) = note_at(bytes, layout, place)?;

@@ -7,7 +7,7 @@ use Rattle.goal_binary.proofs.items.notes_at.Goals as goal
 pub returns-in_err-note-clause-notes : goal.returns-in_err-note-clause-notes
 returns-in_err-note-clause-notes c =
     let item_at = note_at c.args.bytes.now c.args.layout in
-    let p = err_from_is_err_and c.from_residual.result c.from_residual.ensures.1 in
+    let p = err_from_is_err_and c.from_residual-in_err-note.result c.from_residual-in_err-note.ensures.1 in
     rw (p.1, p.2) (λ memory. ends item_at c.in_err-note.field-0.0 c.loop.notes.items c.args.count c.loop.counter c.loop.place (list_at item_at c.args.count c.args.at) c.loop-test.true (sym c.in_err-note.ensures) c.loop.invariant.so_far)
 
 pub loop-preserved : goal.loop-preserved
