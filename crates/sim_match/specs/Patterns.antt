@@ -1,5 +1,5 @@
 -- The patterns of receives, and the lists in which an operation stands.
-use Rattle.std.specs.Prelude.{ℕ, ◌≡◌, ◌<◌, ◌==◌, ◌&&◌, Bool, false, List, [], ◌∷◌, length, map, Option, Some, None, is_some, position}
+use Rattle.std.specs.Prelude.{ℕ, ◌≡◌, ◌<◌, ◌≤◌, ◌==◌, ◌&&◌, Bool, false, List, [], ◌∷◌, length, map, Option, Some, None, is_some, position, slice_get}
 use Rattle.std.specs.List.{list_any, list_all}
 use Rattle.std.specs.List.Sorted.{IsStrictlySortedBy}
 use Rattle.std.specs.Option.{option_cmp}
@@ -27,9 +27,30 @@ names_a_source p = is_some p.from
 abbrev pub names_a_tag : Pattern → Bool
 names_a_tag p = is_some p.tag
 
--- patterns in their order, each once, and whether each names a source and each a tag
-pub record AreInOrder (patterns : List Pattern) (sources_named tags_named : Bool) : Type 0 where
+-- the patterns before that place are of lower ranks
+abbrev pub AreLower : List Pattern → ℕ → ℕ → Type 0
+AreLower patterns rank place = (k : ℕ) (p : Pattern) → slice_get patterns k ≡ Some p → k < place → p.rank < rank
+
+-- the patterns of a rank, and of higher ones, begin at that place
+pub record IsStart (patterns : List Pattern) (rank start : ℕ) : Type 0 where
+  pub within : start ≤ length patterns
+  pub lower : AreLower patterns rank start
+  pub rest : (k : ℕ) (p : Pattern) → slice_get patterns k ≡ Some p → start ≤ k → rank ≤ p.rank
+
+-- where the patterns of each rank begin
+abbrev pub AreStarts : List Pattern → List ℕ → Type 0
+AreStarts patterns starts = (rank start : ℕ) → slice_get starts rank ≡ Some start → IsStart patterns rank start
+
+-- all patterns of a rank stand from the one place to before the other
+pub record IsRow (patterns : List Pattern) (rank start end : ℕ) : Type 0 where
+  pub order : start ≤ end
+  pub within : end ≤ length patterns
+  pub between : (k : ℕ) (p : Pattern) → slice_get patterns k ≡ Some p → p.rank ≡ rank → (start ≤ k) × (k < end)
+
+-- patterns in their order, each once, where those of each rank begin, and whether each names a source and each a tag
+pub record AreInOrder (patterns : List Pattern) (starts : List ℕ) (sources_named tags_named : Bool) : Type 0 where
   pub sorted : IsStrictlySortedBy pattern_cmp patterns
+  pub rows : AreStarts patterns starts
   pub sources : sources_named ≡ list_all names_a_source patterns
   pub tags : tags_named ≡ list_all names_a_tag patterns
 

@@ -1,14 +1,12 @@
 // The capacities of the lists of a matcher.
-ghost use Rattle.std.specs.Prelude.{ℕ, ◌≡◌, ◌+◌, ◌<◌, ◌^◌, length, count_by, slice_get, Some, IfOk};
+ghost use Rattle.std.specs.Prelude.{ℕ, ◌≡◌, ◌+◌, ◌<◌, ◌^◌, length, slice_get, Some, IfOk};
 ghost use Rattle.goal_graph.specs.Schedule.{operations};
-ghost use Rattle.goal_graph.specs.Fault.{IsOp};
 ghost use Rattle.sim_match.specs.declared.capacities.Capacity.{Capacity};
-ghost use Rattle.sim_match.specs.Waiting.{is_message, is_message_kind};
 ghost use Rattle.sim_match.specs.ListNumbers.{AreNumbered};
 ghost use Rattle.sim_match.specs.Capacities.{room_of, AreCapacities, AreCounted, AreOnce, AreWithin};
 
 use crate::list_numbers::ListNumbers;
-use goal_graph::{Kind, OpId, Sched};
+use goal_graph::{Kind, Sched};
 use std::alloc::{AllocError, Global};
 
 /// How many receives a list has, and how many sends are for it.
@@ -83,33 +81,4 @@ pub fn capacities(
         }
     }
     Ok(capacities)
-}
-
-// Whether an operation of that kind is a send or a receive.
-fn is_message_kind(kind: Kind) -> bool
-    ensures { result ≡ is_message_kind (Some kind) }
-{
-    match kind {
-        Kind::Send { .. } | Kind::Recv { .. } => true,
-        Kind::Calc { .. } => false,
-    }
-}
-
-// Whether an operation is a send or a receive.
-fn is_message(sched: &Sched, id: OpId) -> bool
-    requires { IsOp sched.now id }
-    ensures { result ≡ is_message sched.now id }
-{
-    is_message_kind(sched.op(id).kind)
-}
-
-/// How many sends and receives a schedule has.
-pub fn message_count(sched: &Sched) -> usize
-    ensures { result ≡ count_by (is_message sched.now) (operations sched.now) }
-{
-    sched
-        .operations()
-        .iter()
-        .filter(|id| is_message(sched, **id))
-        .count()
 }

@@ -10,7 +10,7 @@ ghost use Rattle.sim_match.specs.PostsAndArrivals.{send_for, receive_for};
 ghost use Rattle.sim_match.specs.Patterns.{lists_for};
 ghost use Rattle.sim_match.specs.Matcher.{actions_of, side_by_side, ArePaired, IsJoined, IsKept};
 
-use crate::capacities::{Side, capacities, message_count};
+use crate::capacities::{Side, capacities};
 use crate::list_numbers::ListNumbers;
 use crate::match_list::{MatchEntry, earlier, mark};
 use crate::match_lists::MatchLists;
@@ -67,7 +67,7 @@ impl MatchTable {
         let receives = MatchLists::new(alloc, &capacities, Side::Receives)?;
         let sends = MatchLists::new(alloc, &capacities, Side::Sends)?;
         let marks = vec![in alloc; false; sched.count() as usize]?;
-        let events = Vec::with_capacity(alloc, message_count(sched))?;
+        let events = Vec::with_capacity(alloc, sched.count() as usize)?;
         Ok(MatchTable {
             numbers,
             receives,
