@@ -21,7 +21,7 @@ use Rattle.sim_params.specs.Laws.{at_its_time}
 use Rattle.sim_params.specs.Budget.{budget}
 use Rattle.sim_params.proofs.ForCallers.{possible_budget, possible_at, run_each}
 use Rattle.sim_events.specs.declared.entry.Entry.{Entry}
-use Rattle.sim_events.specs.declared.entry.Pairing.{Pairing}
+use Rattle.sim_events.specs.declared.pairing.Pairing.{Pairing}
 use Rattle.sim_events.specs.Represents.{message_known, entry_known}
 use Rattle.sim_events.specs.Enabled.{ready_known, enabled_action}
 

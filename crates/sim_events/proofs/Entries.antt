@@ -16,7 +16,7 @@ use Rattle.sim_params.specs.Times.{mate, cpu_hold, Possible}
 use Rattle.sim_params.specs.Run.{IsRun}
 use Rattle.sim_match.specs.PostsAndArrivals.{is_post_or_arrival, is_post_or_arrival_class, send_for, receive_for}
 use Rattle.sim_events.specs.declared.entry.Entry.{Entry}
-use Rattle.sim_events.specs.declared.entry.Pairing.{Pairing}
+use Rattle.sim_events.specs.declared.pairing.Pairing.{Pairing}
 use Rattle.sim_events.specs.Engine.{start_known, end_known}
 use Rattle.sim_events.specs.Enabled.{time_known}
 use Rattle.sim_events.specs.Tables.{with_entry, with_pairing, with_partner}

@@ -20,7 +20,7 @@ use Rattle.sim_params.specs.Run.{IsRun}
 use Rattle.sim_params.proofs.ForCallers.{run_interleaving}
 use Rattle.sim_match.specs.PostsAndArrivals.{is_post_or_arrival, is_post_or_arrival_class, send_for, receive_for}
 use Rattle.sim_match.proofs.ForCallers.{send_for_filtered, receive_for_filtered}
-use Rattle.sim_events.specs.declared.entry.Pairing.{Pairing}
+use Rattle.sim_events.specs.declared.pairing.Pairing.{Pairing}
 use Rattle.sim_events.specs.Represents.{paired_known}
 
 unpaired : (ps : List Pair) (x : OpId) → is_paired ps x ≡ false → partner ps x ≡ None

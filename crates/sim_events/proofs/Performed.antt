@@ -1,11 +1,12 @@
 -- The fields of an engine after the next action.
-use Rattle.std.proofs.Common.{◌≡◌, ℕ, ◌<◌, ◌≤◌, ◌*◌, List, [], ◌∷◌, ◌++◌, length, map, take, drop, reverse, sym, ap, ◌∙◌, subst, arith}
+use Rattle.std.proofs.Common.{◌≡◌, ℕ, ◌<◌, ◌≤◌, ◌+◌, ◌*◌, ◌^◌, List, [], ◌∷◌, ◌++◌, length, map, take, drop, reverse, sym, ap, ◌∙◌, subst, arith}
 use Rattle.std.proofs.lemmas.List.{reverse-append, length-reverse, length-map}
 use Rattle.goal_graph.specs.declared.action.OpId.{OpId}
 use Rattle.goal_graph.specs.declared.action.Timed.{Timed}
-use Rattle.goal_graph.specs.Schedule.{Plan, operations}
+use Rattle.goal_graph.specs.Schedule.{Plan, kind_at, operations}
 use Rattle.goal_graph.specs.Fault.{IsOp}
 use Rattle.sim_params.specs.Costs.{CostModel}
+use Rattle.sim_params.specs.Times.{cpu_hold}
 use Rattle.sim_params.specs.Run.{IsNext}
 use Rattle.sim_params.proofs.ForCallers.{possible_room}
 use Rattle.sim_match.specs.PostsAndArrivals.{PostsAndArrivals}
@@ -13,6 +14,7 @@ use Rattle.sim_resources.specs.FreeTimes.{Holds}
 use Rattle.sim_events.specs.declared.entry.Entry.{Entry}
 use Rattle.sim_events.specs.Engine.{View}
 use Rattle.sim_events.specs.Represents.{Represents, entry_known, KnowsPostsAndArrivals, AreFreeTimes}
+use Rattle.sim_events.proofs.Fits.{cpu_fits}
 use Rattle.sim_events.proofs.Places.{possible_exists}
 use Rattle.goal_graph.proofs.ForCallers.{whole_back}
 
@@ -39,6 +41,13 @@ module _ (plans : List Plan) (costs : CostModel) (h : List Timed) (entries : Lis
 
   pub is_resource_op : (a : Timed) → IsNext plans costs h a → IsOp res.plans a.op
   is_resource_op a next = subst (λ (ps : List Plan). IsOp ps a.op) (sym m.free.same_plans) (is_op a next)
+
+  -- the time of the next action can be written, and so can the end of what it holds
+  pub time_fits : (a : Timed) → IsNext plans costs h a → a.time < 2 ^ 63
+  time_fits a next = omega (arith, cpu_fits plans costs h a m.run next.possible, m.within)
+
+  pub end_fits : (a : Timed) → IsNext plans costs h a → (until : ℕ) → until ≡ a.time + cpu_hold plans costs h a.class a.op (kind_at plans a.op) → until < 2 ^ 63
+  end_fits a next until e = omega (arith, e, cpu_fits plans costs h a m.run next.possible, m.within)
 
 -- what an engine keeps: its history, oldest first, its table, its matcher, its free times, and the room of its history
 pub record Parts : Type 0 where

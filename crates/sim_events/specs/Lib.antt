@@ -2,6 +2,8 @@
 pub mod Engine
 -- What only the code keeps.
 pub mod Queue
+pub mod Moments
+pub mod Partners
 pub mod Tables
 pub mod Enabled
 pub mod Represents

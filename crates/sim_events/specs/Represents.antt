@@ -14,7 +14,7 @@ use Rattle.sim_params.specs.Budget.{budget}
 use Rattle.sim_match.specs.PostsAndArrivals.{PostsAndArrivals, is_post_or_arrival}
 use Rattle.sim_resources.specs.FreeTimes.{Holds, cpu_free, tx_free, rx_free}
 use Rattle.sim_events.specs.declared.entry.Entry.{Entry}
-use Rattle.sim_events.specs.declared.entry.Pairing.{Pairing}
+use Rattle.sim_events.specs.declared.pairing.Pairing.{Pairing}
 use Rattle.sim_events.specs.Engine.{start_known, end_known}
 use Rattle.sim_events.specs.Enabled.{time_known}
 

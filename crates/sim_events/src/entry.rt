@@ -1,43 +1,38 @@
 // What an engine keeps of each operation, in a table in the order of all operations.
-ghost use Rattle.std.specs.Prelude.{◌≡◌, List, length, map, IfSome};
+ghost use Rattle.std.specs.Prelude.{◌≡◌, ◌<◌, ◌^◌, List, length, map, IfSome};
 ghost use Rattle.goal_graph.specs.declared.action.OpId.{OpId};
 ghost use Rattle.goal_graph.specs.Schedule.{operations};
 ghost use Rattle.goal_graph.specs.Fault.{IsOp};
 ghost use Rattle.sim_events.specs.declared.entry.Entry.{Entry};
 ghost use Rattle.sim_events.specs.Tables.{with_entry, with_pairing, with_partner};
 
+use crate::moment::Moment;
+use crate::pairing::Partner;
 use goal_graph::{OpId, Sched};
 
-/// The operation that another is paired with, and since when, in nanoseconds.
-#[derive(Clone, Copy, Debug, PartialEq, Eq)]
-pub struct Pairing {
-    pub with: OpId,
-    pub at: u64,
-}
-
-/// What is known of an operation. Times are in nanoseconds; what is not there is `None`.
+/// What is known of an operation, in 48 bytes: a run waits most for its tables to come from memory.
 #[derive(Clone, Copy, Debug, PartialEq, Eq)]
 pub struct Entry {
     /// When it started.
-    pub start: Option<u64>,
+    pub start: Moment,
     /// When it ends.
-    pub end: Option<u64>,
+    pub end: Moment,
     /// When the message of a send, or its request, arrives, while it is under way.
-    pub arriving: Option<u64>,
+    pub arriving: Moment,
     /// The operation that it is paired with.
-    pub paired: Option<Pairing>,
+    pub paired: Partner,
     /// When the bytes of a large send are at its receive, once they are handed over.
-    pub there: Option<u64>,
+    pub there: Moment,
 }
 
 impl Entry {
     /// Of an operation that has done nothing.
     pub const BLANK: Entry = Entry {
-        start: None,
-        end: None,
-        arriving: None,
-        paired: None,
-        there: None,
+        start: Moment::NONE,
+        end: Moment::NONE,
+        arriving: Moment::NONE,
+        paired: Partner::NONE,
+        there: Moment::NONE,
     };
 }
 
@@ -63,14 +58,15 @@ pub fn write(sched: &Sched, entries: &mut [Entry], id: OpId, entry: Entry)
 pub fn pair(sched: &Sched, entries: &mut [Entry], id: OpId, with: OpId, at: u64)
     requires exists { IsOp sched.now id }
     requires other { IsOp sched.now with }
+    requires fits { at < 2 ^ 63 }
     requires each { length entries.old ≡ length (operations sched.now) }
     ensures { (f : OpId → Entry) → entries.old ≡ map f (operations sched.now) → entries.new ≡ map (with_pairing with id at (with_pairing id with at f)) (operations sched.now) }
 {
     let first = *read(sched, entries, id);
-    let paired = Some(Pairing { with, at });
+    let paired = Partner::new(with, at);
     write(sched, entries, id, Entry { paired, ..first });
     let second = *read(sched, entries, with);
-    let paired = Some(Pairing { with: id, at });
+    let paired = Partner::new(id, at);
     write(sched, entries, with, Entry { paired, ..second });
 }
 
@@ -85,6 +81,7 @@ pub fn write_met(
 )
     requires exists { IsOp sched.now id }
     requires other { IfSome partner (IsOp sched.now) }
+    requires fits { at < 2 ^ 63 }
     requires each { length entries.old ≡ length (operations sched.now) }
     ensures { (f : OpId → Entry) → entries.old ≡ map f (operations sched.now) → entries.new ≡ map (with_partner id partner at (with_entry id entry f)) (operations sched.now) }
 {

@@ -5,6 +5,8 @@ mod cursor;
 mod engine;
 mod entry;
 mod follow;
+mod moment;
+mod pairing;
 mod state;
 mod station;
 

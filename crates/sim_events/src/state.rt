@@ -104,8 +104,8 @@ impl<'a, C: Costs> State<'a, C> {
     {
         let entry = self.entry(id);
         Record {
-            start: entry.start,
-            end: entry.end,
+            start: entry.start.get(),
+            end: entry.end.get(),
             partner: self.partner(id),
         }
     }
@@ -115,7 +115,7 @@ impl<'a, C: Costs> State<'a, C> {
         requires { IsOp self.now.plans id }
         ensures { result ≡ mate self.now.plans (C.model self.now.costs) self.now.history id }
     {
-        match self.entry(id).paired {
+        match self.entry(id).paired.get() {
             Some(pairing) => Some(pairing.with),
             None => None,
         }

@@ -11,7 +11,7 @@ ghost use Rattle.sim_events.specs.Enabled.{moment_known, ready_known, enabled_ac
 
 use super::State;
 use crate::cursor::Cursor;
-use crate::entry::Pairing;
+use crate::pairing::Pairing;
 use goal_graph::{Class, Kind, OpId, Timed, When};
 use sim_eager::{begin_at, serve_at};
 use sim_params::Costs;
@@ -72,7 +72,7 @@ impl<'a, C: Costs> State<'a, C> {
         ensures enabled { result ≡ enabled_action self.now.plans (C.model self.now.costs) self.now.history Begin calc }
         ensures cursor { IsCursorOf self.now.plans (C.model self.now.costs) self.now.history calc cursor.new }
     {
-        if self.entry(calc).start.is_some() {
+        if self.entry(calc).start.get().is_some() {
             return None;
         }
         let ready = self.ready(calc, cursor)?;
@@ -90,7 +90,7 @@ impl<'a, C: Costs> State<'a, C> {
         ensures enabled { result ≡ enabled_action self.now.plans (C.model self.now.costs) self.now.history Begin send }
         ensures cursor { IsCursorOf self.now.plans (C.model self.now.costs) self.now.history send cursor.new }
     {
-        if self.entry(send).start.is_some() {
+        if self.entry(send).start.get().is_some() {
             return None;
         }
         let ready = self.ready(send, cursor)?;
@@ -106,7 +106,7 @@ impl<'a, C: Costs> State<'a, C> {
         requires { IsOp self.now.plans send }
         ensures { result ≡ enabled_action self.now.plans (C.model self.now.costs) self.now.history Arrive send }
     {
-        let time = self.entry(send).arriving?;
+        let time = self.entry(send).arriving.get()?;
         Some(Timed {
             time,
             class: Class::Arrive,
@@ -120,10 +120,10 @@ impl<'a, C: Costs> State<'a, C> {
         ensures { result ≡ enabled_action self.now.plans (C.model self.now.costs) self.now.history Data send }
     {
         let entry = self.entry(send);
-        if self.is_eager(send) || entry.there.is_some() {
+        if self.is_eager(send) || entry.there.get().is_some() {
             return None;
         }
-        let Pairing { at, .. } = entry.paired?;
+        let Pairing { at, .. } = entry.paired.get()?;
         let cleared = clear(self.sched, &self.costs, send, at);
         Some(Timed {
             time: data_at(&self.resources, send, cleared),
@@ -139,7 +139,7 @@ impl<'a, C: Costs> State<'a, C> {
         ensures enabled { result ≡ enabled_action self.now.plans (C.model self.now.costs) self.now.history Post recv }
         ensures cursor { IsCursorOf self.now.plans (C.model self.now.costs) self.now.history recv cursor.new }
     {
-        if self.entry(recv).start.is_some() {
+        if self.entry(recv).start.get().is_some() {
             return None;
         }
         let time = self.ready(recv, cursor)?;
@@ -156,10 +156,11 @@ impl<'a, C: Costs> State<'a, C> {
         ensures { result ≡ enabled_action self.now.plans (C.model self.now.costs) self.now.history Serve recv }
     {
         let entry = self.entry(recv);
-        if entry.end.is_some() {
+        if entry.end.get().is_some() {
             return None;
         }
-        let there = self.message_there(entry.paired?)?;
+        let pairing = entry.paired.get()?;
+        let there = self.message_there(pairing)?;
         Some(Timed {
             time: serve_at(&self.resources, recv, there),
             class: Class::Serve,
@@ -175,7 +176,7 @@ impl<'a, C: Costs> State<'a, C> {
         if self.is_eager(pairing.with) {
             return Some(pairing.at);
         }
-        self.entry(pairing.with).there
+        self.entry(pairing.with).there.get()
     }
 
     // Whether a send goes out whole, with no request before it.
@@ -221,8 +222,8 @@ impl<'a, C: Costs> State<'a, C> {
     {
         let entry = self.entry(id);
         match when {
-            When::AfterEnd => entry.end,
-            When::AfterStart => entry.start,
+            When::AfterEnd => entry.end.get(),
+            When::AfterStart => entry.start.get(),
         }
     }
 }

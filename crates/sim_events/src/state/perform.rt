@@ -9,6 +9,7 @@ ghost use Rattle.sim_params.specs.Run.{IsNext};
 
 use super::State;
 use crate::entry::{Entry, write, write_met};
+use crate::moment::Moment;
 use goal_graph::{Class, Kind, Timed};
 use sim_eager::{eager_begin, serve};
 use sim_params::Costs;
@@ -60,8 +61,8 @@ impl<'a, C: Costs> State<'a, C> {
         let end = action.time + nanos;
         self.resources.hold_cpu(action.op, end);
         let begun = Entry {
-            start: Some(action.time),
-            end: Some(end),
+            start: Moment::at(action.time),
+            end: Moment::at(end),
             ..entry
         };
         write(sched, &mut self.entries, action.op, begun);
@@ -86,9 +87,9 @@ impl<'a, C: Costs> State<'a, C> {
             action.time,
         );
         let entry = Entry {
-            start: Some(action.time),
-            end: Some(begun.end),
-            arriving: Some(begun.arrive),
+            start: Moment::at(action.time),
+            end: Moment::at(begun.end),
+            arriving: Moment::at(begun.arrive),
             ..entry
         };
         write(sched, &mut self.entries, action.op, entry);
@@ -113,8 +114,8 @@ impl<'a, C: Costs> State<'a, C> {
             action.time,
         );
         let entry = Entry {
-            start: Some(action.time),
-            arriving: Some(arrive),
+            start: Moment::at(action.time),
+            arriving: Moment::at(arrive),
             ..entry
         };
         write(sched, &mut self.entries, action.op, entry);
@@ -130,7 +131,7 @@ impl<'a, C: Costs> State<'a, C> {
         let sched = self.sched;
         let entry = *self.entry(action.op);
         let posted = Entry {
-            start: Some(action.time),
+            start: Moment::at(action.time),
             ..entry
         };
         let partner = self.matcher.post(action.op);
@@ -148,7 +149,7 @@ impl<'a, C: Costs> State<'a, C> {
         let sched = self.sched;
         let entry = *self.entry(action.op);
         let arrived = Entry {
-            arriving: None,
+            arriving: Moment::NONE,
             ..entry
         };
         let partner = self.matcher.arrive(action.op);
@@ -173,8 +174,8 @@ impl<'a, C: Costs> State<'a, C> {
             action.time,
         );
         let entry = Entry {
-            end: Some(sent.end),
-            there: Some(sent.arrive),
+            end: Moment::at(sent.end),
+            there: Moment::at(sent.arrive),
             ..entry
         };
         write(sched, &mut self.entries, action.op, entry);
@@ -189,7 +190,7 @@ impl<'a, C: Costs> State<'a, C> {
     {
         let sched = self.sched;
         let entry = *self.entry(action.op);
-        let Some(pairing) = entry.paired else {
+        let Some(pairing) = entry.paired.get() else {
             unreachable!()
         };
         let end = serve(
@@ -201,7 +202,7 @@ impl<'a, C: Costs> State<'a, C> {
             action.time,
         );
         let entry = Entry {
-            end: Some(end),
+            end: Moment::at(end),
             ..entry
         };
         write(sched, &mut self.entries, action.op, entry);

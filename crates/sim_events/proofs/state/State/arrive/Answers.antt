@@ -12,7 +12,7 @@ use Rattle.sim_events.proofs.Fits.{arrives}
 use Rattle.sim_events.proofs.FreeTimes.{free_same}
 use Rattle.sim_events.proofs.PostsAndArrivals.{arrival_known, not_before}
 use Rattle.sim_events.proofs.Places.{possible_exists}
-use Rattle.sim_events.proofs.Performed.{next_at, entry_is, each_entry, room_left, performed, Parts, is_op}
+use Rattle.sim_events.proofs.Performed.{next_at, entry_is, each_entry, room_left, performed, Parts, is_op, time_fits}
 use Rattle.sim_events.proofs.state.State.arrive.Goals as goal
 
 pub entry-entry-requires : goal.entry-entry-requires
@@ -44,6 +44,7 @@ write_met-requires g c =
     record {
       exists = is_op _ _ _ _ _ _ _ m a next;
       other = receiver_exists plans costs h a m.run next.possible c.arrive-partner.result c.requires.class taken;
+      fits = time_fits _ _ _ _ _ _ _ m a next;
       each = each_entry _ _ _ _ _ _ _ m _ c.deref_mut.ensures.value;
     }
 

@@ -1,4 +1,4 @@
-use Rattle.std.proofs.Common.{subst, sym, ap₂, ◌∙◌, max}
+use Rattle.std.proofs.Common.{is_some, subst, sym, ap, ap₂, ◌∙◌, max}
 use Rattle.goal_graph.specs.declared.action.Class.TheVariants.{Begin}
 use Rattle.goal_graph.specs.Laws.{IsSend}
 use Rattle.sim_events.proofs.Views.{free_at_view}
@@ -11,7 +11,7 @@ entry-requires g c = send_is_op _ c.args.send c.requires.op
 
 pub returns-then-is_some-clause-enabled : goal.returns-then-is_some-clause-enabled
 returns-then-is_some-clause-enabled g c =
-    begun_not_enabled _ _ _ c.args.send Begin (send_begins _ _ _ c.args.send c.requires.op) c.entry.result.now c.entry.ensures (sym c.is_some.ensures ∙ c.if-is_some.true)
+    begun_not_enabled _ _ _ c.args.send Begin (send_begins _ _ _ c.args.send c.requires.op) c.entry.result.now c.entry.ensures (ap is_some (sym c.get.ensures) ∙ sym c.is_some.ensures ∙ c.if-is_some.true)
 
 pub ready-requires-clause-op : goal.ready-requires-clause-op
 ready-requires-clause-op g c = send_is_op _ c.args.send c.requires.op
@@ -28,4 +28,4 @@ begin_at-requires g c =
 pub returns-clause-enabled : goal.returns-clause-enabled
 returns-clause-enabled g c =
     let free = free_at_view g.C.Costs.model _ _ _ c.self.view_is c.self.invariant.free in
-    ready_enabled _ _ _ c.args.send Begin (send_begins _ _ _ c.args.send c.requires.op) c.entry.result.now c.entry.ensures (sym c.is_some.ensures ∙ c.if-is_some.false) c.ready.result c.in_ok-ready.ready c.begin_at.result c.ready.ensures.ready c.in_ok-ready.was (λ e. c.begin_at.ensures ∙ ap₂ max (sym e) (ap₂ max (free.cpus c.args.send) (free.senders c.args.send)) ∙ sym (send_time _ _ _ c.args.send c.requires.op))
+    ready_enabled _ _ _ c.args.send Begin (send_begins _ _ _ c.args.send c.requires.op) c.entry.result.now c.entry.ensures (ap is_some (sym c.get.ensures) ∙ sym c.is_some.ensures ∙ c.if-is_some.false) c.ready.result c.in_ok-ready.ready c.begin_at.result c.ready.ensures.ready c.in_ok-ready.was (λ e. c.begin_at.ensures ∙ ap₂ max (sym e) (ap₂ max (free.cpus c.args.send) (free.senders c.args.send)) ∙ sym (send_time _ _ _ c.args.send c.requires.op))

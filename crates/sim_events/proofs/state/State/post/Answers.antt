@@ -1,23 +1,29 @@
-use Rattle.std.proofs.Common.{◌≡◌, ◌∙◌, ◌<◌, List, length, reverse, vec_capacity, refl, sym, ap, subst, arith, filter}
+use Rattle.std.proofs.Common.{◌≡◌, ◌∙◌, ◌<◌, List, length, reverse, vec_capacity, refl, sym, ap, subst, arith, filter, map}
 use Rattle.goal_graph.specs.declared.action.Class.{Class}
 use Rattle.goal_graph.specs.declared.action.Class.TheVariants.{Post}
-use Rattle.goal_graph.specs.Schedule.{Plan, kind_at}
+use Rattle.goal_graph.specs.Schedule.{Plan, kind_at, operations}
 use Rattle.goal_graph.specs.Action.{plain}
 use Rattle.goal_graph.specs.Laws.{IsReceive}
 use Rattle.sim_params.specs.Times.{holds_cpu, holds_tx, holds_rx}
 use Rattle.sim_match.specs.PostsAndArrivals.{is_post_or_arrival, send_for}
+use Rattle.sim_events.specs.Tables.{with_entry, with_partner}
 use Rattle.sim_events.specs.Represents.{entry_known}
 use Rattle.sim_events.proofs.Entries.{posted, sender_exists}
 use Rattle.sim_events.proofs.Fits.{posts}
 use Rattle.sim_events.proofs.FreeTimes.{free_same}
 use Rattle.sim_events.proofs.PostsAndArrivals.{post_known, not_before}
 use Rattle.sim_events.proofs.Places.{possible_exists}
-use Rattle.sim_events.proofs.Performed.{next_at, entry_is, each_entry, room_left, performed, Parts, is_op}
+use Rattle.sim_events.proofs.Performed.{next_at, entry_is, each_entry, room_left, performed, Parts, is_op, time_fits}
 use Rattle.sim_events.proofs.state.State.post.Goals as goal
 
 pub entry-entry-requires : goal.entry-entry-requires
 entry-entry-requires g c =
     possible_exists _ _ _ c.args.action c.requires.next.possible
+
+pub at-requires : goal.at-requires
+at-requires g c =
+    let next = next_at g.C.Costs.model _ _ c.args.action c.self.view_is c.requires.next in
+    time_fits _ _ _ _ _ _ _ c.self.invariant c.args.action next
 
 pub post-partner-requires : goal.post-partner-requires
 post-partner-requires g c =
@@ -44,6 +50,7 @@ write_met-requires g c =
     record {
       exists = is_op _ _ _ _ _ _ _ m a next;
       other = sender_exists plans costs h a m.run next.possible c.post-partner.result c.requires.class taken;
+      fits = time_fits _ _ _ _ _ _ _ m a next;
       each = each_entry _ _ _ _ _ _ _ m _ c.deref_mut.ensures.value;
     }
 
@@ -64,7 +71,7 @@ invariant_of-self g c =
     let was = entry_is g.C.Costs.model _ _ a.op c.entry-entry.result.now c.self.view_is c.entry-entry.ensures in
     let kind = posts plans costs h a m.run next.possible c.requires.class in
     let taken : c.post-partner.result ≡ send_for plans (filter is_post_or_arrival (plain h)) a.op = c.post-partner.ensures.taken ∙ (λ i. send_for (m.posts_and_arrivals.same_plans i) (m.posts_and_arrivals.events i) a.op) in
-    let told = c.write_met.ensures (entry_known plans costs h) (c.deref_mut.ensures.value ∙ m.known) ∙ posted plans costs h a m.run next.possible c.entry-entry.result.now was c.post-partner.result c.requires.class kind taken in
+    let told = c.write_met.ensures (entry_known plans costs h) (c.deref_mut.ensures.value ∙ m.known) ∙ (λ i. map (with_partner a.op c.post-partner.result a.time (with_entry a.op (record c.entry-entry.result.now { start = c.at.ensures i }) (entry_known plans costs h))) (operations plans)) ∙ posted plans costs h a m.run next.possible c.entry-entry.result.now was c.post-partner.result c.requires.class kind taken in
     let posts_and_arrivals = post_known plans costs h a c.self.inside.matcher m.posts_and_arrivals c.post-partner.new.self c.requires.class c.post-partner.ensures.actions in
     let free = free_same plans costs h a c.self.inside.resources m.free (ap holds_cpu c.requires.class) (ap (λ (k : Class). holds_tx k (kind_at plans a.op)) c.requires.class) (ap holds_rx c.requires.class) in
     let parts : Parts = record { items = c.self.inside.history.items; entries = c.self.inside.entries.items; matcher = c.self.inside.matcher; res = c.self.inside.resources; room = vec_capacity c.self.inside.history } in

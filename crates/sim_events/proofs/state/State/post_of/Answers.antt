@@ -1,4 +1,4 @@
-use Rattle.std.proofs.Common.{sym, ◌∙◌}
+use Rattle.std.proofs.Common.{is_some, sym, ap, ◌∙◌}
 use Rattle.goal_graph.specs.declared.action.Class.TheVariants.{Post}
 use Rattle.sim_events.proofs.EnabledLemmas.{receive_begins, begun_not_enabled, unready_not_enabled, ready_enabled, post_time}
 use Rattle.sim_events.proofs.state.State.post_of.Goals as goal
@@ -9,7 +9,7 @@ entry-requires g c = receive_is_op _ c.args.recv c.requires.op
 
 pub returns-then-is_some-clause-enabled : goal.returns-then-is_some-clause-enabled
 returns-then-is_some-clause-enabled g c =
-    begun_not_enabled _ _ _ c.args.recv Post (receive_begins _ _ _ c.args.recv c.requires.op) c.entry.result.now c.entry.ensures (sym c.is_some.ensures ∙ c.if-is_some.true)
+    begun_not_enabled _ _ _ c.args.recv Post (receive_begins _ _ _ c.args.recv c.requires.op) c.entry.result.now c.entry.ensures (ap is_some (sym c.get.ensures) ∙ sym c.is_some.ensures ∙ c.if-is_some.true)
 
 pub ready-requires-clause-op : goal.ready-requires-clause-op
 ready-requires-clause-op g c = receive_is_op _ c.args.recv c.requires.op
@@ -20,4 +20,4 @@ returns-in_err-time-clause-enabled g c =
 
 pub returns-clause-enabled : goal.returns-clause-enabled
 returns-clause-enabled g c =
-    ready_enabled _ _ _ c.args.recv Post (receive_begins _ _ _ c.args.recv c.requires.op) c.entry.result.now c.entry.ensures (sym c.is_some.ensures ∙ c.if-is_some.false) c.ready.result c.in_ok-time.time c.in_ok-time.time c.ready.ensures.ready c.in_ok-time.was (λ e. sym e ∙ sym (post_time _ _ _ c.args.recv c.requires.op))
+    ready_enabled _ _ _ c.args.recv Post (receive_begins _ _ _ c.args.recv c.requires.op) c.entry.result.now c.entry.ensures (ap is_some (sym c.get.ensures) ∙ sym c.is_some.ensures ∙ c.if-is_some.false) c.ready.result c.in_ok-time.time c.in_ok-time.time c.ready.ensures.ready c.in_ok-time.was (λ e. sym e ∙ sym (post_time _ _ _ c.args.recv c.requires.op))

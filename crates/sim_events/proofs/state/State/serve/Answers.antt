@@ -1,11 +1,12 @@
-use Rattle.std.proofs.Common.{◌+◌, ◌∙◌, ◌<◌, ℕ, length, reverse, vec_capacity, sym, ap, arith}
+use Rattle.std.proofs.Common.{◌+◌, ◌∙◌, ◌<◌, ℕ, length, reverse, vec_capacity, sym, ap, arith, map}
 use Rattle.goal_graph.specs.declared.action.Class.{Class}
-use Rattle.goal_graph.specs.Schedule.{kind_at}
+use Rattle.goal_graph.specs.Schedule.{kind_at, operations}
 use Rattle.goal_graph.specs.Action.{plain}
 use Rattle.goal_graph.proofs.ForCallers.{partner_is_send}
 use Rattle.sim_params.specs.Times.{holds_cpu, holds_tx, holds_rx}
 use Rattle.sim_match.specs.PostsAndArrivals.{is_post_or_arrival_class}
 use Rattle.sim_events.specs.declared.entry.Entry.{Entry}
+use Rattle.sim_events.specs.Tables.{with_entry}
 use Rattle.sim_events.specs.Represents.{entry_known}
 use Rattle.sim_events.proofs.Entries.{message_taken}
 use Rattle.sim_events.proofs.Fits.{cpu_fits, rx_fits, serves}
@@ -14,7 +15,7 @@ use Rattle.sim_events.proofs.PostsAndArrivals.{other_action}
 use Rattle.sim_events.proofs.HoldTimes.{cpu_of_serve, rx_of_serve}
 use Rattle.sim_events.proofs.Places.{possible_exists}
 use Rattle.sim_events.proofs.Pairings.{mate_of_known, known_mate}
-use Rattle.sim_events.proofs.Performed.{next_at, entry_is, each_entry, room_left, performed, Parts, is_op}
+use Rattle.sim_events.proofs.Performed.{next_at, entry_is, each_entry, room_left, performed, Parts, is_op, end_fits}
 use Rattle.sim_events.proofs.state.State.serve.Goals as goal
 
 pub entry-entry-requires : goal.entry-entry-requires
@@ -30,7 +31,7 @@ unreachable-requires g c =
     let next = next_at g.C.Costs.model _ _ a c.self.view_is c.requires.next in
     let was = entry_is g.C.Costs.model _ _ a.op c.entry-entry.result.now c.self.view_is c.entry-entry.ensures in
     let told = known_mate plans costs h a a.op (serves plans costs h a c.self.invariant.run next.possible c.requires.class).1 in
-    c.in_default.not-Some told.0 (ap (λ (e : Entry). e.paired) was ∙ told.1)
+    c.in_default.not-Some told.0 (c.get.ensures ∙ ap (λ (e : Entry). e.paired) was ∙ told.1)
 
 pub serve-end-requires : goal.serve-end-requires
 serve-end-requires g c =
@@ -42,7 +43,7 @@ serve-end-requires g c =
     let next = next_at g.C.Costs.model _ _ a c.self.view_is c.requires.next in
     let was = entry_is g.C.Costs.model _ _ a.op c.entry-entry.result.now c.self.view_is c.entry-entry.ensures in
     let receive = (serves plans costs h a m.run next.possible c.requires.class).0 in
-    let partner = mate_of_known plans costs h a a.op c.in-Some.pairing (sym (ap (λ (e : Entry). e.paired) was) ∙ c.in-Some.is) in
+    let partner = mate_of_known plans costs h a a.op c.in-Some.pairing (sym (ap (λ (e : Entry). e.paired) was) ∙ sym c.get.ensures ∙ c.in-Some.is) in
     record {
       same_schedule = m.free.same_plans;
       receives = receive;
@@ -50,6 +51,19 @@ serve-end-requires g c =
       over_fits = omega (arith, cpu_fits plans costs h a m.run next.possible, cpu_of_serve plans costs h a.class a.op receive c.in-Some.pairing.with partner c.requires.class, m.within);
       gap_fits = omega (arith, rx_fits plans costs h a m.run next.possible, rx_of_serve plans costs h a.class a.op receive c.in-Some.pairing.with partner c.requires.class, m.within);
     }
+
+pub at-requires : goal.at-requires
+at-requires g c =
+    let plans = c.self.inside.sched.now in
+    let costs = g.C.Costs.model c.self.inside.costs in
+    let h = reverse c.self.inside.history.items in
+    let a = c.args.action in
+    let m = c.self.invariant in
+    let next = next_at g.C.Costs.model _ _ a c.self.view_is c.requires.next in
+    let was = entry_is g.C.Costs.model _ _ a.op c.entry-entry.result.now c.self.view_is c.entry-entry.ensures in
+    let receive = (serves plans costs h a m.run next.possible c.requires.class).0 in
+    let partner = mate_of_known plans costs h a a.op c.in-Some.pairing (sym (ap (λ (e : Entry). e.paired) was) ∙ sym c.get.ensures ∙ c.in-Some.is) in
+    end_fits _ _ _ _ _ _ _ m a next _ (c.serve-end.ensures.end ∙ ap (λ (n : ℕ). a.time + n) (sym (cpu_of_serve plans costs h a.class a.op receive c.in-Some.pairing.with partner c.requires.class)))
 
 pub write-requires : goal.write-requires
 write-requires g c =
@@ -75,10 +89,10 @@ invariant_of-self g c =
     let next = next_at g.C.Costs.model _ _ a c.self.view_is c.requires.next in
     let was = entry_is g.C.Costs.model _ _ a.op c.entry-entry.result.now c.self.view_is c.entry-entry.ensures in
     let receive = (serves plans costs h a m.run next.possible c.requires.class).0 in
-    let partner = mate_of_known plans costs h a a.op c.in-Some.pairing (sym (ap (λ (e : Entry). e.paired) was) ∙ c.in-Some.is) in
+    let partner = mate_of_known plans costs h a a.op c.in-Some.pairing (sym (ap (λ (e : Entry). e.paired) was) ∙ sym c.get.ensures ∙ c.in-Some.is) in
     let until = c.serve-end.ensures.end ∙ ap (λ (n : ℕ). a.time + n) (sym (cpu_of_serve plans costs h a.class a.op receive c.in-Some.pairing.with partner c.requires.class)) in
     let received = ap (λ (n : ℕ). a.time + n) (sym (rx_of_serve plans costs h a.class a.op receive c.in-Some.pairing.with partner c.requires.class)) in
-    let told = c.write.ensures (entry_known plans costs h) (c.deref_mut.ensures.value ∙ m.known) ∙ message_taken plans costs h a m.run next.possible c.entry-entry.result.now was _ until c.requires.class receive in
+    let told = c.write.ensures (entry_known plans costs h) (c.deref_mut.ensures.value ∙ m.known) ∙ (λ i. map (with_entry a.op (record c.entry-entry.result.now { end = c.at.ensures i }) (entry_known plans costs h)) (operations plans)) ∙ message_taken plans costs h a m.run next.possible c.entry-entry.result.now was _ until c.requires.class receive in
     let posts_and_arrivals = other_action plans costs h a c.self.inside.matcher m.posts_and_arrivals (ap is_post_or_arrival_class c.requires.class) in
     let free = free_serve plans costs h a c.self.inside.resources m.free c.serve-end.new.res _ (ap holds_cpu c.requires.class) until _ c.serve-end.ensures.holds (ap (λ (k : Class). holds_tx k (kind_at plans a.op)) c.requires.class) (ap holds_rx c.requires.class) received in
     let parts : Parts = record { items = c.self.inside.history.items; entries = c.self.inside.entries.items; matcher = c.self.inside.matcher; res = c.self.inside.resources; room = vec_capacity c.self.inside.history } in
