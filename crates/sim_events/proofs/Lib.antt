@@ -3,6 +3,7 @@ pub mod Ready
 mod Cursors
 pub mod Keys
 pub mod Done
+pub mod Awaited
 pub mod Queue
 pub mod Steps
 pub mod Empty

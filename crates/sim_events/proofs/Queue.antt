@@ -12,7 +12,7 @@ use Rattle.goal_graph.specs.Action.{plain, plain_act, same_op}
 use Rattle.goal_graph.specs.Allowed.{allowed}
 use Rattle.goal_graph.specs.Fault.{IsOp}
 use Rattle.goal_graph.specs.Interleaving.{IsInterleaving}
-use Rattle.goal_graph.proofs.ForCallers.{cases_op, same_op_false, allowed_listed, one_allowed, allowed_stays, other_place, newly_allowed, find_class, allowed_serve}
+use Rattle.goal_graph.proofs.ForCallers.{cases_op, same_op_false, allowed_listed, one_allowed, allowed_stays, other_place, find_class, allowed_serve}
 use Rattle.sim_params.specs.Costs.{CostModel, is_eager}
 use Rattle.sim_params.specs.Times.{time, Possible}
 use Rattle.sim_params.specs.Run.{IsNext, IsRun, IsFinished}
@@ -22,8 +22,9 @@ use Rattle.sim_order.specs.Events.{event_before}
 use Rattle.sim_queue.specs.Groups.{Grouped}
 use Rattle.sim_queue.specs.Map.{key_at, IsEmptyMap, IsLeast}
 use Rattle.sim_events.specs.Stations.{AreStationed}
-use Rattle.sim_events.specs.Queue.{IsIdle, IsEnabledActionOf, IsEarly, IsBoundOf, IsQueueBut, IsQueue, IsRefreshed, IsConcerned, IsDueAfter}
+use Rattle.sim_events.specs.Queue.{IsIdle, IsEnabledActionOf, IsEarly, IsBoundOf, IsQueueBut, IsQueue, IsRefreshed, IsDueAfter}
 use Rattle.sim_events.proofs.After.{other_op, happened_this}
+use Rattle.sim_events.proofs.Awaited.{IsConcerned, newly_allowed}
 use Rattle.sim_events.proofs.Done.{serve_or_not, served_is_done}
 use Rattle.sim_events.proofs.Keys.{before_event}
 use Rattle.sim_events.proofs.Places.{listed_exists, possible_exists}
@@ -57,7 +58,7 @@ module _ (plans : List Plan) (costs : CostModel) where
     unfolding plain
     interleaving = (run_interleaving plans costs h run, possible.allowed)
 
-    newly : (c : Class) (x : OpId) → allowed plans (is_eager plans costs) (plain (a ∷ h)) c x ≡ true → (allowed plans (is_eager plans costs) (plain h) c x ≡ true) ⊎ IsConcerned plans costs (a ∷ h) a.op x
+    newly : (c : Class) (x : OpId) → allowed plans (is_eager plans costs) (plain (a ∷ h)) c x ≡ true → (allowed plans (is_eager plans costs) (plain h) c x ≡ true) ⊎ IsConcerned plans (plain (a ∷ h)) (plain_act a) x
     unfolding plain
     newly c x e = newly_allowed plans (is_eager plans costs) (plain_act a) (plain h) interleaving c x e
 
@@ -67,7 +68,7 @@ module _ (plans : List Plan) (costs : CostModel) where
         elim (cases_op a.op x) [ inl s ↦ absurd (d (sym s)) | inr o ↦ allowed_stays plans (is_eager plans costs) (plain_act a) (plain h) c x (other_op plans costs h a c x o) e ]
 
     -- what it concerns is due, but a send whose message is taken, which is done
-    due : (c : Class) (x : OpId) → allowed plans (is_eager plans costs) (plain (a ∷ h)) c x ≡ true → IsConcerned plans costs (a ∷ h) a.op x → IsDueAfter plans costs (a ∷ h) a x
+    due : (c : Class) (x : OpId) → allowed plans (is_eager plans costs) (plain (a ∷ h)) c x ≡ true → IsConcerned plans (plain (a ∷ h)) (plain_act a) x → IsDueAfter plans costs (a ∷ h) a x
     due c x t (inl e) = inl e
     due c x t (inr (inr w)) = inr (inr w)
     due c x t (inr (inl p)) = elim (serve_or_not a.class) [ inl e ↦ absurd (taken e) | inr n ↦ inr (inl (n, p)) ]

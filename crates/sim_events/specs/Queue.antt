@@ -1,14 +1,15 @@
 -- What the queue of an engine holds: for each operation that has a possible action a time that is never too late.
-use Rattle.std.specs.Prelude.{ℕ, ◌-◌, ◌≡◌, ◌≢◌, ◌≤◌, ◌⊎◌, true, false, List, length, Option, Some, None, slice_get, slice_set}
+use Rattle.std.specs.Prelude.{ℕ, ◌-◌, ◌≡◌, ◌≢◌, ◌≤◌, ◌⊎◌, Bool, true, false, List, Contains, length, Option, Some, None, slice_get, slice_set}
 use Rattle.std.specs.List.{sum_by}
 use Rattle.goal_graph.specs.declared.action.OpId.{OpId}
 use Rattle.goal_graph.specs.declared.action.Timed.{Timed}
 use Rattle.goal_graph.specs.declared.action.Class.{Class}
-use Rattle.goal_graph.specs.declared.action.Class.TheVariants.{Serve}
-use Rattle.goal_graph.specs.Schedule.{Plan, operations}
+use Rattle.goal_graph.specs.declared.action.Class.TheVariants.{Serve, Data, Post, Begin}
+use Rattle.goal_graph.specs.declared.plan.Need.{Need}
+use Rattle.goal_graph.specs.declared.plan.When.{When}
+use Rattle.goal_graph.specs.declared.plan.When.TheVariants.{AfterEnd, AfterStart}
+use Rattle.goal_graph.specs.Schedule.{Plan, needed, waiting_on, operations}
 use Rattle.goal_graph.specs.Action.{plain}
-pub use Rattle.goal_graph.specs.Concerned.{IsNamedIn, Waits}
-use Rattle.goal_graph.specs.Concerned as concerned
 use Rattle.goal_graph.specs.Allowed.{allowed}
 use Rattle.sim_params.specs.Costs.{CostModel, is_eager}
 use Rattle.sim_params.specs.Times.{mate, time, Possible}
@@ -20,7 +21,27 @@ use Rattle.sim_events.specs.Stations.{AreStationed}
 abbrev pub HasKey : List (Option Timed) → Timed → Type 0
 HasKey keys e = (slot : ℕ) × (key_at keys slot ≡ Some e)
 
+-- an action of that class may give its operation the moment: a Begin its start and its end, a Post its start, a Data and a
+-- Serve its end
+abbrev pub gives : Class → When → Bool
+gives Begin when = true
+gives Post AfterStart = true
+gives Data AfterEnd = true
+gives Serve AfterEnd = true
+gives _ _ = false
+
+-- by one of these needs y waits for a moment of x that an action of that class may give
+pub record IsAwaiting (needs : List Need) (class : Class) (x y : OpId) : Type 0 where
+  pub need : Need
+  pub listed : Contains needs need
+  pub named : y ≡ needed x need
+  pub given : gives class need.when ≡ true
+
 module _ (plans : List Plan) where
+  -- y needs a moment of x that an action of that class may give
+  abbrev pub Awaits : Class → OpId → OpId → Type 0
+  Awaits class x y = IsAwaiting (waiting_on plans x) class x y
+
   module _ (costs : CostModel) (h : List Timed) where
     -- no action of x may happen
     abbrev pub IsIdle : OpId → Type 0
@@ -60,13 +81,9 @@ module _ (plans : List Plan) where
       pub bound : IsBoundOf x key
       pub put : new ≡ record { keys = slice_set old.keys slot key; groups = old.groups }
 
-    -- an action of x may let one of y happen: y is x, or its partner, or needs it
-    abbrev pub IsConcerned : OpId → OpId → Type 0
-    IsConcerned x y = concerned.IsConcerned plans (plain h) x y
-
-    -- so after an action y is due where it is its operation, or its partner, but after a Serve, or needs it
+    -- after an action y is due where it is its operation, or its partner, but after a Serve, or needs the moment that it gives
     abbrev pub IsDueAfter : Timed → OpId → Type 0
-    IsDueAfter a y = (y ≡ a.op) ⊎ (((a.class ≢ Serve) × (mate plans costs h a.op ≡ Some y)) ⊎ Waits plans a.op y)
+    IsDueAfter a y = (y ≡ a.op) ⊎ (((a.class ≢ Serve) × (mate plans costs h a.op ≡ Some y)) ⊎ Awaits a.class a.op y)
 
     -- how far a key is before the time of its action, and how far the keys of a queue are
     abbrev pub lag : Option Timed → ℕ

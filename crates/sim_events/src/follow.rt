@@ -10,11 +10,11 @@ ghost use Rattle.sim_queue.specs.Map.{IsEmptyMap, IsLeast};
 ghost use Rattle.sim_queue.specs.Floors.{waits_for_room};
 ghost use Rattle.sim_events.specs.Stations.{AreStationed};
 ghost use Rattle.sim_events.specs.Cursors.{IsCursorOf, AreCursors};
-ghost use Rattle.sim_events.specs.Queue.{IsEarly, IsQueue, IsQueueBut, IsRefreshed, IsDueAfter, Waits, HasKey, IsEnabledActionOf, lags};
+ghost use Rattle.sim_events.specs.Queue.{IsEarly, IsQueue, IsQueueBut, IsRefreshed, IsDueAfter, Awaits, gives, HasKey, IsEnabledActionOf, lags};
 
 use crate::cursor::Cursor;
 use crate::state::State;
-use goal_graph::{Class, OpId, Timed};
+use goal_graph::{Class, OpId, Timed, When};
 use sim_order::{EventKey, Steps};
 use sim_params::Costs;
 use sim_queue::FloorQueue;
@@ -143,7 +143,7 @@ fn key_of(action: Timed) -> EventKey
 }
 
 /// Gives their keys to those whose next action may be another after an action: its operation, the partner, and the
-/// operations that need it.
+/// operations that need the moment which it gives.
 pub fn follow<C: Costs, L: Ledger>(
     state: &State<C>,
     queue: &mut Queue,
@@ -159,7 +159,7 @@ pub fn follow<C: Costs, L: Ledger>(
 {
     refresh(state, queue, cursors, action.op, steps);
     follow_partner(state, queue, cursors, action, steps);
-    follow_waiting(state, queue, cursors, action.op, steps);
+    follow_waiting(state, queue, cursors, action, steps);
 }
 
 // Gives its key to the partner of the operation of an action, if it has one. After a Serve the partner is done.
@@ -171,9 +171,9 @@ fn follow_partner<C: Costs, L: Ledger>(
     steps: &mut Steps<L>,
 )
     requires exists { IsOp state.now.plans action.op }
-    requires rest { IsQueueBut state.now.plans (C.model state.now.costs) state.now.history (λ y. ((action.class ≢ Serve) × (mate state.now.plans (C.model state.now.costs) state.now.history action.op ≡ Some y)) ⊎ Waits state.now.plans action.op y) queue.old }
+    requires rest { IsQueueBut state.now.plans (C.model state.now.costs) state.now.history (λ y. ((action.class ≢ Serve) × (mate state.now.plans (C.model state.now.costs) state.now.history action.op ≡ Some y)) ⊎ Awaits state.now.plans action.class action.op y) queue.old }
     requires cursors { AreCursors state.now.plans (C.model state.now.costs) state.now.history cursors.old }
-    ensures queue { IsQueueBut state.now.plans (C.model state.now.costs) state.now.history (Waits state.now.plans action.op) queue.new }
+    ensures queue { IsQueueBut state.now.plans (C.model state.now.costs) state.now.history (Awaits state.now.plans action.class action.op) queue.new }
     ensures cursors { AreCursors state.now.plans (C.model state.now.costs) state.now.history cursors.new }
 {
     if let Class::Serve = action.class {
@@ -185,23 +185,41 @@ fn follow_partner<C: Costs, L: Ledger>(
     refresh(state, queue, cursors, partner, steps);
 }
 
-// Gives their keys to the operations that need this one.
+// Whether an action of a class may give its operation the moment that a need is of.
+fn gives(class: Class, when: When) -> bool
+    ensures { result ≡ gives class when }
+{
+    match (class, when) {
+        (Class::Begin, _)
+        | (Class::Post, When::AfterStart)
+        | (Class::Data | Class::Serve, When::AfterEnd) => true,
+        _ => false,
+    }
+}
+
+// Gives their keys to the operations that need the moment which an action gives. An Arrive gives none.
 fn follow_waiting<C: Costs, L: Ledger>(
     state: &State<C>,
     queue: &mut Queue,
     cursors: &mut [Cursor],
-    id: OpId,
+    action: Timed,
     steps: &mut Steps<L>,
 )
-    requires exists { IsOp state.now.plans id }
-    requires rest { IsQueueBut state.now.plans (C.model state.now.costs) state.now.history (Waits state.now.plans id) queue.old }
+    requires exists { IsOp state.now.plans action.op }
+    requires rest { IsQueueBut state.now.plans (C.model state.now.costs) state.now.history (Awaits state.now.plans action.class action.op) queue.old }
     requires cursors { AreCursors state.now.plans (C.model state.now.costs) state.now.history cursors.old }
     ensures queue { IsQueue state.now.plans (C.model state.now.costs) state.now.history queue.new }
     ensures cursors { AreCursors state.now.plans (C.model state.now.costs) state.now.history cursors.new }
 {
-    for need in state.sched().waiting_on(id) {
+    if let Class::Arrive = action.class {
+        return;
+    }
+    for need in state.sched().waiting_on(action.op) {
+        if !gives(action.class, need.when) {
+            continue;
+        }
         let waiting = OpId {
-            rank: id.rank,
+            rank: action.op.rank,
             op: need.op,
         };
         refresh(state, queue, cursors, waiting, steps);

@@ -1,11 +1,14 @@
-use Rattle.std.proofs.Common.{◌<◌, List, get_or, length, ap, sym, ◌∙◌, subst, arith}
+use Rattle.std.proofs.Common.{◌<◌, ◌∙◌, List, get_or, length, ap, sym, subst, arith}
+use Rattle.std.proofs.lemmas.Bool.{both_ways}
+use Rattle.goal_graph.specs.declared.action.Class.{Class}
 use Rattle.goal_graph.specs.declared.plan.Need.{Need}
 use Rattle.goal_graph.specs.declared.plan.When.TheVariants.{AfterEnd}
 use Rattle.goal_graph.specs.Schedule.{Plan, needed, waiting_on}
 use Rattle.goal_graph.specs.Fault.{IsOp}
+use Rattle.sim_events.specs.Queue.{gives}
+use Rattle.sim_events.proofs.Awaited.{await_rest, await_skipped, await_none}
 use Rattle.sim_events.proofs.Queue.{refreshed, fewer_due}
 use Rattle.sim_events.proofs.follow.follow_waiting.Goals as goal
-use Rattle.goal_graph.proofs.ForCallers.{named_rest, none_named}
 
 abbrev none : Need
 none = record { op = 0; when = AfterEnd }
@@ -14,7 +17,7 @@ pub refresh-requires : goal.refresh-requires
 refresh-requires g c =
     let d = get_or c.waiting_on-need-items.result.now c.loop-need.need-index none in
     record {
-      exists = subst (λ (ps : List Plan). IsOp ps (needed c.args.id d)) c.sched.ensures (c.waiting_on-need-items.ensures.exist c.loop-need.need-index none c.loop-need-test.true);
+      exists = subst (λ (ps : List Plan). IsOp ps (needed c.args.action.op d)) c.sched.ensures (c.waiting_on-need-items.ensures.exist c.loop-need.need-index none c.loop-need-test.true);
       each = c.loop-need.invariant.0.each;
       cursors = c.loop-need.invariant.1;
     }
@@ -22,14 +25,30 @@ refresh-requires g c =
 pub loop-need-preserved : goal.loop-need-preserved
 loop-need-preserved g c =
     let plans = c.args.state.now.plans in
-    let items = c.waiting_on-need-items.ensures.waiting_on ∙ ap (λ (ps : List Plan). waiting_on ps c.args.id) c.sched.ensures in
+    let id = c.args.action.op in
+    let items = c.waiting_on-need-items.ensures.waiting_on ∙ ap (λ (ps : List Plan). waiting_on ps id) c.sched.ensures in
     let k = c.loop-need.need-index in
-    let d = get_or c.waiting_on-need-items.result.now k none in
     let within = subst (λ (ds : List Need). k < length ds) items c.loop-need-test.true in
-    (refreshed plans _ _ _ _ _ _ _ c.loop-need.invariant.0 c.refresh.ensures.queue (λ y is n differ. named_rest (waiting_on plans c.args.id) k none c.args.id y within n (λ e. differ (e ∙ ap (λ (ds : List Need). needed c.args.id (get_or ds k none)) (sym items)))), c.refresh.ensures.cursors)
+    (refreshed plans _ _ _ _ _ _ _ c.loop-need.invariant.0 c.refresh.ensures.queue (λ y is n differ. await_rest (waiting_on plans id) k none c.args.action.class id y within n (λ e. differ (e ∙ ap (λ (ds : List Need). needed id (get_or ds k none)) (sym items)))), c.refresh.ensures.cursors)
+
+pub loop-need-preserved-then-not-gives : goal.loop-need-preserved-then-not-gives
+loop-need-preserved-then-not-gives g c =
+    let plans = c.args.state.now.plans in
+    let id = c.args.action.op in
+    let items = c.waiting_on-need-items.ensures.waiting_on ∙ ap (λ (ps : List Plan). waiting_on ps id) c.sched.ensures in
+    let k = c.loop-need.need-index in
+    let within = subst (λ (ds : List Need). k < length ds) items c.loop-need-test.true in
+    let other = ap (λ (ds : List Need). gives c.args.action.class (get_or ds k none).when) (sym items) ∙ sym c.gives.ensures ∙ c.if-not-gives.true in
+    (fewer_due plans _ _ _ _ _ c.loop-need.invariant.0 (λ y is n. await_skipped (waiting_on plans id) k none c.args.action.class id y within other n), c.loop-need.invariant.1)
+
+-- an Arrive gives nothing
+pub returns-in-Arrive-clause-queue : goal.returns-in-Arrive-clause-queue
+returns-in-Arrive-clause-queue g c =
+    fewer_due _ _ _ _ _ _ c.requires.rest (λ y is n. both_ways _ (ap (λ (class : Class). gives class n.need.when) c.in-Arrive.is) n.given)
 
 pub returns-clause-queue : goal.returns-clause-queue
 returns-clause-queue g c =
     let plans = c.args.state.now.plans in
-    let items = c.waiting_on-need-items.ensures.waiting_on ∙ ap (λ (ps : List Plan). waiting_on ps c.args.id) c.sched.ensures in
-    fewer_due plans _ _ _ _ _ c.loop-need.invariant.0 (λ y is n. none_named (waiting_on plans c.args.id) c.loop-need.need-index c.args.id y (omega (arith, ap length items, c.loop-need-test.false)) n)
+    let id = c.args.action.op in
+    let items = c.waiting_on-need-items.ensures.waiting_on ∙ ap (λ (ps : List Plan). waiting_on ps id) c.sched.ensures in
+    fewer_due plans _ _ _ _ _ c.loop-need.invariant.0 (λ y is n. await_none (waiting_on plans id) c.loop-need.need-index none c.args.action.class id y (omega (arith, ap length items, c.loop-need-test.false)) n)
