@@ -1,10 +1,10 @@
 -- What is listed, and what is possible, exists.
-use Rattle.std.proofs.Common.{◌≡◌, ℕ, true, List, Some, is_some, slice_get, refl, sym, subst}
+use Rattle.std.proofs.Common.{◌≡◌, ℕ, ◌<◌, true, List, Option, None, Some, is_some, option_and_then, length, slice_get, refl, sym, subst}
 use Rattle.std.proofs.lemmas.Option.{slice_get_within, get_or_from_slice_get}
 use Rattle.goal_graph.specs.declared.action.OpId.{OpId}
 use Rattle.goal_graph.specs.declared.action.Timed.{Timed}
 use Rattle.goal_graph.specs.Action.{plain}
-use Rattle.goal_graph.specs.Schedule.{Plan, operations}
+use Rattle.goal_graph.specs.Schedule.{Plan, operations, op_at}
 use Rattle.goal_graph.specs.Fault.{IsOp}
 use Rattle.goal_graph.specs.Laws.{IsCalc}
 use Rattle.goal_graph.proofs.ForCallers.{listed_op, kind_listed, allowed_listed}
@@ -16,6 +16,15 @@ pub listed_exists : (plans : List Plan) (i : ℕ) (x : OpId) → slice_get (oper
 listed_exists plans i x e =
     let a = listed_op plans x (i, slice_get_within (operations plans) i x e, get_or_from_slice_get (operations plans) i x x e) in
     subst (λ o. is_some o ≡ true) (sym a.is) refl
+
+-- an operation is of a rank that there is
+pub rank_exists : (plans : List Plan) (x : OpId) → IsOp plans x → x.rank < length plans
+unfolding op_at
+rank_exists plans x is_op = go (slice_get plans x.rank) refl is_op
+  where
+    go : (q : Option Plan) → slice_get plans x.rank ≡ q → is_some (option_and_then (λ (p : Plan). slice_get p.ops x.op) q) ≡ true → x.rank < length plans
+    go None e h = absurd (cc h)
+    go (Some p) e h = slice_get_within plans x.rank p e
 
 -- a calc, a send and a receive exist
 pub calc_is_op : (plans : List Plan) (x : OpId) → IsCalc plans x → IsOp plans x

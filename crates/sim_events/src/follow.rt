@@ -15,7 +15,7 @@ ghost use Rattle.sim_events.specs.Queue.{IsEarly, IsQueue, IsQueueBut, IsRefresh
 use crate::cursor::Cursor;
 use crate::state::State;
 use goal_graph::{Class, OpId, Timed, When};
-use sim_order::{EventKey, Steps};
+use sim_order::{CompactKey, Steps};
 use sim_params::Costs;
 use sim_queue::FloorQueue;
 use std::sync::ledger::{Blank, Ledger};
@@ -93,7 +93,7 @@ fn raise<C: Costs, L: Ledger>(
         queue.lift(slot, free, steps);
         return;
     }
-    queue.put(slot, key_of(action), steps);
+    queue.put(slot, key_of(state, action), steps);
 }
 
 // Whether actions of a class wait for a cpu or an interface.
@@ -136,10 +136,12 @@ fn action_of<C: Costs>(state: &State<C>, cursors: &[Cursor], early: Timed) -> Ti
 }
 
 // The key of an action.
-fn key_of(action: Timed) -> EventKey
+fn key_of<C: Costs>(state: &State<C>, action: Timed) -> CompactKey
+    requires { IsOp state.now.plans action.op }
     ensures { result ≡ action }
 {
-    EventKey::new(action.time, action.class, action.op)
+    let _plans = state.sched().plans();
+    CompactKey::new(action.time, action.class, action.op)
 }
 
 /// Gives their keys to those whose next action may be another after an action: its operation, the partner, and the
@@ -264,7 +266,7 @@ fn refresh<C: Costs, L: Ledger>(
 {
     let slot = state.sched().index(id);
     match choice_from(state, cursors, id) {
-        Some(action) => queue.put(slot, key_of(action), steps),
+        Some(action) => queue.put(slot, key_of(state, action), steps),
         None => queue.drop_slot(slot, steps),
     }
 }

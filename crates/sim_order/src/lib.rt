@@ -1,6 +1,7 @@
 //! Orders of keys and of events, each with its laws. The comparisons of events are counted.
 #![tactic(auto)]
 
+mod compact;
 mod event;
 mod key;
 mod laws;
@@ -9,6 +10,7 @@ mod steps;
 #[cfg(test)]
 mod tests;
 
+pub use compact::CompactKey;
 pub use event::EventKey;
 pub use key::{Flip, KeyOrder, Lex};
 pub use laws::{laws_of_event_keys, laws_of_events, laws_of_keys};

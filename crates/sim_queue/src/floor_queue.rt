@@ -8,13 +8,13 @@ ghost use Rattle.sim_queue.specs.Floors.{waits_for_room, floor_of, seen_keys, Is
 use crate::{EventQueue, Groups, SlotHeap};
 use goal_base::NoMemory;
 use goal_graph::Class;
-use sim_order::{EventKey, EventOrder, Steps};
+use sim_order::{CompactKey, EventOrder, Steps};
 use std::alloc::Global;
 use std::marker::Model;
 use std::sync::ledger::Ledger;
 
 // The least key of a heap.
-fn first<L: Ledger>(heap: &SlotHeap<EventKey>, steps: &mut Steps<L>) -> Option<EventKey>
+fn first<L: Ledger>(heap: &SlotHeap<CompactKey>, steps: &mut Steps<L>) -> Option<CompactKey>
     ensures none { IsNone result ↔ IsEmptyMap heap.now }
     ensures least { IfSome result (λ key. (slot : ℕ) × IsLeast event_before heap.now slot key) }
 {
@@ -33,7 +33,7 @@ fn waits_for_room(class: Class) -> bool
 }
 
 // The floor of a group: the time of its head, 0 where it has none.
-fn floor(heads: &SlotHeap<EventKey>, group: u32) -> u64
+fn floor(heads: &SlotHeap<CompactKey>, group: u32) -> u64
     requires { group < length heads.now }
     ensures { result ≡ floor_of (key_at heads.now group) }
 {
@@ -45,8 +45,8 @@ fn floor(heads: &SlotHeap<EventKey>, group: u32) -> u64
 
 // Tells the head of a group anew, at this floor.
 fn renew<L: Ledger>(
-    waiting: &Groups<EventKey>,
-    heads: &mut SlotHeap<EventKey>,
+    waiting: &Groups<CompactKey>,
+    heads: &mut SlotHeap<CompactKey>,
     group: u32,
     floor: u64,
     steps: &mut Steps<L>,
@@ -63,9 +63,9 @@ fn renew<L: Ledger>(
 
 // Takes out the key of a slot, if it waits.
 fn stop_waiting<L: Ledger>(
-    ahead: &SlotHeap<EventKey>,
-    waiting: &mut Groups<EventKey>,
-    heads: &mut SlotHeap<EventKey>,
+    ahead: &SlotHeap<CompactKey>,
+    waiting: &mut Groups<CompactKey>,
+    heads: &mut SlotHeap<CompactKey>,
     slot: u32,
     steps: &mut Steps<L>,
 )
@@ -88,11 +88,11 @@ fn stop_waiting<L: Ledger>(
 
 // Lets a slot that has no key wait at the floor of its group, where its key's time is the floor.
 fn join<L: Ledger>(
-    ahead: &SlotHeap<EventKey>,
-    waiting: &mut Groups<EventKey>,
-    heads: &mut SlotHeap<EventKey>,
+    ahead: &SlotHeap<CompactKey>,
+    waiting: &mut Groups<CompactKey>,
+    heads: &mut SlotHeap<CompactKey>,
     slot: u32,
-    key: EventKey,
+    key: CompactKey,
     steps: &mut Steps<L>,
 )
     requires floored { IsFloored ahead.now waiting.old heads.old }
@@ -113,11 +113,11 @@ fn join<L: Ledger>(
 
 // Lets a slot wait at the floor of its group, which is this time from now on.
 fn park<L: Ledger>(
-    ahead: &mut SlotHeap<EventKey>,
-    waiting: &mut Groups<EventKey>,
-    heads: &mut SlotHeap<EventKey>,
+    ahead: &mut SlotHeap<CompactKey>,
+    waiting: &mut Groups<CompactKey>,
+    heads: &mut SlotHeap<CompactKey>,
     slot: u32,
-    key: EventKey,
+    key: CompactKey,
     time: u64,
     steps: &mut Steps<L>,
 )
@@ -141,11 +141,11 @@ fn park<L: Ledger>(
 #[derive(Drop)]
 pub struct FloorQueue {
     // keys that stand for themselves
-    ahead: SlotHeap<EventKey>,
+    ahead: SlotHeap<CompactKey>,
     // keys at the floor of their group, with 0 for their time
-    waiting: Groups<EventKey>,
+    waiting: Groups<CompactKey>,
     // the least of each group that waits, at the time of the floor
-    heads: SlotHeap<EventKey>,
+    heads: SlotHeap<CompactKey>,
 }
 
 impl Model for FloorQueue {
@@ -176,7 +176,7 @@ impl FloorQueue {
     }
 
     /// Gives a slot a key, in place of the one that it had if it had one.
-    pub fn put<L: Ledger>(&mut self, slot: u32, key: EventKey, steps: &mut Steps<L>)
+    pub fn put<L: Ledger>(&mut self, slot: u32, key: CompactKey, steps: &mut Steps<L>)
         requires { slot < length self.old.keys }
         ensures { self.new ≡ record self.old { keys = slice_set self.old.keys slot (Some key) } }
     {
@@ -234,7 +234,7 @@ impl FloorQueue {
     }
 
     /// A key such that no key of the map is before it. None where the map is empty.
-    pub fn least<L: Ledger>(&self, steps: &mut Steps<L>) -> Option<EventKey>
+    pub fn least<L: Ledger>(&self, steps: &mut Steps<L>) -> Option<CompactKey>
         ensures none { IsNone result ↔ IsEmptyMap self.now.keys }
         ensures least { IfSome result (λ key. (slot : ℕ) × IsLeast event_before self.now.keys slot key) }
     {

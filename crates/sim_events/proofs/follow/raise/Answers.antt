@@ -4,6 +4,7 @@ use Rattle.goal_graph.specs.Schedule.{Plan, operations}
 use Rattle.goal_graph.specs.Fault.{IsOp}
 use Rattle.sim_queue.specs.Floors.{waits_for_room, IsLifted}
 use Rattle.sim_events.proofs.Queue.{key_found, early_exists, raised}
+use Rattle.sim_events.proofs.Places.{possible_exists}
 use Rattle.sim_events.proofs.Lifts.{has_there, lifted_queue, lifted_less, put_less}
 use Rattle.sim_events.proofs.follow.raise.Goals as goal
 
@@ -28,6 +29,9 @@ lift-requires g c =
       waits = sym c.waits_for_room.ensures ∙ c.if-waits_for_room.true;
       before = c.if-early-free.true;
     }
+
+pub key_of-requires : goal.key_of-requires
+key_of-requires g c = possible_exists _ _ _ c.args.action c.requires.possible
 
 pub put-requires : goal.put-requires
 put-requires g c =

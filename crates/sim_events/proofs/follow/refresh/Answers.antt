@@ -1,8 +1,15 @@
-use Rattle.std.proofs.Common.{List, Some, length, ap, ◌∙◌, sym, arith}
+use Rattle.std.proofs.Common.{List, Some, length, ap, ◌∙◌, sym, subst, arith}
 use Rattle.goal_graph.specs.declared.action.Timed.{Timed}
 use Rattle.goal_graph.specs.Schedule.{Plan, operations}
 use Rattle.sim_events.proofs.Queue.{put_enabled}
+use Rattle.sim_events.proofs.Places.{possible_exists}
+use Rattle.sim_events.specs.Queue.{IsEnabledActionOf}
 use Rattle.sim_events.proofs.follow.refresh.Goals as goal
+
+pub key_of-requires : goal.key_of-requires
+key_of-requires g c =
+    let enabled = subst (IsEnabledActionOf c.args.state.now.plans _ c.args.state.now.history c.args.id) c.in-Some.is c.choice_from.ensures.enabled in
+    possible_exists _ _ _ c.in-Some.action enabled.1
 
 pub put-requires : goal.put-requires
 put-requires g c =

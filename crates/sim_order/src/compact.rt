@@ -1,0 +1,128 @@
+// Keys of events in two words.
+ghost use Rattle.std.specs.Prelude.{◌≡◌, ◌<◌, ◌^◌};
+ghost use Rattle.goal_graph.specs.Action.{place};
+ghost use Rattle.sim_order.specs.Compact.{class_at};
+
+use crate::{EventOrder, Steps};
+use goal_graph::{Class, OpId};
+use std::marker::Model;
+use std::sync::ledger::Ledger;
+
+// One more than the greatest rank of a compact key.
+const RANKS: u64 = 1 << 29;
+
+// One more than the greatest number of an operation in its rank.
+const OPS: u64 = 1 << 32;
+
+/// The key of an event whose rank is below 2^29, in 16 bytes. It is compared in at most two comparisons of words, and is
+/// in the order of `EventKey`.
+#[derive(Clone, Copy, Debug, PartialEq, Eq)]
+pub struct CompactKey {
+    time: u64,
+    // the class, the rank and the number of the operation, as the digits of one number
+    tail: u64,
+}
+
+impl Model for CompactKey {
+    ghost use Rattle.std.specs.Prelude.{◌<◌, ◌/◌, ◌^◌};
+    ghost use Rattle.goal_graph.specs.declared.action.Timed.{Timed};
+    ghost use Rattle.sim_order.specs.Compact.{timed_of, tail_of, tail_of_parts};
+
+    ghost Value = { Timed };
+
+    ghost view = { λ k. timed_of k.time k.tail };
+
+    ghost invariant = { λ k. k.tail / 2 ^ 32 / 2 ^ 29 < 5 };
+
+    ghost inverse = { λ e. record { time = e.time; tail = tail_of e.class e.op } };
+
+    ghost inverse_ok = { λ k h i. record { time = k.time; tail = tail_of_parts k.tail h i } };
+}
+
+// The place of a class in the order at one time.
+fn place(class: Class) -> u64
+    ensures { result ≡ place class }
+{
+    match class {
+        Class::Arrive => 0,
+        Class::Serve => 1,
+        Class::Data => 2,
+        Class::Post => 3,
+        Class::Begin => 4,
+    }
+}
+
+// The class at a place in the order at one time.
+fn class_at(place: u64) -> Class
+    ensures { result ≡ class_at place }
+{
+    match place {
+        0 => Class::Arrive,
+        1 => Class::Serve,
+        2 => Class::Data,
+        3 => Class::Post,
+        _ => Class::Begin,
+    }
+}
+
+impl CompactKey {
+    /// The key of the action of a class and operation at a time in nanoseconds.
+    pub fn new(time: u64, class: Class, id: OpId) -> CompactKey
+        requires { id.rank < 2 ^ 29 }
+        ensures { result ≡ record { time = time; class = class; op = id } }
+    {
+        let above = place(class) * RANKS + u64::from(id.rank);
+        CompactKey {
+            time,
+            tail: above * OPS + u64::from(id.op),
+        }
+    }
+
+    /// The key of the same action at another time, in nanoseconds.
+    pub fn at(&self, time: u64) -> CompactKey
+        ensures { result ≡ record { time = time; class = self.now.class; op = self.now.op } }
+    {
+        CompactKey {
+            time,
+            tail: self.tail,
+        }
+    }
+
+    /// The time, in nanoseconds.
+    pub fn time(&self) -> u64
+        ensures { result ≡ self.now.time }
+    {
+        self.time
+    }
+
+    /// The class of the action.
+    pub fn class(&self) -> Class
+        ensures { result ≡ self.now.class }
+    {
+        class_at(self.tail / OPS / RANKS)
+    }
+
+    /// The operation.
+    pub fn id(&self) -> OpId
+        ensures { result ≡ self.now.op }
+    {
+        OpId {
+            rank: (self.tail / OPS % RANKS) as u32,
+            op: (self.tail % OPS) as u32,
+        }
+    }
+}
+
+impl EventOrder for CompactKey {
+    ghost use Rattle.sim_order.specs.Events.{event_before};
+    ghost use Rattle.sim_order.specs.EventLaws.{event_laws};
+
+    ghost before = { event_before };
+
+    ghost laws = { event_laws };
+
+    fn before<L: Ledger>(&self, other: &CompactKey, steps: &mut Steps<L>) -> bool {
+        steps.tick();
+        self.time < other.time || (self.time == other.time && self.tail < other.tail)
+    }
+}
