@@ -1,5 +1,5 @@
 -- Where links lead, once one more number is linked.
-use Rattle.std.proofs.Common.{◌≡◌, ◌≢◌, ℕ, suc, ◌+◌, ◌^◌, ◌<◌, ◌≤◌, true, false, List, [], ◌∷◌, ◌++◌, Option, Some, None, length, slice_get, slice_set, refl, sym, ap, subst, ◌∙◌, arith, inl, inr, ◌⊎◌, length-append, eqb}
+use Rattle.std.proofs.Common.{◌≡◌, ◌≢◌, ℕ, suc, ◌+◌, ◌/◌, ◌^◌, ◌<◌, ◌≤◌, true, false, List, [], ◌∷◌, ◌++◌, Option, Some, None, length, slice_get, slice_set, refl, sym, ap, subst, ◌∙◌, arith, inl, inr, ◌⊎◌, length-append, eqb}
 use Rattle.std.specs.Option.{option_map_or}
 use Rattle.std.proofs.lemmas.Option.{slice_get_within, slice_get-get_or, get_or_from_slice_get}
 use Rattle.std.proofs.lemmas.List.{get_or-set_same, get_or-set_other, length-set}
@@ -70,12 +70,12 @@ Leads-none links number first (on i l at falls rest) none = absurd (omega (arith
 
 -- the head of a chain
 
-head-at : (heads : List Head) (h : ℕ) (head : Head) → slice_get heads (bucket h (length heads)) ≡ Some head → head_of heads h ≡ head.first
+head-at : (heads : List Head) (h : ℕ) (head : Head) → slice_get heads (bucket h (length heads)) ≡ Some head → head_of heads h ≡ head.packed / 32
 unfolding head_of
-head-at heads h head at = ap (λ o. option_map_or (λ (x : Head). x.first) o 0) at
+head-at heads h head at = ap (λ o. option_map_or (λ (x : Head). x.packed / 32) o 0) at
 
 -- a number is linked into the chain of its hash
-module _ (old : Chains) (hash next count : ℕ) (head : Head) where
+module _ (old : Chains) (hash next : ℕ) (head after : Head) (newest : after.packed / 32 ≡ length old.links.items + 1) where
   abbrev pub heads : List Head
   heads = old.heads.items
 
@@ -86,20 +86,19 @@ module _ (old : Chains) (hash next count : ℕ) (head : Head) where
   added = old.links.items ++ record { hash = hash; next = next } ∷ []
 
   abbrev pub grown : List Head
-  grown = slice_set heads at (record { first = length old.links.items + 1; count = count })
+  grown = slice_set heads at after
 
   grown-length : length grown ≡ length heads
-  grown-length = length-set heads at (record { first = length old.links.items + 1; count = count })
+  grown-length = length-set heads at after
 
   first_now : (h : ℕ) → bucket h (length heads) ≡ at → at < length heads → head_of grown h ≡ length old.links.items + 1
   first_now h same within =
-      head-at grown h (record { first = length old.links.items + 1; count = count })
-      (ap (λ n. slice_get grown (bucket h n)) grown-length ∙ ap (slice_get grown) same ∙ slice_get-set heads at _ within)
+      head-at grown h after (ap (λ n. slice_get grown (bucket h n)) grown-length ∙ ap (slice_get grown) same ∙ slice_get-set heads at after within) ∙ newest
 
   first_apart : (h : ℕ) → bucket h (length heads) ≢ at → head_of grown h ≡ head_of heads h
   unfolding head_of
   first_apart h apart =
-      ap (λ o. option_map_or (λ (x : Head). x.first) o 0)
+      ap (λ o. option_map_or (λ (x : Head). x.packed / 32) o 0)
       (ap (λ n. slice_get grown (bucket h n)) grown-length ∙ slice_get-apart heads at (bucket h (length heads)) _ apart)
 
   pub led : slice_get heads at ≡ Some head → Leads added (length old.links.items) (head_of grown hash)
@@ -107,7 +106,7 @@ module _ (old : Chains) (hash next count : ℕ) (head : Head) where
       subst (Leads added (length old.links.items)) (omega (arith, sym (first_now hash refl (slice_get_within heads at head there))))
       (here _ (slice_get-last old.links.items (record { hash = hash; next = next })))
 
-  pub kept : slice_get heads at ≡ Some head → next ≡ head.first → (h number : ℕ) → Leads old.links.items number (head_of heads h) → Leads added number (head_of grown h)
+  pub kept : slice_get heads at ≡ Some head → next ≡ head.packed / 32 → (h number : ℕ) → Leads old.links.items number (head_of heads h) → Leads added number (head_of grown h)
   kept there is h number leads = by (eqb_tells (bucket h (length heads)) at)
     where
       by : ((eqb (bucket h (length heads)) at ≡ true) × (bucket h (length heads) ≡ at)) ⊎ ((eqb (bucket h (length heads)) at ≡ false) × (bucket h (length heads) ≢ at)) → Leads added number (head_of grown h)
@@ -138,20 +137,20 @@ apart old mid new hash same heads links few =
     }
 
 -- a number that is linked
-pub linked : (old new : Chains) (hash count : ℕ) (head : Head) → slice_get old.heads.items (bucket hash (length old.heads.items)) ≡ Some head
-    → new.heads.items ≡ slice_set old.heads.items (bucket hash (length old.heads.items)) (record { first = length old.links.items + 1; count = count })
-    → new.links.items ≡ old.links.items ++ record { hash = hash; next = head.first } ∷ []
+pub linked : (old new : Chains) (hash : ℕ) (head after : Head) → after.packed / 32 ≡ length old.links.items + 1 → slice_get old.heads.items (bucket hash (length old.heads.items)) ≡ Some head
+    → new.heads.items ≡ slice_set old.heads.items (bucket hash (length old.heads.items)) after
+    → new.links.items ≡ old.links.items ++ record { hash = hash; next = head.packed / 32 } ∷ []
     → length old.links.items + 1 < 2 ^ 32 → IsLinked old new hash true
-linked old new hash count head there heads links few = record {
+linked old new hash head after newest there heads links few = record {
   few = few;
-  next = head.first;
+  next = head.packed / 32;
   links = links;
   kept = λ h number leads.
       subst (λ ls. Leads ls number (head_of new.heads.items h)) (sym links)
-      (subst (λ hs. Leads (old.links.items ++ record { hash = hash; next = head.first } ∷ []) number (head_of hs h)) (sym heads)
-      (kept old hash head.first count head there refl h number leads));
+      (subst (λ hs. Leads (old.links.items ++ record { hash = hash; next = head.packed / 32 } ∷ []) number (head_of hs h)) (sym heads)
+      (kept old hash (head.packed / 32) head after newest there refl h number leads));
   led = λ told.
       subst (λ ls. Leads ls (length old.links.items) (head_of new.heads.items hash)) (sym links)
-      (subst (λ hs. Leads (old.links.items ++ record { hash = hash; next = head.first } ∷ []) (length old.links.items) (head_of hs hash)) (sym heads)
-      (led old hash head.first count head there));
+      (subst (λ hs. Leads (old.links.items ++ record { hash = hash; next = head.packed / 32 } ∷ []) (length old.links.items) (head_of hs hash)) (sym heads)
+      (led old hash (head.packed / 32) head after newest there));
 }

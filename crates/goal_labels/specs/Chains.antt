@@ -1,5 +1,5 @@
 -- Chains of numbers by their hashes.
-use Rattle.std.specs.Prelude.{◌≡◌, ℕ, suc, ◌+◌, ◌-◌, ◌^◌, ◌<◌, ◌≤◌, Bool, true, List, [], ◌∷◌, ◌++◌, Some, length, slice_get, bit_and}
+use Rattle.std.specs.Prelude.{◌≡◌, ℕ, suc, ◌+◌, ◌-◌, ◌/◌, ◌^◌, ◌<◌, ◌≤◌, Bool, true, List, [], ◌∷◌, ◌++◌, Some, length, slice_get, bit_and}
 use Rattle.std.specs.Option.{option_map_or}
 use Rattle.goal_labels.specs.declared.chains.Head.{Head}
 use Rattle.goal_labels.specs.declared.chains.Link.{Link}
@@ -11,7 +11,7 @@ bucket hash count = bit_and hash (count - 1)
 
 -- the newest number of the chain of a hash and 1, or 0 where there is none
 unfoldable pub head_of : List Head → ℕ → ℕ
-head_of heads hash = option_map_or (λ h. h.first) (slice_get heads (bucket hash (length heads))) 0
+head_of heads hash = option_map_or (λ h. h.packed / 32) (slice_get heads (bucket hash (length heads))) 0
 
 -- From a number and 1 on, the links lead to the number.
 pub data Leads (links : List Link) (number : ℕ) : ℕ → Type 0 where

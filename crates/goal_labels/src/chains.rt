@@ -1,20 +1,53 @@
 //! Chains of numbers by their hashes. The numbers are given one after another, from 0.
-ghost use Rattle.std.specs.Prelude.{◌≡◌, ◌+◌, [], length, OnOk, IfOk};
+ghost use Rattle.std.specs.Prelude.{◌≡◌, ◌+◌, ◌<◌, ◌^◌, ◌/◌, ◌%◌, [], length, OnOk, IfOk};
 ghost use Rattle.goal_labels.specs.Chains.{bucket, head_of, IsLinked};
 
 use std::alloc::{AllocError, Global};
 
 // The most numbers that a chain has.
-const MOST_IN_A_CHAIN: u32 = 32;
+const MOST_IN_A_CHAIN: u32 = 31;
 
-/// A chain: its newest number and 1, or 0 where it has none, and how many it has.
+// How many counts a head can have: its newest number and 1 is stored times this, and the count is added.
+const COUNTS: u32 = MOST_IN_A_CHAIN + 1;
+
+// The least number and 1 that fits no head.
+const PAST_HEADS: u32 = 1 << 27;
+
+/// A chain, in one word: its newest number and 1, or 0 where it has none, times 32, and in the lower 5 bits how many it has.
 #[derive(Clone, Copy, Debug)]
 pub struct Head {
-    pub first: u32,
-    pub count: u32,
+    pub packed: u32,
 }
 
-const NO_CHAIN: Head = Head { first: 0, count: 0 };
+const NO_CHAIN: Head = Head { packed: 0 };
+
+impl Head {
+    // The newest number of the chain and 1, or 0 where it has none.
+    fn first(&self) -> u32
+        ensures { result ≡ self.now.packed / 32 }
+    {
+        self.packed / COUNTS
+    }
+
+    // How many numbers the chain has.
+    fn count(&self) -> u32
+        ensures { result ≡ self.now.packed % 32 }
+    {
+        self.packed % COUNTS
+    }
+
+    // The head once that is the newest number and 1 of the chain.
+    fn with_newest(&self, number: u32) -> Head
+        requires room { self.now.packed % 32 < 31 }
+        requires fits { number < 2 ^ 27 }
+        ensures newest { result.packed / 32 ≡ number }
+        ensures count { result.packed % 32 ≡ self.now.packed % 32 + 1 }
+    {
+        Head {
+            packed: number * COUNTS + self.count() + 1,
+        }
+    }
+}
 
 /// The hash of a number, and the number before it in its chain and 1, or 0 where there is none.
 #[derive(Clone, Copy, Debug)]
@@ -78,13 +111,13 @@ impl Chains {
         ensures { result ≡ head_of self.now.heads.items hash }
     {
         match self.heads.get(bucket(hash, self.heads.len())) {
-            Some(head) => head.first,
+            Some(head) => head.first(),
             None => 0,
         }
     }
 
-    /// Gives the next number to a hash, and links it into the chain of the hash, unless that is long already. Whether it is
-    /// linked.
+    /// Gives the next number to a hash, and links it into the chain of the hash, unless that is long already or the number
+    /// fits no head. Whether it is linked.
     pub fn push(&mut self, hash: u32) -> Result<bool, AllocError>
         ensures { IfOk result (λ linked. IsLinked self.old self.new hash linked) }
     {
@@ -94,16 +127,13 @@ impl Chains {
         };
         let at = bucket(hash, self.heads.len());
         match self.heads.get(at) {
-            Some(head) if head.count < MOST_IN_A_CHAIN => {
+            Some(head) if head.count() < MOST_IN_A_CHAIN && number < PAST_HEADS => {
                 let head = *head;
                 self.links.push(Link {
                     hash,
-                    next: head.first,
+                    next: head.first(),
                 })?;
-                self.heads[at] = Head {
-                    first: number,
-                    count: head.count + 1,
-                };
+                self.heads[at] = head.with_newest(number);
                 Ok(true)
             }
             _ => {

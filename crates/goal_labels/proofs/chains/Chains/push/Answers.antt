@@ -1,10 +1,10 @@
-use Rattle.std.proofs.Common.{◌≡◌, ◌∙◌, ap, subst, arith, rules, Some, refl, slice_get, slice_set, length, List, ◌+◌}
+use Rattle.std.proofs.Common.{◌≡◌, ◌∙◌, ap, subst, arith, rules, Some, refl, slice_get, slice_set, length, List, [], ◌∷◌, ◌++◌, ◌+◌}
 use Rattle.std.proofs.lemmas.Option.{slice_get_read}
 use Rattle.goal_labels.specs.declared.chains.Head.{Head}
 use Rattle.goal_labels.specs.Chains.{bucket}
 use Rattle.goal_labels.proofs.ChainLemmas.{linked, apart}
 use Rattle.goal_labels.proofs.chains.Chains.push.Goals as goal
-use Rattle.goal_labels.proofs.chains.Chains.push.Goals.{in_default-via-in-Some+else-head-lt-MOST_IN_A_CHAIN, in_default-via-in_default}
+use Rattle.goal_labels.proofs.chains.Chains.push.Goals.{in_default-via-in-Some+else-count-lt-MOST_IN_A_CHAIN, in_default-via-in-Some+then-count-lt-MOST_IN_A_CHAIN+else-number-lt-PAST_HEADS, in_default-via-in_default}
 
 pub returns-in_ok-push-in-Some : goal.returns-in_ok-push-in-Some
 returns-in_ok-push-in-Some c =
@@ -16,15 +16,16 @@ returns-in_ok-push-in-Some c =
     let there : slice_get heads (bucket c.args.hash (length heads)) ≡ Some head =
     subst (λ i. slice_get heads i ≡ Some head) is_at (subst (λ (hs : List Head). slice_get hs c.bucket-at.result ≡ Some head) c.deref.ensures.value read) in
     let number : c.in-Ok.number ≡ length c.args.self.now.links.items + 1 = omega (arith, c.in-Ok.ensures.1, c.len.ensures, c.args.self.now.links.ok.0) in
-    linked c.args.self.now _ c.args.hash (head.count + 1) head there
-    (ap (λ i. slice_set heads i (record { first = c.in-Ok.number; count = head.count + 1 })) is_at
-    ∙ ap (λ n. slice_set heads (bucket c.args.hash (length heads)) (record { first = n; count = head.count + 1 })) number)
-    c.in_ok-push-in-Some.ensures.items (omega (arith, c.in-Ok.ensures.0, c.len.ensures, c.args.self.now.links.ok.0))
+    linked c.args.self.now _ c.args.hash head c.with_newest.result (c.with_newest.ensures.newest ∙ number) there
+    (ap (λ i. slice_set heads i c.with_newest.result) is_at)
+    (c.in_ok-push-in-Some.ensures.items ∙ ap (λ n. c.args.self.now.links.items ++ record { hash = c.args.hash; next = n } ∷ []) c.first.ensures)
+    (omega (arith, c.in-Ok.ensures.0, c.len.ensures, c.args.self.now.links.ok.0))
 
 pub returns-in_ok-push-in_default : goal.returns-in_ok-push-in_default
 returns-in_ok-push-in_default c =
     let same : c.in_default.self ≡ c.args.self.now = elim c.in_default.branch [
-      | in_default-via-in-Some+else-head-lt-MOST_IN_A_CHAIN w ↦ w.self-is
+      | in_default-via-in-Some+else-count-lt-MOST_IN_A_CHAIN w ↦ w.self-is
+      | in_default-via-in-Some+then-count-lt-MOST_IN_A_CHAIN+else-number-lt-PAST_HEADS w ↦ w.self-is
       | in_default-via-in_default w ↦ w.self-is
     ] in
     apart c.args.self.now c.in_default.self _ c.args.hash same refl c.in_ok-push-in_default.ensures.items (omega (arith, c.in-Ok.ensures.0, c.len.ensures, c.args.self.now.links.ok.0))
