@@ -1,5 +1,5 @@
 -- Entries, each the only one of its label.
-use Rattle.std.proofs.Common.{◌≡◌, ℕ, zero, suc, ◌<◌, Bool, true, false, cond, List, [], ◌∷◌, ◌++◌, Option, Some, None, length, slice_get, slice_set, refl, sym, ap, subst, ◌∙◌, arith, bytes_eq, if◌then◌else◌, length-append, ltb, Decides}
+use Rattle.std.proofs.Common.{◌≡◌, ℕ, zero, suc, ◌<◌, Bool, true, false, cond, List, [], ◌∷◌, ◌++◌, Option, Some, None, length, slice_get, slice_set, refl, sym, ap, subst, ◌∙◌, arith, bytes_eq, if◌then◌else◌, length-append, ltb, Decides, unwrap_or}
 use Rattle.std.specs.Map.{lookup}
 use Rattle.std.specs.Option.{option_map_or}
 use Rattle.std.proofs.lemmas.Cmp.{nat_list_eq_equiv}
@@ -32,6 +32,11 @@ is_at-no es label i h there =
     let told : bytes_eq label label ≡ false = sym (ap (λ (o : Option (List ℕ × Slot)). option_map_or (λ e. bytes_eq e.0 label) o false) there.1) ∙ h in
     let mine = own label in
     absurd (cc)
+
+-- a guess that is compared
+pub is_at-guess : (read es : Entries) (label : List ℕ) (guess i : ℕ) → is_at read label guess ≡ true → read ≡ es → Some guess ≡ Some i → IsAt es label i
+is_at-guess read es label guess i told same one =
+    subst (λ (ds : Entries). IsAt ds label i) same (subst (IsAt read label) (ap (λ (o : Option ℕ). unwrap_or o 0) one) (is_at-yes read label guess told))
 
 -- an entry is added
 

@@ -32,6 +32,9 @@ pub struct LabelMap {
     entries: Vec<(Label, Slot)>,
     chains: Chains,
     apart: BTreeMap<Sorted, u32>,
+    // The numbers that were found last and before that. They only save time: any values are right.
+    last: usize,
+    before: usize,
 }
 
 impl Model for LabelMap {
@@ -161,6 +164,8 @@ impl LabelMap {
             entries: Vec::new(alloc),
             chains: Chains::new(alloc),
             apart: BTreeMap::new(alloc),
+            last: 0,
+            before: 0,
         }
     }
 
@@ -208,6 +213,30 @@ impl LabelMap {
         }
     }
 
+    // The number of a label. Mentions mostly go on in order: the label behind the one that was found last is looked at first,
+    // and then the label behind the one that was found before that.
+    fn find_near(&mut self, label: &Label) -> Option<usize>
+        ensures found { IfSome result (IsAt self.new label.now) }
+        ensures absent { IfNone result (IsAbsent self.new label.now) }
+        ensures unique { AreUnique self.new }
+        ensures kept { self.new ≡ self.old }
+    {
+        let after = self.last.saturating_add(1);
+        let later = self.before.saturating_add(1);
+        let found = if is_at(&self.entries, label, after) {
+            Some(after)
+        } else if is_at(&self.entries, label, later) {
+            Some(later)
+        } else {
+            self.find(label)
+        };
+        if let Some(i) = found {
+            self.before = self.last;
+            self.last = i;
+        }
+        found
+    }
+
     // Adds a label that has no entry.
     fn add(&mut self, label: &Label, slot: Slot) -> Result<(), AllocError>
         requires { IsAbsent self.old label.now }
@@ -251,7 +280,7 @@ impl LabelMap {
         ensures new { OnOk result (lookup (bytes_eq label.now) self.old ≡ None → self.new ≡ put self.old label.now slot) }
         ensures number { IfOk result (IsAt self.new label.now) }
     {
-        match self.find(label) {
+        match self.find_near(label) {
             Some(i) => Ok(i),
             None => {
                 let number = self.entries.len();
