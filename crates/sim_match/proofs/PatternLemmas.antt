@@ -59,6 +59,10 @@ position_none p xs e =
 pub number_within : (keys : List Pattern) (p : Pattern) (i : ℕ) → number keys p ≡ Some i → i < length keys
 number_within keys p i e = (position-Some (same_pattern p) keys i p e).0
 
+-- and the pattern stands there
+pub number_at : (keys : List Pattern) (p : Pattern) (i : ℕ) → number keys p ≡ Some i → p ≡ get_or keys i p
+number_at keys p i e = same_pattern_true p (get_or keys i p) (position-Some (same_pattern p) keys i p e).1
+
 -- a pattern that is there has a number
 pub number_there : (keys : List Pattern) (p : Pattern) (k : ℕ) (q : Pattern) → slice_get keys k ≡ Some q → same_pattern p q ≡ true → (i : ℕ) × (number keys p ≡ Some i)
 number_there keys p k q there same = go (position (same_pattern p) keys) refl

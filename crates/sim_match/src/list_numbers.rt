@@ -8,7 +8,7 @@ ghost use Rattle.sim_match.specs.ListNumbers.{coded, IsCodable, AreNumbered};
 
 use crate::pattern::{Pattern, Patterns, own_list};
 use goal_base::NoMemory;
-use goal_graph::{Message, OpId, Sched};
+use goal_graph::{Kind, Message, OpId, Sched};
 use std::alloc::{AllocError, Global};
 
 /// The patterns of a schedule, and for each operation, in the order of all, the number of the list of its own pattern:
@@ -44,21 +44,32 @@ fn decoded(kept: u32) -> Option<usize>
     }
 }
 
-// The numbers of all operations.
+// The numbers of all operations. The pattern of a send mostly stands next to that of the send before it, and that of a
+// receive next to that of the receive before it, so each is looked for there first.
 fn own_numbers(alloc: Global, sched: &Sched, patterns: &Patterns) -> Result<Vec<u32>, AllocError>
     requires { length patterns.now ≤ length (operations sched.now) }
     ensures few { OnOk result (length patterns.now < 2 ^ 32 - 1) }
     ensures numbers { IfOk result (λ numbers. numbers.items ≡ map (λ x. coded (own_list sched.now patterns.now x)) (operations sched.now)) }
 {
     let mut numbers = Vec::with_capacity(alloc, sched.count() as usize)?;
+    let mut last_send = 0;
+    let mut last_receive = 0;
     for id in sched.operations() {
-        numbers.push_reserved(coded(own_list(patterns, sched, *id)));
+        let is_send = matches!(sched.op(*id).kind, Kind::Send { .. });
+        let guess = if is_send { last_send } else { last_receive };
+        let number = own_list(patterns, sched, *id, guess);
+        numbers.push_reserved(coded(number));
+        if is_send {
+            last_send = number.unwrap_or(guess);
+        } else {
+            last_receive = number.unwrap_or(guess);
+        }
     }
     Ok(numbers)
 }
 
 impl ListNumbers {
-    /// The numbers of a schedule. Each pattern is looked up here, by halving.
+    /// The numbers of a schedule. Each pattern is looked up here, next to the one before or by halving.
     pub fn of(alloc: Global, sched: &Sched) -> Result<ListNumbers, NoMemory>
         ensures { IfOk result (λ numbers. AreNumbered sched.now numbers) }
     {
