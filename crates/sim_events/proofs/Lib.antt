@@ -19,6 +19,7 @@ pub mod Entries
 pub mod Performed
 pub mod Views
 pub mod EnabledLemmas
+pub mod Shapes
 pub mod Choice
 pub mod Numbering
 pub mod Lifts

@@ -6,6 +6,7 @@ pub mod Moments
 pub mod Partners
 pub mod Tables
 pub mod Enabled
+pub mod Shapes
 pub mod Represents
 pub mod Stations
 pub mod Cursors

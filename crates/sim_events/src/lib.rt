@@ -7,6 +7,7 @@ mod entry;
 mod follow;
 mod moment;
 mod pairing;
+mod shape;
 mod state;
 mod station;
 

@@ -12,12 +12,14 @@ ghost use Rattle.sim_params.specs.Run.{IsNext, IsRun, IsFinished, IsCompleteRun}
 ghost use Rattle.sim_params.specs.Laws.{IsWithin};
 ghost use Rattle.sim_events.specs.Engine.{IsEngineFault, start_known, end_known};
 ghost use Rattle.sim_events.specs.Represents.{entry_known};
+ghost use Rattle.sim_events.specs.Shapes.{shape_of};
 ghost use Rattle.sim_events.specs.Stations.{free};
 
 use crate::engine::{EngineFault, Record};
 use crate::entry::{Entry, read};
+use crate::shape::{Shape, shapes};
 use goal_base::MAX_BUDGET;
-use goal_graph::{Kind, OpId, Sched, Timed};
+use goal_graph::{OpId, Sched, Timed};
 use sim_match::Matcher;
 use sim_params::{Costs, budget};
 use sim_resources::Resources;
@@ -37,6 +39,8 @@ pub struct State<'a, C: Costs> {
     history: Vec<Timed>,
     // what is known of each operation, in the order of all
     entries: Vec<Entry>,
+    // what each operation is, in the same order
+    shapes: Vec<Shape>,
     // who is paired with whom
     matcher: Matcher<'a>,
     // when cpus and interfaces are free
@@ -52,7 +56,7 @@ impl<'a, C: Costs> Model for State<'a, C> {
 
     ghost view = { λ e. record { plans = e.sched.now; costs = e.costs; history = reverse e.history.items } };
 
-    ghost invariant = { λ e. Represents e.sched.now (C.model e.costs) (reverse e.history.items) e.entries.items e.matcher e.resources (vec_capacity e.history) };
+    ghost invariant = { λ e. Represents e.sched.now (C.model e.costs) (reverse e.history.items) e.entries.items e.shapes.items e.matcher e.resources (vec_capacity e.history) };
 }
 
 impl<'a, C: Costs + Drop> State<'a, C> {
@@ -74,6 +78,7 @@ impl<'a, C: Costs + Drop> State<'a, C> {
         let count = sched.count() as usize;
         let history = Vec::with_capacity(alloc, 3 * count)?;
         let entries = vec![in alloc; Entry::BLANK; count]?;
+        let shapes = shapes(alloc, sched, &costs)?;
         let matcher = Matcher::new(alloc, sched)?;
         let resources = Resources::new(alloc, sched)?;
         Ok(State {
@@ -81,6 +86,7 @@ impl<'a, C: Costs + Drop> State<'a, C> {
             costs,
             history,
             entries,
+            shapes,
             matcher,
             resources,
         })
@@ -126,10 +132,10 @@ impl<'a, C: Costs> State<'a, C> {
         requires { IsOp self.now.plans id }
         ensures { result ≡ free self.now.plans (C.model self.now.costs) self.now.history id }
     {
-        match self.sched().op(id).kind {
-            Kind::Calc { .. } => self.resources.cpu(id),
-            Kind::Send { .. } => self.resources.cpu(id).max(self.resources.tx(id)),
-            Kind::Recv { .. } => self.resources.cpu(id).max(self.resources.rx(id)),
+        match self.shape(id) {
+            Shape::Calc => self.resources.cpu(id),
+            Shape::Eager | Shape::Large => self.resources.cpu(id).max(self.resources.tx(id)),
+            Shape::Receive => self.resources.cpu(id).max(self.resources.rx(id)),
         }
     }
 
@@ -164,5 +170,13 @@ impl<'a, C: Costs> State<'a, C> {
         ensures { result.now ≡ entry_known self.now.plans (C.model self.now.costs) self.now.history id }
     {
         read(self.sched, &self.entries, id)
+    }
+
+    // What an operation is, and whether a send goes out whole.
+    fn shape(&self, id: OpId) -> Shape
+        requires { IsOp self.now.plans id }
+        ensures { result ≡ shape_of self.now.plans (C.model self.now.costs) id }
+    {
+        self.shapes[self.sched.index(id) as usize]
     }
 }

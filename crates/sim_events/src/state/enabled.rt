@@ -12,7 +12,8 @@ ghost use Rattle.sim_events.specs.Enabled.{moment_known, ready_known, enabled_ac
 use super::State;
 use crate::cursor::Cursor;
 use crate::pairing::Pairing;
-use goal_graph::{Class, Kind, OpId, Timed, When};
+use crate::shape::Shape;
+use goal_graph::{Class, OpId, Timed, When};
 use sim_eager::{begin_at, serve_at};
 use sim_params::Costs;
 use sim_rendezvous::{clear, data_at};
@@ -26,10 +27,10 @@ impl<'a, C: Costs> State<'a, C> {
         ensures enabled { IsEnabledActionOf self.now.plans (C.model self.now.costs) self.now.history id result }
         ensures cursor { IsCursorOf self.now.plans (C.model self.now.costs) self.now.history id cursor.new }
     {
-        match self.sched().op(id).kind {
-            Kind::Calc { .. } => self.begin_of_calc(id, cursor),
-            Kind::Send { .. } => self.choice_of_send(id, cursor),
-            Kind::Recv { .. } => self.choice_of_receive(id, cursor),
+        match self.shape(id) {
+            Shape::Calc => self.begin_of_calc(id, cursor),
+            Shape::Eager | Shape::Large => self.choice_of_send(id, cursor),
+            Shape::Receive => self.choice_of_receive(id, cursor),
         }
     }
 
@@ -184,8 +185,7 @@ impl<'a, C: Costs> State<'a, C> {
         requires { IsSend self.now.plans send }
         ensures { result ≡ is_eager self.now.plans (C.model self.now.costs) send }
     {
-        let message = self.sched().message(send);
-        self.costs().eager(send.rank, message.to, message.bytes)
+        self.shape(send) == Shape::Eager
     }
 
     // When all that an operation needs is there, once it is. Its cursor goes on as far as needs are met.

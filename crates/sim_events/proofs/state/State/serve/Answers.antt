@@ -63,20 +63,20 @@ at-requires g c =
     let was = entry_is g.C.Costs.model _ _ a.op c.entry-entry.result.now c.self.view_is c.entry-entry.ensures in
     let receive = (serves plans costs h a m.run next.possible c.requires.class).0 in
     let partner = mate_of_known plans costs h a a.op c.in-Some.pairing (sym (ap (λ (e : Entry). e.paired) was) ∙ sym c.get.ensures ∙ c.in-Some.is) in
-    end_fits _ _ _ _ _ _ _ m a next _ (c.serve-end.ensures.end ∙ ap (λ (n : ℕ). a.time + n) (sym (cpu_of_serve plans costs h a.class a.op receive c.in-Some.pairing.with partner c.requires.class)))
+    end_fits _ _ _ _ _ _ _ _ m a next _ (c.serve-end.ensures.end ∙ ap (λ (n : ℕ). a.time + n) (sym (cpu_of_serve plans costs h a.class a.op receive c.in-Some.pairing.with partner c.requires.class)))
 
 pub write-requires : goal.write-requires
 write-requires g c =
     let next = next_at g.C.Costs.model _ _ c.args.action c.self.view_is c.requires.next in
     record {
-      exists = is_op _ _ _ _ _ _ _ c.self.invariant c.args.action next;
-      each = each_entry _ _ _ _ _ _ _ c.self.invariant _ c.deref_mut.ensures.value;
+      exists = is_op _ _ _ _ _ _ _ _ c.self.invariant c.args.action next;
+      each = each_entry _ _ _ _ _ _ _ _ c.self.invariant _ c.deref_mut.ensures.value;
     }
 
 pub push_reserved-requires : goal.push_reserved-requires
 push_reserved-requires g c =
     let next = next_at g.C.Costs.model _ _ c.args.action c.self.view_is c.requires.next in
-    let room : length c.self.inside.history.items < vec_capacity c.self.inside.history = room_left _ _ (record { items = c.self.inside.history.items; entries = c.self.inside.entries.items; matcher = c.self.inside.matcher; res = c.self.inside.resources; room = vec_capacity c.self.inside.history }) c.self.invariant c.args.action next in
+    let room : length c.self.inside.history.items < vec_capacity c.self.inside.history = room_left _ _ (record { items = c.self.inside.history.items; entries = c.self.inside.entries.items; shapes = c.self.inside.shapes.items; matcher = c.self.inside.matcher; res = c.self.inside.resources; room = vec_capacity c.self.inside.history }) c.self.invariant c.args.action next in
     omega (arith, c.self.inside.history.ok.0, room)
 
 pub invariant_of-self : goal.invariant_of-self
@@ -95,7 +95,7 @@ invariant_of-self g c =
     let told = c.write.ensures (entry_known plans costs h) (c.deref_mut.ensures.value ∙ m.known) ∙ (λ i. map (with_entry a.op (record c.entry-entry.result.now { end = c.at.ensures i }) (entry_known plans costs h)) (operations plans)) ∙ message_taken plans costs h a m.run next.possible c.entry-entry.result.now was _ until c.requires.class receive in
     let posts_and_arrivals = other_action plans costs h a c.self.inside.matcher m.posts_and_arrivals (ap is_post_or_arrival_class c.requires.class) in
     let free = free_serve plans costs h a c.self.inside.resources m.free c.serve-end.new.res _ (ap holds_cpu c.requires.class) until _ c.serve-end.ensures.holds (ap (λ (k : Class). holds_tx k (kind_at plans a.op)) c.requires.class) (ap holds_rx c.requires.class) received in
-    let parts : Parts = record { items = c.self.inside.history.items; entries = c.self.inside.entries.items; matcher = c.self.inside.matcher; res = c.self.inside.resources; room = vec_capacity c.self.inside.history } in
+    let parts : Parts = record { items = c.self.inside.history.items; entries = c.self.inside.entries.items; shapes = c.self.inside.shapes.items; matcher = c.self.inside.matcher; res = c.self.inside.resources; room = vec_capacity c.self.inside.history } in
     performed plans costs parts m a next (record {
       items = c.push_reserved.new.self.items;
       lent = c.deref_mut.result.now;
