@@ -123,6 +123,6 @@ impl EventOrder for CompactKey {
 
     fn before<L: Ledger>(&self, other: &CompactKey, steps: &mut Steps<L>) -> bool {
         steps.tick();
-        (self.time < other.time) | ((self.time == other.time) & (self.tail < other.tail))
+        self.time < other.time || (self.time == other.time && self.tail < other.tail)
     }
 }
