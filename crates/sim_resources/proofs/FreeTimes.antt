@@ -1,12 +1,14 @@
 -- The free time of an operation is told by the hold of its slot, and a longer hold there is worth one hold more.
-use Rattle.std.proofs.Common.{ℕ, zero, suc, ◌<◌, ◌≡◌, max, Bool, true, false, List, [], ◌∷◌, length, Some, slice_get, slice_index, slice_set, All, refl, ap, sym, ◌∙◌, subst, arith, if◌then◌else◌}
+use Rattle.std.proofs.Common.{ℕ, zero, suc, ◌<◌, ◌≡◌, max, Bool, true, false, List, [], ◌∷◌, length, map, Some, slice_get, slice_set, get_or, All, refl, ap, sym, ◌∙◌, subst, arith, if◌then◌else◌}
 use Rattle.std.proofs.lemmas.Bool.{false_from_ne_true}
+use Rattle.std.proofs.lemmas.List.{get_or-map, length-map}
 use Rattle.std.proofs.lemmas.List.Elements.{All-head, All-tail}
 use Rattle.std.proofs.lemmas.Option.{same_Some, slice_get_within, get_or_from_slice_get}
 use Rattle.goal_graph.specs.declared.action.OpId.{OpId}
 use Rattle.goal_graph.specs.declared.plan.Op.{Op}
 use Rattle.goal_graph.specs.Schedule.{Plan, operations}
 use Rattle.sim_resources.specs.declared.holds.Hold.{Hold}
+use Rattle.sim_resources.specs.declared.slots.Slots.{Slots}
 use Rattle.sim_resources.specs.FreeTimes.{shares, free_at, hold}
 use Rattle.sim_resources.specs.Slots.{HasSlot, IsNumbered, users}
 use Rattle.sim_resources.proofs.Shares.{shares_alike, shares_back}
@@ -112,59 +114,64 @@ module _ (place : Op → ℕ) (plans : List Plan) where
   free_at-raised (g ∷ hs) (suc s) h x e mine until y =
       rw (free_at-raised hs s h x e mine until y) (max_swap (free_at place plans hs y) _ _)
 
-module _ (place : Op → ℕ) (plans : List Plan) (slots : List ℕ) (holds : List Hold) (n : IsNumbered place plans slots (users holds))
+module _ (place : Op → ℕ) (plans : List Plan) (of : Slots → ℕ) (slots : List Slots) (holds : List Hold)
+    (n : IsNumbered place plans (map of slots) (users holds))
     (i : ℕ) (x : OpId) (at : slice_get (operations plans) i ≡ Some x) where
-  slot : HasSlot place plans slots (users holds) i x
+  slot : HasSlot place plans (map of slots) (users holds) i x
   slot = n.each i x at
 
-  index_is : slice_index slots i ≡ slot.slot
-  index_is = get_or_from_slice_get slots i slot.slot 0 slot.slot_is
-
   pub place_in : i < length slots
-  place_in = slice_get_within slots i slot.slot slot.slot_is
+  place_in = omega (arith, slice_get_within (map of slots) i slot.slot slot.slot_is, length-map slots of)
 
-  -- the hold of the operation's slot
-  pub record HasHold : Type 0 where
-    pub hold : Hold
-    pub there : slice_get holds (slice_index slots i) ≡ Some hold
-    pub shared : shares place plans x hold.op ≡ true
+  -- with the slots of the operation
+  module _ (s : Slots) (read : s ≡ get_or slots i s) where
+    slot_is : of s ≡ slot.slot
+    slot_is =
+        ap of read ∙ sym (get_or-map of slots i s 0 place_in)
+        ∙ get_or_from_slice_get (map of slots) i slot.slot 0 slot.slot_is
 
-  pub has_hold : HasHold
-  has_hold =
-      let found = user_at holds slot.slot slot.user slot.user_is in
-      record {
-        hold = found.0;
-        there = rw index_is found.1;
-        shared = subst (λ (y : OpId). shares place plans x y ≡ true) (sym found.2) slot.shared;
-      }
+    -- the hold of the operation's slot
+    pub record HasHold : Type 0 where
+      pub hold : Hold
+      pub there : slice_get holds (of s) ≡ Some hold
+      pub shared : shares place plans x hold.op ≡ true
 
-  pub slot_in : slice_index slots i < length holds
-  slot_in = slice_get_within holds (slice_index slots i) has_hold.hold has_hold.there
+    pub has_hold : HasHold
+    has_hold =
+        let found = user_at holds slot.slot slot.user slot.user_is in
+        record {
+          hold = found.0;
+          there = rw slot_is found.1;
+          shared = subst (λ (y : OpId). shares place plans x y ≡ true) (sym found.2) slot.shared;
+        }
 
-  -- no other hold is on what the operation uses
-  only : (j : ℕ) (g : Hold) → slice_get holds j ≡ Some g → shares place plans x g.op ≡ true → j ≡ slice_index slots i
-  only j g e shared =
-      let h = has_hold in
-      n.apart j (slice_index slots i) g.op h.hold.op (hold_user holds j g e) (hold_user holds (slice_index slots i) h.hold h.there)
-      (shares_on place plans x g.op h.hold.op shared h.shared)
+    pub slot_in : of s < length holds
+    slot_in = slice_get_within holds (of s) has_hold.hold has_hold.there
 
-  pub free_is : (r : ℕ) → ((h : Hold) → slice_get holds (slice_index slots i) ≡ Some h → r ≡ h.until) → r ≡ free_at place plans holds x
-  free_is r says =
-      let h = has_hold in
-      says h.hold h.there ∙ sym (free_at-one place plans holds (slice_index slots i) h.hold x h.there h.shared only)
-
-  module _ (holds' : List Hold) (until : ℕ)
-      (says : (h : Hold) → slice_get holds (slice_index slots i) ≡ Some h → holds' ≡ raised holds (slice_index slots i) h until) where
-    is_raised : holds' ≡ raised holds (slice_index slots i) has_hold.hold until
-    is_raised = says has_hold.hold has_hold.there
-
-    pub free_raised : (y : OpId) → free_at place plans holds' y ≡ free_at place plans (hold x until ∷ holds) y
-    free_raised y =
+    -- no other hold is on what the operation uses
+    only : (j : ℕ) (g : Hold) → slice_get holds j ≡ Some g → shares place plans x g.op ≡ true → j ≡ of s
+    only j g e shared =
         let h = has_hold in
-        ap (λ (hs : List Hold). free_at place plans hs y) is_raised ∙ free_at-raised place plans holds (slice_index slots i) h.hold x h.there h.shared until y
+        n.apart j (of s) g.op h.hold.op (hold_user holds j g e) (hold_user holds (of s) h.hold h.there)
+        (shares_on place plans x g.op h.hold.op shared h.shared)
 
-    pub numbered_raised : IsNumbered place plans slots (users holds')
-    numbered_raised =
+    pub free_is : (r : ℕ) → ((h : Hold) → slice_get holds (of s) ≡ Some h → r ≡ h.until) → r ≡ free_at place plans holds x
+    free_is r says =
         let h = has_hold in
-        let same : users holds ≡ users holds' = sym (ap users is_raised ∙ users-raised holds (slice_index slots i) h.hold until h.there) in
-        subst (IsNumbered place plans slots) same n
+        says h.hold h.there ∙ sym (free_at-one place plans holds (of s) h.hold x h.there h.shared only)
+
+    module _ (holds' : List Hold) (until : ℕ)
+        (says : (h : Hold) → slice_get holds (of s) ≡ Some h → holds' ≡ raised holds (of s) h until) where
+      is_raised : holds' ≡ raised holds (of s) has_hold.hold until
+      is_raised = says has_hold.hold has_hold.there
+
+      pub free_raised : (y : OpId) → free_at place plans holds' y ≡ free_at place plans (hold x until ∷ holds) y
+      free_raised y =
+          let h = has_hold in
+          ap (λ (hs : List Hold). free_at place plans hs y) is_raised ∙ free_at-raised place plans holds (of s) h.hold x h.there h.shared until y
+
+      pub numbered_raised : IsNumbered place plans (map of slots) (users holds')
+      numbered_raised =
+          let h = has_hold in
+          let same : users holds ≡ users holds' = sym (ap users is_raised ∙ users-raised holds (of s) h.hold until h.there) in
+          subst (IsNumbered place plans (map of slots)) same n

@@ -7,6 +7,7 @@ use Rattle.sim_resources.specs.FreeTimes.{shares}
 use Rattle.sim_resources.specs.declared.holds.Hold.{Hold}
 use Rattle.sim_resources.specs.declared.slots.Part.{Part}
 use Rattle.sim_resources.specs.declared.slots.Part.TheVariants.{Cpu, Nic}
+use Rattle.sim_resources.specs.declared.slots.Slots.{Slots}
 
 -- the number of the part that an operation uses
 abbrev pub part_of : Part → Op → ℕ
@@ -28,6 +29,13 @@ module _ (place : Op → ℕ) (plans : List Plan) (slots : List ℕ) (users : Li
     pub apart :
         (j k : ℕ) (y z : OpId)
         → slice_get users j ≡ Some y → slice_get users k ≡ Some z → shares place plans y z ≡ true → j ≡ k
+
+-- of the slots of an operation, that of its cpu and that of its interface
+abbrev pub cpu_of : Slots → ℕ
+cpu_of s = s.cpu
+
+abbrev pub nic_of : Slots → ℕ
+nic_of s = s.nic
 
 -- the operations that hold
 abbrev pub users : List Hold → List OpId

@@ -5,7 +5,7 @@ ghost use Rattle.goal_graph.specs.Laws.{IsSend, IsReceive};
 ghost use Rattle.sim_resources.specs.FreeTimes.{SameFreeTimes, cpu_free, tx_free, rx_free, hold_cpu, hold_tx, hold_rx, unheld};
 
 use crate::Hold;
-use crate::slots::{Part, free, number, raise};
+use crate::slots::{Part, Slots, free, number, raise, side_by_side};
 use goal_base::NoMemory;
 use goal_graph::{OpId, Sched};
 use std::alloc::Global;
@@ -15,22 +15,22 @@ use std::marker::Model;
 #[derive(Drop)]
 pub struct Resources<'a> {
     sched: &'a Sched,
-    cpu_slots: Vec<u32>,
-    nic_slots: Vec<u32>,
+    slots: Vec<Slots>,
     cpu: Vec<Hold>,
     tx: Vec<Hold>,
     rx: Vec<Hold>,
 }
 
 impl<'a> Model for Resources<'a> {
+    ghost use Rattle.std.specs.Prelude.{map};
     ghost use Rattle.sim_resources.specs.FreeTimes.{Holds};
-    ghost use Rattle.sim_resources.specs.Slots.{AreNumbered};
+    ghost use Rattle.sim_resources.specs.Slots.{AreNumbered, cpu_of, nic_of};
 
     ghost Value = { Holds };
 
     ghost view = { λ r. record { plans = r.sched.now; cpu = r.cpu.items; tx = r.tx.items; rx = r.rx.items } };
 
-    ghost invariant = { λ r. AreNumbered r.sched.now r.cpu_slots.items r.nic_slots.items r.cpu.items r.tx.items r.rx.items };
+    ghost invariant = { λ r. AreNumbered r.sched.now (map cpu_of r.slots.items) (map nic_of r.slots.items) r.cpu.items r.tx.items r.rx.items };
 }
 
 impl<'a> Resources<'a> {
@@ -40,11 +40,11 @@ impl<'a> Resources<'a> {
     {
         let cpu = number(alloc, sched, Part::Cpu)?;
         let nic = number(alloc, sched, Part::Nic)?;
+        let slots = side_by_side(alloc, &cpu.slots, &nic.slots)?;
         let rx = Vec::from_slice(alloc, &nic.holds)?;
         Ok(Resources {
             sched,
-            cpu_slots: cpu.slots,
-            nic_slots: nic.slots,
+            slots,
             cpu: cpu.holds,
             tx: nic.holds,
             rx,
@@ -56,7 +56,8 @@ impl<'a> Resources<'a> {
         requires { IsOp self.now.plans id }
         ensures { result ≡ cpu_free self.now id }
     {
-        free(&self.cpu_slots, &self.cpu, self.sched.index(id))
+        let slots = self.slots[self.sched.index(id) as usize];
+        free(&self.cpu, slots.cpu)
     }
 
     /// When the sending side of the interface that a send uses is free.
@@ -64,7 +65,8 @@ impl<'a> Resources<'a> {
         requires { IsSend self.now.plans id }
         ensures { result ≡ tx_free self.now id }
     {
-        free(&self.nic_slots, &self.tx, self.sched.index(id))
+        let slots = self.slots[self.sched.index(id) as usize];
+        free(&self.tx, slots.nic)
     }
 
     /// When the receiving side of the interface that a receive uses is free.
@@ -72,7 +74,8 @@ impl<'a> Resources<'a> {
         requires { IsReceive self.now.plans id }
         ensures { result ≡ rx_free self.now id }
     {
-        free(&self.nic_slots, &self.rx, self.sched.index(id))
+        let slots = self.slots[self.sched.index(id) as usize];
+        free(&self.rx, slots.nic)
     }
 
     /// Holds the cpu that an operation uses until a time at least.
@@ -80,8 +83,8 @@ impl<'a> Resources<'a> {
         requires { IsOp self.old.plans id }
         ensures { SameFreeTimes self.new (hold_cpu self.old id until) }
     {
-        let place = self.sched.index(id);
-        raise(&self.cpu_slots, &mut self.cpu, place, until);
+        let slots = self.slots[self.sched.index(id) as usize];
+        raise(&mut self.cpu, slots.cpu, until);
     }
 
     /// Holds the sending side of the interface that a send uses until a time at least.
@@ -89,8 +92,8 @@ impl<'a> Resources<'a> {
         requires { IsSend self.old.plans id }
         ensures { SameFreeTimes self.new (hold_tx self.old id until) }
     {
-        let place = self.sched.index(id);
-        raise(&self.nic_slots, &mut self.tx, place, until);
+        let slots = self.slots[self.sched.index(id) as usize];
+        raise(&mut self.tx, slots.nic, until);
     }
 
     /// Holds the receiving side of the interface that a receive uses until a time at least.
@@ -98,7 +101,7 @@ impl<'a> Resources<'a> {
         requires { IsReceive self.old.plans id }
         ensures { SameFreeTimes self.new (hold_rx self.old id until) }
     {
-        let place = self.sched.index(id);
-        raise(&self.nic_slots, &mut self.rx, place, until);
+        let slots = self.slots[self.sched.index(id) as usize];
+        raise(&mut self.rx, slots.nic, until);
     }
 }

@@ -1,12 +1,13 @@
 // Slots of operations: two operations have the same slot where they use the same cpu, or the same interface.
-ghost use Rattle.std.specs.Prelude.{◌≡◌, ◌≢◌, ℕ, ◌<◌, max, Some, None, replicate, IfOk, IfSome, IfNone, All, length, slice_get, slice_index, slice_set};
+ghost use Rattle.std.specs.Prelude.{◌≡◌, ◌≢◌, ℕ, ◌<◌, max, Some, None, replicate, IfOk, IfSome, IfNone, All, length, map, slice_get, slice_set};
+ghost use Rattle.goal_graph.specs.Schedule.{operations};
 ghost use Rattle.sim_resources.specs.declared.holds.Hold.{Hold};
-ghost use Rattle.sim_resources.specs.Slots.{part_of, users, IsNumbered};
+ghost use Rattle.sim_resources.specs.Slots.{part_of, users, cpu_of, nic_of, IsNumbered};
 
 use crate::Hold;
 use goal_base::NoMemory;
 use goal_graph::{Op, Sched};
-use std::alloc::Global;
+use std::alloc::{AllocError, Global};
 
 /// What an operation uses of its rank.
 #[derive(Clone, Copy, Debug, PartialEq, Eq)]
@@ -67,6 +68,7 @@ fn no_slots() -> [Option<Latest>; NUMBERS]
 /// The operations of a rank stand one after another, so what a number was given last is of the same rank, or of one that is
 /// over.
 pub fn number(alloc: Global, sched: &Sched, part: Part) -> Result<Numbering, NoMemory>
+    ensures counted { IfOk result (λ n. length n.slots.items ≡ length (operations sched.now)) }
     ensures numbered { IfOk result (λ n. IsNumbered (part_of part) sched.now n.slots.items (users n.holds.items)) }
     ensures unheld { IfOk result (λ n. All (λ h. h.until ≡ 0) n.holds.items) }
 {
@@ -92,22 +94,43 @@ pub fn number(alloc: Global, sched: &Sched, part: Part) -> Result<Numbering, NoM
     Ok(Numbering { slots, holds })
 }
 
-/// When the hold of an operation's slot ends, for the operation at that place in the order of all.
-pub fn free(slots: &[u32], holds: &[Hold], place: u32) -> u64
-    requires place_in { place < length slots.now }
-    requires slot_in { slice_index slots.now place < length holds.now }
-    ensures { (h : Hold) → slice_get holds.now (slice_index slots.now place) ≡ Some h → result ≡ h.until }
-{
-    holds[slots[place as usize] as usize].until
+/// The slots of an operation: that of its cpu and that of its interface.
+#[derive(Clone, Copy, Debug, PartialEq, Eq)]
+pub struct Slots {
+    pub cpu: u32,
+    pub nic: u32,
 }
 
-/// Lengthens the hold of that slot.
-pub fn raise(slots: &[u32], holds: &mut [Hold], place: u32, until: u64)
-    requires place_in { place < length slots.now }
-    requires slot_in { slice_index slots.now place < length holds.old }
-    ensures { (h : Hold) → slice_get holds.old (slice_index slots.now place) ≡ Some h
-        → holds.new ≡ slice_set holds.old (slice_index slots.now place) (record h { until = max h.until until }) }
+/// The slots of cpus and those of interfaces side by side, both in the order of all operations.
+pub fn side_by_side(alloc: Global, cpus: &[u32], nics: &[u32]) -> Result<Vec<Slots>, AllocError>
+    requires { length cpus.now ≡ length nics.now }
+    ensures cpus { IfOk result (λ slots. map cpu_of slots.items ≡ cpus.now) }
+    ensures nics { IfOk result (λ slots. map nic_of slots.items ≡ nics.now) }
 {
-    let hold = &mut holds[slots[place as usize] as usize];
+    let mut slots = Vec::with_capacity(alloc, cpus.len())?;
+    for (cpu, nic) in cpus.iter().zip(nics) {
+        slots.push_reserved(Slots {
+            cpu: *cpu,
+            nic: *nic,
+        });
+    }
+    Ok(slots)
+}
+
+/// When the hold of a slot ends.
+pub fn free(holds: &[Hold], slot: u32) -> u64
+    requires { slot < length holds.now }
+    ensures { (h : Hold) → slice_get holds.now slot ≡ Some h → result ≡ h.until }
+{
+    holds[slot as usize].until
+}
+
+/// Lengthens the hold of a slot.
+pub fn raise(holds: &mut [Hold], slot: u32, until: u64)
+    requires { slot < length holds.old }
+    ensures { (h : Hold) → slice_get holds.old slot ≡ Some h
+        → holds.new ≡ slice_set holds.old slot (record h { until = max h.until until }) }
+{
+    let hold = &mut holds[slot as usize];
     hold.until = hold.until.max(until);
 }
