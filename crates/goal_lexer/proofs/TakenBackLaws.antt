@@ -1,10 +1,9 @@
 -- A lexer stands for each text of which it has taken whole pieces, and then what is open.
-use Rattle.std.proofs.Common.{◌≡◌, ℕ, ◌+◌, ◌≤◌, Bool, true, false, ◌&&◌, not, List, [], ◌∷◌, ◌++◌, length, Option, None, IsSome, ◌==◌, refl, sym, ap, subst, ◌∙◌, arith, append_assoc, length-append}
+use Rattle.std.proofs.Common.{◌≡◌, ℕ, ◌+◌, ◌≤◌, Bool, true, false, ◌&&◌, not, List, [], ◌∷◌, ◌++◌, length, ◌==◌, refl, sym, ap, subst, ◌∙◌, arith, append_assoc, length-append}
 use Rattle.std.proofs.lemmas.Bool.{false≢true}
 use Rattle.std.proofs.lemmas.Bool.Decides.{nat_tests}
 use Rattle.std.proofs.lemmas.List.{append-nil}
 use Rattle.goal_lexer.specs.declared.tokens.Token.{Token}
-use Rattle.goal_lexer.specs.declared.tokens.TokenKind.{TokenKind}
 use Rattle.goal_lexer.specs.declared.mode.Form.{Form}
 use Rattle.goal_lexer.specs.declared.mode.Mode.{Mode}
 use Rattle.goal_lexer.specs.declared.mode.Mode.TheVariants.{Between, Run, Slash, LineComment, BlockComment, Failed}
@@ -22,7 +21,7 @@ use Rattle.goal_lexer.proofs.NothingLaws.{run_bytes}
 use Rattle.goal_lexer.proofs.ReadingLaws.{in_line}
 use Rattle.goal_lexer.proofs.ScanLaws.{scan_quiet}
 use Rattle.goal_lexer.proofs.StandsLaws.{scan_past_run}
-use Rattle.goal_lexer.proofs.WholeLaws.{scan_of_run}
+use Rattle.goal_lexer.proofs.WholeLaws.{scan_of_run, next_sign}
 use Rattle.goal_lexer.proofs.TakenLaws.{spelled-push, tokens_of-push}
 
 -- the scan of a run, which is open behind it
@@ -100,28 +99,6 @@ next_blank place c is =
     let no_word : begins_word c ≡ false = grind (arith, nat_tests) in
     let no_digit : is_digit c ≡ false = grind (arith, nat_tests) in
     rw (no_word, no_digit, is)
-
-module _ (place c : ℕ) where
-  abbrev IsOwn : ℕ → Type 0
-  IsOwn b = next Between place b ≡ (Between, sign_tokens (sign_kind b) place)
-
-  by_colon : (s : Bool) → (c == 58) ≡ s → (c == 123) ≡ false → (c == 125) ≡ false → IsSome (sign_kind c) → IsOwn c
-  by_colon true is_s no_open no_close some = let same : c ≡ 58 = grind (arith, nat_tests) in subst IsOwn (sym same) refl
-  by_colon false is_s no_open no_close some =
-      let none : sign_kind c ≡ None = rw (no_open, no_close, is_s) in
-      let no : IsSome {T = TokenKind} None = subst (λ (o : Option TokenKind). IsSome o) none some in
-      absurd (false≢true no)
-
-  by_close : (s : Bool) → (c == 125) ≡ s → (c == 123) ≡ false → IsSome (sign_kind c) → IsOwn c
-  by_close true is_s no_open some = let same : c ≡ 125 = grind (arith, nat_tests) in subst IsOwn (sym same) refl
-  by_close false is_s no_open some = by_colon (c == 58) refl no_open is_s some
-
-  by_open : (s : Bool) → (c == 123) ≡ s → IsSome (sign_kind c) → IsOwn c
-  by_open true is_s some = let same : c ≡ 123 = grind (arith, nat_tests) in subst IsOwn (sym same) refl
-  by_open false is_s some = by_close (c == 125) refl is_s some
-
-  next_sign : IsSome (sign_kind c) → next Between place c ≡ (Between, sign_tokens (sign_kind c) place)
-  next_sign some = by_open (c == 123) refl some
 
 -- the line feed behind a line comment
 scan_line_end : (start place : ℕ) (ds : List ℕ) → scan (LineComment start) place (line_feed ∷ ds) ≡ scan Between place (line_feed ∷ ds)

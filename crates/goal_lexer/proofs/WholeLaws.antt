@@ -1,5 +1,6 @@
--- The scan of a whole run.
-use Rattle.std.proofs.Common.{◌≡◌, ℕ, zero, suc, ◌+◌, ◌<◌, ◌≤◌, true, false, List, [], ◌∷◌, ◌++◌, length, take, drop, get_or, ◌-◌, nat_lt, refl, sym, ap, subst, ◌∙◌, arith, length-append, length-drop}
+-- The scan of a whole run, and of a sign.
+use Rattle.std.proofs.Common.{◌≡◌, ℕ, zero, suc, ◌+◌, ◌<◌, ◌≤◌, Bool, true, false, List, [], ◌∷◌, ◌++◌, length, take, drop, get_or, ◌-◌, nat_lt, Option, Some, None, IsSome, ◌==◌, refl, sym, ap, subst, ◌∙◌, arith, length-append, length-drop}
+use Rattle.std.proofs.lemmas.Bool.{false≢true}
 use Rattle.std.proofs.lemmas.Bool.Decides.{nat_tests}
 use Rattle.std.proofs.lemmas.List.{take_rest, drop-drop, drop_more, take_more, length-take, length-take-le}
 use Rattle.std.proofs.Math.Seq.{take-append_seam}
@@ -15,10 +16,10 @@ use Rattle.goal_lexer.specs.declared.tokens.TokenKind.{TokenKind}
 use Rattle.goal_lexer.specs.declared.tokens.TokenKind.TheVariants.{Number, Size}
 use Rattle.goal_lexer.specs.Scan.{Scanned, after_tokens, next, scan, closing}
 use Rattle.goal_lexer.specs.Stands.{begins_run}
-use Rattle.goal_lexer.specs.Pieces.{Each, AreDigits, HasForm}
+use Rattle.goal_lexer.specs.Pieces.{Each, AreDigits, HasForm, sign_kind, sign_tokens}
 use Rattle.goal_lexer.specs.Whole.{BeginsWord, IsWholeRun}
 use Rattle.goal_lexer.proofs.ByteLaws.{digit_no_word}
-use Rattle.goal_lexer.proofs.ScanLaws.{scan_quiet, scan_one, scan_stretch}
+use Rattle.goal_lexer.proofs.ScanLaws.{scan_quiet, scan_one, scan_more, scan_stretch}
 use Rattle.goal_lexer.proofs.StretchLaws.{Each-take, scan_word, scan_digits}
 
 -- a first byte, and then the others
@@ -177,3 +178,37 @@ run_in_piece mode place n count piece token within quiet given =
       ),
       whole.3 ∙ at,
     )
+
+-- a sign is a token by itself
+module _ (place c : ℕ) where
+  abbrev IsOwn : ℕ → Type 0
+  IsOwn b = next Between place b ≡ (Between, sign_tokens (sign_kind b) place)
+
+  by_colon : (s : Bool) → (c == 58) ≡ s → (c == 123) ≡ false → (c == 125) ≡ false → IsSome (sign_kind c) → IsOwn c
+  by_colon true is_s no_open no_close some = let same : c ≡ 58 = grind (arith, nat_tests) in subst IsOwn (sym same) refl
+  by_colon false is_s no_open no_close some =
+      let none : sign_kind c ≡ None = rw (no_open, no_close, is_s) in
+      let no : IsSome {T = TokenKind} None = subst (λ (o : Option TokenKind). IsSome o) none some in
+      absurd (false≢true no)
+
+  by_close : (s : Bool) → (c == 125) ≡ s → (c == 123) ≡ false → IsSome (sign_kind c) → IsOwn c
+  by_close true is_s no_open some = let same : c ≡ 125 = grind (arith, nat_tests) in subst IsOwn (sym same) refl
+  by_close false is_s no_open some = by_colon (c == 58) refl no_open is_s some
+
+  by_open : (s : Bool) → (c == 123) ≡ s → IsSome (sign_kind c) → IsOwn c
+  by_open true is_s some = let same : c ≡ 123 = grind (arith, nat_tests) in subst IsOwn (sym same) refl
+  by_open false is_s some = by_close (c == 125) refl is_s some
+
+  pub next_sign : IsSome (sign_kind c) → next Between place c ≡ (Between, sign_tokens (sign_kind c) place)
+  next_sign some = by_open (c == 123) refl some
+
+-- a sign behind bytes that ended no token
+pub sign_in_piece : (place n : ℕ) (piece : List ℕ) (kind : TokenKind) → n < length piece →
+    scan Between place (take n piece) ≡ (Between, []) → sign_kind (get_or piece n 0) ≡ Some kind →
+    scan Between place (take (n + 1) piece) ≡ (Between, record { kind = kind; start = place + n; end = place + n + 1 } ∷ [])
+sign_in_piece place n piece kind inside quiet is =
+    let c = get_or piece n 0 in
+    let some : IsSome (sign_kind c) = subst (λ (o : Option TokenKind). IsSome o) (sym is) refl in
+    scan_more Between Between place piece n inside quiet
+    ∙ next_sign (place + n) c some
+    ∙ ap (λ (o : Option TokenKind). (Between, sign_tokens o (place + n))) is

@@ -1,13 +1,14 @@
 //! What the bytes of a piece make of what is open.
-ghost use Rattle.std.specs.Prelude.{◌≡◌, ℕ, ◌+◌, ◌<◌, ◌^◌, length};
+ghost use Rattle.std.specs.Prelude.{◌≡◌, ℕ, ◌+◌, ◌<◌, ◌^◌, length, IfSome};
 ghost use Rattle.goal_lexer.specs.Sound.{IsSound};
 ghost use Rattle.goal_lexer.specs.Steps.{StepsTo, StopsAt};
 ghost use Rattle.goal_lexer.specs.Scan.{form_with};
+ghost use Rattle.goal_lexer.specs.Pieces.{sign_kind};
 
 use crate::bytes::{begins_word, is_blank, is_digit, is_run_byte};
 use crate::labels::{Label, MOST_RUN_BYTES};
 use crate::mode::{Form, Mode};
-use crate::stretches::take_stretch;
+use crate::stretches::{count_blanks, take_stretch};
 use crate::tokens::{Token, TokenKind};
 use crate::whole::whole_run;
 use crate::words::run_kind;
@@ -173,9 +174,61 @@ fn take_byte(mode: &mut Mode, place: u64, byte: u8, token: &mut Token) -> Step
     }
 }
 
+/// The kind of the sign that the byte is, if it is one.
+#[inline(always)]
+fn sign_kind(byte: u8) -> Option<TokenKind>
+    ensures { result ≡ sign_kind byte }
+{
+    match byte {
+        b':' => Some(TokenKind::Colon),
+        b'{' => Some(TokenKind::Open),
+        b'}' => Some(TokenKind::Close),
+        _ => None,
+    }
+}
+
+/// Takes the blanks in front of a piece, the first byte of which stands at this place, and the token behind them, where
+/// nothing is open and the token ends inside the piece. The token is written to its place. A piece of blanks alone is taken
+/// whole. Any other piece is none, and so may be one with a run of many digits.
+#[inline(always)]
+fn whole_token(place: u64, piece: &[u8], token: &mut Token) -> Option<Stop>
+    requires { place + length piece.now < 2 ^ 64 }
+    ensures { IfSome result (λ stop. StopsAt stop Mode.Between place piece.now Mode.Between token.new) }
+{
+    let blanks = count_blanks(piece);
+    if blanks == piece.len() {
+        return Some(Stop::Piece);
+    }
+    let at = place + blanks as u64;
+    if let Some(count) = whole_run(at, &piece[blanks..], token) {
+        return Some(Stop::Run(blanks + count));
+    }
+    let kind = sign_kind(piece[blanks])?;
+    token.kind = kind;
+    token.start = at;
+    token.end = at + 1;
+    Some(Stop::Sign(blanks + 1))
+}
+
 /// Takes the bytes of a piece, the first of which stands at this place, up to the end of a token, which is written to its
 /// place.
+#[inline(always)]
 pub(crate) fn take_piece(mode: &mut Mode, place: u64, piece: &[u8], token: &mut Token) -> Stop
+    requires room { place + length piece.now < 2 ^ 64 }
+    requires sound { IsSound mode.old }
+    ensures { StopsAt result mode.old place piece.now mode.new token.new }
+{
+    if let Mode::Between = mode {
+        if let Some(stop) = whole_token(place, piece, token) {
+            return stop;
+        }
+    }
+    take_open_piece(mode, place, piece, token)
+}
+
+/// Does what [`take_piece`] does, whatever is open and wherever the token ends. Most tokens are taken without it.
+#[cold]
+fn take_open_piece(mode: &mut Mode, place: u64, piece: &[u8], token: &mut Token) -> Stop
     requires room { place + length piece.now < 2 ^ 64 }
     requires sound { IsSound mode.old }
     ensures { StopsAt result mode.old place piece.now mode.new token.new }

@@ -10,7 +10,7 @@ use crate::labels::{Label, MOST_RUN_BYTES};
 use crate::mode::{Form, Mode};
 
 /// How many blanks stand in front.
-fn count_blanks(bytes: &[u8]) -> usize
+pub(crate) fn count_blanks(bytes: &[u8]) -> usize
     ensures within { result ≤ length bytes.now }
     ensures each { (k : ℕ) → k < result → is_blank (slice_index bytes.now k) ≡ true }
 {

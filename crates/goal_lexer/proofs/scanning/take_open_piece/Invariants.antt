@@ -1,7 +1,7 @@
 use Rattle.std.proofs.Common.{◌≡◌, ◌≤◌, ◌-◌, length, take, []}
 use Rattle.goal_lexer.specs.Scan.{scan}
 use Rattle.goal_lexer.specs.Sound.{IsSound}
-use Rattle.goal_lexer.proofs.scanning.take_piece.Given as goal
+use Rattle.goal_lexer.proofs.scanning.take_open_piece.Given as goal
 
 -- the bytes taken so far ended no token
 abbrev pub invariant-loop-taken : goal.invariant-loop-taken

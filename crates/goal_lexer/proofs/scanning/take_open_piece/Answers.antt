@@ -5,8 +5,8 @@ use Rattle.goal_lexer.specs.Scan.{scan, next}
 use Rattle.goal_lexer.specs.Stands.{begins_run}
 use Rattle.goal_lexer.proofs.ScanLaws.{scan_more, scan_fault, scan_sliced, sliced_within}
 use Rattle.goal_lexer.proofs.WholeLaws.{run_in_piece}
-use Rattle.goal_lexer.proofs.scanning.take_piece.Goals as goal
-use Rattle.goal_lexer.proofs.scanning.take_piece.Goals.{After-take_byte}
+use Rattle.goal_lexer.proofs.scanning.take_open_piece.Goals as goal
+use Rattle.goal_lexer.proofs.scanning.take_open_piece.Goals.{After-take_byte}
 
 -- the stretch before the byte ended no token
 stretched : (c : After-take_byte) →
