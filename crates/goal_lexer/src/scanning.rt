@@ -1,5 +1,5 @@
 //! What the bytes of a piece make of what is open.
-ghost use Rattle.std.specs.Prelude.{◌≡◌, ℕ, ◌+◌, ◌<◌, ◌^◌, length, IfSome};
+ghost use Rattle.std.specs.Prelude.{◌≡◌, ℕ, ◌+◌, ◌<◌, ◌^◌, true, false, length, IfSome};
 ghost use Rattle.goal_lexer.specs.Sound.{IsSound};
 ghost use Rattle.goal_lexer.specs.Steps.{StepsTo, StopsAt};
 ghost use Rattle.goal_lexer.specs.Scan.{form_with};
@@ -174,17 +174,19 @@ fn take_byte(mode: &mut Mode, place: u64, byte: u8, token: &mut Token) -> Step
     }
 }
 
-/// The kind of the sign that the byte is, if it is one.
+/// Writes the kind of the sign that the byte is, and answers whether it is one.
 #[inline(always)]
-fn sign_kind(byte: u8) -> Option<TokenKind>
-    ensures { result ≡ sign_kind byte }
+fn sign_kind(byte: u8, kind: &mut TokenKind) -> bool
+    ensures sign { result ≡ true → sign_kind byte ≡ Some kind.new }
+    ensures other { result ≡ false → sign_kind byte ≡ None }
 {
     match byte {
-        b':' => Some(TokenKind::Colon),
-        b'{' => Some(TokenKind::Open),
-        b'}' => Some(TokenKind::Close),
-        _ => None,
+        b':' => *kind = TokenKind::Colon,
+        b'{' => *kind = TokenKind::Open,
+        b'}' => *kind = TokenKind::Close,
+        _ => return false,
     }
+    true
 }
 
 /// Takes the blanks in front of a piece, the first byte of which stands at this place, and the token behind them, where
@@ -203,8 +205,9 @@ fn whole_token(place: u64, piece: &[u8], token: &mut Token) -> Option<Stop>
     if let Some(count) = whole_run(at, &piece[blanks..], token) {
         return Some(Stop::Run(blanks + count));
     }
-    let kind = sign_kind(piece[blanks])?;
-    token.kind = kind;
+    if !sign_kind(piece[blanks], &mut token.kind) {
+        return None;
+    }
     token.start = at;
     token.end = at + 1;
     Some(Stop::Sign(blanks + 1))

@@ -38,7 +38,7 @@ returns c =
       omega arith,
       omega arith,
       refl,
-      sign_in_piece c.args.place c.count_blanks-blanks.result c.args.piece.now c.in_ok-kind.kind inside (blanks_only k)
-          (sym c.sign_kind.ensures ∙ c.in_ok-kind.was),
+      sign_in_piece c.args.place c.count_blanks-blanks.result c.args.piece.now c.sign_kind.new.kind inside (blanks_only k)
+          (c.sign_kind.ensures.sign c.if-not-sign_kind.false),
       omega arith,
     )
