@@ -23,6 +23,7 @@ pub fn misfit(at: usize) -> FileFault
 }
 
 /// One byte.
+#[inline(always)]
 #[tactic(auto, unfolding(crate::specs::Fields::byte_at))]
 pub fn byte_at(bytes: &[u8], at: usize) -> Result<(u8, usize), FileFault>
     ensures { result ≡ byte_at bytes.now at }
@@ -104,6 +105,7 @@ fn groups_behind(bytes: &[u8], at: usize) -> Result<(Option<u64>, usize), FileFa
 }
 
 /// A packed number. Most have one byte.
+#[inline(always)]
 #[tactic(auto, using(crate::proofs::Packed::packed_step))]
 pub fn packed_at(bytes: &[u8], at: usize) -> Result<(u64, usize), FileFault>
     ensures { result ≡ packed_at bytes.now at }
@@ -120,6 +122,7 @@ pub fn packed_at(bytes: &[u8], at: usize) -> Result<(u64, usize), FileFault>
 }
 
 /// One byte that may be `most` at most.
+#[inline(always)]
 #[tactic(auto, unfolding(crate::specs::Fields::byte_up_to))]
 pub fn byte_up_to(bytes: &[u8], most: u8, at: usize) -> Result<(u8, usize), FileFault>
     ensures { result ≡ byte_up_to bytes.now most at }
@@ -156,6 +159,7 @@ pub fn u64_up_to(bytes: &[u8], most: u64, at: usize) -> Result<(u64, usize), Fil
 }
 
 /// A packed number that may be `most` at most.
+#[inline(always)]
 #[tactic(auto, unfolding(crate::specs::Fields::packed_up_to))]
 pub fn packed_up_to(bytes: &[u8], most: u64, at: usize) -> Result<(u64, usize), FileFault>
     ensures number { result ≡ packed_up_to bytes.now most at }
@@ -169,6 +173,7 @@ pub fn packed_up_to(bytes: &[u8], most: u64, at: usize) -> Result<(u64, usize), 
 }
 
 /// One byte that is not 0.
+#[inline(always)]
 #[tactic(auto, unfolding(crate::specs::Fields::some_byte_at))]
 pub fn some_byte_at(bytes: &[u8], at: usize) -> Result<(u8, usize), FileFault>
     ensures { result ≡ some_byte_at bytes.now at }
@@ -181,6 +186,7 @@ pub fn some_byte_at(bytes: &[u8], at: usize) -> Result<(u8, usize), FileFault>
 }
 
 /// A number in a layout.
+#[inline(always)]
 #[tactic(auto, unfolding(crate::specs::Fields::number_at))]
 fn number_at(bytes: &[u8], layout: Layout, at: usize) -> Result<(u64, usize), FileFault>
     ensures { result ≡ number_at bytes.now layout at }

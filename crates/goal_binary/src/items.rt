@@ -88,6 +88,7 @@ fn fixed_note_at(bytes: &[u8], at: usize) -> Result<(Note, usize), FileFault>
 }
 
 /// The byte at this place, where it is there, and else 0.
+#[inline(always)]
 #[tactic(auto, unfolding(crate::specs::Reading::some_byte_if))]
 fn some_byte_if(bytes: &[u8], there: bool, at: usize) -> Result<(u8, usize), FileFault>
     ensures { result ≡ some_byte_if bytes.now there at }
@@ -100,6 +101,7 @@ fn some_byte_if(bytes: &[u8], there: bool, at: usize) -> Result<(u8, usize), Fil
 }
 
 /// A packed number of 32 bits.
+#[inline(always)]
 #[tactic(auto, unfolding(crate::specs::Reading::packed_u32_at))]
 fn packed_u32_at(bytes: &[u8], at: usize) -> Result<(u32, usize), FileFault>
     ensures { result ≡ packed_u32_at bytes.now at }
@@ -109,6 +111,7 @@ fn packed_u32_at(bytes: &[u8], at: usize) -> Result<(u32, usize), FileFault>
 }
 
 /// The packed number at this place, where it is there, and else 0.
+#[inline(always)]
 #[tactic(auto, unfolding(crate::specs::Reading::packed_u32_if))]
 fn packed_u32_if(bytes: &[u8], there: bool, at: usize) -> Result<(u32, usize), FileFault>
     ensures { result ≡ packed_u32_if bytes.now there at }
@@ -121,6 +124,7 @@ fn packed_u32_if(bytes: &[u8], there: bool, at: usize) -> Result<(u32, usize), F
 }
 
 /// The operation at this place, in version 2.
+#[inline(always)]
 #[tactic(auto, unfolding(crate::specs::Reading::packed_op_at))]
 fn packed_op_at(bytes: &[u8], at: usize) -> Result<(Op, usize), FileFault>
     ensures { result ≡ packed_op_at bytes.now at }
@@ -137,6 +141,7 @@ fn packed_op_at(bytes: &[u8], at: usize) -> Result<(Op, usize), FileFault>
 }
 
 /// The dependency at this place, in version 2.
+#[inline(always)]
 #[tactic(auto, unfolding(crate::specs::Reading::packed_dep_at))]
 fn packed_dep_at(bytes: &[u8], at: usize) -> Result<(Dep, usize), FileFault>
     ensures { result ≡ packed_dep_at bytes.now at }
@@ -156,6 +161,7 @@ fn packed_dep_at(bytes: &[u8], at: usize) -> Result<(Dep, usize), FileFault>
 }
 
 /// The note at this place, in version 2.
+#[inline(always)]
 #[tactic(auto, unfolding(crate::specs::Reading::packed_note_at))]
 fn packed_note_at(bytes: &[u8], at: usize) -> Result<(Note, usize), FileFault>
     ensures { result ≡ packed_note_at bytes.now at }
