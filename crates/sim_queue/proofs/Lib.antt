@@ -10,6 +10,10 @@ pub mod Stepping
 pub mod Top
 pub mod Changing
 pub mod Bounds
+pub mod Places
+pub mod Items
+pub mod ItemSteps
+pub mod ItemChanges
 pub mod Grouping
 pub mod Homes
 pub mod Ranking

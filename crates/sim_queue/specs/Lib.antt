@@ -5,6 +5,8 @@ pub mod Ranked
 -- What only the code keeps.
 pub mod Scan
 pub mod Heap
+pub mod Places
+pub mod TopHeap
 pub mod Groups
 pub mod Floors
 pub mod Ranks

@@ -1,5 +1,5 @@
 -- Maps from slots to keys. A map is the list of what its slots have, from slot 0 on: a key, or None.
-use Rattle.std.specs.Prelude.{◌≡◌, ℕ, Bool, false, List, Option, Some, None, slice_index_or}
+use Rattle.std.specs.Prelude.{◌≡◌, ◌⊎◌, ℕ, Bool, true, false, List, Option, Some, None, slice_index_or}
 
 module _ {K : Type 0} where
   -- the key of a slot, if it has one
@@ -14,3 +14,9 @@ module _ {K : Type 0} where
   pub record IsLeast (before : K → K → Bool) (keys : List (Option K)) (slot : ℕ) (key : K) : Type 0 where
     pub has : key_at keys slot ≡ Some key
     pub least : (other : ℕ) (k : K) → key_at keys other ≡ Some k → before k key ≡ false
+
+  -- the slot has a key that is before that of each other slot
+  pub record IsSoleLeast (before : K → K → Bool) (keys : List (Option K)) (slot : ℕ) : Type 0 where
+    pub key : K
+    pub has : key_at keys slot ≡ Some key
+    pub first : (other : ℕ) (k : K) → key_at keys other ≡ Some k → (other ≡ slot) ⊎ (before key k ≡ true)

@@ -10,6 +10,7 @@ mod sift;
 mod slot_heap;
 #[cfg(test)]
 mod tests;
+mod top_heap;
 mod vec_queue;
 
 pub use floor_queue::FloorQueue;
@@ -18,4 +19,5 @@ pub use queue::EventQueue;
 pub use ranked_queue::RankedQueue;
 pub use row::row_28;
 pub use slot_heap::SlotHeap;
+pub use top_heap::{Item, TopHeap};
 pub use vec_queue::VecQueue;
