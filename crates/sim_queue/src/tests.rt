@@ -1,7 +1,7 @@
-// Twelve slots are put, four of them dropped.
-ghost use Rattle.std.specs.Prelude.{◌≡◌, ◌<◌, length};
+// Twelve slots are put, four of them dropped. In a heap whose keys go from the top, three are put and one is taken.
+ghost use Rattle.std.specs.Prelude.{◌≡◌, ◌<◌, None, length, replicate};
 
-use crate::{EventQueue, RankedQueue, SlotHeap, VecQueue};
+use crate::{EventQueue, RankedQueue, SlotHeap, TopHeap, VecQueue};
 use goal_graph::{Kind, Op, RankPlan, Sched};
 use sim_order::{Counted, Steps};
 use std::alloc::{AllocError, Global};
@@ -88,5 +88,34 @@ fn the_least_of_a_ranked_queue(rt: HostRuntime) -> Result<(), Fail> {
     assert_eq!(rt; sched.count(), 12);
     let least = least_of::<RankedQueue<Counted<u64>>, Brand>(&mut queue, Blank::new(1));
     assert_eq!(rt; least, Some((11, Counted(5))));
+    Ok(())
+}
+
+// The least of three slots that are put, and that of the two that are left.
+fn first_and_second<L: Ledger>(
+    heap: &mut TopHeap<Counted<u64>>,
+    blank: Blank,
+) -> (Option<(u32, Counted<u64>)>, Option<(u32, Counted<u64>)>)
+    requires name { blank.name ≡ L.name }
+    requires parts { blank.parts ≡ L.parts }
+    requires some { 0 < blank.parts }
+    requires none { heap.old ≡ replicate 3 None }
+{
+    let mut steps = Steps::<L>::new(blank);
+    heap.put(0, Counted(4), &mut steps);
+    heap.put(1, Counted(2), &mut steps);
+    heap.put(2, Counted(3), &mut steps);
+    let first = heap.least();
+    heap.take(1, &mut steps);
+    (first, heap.least())
+}
+
+#[test]
+fn the_least_of_a_top_heap(rt: HostRuntime) -> Result<(), Fail> {
+    let mut heap = TopHeap::new(rt.alloc(), 3)?;
+    assert_eq!(rt; heap.least(), None);
+    let (first, second) = first_and_second::<Brand>(&mut heap, Blank::new(1));
+    assert_eq!(rt; first, Some((1, Counted(2))));
+    assert_eq!(rt; second, Some((2, Counted(3))));
     Ok(())
 }
