@@ -8,11 +8,12 @@ use Rattle.sim_queue.specs.Map.{key_at, IsEmptyMap, IsLeast}
 use Rattle.sim_queue.specs.Groups.{Grouped}
 use Rattle.sim_queue.specs.Floors.{at_time, floor_of, seen_keys, IsFloored, IsHead}
 use Rattle.sim_queue.proofs.Weak.{through, not_both}
-use Rattle.sim_queue.proofs.Floors.{key_within, effective_at, from_ahead, from_waiting, from_nothing, seen_here, group_of}
+use Rattle.sim_queue.proofs.Maps.{key_within}
+use Rattle.sim_queue.proofs.Floors.{effective_at, from_ahead, from_waiting, from_nothing, seen_here, group_of}
 use Rattle.sim_queue.proofs.FloorSteps.{not_ahead, no_key}
 
 -- at one time events stand as at another
-at_one_time : (time : ℕ) (x y : Timed) → event_before (at_time time x) (at_time time y) ≡ event_before (at_time 0 x) (at_time 0 y)
+pub at_one_time : (time : ℕ) (x y : Timed) → event_before (at_time time x) (at_time time y) ≡ event_before (at_time 0 x) (at_time 0 y)
 at_one_time time x y = let same : nat_lt time time ≡ false = le-ltb time time (omega arith) in rw same refl
 
 module _ (ahead : List (Option Timed)) (waiting : Grouped Timed) (heads : List (Option Timed)) (floored : IsFloored ahead waiting heads) where

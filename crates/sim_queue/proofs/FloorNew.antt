@@ -1,14 +1,26 @@
 -- A queue with floors in which no slot has a key.
-use Rattle.std.proofs.Common.{◌≡◌, ◌<◌, ℕ, All, List, length, replicate, Option, None, refl, sym, ap, ◌∙◌, subst, arith}
-use Rattle.std.proofs.lemmas.List.{length-replicate}
+use Rattle.std.proofs.Common.{◌≡◌, ◌⊎◌, ◌<◌, ◌≤◌, ℕ, All, List, length, replicate, slice_index_or, Option, None, refl, sym, ap, ◌∙◌, subst, arith, inl, inr}
+use Rattle.std.proofs.lemmas.Bool.{cases_lt}
+use Rattle.std.proofs.lemmas.List.{length-replicate, get_or-replicate, get_or_past}
 use Rattle.std.proofs.lemmas.List.Elements.{All-get_or}
 use Rattle.std.proofs.lemmas.Option.{slice_get_within, get_or_from_slice_get}
 use Rattle.goal_graph.specs.declared.action.Timed.{Timed}
+use Rattle.sim_queue.specs.declared.floor_queue.Stand.{Stand}
+use Rattle.sim_queue.specs.declared.floor_queue.Stand.TheVariants.{Nowhere}
+use Rattle.sim_queue.specs.Map.{key_at}
 use Rattle.sim_queue.specs.Groups.{Grouped}
-use Rattle.sim_queue.specs.Floors.{seen_keys, IsFloored, IsHead}
+use Rattle.sim_queue.specs.Floors.{seen_keys, stand_of, AreStands, IsFloored, IsHead}
 use Rattle.sim_queue.proofs.Floors.{same_maps, from_nothing, seen_at, seen_length}
 use Rattle.sim_queue.proofs.FloorSteps.{no_key, seen_queue}
 use Rattle.sim_queue.proofs.Homes.{none_of}
+
+nowhere : (count slot : ℕ) → slice_index_or (replicate count Nowhere) slot Nowhere ≡ Nowhere
+nowhere count slot = go (cases_lt slot count)
+  where
+    go : (slot < count) ⊎ (count ≤ slot) → slice_index_or (replicate count Nowhere) slot Nowhere ≡ Nowhere
+    go (inl l) = get_or-replicate count slot Nowhere Nowhere l
+    go (inr l) =
+        get_or_past (replicate count Nowhere) slot Nowhere (omega (arith, l, length-replicate {A = Stand} count Nowhere))
 
 module _ (numbers : List ℕ) (groups : ℕ) (within : All (λ g. g < groups) numbers) where
   abbrev none : List (Option Timed)
@@ -50,3 +62,14 @@ module _ (numbers : List ℕ) (groups : ℕ) (within : All (λ g. g < groups) nu
         let keys = ap (λ x. seen_keys x ahead waiting.keys waiting.groups) h ∙ ap (λ x. seen_keys no_heads x waiting.keys waiting.groups) a ∙ ap (λ (x : Grouped Timed). seen_keys no_heads none x.keys x.groups) w ∙ seen_none in
         let same = ap (λ (x : Grouped Timed). x.groups) w in
         λ i. record { keys = keys i; groups = same i }
+
+    pub new_stands : (stands : List Stand) → stands ≡ replicate (length numbers) Nowhere → AreStands stands ahead waiting
+    new_stands stands s = record {
+      each = ap length s ∙ length-replicate {A = Stand} (length numbers) Nowhere ∙ long ∙ sym (ap (λ (q : Grouped Timed). length q.keys) w);
+      tells =
+          λ slot.
+          let idle_ahead = ap (λ x. key_at x slot) a ∙ none_of (length numbers) slot in
+          let idle_waiting = ap (λ (q : Grouped Timed). key_at q.keys slot) w ∙ none_of (length numbers) slot in
+          let stand : stand_of (key_at ahead slot) (key_at waiting.keys slot) ≡ Nowhere = ap (λ o. stand_of o (key_at waiting.keys slot)) idle_ahead ∙ ap (stand_of None) idle_waiting in
+          ap (λ x. slice_index_or x slot Nowhere) s ∙ nowhere (length numbers) slot ∙ sym stand;
+    }

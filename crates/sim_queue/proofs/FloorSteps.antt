@@ -1,13 +1,14 @@
 -- The steps of a queue with floors: a slot waits no longer, begins to wait, or is raised where it waits.
 use Rattle.std.proofs.Common.{◌≡◌, ◌≢◌, ◌⊎◌, ◌<◌, ◌≤◌, ℕ, true, false, List, length, set, slice_get, slice_index, Option, Some, None, is_some, refl, sym, ap, ◌∙◌, subst, arith, inl, inr}
 use Rattle.std.proofs.lemmas.Bool.{cases_eq}
-use Rattle.std.proofs.lemmas.List.{get_or-set_same, get_or-set_other, length-set, set-set}
+use Rattle.std.proofs.lemmas.List.{get_or-set_same, get_or-set_other, length-set}
 use Rattle.std.proofs.lemmas.Option.{same_Some, slice_get_within, slice_get-get_or}
 use Rattle.goal_graph.specs.declared.action.Timed.{Timed}
 use Rattle.sim_queue.specs.Map.{key_at}
 use Rattle.sim_queue.specs.Groups.{Grouped}
 use Rattle.sim_queue.specs.Floors.{waits_for_room, at_time, floor_of, seen_keys, IsFloored, IsRenewed, IsStep, IsLifted, IsRaised}
-use Rattle.sim_queue.proofs.Floors.{same_maps, key_within, effective_at, from_ahead, from_waiting, from_nothing, seen_here, seen_long, ahead_floored, ahead_seen, still_floored, here_nothing, here_waiting, there, IsWith}
+use Rattle.sim_queue.proofs.Maps.{key_within}
+use Rattle.sim_queue.proofs.Floors.{same_maps, effective_at, from_ahead, from_waiting, from_nothing, seen_here, seen_long, ahead_floored, ahead_seen, still_floored, here_nothing, here_waiting, there, IsWith}
 
 pub no_key : (k : Timed) → None ≡ Some k → ⊥
 no_key k e = absurd (cc)
@@ -24,7 +25,7 @@ module _ (ahead : List (Option Timed)) (waiting : Grouped Timed) (heads : List (
     pub taken_now : key_at new_waiting.keys slot ≡ None
     taken_now = ap (λ (q : Grouped Timed). key_at q.keys slot) taken ∙ get_or-set_same waiting.keys slot None None slot_in
 
-    step_out : IsStep slot ahead ahead waiting new_waiting
+    pub step_out : IsStep slot ahead ahead waiting new_waiting
     step_out = record {
       each_ahead = refl;
       each_waiting = ap (λ (q : Grouped Timed). length q.keys) taken ∙ length-set waiting.keys slot None;
@@ -54,10 +55,10 @@ module _ (ahead : List (Option Timed)) (waiting : Grouped Timed) (heads : List (
 
   -- the slot begins to wait at the floor
   module _ (idle : key_at ahead slot ≡ None) (key : Timed) (waits : waits_for_room key.class ≡ true) (at_floor : floor_of (key_at heads group) ≡ key.time) (new_waiting : Grouped Timed) (put : new_waiting ≡ record { keys = set waiting.keys slot (Some (at_time 0 key)); groups = waiting.groups }) (new_heads : List (Option Timed)) (renewed : IsRenewed new_waiting heads new_heads group (floor_of (key_at heads group))) where
-    waits_now : key_at new_waiting.keys slot ≡ Some (at_time 0 key)
+    pub waits_now : key_at new_waiting.keys slot ≡ Some (at_time 0 key)
     waits_now = ap (λ (q : Grouped Timed). key_at q.keys slot) put ∙ get_or-set_same waiting.keys slot (Some (at_time 0 key)) None slot_in
 
-    step_join : IsStep slot ahead ahead waiting new_waiting
+    pub step_join : IsStep slot ahead ahead waiting new_waiting
     step_join = record {
       each_ahead = refl;
       each_waiting = ap (λ (q : Grouped Timed). length q.keys) put ∙ length-set waiting.keys slot (Some (at_time 0 key));
@@ -234,25 +235,37 @@ seen_queue ahead waiting heads = record {
   groups = waiting.groups;
 }
 
--- what a slot has ahead is written, where it waits no longer
-module _ (ahead : List (Option Timed)) (waiting new_waiting : Grouped Timed) (heads new_heads : List (Option Timed)) (floored : IsFloored ahead new_waiting new_heads) (slot : ℕ) (within : slot < length ahead) (value : Option Timed) (idle : key_at new_waiting.keys slot ≡ None) (new_ahead : List (Option Timed)) (put : new_ahead ≡ set ahead slot value) where
-  pub written_floored : IsFloored new_ahead new_waiting new_heads
-  written_floored =
-      subst (λ a. IsFloored a new_waiting new_heads) (sym put) (ahead_floored ahead new_waiting new_heads floored slot within value idle)
+-- what one slot has is changed
+pub changed_queue : (ahead new_ahead : List (Option Timed)) (waiting new_waiting : Grouped Timed) (heads new_heads : List (Option Timed)) (slot : ℕ) (value : Option Timed) → new_waiting.groups ≡ waiting.groups → seen_keys new_heads new_ahead new_waiting.keys new_waiting.groups ≡ set (seen_keys heads ahead waiting.keys waiting.groups) slot value → (now : Grouped Timed) → seen_queue ahead waiting heads ≡ now → seen_queue new_ahead new_waiting new_heads ≡ record { keys = set now.keys slot value; groups = now.groups }
+changed_queue ahead new_ahead waiting new_waiting heads new_heads slot value groups seen now view =
+    let keys = seen ∙ ap (λ (q : Grouped Timed). set q.keys slot value) view in
+    let same = groups ∙ ap (λ (q : Grouped Timed). q.groups) view in
+    λ i. record { keys = keys i; groups = same i }
 
-  pub written_seen : new_waiting.groups ≡ waiting.groups → set (seen_keys new_heads ahead new_waiting.keys new_waiting.groups) slot value ≡ set (seen_keys heads ahead waiting.keys waiting.groups) slot value → (now : Grouped Timed) → seen_queue ahead waiting heads ≡ now → seen_queue new_ahead new_waiting new_heads ≡ record { keys = set now.keys slot value; groups = now.groups }
-  written_seen groups others now view =
-      let keys = ap (λ a. seen_keys new_heads a new_waiting.keys new_waiting.groups) put ∙ ahead_seen ahead new_waiting new_heads floored slot within value idle ∙ others ∙ ap (λ (q : Grouped Timed). set q.keys slot value) view in
-      let same = groups ∙ ap (λ (q : Grouped Timed). q.groups) view in
-      λ i. record { keys = keys i; groups = same i }
+-- what a slot has ahead is written, where it does not wait
+module _ (ahead : List (Option Timed)) (waiting : Grouped Timed) (heads : List (Option Timed)) (floored : IsFloored ahead waiting heads) (slot : ℕ) (within : slot < length ahead) (value : Option Timed) (idle : key_at waiting.keys slot ≡ None) (new_ahead : List (Option Timed)) (put : new_ahead ≡ set ahead slot value) where
+  pub written_floored : IsFloored new_ahead waiting heads
+  written_floored =
+      subst (λ a. IsFloored a waiting heads) (sym put) (ahead_floored ahead waiting heads floored slot within value idle)
+
+  pub written_seen : seen_keys heads new_ahead waiting.keys waiting.groups ≡ set (seen_keys heads ahead waiting.keys waiting.groups) slot value
+  written_seen =
+      ap (λ a. seen_keys heads a waiting.keys waiting.groups) put ∙ ahead_seen ahead waiting heads floored slot within value idle
+
+  pub written_here : key_at new_ahead slot ≡ value
+  written_here = ap (λ a. key_at a slot) put ∙ get_or-set_same ahead slot value None within
+
+  pub written_step : IsStep slot ahead new_ahead waiting waiting
+  written_step = record {
+    each_ahead = ap length put ∙ length-set ahead slot value;
+    each_waiting = refl;
+    groups = refl;
+    ahead_stays = λ other n. ap (λ a. key_at a other) put ∙ get_or-set_other ahead slot other value None n;
+    waiting_stays = λ other n. refl;
+    apart = λ k e. idle;
+    waits = λ k e. absurd (no_key k (sym idle ∙ e));
+  }
 
 pub slot_within : (ahead : List (Option Timed)) (waiting : Grouped Timed) (heads : List (Option Timed)) → IsFloored ahead waiting heads → (now : Grouped Timed) → seen_queue ahead waiting heads ≡ now → (slot : ℕ) → slot < length now.keys → slot < length waiting.keys
 slot_within ahead waiting heads floored now view slot l =
     omega (arith, l, ap (λ (q : Grouped Timed). length q.keys) view, seen_long ahead waiting heads floored)
-
--- a slot without a key has joined those that wait
-pub joined_seen : (ahead : List (Option Timed)) (waiting new_waiting : Grouped Timed) (heads new_heads : List (Option Timed)) (slot : ℕ) (key : Timed) (now : Grouped Timed) → seen_queue ahead waiting heads ≡ record { keys = set now.keys slot None; groups = now.groups } → seen_keys new_heads ahead new_waiting.keys new_waiting.groups ≡ set (seen_keys heads ahead waiting.keys waiting.groups) slot (Some key) → new_waiting.groups ≡ waiting.groups → seen_queue ahead new_waiting new_heads ≡ record { keys = set now.keys slot (Some key); groups = now.groups }
-joined_seen ahead waiting new_waiting heads new_heads slot key now out seen groups =
-    let keys = seen ∙ ap (λ (q : Grouped Timed). set q.keys slot (Some key)) out ∙ set-set now.keys slot None (Some key) in
-    let same = groups ∙ ap (λ (q : Grouped Timed). q.groups) out in
-    λ i. record { keys = keys i; groups = same i }

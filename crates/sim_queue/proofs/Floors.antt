@@ -1,25 +1,17 @@
 -- A queue with floors, of which one slot is changed and the head of its group told anew.
-use Rattle.std.proofs.Common.{◌≡◌, ◌≢◌, ◌⊎◌, ◌<◌, ◌≤◌, ℕ, zero, suc, true, List, [], ◌∷◌, length, set, slice_get, slice_index, Option, Some, None, refl, sym, ap, ◌∙◌, subst, arith, inl, inr}
-use Rattle.std.proofs.lemmas.Bool.{cases_eq, cases_lt}
-use Rattle.std.proofs.lemmas.List.{get_or-set_same, get_or-set_other, length-set, get_or_past}
+use Rattle.std.proofs.Common.{◌≡◌, ◌≢◌, ◌⊎◌, ◌<◌, ℕ, zero, suc, true, List, [], ◌∷◌, length, set, slice_get, slice_index, Option, Some, None, refl, sym, ap, ◌∙◌, subst, arith, inl, inr}
+use Rattle.std.proofs.lemmas.Bool.{cases_eq}
+use Rattle.std.proofs.lemmas.List.{get_or-set_same, get_or-set_other, length-set}
 use Rattle.std.proofs.lemmas.Option.{slice_get-get_or, slice_get_within, same_Some}
 use Rattle.goal_graph.specs.declared.action.Timed.{Timed}
 use Rattle.sim_queue.specs.Map.{key_at}
 use Rattle.sim_queue.specs.Groups.{Grouped}
 use Rattle.sim_queue.specs.Floors.{waits_for_room, at_time, floor_of, effective, seen_keys, IsHead, IsFloored, IsRenewed, IsStep}
-use Rattle.sim_queue.proofs.Maps.{same_maps as same_within}
+use Rattle.sim_queue.proofs.Maps.{same_maps as same_within, key_within}
 
 -- two maps of one length are the same where their slots have the same
 pub same_maps : (xs ys : List (Option Timed)) → length xs ≡ length ys → ((i : ℕ) → key_at xs i ≡ key_at ys i) → xs ≡ ys
 same_maps xs ys l same = same_within xs ys l (λ i h. same i)
-
--- a slot that has a key is one of the map
-pub key_within : (keys : List (Option Timed)) (slot : ℕ) (k : Timed) → key_at keys slot ≡ Some k → slot < length keys
-key_within keys slot k e = go (cases_lt slot (length keys))
-  where
-    go : (slot < length keys) ⊎ (length keys ≤ slot) → slot < length keys
-    go (inl l) = l
-    go (inr l) = let none : key_at keys slot ≡ None = get_or_past keys slot None l in absurd (cc)
 
 abbrev pub effective_at : List (Option Timed) → List (Option Timed) → Grouped Timed → ℕ → Option Timed
 effective_at heads ahead waiting i =

@@ -1,13 +1,13 @@
 -- Slots in groups, of which the key of one slot is changed, and the least of a group.
-use Rattle.std.proofs.Common.{◌≡◌, ◌≢◌, ◌⊎◌, ◌<◌, ◌≤◌, ℕ, Bool, false, List, [], length, map, set, get_or, slice_get, Option, Some, None, sym, ap, ◌∙◌, arith, inl, inr}
+use Rattle.std.proofs.Common.{◌≡◌, ◌≢◌, ◌⊎◌, ◌<◌, ◌≤◌, ℕ, Bool, true, false, List, [], length, map, set, get_or, slice_get, Option, Some, None, sym, ap, ◌∙◌, arith, inl, inr}
 use Rattle.std.proofs.lemmas.Bool.{cases_eq, cases_lt}
 use Rattle.std.proofs.lemmas.List.{get_or-set_same, get_or-set_other, length-set, get_or-map, get_or_read, same_lists}
 use Rattle.std.proofs.lemmas.Option.{slice_get-get_or, slice_get_within, slice_get_past, get_or_from_slice_get, slice_get-map, same_Some}
 use Rattle.std.proofs.lemmas.List.{length-map}
 use Rattle.std.specs.Option.{option_map}
 use Rattle.sim_queue.specs.declared.groups.Home.{Home}
-use Rattle.sim_queue.specs.Map.{key_at, IsLeast, IsEmptyMap}
-use Rattle.sim_queue.specs.Groups.{IsHoused, IsEmptyGroup, IsLeastOf, heap_at, key_of_home, group_of_home, grouped}
+use Rattle.sim_queue.specs.Map.{key_at, IsLeast, IsSoleLeast, IsEmptyMap}
+use Rattle.sim_queue.specs.Groups.{IsHoused, IsEmptyGroup, IsLeastOf, IsSoleLeastOf, heap_at, key_of_home, group_of_home, grouped}
 
 pub same_home : (a b : Home) → a.group ≡ b.group → a.place ≡ b.place → a ≡ b
 same_home a b e f i = record { group = e i; place = f i }
@@ -147,3 +147,22 @@ module _ {K : Type 0} (homes : List Home) (heaps : List (List (Option K))) (hous
       others : (other : ℕ) (k : K) → ((home : Home) × (slice_get homes other ≡ Some home) × (home.group ≡ group)) → key_at (grouped homes heaps).keys other ≡ Some k → before k key ≡ false
       others other k home has =
           least.least home.0.place k (ap (λ g. key_at (heap_at heaps g) home.0.place) (sym home.2) ∙ sym (key_at_home other home.0 home.1) ∙ has)
+
+  -- a key that is before each other of its group is before each other of the heap of the group
+  pub sole_of_heap : (before : K → K → Bool) (slot : ℕ) (home : Home) → slice_get homes slot ≡ Some home → IsSoleLeastOf before (grouped homes heaps) slot → IsSoleLeast before (heap_at heaps home.group) home.place
+  sole_of_heap before slot home at sole = record {
+    key = sole.key;
+    has = sym (key_at_home slot home at) ∙ sole.has;
+    first = λ place k e. others place k e (housed.inhabited home.group place k e);
+  }
+    where
+      others : (place : ℕ) (k : K) → key_at (heap_at heaps home.group) place ≡ Some k → ((s : ℕ) × (slice_get homes s ≡ Some (record { group = home.group; place = place }))) → (place ≡ home.place) ⊎ (before sole.key k ≡ true)
+      others place k e lives = go (sole.first lives.0 k (group_at_home lives.0 there lives.1 ∙ sym (group_at_home slot home at)) (key_at_home lives.0 there lives.1 ∙ e))
+        where
+          there : Home
+          there = record { group = home.group; place = place }
+
+          go : (lives.0 ≡ slot) ⊎ (before sole.key k ≡ true) → (place ≡ home.place) ⊎ (before sole.key k ≡ true)
+          go (inl s) =
+              inl (ap (λ (h : Home). h.place) (same_Some there home (sym lives.1 ∙ ap (slice_get homes) s ∙ at)))
+          go (inr b) = inr b

@@ -20,4 +20,5 @@ pub mod Ranking
 pub mod Floors
 pub mod FloorSteps
 pub mod FloorLeast
+pub mod FloorStands
 pub mod FloorNew

@@ -1,11 +1,13 @@
 -- A queue with floors. The slots of a group wait for the same thing, so that none of their events is before the moment at
 -- which it is free. Such a moment is the floor of the group: keys that are at the floor are raised together with it.
-use Rattle.std.specs.Prelude.{◌≡◌, ◌⊎◌, ◌<◌, ◌≤◌, ℕ, Bool, true, false, List, [], ◌∷◌, Option, Some, None, length, slice_get, slice_set}
+use Rattle.std.specs.Prelude.{◌≡◌, ◌⊎◌, ◌<◌, ◌≤◌, ℕ, Bool, true, false, List, [], ◌∷◌, Option, Some, None, length, slice_get, slice_index_or, slice_set}
 use Rattle.std.specs.Option.{option_map}
 use Rattle.goal_graph.specs.declared.action.Timed.{Timed}
 use Rattle.goal_graph.specs.declared.action.Class.{Class}
 use Rattle.goal_graph.specs.declared.action.Class.TheVariants.{Arrive, Serve, Data, Post, Begin}
 use Rattle.sim_order.specs.Events.{event_before}
+use Rattle.sim_queue.specs.declared.floor_queue.Stand.{Stand}
+use Rattle.sim_queue.specs.declared.floor_queue.Stand.TheVariants.{Nowhere, Ahead, Waiting}
 use Rattle.sim_queue.specs.Map.{key_at}
 use Rattle.sim_queue.specs.Groups.{Grouped, IsEmptyGroup, IsLeastOf}
 
@@ -70,6 +72,29 @@ pub record IsFloored (ahead : List (Option Timed)) (waiting : Grouped Timed) (he
   pub apart : (slot : ℕ) (k : Timed) → key_at ahead slot ≡ Some k → key_at waiting.keys slot ≡ None
   pub waits : (slot : ℕ) (k : Timed) → key_at waiting.keys slot ≡ Some k → (k.time ≡ 0) × (waits_for_room k.class ≡ true)
   pub headed : (group : ℕ) → IsHead waiting group (key_at heads group)
+
+-- where a slot has its key, by what it has ahead and what it has waiting
+abbrev pub stand_of : Option Timed → Option Timed → Stand
+stand_of (Some _) waiting = Ahead
+stand_of None (Some _) = Waiting
+stand_of None None = Nowhere
+
+-- a slot that stands there waits
+abbrev pub is_waiting : Stand → Bool
+is_waiting Nowhere = false
+is_waiting Ahead = false
+is_waiting Waiting = true
+
+-- a slot that stands there has a key
+abbrev pub has_key : Stand → Bool
+has_key Nowhere = false
+has_key Ahead = true
+has_key Waiting = true
+
+-- it is known where each slot has its key
+pub record AreStands (stands : List Stand) (ahead : List (Option Timed)) (waiting : Grouped Timed) : Type 0 where
+  pub each : length stands ≡ length waiting.keys
+  pub tells : (slot : ℕ) → slice_index_or stands slot Nowhere ≡ stand_of (key_at ahead slot) (key_at waiting.keys slot)
 
 -- the head of a group is told anew, at this floor
 pub record IsRenewed (waiting : Grouped Timed) (old new : List (Option Timed)) (group floor : ℕ) : Type 0 where

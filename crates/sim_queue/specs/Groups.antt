@@ -1,5 +1,5 @@
 -- Slots in groups, each of which knows its least key.
-use Rattle.std.specs.Prelude.{◌≡◌, ◌<◌, ◌^◌, ℕ, Bool, false, List, [], Option, Some, None, length, map, replicate, slice_get, slice_index, slice_index_or}
+use Rattle.std.specs.Prelude.{◌≡◌, ◌⊎◌, ◌<◌, ◌^◌, ℕ, Bool, true, false, List, [], Option, Some, None, length, map, replicate, slice_get, slice_index, slice_index_or}
 use Rattle.sim_queue.specs.declared.groups.Home.{Home}
 use Rattle.sim_queue.specs.Map.{key_at}
 
@@ -31,6 +31,14 @@ module _ {K : Type 0} where
     pub least :
         (other : ℕ) (k : K)
         → slice_get q.groups other ≡ Some group → key_at q.keys other ≡ Some k → before k key ≡ false
+
+  -- the slot has a key that is before that of each other slot of its group
+  pub record IsSoleLeastOf (before : K → K → Bool) (q : Grouped K) (slot : ℕ) : Type 0 where
+    pub key : K
+    pub has : key_at q.keys slot ≡ Some key
+    pub first :
+        (other : ℕ) (k : K)
+        → slice_get q.groups other ≡ slice_get q.groups slot → key_at q.keys other ≡ Some k → (other ≡ slot) ⊎ (before key k ≡ true)
 
   -- so many slots without a key
   abbrev pub no_keys : ℕ → List (Option K)

@@ -1,11 +1,12 @@
 // A queue with floors.
-ghost use Rattle.std.specs.Prelude.{◌≡◌, ◌<◌, ◌≤◌, ◌^◌, ℕ, All, IfOk, IfSome, IsNone, ◌↔◌, true, Option, Some, None, length, replicate, slice_get, slice_set};
+ghost use Rattle.std.specs.Prelude.{◌≡◌, ◌<◌, ◌≤◌, ◌^◌, ℕ, All, IfOk, IfSome, IsNone, ◌↔◌, true, Some, None, is_some, length, replicate, slice_get, slice_set};
 ghost use Rattle.goal_graph.specs.declared.action.Timed.{Timed};
 ghost use Rattle.sim_order.specs.Events.{event_before};
-ghost use Rattle.sim_queue.specs.Map.{key_at, IsEmptyMap, IsLeast};
-ghost use Rattle.sim_queue.specs.Floors.{waits_for_room, floor_of, seen_keys, IsFloored, IsRenewed, IsLate, IsLifted};
+ghost use Rattle.sim_queue.specs.Map.{key_at, IsEmptyMap, IsLeast, IsSoleLeast};
+ghost use Rattle.sim_queue.specs.Groups.{IsSoleLeastOf};
+ghost use Rattle.sim_queue.specs.Floors.{is_waiting, has_key, waits_for_room, at_time, floor_of, seen_keys, IsFloored, IsRenewed, IsStep, IsLate, IsLifted};
 
-use crate::{EventQueue, Groups, SlotHeap};
+use crate::{EventQueue, Groups, SlotHeap, TopHeap};
 use goal_base::NoMemory;
 use goal_graph::Class;
 use sim_order::{CompactKey, EventOrder, Steps};
@@ -13,12 +14,49 @@ use std::alloc::Global;
 use std::marker::Model;
 use std::sync::ledger::Ledger;
 
-// The least key of a heap.
-fn first<L: Ledger>(heap: &SlotHeap<CompactKey>, steps: &mut Steps<L>) -> Option<CompactKey>
-    ensures none { IsNone result ↔ IsEmptyMap heap.now }
-    ensures least { IfSome result (λ key. (slot : ℕ) × IsLeast event_before heap.now slot key) }
+// Where a slot has its key.
+#[derive(Clone, Copy, Debug)]
+enum Stand {
+    Nowhere,
+    Ahead,
+    Waiting,
+}
+
+// Whether a slot that stands there waits.
+fn is_waiting(stand: Stand) -> bool
+    ensures { result ≡ is_waiting stand }
 {
-    let (_, key) = heap.least(steps)?;
+    match stand {
+        Stand::Waiting => true,
+        Stand::Nowhere | Stand::Ahead => false,
+    }
+}
+
+// Whether a slot that stands there has a key.
+fn has_key(stand: Stand) -> bool
+    ensures { result ≡ has_key stand }
+{
+    match stand {
+        Stand::Nowhere => false,
+        Stand::Ahead | Stand::Waiting => true,
+    }
+}
+
+// The least key of those that are ahead.
+fn first_ahead(ahead: &TopHeap<CompactKey>) -> Option<CompactKey>
+    ensures none { IsNone result ↔ IsEmptyMap ahead.now }
+    ensures least { IfSome result (λ key. (slot : ℕ) × IsLeast event_before ahead.now slot key) }
+{
+    let (_, key) = ahead.least()?;
+    Some(key)
+}
+
+// The least key of the heads.
+fn first_head<L: Ledger>(heads: &SlotHeap<CompactKey>, steps: &mut Steps<L>) -> Option<CompactKey>
+    ensures none { IsNone result ↔ IsEmptyMap heads.now }
+    ensures least { IfSome result (λ key. (group : ℕ) × IsLeast event_before heads.now group key) }
+{
+    let (_, key) = heads.least(steps)?;
     Some(key)
 }
 
@@ -55,40 +93,38 @@ fn renew<L: Ledger>(
     requires at_zero { (slot : ℕ) (k : Timed) → key_at waiting.now.keys slot ≡ Some k → k.time ≡ 0 }
     ensures { IsRenewed waiting.now heads.old heads.new group floor }
 {
-    match waiting.least_of(group, steps) {
+    match waiting.least_of(group) {
         Some(key) => heads.put(group, key.at(floor), steps),
         None => heads.drop_slot(group, steps),
     }
 }
 
-// Takes out the key of a slot, if it waits.
-fn stop_waiting<L: Ledger>(
-    ahead: &SlotHeap<CompactKey>,
+// Lets a slot wait no longer, whose key is before that of each other slot of its group.
+fn leave<L: Ledger>(
+    ahead: &TopHeap<CompactKey>,
     waiting: &mut Groups<CompactKey>,
     heads: &mut SlotHeap<CompactKey>,
     slot: u32,
     steps: &mut Steps<L>,
 )
     requires floored { IsFloored ahead.now waiting.old heads.old }
-    requires slot_in { slot < length waiting.old.keys }
+    requires idle { key_at ahead.now slot ≡ None }
+    requires least { IsSoleLeastOf event_before waiting.old slot }
     ensures floored { IsFloored ahead.now waiting.new heads.new }
-    ensures taken { key_at waiting.new.keys slot ≡ None }
-    ensures groups { waiting.new.groups ≡ waiting.old.groups }
-    ensures others { (key : Option Timed) → slice_set (seen_keys heads.new ahead.now waiting.new.keys waiting.new.groups) slot key
-        ≡ slice_set (seen_keys heads.old ahead.now waiting.old.keys waiting.old.groups) slot key }
+    ensures step { IsStep slot ahead.now ahead.now waiting.old waiting.new }
+    ensures gone { key_at waiting.new.keys slot ≡ None }
+    ensures seen { seen_keys heads.new ahead.now waiting.new.keys waiting.new.groups
+        ≡ slice_set (seen_keys heads.old ahead.now waiting.old.keys waiting.old.groups) slot None }
 {
-    if !waiting.has(slot) {
-        return;
-    }
     let group = waiting.group(slot);
     let floor = floor(heads, group);
-    waiting.drop_slot(slot, steps);
+    waiting.take(slot, steps);
     renew(waiting, heads, group, floor, steps);
 }
 
 // Lets a slot that has no key wait at the floor of its group, where its key's time is the floor.
 fn join<L: Ledger>(
-    ahead: &SlotHeap<CompactKey>,
+    ahead: &TopHeap<CompactKey>,
     waiting: &mut Groups<CompactKey>,
     heads: &mut SlotHeap<CompactKey>,
     slot: u32,
@@ -98,10 +134,12 @@ fn join<L: Ledger>(
     requires floored { IsFloored ahead.now waiting.old heads.old }
     requires slot_in { slot < length waiting.old.keys }
     requires idle { key_at ahead.now slot ≡ None }
+    requires free { key_at waiting.old.keys slot ≡ None }
     requires waits { waits_for_room key.class ≡ true }
     requires at_floor { (group : ℕ) → slice_get waiting.old.groups slot ≡ Some group → floor_of (key_at heads.old group) ≡ key.time }
     ensures floored { IsFloored ahead.now waiting.new heads.new }
-    ensures groups { waiting.new.groups ≡ waiting.old.groups }
+    ensures step { IsStep slot ahead.now ahead.now waiting.old waiting.new }
+    ensures waits { key_at waiting.new.keys slot ≡ Some (at_time 0 key) }
     ensures seen { seen_keys heads.new ahead.now waiting.new.keys waiting.new.groups
         ≡ slice_set (seen_keys heads.old ahead.now waiting.old.keys waiting.old.groups) slot (Some key) }
 {
@@ -111,9 +149,10 @@ fn join<L: Ledger>(
     renew(waiting, heads, group, floor, steps);
 }
 
-// Lets a slot wait at the floor of its group, which is this time from now on.
+// Lets a slot whose key is before each other that is ahead wait at the floor of its group, which is this time from now
+// on.
 fn park<L: Ledger>(
-    ahead: &mut SlotHeap<CompactKey>,
+    ahead: &mut TopHeap<CompactKey>,
     waiting: &mut Groups<CompactKey>,
     heads: &mut SlotHeap<CompactKey>,
     slot: u32,
@@ -122,15 +161,18 @@ fn park<L: Ledger>(
     steps: &mut Steps<L>,
 )
     requires floored { IsFloored ahead.old waiting.old heads.old }
+    requires least { IsSoleLeast event_before ahead.old slot }
     requires key { key_at ahead.old slot ≡ Some key }
     requires waits { waits_for_room key.class ≡ true }
     requires not_later { (group : ℕ) → slice_get waiting.old.groups slot ≡ Some group → floor_of (key_at heads.old group) ≤ time }
     ensures floored { IsFloored ahead.new waiting.new heads.new }
-    ensures groups { waiting.new.groups ≡ waiting.old.groups }
+    ensures step { IsStep slot ahead.old ahead.new waiting.old waiting.new }
+    ensures gone { key_at ahead.new slot ≡ None }
+    ensures waits { key_at waiting.new.keys slot ≡ Some (at_time 0 key) }
     ensures lifted { IsLifted waiting.old.groups (seen_keys heads.old ahead.old waiting.old.keys waiting.old.groups) (seen_keys heads.new ahead.new waiting.new.keys waiting.new.groups) slot time }
 {
     let group = waiting.group(slot);
-    ahead.drop_slot(slot, steps);
+    ahead.take(slot, steps);
     waiting.put(slot, key.at(0), steps);
     renew(waiting, heads, group, time, steps);
 }
@@ -141,23 +183,25 @@ fn park<L: Ledger>(
 #[derive(Drop)]
 pub struct FloorQueue {
     // keys that stand for themselves
-    ahead: SlotHeap<CompactKey>,
+    ahead: TopHeap<CompactKey>,
     // keys at the floor of their group, with 0 for their time
     waiting: Groups<CompactKey>,
     // the least of each group that waits, at the time of the floor
     heads: SlotHeap<CompactKey>,
+    // where each slot has its key
+    stands: Vec<Stand>,
 }
 
 impl Model for FloorQueue {
     ghost use Rattle.goal_graph.specs.declared.action.Timed.{Timed};
     ghost use Rattle.sim_queue.specs.Groups.{Grouped};
-    ghost use Rattle.sim_queue.specs.Floors.{seen_keys, IsFloored};
+    ghost use Rattle.sim_queue.specs.Floors.{seen_keys, IsFloored, AreStands};
 
     ghost Value = { Grouped Timed };
 
     ghost view = { λ q. record { keys = seen_keys q.heads q.ahead q.waiting.keys q.waiting.groups; groups = q.waiting.groups } };
 
-    ghost invariant = { λ q. IsFloored q.ahead q.waiting q.heads };
+    ghost invariant = { λ q. IsFloored q.ahead q.waiting q.heads × AreStands q.stands.items q.ahead q.waiting };
 }
 
 impl FloorQueue {
@@ -169,24 +213,33 @@ impl FloorQueue {
         ensures { IfOk result (λ q. q ≡ record { keys = replicate (length numbers.now) None; groups = numbers.now }) }
     {
         Ok(FloorQueue {
-            ahead: SlotHeap::new(alloc, numbers.len() as u32)?,
+            ahead: TopHeap::new(alloc, numbers.len() as u32)?,
             waiting: Groups::new(alloc, numbers, groups)?,
             heads: SlotHeap::new(alloc, groups)?,
+            stands: vec![in alloc; Stand::Nowhere; numbers.len()]?,
         })
     }
 
-    /// Gives a slot a key, in place of the one that it had if it had one.
+    /// Whether a slot has a key.
+    pub fn has(&self, slot: u32) -> bool
+        requires { slot < length self.now.keys }
+        ensures { result ≡ is_some (key_at self.now.keys slot) }
+    {
+        has_key(self.stands[slot as usize])
+    }
+
+    /// Gives a slot that has no key a key.
     pub fn put<L: Ledger>(&mut self, slot: u32, key: CompactKey, steps: &mut Steps<L>)
-        requires { slot < length self.old.keys }
+        requires slot_in { slot < length self.old.keys }
+        requires free { key_at self.old.keys slot ≡ None }
         ensures { self.new ≡ record self.old { keys = slice_set self.old.keys slot (Some key) } }
     {
-        stop_waiting(&self.ahead, &mut self.waiting, &mut self.heads, slot, steps);
         let group = self.waiting.group(slot);
         if !waits_for_room(key.class()) || floor(&self.heads, group) != key.time() {
             self.ahead.put(slot, key, steps);
+            self.stands[slot as usize] = Stand::Ahead;
             return;
         }
-        self.ahead.drop_slot(slot, steps);
         join(
             &self.ahead,
             &mut self.waiting,
@@ -195,30 +248,42 @@ impl FloorQueue {
             key,
             steps,
         );
+        self.stands[slot as usize] = Stand::Waiting;
     }
 
-    /// Takes a slot's key out. Where it has none nothing changes.
-    pub fn drop_slot<L: Ledger>(&mut self, slot: u32, steps: &mut Steps<L>)
-        requires { slot < length self.old.keys }
+    /// Takes out the key of a slot that is before that of each other slot.
+    pub fn take<L: Ledger>(&mut self, slot: u32, steps: &mut Steps<L>)
+        requires { IsSoleLeast event_before self.old.keys slot }
         ensures { self.new ≡ record self.old { keys = slice_set self.old.keys slot None } }
     {
-        stop_waiting(&self.ahead, &mut self.waiting, &mut self.heads, slot, steps);
-        self.ahead.drop_slot(slot, steps);
+        let waits = is_waiting(self.stands[slot as usize]);
+        self.stands[slot as usize] = Stand::Nowhere;
+        if waits {
+            leave(&self.ahead, &mut self.waiting, &mut self.heads, slot, steps);
+            return;
+        }
+        self.ahead.take(slot, steps);
     }
 
-    /// Raises the key of a slot to a time. The keys of other slots of its group that wait for the same thing may be raised
-    /// with it.
+    /// Raises the key of a slot that is before that of each other slot to a time. The keys of other slots of its group
+    /// that wait for the same thing may be raised with it.
     pub fn lift<L: Ledger>(&mut self, slot: u32, time: u64, steps: &mut Steps<L>)
-        requires { IsLate self.old.keys slot time }
+        requires late { IsLate self.old.keys slot time }
+        requires least { IsSoleLeast event_before self.old.keys slot }
         ensures lifted { IsLifted self.old.groups self.old.keys self.new.keys slot time }
         ensures groups { self.new.groups ≡ self.old.groups }
     {
         let group = self.waiting.group(slot);
-        let Some(key) = self.ahead.key(slot) else {
+        if is_waiting(self.stands[slot as usize]) {
             renew(&self.waiting, &mut self.heads, group, time, steps);
+            return;
+        }
+        // the least that is ahead is the slot's own
+        let Some(key) = first_ahead(&self.ahead) else {
             return;
         };
         if floor(&self.heads, group) > time {
+            self.ahead.take(slot, steps);
             self.ahead.put(slot, key.at(time), steps);
             return;
         }
@@ -231,6 +296,7 @@ impl FloorQueue {
             time,
             steps,
         );
+        self.stands[slot as usize] = Stand::Waiting;
     }
 
     /// A key such that no key of the map is before it. None where the map is empty.
@@ -238,10 +304,10 @@ impl FloorQueue {
         ensures none { IsNone result ↔ IsEmptyMap self.now.keys }
         ensures least { IfSome result (λ key. (slot : ℕ) × IsLeast event_before self.now.keys slot key) }
     {
-        let Some(key) = first(&self.ahead, steps) else {
-            return first(&self.heads, steps);
+        let Some(key) = first_ahead(&self.ahead) else {
+            return first_head(&self.heads, steps);
         };
-        let Some(head) = first(&self.heads, steps) else {
+        let Some(head) = first_head(&self.heads, steps) else {
             return Some(key);
         };
         if head.before(&key, steps) {

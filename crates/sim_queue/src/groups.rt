@@ -1,9 +1,9 @@
 // Slots in groups.
-ghost use Rattle.std.specs.Prelude.{◌≡◌, ◌<◌, ◌^◌, All, IfOk, IfSome, IsNone, Some, None, is_some, length, map, replicate, slice_get, slice_set};
+ghost use Rattle.std.specs.Prelude.{◌≡◌, ◌<◌, ◌^◌, All, IfOk, IfSome, IsNone, Some, None, length, map, replicate, slice_get, slice_set};
 ghost use Rattle.sim_queue.specs.Map.{key_at};
-ghost use Rattle.sim_queue.specs.Groups.{IsEmptyGroup, IsLeastOf, AreHomes, no_keys};
+ghost use Rattle.sim_queue.specs.Groups.{IsEmptyGroup, IsLeastOf, IsSoleLeastOf, AreHomes, no_keys};
 
-use crate::{EventQueue, SlotHeap};
+use crate::TopHeap;
 use goal_base::NoMemory;
 use sim_order::{EventOrder, Steps};
 use std::alloc::Global;
@@ -21,20 +21,17 @@ pub struct Home {
 #[derive(Drop)]
 pub struct Groups<K: EventOrder> {
     homes: Vec<Home>,
-    heaps: Vec<SlotHeap<K>>,
-    // whether each slot has a key
-    keyed: Vec<bool>,
+    heaps: Vec<TopHeap<K>>,
 }
 
 impl<K: EventOrder> Model for Groups<K> {
-    ghost use Rattle.std.specs.Prelude.{◌≡◌, map, is_some};
     ghost use Rattle.sim_queue.specs.Groups.{Grouped, IsHoused, grouped};
 
     ghost Value = { Grouped K };
 
     ghost view = { λ q. grouped q.homes.items q.heaps.items };
 
-    ghost invariant = { λ q. IsHoused q.homes.items q.heaps.items × (q.keyed.items ≡ map is_some (grouped q.homes.items q.heaps.items).keys) };
+    ghost invariant = { λ q. IsHoused q.homes.items q.heaps.items };
 }
 
 // Homes for slots whose groups have these numbers: the slots of a group get its places in their order. Counts the slots
@@ -56,15 +53,12 @@ fn homes(alloc: Global, numbers: &[u32], counts: &mut [u32]) -> Result<Vec<Home>
 }
 
 // Heaps with so many slots each, none of which has a key.
-pub fn heaps<K: EventOrder + Copy>(
-    alloc: Global,
-    counts: &[u32],
-) -> Result<Vec<SlotHeap<K>>, NoMemory>
+fn heaps<K: EventOrder + Copy>(alloc: Global, counts: &[u32]) -> Result<Vec<TopHeap<K>>, NoMemory>
     ensures { IfOk result (λ heaps. heaps.items ≡ map no_keys counts.now) }
 {
     let mut heaps = Vec::with_capacity(alloc, counts.len())?;
     'groups: for count in counts {
-        heaps.push(SlotHeap::new(alloc, *count)?)?;
+        heaps.push(TopHeap::new(alloc, *count)?)?;
     }
     Ok(heaps)
 }
@@ -80,20 +74,7 @@ impl<K: EventOrder + Copy> Groups<K> {
         let mut counts = vec![in alloc; 0; groups as usize]?;
         let homes = homes(alloc, numbers, &mut counts)?;
         let heaps = heaps(alloc, &counts)?;
-        let keyed = vec![in alloc; false; numbers.len()]?;
-        Ok(Groups {
-            homes,
-            heaps,
-            keyed,
-        })
-    }
-
-    /// Whether a slot has a key.
-    pub fn has(&self, slot: u32) -> bool
-        requires { slot < length self.now.keys }
-        ensures { result ≡ is_some (key_at self.now.keys slot) }
-    {
-        self.keyed[slot as usize]
+        Ok(Groups { homes, heaps })
     }
 
     /// The group of a slot.
@@ -104,35 +85,34 @@ impl<K: EventOrder + Copy> Groups<K> {
         self.homes[slot as usize].group
     }
 
-    /// Gives a slot a key, in place of the one that it had if it had one.
+    /// Gives a slot that has no key a key.
     pub fn put<L: Ledger>(&mut self, slot: u32, key: K, steps: &mut Steps<L>)
-        requires { slot < length self.old.keys }
+        requires slot_in { slot < length self.old.keys }
+        requires free { key_at self.old.keys slot ≡ None }
         ensures { self.new ≡ record self.old { keys = slice_set self.old.keys slot (Some key) } }
     {
         let home = self.homes[slot as usize];
         self.heaps[home.group as usize].put(home.place, key, steps);
-        self.keyed[slot as usize] = true;
     }
 
-    /// Takes a slot's key out. Where it has none nothing changes.
-    pub fn drop_slot<L: Ledger>(&mut self, slot: u32, steps: &mut Steps<L>)
-        requires { slot < length self.old.keys }
+    /// Takes out the key of a slot that is before that of each other slot of its group.
+    pub fn take<L: Ledger>(&mut self, slot: u32, steps: &mut Steps<L>)
+        requires { IsSoleLeastOf K.before self.old slot }
         ensures { self.new ≡ record self.old { keys = slice_set self.old.keys slot None } }
     {
         let home = self.homes[slot as usize];
-        self.heaps[home.group as usize].drop_slot(home.place, steps);
-        self.keyed[slot as usize] = false;
+        self.heaps[home.group as usize].take(home.place, steps);
     }
 
     /// The least key of a group. None where no slot of the group has a key, or there is no such group.
-    pub fn least_of<L: Ledger>(&self, group: u32, steps: &mut Steps<L>) -> Option<K>
+    pub fn least_of(&self, group: u32) -> Option<K>
         ensures none { IsNone result → IsEmptyGroup self.now group }
         ensures least { IfSome result (IsLeastOf K.before self.now group) }
     {
         if group as usize >= self.heaps.len() {
             return None;
         }
-        let (_, key) = self.heaps[group as usize].least(steps)?;
+        let (_, key) = self.heaps[group as usize].least()?;
         Some(key)
     }
 }

@@ -4,10 +4,9 @@ ghost use Rattle.goal_graph.specs.Schedule.{operations};
 ghost use Rattle.sim_queue.specs.Map.{IsEmptyMap, IsLeast};
 ghost use Rattle.sim_queue.specs.Ranked.{size_of};
 ghost use Rattle.sim_queue.specs.Ranks.{home_of, IsTold};
-ghost use Rattle.sim_queue.specs.Groups.{heap_at};
+ghost use Rattle.sim_queue.specs.Groups.{heap_at, no_keys};
 
-use crate::groups::{Home, heaps};
-use crate::{EventQueue, SlotHeap};
+use crate::{EventQueue, Home, SlotHeap};
 use goal_base::NoMemory;
 use goal_graph::Sched;
 use sim_order::{EventOrder, Steps};
@@ -77,6 +76,17 @@ fn starts_of(alloc: Global, sizes: &[u32]) -> Result<Vec<u32>, NoMemory>
         next += *size;
     }
     Ok(starts)
+}
+
+// Heaps with so many slots each, none of which has a key.
+fn heaps<K: EventOrder + Copy>(alloc: Global, sizes: &[u32]) -> Result<Vec<SlotHeap<K>>, NoMemory>
+    ensures { IfOk result (λ heaps. heaps.items ≡ map no_keys sizes.now) }
+{
+    let mut heaps = Vec::with_capacity(alloc, sizes.len())?;
+    'ranks: for size in sizes {
+        heaps.push(SlotHeap::new(alloc, *size)?)?;
+    }
+    Ok(heaps)
 }
 
 // Tells the head of a rank anew.

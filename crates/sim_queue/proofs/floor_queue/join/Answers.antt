@@ -2,7 +2,7 @@ use Rattle.std.proofs.Common.{ℕ, Some, ap, sym, subst}
 use Rattle.std.proofs.lemmas.Option.{same_Some}
 use Rattle.goal_graph.specs.declared.action.Timed.{Timed}
 use Rattle.sim_queue.specs.Floors.{at_time, IsRenewed}
-use Rattle.sim_queue.proofs.FloorSteps.{zeros, with_key, join_floored, join_seen}
+use Rattle.sim_queue.proofs.FloorSteps.{zeros, with_key, join_floored, join_seen, step_join, waits_now}
 use Rattle.sim_queue.proofs.floor_queue.join.Goals as goal
 
 pub renew-requires-clause-at_zero : goal.renew-requires-clause-at_zero
@@ -14,6 +14,18 @@ returns-clause-floored g c =
     let is = with_key c.args.waiting.now c.put.new.self c.args.slot c.args.key c.at.result c.put.ensures c.at.ensures in
     let renewed = subst (λ (n : ℕ). IsRenewed c.put.new.self c.args.heads.now c.renew.new.heads c.group-group.result n) c.floor-floor.ensures c.renew.ensures in
     join_floored c.args.ahead.now c.args.waiting.now c.args.heads.now c.requires.floored c.args.slot c.group-group.result c.group-group.ensures c.requires.idle c.args.key c.requires.waits (c.requires.at_floor c.group-group.result c.group-group.ensures) c.put.new.self is c.renew.new.heads renewed
+
+pub returns-clause-step : goal.returns-clause-step
+returns-clause-step g c =
+    let is = with_key c.args.waiting.now c.put.new.self c.args.slot c.args.key c.at.result c.put.ensures c.at.ensures in
+    let renewed = subst (λ (n : ℕ). IsRenewed c.put.new.self c.args.heads.now c.renew.new.heads c.group-group.result n) c.floor-floor.ensures c.renew.ensures in
+    step_join c.args.ahead.now c.args.waiting.now c.args.heads.now c.requires.floored c.args.slot c.group-group.result c.group-group.ensures c.requires.idle c.args.key c.requires.waits (c.requires.at_floor c.group-group.result c.group-group.ensures) c.put.new.self is c.renew.new.heads renewed
+
+pub returns-clause-waits : goal.returns-clause-waits
+returns-clause-waits g c =
+    let is = with_key c.args.waiting.now c.put.new.self c.args.slot c.args.key c.at.result c.put.ensures c.at.ensures in
+    let renewed = subst (λ (n : ℕ). IsRenewed c.put.new.self c.args.heads.now c.renew.new.heads c.group-group.result n) c.floor-floor.ensures c.renew.ensures in
+    waits_now c.args.ahead.now c.args.waiting.now c.args.heads.now c.requires.floored c.args.slot c.group-group.result c.group-group.ensures c.requires.idle c.args.key c.requires.waits (c.requires.at_floor c.group-group.result c.group-group.ensures) c.put.new.self is c.renew.new.heads renewed
 
 pub returns-clause-seen : goal.returns-clause-seen
 returns-clause-seen g c =
