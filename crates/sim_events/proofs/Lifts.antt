@@ -3,7 +3,7 @@
 use Rattle.std.proofs.Common.{◌≡◌, ◌≢◌, ◌⊎◌, ◌==◌, ◌&&◌, ◌+◌, ◌<◌, ◌≤◌, ℕ, zero, suc, max, not, Bool, true, List, [], ◌∷◌, length, set, Option, Some, None, slice_get, if◌then◌else◌, refl, sym, ap, ap₂, ◌∙◌, subst, arith, inl, inr}
 use Rattle.std.specs.List.{sum_by}
 use Rattle.std.specs.Option.{option_map}
-use Rattle.std.proofs.lemmas.Bool.{and_parts, cases_eq}
+use Rattle.std.proofs.lemmas.Bool.{and_parts, both_ways, cases_eq}
 use Rattle.std.proofs.lemmas.List.Sums.{sum_by-cons}
 use Rattle.std.proofs.lemmas.Option.{same_Some}
 use Rattle.std.proofs.lemmas.List.{get_or-set_same, get_or-set_other, length-set}
@@ -19,14 +19,17 @@ use Rattle.goal_graph.specs.Action.{plain, happened}
 use Rattle.goal_graph.specs.Allowed.{may, allowed}
 use Rattle.sim_params.specs.Costs.{CostModel, is_eager}
 use Rattle.sim_params.specs.Times.{same_place, holds_cpu, holds_tx, holds_rx, cpu_hold, tx_hold, rx_hold, cpu, tx, rx, time, time_of, Possible}
-use Rattle.sim_queue.specs.Map.{key_at}
+use Rattle.goal_graph.specs.Order.{IsLess, key}
+use Rattle.sim_order.specs.Events.{event_before}
+use Rattle.sim_queue.specs.Map.{key_at, IsLeast, IsSoleLeast}
 use Rattle.sim_queue.specs.Groups.{Grouped}
 use Rattle.sim_queue.specs.Floors.{waits_for_room, at_time, IsLifted, IsRaised}
 use Rattle.sim_events.specs.declared.station.Station.{Station}
 use Rattle.sim_events.specs.Stations.{station_by, HaveOneStation, AreStationed, free, free_of}
-use Rattle.sim_events.specs.Queue.{IsEarly, IsBoundOf, IsQueue, HasKey, lag, lags}
+use Rattle.sim_events.specs.Queue.{IsIdle, IsEarly, IsQueue, HasKey, lag, lags}
 use Rattle.sim_events.proofs.Queue.{key_found}
-use Rattle.goal_graph.proofs.ForCallers.{other_place}
+use Rattle.sim_events.proofs.Keys.{before_event}
+use Rattle.goal_graph.proofs.ForCallers.{key_cases, other_place}
 
 module _ (plans : List Plan) (costs : CostModel) (h : List Timed) where
   -- what waits is not possible before all is free
@@ -134,6 +137,21 @@ has_there plans costs h queue q early has slot is =
     let found = key_found plans costs h queue has.0 early q has.1 in
     elim (cases_eq has.0 slot) [ inl s ↦ ap (key_at queue.keys) (sym s) ∙ has.1 | inr d ↦ absurd (other_place plans has.0 slot early.op early.op found.is_slot is d refl) ]
 
+-- the least key is before each other, since no two operations have one
+pub sole_least : (plans : List Plan) (costs : CostModel) (h : List Timed) (queue : Grouped Timed) → IsQueue plans costs h queue → (early : Timed) → ((at : ℕ) × IsLeast event_before queue.keys at early) → (slot : ℕ) → slice_get (operations plans) slot ≡ Some early.op → IsSoleLeast event_before queue.keys slot
+sole_least plans costs h queue q early least slot is = record {
+  key = early;
+  has = has_there plans costs h queue q early (least.0, least.1.has) slot is;
+  first = λ other k has. go other k has (cases_eq other slot) (key_cases early k);
+}
+  where
+    go : (other : ℕ) (k : Timed) → key_at queue.keys other ≡ Some k → (other ≡ slot) ⊎ (other ≢ slot) → (early ≡ k) ⊎ (IsLess (key early) (key k) ⊎ IsLess (key k) (key early)) → (other ≡ slot) ⊎ (event_before early k ≡ true)
+    go other k has (inl s) order = inl s
+    go other k has (inr d) (inl e) =
+        absurd (other_place plans other slot k.op early.op (key_found plans costs h queue other k q has).is_slot is d (ap (λ (a : Timed). a.op) (sym e)))
+    go other k has (inr d) (inr (inl l)) = inr (before_event early k l)
+    go other k has (inr d) (inr (inr l)) = absurd (both_ways _ (least.1.least other k has) (before_event k early l))
+
 module _ (plans : List Plan) (costs : CostModel) (h : List Timed) (queue new : Grouped Timed) (q : IsQueue plans costs h queue) where
   -- the keys of a station are raised to the moment at which it is free
   module _ (slot : ℕ) (early : Timed) (is_slot : slice_get (operations plans) slot ≡ Some early.op) (has : key_at queue.keys slot ≡ Some early) (is_early : IsEarly plans costs h early.op early) (waits : waits_for_room early.class ≡ true) (later : early.time < free plans costs h early.op) (lifted : IsLifted queue.groups queue.keys new.keys slot (free plans costs h early.op)) (groups : new.groups ≡ queue.groups) where
@@ -148,31 +166,37 @@ module _ (plans : List Plan) (costs : CostModel) (h : List Timed) (queue new : G
           not_later = omega (arith, together, first, ap (free plans costs h) b.op);
         }
 
-    early_at : (i : ℕ) (x : OpId) (k : Timed) → slice_get (operations plans) i ≡ Some x → key_at queue.keys i ≡ Some k → IsEarly plans costs h x k
-    early_at i x k at e = go (q.bounds i x at)
-      where
-        go : IsBoundOf plans costs h x (key_at queue.keys i) ⊎ ⊥ → IsEarly plans costs h x k
-        go (inl b) = subst (IsBoundOf plans costs h x) e b
-        go (inr none) = absurd none
+    -- what a slot has now
+    abbrev IsChanged : ℕ → Type 0
+    IsChanged i =
+        (i ≡ slot) ⊎ (key_at new.keys i ≡ key_at queue.keys i) ⊎ IsRaised queue.groups queue.keys new.keys slot (free plans costs h early.op) i
 
-    bound_now : (i : ℕ) (x : OpId) → slice_get (operations plans) i ≡ Some x → (i ≡ slot) ⊎ (key_at new.keys i ≡ key_at queue.keys i) ⊎ IsRaised queue.groups queue.keys new.keys slot (free plans costs h early.op) i → IsBoundOf plans costs h x (key_at new.keys i) ⊎ ⊥
-    bound_now i x at (inl s) =
+    early_now : (i : ℕ) (x : OpId) (e : Timed) → slice_get (operations plans) i ≡ Some x → key_at new.keys i ≡ Some e → IsChanged i → IsEarly plans costs h x e
+    early_now i x e at is (inl s) =
         let now : key_at new.keys i ≡ Some (at_time (free plans costs h early.op) early) = ap (key_at new.keys) s ∙ lifted.here early has in
         let was : key_at queue.keys i ≡ Some early = ap (key_at queue.keys) s ∙ has in
-        inl (subst (IsBoundOf plans costs h x) (sym now) (raised_early i x at early waits (ap (slice_get queue.groups) s) (early_at i x early at was)))
-    bound_now i x at (inr (inl s)) =
-        elim (q.bounds i x at) [ inl b ↦ inl (subst (IsBoundOf plans costs h x) (sym s) b) | inr none ↦ inr none ]
-    bound_now i x at (inr (inr r)) =
-        inl (subst (IsBoundOf plans costs h x) (sym r.has) (raised_early i x at r.key r.waits r.group (early_at i x r.key at r.had)))
+        subst (IsEarly plans costs h x) (same_Some _ e (sym now ∙ is)) (raised_early i x at early waits (ap (slice_get queue.groups) s) (q.early i x early at was))
+    early_now i x e at is (inr (inl s)) = q.early i x e at (sym s ∙ is)
+    early_now i x e at is (inr (inr r)) =
+        subst (IsEarly plans costs h x) (same_Some _ e (sym r.has ∙ is)) (raised_early i x at r.key r.waits r.group (q.early i x r.key at r.had))
+
+    idle_now : (i : ℕ) (x : OpId) → slice_get (operations plans) i ≡ Some x → key_at new.keys i ≡ None → IsChanged i → IsIdle plans costs h x ⊎ ⊥
+    idle_now i x at none (inl s) =
+        let now : key_at new.keys i ≡ Some (at_time (free plans costs h early.op) early) = ap (key_at new.keys) s ∙ lifted.here early has in
+        absurd (cc)
+    idle_now i x at none (inr (inl s)) = q.idle i x at (sym s ∙ none)
+    idle_now i x at none (inr (inr r)) =
+        let now : key_at new.keys i ≡ Some (at_time (free plans costs h early.op) r.key) = r.has in absurd (cc)
 
     pub lifted_queue : IsQueue plans costs h new
     lifted_queue = record {
       each = lifted.each ∙ q.each;
-      bounds = λ i x at. bound_now i x at (lifted.others i);
+      early = λ i x e at is. early_now i x e at is (lifted.others i);
+      idle = λ i x at none. idle_now i x at none (lifted.others i);
       stationed = subst (AreStationed plans) (sym groups) q.stationed;
     }
 
-    lag_now : (i : ℕ) → (i ≡ slot) ⊎ (key_at new.keys i ≡ key_at queue.keys i) ⊎ IsRaised queue.groups queue.keys new.keys slot (free plans costs h early.op) i → lag plans costs h (key_at new.keys i) ≤ lag plans costs h (key_at queue.keys i)
+    lag_now : (i : ℕ) → IsChanged i → lag plans costs h (key_at new.keys i) ≤ lag plans costs h (key_at queue.keys i)
     lag_now i (inl s) =
         let now = ap (lag plans costs h) (ap (key_at new.keys) s ∙ lifted.here early has) in
         let was = ap (lag plans costs h) (ap (key_at queue.keys) s ∙ has) in

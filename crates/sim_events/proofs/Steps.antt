@@ -8,7 +8,7 @@ use Rattle.sim_params.specs.Run.{IsNext, IsRun, IsFinished}
 use Rattle.sim_queue.specs.Groups.{Grouped}
 use Rattle.sim_queue.specs.Map.{IsEmptyMap}
 use Rattle.sim_events.specs.Engine.{View}
-use Rattle.sim_events.specs.Queue.{IsQueue, IsQueueBut, IsDueAfter}
+use Rattle.sim_events.specs.Queue.{IsQueue, IsQueueBut, IsQueueWithout, IsDueAfter}
 use Rattle.sim_events.proofs.Places.{possible_exists}
 use Rattle.sim_events.proofs.Queue.{queue_after, finished, empty_from}
 
@@ -23,7 +23,7 @@ module _ {C : Type 0} (model : C → CostModel) where
   NextAt v a = IsNext v.plans (model v.costs) v.history a
 
   -- after an action those are due that it concerns
-  pub due_after : (old new : View C) (a : Timed) (queued : Grouped Timed) → new ≡ record { plans = old.plans; costs = old.costs; history = a ∷ old.history } → RunAt old → NextAt old a → QueueAt old queued → IsQueueBut new.plans (model new.costs) new.history (IsDueAfter new.plans (model new.costs) new.history a) queued
+  pub due_after : (old new : View C) (a : Timed) (queued : Grouped Timed) → new ≡ record { plans = old.plans; costs = old.costs; history = a ∷ old.history } → RunAt old → NextAt old a → IsQueueWithout old.plans (model old.costs) old.history a.op queued → IsQueueBut new.plans (model new.costs) new.history (IsDueAfter new.plans (model new.costs) new.history a) queued
   due_after old new a queued e run next q =
       subst (λ (v : View C). IsQueueBut v.plans (model v.costs) v.history (IsDueAfter v.plans (model v.costs) v.history a) queued) (sym e) (queue_after old.plans (model old.costs) old.history a run next.possible queued q)
 
@@ -42,3 +42,8 @@ module _ {C : Type 0} (model : C → CostModel) where
   next_of v w r a e is next =
       let at_v : NextAt v a = subst (λ (o : Option Timed). IfSome o (IsNext v.plans (model v.costs) v.history)) is next in
       subst (λ (u : View C). NextAt u a) e at_v
+
+  -- what has happened next has no key any more
+  pub without_of : (v : View C) (r : Option Timed) (a : Timed) (queued : Grouped Timed) → r ≡ Some a → IfSome r (λ b. IsQueueWithout v.plans (model v.costs) v.history b.op queued) → IsQueueWithout v.plans (model v.costs) v.history a.op queued
+  without_of v r a queued is without =
+      subst (λ (o : Option Timed). IfSome o (λ b. IsQueueWithout v.plans (model v.costs) v.history b.op queued)) is without

@@ -63,15 +63,29 @@ module _ (plans : List Plan) where
     IsBoundOf x None = IsIdle x
     IsBoundOf x (Some e) = IsEarly x e
 
-    -- each operation has its bound in its slot, but those that are due
+    -- each operation's key is early, and one that has none is idle, or due
     pub record IsQueueBut (Due : OpId → Type 0) (queue : Grouped Timed) : Type 0 where
       pub each : length queue.keys ≡ length (operations plans)
-      pub bounds : (slot : ℕ) (x : OpId) → slice_get (operations plans) slot ≡ Some x → IsBoundOf x (key_at queue.keys slot) ⊎ Due x
+      pub early :
+          (slot : ℕ) (x : OpId) (e : Timed)
+          → slice_get (operations plans) slot ≡ Some x → key_at queue.keys slot ≡ Some e → IsEarly x e
+      pub idle :
+          (slot : ℕ) (x : OpId)
+          → slice_get (operations plans) slot ≡ Some x → key_at queue.keys slot ≡ None → IsIdle x ⊎ Due x
       pub stationed : AreStationed plans queue.groups
 
     -- each operation has its bound in its slot
     abbrev pub IsQueue : Grouped Timed → Type 0
     IsQueue queue = IsQueueBut (λ x. ⊥) queue
+
+    -- each key is early, and any operation may be without one
+    abbrev pub HasEarlyKeys : Grouped Timed → Type 0
+    HasEarlyKeys queue = IsQueueBut (λ x. Unit {0}) queue
+
+    -- each operation but x has its bound in its slot, and x has no key
+    pub record IsQueueWithout (x : OpId) (queue : Grouped Timed) : Type 0 where
+      pub rest : IsQueueBut (λ y. y ≡ x) queue
+      pub free : (slot : ℕ) → slice_get (operations plans) slot ≡ Some x → key_at queue.keys slot ≡ None
 
     -- the slot of x has got a bound of x, and the others are as they were
     pub record IsRefreshed (x : OpId) (old new : Grouped Timed) : Type 0 where

@@ -10,7 +10,7 @@ ghost use Rattle.sim_queue.specs.Map.{IsEmptyMap, IsLeast};
 ghost use Rattle.sim_queue.specs.Floors.{waits_for_room};
 ghost use Rattle.sim_events.specs.Stations.{AreStationed};
 ghost use Rattle.sim_events.specs.Cursors.{IsCursorOf, AreCursors};
-ghost use Rattle.sim_events.specs.Queue.{IsEarly, IsQueue, IsQueueBut, IsRefreshed, IsDueAfter, Awaits, gives, HasKey, IsEnabledActionOf, lags};
+ghost use Rattle.sim_events.specs.Queue.{IsEarly, IsQueue, IsQueueBut, IsQueueWithout, HasEarlyKeys, IsRefreshed, IsDueAfter, Awaits, gives, IsEnabledActionOf, lags};
 
 use crate::cursor::Cursor;
 use crate::state::State;
@@ -23,7 +23,7 @@ use std::sync::ledger::{Blank, Ledger};
 /// For each operation that has a possible action, the key of that action at a time that is never too late.
 pub type Queue = FloorQueue;
 
-/// Gives each operation its key.
+/// Gives each operation its key, where none has one yet.
 pub fn fill<C: Costs, L: Ledger>(
     blank: Blank,
     state: &State<C>,
@@ -34,6 +34,7 @@ pub fn fill<C: Costs, L: Ledger>(
     requires parts { blank.parts ≡ L.parts }
     requires some { 0 < blank.parts }
     requires each { length queue.old.keys ≡ length (operations state.now.plans) }
+    requires empty { IsEmptyMap queue.old.keys }
     requires stationed { AreStationed state.now.plans queue.old.groups }
     requires cursors { AreCursors state.now.plans (C.model state.now.costs) state.now.history cursors.old }
     ensures queue { IsQueue state.now.plans (C.model state.now.costs) state.now.history queue.new }
@@ -45,8 +46,8 @@ pub fn fill<C: Costs, L: Ledger>(
     }
 }
 
-/// The action that happens next, none where nothing is possible. Keys that are too early are raised on the way: those
-/// of a station together, to the moment at which it is free.
+/// The action that happens next, none where nothing is possible. Its operation's key is taken out. Keys that are too
+/// early are raised on the way: those of a station together, to the moment at which it is free.
 pub fn next<C: Costs, L: Ledger>(
     state: &State<C>,
     queue: &mut Queue,
@@ -55,7 +56,8 @@ pub fn next<C: Costs, L: Ledger>(
 ) -> Option<Timed>
     requires queue { IsQueue state.now.plans (C.model state.now.costs) state.now.history queue.old }
     requires cursors { AreCursors state.now.plans (C.model state.now.costs) state.now.history cursors.now }
-    ensures queue { IsQueue state.now.plans (C.model state.now.costs) state.now.history queue.new }
+    ensures without { IfSome result (λ a. IsQueueWithout state.now.plans (C.model state.now.costs) state.now.history a.op queue.new) }
+    ensures queue { IfNone result (IsQueue state.now.plans (C.model state.now.costs) state.now.history queue.new) }
     ensures next { IfSome result (IsNext state.now.plans (C.model state.now.costs) state.now.history) }
     ensures none { IfNone result (IsFinished state.now.plans (C.model state.now.costs) state.now.history) }
 {
@@ -63,6 +65,7 @@ pub fn next<C: Costs, L: Ledger>(
     'looks: while let Some(early) = least(queue, steps) {
         let action = action_of(state, cursors, early);
         if action.time == early.time {
+            queue.take(state.sched().index(early.op), steps);
             return Some(action);
         }
         raise(state, queue, early, action, steps);
@@ -70,7 +73,7 @@ pub fn next<C: Costs, L: Ledger>(
     None
 }
 
-// Raises a key that is too early, or those of its station to the moment at which it is free.
+// Raises the least key, which is too early, or those of its station to the moment at which it is free.
 fn raise<C: Costs, L: Ledger>(
     state: &State<C>,
     queue: &mut Queue,
@@ -79,7 +82,7 @@ fn raise<C: Costs, L: Ledger>(
     steps: &mut Steps<L>,
 )
     requires queue { IsQueue state.now.plans (C.model state.now.costs) state.now.history queue.old }
-    requires has { HasKey queue.old.keys early }
+    requires least { (slot : ℕ) × IsLeast event_before queue.old.keys slot early }
     requires possible { Possible state.now.plans (C.model state.now.costs) state.now.history action }
     requires class { action.class ≡ early.class }
     requires op { action.op ≡ early.op }
@@ -93,6 +96,7 @@ fn raise<C: Costs, L: Ledger>(
         queue.lift(slot, free, steps);
         return;
     }
+    queue.take(slot, steps);
     queue.put(slot, key_of(state, action), steps);
 }
 
@@ -144,8 +148,8 @@ fn key_of<C: Costs>(state: &State<C>, action: Timed) -> CompactKey
     CompactKey::new(action.time, action.class, action.op)
 }
 
-/// Gives their keys to those whose next action may be another after an action: its operation, the partner, and the
-/// operations that need the moment which it gives.
+/// Gives their keys to those whose next action may be possible only since an action: its operation, the partner, and
+/// the operations that need the moment which it gives.
 pub fn follow<C: Costs, L: Ledger>(
     state: &State<C>,
     queue: &mut Queue,
@@ -250,7 +254,7 @@ fn choice_from<C: Costs>(state: &State<C>, cursors: &mut [Cursor], id: OpId) -> 
     action
 }
 
-// Gives an operation its key: that of its possible action, none where it has none.
+// Gives an operation that has no key the one of its possible action, if it has one.
 fn refresh<C: Costs, L: Ledger>(
     state: &State<C>,
     queue: &mut Queue,
@@ -259,15 +263,17 @@ fn refresh<C: Costs, L: Ledger>(
     steps: &mut Steps<L>,
 )
     requires exists { IsOp state.now.plans id }
-    requires each { length queue.old.keys ≡ length (operations state.now.plans) }
+    requires early { HasEarlyKeys state.now.plans (C.model state.now.costs) state.now.history queue.old }
     requires cursors { AreCursors state.now.plans (C.model state.now.costs) state.now.history cursors.old }
     ensures queue { IsRefreshed state.now.plans (C.model state.now.costs) state.now.history id queue.old queue.new }
     ensures cursors { AreCursors state.now.plans (C.model state.now.costs) state.now.history cursors.new }
 {
     let slot = state.sched().index(id);
-    match choice_from(state, cursors, id) {
-        Some(action) => queue.put(slot, key_of(state, action), steps),
-        None => queue.drop_slot(slot, steps),
+    if queue.has(slot) {
+        return;
+    }
+    if let Some(action) = choice_from(state, cursors, id) {
+        queue.put(slot, key_of(state, action), steps);
     }
 }
 

@@ -3,7 +3,7 @@ use Rattle.goal_graph.specs.declared.action.OpId.{OpId}
 use Rattle.goal_graph.specs.Schedule.{Plan, operations}
 use Rattle.goal_graph.specs.Fault.{IsOp}
 use Rattle.goal_graph.proofs.ForCallers.{listed_places, still_left, none_left}
-use Rattle.sim_events.proofs.Queue.{all_due, fewer_due, refreshed}
+use Rattle.sim_events.proofs.Queue.{all_due, early_keys, fewer_due, refreshed}
 use Rattle.sim_events.proofs.follow.fill.Goals as goal
 
 abbrev first : OpId
@@ -12,15 +12,14 @@ first = record { rank = 0; op = 0 }
 pub loop-id-init : goal.loop-id-init
 loop-id-init g c =
     let plans = c.args.state.now.plans in
-    let all = all_due plans _ _ (λ (y : OpId). Unit {0}) _ c.requires.each c.requires.stationed (λ y. tt) in
-    (fewer_due plans _ _ (λ (y : OpId). Unit {0}) (Contains (operations plans)) _ all (λ y is due. (listed_places plans y).1 is), c.requires.cursors)
+    (all_due plans _ _ (Contains (operations plans)) _ c.requires.each c.requires.empty c.requires.stationed (λ y is. (listed_places plans y).1 is), c.requires.cursors)
 
 pub refresh-requires : goal.refresh-requires
 refresh-requires g c =
     let x = get_or c.operations-id-items.result.now c.loop-id.id-index first in
     record {
       exists = subst (λ (ps : List Plan). IsOp ps x) c.sched.ensures (c.operations-id-items.ensures.exist c.loop-id.id-index first c.loop-id-test.true);
-      each = c.loop-id.invariant.0.each;
+      early = early_keys _ _ _ _ _ c.loop-id.invariant.0;
       cursors = c.loop-id.invariant.1;
     }
 

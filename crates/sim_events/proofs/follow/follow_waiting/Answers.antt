@@ -7,7 +7,7 @@ use Rattle.goal_graph.specs.Schedule.{Plan, needed, waiting_on}
 use Rattle.goal_graph.specs.Fault.{IsOp}
 use Rattle.sim_events.specs.Queue.{gives}
 use Rattle.sim_events.proofs.Awaited.{await_rest, await_skipped, await_none}
-use Rattle.sim_events.proofs.Queue.{refreshed, fewer_due}
+use Rattle.sim_events.proofs.Queue.{early_keys, refreshed, fewer_due}
 use Rattle.sim_events.proofs.follow.follow_waiting.Goals as goal
 
 abbrev none : Need
@@ -18,7 +18,7 @@ refresh-requires g c =
     let d = get_or c.waiting_on-need-items.result.now c.loop-need.need-index none in
     record {
       exists = subst (λ (ps : List Plan). IsOp ps (needed c.args.action.op d)) c.sched.ensures (c.waiting_on-need-items.ensures.exist c.loop-need.need-index none c.loop-need-test.true);
-      each = c.loop-need.invariant.0.each;
+      early = early_keys _ _ _ _ _ c.loop-need.invariant.0;
       cursors = c.loop-need.invariant.1;
     }
 

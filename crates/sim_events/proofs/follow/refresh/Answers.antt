@@ -1,7 +1,7 @@
 use Rattle.std.proofs.Common.{List, Some, length, ap, ◌∙◌, sym, subst, arith}
 use Rattle.goal_graph.specs.declared.action.Timed.{Timed}
 use Rattle.goal_graph.specs.Schedule.{Plan, operations}
-use Rattle.sim_events.proofs.Queue.{put_enabled}
+use Rattle.sim_events.proofs.Queue.{no_key, key_kept, idle_kept, put_enabled}
 use Rattle.sim_events.proofs.Places.{possible_exists}
 use Rattle.sim_events.specs.Queue.{IsEnabledActionOf}
 use Rattle.sim_events.proofs.follow.refresh.Goals as goal
@@ -11,14 +11,25 @@ key_of-requires g c =
     let enabled = subst (IsEnabledActionOf c.args.state.now.plans _ c.args.state.now.history c.args.id) c.in-Some.is c.choice_from.ensures.enabled in
     possible_exists _ _ _ c.in-Some.action enabled.1
 
+pub has-requires : goal.has-requires
+has-requires g c =
+    omega (arith, c.index-slot.ensures.below, c.requires.early.each, ap (λ (ps : List Plan). length (operations ps)) c.sched.ensures)
+
 pub put-requires : goal.put-requires
-put-requires g c =
-    omega (arith, c.index-slot.ensures.below, c.requires.each, ap (λ (ps : List Plan). length (operations ps)) c.sched.ensures)
+put-requires g c = record {
+  slot_in = omega (arith, c.index-slot.ensures.below, c.requires.early.each, ap (λ (ps : List Plan). length (operations ps)) c.sched.ensures);
+  free = no_key _ (sym c.has.ensures ∙ c.if-has.false);
+}
+
+-- it has a key already
+pub returns-then-has-clause-queue : goal.returns-then-has-clause-queue
+returns-then-has-clause-queue g c =
+    key_kept _ _ _ c.args.id _ c.index-slot.result c.args.queue.now c.requires.early c.sched.ensures c.index-slot.ensures.index (sym c.has.ensures ∙ c.if-has.true)
 
 pub returns-in-Some-clause-queue : goal.returns-in-Some-clause-queue
 returns-in-Some-clause-queue g c =
     put_enabled _ _ _ c.args.id _ c.index-slot.result _ _ _ _ c.sched.ensures c.index-slot.ensures.index c.choice_from.ensures.enabled (c.in-Some.is ∙ ap (λ (a : Timed). Some a) (sym c.key_of.ensures)) c.put.ensures
 
-pub returns-in-None-clause-queue : goal.returns-in-None-clause-queue
-returns-in-None-clause-queue g c =
-    put_enabled _ _ _ c.args.id _ c.index-slot.result _ _ _ _ c.sched.ensures c.index-slot.ensures.index c.choice_from.ensures.enabled c.in-None.is c.drop_slot.ensures
+pub returns-in_default-clause-queue : goal.returns-in_default-clause-queue
+returns-in_default-clause-queue g c =
+    idle_kept _ _ _ c.args.id _ c.index-slot.result _ c.args.queue.now c.sched.ensures c.index-slot.ensures.index c.choice_from.ensures.enabled c.in_default.is (sym c.has.ensures ∙ c.if-has.false)

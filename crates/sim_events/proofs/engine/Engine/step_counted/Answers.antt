@@ -3,7 +3,7 @@ use Rattle.sim_params.specs.Run.{IsRun}
 use Rattle.sim_events.specs.Engine.{View}
 use Rattle.sim_events.specs.Cursors.{AreCursors}
 use Rattle.sim_events.proofs.Cursors.{cursors_after}
-use Rattle.sim_events.proofs.Steps.{next_of, op_after, due_after}
+use Rattle.sim_events.proofs.Steps.{next_of, without_of, op_after, due_after}
 use Rattle.sim_events.proofs.engine.Engine.step_counted.Goals as goal
 
 pub follow-requires-clause-exists : goal.follow-requires-clause-exists
@@ -19,7 +19,8 @@ follow-requires-clause-rest g c =
     let state = c.self.inside.state in
     let next = next_of model state state c.next.result c.in_ok-action.action refl c.in_ok-action.was c.next.ensures.next in
     let run = subst (λ (v : View _). IsRun v.plans (model v.costs) v.history) (sym c.self.view_is) c.known.ensures.run in
-    due_after model state c.perform.new.self c.in_ok-action.action c.next.new.queue c.perform.ensures run next c.next.ensures.queue
+    let without = without_of model state c.next.result c.in_ok-action.action c.next.new.queue c.in_ok-action.was c.next.ensures.without in
+    due_after model state c.perform.new.self c.in_ok-action.action c.next.new.queue c.perform.ensures run next without
 
 pub follow-requires-clause-cursors : goal.follow-requires-clause-cursors
 follow-requires-clause-cursors g c =
