@@ -3,14 +3,13 @@ pub mod Scanning
 pub mod Maps
 pub mod Swapping
 pub mod Children
+pub mod Places
 pub mod Placed
 pub mod Shifting
-pub mod Sifting
 pub mod Stepping
 pub mod Top
 pub mod Changing
 pub mod Bounds
-pub mod Places
 pub mod Items
 pub mod ItemSteps
 pub mod ItemChanges

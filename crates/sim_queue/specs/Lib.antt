@@ -4,8 +4,8 @@ pub mod Row
 pub mod Ranked
 -- What only the code keeps.
 pub mod Scan
-pub mod Heap
 pub mod Places
+pub mod Heap
 pub mod TopHeap
 pub mod Groups
 pub mod Floors
