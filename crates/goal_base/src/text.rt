@@ -1,5 +1,5 @@
 //! Text that is made piece by piece.
-ghost use Rattle.std.specs.Prelude.{◌≡◌, [], ◌++◌, decimal, OnOk, OnErr};
+ghost use Rattle.std.specs.Prelude.{◌≡◌, ◌+◌, ◌<◌, ◌≤◌, [], ◌++◌, decimal, vec_len, vec_capacity, OnOk, OnErr};
 
 use crate::device::NoMemory;
 use itoa::Buffer;
@@ -34,6 +34,7 @@ impl TextOut {
     }
 
     /// Appends a word. The text is as it was where there was no memory left.
+    #[inline(always)]
     pub fn word(&mut self, text: &str) -> Result<(), NoMemory>
         ensures ok { OnOk result (self.new ≡ self.old ++ text.now) }
         ensures err { OnErr result (self.new ≡ self.old) }
@@ -43,7 +44,29 @@ impl TextOut {
     }
 
     /// Appends a number in decimal. The text is as it was where there was no memory left.
+    #[inline(always)]
     pub fn number(&mut self, n: u128) -> Result<(), NoMemory>
+        ensures ok { OnOk result (self.new ≡ self.old ++ decimal n) }
+        ensures err { OnErr result (self.new ≡ self.old) }
+    {
+        if n < 10_000 {
+            return self.short(n as u32);
+        }
+        self.long(n)
+    }
+
+    // Most numbers are short, and so written without a buffer.
+    fn short(&mut self, n: u32) -> Result<(), NoMemory>
+        requires { n < 10000 }
+        ensures ok { OnOk result (self.new ≡ self.old ++ decimal n) }
+        ensures err { OnErr result (self.new ≡ self.old) }
+    {
+        self.bytes.reserve(4)?;
+        four_digits(&mut self.bytes, n);
+        Ok(())
+    }
+
+    fn long(&mut self, n: u128) -> Result<(), NoMemory>
         ensures ok { OnOk result (self.new ≡ self.old ++ decimal n) }
         ensures err { OnErr result (self.new ≡ self.old) }
     {
@@ -95,4 +118,65 @@ impl TextOut {
     {
         self.bytes
     }
+}
+
+// Appends a digit.
+#[inline(always)]
+#[tactic(auto, using(std::proofs::lemmas::Fmt::decimal_digit))]
+fn one_digit(bytes: &mut Vec<u8>, n: u32)
+    requires small { n < 10 }
+    requires room { vec_len bytes.old + 1 ≤ vec_capacity bytes.old }
+    ensures items { bytes.new.items ≡ bytes.old.items ++ decimal n }
+    ensures len { vec_len bytes.new ≤ vec_len bytes.old + 1 }
+    ensures capacity { vec_capacity bytes.new ≡ vec_capacity bytes.old }
+{
+    bytes.push_reserved(b'0' + n as u8);
+}
+
+// Appends a number of at most two digits.
+#[inline(always)]
+#[tactic(auto, using(crate::proofs::TextLemmas::last_digit))]
+fn two_digits(bytes: &mut Vec<u8>, n: u32)
+    requires small { n < 100 }
+    requires room { vec_len bytes.old + 2 ≤ vec_capacity bytes.old }
+    ensures items { bytes.new.items ≡ bytes.old.items ++ decimal n }
+    ensures len { vec_len bytes.new ≤ vec_len bytes.old + 2 }
+    ensures capacity { vec_capacity bytes.new ≡ vec_capacity bytes.old }
+{
+    if n >= 10 {
+        one_digit(bytes, n / 10);
+    }
+    one_digit(bytes, n % 10);
+}
+
+// Appends a number of at most three digits.
+#[inline(always)]
+#[tactic(auto, using(crate::proofs::TextLemmas::last_digit))]
+fn three_digits(bytes: &mut Vec<u8>, n: u32)
+    requires small { n < 1000 }
+    requires room { vec_len bytes.old + 3 ≤ vec_capacity bytes.old }
+    ensures items { bytes.new.items ≡ bytes.old.items ++ decimal n }
+    ensures len { vec_len bytes.new ≤ vec_len bytes.old + 3 }
+    ensures capacity { vec_capacity bytes.new ≡ vec_capacity bytes.old }
+{
+    if n >= 10 {
+        two_digits(bytes, n / 10);
+    }
+    one_digit(bytes, n % 10);
+}
+
+// Appends a number of at most four digits.
+#[inline(always)]
+#[tactic(auto, using(crate::proofs::TextLemmas::last_digit))]
+fn four_digits(bytes: &mut Vec<u8>, n: u32)
+    requires small { n < 10000 }
+    requires room { vec_len bytes.old + 4 ≤ vec_capacity bytes.old }
+    ensures items { bytes.new.items ≡ bytes.old.items ++ decimal n }
+    ensures len { vec_len bytes.new ≤ vec_len bytes.old + 4 }
+    ensures capacity { vec_capacity bytes.new ≡ vec_capacity bytes.old }
+{
+    if n >= 10 {
+        three_digits(bytes, n / 10);
+    }
+    one_digit(bytes, n % 10);
 }
