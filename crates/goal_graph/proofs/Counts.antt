@@ -1,6 +1,10 @@
 -- Counts of needs.
-use Rattle.std.proofs.Common.{◌≡◌, ◌⊎◌, ℕ, zero, suc, ◌+◌, ◌<◌, ◌≤◌, ◌||◌, eqb, Bool, true, false, cond, List, [], ◌∷◌, ◌++◌, length, get_or, take, map, filter, refl, sym, ap, ◌∙◌, arith, inl, inr, zero-add}
+use Rattle.std.proofs.Common.{◌≡◌, ◌⊎◌, ℕ, zero, suc, ◌+◌, ◌<◌, ◌≤◌, ◌||◌, eqb, ltb, Bool, true, false, cond, List, [], ◌∷◌, ◌++◌, length, get_or, take, map, filter, refl, sym, ap, ◌∙◌, arith, inl, inr, zero-add}
 use Rattle.std.specs.Prelude.{if◌then◌else◌}
+use Rattle.std.specs.List.{count_by}
+use Rattle.std.proofs.lemmas.List.{length-map}
+use Rattle.std.proofs.lemmas.List.Sums.{sum_by-cons, count_by-le-length, length-filter}
+use Rattle.std.proofs.lemmas.Bool.Decides.{nat_tests}
 use Rattle.std.proofs.lemmas.Bool.{cases_eq, eq-eqb, false≢true}
 use Rattle.goal_graph.specs.declared.plan.Dep.{Dep}
 use Rattle.goal_graph.specs.declared.plan.Need.{Need}
@@ -102,3 +106,38 @@ unfolding is_among
 is_among-above [] op below = refl
 is_among-above (x ∷ xs) op below =
     rw (ne-eqb x op (λ same. omega (arith, below 0 (omega arith)))) (is_among-above xs op (λ k inside. below (suc k) (omega arith)))
+
+-- how many dependencies stand in the rows of the operations before n
+pub listed_before : Listing → List Dep → ℕ → ℕ
+listed_before listing deps n = count_by (λ (d : Dep). ltb (owner listing d) n) deps
+
+none_below : (k : ℕ) → ◌≡◌ {A = ℕ} (if ltb k 0 then 1 else 0) 0
+none_below k = grind (arith, nat_tests)
+
+pub listed_before-zero : (listing : Listing) (deps : List Dep) → listed_before listing deps 0 ≡ 0
+unfolding listed_before
+listed_before-zero listing [] = refl
+listed_before-zero listing (d ∷ deps) =
+    omega (arith, none_below (owner listing d), sum_by-cons (λ (e : Dep). if ltb (owner listing e) 0 then 1 else 0) d deps, listed_before-zero listing deps)
+
+pub listed_before-le : (listing : Listing) (deps : List Dep) (n : ℕ) → listed_before listing deps n ≤ length deps
+unfolding listed_before
+listed_before-le listing deps n = count_by-le-length (λ (d : Dep). ltb (owner listing d) n) deps
+
+below_more : (k n : ℕ) → (if ltb k (n + 1) then 1 else 0) ≡ (if ltb k n then 1 else 0) + (if eqb k n then 1 else 0)
+below_more k n = grind (arith, nat_tests)
+
+counts_more : (listing : Listing) (deps : List Dep) (n : ℕ) → listed_before listing deps (n + 1) ≡ listed_before listing deps n + count_by (λ (d : Dep). eqb (owner listing d) n) deps
+unfolding listed_before
+counts_more listing [] n = omega arith
+counts_more listing (d ∷ deps) n =
+    let at = sum_by-cons (λ (e : Dep). if eqb (owner listing e) n then 1 else 0) d deps in
+    let before = sum_by-cons (λ (e : Dep). if ltb (owner listing e) n then 1 else 0) d deps in
+    let up_to = sum_by-cons (λ (e : Dep). if ltb (owner listing e) (n + 1) then 1 else 0) d deps in
+    omega (arith, at, before, up_to, below_more (owner listing d) n, counts_more listing deps n)
+
+-- one more row
+pub listed_before-more : (listing : Listing) (deps : List Dep) (n : ℕ) → listed_before listing deps (n + 1) ≡ listed_before listing deps n + length (row listing deps n)
+unfolding row
+listed_before-more listing deps n =
+    rw (length-map, length-filter (λ (d : Dep). eqb (owner listing d) n) deps) (counts_more listing deps n)

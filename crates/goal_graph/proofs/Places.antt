@@ -249,6 +249,10 @@ pub dep_count-more : (plans : List Plan) (i : ℕ) (p : Plan) → i < length pla
 unfolding dep_count
 dep_count-more plans i p inside = sum_by_more (λ (q : Plan). length q.deps) plans i p inside
 
+pub dep_count-more_le : (plans : List Plan) (i : ℕ) (p : Plan) → i < length plans → dep_count (take i plans) + length (get_or plans i p).deps ≤ dep_count plans
+unfolding dep_count
+dep_count-more_le plans i p inside = sum_by_more_le (λ (q : Plan). length q.deps) plans i p inside
+
 pub note_count-more : (plans : List Plan) (i : ℕ) (p : Plan) → i < length plans → note_count (take (i + 1) plans) ≡ note_count (take i plans) + length (get_or plans i p).notes
 unfolding note_count
 note_count-more plans i p inside = sum_by_more (λ (q : Plan). length q.notes) plans i p inside

@@ -142,15 +142,16 @@ fn first_fault_in(ranks: u32, rank: u32, plan: &RankPlan) -> Option<PlanFault>
     first_note_fault(&plan.ops, rank, &plan.notes)
 }
 
-// How many operations, dependencies and notes all ranks have together.
+/// How many operations, dependencies and notes all ranks have together.
 #[derive(Clone, Copy)]
-struct Totals {
-    ops: u128,
-    deps: u128,
-    notes: u128,
+pub struct Totals {
+    pub ops: u128,
+    pub deps: u128,
+    pub notes: u128,
 }
 
-fn totals_of(plans: &[RankPlan]) -> Totals
+/// The totals of these plans.
+pub fn totals_of(plans: &[RankPlan]) -> Totals
     requires { length plans.now ≤ MAX_RANKS }
     ensures ops { result.ops ≡ op_count plans.now }
     ensures deps { result.deps ≡ dep_count plans.now }
