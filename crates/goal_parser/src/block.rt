@@ -13,6 +13,10 @@ use goal_lexer::TokenKind;
 use std::alloc::{AllocError, Global};
 use std::mem;
 
+/// The most items that a list of the next block gets room for at once. The ranks of most schedules are of like sizes.
+/// The bound keeps the room small where a large rank is followed by many small ones.
+const MOST_ROOM: usize = 256;
+
 /// What is read of a block. Between blocks it is empty.
 #[derive(Drop)]
 pub struct Block {
@@ -62,6 +66,17 @@ pub fn end_action(
     Ok(())
 }
 
+/// Takes all of a list, shrunk to its size, and leaves an empty one with room for as many, at most `MOST_ROOM`.
+fn take_all<T>(alloc: Global, list: &mut Vec<T>) -> Result<Vec<T>, AllocError>
+    ensures all { IfOk result (λ all. all.items ≡ list.old.items) }
+    ensures empty { OnOk result (list.new.items ≡ []) }
+{
+    let empty = Vec::with_capacity(alloc, list.len().min(MOST_ROOM))?;
+    let mut all = mem::replace(list, empty);
+    all.shrink_to_fit();
+    Ok(all)
+}
+
 impl Block {
     /// An empty block.
     pub fn new(alloc: Global) -> Block
@@ -74,7 +89,8 @@ impl Block {
         }
     }
 
-    /// Ends the block in this state, and leaves an empty one, with the memory of the labels. The answer is its plan.
+    /// Ends the block in this state, and leaves an empty one, with the memory of the labels and room for lists of like
+    /// sizes. The answer is its plan.
     pub fn close(
         &mut self,
         alloc: Global,
@@ -89,9 +105,9 @@ impl Block {
         end_action(&mut self.ops, state, &TokenKind::Close, draft)?;
         self.names.resolve();
         self.names.labels.clear();
-        let ops = mem::replace(&mut self.ops, Vec::new(alloc));
-        let deps = mem::replace(&mut self.names.deps, Vec::new(alloc));
-        let notes = mem::replace(&mut self.names.notes, Vec::new(alloc));
+        let ops = take_all(alloc, &mut self.ops)?;
+        let deps = take_all(alloc, &mut self.names.deps)?;
+        let notes = take_all(alloc, &mut self.names.notes)?;
         Ok(RankPlan { ops, deps, notes })
     }
 }
