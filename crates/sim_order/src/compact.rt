@@ -1,21 +1,23 @@
 // Keys of events in two words.
-ghost use Rattle.std.specs.Prelude.{◌≡◌, ◌<◌, ◌^◌};
+ghost use Rattle.std.specs.Prelude.{◌≡◌, ◌<◌};
+ghost use Rattle.goal_base.specs.declared.limits.TheConstants.{MAX_RANKS, MAX_OPS};
 ghost use Rattle.goal_graph.specs.Action.{place};
-ghost use Rattle.sim_order.specs.Compact.{class_at};
+ghost use Rattle.sim_order.specs.Compact.{class_at, timed_of, IsTail};
 
 use crate::{EventOrder, Steps};
+use goal_base::{MAX_OPS, MAX_RANKS};
 use goal_graph::{Class, OpId};
 use std::marker::Model;
 use std::sync::ledger::Ledger;
 
 // One more than the greatest rank of a compact key.
-const RANKS: u64 = 1 << 29;
+const RANKS: u64 = MAX_RANKS as u64;
 
 // One more than the greatest number of an operation in its rank.
-const OPS: u64 = 1 << 32;
+const OPS: u64 = MAX_OPS as u64;
 
-/// The key of an event whose rank is below 2^29, in 16 bytes. It is compared in at most two comparisons of words, and is
-/// in the order of `EventKey`.
+/// The key of an event of a schedule, whose rank is below 2^16 and whose number in the rank is below 2^20, in 16 bytes. It
+/// is compared in at most two comparisons of words, and is in the order of `EventKey`.
 #[derive(Clone, Copy, Debug, PartialEq, Eq)]
 pub struct CompactKey {
     time: u64,
@@ -24,15 +26,14 @@ pub struct CompactKey {
 }
 
 impl Model for CompactKey {
-    ghost use Rattle.std.specs.Prelude.{◌<◌, ◌/◌, ◌^◌};
     ghost use Rattle.goal_graph.specs.declared.action.Timed.{Timed};
-    ghost use Rattle.sim_order.specs.Compact.{timed_of, tail_of, tail_of_parts};
+    ghost use Rattle.sim_order.specs.Compact.{timed_of, tail_of, tail_of_parts, IsTail};
 
     ghost Value = { Timed };
 
     ghost view = { λ k. timed_of k.time k.tail };
 
-    ghost invariant = { λ k. k.tail / 2 ^ 32 / 2 ^ 29 < 5 };
+    ghost invariant = { λ k. IsTail k.tail };
 
     ghost inverse = { λ e. record { time = e.time; tail = tail_of e.class e.op } };
 
@@ -68,7 +69,8 @@ fn class_at(place: u64) -> Class
 impl CompactKey {
     /// The key of the action of a class and operation at a time in nanoseconds.
     pub fn new(time: u64, class: Class, id: OpId) -> CompactKey
-        requires { id.rank < 2 ^ 29 }
+        requires rank { id.rank < MAX_RANKS }
+        requires number { id.op < MAX_OPS }
         ensures { result ≡ record { time = time; class = class; op = id } }
     {
         let above = place(class) * RANKS + u64::from(id.rank);
@@ -76,6 +78,24 @@ impl CompactKey {
             time,
             tail: above * OPS + u64::from(id.op),
         }
+    }
+
+    /// The key of a tail and a time in nanoseconds.
+    #[inline(always)]
+    pub fn from_tail(time: u64, tail: u64) -> CompactKey
+        requires { IsTail tail }
+        ensures { result ≡ timed_of time tail }
+    {
+        CompactKey { time, tail }
+    }
+
+    /// The class and the operation in one number, in whose order the keys of one time are.
+    #[inline(always)]
+    pub fn tail(&self) -> u64
+        ensures tail { IsTail result }
+        ensures tells { timed_of self.now.time result ≡ self.now }
+    {
+        self.tail
     }
 
     /// The key of the same action at another time, in nanoseconds.

@@ -2,6 +2,7 @@
 ghost use Rattle.std.specs.Prelude.{◌≡◌, ◌<◌};
 
 use crate::{CompactKey, EventKey, EventOrder, Steps};
+use goal_base::{MAX_OPS, MAX_RANKS};
 use goal_graph::{Class, OpId};
 use std::marker::Brand;
 use std::sync::ledger::{Blank, Ledger};
@@ -56,8 +57,8 @@ fn orders_by_time_class_rank_and_number(rt: HostRuntime) -> Result<(), Fail> {
 #[test]
 fn orders_compact_keys_alike(rt: HostRuntime) -> Result<(), Fail> {
     let last = OpId {
-        rank: 536_870_911,
-        op: u32::MAX,
+        rank: MAX_RANKS - 1,
+        op: MAX_OPS - 1,
     };
     let key = CompactKey::new(7, Class::Data, OpId { rank: 1, op: 1 });
     assert!(rt; differ(&CompactKey::new(6, Class::Begin, last), &key));
@@ -69,7 +70,7 @@ fn orders_compact_keys_alike(rt: HostRuntime) -> Result<(), Fail> {
                 Class::Data,
                 OpId {
                     rank: 0,
-                    op: u32::MAX
+                    op: MAX_OPS - 1
                 }
             ),
             &key
@@ -88,8 +89,8 @@ fn orders_compact_keys_alike(rt: HostRuntime) -> Result<(), Fail> {
 #[test]
 fn reads_the_parts_of_a_compact_key(rt: HostRuntime) -> Result<(), Fail> {
     let last = OpId {
-        rank: 536_870_911,
-        op: u32::MAX,
+        rank: MAX_RANKS - 1,
+        op: MAX_OPS - 1,
     };
     let key = CompactKey::new(u64::MAX, Class::Begin, last).at(5);
     assert_eq!(rt; key.time(), 5);

@@ -6,6 +6,7 @@ pub mod Ranked
 pub mod Scan
 pub mod Places
 pub mod Heap
+pub mod Item
 pub mod TopHeap
 pub mod Groups
 pub mod Floors

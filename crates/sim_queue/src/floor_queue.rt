@@ -1,5 +1,6 @@
 // A queue with floors.
-ghost use Rattle.std.specs.Prelude.{◌≡◌, ◌<◌, ◌≤◌, ◌^◌, ℕ, All, IfOk, IfSome, IsNone, ◌↔◌, true, Some, None, is_some, length, replicate, slice_get, slice_set};
+ghost use Rattle.std.specs.Prelude.{◌≡◌, ◌<◌, ◌≤◌, ℕ, All, IfOk, IfSome, IsNone, ◌↔◌, true, Some, None, is_some, length, replicate, slice_get, slice_set};
+ghost use Rattle.goal_base.specs.declared.limits.TheConstants.{MAX_OPS};
 ghost use Rattle.goal_graph.specs.declared.action.Timed.{Timed};
 ghost use Rattle.sim_order.specs.Events.{event_before};
 ghost use Rattle.sim_queue.specs.Map.{key_at, IsEmptyMap, IsLeast, IsSoleLeast};
@@ -43,7 +44,7 @@ fn has_key(stand: Stand) -> bool
 }
 
 // The least key of those that are ahead.
-fn first_ahead(ahead: &TopHeap<CompactKey>) -> Option<CompactKey>
+fn first_ahead(ahead: &TopHeap) -> Option<CompactKey>
     ensures none { IsNone result ↔ IsEmptyMap ahead.now }
     ensures least { IfSome result (λ key. (slot : ℕ) × IsLeast event_before ahead.now slot key) }
 {
@@ -83,7 +84,7 @@ fn floor(heads: &SlotHeap<CompactKey>, group: u32) -> u64
 
 // Tells the head of a group anew, at this floor.
 fn renew<L: Ledger>(
-    waiting: &Groups<CompactKey>,
+    waiting: &Groups,
     heads: &mut SlotHeap<CompactKey>,
     group: u32,
     floor: u64,
@@ -101,8 +102,8 @@ fn renew<L: Ledger>(
 
 // Lets a slot wait no longer, whose key is before that of each other slot of its group.
 fn leave<L: Ledger>(
-    ahead: &TopHeap<CompactKey>,
-    waiting: &mut Groups<CompactKey>,
+    ahead: &TopHeap,
+    waiting: &mut Groups,
     heads: &mut SlotHeap<CompactKey>,
     slot: u32,
     steps: &mut Steps<L>,
@@ -124,8 +125,8 @@ fn leave<L: Ledger>(
 
 // Lets a slot that has no key wait at the floor of its group, where its key's time is the floor.
 fn join<L: Ledger>(
-    ahead: &TopHeap<CompactKey>,
-    waiting: &mut Groups<CompactKey>,
+    ahead: &TopHeap,
+    waiting: &mut Groups,
     heads: &mut SlotHeap<CompactKey>,
     slot: u32,
     key: CompactKey,
@@ -152,8 +153,8 @@ fn join<L: Ledger>(
 // Lets a slot whose key is before each other that is ahead wait at the floor of its group, which is this time from now
 // on.
 fn park<L: Ledger>(
-    ahead: &mut TopHeap<CompactKey>,
-    waiting: &mut Groups<CompactKey>,
+    ahead: &mut TopHeap,
+    waiting: &mut Groups,
     heads: &mut SlotHeap<CompactKey>,
     slot: u32,
     key: CompactKey,
@@ -183,9 +184,9 @@ fn park<L: Ledger>(
 #[derive(Drop)]
 pub struct FloorQueue {
     // keys that stand for themselves
-    ahead: TopHeap<CompactKey>,
+    ahead: TopHeap,
     // keys at the floor of their group, with 0 for their time
-    waiting: Groups<CompactKey>,
+    waiting: Groups,
     // the least of each group that waits, at the time of the floor
     heads: SlotHeap<CompactKey>,
     // where each slot has its key
@@ -209,7 +210,7 @@ impl FloorQueue {
     /// memory here.
     pub fn new(alloc: Global, numbers: &[u32], groups: u32) -> Result<FloorQueue, NoMemory>
         requires within { All (λ group. group < groups) numbers.now }
-        requires few { length numbers.now < 2 ^ 32 }
+        requires few { length numbers.now ≤ MAX_OPS }
         ensures { IfOk result (λ q. q ≡ record { keys = replicate (length numbers.now) None; groups = numbers.now }) }
     {
         Ok(FloorQueue {

@@ -1,11 +1,13 @@
 // Slots in groups.
-ghost use Rattle.std.specs.Prelude.{◌≡◌, ◌<◌, ◌^◌, All, IfOk, IfSome, IsNone, Some, None, length, map, replicate, slice_get, slice_set};
+ghost use Rattle.std.specs.Prelude.{◌≡◌, ◌<◌, ◌≤◌, All, IfOk, IfSome, IsNone, OnOk, Some, None, length, map, replicate, slice_get, slice_set};
+ghost use Rattle.goal_base.specs.declared.limits.TheConstants.{MAX_OPS};
+ghost use Rattle.sim_order.specs.Events.{event_before};
 ghost use Rattle.sim_queue.specs.Map.{key_at};
 ghost use Rattle.sim_queue.specs.Groups.{IsEmptyGroup, IsLeastOf, IsSoleLeastOf, AreHomes, no_keys};
 
 use crate::TopHeap;
 use goal_base::NoMemory;
-use sim_order::{EventOrder, Steps};
+use sim_order::{CompactKey, Steps};
 use std::alloc::Global;
 use std::marker::Model;
 use std::sync::ledger::Ledger;
@@ -19,15 +21,16 @@ pub struct Home {
 
 /// A finite map from slots to keys, whose slots are in groups. The least key of a group is asked for.
 #[derive(Drop)]
-pub struct Groups<K: EventOrder> {
+pub struct Groups {
     homes: Vec<Home>,
-    heaps: Vec<TopHeap<K>>,
+    heaps: Vec<TopHeap>,
 }
 
-impl<K: EventOrder> Model for Groups<K> {
+impl Model for Groups {
+    ghost use Rattle.goal_graph.specs.declared.action.Timed.{Timed};
     ghost use Rattle.sim_queue.specs.Groups.{Grouped, IsHoused, grouped};
 
-    ghost Value = { Grouped K };
+    ghost Value = { Grouped Timed };
 
     ghost view = { λ q. grouped q.homes.items q.heaps.items };
 
@@ -39,8 +42,9 @@ impl<K: EventOrder> Model for Groups<K> {
 fn homes(alloc: Global, numbers: &[u32], counts: &mut [u32]) -> Result<Vec<Home>, NoMemory>
     requires within { All (λ group. group < length counts.old) numbers.now }
     requires zero { All (λ count. count ≡ 0) counts.old }
-    requires few { length numbers.now < 2 ^ 32 }
-    ensures { IfOk result (λ homes. AreHomes numbers.now homes.items counts.new) }
+    requires few { length numbers.now ≤ MAX_OPS }
+    ensures homes { IfOk result (λ homes. AreHomes numbers.now homes.items counts.new) }
+    ensures few { OnOk result (All (λ count. count ≤ MAX_OPS) counts.new) }
 {
     let mut homes = Vec::with_capacity(alloc, numbers.len())?;
     'slots: for number in numbers {
@@ -53,7 +57,8 @@ fn homes(alloc: Global, numbers: &[u32], counts: &mut [u32]) -> Result<Vec<Home>
 }
 
 // Heaps with so many slots each, none of which has a key.
-fn heaps<K: EventOrder + Copy>(alloc: Global, counts: &[u32]) -> Result<Vec<TopHeap<K>>, NoMemory>
+fn heaps(alloc: Global, counts: &[u32]) -> Result<Vec<TopHeap>, NoMemory>
+    requires { All (λ count. count ≤ MAX_OPS) counts.now }
     ensures { IfOk result (λ heaps. heaps.items ≡ map no_keys counts.now) }
 {
     let mut heaps = Vec::with_capacity(alloc, counts.len())?;
@@ -63,12 +68,12 @@ fn heaps<K: EventOrder + Copy>(alloc: Global, counts: &[u32]) -> Result<Vec<TopH
     Ok(heaps)
 }
 
-impl<K: EventOrder + Copy> Groups<K> {
+impl Groups {
     /// The slots whose groups have these numbers, the numbers below `groups`. None of them has a key. It takes all its
     /// memory here.
-    pub fn new(alloc: Global, numbers: &[u32], groups: u32) -> Result<Groups<K>, NoMemory>
+    pub fn new(alloc: Global, numbers: &[u32], groups: u32) -> Result<Groups, NoMemory>
         requires within { All (λ group. group < groups) numbers.now }
-        requires few { length numbers.now < 2 ^ 32 }
+        requires few { length numbers.now ≤ MAX_OPS }
         ensures { IfOk result (λ q. q ≡ record { keys = replicate (length numbers.now) None; groups = numbers.now }) }
     {
         let mut counts = vec![in alloc; 0; groups as usize]?;
@@ -86,7 +91,7 @@ impl<K: EventOrder + Copy> Groups<K> {
     }
 
     /// Gives a slot that has no key a key.
-    pub fn put<L: Ledger>(&mut self, slot: u32, key: K, steps: &mut Steps<L>)
+    pub fn put<L: Ledger>(&mut self, slot: u32, key: CompactKey, steps: &mut Steps<L>)
         requires slot_in { slot < length self.old.keys }
         requires free { key_at self.old.keys slot ≡ None }
         ensures { self.new ≡ record self.old { keys = slice_set self.old.keys slot (Some key) } }
@@ -97,7 +102,7 @@ impl<K: EventOrder + Copy> Groups<K> {
 
     /// Takes out the key of a slot that is before that of each other slot of its group.
     pub fn take<L: Ledger>(&mut self, slot: u32, steps: &mut Steps<L>)
-        requires { IsSoleLeastOf K.before self.old slot }
+        requires { IsSoleLeastOf event_before self.old slot }
         ensures { self.new ≡ record self.old { keys = slice_set self.old.keys slot None } }
     {
         let home = self.homes[slot as usize];
@@ -105,9 +110,9 @@ impl<K: EventOrder + Copy> Groups<K> {
     }
 
     /// The least key of a group. None where no slot of the group has a key, or there is no such group.
-    pub fn least_of(&self, group: u32) -> Option<K>
+    pub fn least_of(&self, group: u32) -> Option<CompactKey>
         ensures none { IsNone result → IsEmptyGroup self.now group }
-        ensures least { IfSome result (IsLeastOf K.before self.now group) }
+        ensures least { IfSome result (IsLeastOf event_before self.now group) }
     {
         if group as usize >= self.heaps.len() {
             return None;

@@ -3,6 +3,7 @@
 
 mod floor_queue;
 mod groups;
+mod heap_item;
 mod queue;
 mod ranked_queue;
 mod row;
@@ -19,5 +20,5 @@ pub use queue::EventQueue;
 pub use ranked_queue::RankedQueue;
 pub use row::row_28;
 pub use slot_heap::SlotHeap;
-pub use top_heap::{Item, TopHeap};
+pub use top_heap::TopHeap;
 pub use vec_queue::VecQueue;

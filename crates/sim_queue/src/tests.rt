@@ -1,9 +1,10 @@
 // Twelve slots are put, four of them dropped. In a heap whose keys go from the top, three are put and one is taken.
 ghost use Rattle.std.specs.Prelude.{◌≡◌, ◌<◌, None, length, replicate};
+ghost use Rattle.goal_graph.specs.declared.action.Class.TheVariants.{Begin};
 
 use crate::{EventQueue, RankedQueue, SlotHeap, TopHeap, VecQueue};
-use goal_graph::{Kind, Op, RankPlan, Sched};
-use sim_order::{Counted, Steps};
+use goal_graph::{Class, Kind, Op, OpId, RankPlan, Sched};
+use sim_order::{CompactKey, Counted, Steps};
 use std::alloc::{AllocError, Global};
 use std::marker::Brand;
 use std::sync::ledger::{Blank, Ledger};
@@ -91,20 +92,27 @@ fn the_least_of_a_ranked_queue(rt: HostRuntime) -> Result<(), Fail> {
     Ok(())
 }
 
+// The key of a Begin at a time in nanoseconds.
+fn begin(time: u64) -> CompactKey
+    ensures { result ≡ record { time = time; class = Begin; op = record { rank = 0; op = 0 } } }
+{
+    CompactKey::new(time, Class::Begin, OpId { rank: 0, op: 0 })
+}
+
 // The least of three slots that are put, and that of the two that are left.
 fn first_and_second<L: Ledger>(
-    heap: &mut TopHeap<Counted<u64>>,
+    heap: &mut TopHeap,
     blank: Blank,
-) -> (Option<(u32, Counted<u64>)>, Option<(u32, Counted<u64>)>)
+) -> (Option<(u32, CompactKey)>, Option<(u32, CompactKey)>)
     requires name { blank.name ≡ L.name }
     requires parts { blank.parts ≡ L.parts }
     requires some { 0 < blank.parts }
     requires none { heap.old ≡ replicate 3 None }
 {
     let mut steps = Steps::<L>::new(blank);
-    heap.put(0, Counted(4), &mut steps);
-    heap.put(1, Counted(2), &mut steps);
-    heap.put(2, Counted(3), &mut steps);
+    heap.put(0, begin(4), &mut steps);
+    heap.put(1, begin(2), &mut steps);
+    heap.put(2, begin(3), &mut steps);
     let first = heap.least();
     heap.take(1, &mut steps);
     (first, heap.least())
@@ -115,7 +123,7 @@ fn the_least_of_a_top_heap(rt: HostRuntime) -> Result<(), Fail> {
     let mut heap = TopHeap::new(rt.alloc(), 3)?;
     assert_eq!(rt; heap.least(), None);
     let (first, second) = first_and_second::<Brand>(&mut heap, Blank::new(1));
-    assert_eq!(rt; first, Some((1, Counted(2))));
-    assert_eq!(rt; second, Some((2, Counted(3))));
+    assert_eq!(rt; first, Some((1, begin(2))));
+    assert_eq!(rt; second, Some((2, begin(3))));
     Ok(())
 }

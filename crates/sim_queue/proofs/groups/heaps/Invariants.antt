@@ -3,4 +3,4 @@ use Rattle.sim_queue.specs.Groups.{no_keys}
 use Rattle.sim_queue.proofs.groups.heaps.Given as goal
 
 abbrev pub invariant-groups : goal.invariant-groups
-invariant-groups g l = l.heaps.items ≡ map no_keys (take l.count-index l.counts)
+invariant-groups l = l.heaps.items ≡ map no_keys (take l.count-index l.counts)

@@ -1,7 +1,8 @@
 use Rattle.std.proofs.Common.{◌≡◌, ◌⊎◌, ◌<◌, ◌≤◌, ℕ, ◌++◌, ◌∷◌, [], List, take, length, get_or, slice_index, inl, inr, sym, subst, arith}
 use Rattle.std.proofs.lemmas.Bool.{cases_lt}
 use Rattle.std.proofs.lemmas.List.{take_more, take_all, get_or_past}
-use Rattle.std.proofs.lemmas.List.Elements.{All-get_or}
+use Rattle.std.proofs.lemmas.List.Elements.{All-get_or, All-from_get_or}
+use Rattle.goal_base.specs.declared.limits.TheConstants.{MAX_OPS}
 use Rattle.sim_queue.specs.declared.groups.Home.{Home}
 use Rattle.sim_queue.specs.Groups.{AreHomes}
 use Rattle.sim_queue.proofs.Homes.{no_homes, home_given, counted, counted_within}
@@ -34,6 +35,10 @@ slots-preserved c =
       few = counted_within c.slots.counts group exists c.slots.number-index c.slots.invariant.few;
     }
 
-pub returns : goal.returns
-returns c =
+pub returns-clause-few : goal.returns-clause-few
+returns-clause-few c =
+    All-from_get_or (λ n. n ≤ MAX_OPS) c.slots.counts 0 (λ group h. omega (arith, c.slots.invariant.few group, c.slots.auto.number-index-end, c.requires.few))
+
+pub returns-clause-homes : goal.returns-clause-homes
+returns-clause-homes c =
     subst (λ (ns : List ℕ). AreHomes ns c.slots.homes.items c.slots.counts) (take_all c.slots.number-index c.args.numbers.now (omega (arith, c.slots-test.false))) c.slots.invariant.given
