@@ -1,5 +1,6 @@
 // What operations wait for.
-ghost use Rattle.std.specs.Prelude.{◌≡◌, ◌<◌, ◌+◌, ◌^◌, All, IfOk, length};
+ghost use Rattle.std.specs.Prelude.{◌≡◌, ◌<◌, ◌≤◌, ◌+◌, ◌^◌, All, IfOk, length};
+ghost use Rattle.goal_base.specs.declared.limits.TheConstants.{MAX_OPS};
 ghost use Rattle.goal_graph.specs.Schedule.{operations};
 ghost use Rattle.sim_events.specs.Stations.{station_of, AreStationed, HasNumber};
 
@@ -83,7 +84,7 @@ fn number_of(
 /// Numbers the stations of a schedule, in the order in which operations have them.
 pub fn stations(alloc: Global, sched: &Sched) -> Result<StationNumbers, NoMemory>
     ensures each { IfOk result (λ s. length s.numbers.items ≡ length (operations sched.now)) }
-    ensures few { IfOk result (λ s. length s.numbers.items < 2 ^ 32) }
+    ensures few { IfOk result (λ s. length s.numbers.items ≤ MAX_OPS) }
     ensures within { IfOk result (λ s. All (λ number. number < s.count) s.numbers.items) }
     ensures stationed { IfOk result (λ s. AreStationed sched.now s.numbers.items) }
 {
