@@ -8,21 +8,17 @@ use Rattle.std.proofs.lemmas.Option.{same_Some, slice_get-get_or, slice_get_with
 use Rattle.goal_graph.specs.declared.action.OpId.{OpId}
 use Rattle.goal_graph.specs.declared.action.Timed.{Timed}
 use Rattle.goal_graph.specs.declared.plan.Need.{Need}
-use Rattle.goal_graph.specs.declared.plan.When.{When}
-use Rattle.goal_graph.specs.declared.plan.When.TheVariants.{AfterEnd, AfterStart}
 use Rattle.goal_graph.specs.Schedule.{Plan, needs, needed, operations}
-use Rattle.goal_graph.specs.Action.{plain, plain_act}
-use Rattle.goal_graph.specs.Allowed.{is_met, is_ready}
-use Rattle.goal_graph.proofs.ForCallers.{and_left, and_right, started_stays, ended_stays}
-use Rattle.sim_params.specs.Costs.{CostModel, is_eager}
-use Rattle.sim_params.specs.Times.{greatest, met_at, ready}
+use Rattle.goal_graph.specs.Allowed.{is_ready}
+use Rattle.sim_params.specs.Costs.{CostModel}
+use Rattle.sim_params.specs.Times.{greatest, ready}
 use Rattle.sim_params.specs.Run.{IsRun}
-use Rattle.sim_params.proofs.ForCallers.{run_each, start_kept, end_kept}
 use Rattle.sim_match.proofs.ForCallers.{slice_get_written, slice_get_elsewhere}
 use Rattle.sim_events.specs.declared.cursor.Cursor.{Cursor}
 use Rattle.sim_events.specs.Engine.{View}
 use Rattle.sim_events.specs.Enabled.{moment_known, ready_known}
 use Rattle.sim_events.specs.Cursors.{is_there, there_at, IsCursorOf, AreCursors}
+use Rattle.sim_events.proofs.Kept.{all_kept}
 use Rattle.sim_events.proofs.Ready.{moment_is}
 
 abbrev pub start : Cursor
@@ -111,23 +107,9 @@ cursors_start plans costs h n cursors count made = record {
         sym (get_or-replicate n slot start start within) ∙ get_or_from_slice_get (replicate n start) slot c start there
 
 module _ (plans : List Plan) (costs : CostModel) (a : Timed) (h : List Timed) (run : IsRun plans costs h) where
-  -- a moment that is there stays
-  met_kept : (w : When) (y : OpId) → is_met plans (is_eager plans costs) (plain h) w y ≡ true → (is_met plans (is_eager plans costs) (plain (a ∷ h)) w y ≡ true) × (met_at plans costs (a ∷ h) w y ≡ met_at plans costs h w y)
-  unfolding plain
-  met_kept AfterEnd y e = (ended_stays plans (is_eager plans costs) (plain_act a) (plain h) y e, end_kept plans costs a h y (run_each plans costs h run) e)
-  met_kept AfterStart y e = (started_stays plans (plain_act a) (plain h) y e, start_kept plans costs a h y e)
-
-  all_kept : (x : OpId) (ds : List Need) → list_all (is_there plans costs h x) ds ≡ true → (list_all (is_there plans costs (a ∷ h) x) ds ≡ true) × (greatest (there_at plans costs (a ∷ h) x) ds ≡ greatest (there_at plans costs h x) ds)
-  unfolding greatest
-  all_kept x [] e = (refl, refl)
-  all_kept x (d ∷ ds) e =
-      let this = met_kept d.when (needed x d) (and_left _ _ e) in
-      let rest = all_kept x ds (and_right _ _ e) in
-      (ap₂ (λ (s t : Bool). s && t) this.0 rest.0, ap₂ max this.1 rest.1)
-
   cursor_kept : (x : OpId) (c : Cursor) → IsCursorOf plans costs h x c → IsCursorOf plans costs (a ∷ h) x c
   cursor_kept x c cur =
-      let kept = all_kept x (take c.at (needs plans x)) cur.met in
+      let kept = all_kept plans costs a h run x (take c.at (needs plans x)) cur.met in
       record { within = cur.within; met = kept.0; ready = cur.ready ∙ sym kept.1 }
 
   pub cursors_kept : (cursors : List Cursor) → AreCursors plans costs h cursors → AreCursors plans costs (a ∷ h) cursors

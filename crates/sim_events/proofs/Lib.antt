@@ -2,6 +2,7 @@ pub mod Places
 pub mod Ready
 mod Cursors
 pub mod Keys
+pub mod Kept
 pub mod Done
 pub mod Awaited
 pub mod Queue

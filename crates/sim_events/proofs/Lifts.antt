@@ -1,24 +1,19 @@
 -- The keys of a station are raised together: what it waits for is free for all its operations at one time, and no action
 -- that waits for it is possible before.
-use Rattle.std.proofs.Common.{◌≡◌, ◌≢◌, ◌⊎◌, ◌==◌, ◌&&◌, ◌+◌, ◌<◌, ◌≤◌, ℕ, zero, suc, max, not, Bool, true, List, [], ◌∷◌, length, set, Option, Some, None, slice_get, if◌then◌else◌, refl, sym, ap, ap₂, ◌∙◌, subst, arith, inl, inr}
+use Rattle.std.proofs.Common.{◌≡◌, ◌≢◌, ◌⊎◌, ◌==◌, ◌&&◌, ◌+◌, ◌<◌, ◌≤◌, ℕ, zero, suc, max, Bool, true, false, List, [], ◌∷◌, length, Option, Some, None, slice_get, if◌then◌else◌, refl, sym, ap, ap₂, ◌∙◌, subst, arith, inl, inr}
 use Rattle.std.specs.List.{sum_by}
 use Rattle.std.specs.Option.{option_map}
-use Rattle.std.proofs.lemmas.Bool.{and_parts, both_ways, cases_eq}
+use Rattle.std.proofs.lemmas.Bool.{both_ways, cases_eq}
 use Rattle.std.proofs.lemmas.List.Sums.{sum_by-cons}
 use Rattle.std.proofs.lemmas.Option.{same_Some}
-use Rattle.std.proofs.lemmas.List.{get_or-set_same, get_or-set_other, length-set}
 use Rattle.goal_graph.specs.declared.action.OpId.{OpId}
 use Rattle.goal_graph.specs.declared.action.Timed.{Timed}
-use Rattle.goal_graph.specs.declared.action.Class.{Class}
-use Rattle.goal_graph.specs.declared.action.Class.TheVariants.{Arrive, Serve, Data, Post, Begin}
 use Rattle.goal_graph.specs.declared.plan.Kind.{Kind}
 use Rattle.goal_graph.specs.declared.plan.Kind.TheVariants.{Calc, Send, Recv}
 use Rattle.goal_graph.specs.declared.plan.Op.{Op}
 use Rattle.goal_graph.specs.Schedule.{Plan, op_at, kind_at, operations}
-use Rattle.goal_graph.specs.Action.{plain, happened}
-use Rattle.goal_graph.specs.Allowed.{may, allowed}
-use Rattle.sim_params.specs.Costs.{CostModel, is_eager}
-use Rattle.sim_params.specs.Times.{same_place, holds_cpu, holds_tx, holds_rx, cpu_hold, tx_hold, rx_hold, cpu, tx, rx, time, time_of, Possible}
+use Rattle.sim_params.specs.Costs.{CostModel}
+use Rattle.sim_params.specs.Times.{same_place, holds_cpu, holds_tx, holds_rx, cpu_hold, tx_hold, rx_hold, cpu, tx, rx, time, Possible}
 use Rattle.goal_graph.specs.Order.{IsLess, key}
 use Rattle.sim_order.specs.Events.{event_before}
 use Rattle.sim_queue.specs.Map.{key_at, IsLeast, IsSoleLeast}
@@ -29,29 +24,8 @@ use Rattle.sim_events.specs.Stations.{station_by, HaveOneStation, AreStationed, 
 use Rattle.sim_events.specs.Queue.{IsIdle, IsEarly, IsQueue, HasKey, lag, lags}
 use Rattle.sim_events.proofs.Queue.{key_found}
 use Rattle.sim_events.proofs.Keys.{before_event}
+use Rattle.sim_events.proofs.Kept.{told_waiting, free_first}
 use Rattle.goal_graph.proofs.ForCallers.{key_cases, other_place}
-
-module _ (plans : List Plan) (costs : CostModel) (h : List Timed) where
-  -- what waits is not possible before all is free
-  not_before : (class : Class) (x : OpId) (k : Option Kind) → waits_for_room class ≡ true → may plans (is_eager plans costs) (plain h) class x k ≡ true → free_of plans costs h x k ≤ time_of plans costs h class x k
-  not_before class x None w m = omega arith
-  not_before Arrive x (Some k) w m = absurd (cc)
-  not_before Post x (Some k) w m = absurd (cc)
-  not_before Begin x (Some (Calc nanos)) w m = omega arith
-  not_before Begin x (Some (Send bytes to tag)) w m = omega arith
-  not_before Begin x (Some (Recv room from tag)) w m = absurd (cc)
-  not_before Data x (Some (Calc nanos)) w m = absurd (cc)
-  not_before Data x (Some (Send bytes to tag)) w m = omega arith
-  not_before Data x (Some (Recv room from tag)) w m = absurd (cc)
-  not_before Serve x (Some (Calc nanos)) w m = absurd (cc)
-  not_before Serve x (Some (Send bytes to tag)) w m = absurd (cc)
-  not_before Serve x (Some (Recv room from tag)) w m = omega arith
-
-  pub free_first : (class : Class) (x : OpId) → waits_for_room class ≡ true → allowed plans (is_eager plans costs) (plain h) class x ≡ true → free plans costs h x ≤ time plans costs h class x
-  unfolding time allowed
-  free_first class x w a =
-      let both = and_parts (not (happened class x (plain h))) (may plans (is_eager plans costs) (plain h) class x (kind_at plans x)) a in
-      not_before class x (kind_at plans x) w both.1
 
 -- two operations of one rank at one place are at the same place as others
 same_places : (place : Op → ℕ) (x y z : OpId) (o p : Op) (q : Option Op) → x.rank ≡ y.rank → place o ≡ place p → same_place place x (Some o) z q ≡ same_place place y (Some p) z q
@@ -152,79 +126,79 @@ sole_least plans costs h queue q early least slot is = record {
     go other k has (inr d) (inr (inl l)) = inr (before_event early k l)
     go other k has (inr d) (inr (inr l)) = absurd (both_ways _ (least.1.least other k has) (before_event k early l))
 
-module _ (plans : List Plan) (costs : CostModel) (h : List Timed) (queue new : Grouped Timed) (q : IsQueue plans costs h queue) where
-  -- the keys of a station are raised to the moment at which it is free
-  module _ (slot : ℕ) (early : Timed) (is_slot : slice_get (operations plans) slot ≡ Some early.op) (has : key_at queue.keys slot ≡ Some early) (is_early : IsEarly plans costs h early.op early) (waits : waits_for_room early.class ≡ true) (later : early.time < free plans costs h early.op) (lifted : IsLifted queue.groups queue.keys new.keys slot (free plans costs h early.op)) (groups : new.groups ≡ queue.groups) where
-    -- a key that is raised is not too late
-    raised_early : (i : ℕ) (x : OpId) → slice_get (operations plans) i ≡ Some x → (k : Timed) → waits_for_room k.class ≡ true → slice_get queue.groups i ≡ slice_get queue.groups slot → IsEarly plans costs h x k → IsEarly plans costs h x (at_time (free plans costs h early.op) k)
-    raised_early i x at k w group b =
-        let together : free plans costs h x ≡ free plans costs h early.op = free_together plans costs h x early.op (q.stationed.same i slot x early.op at is_slot group) in
-        let first : free plans costs h k.op ≤ time plans costs h k.class k.op = free_first plans costs h k.class k.op w b.allowed in
-        record {
-          op = b.op;
-          allowed = b.allowed;
-          not_later = omega (arith, together, first, ap (free plans costs h) b.op);
-        }
+-- The key of a slot is too early, and n is the time of its action: this waits for room, and its station is free then.
+pub record IsHeldUp (plans : List Plan) (costs : CostModel) (h : List Timed) (keys : List (Option Timed)) (slot : ℕ) (e : Timed) (n : ℕ) : Type 0 where
+  pub is_slot : slice_get (operations plans) slot ≡ Some e.op
+  pub has : key_at keys slot ≡ Some e
+  pub waits : waits_for_room e.class ≡ true
+  pub before : e.time < n
+  pub free_then : n ≡ free plans costs h e.op
 
-    -- what a slot has now
-    abbrev IsChanged : ℕ → Type 0
-    IsChanged i =
-        (i ≡ slot) ⊎ (key_at new.keys i ≡ key_at queue.keys i) ⊎ IsRaised queue.groups queue.keys new.keys slot (free plans costs h early.op) i
+-- so it is with the least key, where its time is not that of its action
+pub held_up : (plans : List Plan) (costs : CostModel) (h : List Timed) (queue : Grouped Timed) → IsQueue plans costs h queue → (early : Timed) → ((at : ℕ) × IsLeast event_before queue.keys at early) → (slot : ℕ) → slice_get (operations plans) slot ≡ Some early.op → (a : Timed) → Possible plans costs h a → a.class ≡ early.class → a.op ≡ early.op → a.time ≢ early.time → IsHeldUp plans costs h queue.keys slot early a.time
+held_up plans costs h queue q early least slot is a possible class op differ =
+    let has = has_there plans costs h queue q early (least.0, least.1.has) slot is in
+    let times : time plans costs h a.class a.op ≡ time plans costs h early.class early.op = λ i. time plans costs h (class i) (op i) in
+    go has (waits_for_room early.class) refl (possible.time ∙ times ∙ (key_found plans costs h queue slot early q has).early.told)
+  where
+    go : key_at queue.keys slot ≡ Some early → (w : Bool) → waits_for_room early.class ≡ w → a.time ≡ (if w then max early.time (free plans costs h early.op) else early.time) → IsHeldUp plans costs h queue.keys slot early a.time
+    go has true w at = record { is_slot = is; has = has; waits = w; before = omega (arith, at, differ); free_then = omega (arith, at, differ) }
+    go has false w at = absurd (differ at)
 
-    early_now : (i : ℕ) (x : OpId) (e : Timed) → slice_get (operations plans) i ≡ Some x → key_at new.keys i ≡ Some e → IsChanged i → IsEarly plans costs h x e
-    early_now i x e at is (inl s) =
-        let now : key_at new.keys i ≡ Some (at_time (free plans costs h early.op) early) = ap (key_at new.keys) s ∙ lifted.here early has in
-        let was : key_at queue.keys i ≡ Some early = ap (key_at queue.keys) s ∙ has in
-        subst (IsEarly plans costs h x) (same_Some _ e (sym now ∙ is)) (raised_early i x at early waits (ap (slice_get queue.groups) s) (q.early i x early at was))
-    early_now i x e at is (inr (inl s)) = q.early i x e at (sym s ∙ is)
-    early_now i x e at is (inr (inr r)) =
-        subst (IsEarly plans costs h x) (same_Some _ e (sym r.has ∙ is)) (raised_early i x at r.key r.waits r.group (q.early i x r.key at r.had))
+-- the keys of a station are raised to the moment at which it is free
+module _ (plans : List Plan) (costs : CostModel) (h : List Timed) (queue new : Grouped Timed) (q : IsQueue plans costs h queue) (slot n : ℕ) (early : Timed) (up : IsHeldUp plans costs h queue.keys slot early n) (lifted : IsLifted queue.groups queue.keys new.keys slot n) (groups : new.groups ≡ queue.groups) where
+  -- a key that is raised tells the time of its action as before
+  raised_early : (i : ℕ) (x : OpId) → slice_get (operations plans) i ≡ Some x → (k : Timed) → k.time ≤ n → waits_for_room k.class ≡ true → slice_get queue.groups i ≡ slice_get queue.groups slot → IsEarly plans costs h x k → IsEarly plans costs h x (at_time n k)
+  raised_early i x at k late w group b =
+      let together : free plans costs h x ≡ free plans costs h early.op = free_together plans costs h x early.op (q.stationed.same i slot x early.op at up.is_slot group) in
+      record {
+        op = b.op;
+        allowed = b.allowed;
+        told = omega (arith, b.told, told_waiting plans costs h k w, told_waiting plans costs h (at_time n k) w, together, ap (free plans costs h) b.op, up.free_then, late);
+      }
 
-    idle_now : (i : ℕ) (x : OpId) → slice_get (operations plans) i ≡ Some x → key_at new.keys i ≡ None → IsChanged i → IsIdle plans costs h x ⊎ ⊥
-    idle_now i x at none (inl s) =
-        let now : key_at new.keys i ≡ Some (at_time (free plans costs h early.op) early) = ap (key_at new.keys) s ∙ lifted.here early has in
-        absurd (cc)
-    idle_now i x at none (inr (inl s)) = q.idle i x at (sym s ∙ none)
-    idle_now i x at none (inr (inr r)) =
-        let now : key_at new.keys i ≡ Some (at_time (free plans costs h early.op) r.key) = r.has in absurd (cc)
+  -- what a slot has now
+  abbrev IsChanged : ℕ → Type 0
+  IsChanged i =
+      (i ≡ slot) ⊎ (key_at new.keys i ≡ key_at queue.keys i) ⊎ IsRaised queue.groups queue.keys new.keys slot n i
 
-    pub lifted_queue : IsQueue plans costs h new
-    lifted_queue = record {
-      each = lifted.each ∙ q.each;
-      early = λ i x e at is. early_now i x e at is (lifted.others i);
-      idle = λ i x at none. idle_now i x at none (lifted.others i);
-      stationed = subst (AreStationed plans) (sym groups) q.stationed;
-    }
+  early_now : (i : ℕ) (x : OpId) (e : Timed) → slice_get (operations plans) i ≡ Some x → key_at new.keys i ≡ Some e → IsChanged i → IsEarly plans costs h x e
+  early_now i x e at is (inl s) =
+      let now : key_at new.keys i ≡ Some (at_time n early) = ap (key_at new.keys) s ∙ lifted.here early up.has in
+      let was : key_at queue.keys i ≡ Some early = ap (key_at queue.keys) s ∙ up.has in
+      subst (IsEarly plans costs h x) (same_Some _ e (sym now ∙ is)) (raised_early i x at early (omega (arith, up.before)) up.waits (ap (slice_get queue.groups) s) (q.early i x early at was))
+  early_now i x e at is (inr (inl s)) = q.early i x e at (sym s ∙ is)
+  early_now i x e at is (inr (inr r)) =
+      subst (IsEarly plans costs h x) (same_Some _ e (sym r.has ∙ is)) (raised_early i x at r.key r.not_later r.waits r.group (q.early i x r.key at r.had))
 
-    lag_now : (i : ℕ) → IsChanged i → lag plans costs h (key_at new.keys i) ≤ lag plans costs h (key_at queue.keys i)
-    lag_now i (inl s) =
-        let now = ap (lag plans costs h) (ap (key_at new.keys) s ∙ lifted.here early has) in
-        let was = ap (lag plans costs h) (ap (key_at queue.keys) s ∙ has) in
-        omega (arith, now, was, later)
-    lag_now i (inr (inl s)) = omega (arith, ap (lag plans costs h) s)
-    lag_now i (inr (inr r)) =
-        omega (arith, ap (lag plans costs h) r.has, ap (lag plans costs h) r.had, r.not_later)
+  idle_now : (i : ℕ) (x : OpId) → slice_get (operations plans) i ≡ Some x → key_at new.keys i ≡ None → IsChanged i → IsIdle plans costs h x ⊎ ⊥
+  idle_now i x at none (inl s) =
+      let now : key_at new.keys i ≡ Some (at_time n early) = ap (key_at new.keys) s ∙ lifted.here early up.has in
+      absurd (cc)
+  idle_now i x at none (inr (inl s)) = q.idle i x at (sym s ∙ none)
+  idle_now i x at none (inr (inr r)) = let now : key_at new.keys i ≡ Some (at_time n r.key) = r.has in absurd (cc)
 
-    pub lifted_less : slot < length queue.keys → lags plans costs h new < lags plans costs h queue
-    lifted_less within =
-        let now = ap (lag plans costs h) (lifted.here early has) in
-        let was = ap (lag plans costs h) has in
-        let first : free plans costs h early.op ≤ time plans costs h early.class early.op = free_first plans costs h early.class early.op waits is_early.allowed in
-        sum_falls (lag plans costs h) queue.keys new.keys lifted.each (λ i. lag_now i (lifted.others i)) slot within (omega (arith, now, was, later, first))
+  pub lifted_queue : IsQueue plans costs h new
+  lifted_queue = record {
+    each = lifted.each ∙ q.each;
+    early = λ i x e at is. early_now i x e at is (lifted.others i);
+    idle = λ i x at none. idle_now i x at none (lifted.others i);
+    stationed = subst (AreStationed plans) (sym groups) q.stationed;
+  }
 
-  -- a key is raised to the time of its action
-  pub put_less : (slot : ℕ) (e a : Timed) → slot < length queue.keys → key_at queue.keys slot ≡ Some e → IsEarly plans costs h e.op e → Possible plans costs h a → a.class ≡ e.class → a.op ≡ e.op → a.time ≢ e.time → new ≡ record { keys = set queue.keys slot (Some a); groups = queue.groups } → lags plans costs h new < lags plans costs h queue
-  put_less slot e a within has early possible class op differ put =
-      let times : time plans costs h a.class a.op ≡ time plans costs h e.class e.op = λ i. time plans costs h (class i) (op i) in
-      let here : key_at new.keys slot ≡ Some a = ap (λ (g : Grouped Timed). key_at g.keys slot) put ∙ get_or-set_same queue.keys slot (Some a) None within in
-      let now = ap (lag plans costs h) here in
-      let was = ap (lag plans costs h) has in
-      let less : lag plans costs h (key_at new.keys slot) < lag plans costs h (key_at queue.keys slot) = omega (arith, now, was, times, possible.time, early.not_later, differ) in
-      sum_falls (lag plans costs h) queue.keys new.keys (ap (λ (g : Grouped Timed). length g.keys) put ∙ length-set queue.keys slot (Some a)) (λ i. each i less (cases_eq i slot)) slot within less
-    where
-      each : (i : ℕ) → lag plans costs h (key_at new.keys slot) < lag plans costs h (key_at queue.keys slot) → (i ≡ slot) ⊎ (i ≢ slot) → lag plans costs h (key_at new.keys i) ≤ lag plans costs h (key_at queue.keys i)
-      each i less (inl s) =
-          subst (λ j. lag plans costs h (key_at new.keys j) ≤ lag plans costs h (key_at queue.keys j)) (sym s) (omega (arith, less))
-      each i less (inr n) =
-          let same = ap (λ (g : Grouped Timed). key_at g.keys i) put ∙ get_or-set_other queue.keys slot i (Some a) None n in
-          omega (arith, ap (lag plans costs h) same)
+  lag_now : (i : ℕ) → IsChanged i → lag plans costs h (key_at new.keys i) ≤ lag plans costs h (key_at queue.keys i)
+  lag_now i (inl s) =
+      let now = ap (lag plans costs h) (ap (key_at new.keys) s ∙ lifted.here early up.has) in
+      let was = ap (lag plans costs h) (ap (key_at queue.keys) s ∙ up.has) in
+      omega (arith, now, was, up.before)
+  lag_now i (inr (inl s)) = omega (arith, ap (lag plans costs h) s)
+  lag_now i (inr (inr r)) =
+      omega (arith, ap (lag plans costs h) r.has, ap (lag plans costs h) r.had, r.not_later)
+
+  pub lifted_less : lags plans costs h new < lags plans costs h queue
+  lifted_less =
+      let found = key_found plans costs h queue slot early q up.has in
+      let now = ap (lag plans costs h) (lifted.here early up.has) in
+      let was = ap (lag plans costs h) up.has in
+      let first : free plans costs h early.op ≤ time plans costs h early.class early.op = free_first plans costs h early.class early.op up.waits found.early.allowed in
+      sum_falls (lag plans costs h) queue.keys new.keys lifted.each (λ i. lag_now i (lifted.others i)) slot found.within (omega (arith, now, was, up.before, up.free_then, first))

@@ -17,7 +17,7 @@ use Rattle.sim_params.specs.Costs.{CostModel, is_eager}
 use Rattle.sim_params.specs.Times.{time, Possible}
 use Rattle.sim_params.specs.Run.{IsNext, IsRun, IsFinished}
 use Rattle.sim_params.specs.Laws.{at_its_time, HasBound}
-use Rattle.sim_params.proofs.ForCallers.{time_grows, run_interleaving, possible_at, least_is_next}
+use Rattle.sim_params.proofs.ForCallers.{run_interleaving, possible_at, least_is_next}
 use Rattle.sim_order.specs.Events.{event_before}
 use Rattle.sim_queue.specs.Groups.{Grouped}
 use Rattle.sim_queue.specs.Map.{key_at, IsEmptyMap, IsLeast}
@@ -27,6 +27,7 @@ use Rattle.sim_events.proofs.After.{other_op, happened_this}
 use Rattle.sim_events.proofs.Awaited.{IsConcerned, newly_allowed}
 use Rattle.sim_events.proofs.Done.{serve_or_not, served_is_done}
 use Rattle.sim_events.proofs.Keys.{before_event}
+use Rattle.sim_events.proofs.Kept.{not_later, told_itself, told_after}
 use Rattle.sim_events.proofs.Places.{listed_exists, possible_exists}
 
 -- a slot that has no key
@@ -38,20 +39,7 @@ module _ (plans : List Plan) (costs : CostModel) where
   -- the possible action is a bound of itself
   pub enabled_bound : (h : List Timed) (x : OpId) (r : Option Timed) → IsEnabledActionOf plans costs h x r → IsBoundOf plans costs h x r
   enabled_bound h x None t = t
-  enabled_bound h x (Some a) t = record { op = t.0; allowed = t.1.allowed; not_later = omega (arith, t.1.time) }
-
-  -- where some action of an operation is allowed it has an enabled action
-  pub enabled_present : (h : List Timed) (x : OpId) (c : Class) (r : Option Timed) → IsEnabledActionOf plans costs h x r → allowed plans (is_eager plans costs) (plain h) c x ≡ true → (a : Timed) × (r ≡ Some a)
-  enabled_present h x c None t p = absurd (both_ways _ (t c) p)
-  enabled_present h x c (Some a) t p = (a, refl)
-
-  pub enabled_some : (h : List Timed) (x : OpId) (a : Timed) (r : Option Timed) → IsEnabledActionOf plans costs h x r → r ≡ Some a → (a.op ≡ x) × Possible plans costs h a
-  enabled_some h x a r t e = subst (λ (o : Option Timed). IsEnabledActionOf plans costs h x o) e t
-
-  -- it is of the class that its key names
-  pub enabled_class : (h : List Timed) (e a : Timed) → IsRun plans costs h → IsEarly plans costs h e.op e → a.op ≡ e.op → Possible plans costs h a → a.class ≡ e.class
-  enabled_class h e a run early o p =
-      one_allowed plans (is_eager plans costs) (plain h) a.class e.class e.op (run_interleaving plans costs h run) (subst (λ (x : OpId). allowed plans (is_eager plans costs) (plain h) a.class x ≡ true) o p.allowed) early.allowed
+  enabled_bound h x (Some a) t = record { op = t.0; allowed = t.1.allowed; told = told_itself plans costs h a t.1.allowed t.1.time }
 
   pub early_exists : (h : List Timed) (x : OpId) (e : Timed) → IsEarly plans costs h x e → IsOp plans e.op
   early_exists h x e early =
@@ -88,7 +76,7 @@ module _ (plans : List Plan) (costs : CostModel) where
     early_stays x e d b = record {
       op = b.op;
       allowed = stays e.class e.op (λ s. d (sym b.op ∙ s)) b.allowed;
-      not_later = omega (arith, b.not_later, time_grows plans costs a h e.class e.op);
+      told = told_after plans costs a h run e b.allowed b.told;
     }
 
     -- an idle operation stays so, or it is due
@@ -210,7 +198,7 @@ module _ (plans : List Plan) (costs : CostModel) where
         found l x at early = record {
           within = l;
           is_slot = at ∙ ap Some (sym early.op);
-          early = record { op = refl; allowed = early.allowed; not_later = early.not_later };
+          early = record { op = refl; allowed = early.allowed; told = early.told };
         }
 
         go : (slot < length queue.keys) ⊎ (length queue.keys ≤ slot) → IsFound queue.keys slot e
@@ -218,13 +206,6 @@ module _ (plans : List Plan) (costs : CostModel) where
         go (inl l) =
             let at : slice_get (operations plans) slot ≡ Some (get_or (operations plans) slot e.op) = slice_get-get_or (operations plans) slot e.op (omega (arith, l, q.each)) in
             found l _ at (q.early slot _ e at has)
-
-    -- a key that is raised to the time of its action
-    pub raised : (queue new : Grouped Timed) (slot : ℕ) (e a : Timed) → IsQueue plans costs h queue → key_at queue.keys slot ≡ Some e → Possible plans costs h a → a.op ≡ e.op → new ≡ record { keys = slice_set queue.keys slot (Some a); groups = queue.groups } → IsQueue plans costs h new
-    raised queue new slot e a q has p o put =
-        let early : IsEarly plans costs h e.op a = record { op = o; allowed = p.allowed; not_later = omega (arith, p.time) } in
-        let put_anew : IsRefreshed plans costs h e.op queue new = record { slot = slot; is_slot = (key_found queue slot e q has).is_slot; key = Some a; bound = early; put = put } in
-        refreshed (λ (y : OpId). ⊥) (λ (y : OpId). ⊥) queue new e.op q put_anew (λ y o none d. none)
 
     module _ (run : IsRun plans costs h) (queue : Grouped Timed) (q : IsQueue plans costs h queue) where
       abbrev InQueue : Timed → Type 0
@@ -255,7 +236,7 @@ module _ (plans : List Plan) (costs : CostModel) where
                 queued = (slot, has);
                 class = class;
                 op = early.op;
-                time = omega (arith, early.not_later, times, p.time);
+                time = omega (arith, not_later plans costs h b.op e early, times, p.time);
               }
 
       -- an empty queue: nothing is possible

@@ -1,5 +1,5 @@
 -- What the queue of an engine holds: for each operation that has a possible action a time that is never too late.
-use Rattle.std.specs.Prelude.{ℕ, ◌-◌, ◌≡◌, ◌≢◌, ◌≤◌, ◌⊎◌, Bool, true, false, List, Contains, length, Option, Some, None, slice_get, slice_set}
+use Rattle.std.specs.Prelude.{ℕ, ◌-◌, ◌≡◌, ◌≢◌, ◌⊎◌, Bool, true, false, List, Contains, length, max, Option, Some, None, if◌then◌else◌, slice_get, slice_set}
 use Rattle.std.specs.List.{sum_by}
 use Rattle.goal_graph.specs.declared.action.OpId.{OpId}
 use Rattle.goal_graph.specs.declared.action.Timed.{Timed}
@@ -15,7 +15,8 @@ use Rattle.sim_params.specs.Costs.{CostModel, is_eager}
 use Rattle.sim_params.specs.Times.{mate, time, Possible}
 use Rattle.sim_queue.specs.Map.{key_at}
 use Rattle.sim_queue.specs.Groups.{Grouped}
-use Rattle.sim_events.specs.Stations.{AreStationed}
+use Rattle.sim_queue.specs.Floors.{waits_for_room}
+use Rattle.sim_events.specs.Stations.{AreStationed, free}
 
 -- some slot has this key
 abbrev pub HasKey : List (Option Timed) → Timed → Type 0
@@ -52,11 +53,16 @@ module _ (plans : List Plan) where
     IsEnabledActionOf x None = IsIdle x
     IsEnabledActionOf x (Some a) = (a.op ≡ x) × Possible plans costs h a
 
-    -- the possible action of x, at a time that is not later than its own
+    -- the time that a key tells of its action: its own or, where the action waits for room, that at which its station is
+    -- free, if this is later
+    abbrev pub told_time : Timed → ℕ
+    told_time e = if waits_for_room e.class then max e.time (free plans costs h e.op) else e.time
+
+    -- the possible action of x, at a time that is not later than its own: only its station can make it later
     pub record IsEarly (x : OpId) (e : Timed) : Type 0 where
       pub op : e.op ≡ x
       pub allowed : allowed plans (is_eager plans costs) (plain h) e.class e.op ≡ true
-      pub not_later : e.time ≤ time plans costs h e.class e.op
+      pub told : time plans costs h e.class e.op ≡ told_time e
 
     -- that, or none where x has no possible action
     abbrev pub IsBoundOf : OpId → Option Timed → Type 0

@@ -213,7 +213,7 @@ impl<'a, C: Costs> Engine<'a, C> {
     {
         let mut steps = Steps::<L>::new(blank);
         self.known();
-        let action = next(&self.state, &mut self.queue, &self.cursors, &mut steps)?;
+        let action = next(&self.state, &mut self.queue, &mut steps)?;
         self.state.perform(action);
         follow(
             &self.state,

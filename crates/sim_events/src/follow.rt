@@ -10,7 +10,7 @@ ghost use Rattle.sim_queue.specs.Map.{IsEmptyMap, IsLeast};
 ghost use Rattle.sim_queue.specs.Floors.{waits_for_room};
 ghost use Rattle.sim_events.specs.Stations.{AreStationed};
 ghost use Rattle.sim_events.specs.Cursors.{IsCursorOf, AreCursors};
-ghost use Rattle.sim_events.specs.Queue.{IsEarly, IsQueue, IsQueueBut, IsQueueWithout, HasEarlyKeys, IsRefreshed, IsDueAfter, Awaits, gives, IsEnabledActionOf, lags};
+ghost use Rattle.sim_events.specs.Queue.{IsEarly, IsQueue, IsQueueBut, IsQueueWithout, HasEarlyKeys, IsRefreshed, IsDueAfter, Awaits, gives, IsEnabledActionOf};
 
 use crate::cursor::Cursor;
 use crate::state::State;
@@ -51,11 +51,9 @@ pub fn fill<C: Costs, L: Ledger>(
 pub fn next<C: Costs, L: Ledger>(
     state: &State<C>,
     queue: &mut Queue,
-    cursors: &[Cursor],
     steps: &mut Steps<L>,
 ) -> Option<Timed>
     requires queue { IsQueue state.now.plans (C.model state.now.costs) state.now.history queue.old }
-    requires cursors { AreCursors state.now.plans (C.model state.now.costs) state.now.history cursors.now }
     ensures without { IfSome result (λ a. IsQueueWithout state.now.plans (C.model state.now.costs) state.now.history a.op queue.new) }
     ensures queue { IfNone result (IsQueue state.now.plans (C.model state.now.costs) state.now.history queue.new) }
     ensures next { IfSome result (IsNext state.now.plans (C.model state.now.costs) state.now.history) }
@@ -63,41 +61,15 @@ pub fn next<C: Costs, L: Ledger>(
 {
     state.known();
     'looks: while let Some(early) = least(queue, steps) {
-        let action = action_of(state, cursors, early);
+        let action = action_of(state, early);
+        let slot = state.sched().index(early.op);
         if action.time == early.time {
-            queue.take(state.sched().index(early.op), steps);
+            queue.take(slot, steps);
             return Some(action);
         }
-        raise(state, queue, early, action, steps);
+        queue.lift(slot, action.time, steps);
     }
     None
-}
-
-// Raises the least key, which is too early, or those of its station to the moment at which it is free.
-fn raise<C: Costs, L: Ledger>(
-    state: &State<C>,
-    queue: &mut Queue,
-    early: Timed,
-    action: Timed,
-    steps: &mut Steps<L>,
-)
-    requires queue { IsQueue state.now.plans (C.model state.now.costs) state.now.history queue.old }
-    requires least { (slot : ℕ) × IsLeast event_before queue.old.keys slot early }
-    requires possible { Possible state.now.plans (C.model state.now.costs) state.now.history action }
-    requires class { action.class ≡ early.class }
-    requires op { action.op ≡ early.op }
-    requires differ { action.time ≢ early.time }
-    ensures queue { IsQueue state.now.plans (C.model state.now.costs) state.now.history queue.new }
-    ensures less { lags state.now.plans (C.model state.now.costs) state.now.history queue.new < lags state.now.plans (C.model state.now.costs) state.now.history queue.old }
-{
-    let slot = state.sched().index(early.op);
-    let free = state.free(early.op);
-    if waits_for_room(early.class) && early.time < free {
-        queue.lift(slot, free, steps);
-        return;
-    }
-    queue.take(slot, steps);
-    queue.put(slot, key_of(state, action), steps);
 }
 
 // Whether actions of a class wait for a cpu or an interface.
@@ -123,20 +95,19 @@ fn least<L: Ledger>(queue: &Queue, steps: &mut Steps<L>) -> Option<Timed>
     })
 }
 
-// The possible action of an operation of which the queue has an early key.
-fn action_of<C: Costs>(state: &State<C>, cursors: &[Cursor], early: Timed) -> Timed
-    requires early { IsEarly state.now.plans (C.model state.now.costs) state.now.history early.op early }
-    requires cursors { AreCursors state.now.plans (C.model state.now.costs) state.now.history cursors.now }
+// The possible action of which the queue has an early key: only its station can make it later.
+fn action_of<C: Costs>(state: &State<C>, early: Timed) -> Timed
+    requires { IsEarly state.now.plans (C.model state.now.costs) state.now.history early.op early }
     ensures possible { Possible state.now.plans (C.model state.now.costs) state.now.history result }
     ensures class { result.class ≡ early.class }
     ensures op { result.op ≡ early.op }
 {
-    state.known();
-    let mut cursor = cursor_of(state, cursors, early.op);
-    let Some(action) = state.choice(early.op, &mut cursor) else {
-        unreachable!()
+    let time = if waits_for_room(early.class) {
+        early.time.max(state.free(early.op))
+    } else {
+        early.time
     };
-    action
+    Timed { time, ..early }
 }
 
 // The key of an action.

@@ -1,0 +1,137 @@
+-- What operations wait for stays as it is once it is there. So the time of an allowed action rises only with that at which
+-- its station is free.
+use Rattle.std.proofs.Common.{◌≡◌, ◌≤◌, ◌+◌, ◌||◌, ◌&&◌, ℕ, max, Bool, true, false, not, List, [], ◌∷◌, Option, Some, None, if◌then◌else◌, refl, sym, ap, ap₂, ◌∙◌, arith}
+use Rattle.std.specs.List.{list_all}
+use Rattle.std.proofs.lemmas.Bool.{and_parts, both_ways, cond-true}
+use Rattle.goal_graph.specs.declared.action.OpId.{OpId}
+use Rattle.goal_graph.specs.declared.action.Timed.{Timed}
+use Rattle.goal_graph.specs.declared.action.Class.{Class}
+use Rattle.goal_graph.specs.declared.action.Class.TheVariants.{Arrive, Serve, Data, Post, Begin}
+use Rattle.goal_graph.specs.declared.plan.Kind.{Kind}
+use Rattle.goal_graph.specs.declared.plan.Kind.TheVariants.{Calc, Send, Recv}
+use Rattle.goal_graph.specs.declared.plan.Need.{Need}
+use Rattle.goal_graph.specs.declared.plan.When.{When}
+use Rattle.goal_graph.specs.declared.plan.When.TheVariants.{AfterEnd, AfterStart}
+use Rattle.goal_graph.specs.Schedule.{Plan, kind_at, needs, needed}
+use Rattle.goal_graph.specs.Action.{happened, plain, plain_act}
+use Rattle.goal_graph.specs.Matching.{pairs, is_paired}
+use Rattle.goal_graph.specs.Allowed.{is_met, is_ready, is_served, may, allowed}
+use Rattle.goal_graph.specs.Laws.{IsSend}
+use Rattle.goal_graph.proofs.ForCallers.{and_left, and_right, started_send, started_stays, ended_stays, is_some_from}
+use Rattle.sim_params.specs.Costs.{CostModel, flight, is_eager}
+use Rattle.sim_params.specs.Times.{since, mate, greatest, met_at, ready, cpu, tx, rx, paired_at, there_at, time_of, time}
+use Rattle.sim_params.specs.Run.{IsRun}
+use Rattle.sim_params.proofs.ForCallers.{run_each, start_kept, end_kept, paired_at_kept, mate_stays, since_kept}
+use Rattle.sim_queue.specs.Floors.{waits_for_room}
+use Rattle.sim_events.specs.Stations.{free, free_of}
+use Rattle.sim_events.specs.Cursors.{is_there, there_at as moment_at}
+use Rattle.sim_events.specs.Queue.{IsEarly, told_time}
+
+-- the time that a key tells of an action that waits for room
+pub told_waiting : (plans : List Plan) (costs : CostModel) (h : List Timed) (e : Timed) → waits_for_room e.class ≡ true → told_time plans costs h e ≡ max e.time (free plans costs h e.op)
+told_waiting plans costs h e w = cond-true _ _ _ w
+
+-- a key is not too late
+pub not_later : (plans : List Plan) (costs : CostModel) (h : List Timed) (x : OpId) (e : Timed) → IsEarly plans costs h x e → e.time ≤ time plans costs h e.class e.op
+not_later plans costs h x e b = omega (arith, b.told, within (waits_for_room e.class) e.time (free plans costs h e.op))
+  where
+    within : (w : Bool) (n f : ℕ) → n ≤ (if w then max n f else n)
+    within true n f = omega arith
+    within false n f = omega arith
+
+module _ (plans : List Plan) (costs : CostModel) (h : List Timed) where
+  -- what waits is not possible before all is free
+  not_before : (class : Class) (x : OpId) (k : Option Kind) → waits_for_room class ≡ true → may plans (is_eager plans costs) (plain h) class x k ≡ true → free_of plans costs h x k ≤ time_of plans costs h class x k
+  not_before class x None w m = omega arith
+  not_before Arrive x (Some k) w m = absurd (cc)
+  not_before Post x (Some k) w m = absurd (cc)
+  not_before Begin x (Some (Calc nanos)) w m = omega arith
+  not_before Begin x (Some (Send bytes to tag)) w m = omega arith
+  not_before Begin x (Some (Recv room from tag)) w m = absurd (cc)
+  not_before Data x (Some (Calc nanos)) w m = absurd (cc)
+  not_before Data x (Some (Send bytes to tag)) w m = omega arith
+  not_before Data x (Some (Recv room from tag)) w m = absurd (cc)
+  not_before Serve x (Some (Calc nanos)) w m = absurd (cc)
+  not_before Serve x (Some (Send bytes to tag)) w m = absurd (cc)
+  not_before Serve x (Some (Recv room from tag)) w m = omega arith
+
+  pub free_first : (class : Class) (x : OpId) → waits_for_room class ≡ true → allowed plans (is_eager plans costs) (plain h) class x ≡ true → free plans costs h x ≤ time plans costs h class x
+  unfolding time allowed
+  free_first class x w a =
+      let both = and_parts (not (happened class x (plain h))) (may plans (is_eager plans costs) (plain h) class x (kind_at plans x)) a in
+      not_before class x (kind_at plans x) w both.1
+
+  -- the time of an action, told by itself
+  pub told_itself : (e : Timed) → allowed plans (is_eager plans costs) (plain h) e.class e.op ≡ true → e.time ≡ time plans costs h e.class e.op → time plans costs h e.class e.op ≡ told_time plans costs h e
+  told_itself e p at = sym at ∙ go (waits_for_room e.class) (λ w. free_first e.class e.op w p)
+    where
+      go : (w : Bool) → (w ≡ true → free plans costs h e.op ≤ time plans costs h e.class e.op) → e.time ≡ (if w then max e.time (free plans costs h e.op) else e.time)
+      go true first = omega (arith, first refl, at)
+      go false first = refl
+
+module _ (plans : List Plan) (costs : CostModel) (a : Timed) (h : List Timed) where
+  -- a station is not free sooner
+  free_of_grows : (x : OpId) (k : Option Kind) → free_of plans costs h x k ≤ free_of plans costs (a ∷ h) x k
+  unfolding cpu tx rx
+  free_of_grows x None = omega arith
+  free_of_grows x (Some (Calc nanos)) = omega arith
+  free_of_grows x (Some (Send bytes to tag)) = omega arith
+  free_of_grows x (Some (Recv room from tag)) = omega arith
+
+  module _ (run : IsRun plans costs h) where
+    -- a moment that is there stays
+    met_kept : (w : When) (y : OpId) → is_met plans (is_eager plans costs) (plain h) w y ≡ true → (is_met plans (is_eager plans costs) (plain (a ∷ h)) w y ≡ true) × (met_at plans costs (a ∷ h) w y ≡ met_at plans costs h w y)
+    unfolding plain
+    met_kept AfterEnd y e = (ended_stays plans (is_eager plans costs) (plain_act a) (plain h) y e, end_kept plans costs a h y (run_each plans costs h run) e)
+    met_kept AfterStart y e = (started_stays plans (plain_act a) (plain h) y e, start_kept plans costs a h y e)
+
+    pub all_kept : (x : OpId) (ds : List Need) → list_all (is_there plans costs h x) ds ≡ true → (list_all (is_there plans costs (a ∷ h) x) ds ≡ true) × (greatest (moment_at plans costs (a ∷ h) x) ds ≡ greatest (moment_at plans costs h x) ds)
+    unfolding greatest
+    all_kept x [] e = (refl, refl)
+    all_kept x (d ∷ ds) e =
+        let this = met_kept d.when (needed x d) (and_left _ _ e) in
+        let rest = all_kept x ds (and_right _ _ e) in
+        (ap₂ (λ (s t : Bool). s && t) this.0 rest.0, ap₂ max this.1 rest.1)
+
+    ready_kept : (x : OpId) → is_ready plans (is_eager plans costs) (plain h) x ≡ true → ready plans costs (a ∷ h) x ≡ ready plans costs h x
+    unfolding is_ready ready
+    ready_kept x e = (all_kept x (needs plans x) e).1
+
+    -- a message that is there is there since the same time
+    message_kept : (x : OpId) → is_served plans (is_eager plans costs) (plain h) (mate plans costs h x) ≡ true → there_at plans costs (a ∷ h) x (mate plans costs (a ∷ h) x) ≡ there_at plans costs h x (mate plans costs h x)
+    message_kept x e = go (mate plans costs h x) refl e
+      where
+        part : (m : OpId) (b : Bool) → is_paired (pairs plans (plain h)) x ≡ true → (b || happened Data m (plain h)) ≡ true → (if b then paired_at plans costs (a ∷ h) x else since (happened Data m) (a ∷ h) + flight plans costs m) ≡ (if b then paired_at plans costs h x else since (happened Data m) h + flight plans costs m)
+        part m true paired e = paired_at_kept plans costs a h x paired
+        part m false paired e = ap (λ (n : ℕ). n + flight plans costs m) (since_kept (happened Data m) a h e)
+
+        go : (o : Option OpId) → mate plans costs h x ≡ o → is_served plans (is_eager plans costs) (plain h) o ≡ true → there_at plans costs (a ∷ h) x (mate plans costs (a ∷ h) x) ≡ there_at plans costs h x o
+        go None is e = absurd (both_ways false refl e)
+        go (Some m) is e =
+            ap (there_at plans costs (a ∷ h) x) (mate_stays plans costs a h x m is) ∙ part m (is_eager plans costs m) (is_some_from _ m is) e
+
+    -- the time of an action that may happen, after one more
+    after : (class : Class) (x : OpId) (k : Option Kind) → kind_at plans x ≡ k → may plans (is_eager plans costs) (plain h) class x k ≡ true
+        → time_of plans costs (a ∷ h) class x k ≡ (if waits_for_room class then max (time_of plans costs h class x k) (free_of plans costs (a ∷ h) x k) else time_of plans costs h class x k)
+    after Begin x (Some (Calc nanos)) is m = omega (arith, ready_kept x m, free_of_grows x (Some (Calc nanos)))
+    after Begin x (Some (Send bytes to tag)) is m = omega (arith, ready_kept x m, free_of_grows x (Some (Send bytes to tag)))
+    after Post x (Some (Recv room from tag)) is m = ready_kept x m
+    after Arrive x (Some (Send bytes to tag)) is m =
+        let send : IsSend plans x = record { bytes = bytes; to = to; tag = tag; kind = is } in
+        omega (arith, start_kept plans costs a h x (started_send plans (plain h) x send ∙ m))
+    after Data x (Some (Send bytes to tag)) is m =
+        omega (arith, paired_at_kept plans costs a h x (and_parts _ _ m).1, free_of_grows x (Some (Send bytes to tag)))
+    after Serve x (Some (Recv room from tag)) is m = omega (arith, message_kept x m, free_of_grows x (Some (Recv room from tag)))
+    after _ x _ is m = absurd (both_ways false refl m)
+
+    time_after : (class : Class) (x : OpId) → allowed plans (is_eager plans costs) (plain h) class x ≡ true → time plans costs (a ∷ h) class x ≡ (if waits_for_room class then max (time plans costs h class x) (free plans costs (a ∷ h) x) else time plans costs h class x)
+    unfolding time allowed
+    time_after class x p = after class x (kind_at plans x) refl (and_parts (not (happened class x (plain h))) _ p).1
+
+    -- so what a key tells of the time of its action stays right
+    pub told_after : (e : Timed) → allowed plans (is_eager plans costs) (plain h) e.class e.op ≡ true → time plans costs h e.class e.op ≡ told_time plans costs h e → time plans costs (a ∷ h) e.class e.op ≡ told_time plans costs (a ∷ h) e
+    told_after e p told = time_after e.class e.op p ∙ go (waits_for_room e.class) _ _ _ _ (free_of_grows e.op (kind_at plans e.op)) told
+      where
+        go : (w : Bool) (t n f g : ℕ) → f ≤ g → t ≡ (if w then max n f else n) → (if w then max t g else t) ≡ (if w then max n g else n)
+        go true t n f g l e = omega (arith, l, e)
+        go false t n f g l e = e
