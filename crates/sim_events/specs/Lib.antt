@@ -10,6 +10,7 @@ pub mod Shapes
 pub mod Represents
 pub mod Stations
 pub mod Cursors
+pub mod Outlook
 -- What the clauses cite of lower crates.
 pub use Rattle.goal_graph.specs.Action
 pub use Rattle.goal_graph.specs.Fault

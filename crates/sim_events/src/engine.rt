@@ -69,6 +69,13 @@ pub struct Record {
 pub struct Engine<'a, C: Costs> {
     // what has happened, and what is known of each operation
     state: State<'a, C>,
+    // what may come, given back by a run once nothing may
+    outlook: Option<Outlook>,
+}
+
+// What may come.
+#[derive(Drop)]
+struct Outlook {
     // the possible actions, each at a time that is never too late
     queue: Queue,
     // how far the needs of each operation have been looked at
@@ -77,14 +84,13 @@ pub struct Engine<'a, C: Costs> {
 
 impl<'a, C: Costs> Model for Engine<'a, C> {
     ghost use Rattle.sim_events.specs.Engine.{View};
-    ghost use Rattle.sim_events.specs.Queue.{IsQueue};
-    ghost use Rattle.sim_events.specs.Cursors.{AreCursors};
+    ghost use Rattle.sim_events.specs.Outlook.{IsOutlook};
 
     ghost Value = { View C };
 
     ghost view = { λ e. e.state };
 
-    ghost invariant = { λ e. IsQueue e.state.plans (C.model e.state.costs) e.state.history e.queue × AreCursors e.state.plans (C.model e.state.costs) e.state.history e.cursors.items };
+    ghost invariant = { λ e. IsOutlook e.state.plans (C.model e.state.costs) e.state.history e.outlook };
 }
 
 // The cursors of all operations, each before the first need.
@@ -112,8 +118,7 @@ impl<'a, C: Costs + Drop> Engine<'a, C> {
         fill::<C, Brand>(Blank::new(1), &state, &mut queue, &mut cursors);
         Ok(Engine {
             state,
-            queue,
-            cursors,
+            outlook: Some(Outlook { queue, cursors }),
         })
     }
 }
@@ -131,7 +136,7 @@ impl<'a, C: Costs> Engine<'a, C> {
         self.step_counted::<Brand>(Blank::new(1))
     }
 
-    /// Lets all that is possible happen, until nothing is.
+    /// Lets all that is possible happen, until nothing is. Then it gives back the memory that steps need.
     ///
     /// - `complete`: what has happened is a complete run, and `only` one is.
     /// - `three_each`: no operation has more than three actions.
@@ -148,6 +153,7 @@ impl<'a, C: Costs> Engine<'a, C> {
         ensures interleaving { IsCompleteInterleaving self.new.plans (is_eager self.new.plans (C.model self.new.costs)) (plain self.new.history) }
     {
         'steps: while self.step().is_some() {}
+        self.outlook = None;
     }
 
     /// Whether nothing is possible.
@@ -155,7 +161,10 @@ impl<'a, C: Costs> Engine<'a, C> {
         ensures { IsTrue result ↔ IsFinished self.now.plans (C.model self.now.costs) self.now.history }
     {
         self.known();
-        is_empty::<Brand>(Blank::new(1), &self.queue)
+        match &self.outlook {
+            Some(outlook) => is_empty::<Brand>(Blank::new(1), &outlook.queue),
+            None => true,
+        }
     }
 
     /// What has happened, oldest first.
@@ -213,15 +222,12 @@ impl<'a, C: Costs> Engine<'a, C> {
     {
         let mut steps = Steps::<L>::new(blank);
         self.known();
-        let action = next(&self.state, &mut self.queue, &mut steps)?;
+        let Some(Outlook { queue, cursors }) = &mut self.outlook else {
+            return None;
+        };
+        let action = next(&self.state, queue, &mut steps)?;
         self.state.perform(action);
-        follow(
-            &self.state,
-            &mut self.queue,
-            &mut self.cursors,
-            action,
-            &mut steps,
-        );
+        follow(&self.state, queue, cursors, action, &mut steps);
         Some(action)
     }
 }

@@ -1,6 +1,10 @@
+use Rattle.std.proofs.Common.{subst}
+use Rattle.sim_events.specs.Outlook.{IsOutlook}
 use Rattle.sim_events.proofs.Steps.{done_at}
 use Rattle.sim_events.proofs.engine.Engine.is_done.Goals as goal
 
-pub returns : goal.returns
-returns g c =
-    done_at g.C.Costs.model _ _ _ _ c.self.view_is c.known.ensures.run c.self.invariant.0 c.is_empty.ensures
+pub returns-in-Some : goal.returns-in-Some
+returns-in-Some g c =
+    let state = c.self.inside.state in
+    let outlook = subst (IsOutlook state.plans (g.C.Costs.model state.costs) state.history) c.in-Some.is c.self.invariant in
+    done_at g.C.Costs.model _ _ _ _ c.self.view_is c.known.ensures.run outlook.0 c.is_empty.ensures

@@ -2,6 +2,7 @@ use Rattle.std.proofs.Common.{refl, sym, subst}
 use Rattle.sim_params.specs.Run.{IsRun}
 use Rattle.sim_events.specs.Engine.{View}
 use Rattle.sim_events.specs.Cursors.{AreCursors}
+use Rattle.sim_events.specs.Outlook.{IsOutlook}
 use Rattle.sim_events.proofs.Cursors.{cursors_after}
 use Rattle.sim_events.proofs.Steps.{next_of, without_of, op_after, due_after}
 use Rattle.sim_events.proofs.engine.Engine.step_counted.Goals as goal
@@ -28,4 +29,5 @@ follow-requires-clause-cursors g c =
     let state = c.self.inside.state in
     let after = c.perform.new.self in
     let run = subst (λ (v : View _). IsRun v.plans (model v.costs) v.history) (sym c.self.view_is) c.known.ensures.run in
-    subst (AreCursors after.plans (model after.costs) after.history) (sym c.deref_mut.ensures.value) (cursors_after model state after c.in_ok-action.action c.self.inside.cursors.items c.perform.ensures run c.self.invariant.1)
+    let outlook = subst (IsOutlook state.plans (model state.costs) state.history) c.in-Some.is c.self.invariant in
+    subst (AreCursors after.plans (model after.costs) after.history) (sym c.deref_mut.ensures.value) (cursors_after model state after c.in_ok-action.action _ c.perform.ensures run outlook.1)
