@@ -24,8 +24,9 @@ use Rattle.sim_params.specs.Run.{IsRun}
 use Rattle.sim_params.proofs.ForCallers.{run_each, start_kept, end_kept, paired_at_kept, mate_stays, since_kept}
 use Rattle.sim_queue.specs.Floors.{waits_for_room}
 use Rattle.sim_events.specs.Stations.{free, free_of}
-use Rattle.sim_events.specs.Cursors.{is_there, there_at as moment_at}
+use Rattle.sim_events.specs.Cursors.{is_there}
 use Rattle.sim_events.specs.Queue.{IsEarly, told_time}
+use Rattle.sim_events.proofs.Ready.{there_at as moment_at}
 
 -- the time that a key tells of an action that waits for room
 pub told_waiting : (plans : List Plan) (costs : CostModel) (h : List Timed) (e : Timed) → waits_for_room e.class ≡ true → told_time plans costs h e ≡ max e.time (free plans costs h e.op)

@@ -8,22 +8,17 @@ use Rattle.goal_graph.specs.Schedule.{Plan, needs, needed, operations}
 use Rattle.goal_graph.specs.Action.{plain}
 use Rattle.goal_graph.specs.Allowed.{is_met}
 use Rattle.sim_params.specs.Costs.{CostModel, is_eager}
-use Rattle.sim_params.specs.Times.{greatest, met_at}
 use Rattle.sim_events.specs.declared.cursor.Cursor.{Cursor}
 
 module _ (plans : List Plan) (costs : CostModel) (h : List Timed) where
-  -- whether the moment that x waits for by this need is there, and when it is
+  -- whether the moment that x waits for by this need is there
   abbrev pub is_there : OpId → Need → Bool
   is_there x d = is_met plans (is_eager plans costs) (plain h) d.when (needed x d)
 
-  abbrev pub there_at : OpId → Need → ℕ
-  there_at x d = met_at plans costs h d.when (needed x d)
-
-  -- the needs of x before the cursor are met, and it has the last of their moments
+  -- the needs of x before the cursor are met
   pub record IsCursorOf (x : OpId) (c : Cursor) : Type 0 where
     pub within : c.at ≤ length (needs plans x)
     pub met : list_all (is_there x) (take c.at (needs plans x)) ≡ true
-    pub ready : c.ready ≡ greatest (there_at x) (take c.at (needs plans x))
 
   -- there is a cursor for each operation, in their order
   pub record AreCursors (cursors : List Cursor) : Type 0 where

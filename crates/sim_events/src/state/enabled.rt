@@ -195,24 +195,43 @@ impl<'a, C: Costs> State<'a, C> {
         ensures ready { result ≡ ready_known self.now.plans (C.model self.now.costs) self.now.history id }
         ensures cursor { IsCursorOf self.now.plans (C.model self.now.costs) self.now.history id cursor.new }
     {
+        // a schedule has so few dependencies that a place among them fits 32 bits
+        let _plans = self.sched.plans();
         let needs = self.sched.needs(id);
-        for at in cursor.at..needs.len() {
+        for at in cursor.at as usize..needs.len() {
             let need = needs[at];
             let needed = OpId {
                 rank: id.rank,
                 op: need.op,
             };
+            if self.moment(need.when, needed).is_none() {
+                *cursor = Cursor { at: at as u32 };
+                return None;
+            }
+        }
+        *cursor = Cursor {
+            at: needs.len() as u32,
+        };
+        self.last_moment(id)
+    }
+
+    // The last of the moments that an operation needs, once all are there.
+    fn last_moment(&self, id: OpId) -> Option<u64>
+        requires { IsOp self.now.plans id }
+        ensures { result ≡ ready_known self.now.plans (C.model self.now.costs) self.now.history id }
+    {
+        let mut last: u64 = 0;
+        for need in self.sched.needs(id) {
+            let needed = OpId {
+                rank: id.rank,
+                op: need.op,
+            };
             match self.moment(need.when, needed) {
-                Some(moment) => {
-                    *cursor = Cursor {
-                        at: at + 1,
-                        ready: cursor.ready.max(moment),
-                    }
-                }
+                Some(moment) => last = last.max(moment),
                 None => return None,
             }
         }
-        Some(cursor.ready)
+        Some(last)
     }
 
     // The moment of an operation that a dependency waits for, once it is there.

@@ -1,8 +1,7 @@
-use Rattle.std.proofs.Common.{◌≡◌}
 use Rattle.sim_events.specs.Cursors.{IsCursorOf}
 use Rattle.sim_events.proofs.state.State.ready.Given as goal
 
 -- the needs before this place are met
 abbrev pub invariant-loop-at : goal.invariant-loop-at
 invariant-loop-at g l =
-    (l.cursor.at ≡ l.at) × IsCursorOf l.self.plans (g.C.Costs.model l.self.costs) l.self.history l.id l.cursor
+    IsCursorOf l.self.plans (g.C.Costs.model l.self.costs) l.self.history l.id (record { at = l.at })
