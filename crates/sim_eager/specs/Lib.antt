@@ -1,3 +1,5 @@
+-- What a reader must believe.
+pub mod Messages
 -- What the clauses cite of lower crates.
 pub use Rattle.goal_graph.specs.Laws
 pub use Rattle.sim_params.specs.Costs

@@ -1,10 +1,11 @@
 // A receive takes its message.
 ghost use Rattle.std.specs.Prelude.{◌≡◌, ◌+◌, ◌<◌, ◌^◌, max};
-ghost use Rattle.goal_graph.specs.Laws.{IsSend, IsReceive};
+ghost use Rattle.goal_graph.specs.Laws.{IsReceive};
 ghost use Rattle.sim_params.specs.Costs.{over, gap};
 ghost use Rattle.sim_resources.specs.FreeTimes.{SameFreeTimes, cpu_free, rx_free, hold_cpu, hold_rx};
+ghost use Rattle.sim_eager.specs.Messages.{IsMessage};
 
-use goal_graph::{OpId, Sched};
+use goal_graph::{OpId, Sched, laws_of_schedules};
 use sim_params::Costs;
 use sim_resources::Resources;
 
@@ -18,8 +19,8 @@ pub fn serve_at(res: &Resources, recv: OpId, from: u64) -> u64
     from.max(res.cpu(recv).max(res.rx(recv)))
 }
 
-/// Takes the message of the send at the time `at`, and answers when the receive ends: it holds its cpu and the
-/// receiving side of its interface by the size of the message, and nothing else changes.
+/// Takes the message of the send, of so many bytes to a rank, at the time `at`, and answers when the receive ends: it
+/// holds its cpu and the receiving side of its interface by the size of the message, and nothing else changes.
 #[tactic(auto, using(goal_graph::proofs::ForCallers::receive_is_op))]
 pub fn serve<C: Costs>(
     sched: &Sched,
@@ -27,11 +28,13 @@ pub fn serve<C: Costs>(
     res: &mut Resources,
     recv: OpId,
     send: OpId,
+    to: u32,
+    bytes: u64,
     at: u64,
 ) -> u64
     requires same_schedule { res.old.plans ≡ sched.now }
     requires receives { IsReceive sched.now recv }
-    requires sends { IsSend sched.now send }
+    requires message { IsMessage sched.now send to bytes }
     requires over_fits { at + over sched.now (C.model costs.now) send < 2 ^ 63 }
     requires gap_fits { at + gap sched.now (C.model costs.now) send < 2 ^ 63 }
 
@@ -39,9 +42,10 @@ pub fn serve<C: Costs>(
     ensures holds { SameFreeTimes res.new
         (hold_rx (hold_cpu res.old recv result) recv (at + gap sched.now (C.model costs.now) send)) }
 {
-    let message = sched.message(send);
-    let end = at + costs.over(send.rank, message.to, message.bytes);
-    let received = at + costs.gap(send.rank, message.to, message.bytes);
+    sched.known();
+    laws_of_schedules();
+    let end = at + costs.over(send.rank, to, bytes);
+    let received = at + costs.gap(send.rank, to, bytes);
     res.hold_cpu(recv, end);
     res.hold_rx(recv, received);
     end
