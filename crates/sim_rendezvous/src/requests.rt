@@ -1,8 +1,8 @@
 // The request of a large send, and its clearance.
-ghost use Rattle.std.specs.Prelude.{◌≡◌, ◌+◌, ◌<◌, ◌^◌};
-ghost use Rattle.goal_graph.specs.Laws.{IsSend};
+ghost use Rattle.std.specs.Prelude.{◌≡◌, ℕ, ◌+◌, ◌<◌, ◌^◌};
 ghost use Rattle.sim_params.specs.Costs.{over_one, gap_one, flight_one, latency};
 ghost use Rattle.sim_resources.specs.FreeTimes.{SameFreeTimes, hold_cpu, hold_tx};
+ghost use Rattle.sim_eager.specs.Messages.{IsMessage};
 
 use goal_graph::{OpId, Sched};
 use sim_eager::transfer;
@@ -12,11 +12,18 @@ use sim_resources::Resources;
 /// The bytes of a request.
 const REQUEST: u64 = 1;
 
-/// Begins a large send at the time `at`, and answers when its request arrives: the request of one byte holds the cpu of
-/// the send and the sending side of its interface, and nothing else changes.
-pub fn request<C: Costs>(sched: &Sched, costs: &C, res: &mut Resources, send: OpId, at: u64) -> u64
+/// Begins a large send to a rank at the time `at`, and answers when its request arrives: the request of one byte holds
+/// the cpu of the send and the sending side of its interface, and nothing else changes.
+pub fn request<C: Costs>(
+    sched: &Sched,
+    costs: &C,
+    res: &mut Resources,
+    send: OpId,
+    to: u32,
+    at: u64,
+) -> u64
     requires same_schedule { res.old.plans ≡ sched.now }
-    requires sends { IsSend sched.now send }
+    requires goes_to { (bytes : ℕ) × IsMessage sched.now send to bytes }
     requires over_fits { at + over_one sched.now (C.model costs.now) send < 2 ^ 63 }
     requires gap_fits { at + gap_one sched.now (C.model costs.now) send < 2 ^ 63 }
     requires flight_fits { at + flight_one sched.now (C.model costs.now) send < 2 ^ 63 }
@@ -25,15 +32,14 @@ pub fn request<C: Costs>(sched: &Sched, costs: &C, res: &mut Resources, send: Op
     ensures holds { SameFreeTimes res.new
         (hold_tx (hold_cpu res.old send (at + over_one sched.now (C.model costs.now) send)) send (at + gap_one sched.now (C.model costs.now) send)) }
 {
-    let message = sched.message(send);
-    transfer(costs, res, send, message.to, REQUEST, at).arrive
+    transfer(costs, res, send, to, REQUEST, at).arrive
 }
 
-/// When the clearance of a large send that was paired at `paired` is back at its sender.
-pub fn clear<C: Costs>(sched: &Sched, costs: &C, send: OpId, paired: u64) -> u64
-    requires sends { IsSend sched.now send }
+/// When the clearance of a large send to the rank `to`, paired at `paired`, is back at its sender.
+pub fn clear<C: Costs>(sched: &Sched, costs: &C, send: OpId, to: u32, paired: u64) -> u64
+    requires goes_to { (bytes : ℕ) × IsMessage sched.now send to bytes }
     requires latency_fits { paired + latency sched.now (C.model costs.now) send < 2 ^ 63 }
     ensures { result ≡ paired + latency sched.now (C.model costs.now) send }
 {
-    paired + costs.latency(send.rank, sched.message(send).to)
+    paired + costs.latency(send.rank, to)
 }
