@@ -1,4 +1,4 @@
--- What the shape of an operation says of it.
+-- What the work of an operation says of it.
 use Rattle.std.proofs.Common.{◌≡◌, ◌⊎◌, Bool, true, false, List, Option, Some, None, if◌then◌else◌, inl, inr, is_some, refl, sym, ap, ◌∙◌}
 use Rattle.goal_graph.specs.declared.action.OpId.{OpId}
 use Rattle.goal_graph.specs.declared.plan.Kind.{Kind}
@@ -9,20 +9,20 @@ use Rattle.goal_graph.specs.Fault.{IsOp}
 use Rattle.goal_graph.specs.Laws.{IsCalc, IsSend, IsReceive}
 use Rattle.goal_graph.proofs.ForCallers.{kind_from_op}
 use Rattle.sim_params.specs.Costs.{CostModel, is_eager}
+use Rattle.sim_eager.specs.Messages.{IsMessage}
 use Rattle.sim_events.specs.declared.shape.Shape.{Shape}
 use Rattle.sim_events.specs.declared.shape.Shape.TheVariants as shape
-use Rattle.sim_events.specs.Shapes.{shape_by, shape_of}
+use Rattle.sim_events.specs.declared.work.Work.{Work}
+use Rattle.sim_events.specs.Shapes.{work_by, work_of, shape_of}
 
 module _ (plans : List Plan) (costs : CostModel) (x : OpId) where
-  -- the shape of an operation of each kind
-  pub calc_shape : IsCalc plans x → shape_of plans costs x ≡ shape.Calc
-  calc_shape k = ap (shape_by plans costs x) k.kind
+  abbrev shape_by : Option Kind → Shape
+  shape_by k = (work_by plans costs x k).shape
 
-  pub send_shape : IsSend plans x → shape_of plans costs x ≡ (if is_eager plans costs x then shape.Eager else shape.Large)
-  send_shape k = ap (shape_by plans costs x) k.kind
-
-  pub receive_shape : IsReceive plans x → shape_of plans costs x ≡ shape.Receive
-  receive_shape k = ap (shape_by plans costs x) k.kind
+  -- the shape of a send
+  pub send_shape : (b : Bool) → IsSend plans x → b ≡ is_eager plans costs x → (if b then shape.Eager else shape.Large) ≡ shape_of plans costs x
+  send_shape b send e =
+      ap (λ (b : Bool). if b then shape.Eager else shape.Large) e ∙ sym (ap shape_by send.kind)
 
   -- an operation has a kind
   has_kind : IsOp plans x → kind_at plans x ≡ None → ⊥
@@ -47,7 +47,7 @@ module _ (plans : List Plan) (costs : CostModel) (x : OpId) where
   pub calc_of : (s : Shape) → s ≡ shape_of plans costs x → s ≡ shape.Calc → IsOp plans x → IsCalc plans x
   calc_of s e f is_op = go (kind_at plans x) refl (sym f ∙ e)
     where
-      go : (k : Option Kind) → kind_at plans x ≡ k → shape.Calc ≡ shape_by plans costs x k → IsCalc plans x
+      go : (k : Option Kind) → kind_at plans x ≡ k → shape.Calc ≡ shape_by k → IsCalc plans x
       go None k s = absurd (has_kind is_op k)
       go (Some (Calc nanos)) k s = record { nanos = nanos; kind = k }
       go (Some (Send bytes to tag)) k s = absurd (calc_not_send (is_eager plans costs x) s)
@@ -56,7 +56,7 @@ module _ (plans : List Plan) (costs : CostModel) (x : OpId) where
   pub receive_of : (s : Shape) → s ≡ shape_of plans costs x → s ≡ shape.Receive → IsReceive plans x
   receive_of s e f = go (kind_at plans x) refl (sym f ∙ e)
     where
-      go : (k : Option Kind) → kind_at plans x ≡ k → shape.Receive ≡ shape_by plans costs x k → IsReceive plans x
+      go : (k : Option Kind) → kind_at plans x ≡ k → shape.Receive ≡ shape_by k → IsReceive plans x
       go None k s = absurd (cc)
       go (Some (Calc nanos)) k s = absurd (cc)
       go (Some (Send bytes to tag)) k s = absurd (receive_not_send (is_eager plans costs x) s)
@@ -66,10 +66,37 @@ module _ (plans : List Plan) (costs : CostModel) (x : OpId) where
   send_of s e f = go (kind_at plans x) refl f
     where
       go : (k : Option Kind) → kind_at plans x ≡ k → (s ≡ shape.Eager) ⊎ (s ≡ shape.Large) → IsSend plans x
-      go None k (inl f) = let d = sym f ∙ e ∙ ap (shape_by plans costs x) k in absurd (cc d)
-      go None k (inr f) = let d = sym f ∙ e ∙ ap (shape_by plans costs x) k in absurd (cc d)
-      go (Some (Calc nanos)) k (inl f) = let d = sym f ∙ e ∙ ap (shape_by plans costs x) k in absurd (cc d)
-      go (Some (Calc nanos)) k (inr f) = let d = sym f ∙ e ∙ ap (shape_by plans costs x) k in absurd (cc d)
+      go None k (inl f) = let d = sym f ∙ e ∙ ap shape_by k in absurd (cc d)
+      go None k (inr f) = let d = sym f ∙ e ∙ ap shape_by k in absurd (cc d)
+      go (Some (Calc nanos)) k (inl f) = let d = sym f ∙ e ∙ ap shape_by k in absurd (cc d)
+      go (Some (Calc nanos)) k (inr f) = let d = sym f ∙ e ∙ ap shape_by k in absurd (cc d)
       go (Some (Send bytes to tag)) k f = record { bytes = bytes; to = to; tag = tag; kind = k }
-      go (Some (Recv room from tag)) k (inl f) = let d = sym f ∙ e ∙ ap (shape_by plans costs x) k in absurd (cc d)
-      go (Some (Recv room from tag)) k (inr f) = let d = sym f ∙ e ∙ ap (shape_by plans costs x) k in absurd (cc d)
+      go (Some (Recv room from tag)) k (inl f) = let d = sym f ∙ e ∙ ap shape_by k in absurd (cc d)
+      go (Some (Recv room from tag)) k (inr f) = let d = sym f ∙ e ∙ ap shape_by k in absurd (cc d)
+
+  -- a send of the one shape goes out whole, and one of the other does not
+  pub eager_of : (s : Shape) → s ≡ shape_of plans costs x → s ≡ shape.Eager → is_eager plans costs x ≡ true
+  eager_of s e f = go (is_eager plans costs x) (send_shape _ (send_of s e (inl f)) refl ∙ sym e ∙ f)
+    where
+      go : (b : Bool) → (if b then shape.Eager else shape.Large) ≡ shape.Eager → b ≡ true
+      go true d = refl
+      go false d = absurd (cc)
+
+  pub large_of : (s : Shape) → s ≡ shape_of plans costs x → s ≡ shape.Large → is_eager plans costs x ≡ false
+  large_of s e f = go (is_eager plans costs x) (send_shape _ (send_of s e (inr f)) refl ∙ sym e ∙ f)
+    where
+      go : (b : Bool) → (if b then shape.Eager else shape.Large) ≡ shape.Large → b ≡ false
+      go true d = absurd (cc)
+      go false d = refl
+
+  -- the amount of a calc is how long it takes
+  pub calc_takes : (w : Work) → w ≡ work_of plans costs x → IsCalc plans x → kind_at plans x ≡ Some (Calc w.amount)
+  calc_takes w e calc =
+      calc.kind ∙ ap (λ (v : Work). Some (Calc v.amount)) (sym (e ∙ ap (work_by plans costs x) calc.kind))
+
+  -- and a send is a message of so many bytes to its target
+  pub is_message : (w : Work) → w ≡ work_of plans costs x → IsSend plans x → IsMessage plans x w.to w.amount
+  is_message w e send = record {
+    tag = send.tag;
+    kind = send.kind ∙ ap (λ (v : Work). Some (Send v.amount v.to send.tag)) (sym (e ∙ ap (work_by plans costs x) send.kind));
+  }

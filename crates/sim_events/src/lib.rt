@@ -10,6 +10,7 @@ mod pairing;
 mod shape;
 mod state;
 mod station;
+mod work;
 
 pub use engine::{Engine, EngineFault, Record};
 

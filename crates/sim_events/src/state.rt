@@ -12,12 +12,13 @@ ghost use Rattle.sim_params.specs.Run.{IsNext, IsRun, IsFinished, IsCompleteRun}
 ghost use Rattle.sim_params.specs.Laws.{IsWithin};
 ghost use Rattle.sim_events.specs.Engine.{IsEngineFault, start_known, end_known};
 ghost use Rattle.sim_events.specs.Represents.{entry_known};
-ghost use Rattle.sim_events.specs.Shapes.{shape_of};
+ghost use Rattle.sim_events.specs.Shapes.{shape_of, work_of};
 ghost use Rattle.sim_events.specs.Stations.{free};
 
 use crate::engine::{EngineFault, Record};
 use crate::entry::{Entry, read};
-use crate::shape::{Shape, shapes};
+use crate::shape::Shape;
+use crate::work::{Work, works};
 use goal_base::MAX_BUDGET;
 use goal_graph::{OpId, Sched, Timed};
 use sim_match::Matcher;
@@ -39,8 +40,8 @@ pub struct State<'a, C: Costs> {
     history: Vec<Timed>,
     // what is known of each operation, in the order of all
     entries: Vec<Entry>,
-    // what each operation is, in the same order
-    shapes: Vec<Shape>,
+    // what each operation does, in the same order
+    works: Vec<Work>,
     // who is paired with whom
     matcher: Matcher<'a>,
     // when cpus and interfaces are free
@@ -56,7 +57,7 @@ impl<'a, C: Costs> Model for State<'a, C> {
 
     ghost view = { λ e. record { plans = e.sched.now; costs = e.costs; history = reverse e.history.items } };
 
-    ghost invariant = { λ e. Represents e.sched.now (C.model e.costs) (reverse e.history.items) e.entries.items e.shapes.items e.matcher e.resources (vec_capacity e.history) };
+    ghost invariant = { λ e. Represents e.sched.now (C.model e.costs) (reverse e.history.items) e.entries.items e.works.items e.matcher e.resources (vec_capacity e.history) };
 }
 
 impl<'a, C: Costs + Drop> State<'a, C> {
@@ -78,7 +79,7 @@ impl<'a, C: Costs + Drop> State<'a, C> {
         let count = sched.count() as usize;
         let history = Vec::with_capacity(alloc, 3 * count)?;
         let entries = vec![in alloc; Entry::BLANK; count]?;
-        let shapes = shapes(alloc, sched, &costs)?;
+        let works = works(alloc, sched, &costs)?;
         let matcher = Matcher::new(alloc, sched)?;
         let resources = Resources::new(alloc, sched)?;
         Ok(State {
@@ -86,7 +87,7 @@ impl<'a, C: Costs + Drop> State<'a, C> {
             costs,
             history,
             entries,
-            shapes,
+            works,
             matcher,
             resources,
         })
@@ -177,6 +178,14 @@ impl<'a, C: Costs> State<'a, C> {
         requires { IsOp self.now.plans id }
         ensures { result ≡ shape_of self.now.plans (C.model self.now.costs) id }
     {
-        self.shapes[self.sched.index(id) as usize]
+        self.work(id).shape
+    }
+
+    // What an operation does.
+    fn work(&self, id: OpId) -> Work
+        requires { IsOp self.now.plans id }
+        ensures { result ≡ work_of self.now.plans (C.model self.now.costs) id }
+    {
+        self.works[self.sched.index(id) as usize]
     }
 }

@@ -125,7 +125,7 @@ impl<'a, C: Costs> State<'a, C> {
             return None;
         }
         let Pairing { at, .. } = entry.paired.get()?;
-        let cleared = clear(self.sched, &self.costs, send, at);
+        let cleared = clear(self.sched, &self.costs, send, self.work(send).to, at);
         Some(Timed {
             time: data_at(&self.resources, send, cleared),
             class: Class::Data,

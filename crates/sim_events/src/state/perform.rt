@@ -3,14 +3,16 @@ ghost use Rattle.std.specs.Prelude.{◌≡◌, ◌∷◌, Some, true, false};
 ghost use Rattle.goal_graph.specs.declared.action.Class.TheVariants.{Arrive, Serve, Data, Post, Begin};
 ghost use Rattle.goal_graph.specs.declared.plan.Kind.TheVariants.{Calc};
 ghost use Rattle.goal_graph.specs.Schedule.{kind_at};
-ghost use Rattle.goal_graph.specs.Laws.{IsSend};
 ghost use Rattle.sim_params.specs.Costs.{is_eager};
 ghost use Rattle.sim_params.specs.Run.{IsNext};
+ghost use Rattle.sim_eager.specs.Messages.{IsMessage};
 
 use super::State;
 use crate::entry::{Entry, write, write_met};
 use crate::moment::Moment;
-use goal_graph::{Class, Kind, Timed};
+use crate::shape::Shape;
+use crate::work::Work;
+use goal_graph::{Class, Timed};
 use sim_eager::{eager_begin, serve};
 use sim_params::Costs;
 use sim_rendezvous::{data, request};
@@ -36,16 +38,12 @@ impl<'a, C: Costs> State<'a, C> {
         requires class { action.class ≡ Begin }
         ensures { self.new ≡ record self.old { history = action ∷ self.old.history } }
     {
-        match self.sched().op(action.op).kind {
-            Kind::Calc { nanos } => self.begin_calc(action, nanos),
-            Kind::Send { .. } => {
-                if self.is_eager(action.op) {
-                    self.begin_eager(action);
-                } else {
-                    self.begin_large(action);
-                }
-            }
-            Kind::Recv { .. } => unreachable!(),
+        let work = self.work(action.op);
+        match work.shape {
+            Shape::Calc => self.begin_calc(action, work.amount),
+            Shape::Eager => self.begin_eager(action, work),
+            Shape::Large => self.begin_large(action, work),
+            Shape::Receive => unreachable!(),
         }
     }
 
@@ -70,10 +68,10 @@ impl<'a, C: Costs> State<'a, C> {
     }
 
     // An eager send begins.
-    fn begin_eager(&mut self, action: Timed)
+    fn begin_eager(&mut self, action: Timed, work: Work)
         requires next { IsNext self.old.plans (C.model self.old.costs) self.old.history action }
         requires class { action.class ≡ Begin }
-        requires send { IsSend self.old.plans action.op }
+        requires message { IsMessage self.old.plans action.op work.to work.amount }
         requires eager { is_eager self.old.plans (C.model self.old.costs) action.op ≡ true }
         ensures { self.new ≡ record self.old { history = action ∷ self.old.history } }
     {
@@ -84,6 +82,8 @@ impl<'a, C: Costs> State<'a, C> {
             &self.costs,
             &mut self.resources,
             action.op,
+            work.to,
+            work.amount,
             action.time,
         );
         let entry = Entry {
@@ -97,10 +97,10 @@ impl<'a, C: Costs> State<'a, C> {
     }
 
     // A large send begins: its request goes out.
-    fn begin_large(&mut self, action: Timed)
+    fn begin_large(&mut self, action: Timed, work: Work)
         requires next { IsNext self.old.plans (C.model self.old.costs) self.old.history action }
         requires class { action.class ≡ Begin }
-        requires send { IsSend self.old.plans action.op }
+        requires message { IsMessage self.old.plans action.op work.to work.amount }
         requires large { is_eager self.old.plans (C.model self.old.costs) action.op ≡ false }
         ensures { self.new ≡ record self.old { history = action ∷ self.old.history } }
     {
@@ -111,6 +111,7 @@ impl<'a, C: Costs> State<'a, C> {
             &self.costs,
             &mut self.resources,
             action.op,
+            work.to,
             action.time,
         );
         let entry = Entry {
@@ -166,11 +167,14 @@ impl<'a, C: Costs> State<'a, C> {
     {
         let sched = self.sched;
         let entry = *self.entry(action.op);
+        let work = self.work(action.op);
         let sent = data(
             sched,
             &self.costs,
             &mut self.resources,
             action.op,
+            work.to,
+            work.amount,
             action.time,
         );
         let entry = Entry {
@@ -193,12 +197,15 @@ impl<'a, C: Costs> State<'a, C> {
         let Some(pairing) = entry.paired.get() else {
             unreachable!()
         };
+        let work = self.work(pairing.with);
         let end = serve(
             sched,
             &self.costs,
             &mut self.resources,
             action.op,
             pairing.with,
+            work.to,
+            work.amount,
             action.time,
         );
         let entry = Entry {

@@ -1,8 +1,10 @@
-use Rattle.std.proofs.Common.{◌+◌, is_some, sym, ap, ap₂, ◌∙◌, max, arith}
+use Rattle.std.proofs.Common.{◌+◌, is_some, sym, ap, ap₂, ◌∙◌, max, subst, arith}
 use Rattle.sim_params.specs.Costs.{latency}
+use Rattle.sim_eager.specs.Messages.{IsMessage}
 use Rattle.sim_events.specs.Engine.{View}
 use Rattle.sim_events.proofs.Views.{free_at_view, run_at_view, within_at_view}
 use Rattle.sim_events.proofs.EnabledLemmas.{eager_data, handed_data, unpaired_data, paired_some, clears, data_enabled, data_time}
+use Rattle.sim_events.proofs.Shapes.{is_message}
 use Rattle.sim_events.proofs.state.State.hand_over_of.Goals.{then-is_eager-via-then-is_eager, then-is_eager-via-else-is_eager+then-is_some}
 use Rattle.sim_events.proofs.state.State.hand_over_of.Goals as goal
 use Rattle.goal_graph.proofs.ForCallers.{send_is_op}
@@ -17,6 +19,14 @@ returns-then-is_eager g c =
 pub returns-in_err-at : goal.returns-in_err-at
 returns-in_err-at g c =
     c.from_residual.ensures ∙ unpaired_data _ _ _ c.args.send c.entry-entry.result.now c.entry-entry.ensures (sym c.get-2.ensures ∙ c.in_err-at.was)
+
+pub work-requires : goal.work-requires
+work-requires g c = send_is_op _ c.args.send c.requires
+
+pub clear-cleared-requires-clause-goes_to : goal.clear-cleared-requires-clause-goes_to
+clear-cleared-requires-clause-goes_to g c =
+    let message = is_message _ _ c.args.send c.work.result c.work.ensures c.requires in
+    (c.work.result.amount, subst (λ (v : View _). IsMessage v.plans c.args.send c.work.result.to c.work.result.amount) (sym c.self.view_is) message)
 
 pub clear-cleared-requires-clause-latency_fits : goal.clear-cleared-requires-clause-latency_fits
 clear-cleared-requires-clause-latency_fits g c =

@@ -57,7 +57,7 @@ write_met-requires g c =
 pub push_reserved-requires : goal.push_reserved-requires
 push_reserved-requires g c =
     let next = next_at g.C.Costs.model _ _ c.args.action c.self.view_is c.requires.next in
-    let room : length c.self.inside.history.items < vec_capacity c.self.inside.history = room_left _ _ (record { items = c.self.inside.history.items; entries = c.self.inside.entries.items; shapes = c.self.inside.shapes.items; matcher = c.self.inside.matcher; res = c.self.inside.resources; room = vec_capacity c.self.inside.history }) c.self.invariant c.args.action next in
+    let room : length c.self.inside.history.items < vec_capacity c.self.inside.history = room_left _ _ (record { items = c.self.inside.history.items; entries = c.self.inside.entries.items; works = c.self.inside.works.items; matcher = c.self.inside.matcher; res = c.self.inside.resources; room = vec_capacity c.self.inside.history }) c.self.invariant c.args.action next in
     omega (arith, c.self.inside.history.ok.0, room)
 
 pub invariant_of-self : goal.invariant_of-self
@@ -74,7 +74,7 @@ invariant_of-self g c =
     let told = c.write_met.ensures (entry_known plans costs h) (c.deref_mut.ensures.value ∙ m.known) ∙ (λ i. map (with_partner a.op c.post-partner.result a.time (with_entry a.op (record c.entry-entry.result.now { start = c.at.ensures i }) (entry_known plans costs h))) (operations plans)) ∙ posted plans costs h a m.run next.possible c.entry-entry.result.now was c.post-partner.result c.requires.class kind taken in
     let posts_and_arrivals = post_known plans costs h a c.self.inside.matcher m.posts_and_arrivals c.post-partner.new.self c.requires.class c.post-partner.ensures.actions in
     let free = free_same plans costs h a c.self.inside.resources m.free (ap holds_cpu c.requires.class) (ap (λ (k : Class). holds_tx k (kind_at plans a.op)) c.requires.class) (ap holds_rx c.requires.class) in
-    let parts : Parts = record { items = c.self.inside.history.items; entries = c.self.inside.entries.items; shapes = c.self.inside.shapes.items; matcher = c.self.inside.matcher; res = c.self.inside.resources; room = vec_capacity c.self.inside.history } in
+    let parts : Parts = record { items = c.self.inside.history.items; entries = c.self.inside.entries.items; works = c.self.inside.works.items; matcher = c.self.inside.matcher; res = c.self.inside.resources; room = vec_capacity c.self.inside.history } in
     performed plans costs parts m a next (record {
       items = c.push_reserved.new.self.items;
       lent = c.deref_mut.result.now;
