@@ -7,6 +7,7 @@ use Rattle.std.proofs.lemmas.Option.{slice_get_read, same_Some}
 use Rattle.std.proofs.lemmas.List.{length-set, length-map, length-reverse, map_push, reverse-append}
 use Rattle.std.proofs.lemmas.List.Elements.{All-weaker, All-filter, filter-append}
 use Rattle.std.proofs.lemmas.List.Folds.{list_any_more, list_any_at}
+use Rattle.std.proofs.lemmas.List.Sums.{count_by-le-length}
 use Rattle.goal_graph.specs.declared.action.OpId.{OpId}
 use Rattle.goal_graph.specs.declared.action.Class.TheVariants.{Arrive, Post}
 use Rattle.goal_graph.specs.Schedule.{Plan, operations}
@@ -19,6 +20,7 @@ use Rattle.sim_match.specs.declared.match_table.Event.{Event}
 use Rattle.sim_match.specs.declared.pattern.Pattern.{Pattern}
 use Rattle.sim_match.specs.declared.match_list.MatchEntry.{MatchEntry}
 use Rattle.sim_match.specs.PostsAndArrivals.{send_for, receive_for}
+use Rattle.sim_match.specs.Waiting.{is_message}
 use Rattle.sim_match.specs.Patterns.{same_number, list_of, lists_for, in_list, for_list, IsListed}
 use Rattle.sim_match.specs.MatchLists.{is_marked, entries_of, earlier, IsReady, IsFirst, pushed}
 use Rattle.sim_match.specs.Matcher.{act_of, PatternLists, actions_of, IsNew, ArePaired, IsMatchList, receives_of, sends_of, AreLists, Mirrors, IsJoined}
@@ -139,6 +141,12 @@ module _ (plans : List Plan) (keys : List Pattern) (lists : List PatternLists) (
         let fewer = actions_fewer plans (post_of plans keys h x) h m.actions new in
         omega (arith, fewer, m.roomy)
 
+    pub post_counted : length h < length (operations plans)
+    post_counted =
+        let fewer = actions_fewer plans (post_of plans keys h x) h m.actions new in
+        let all = count_by-le-length (is_message plans) (operations plans) in
+        omega (arith, fewer, all)
+
     pub post_exists : IsOp plans x
     post_exists = op_of_kind plans x _ r.kind
 
@@ -230,6 +238,12 @@ module _ (plans : List Plan) (keys : List Pattern) (lists : List PatternLists) (
     arrival_event_room =
         let fewer = actions_fewer plans (arrival_of plans keys h y) h m.actions coming in
         omega (arith, fewer, m.roomy)
+
+    pub arrival_counted : length h < length (operations plans)
+    arrival_counted =
+        let fewer = actions_fewer plans (arrival_of plans keys h y) h m.actions coming in
+        let all = count_by-le-length (is_message plans) (operations plans) in
+        omega (arith, fewer, all)
 
     pub arrival_exists : IsOp plans y
     arrival_exists = op_of_kind plans y _ s.kind

@@ -1,5 +1,5 @@
 -- What a matcher keeps of posts and arrivals.
-use Rattle.std.specs.Prelude.{ℕ, ◌≡◌, ◌≤◌, ◌&&◌, ◌||◌, not, Bool, true, false, List, [], ◌∷◌, ◌++◌, length, reverse, map, filter, find, take, Option, Some, All, slice_get, count_by, vec_capacity, if◌then◌else◌}
+use Rattle.std.specs.Prelude.{ℕ, ◌≡◌, ◌<◌, ◌≤◌, ◌^◌, ◌&&◌, ◌||◌, not, Bool, true, false, List, [], ◌∷◌, ◌++◌, length, reverse, map, filter, find, take, Option, Some, All, slice_get, count_by, vec_capacity, if◌then◌else◌}
 use Rattle.std.specs.Option.{MatchOption}
 use Rattle.std.specs.List.{list_any}
 use Rattle.goal_graph.specs.declared.action.OpId.{OpId}
@@ -98,6 +98,7 @@ module _ (plans : List Plan) (keys : List Pattern) where
 
 -- what a match table keeps
 pub record IsKept (plans : List Plan) (table : MatchTable) : Type 0 where
+  pub few : length (operations plans) < 2 ^ 32
   pub as_many : length table.receives ≡ length table.sends
   pub numbered : AreNumbered plans table.numbers
   pub mirrors : Mirrors plans table.numbers.patterns (side_by_side table.receives table.sends) table.marks.items (actions_of table.events.items) (vec_capacity table.events)

@@ -10,7 +10,7 @@ use goal_graph::{OpId, Sched};
 #[derive(Clone, Copy, Debug, PartialEq, Eq)]
 pub struct MatchEntry {
     pub op: OpId,
-    pub at: usize,
+    pub at: u32,
 }
 
 /// Of two entries the one that came first.

@@ -88,7 +88,7 @@ impl MatchTable {
     {
         let entry = MatchEntry {
             op: recv,
-            at: self.events.len(),
+            at: self.events.len() as u32,
         };
         self.events.push_reserved(Event::Post(recv));
         let list = self.numbers.list_of_receive(sched, recv);
@@ -110,7 +110,7 @@ impl MatchTable {
     {
         let entry = MatchEntry {
             op: send,
-            at: self.events.len(),
+            at: self.events.len() as u32,
         };
         let mut met = None;
         for number in self.numbers.lists_of_send(sched, send) {

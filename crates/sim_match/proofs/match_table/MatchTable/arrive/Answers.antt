@@ -23,6 +23,7 @@ returns-clause-kept c =
     let back = whole_back c.join-met.new.self.marks.len c.pair.new.marks c.join-met.new.self.marks.items (rw c.deref_mut.ensures.value at c.pair.ensures.long) (omega (arith, c.join-met.new.self.marks.ok.0)) in
     let kept = arrival_keeps _ _ _ _ _ _ c.requires.kept.mirrors c.args.send c.requires.send c.requires.fresh _ _ c.join-met.ensures.joined c.pair.new.marks changes long in
     record {
+      few = c.requires.kept.few;
       as_many = c.join-met.ensures.as_many;
       numbered = rw c.join-met.ensures.numbers c.requires.kept.numbered;
       mirrors = rw (back, c.push_reserved.ensures.items, c.push_reserved.ensures.capacity, c.join-met.ensures.numbers, c.join-met.ensures.events, actions_of-push) kept;

@@ -3,10 +3,15 @@ use Rattle.std.proofs.lemmas.List.{length-set}
 use Rattle.sim_match.specs.Patterns.{lists_for}
 use Rattle.sim_match.specs.MatchLists.{pushed}
 use Rattle.sim_match.specs.Matcher.{actions_of, side_by_side}
-use Rattle.sim_match.proofs.Kept.{length-actions_of, joined_none, joined_without, join_within, join_ready, join_room, joined_with}
+use Rattle.sim_match.proofs.Kept.{length-actions_of, arrival_counted, joined_none, joined_without, join_within, join_ready, join_room, joined_with}
 use Rattle.sim_match.proofs.Sides.{sides_length, sides_read, sides_set, there_is}
 use Rattle.sim_match.proofs.match_table.MatchTable.join.Goals as goal
 use Rattle.sim_match.proofs.match_table.MatchTable.join.Goals.{in-Some, in-None}
+
+pub overflow_cast-entry : goal.overflow_cast-entry
+overflow_cast-entry c =
+    let counted = arrival_counted _ _ _ _ _ _ c.requires.kept.mirrors c.args.send c.requires.send c.requires.fresh in
+    omega (arith, counted, length-actions_of c.args.self.now.events.items, c.len.ensures, c.args.self.now.events.ok.0, c.requires.kept.few)
 
 pub loop-number-init : goal.loop-number-init
 loop-number-init c = record {

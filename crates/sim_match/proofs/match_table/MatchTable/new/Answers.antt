@@ -15,6 +15,7 @@ returns-clause-kept c =
     let receives = ap length (rw c.deref.ensures.value at c.in_ok-receives.ensures) ∙ length-map c.in_ok-capacities.capacities.items (empty_list Receives) in
     let sends = ap length (rw c.deref-2.ensures.value at c.in_ok-sends.ensures) ∙ length-map c.in_ok-capacities.capacities.items (empty_list Sends) in
     record {
+      few = omega (arith, c.count.ensures.count, c.count.ensures.small);
       as_many = receives ∙ sym sends;
       numbered = c.in_ok-numbers.ensures;
       mirrors = rw (c.in_ok-events.ensures.items, c.in_ok-receives.ensures, c.in_ok-sends.ensures, c.deref.ensures.value, c.deref-2.ensures.value) kept;

@@ -2,10 +2,15 @@ use Rattle.std.proofs.Common.{ℕ, ◌≡◌, length, arith, ap, ap₂, ◌∙�
 use Rattle.std.proofs.lemmas.List.{length-set}
 use Rattle.sim_match.specs.MatchLists.{pushed}
 use Rattle.sim_match.specs.Matcher.{actions_of, side_by_side}
-use Rattle.sim_match.proofs.Kept.{length-actions_of, actions_of-push, post_event_room, post_exists, post_within, post_ready, post_room, post_met_exists, post_answers, post_keeps}
+use Rattle.sim_match.proofs.Kept.{length-actions_of, actions_of-push, post_event_room, post_counted, post_exists, post_within, post_ready, post_room, post_met_exists, post_answers, post_keeps}
 use Rattle.sim_match.proofs.Sides.{sides_length, sides_read, sides_set, there_is}
 use Rattle.sim_match.proofs.match_table.MatchTable.post.Goals as goal
 use Rattle.goal_graph.proofs.ForCallers.{whole_back}
+
+pub overflow_cast-entry : goal.overflow_cast-entry
+overflow_cast-entry c =
+    let counted = post_counted _ _ _ _ _ _ c.requires.kept.mirrors c.args.recv c.requires.receive c.requires.fresh in
+    omega (arith, counted, length-actions_of c.args.self.now.events.items, c.len.ensures, c.args.self.now.events.ok.0, c.requires.kept.few)
 
 pub push_reserved-requires : goal.push_reserved-requires
 push_reserved-requires c =
@@ -72,6 +77,7 @@ returns-clause-kept c =
     let more = ap length (c.push.ensures r.0 r.1) ∙ length-set c.args.self.now.receives c.list_of_receive-list.result _ in
     let less = ap length first.1 ∙ length-set c.args.self.now.sends c.list_of_receive-list.result _ in
     record {
+      few = c.requires.kept.few;
       numbered = c.requires.kept.numbered;
       as_many = omega (arith, more, less, c.requires.kept.as_many);
       mirrors = rw (sides, back, c.push_reserved.ensures.items, c.push_reserved.ensures.capacity, actions_of-push) kept;
