@@ -10,20 +10,20 @@ use Rattle.std.proofs.lemmas.List.Folds.{list_any_more, list_any_at}
 use Rattle.std.proofs.lemmas.List.Sums.{count_by-le-length}
 use Rattle.goal_graph.specs.declared.action.OpId.{OpId}
 use Rattle.goal_graph.specs.declared.action.Class.TheVariants.{Arrive, Post}
-use Rattle.goal_graph.specs.Schedule.{Plan, operations}
+use Rattle.goal_graph.specs.declared.plan.Kind.{Kind}
+use Rattle.goal_graph.specs.Schedule.{Plan, kind_at, operations}
 use Rattle.goal_graph.specs.Fault.{IsOp}
 use Rattle.goal_graph.specs.Action.{Act, same_op, happened}
 use Rattle.goal_graph.specs.Matching.{Pair, pair_of, fits, is_paired, new_pair, pairs}
 use Rattle.goal_graph.specs.Laws.{IsSend, IsReceive}
 use Rattle.goal_graph.proofs.ForCallers.{pairs_same, paired_stays, find_agree, find_all, op_of_kind}
-use Rattle.sim_match.specs.declared.match_table.Event.{Event}
 use Rattle.sim_match.specs.declared.pattern.Pattern.{Pattern}
 use Rattle.sim_match.specs.declared.match_list.MatchEntry.{MatchEntry}
 use Rattle.sim_match.specs.PostsAndArrivals.{send_for, receive_for}
 use Rattle.sim_match.specs.Waiting.{is_message}
 use Rattle.sim_match.specs.Patterns.{same_number, list_of, lists_for, in_list, for_list, IsListed}
 use Rattle.sim_match.specs.MatchLists.{is_marked, entries_of, earlier, IsReady, IsFirst, pushed}
-use Rattle.sim_match.specs.Matcher.{act_of, PatternLists, actions_of, IsNew, ArePaired, IsMatchList, receives_of, sends_of, AreLists, Mirrors, IsJoined}
+use Rattle.sim_match.specs.Matcher.{class_of_kind, event_of, PatternLists, actions_of, IsNew, ArePaired, IsMatchList, receives_of, sends_of, AreLists, Mirrors, IsJoined}
 use Rattle.sim_match.proofs.Ops.{post_suits, arrival_suits, actions_fewer}
 use Rattle.sim_match.proofs.Pairs.{in_pair, paired_more, pairs_with}
 use Rattle.sim_match.proofs.Written.{slice_get_written, slice_get_elsewhere}
@@ -32,13 +32,25 @@ use Rattle.sim_match.proofs.PatternLemmas.{fits_list, fits_any, lists_once, list
 use Rattle.sim_match.proofs.Entries.{entries_same, entries_other, entries_order, oldest_entry, posted_receives, posted_exist, arrived_exist, entries_fewer}
 use Rattle.sim_match.proofs.MatchListLemmas.{match_list_ready, match_list_kept, match_list_found, match_list_pushed, match_list_later}
 
-pub length-actions_of : (events : List Event) → length (actions_of events) ≡ length events
-length-actions_of events = length-reverse (map act_of events) ∙ length-map events act_of
+module _ (plans : List Plan) (events : List OpId) where
+  pub length-actions_of : length (actions_of plans events) ≡ length events
+  length-actions_of = length-reverse (map (event_of plans) events) ∙ length-map events (event_of plans)
 
--- one event more
-pub actions_of-push : (events : List Event) (e : Event) → actions_of (events ++ e ∷ []) ≡ act_of e ∷ actions_of events
-actions_of-push events e =
-    ap reverse (map_push act_of events e) ∙ reverse-append (map act_of events) (act_of e ∷ [])
+  -- one event more
+  module _ (x : OpId) where
+    actions_of-push : actions_of plans (events ++ x ∷ []) ≡ event_of plans x ∷ actions_of plans events
+    actions_of-push =
+        ap reverse (map_push (event_of plans) events x) ∙ reverse-append (map (event_of plans) events) (event_of plans x ∷ [])
+
+    of_class : (k : Option Kind) → kind_at plans x ≡ k → actions_of plans (events ++ x ∷ []) ≡ record { class = class_of_kind k; op = x } ∷ actions_of plans events
+    of_class k is =
+        actions_of-push ∙ ap (λ (k : Option Kind). record { class = class_of_kind k; op = x } ∷ actions_of plans events) is
+
+    pub actions_of-post : IsReceive plans x → actions_of plans (events ++ x ∷ []) ≡ record { class = Post; op = x } ∷ actions_of plans events
+    actions_of-post r = of_class _ r.kind
+
+    pub actions_of-arrival : IsSend plans x → actions_of plans (events ++ x ∷ []) ≡ record { class = Arrive; op = x } ∷ actions_of plans events
+    actions_of-arrival s = of_class _ s.kind
 
 or_assoc : (s t u : Bool) → ((s || t) || u) ≡ (s || (t || u))
 or_assoc true t u = refl

@@ -1,16 +1,17 @@
 -- What a matcher keeps of posts and arrivals.
-use Rattle.std.specs.Prelude.{ℕ, ◌≡◌, ◌<◌, ◌≤◌, ◌^◌, ◌&&◌, ◌||◌, not, Bool, true, false, List, [], ◌∷◌, ◌++◌, length, reverse, map, filter, find, take, Option, Some, All, slice_get, count_by, vec_capacity, if◌then◌else◌}
+use Rattle.std.specs.Prelude.{ℕ, ◌≡◌, ◌<◌, ◌≤◌, ◌^◌, ◌&&◌, ◌||◌, not, Bool, true, false, List, [], ◌∷◌, ◌++◌, length, reverse, map, filter, find, take, Option, Some, None, All, slice_get, count_by, vec_capacity, if◌then◌else◌}
 use Rattle.std.specs.Option.{MatchOption}
 use Rattle.std.specs.List.{list_any}
 use Rattle.goal_graph.specs.declared.action.OpId.{OpId}
+use Rattle.goal_graph.specs.declared.action.Class.{Class}
 use Rattle.goal_graph.specs.declared.action.Class.TheVariants.{Arrive, Post}
+use Rattle.goal_graph.specs.declared.plan.Kind.{Kind}
+use Rattle.goal_graph.specs.declared.plan.Kind.TheVariants.{Calc, Send, Recv}
 use Rattle.goal_graph.specs.Schedule.{Plan, kind_at, operations}
 use Rattle.goal_graph.specs.Fault.{IsAccepted}
 use Rattle.goal_graph.specs.Action.{Act, same_op, happened}
 use Rattle.goal_graph.specs.Matching.{is_paired, pairs}
 use Rattle.goal_graph.specs.Laws.{has_class}
-use Rattle.sim_match.specs.declared.match_table.Event.{Event}
-use Rattle.sim_match.specs.declared.match_table.Event.TheVariants as event
 use Rattle.sim_match.specs.declared.match_table.MatchTable.{MatchTable}
 use Rattle.sim_match.specs.declared.pattern.Pattern.{Pattern}
 use Rattle.sim_match.specs.declared.match_list.MatchEntry.{MatchEntry}
@@ -20,14 +21,20 @@ use Rattle.sim_match.specs.Patterns.{same_number, list_of, in_list, for_list, Ar
 use Rattle.sim_match.specs.ListNumbers.{AreNumbered}
 use Rattle.sim_match.specs.MatchLists.{MatchList, is_marked, entries_of}
 
--- what is kept of a post, of an arrival
-abbrev pub act_of : Event → Act
-act_of (event.Post x) = record { class = Post; op = x }
-act_of (event.Arrive m) = record { class = Arrive; op = m }
+-- a send arrives, a receive is posted
+abbrev pub class_of_kind : Option Kind → Class
+class_of_kind (Some (Calc nanos)) = Post
+class_of_kind (Some (Send bytes to tag)) = Arrive
+class_of_kind (Some (Recv room from tag)) = Post
+class_of_kind None = Post
 
--- the posts and arrivals, newest first, of the events oldest first
-abbrev pub actions_of : List Event → List Act
-actions_of events = reverse (map act_of events)
+-- the arrival of a send, the post of a receive
+abbrev pub event_of : List Plan → OpId → Act
+event_of plans x = record { class = class_of_kind (kind_at plans x); op = x }
+
+-- the posts and arrivals, newest first, of these sends and receives, oldest first
+abbrev pub actions_of : List Plan → List OpId → List Act
+actions_of plans events = reverse (map (event_of plans) events)
 
 -- a is the post of a receive or the arrival of a send that has not happened in h
 pub record IsNew (plans : List Plan) (h : List Act) (a : Act) : Type 0 where
@@ -101,4 +108,4 @@ pub record IsKept (plans : List Plan) (table : MatchTable) : Type 0 where
   pub few : length (operations plans) < 2 ^ 32
   pub as_many : length table.receives ≡ length table.sends
   pub numbered : AreNumbered plans table.numbers
-  pub mirrors : Mirrors plans table.numbers.patterns (side_by_side table.receives table.sends) table.marks.items (actions_of table.events.items) (vec_capacity table.events)
+  pub mirrors : Mirrors plans table.numbers.patterns (side_by_side table.receives table.sends) table.marks.items (actions_of plans table.events.items) (vec_capacity table.events)

@@ -18,22 +18,15 @@ use goal_base::NoMemory;
 use goal_graph::{OpId, Sched};
 use std::alloc::Global;
 
-/// A receive is posted, or a message or the request of a large one arrives.
-#[derive(Clone, Copy, Debug, PartialEq, Eq)]
-pub enum Event {
-    Post(OpId),
-    Arrive(OpId),
-}
-
-/// The posts and arrivals so far, oldest first, and for each pattern of the schedule its lists: the receives of the
-/// pattern, and the sends that they fit. An operation is marked once it is paired.
+/// The receives that were posted and the sends that have arrived, in this order, and for each pattern of the schedule its
+/// lists: the receives of the pattern, and the sends that they fit. An operation is marked once it is paired.
 #[derive(Drop)]
 pub struct MatchTable {
     pub numbers: ListNumbers,
     pub receives: MatchLists,
     pub sends: MatchLists,
     pub marks: Vec<bool>,
-    pub events: Vec<Event>,
+    pub events: Vec<OpId>,
 }
 
 // Marks an operation and the one that it has met. Answers the latter.
@@ -81,16 +74,16 @@ impl MatchTable {
     pub fn post(&mut self, sched: &Sched, recv: OpId) -> Option<OpId>
         requires kept { IsKept sched.now self.old }
         requires receive { IsReceive sched.now recv }
-        requires fresh { happened Post recv (actions_of self.old.events.items) ≡ false }
+        requires fresh { happened Post recv (actions_of sched.now self.old.events.items) ≡ false }
         ensures kept { IsKept sched.now self.new }
-        ensures events { self.new.events.items ≡ self.old.events.items ++ Event.Post recv ∷ [] }
-        ensures taken { result ≡ send_for sched.now (actions_of self.old.events.items) recv }
+        ensures events { self.new.events.items ≡ self.old.events.items ++ recv ∷ [] }
+        ensures taken { result ≡ send_for sched.now (actions_of sched.now self.old.events.items) recv }
     {
         let entry = MatchEntry {
             op: recv,
             at: self.events.len() as u32,
         };
-        self.events.push_reserved(Event::Post(recv));
+        self.events.push_reserved(recv);
         let list = self.numbers.list_of_receive(sched, recv);
         self.receives.push(list, entry);
         let met = self.sends.first(list, sched, &self.marks);
@@ -101,8 +94,8 @@ impl MatchTable {
     fn join(&mut self, sched: &Sched, send: OpId) -> Option<MatchEntry>
         requires kept { IsKept sched.now self.old }
         requires send { IsSend sched.now send }
-        requires fresh { happened Arrive send (actions_of self.old.events.items) ≡ false }
-        ensures joined { IsJoined sched.now self.old.numbers.patterns (actions_of self.old.events.items) send (lists_for sched.now self.old.numbers.patterns send) (side_by_side self.new.receives self.new.sends) result }
+        requires fresh { happened Arrive send (actions_of sched.now self.old.events.items) ≡ false }
+        ensures joined { IsJoined sched.now self.old.numbers.patterns (actions_of sched.now self.old.events.items) send (lists_for sched.now self.old.numbers.patterns send) (side_by_side self.new.receives self.new.sends) result }
         ensures numbers { self.new.numbers ≡ self.old.numbers }
         ensures as_many { length self.new.receives ≡ length self.new.sends }
         ensures marks { self.new.marks ≡ self.old.marks }
@@ -130,13 +123,13 @@ impl MatchTable {
     pub fn arrive(&mut self, sched: &Sched, send: OpId) -> Option<OpId>
         requires kept { IsKept sched.now self.old }
         requires send { IsSend sched.now send }
-        requires fresh { happened Arrive send (actions_of self.old.events.items) ≡ false }
+        requires fresh { happened Arrive send (actions_of sched.now self.old.events.items) ≡ false }
         ensures kept { IsKept sched.now self.new }
-        ensures events { self.new.events.items ≡ self.old.events.items ++ Event.Arrive send ∷ [] }
-        ensures taken { result ≡ receive_for sched.now (actions_of self.old.events.items) send }
+        ensures events { self.new.events.items ≡ self.old.events.items ++ send ∷ [] }
+        ensures taken { result ≡ receive_for sched.now (actions_of sched.now self.old.events.items) send }
     {
         let met = self.join(sched, send);
-        self.events.push_reserved(Event::Arrive(send));
+        self.events.push_reserved(send);
         pair(sched, &mut self.marks, send, met)
     }
 }

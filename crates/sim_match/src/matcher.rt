@@ -31,7 +31,7 @@ impl<'a> Model for Matcher<'a> {
 
     ghost use Rattle.sim_match.specs.Matcher.{actions_of, IsKept};
 
-    ghost view = { λ m. record { plans = m.sched.now; actions = actions_of m.table.events.items } };
+    ghost view = { λ m. record { plans = m.sched.now; actions = actions_of m.sched.now m.table.events.items } };
 
     ghost invariant = { λ m. IsKept m.sched.now m.table };
 }

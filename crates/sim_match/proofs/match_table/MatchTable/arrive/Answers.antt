@@ -1,12 +1,12 @@
 use Rattle.std.proofs.Common.{arith, ◌∙◌}
-use Rattle.sim_match.proofs.Kept.{length-actions_of, actions_of-push, arrival_event_room, arrival_exists, arrival_met_exists, arrival_answers, arrival_keeps}
+use Rattle.sim_match.proofs.Kept.{length-actions_of, actions_of-arrival, arrival_event_room, arrival_exists, arrival_met_exists, arrival_answers, arrival_keeps}
 use Rattle.sim_match.proofs.match_table.MatchTable.arrive.Goals as goal
 use Rattle.goal_graph.proofs.ForCallers.{whole_back}
 
 pub push_reserved-requires : goal.push_reserved-requires
 push_reserved-requires c =
     let room = arrival_event_room _ _ _ _ _ _ c.requires.kept.mirrors c.args.send c.requires.send c.requires.fresh in
-    rw c.join-met.ensures.events (omega (arith, room, length-actions_of c.args.self.now.events.items, c.args.self.now.events.ok.0))
+    rw c.join-met.ensures.events (omega (arith, room, length-actions_of c.args.sched.now c.args.self.now.events.items, c.args.self.now.events.ok.0))
 
 pub pair-requires-clause-op : goal.pair-requires-clause-op
 pair-requires-clause-op c =
@@ -26,7 +26,7 @@ returns-clause-kept c =
       few = c.requires.kept.few;
       as_many = c.join-met.ensures.as_many;
       numbered = rw c.join-met.ensures.numbers c.requires.kept.numbered;
-      mirrors = rw (back, c.push_reserved.ensures.items, c.push_reserved.ensures.capacity, c.join-met.ensures.numbers, c.join-met.ensures.events, actions_of-push) kept;
+      mirrors = rw (back, c.push_reserved.ensures.items, c.push_reserved.ensures.capacity, c.join-met.ensures.numbers, c.join-met.ensures.events, actions_of-arrival _ _ c.args.send c.requires.send) kept;
     }
 
 pub returns-clause-taken : goal.returns-clause-taken

@@ -11,7 +11,7 @@ use Rattle.sim_match.proofs.match_table.MatchTable.join.Goals.{in-Some, in-None}
 pub overflow_cast-entry : goal.overflow_cast-entry
 overflow_cast-entry c =
     let counted = arrival_counted _ _ _ _ _ _ c.requires.kept.mirrors c.args.send c.requires.send c.requires.fresh in
-    omega (arith, counted, length-actions_of c.args.self.now.events.items, c.len.ensures, c.args.self.now.events.ok.0, c.requires.kept.few)
+    omega (arith, counted, length-actions_of c.args.sched.now c.args.self.now.events.items, c.len.ensures, c.args.self.now.events.ok.0, c.requires.kept.few)
 
 pub loop-number-init : goal.loop-number-init
 loop-number-init c = record {
@@ -63,7 +63,7 @@ loop-number-preserved c =
           let long = sides_length c.loop-number.self.receives c.loop-number.self.sends c.loop-number.invariant.as_many in
           let r = there_is c.loop-number.self.receives w.in-Some.list (omega (arith, within, long)) in
           let s = there_is c.loop-number.self.sends w.in-Some.list (omega (arith, within, long, c.loop-number.invariant.as_many)) in
-          let at : c.len.result ≡ length (actions_of c.args.self.now.events.items) = omega (arith, c.len.ensures, length-actions_of c.args.self.now.events.items, c.args.self.now.events.ok.0) in
+          let at : c.len.result ≡ length (actions_of c.args.sched.now c.args.self.now.events.items) = omega (arith, c.len.ensures, length-actions_of c.args.sched.now c.args.self.now.events.items, c.args.self.now.events.ok.0) in
           let added = w.push.ensures s.0 s.1 in
           let first = w.first-first.ensures r.0 r.1 in
           let grown = ap (λ (n : ℕ). pushed s.0 (record { op = c.args.send; at = n })) at in

@@ -5,7 +5,7 @@ use Rattle.sim_match.proofs.match_table.MatchTable.join.Given as goal
 
 abbrev pub invariant-loop-number : goal.invariant-loop-number
 invariant-loop-number l = record {
-  joined : IsJoined l.sched l.fn.self.numbers.patterns (actions_of l.fn.self.events.items) l.fn.send (take l.number-index (lists_for l.sched l.fn.self.numbers.patterns l.fn.send)) (side_by_side l.self.receives l.self.sends) l.met;
+  joined : IsJoined l.sched l.fn.self.numbers.patterns (actions_of l.sched l.fn.self.events.items) l.fn.send (take l.number-index (lists_for l.sched l.fn.self.numbers.patterns l.fn.send)) (side_by_side l.self.receives l.self.sends) l.met;
   as_many : length l.self.receives ≡ length l.self.sends;
   numbers : l.self.numbers ≡ l.fn.self.numbers;
   marks : l.self.marks ≡ l.fn.self.marks;

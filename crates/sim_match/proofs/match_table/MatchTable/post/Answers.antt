@@ -2,7 +2,7 @@ use Rattle.std.proofs.Common.{ℕ, ◌≡◌, length, arith, ap, ap₂, ◌∙�
 use Rattle.std.proofs.lemmas.List.{length-set}
 use Rattle.sim_match.specs.MatchLists.{pushed}
 use Rattle.sim_match.specs.Matcher.{actions_of, side_by_side}
-use Rattle.sim_match.proofs.Kept.{length-actions_of, actions_of-push, post_event_room, post_counted, post_exists, post_within, post_ready, post_room, post_met_exists, post_answers, post_keeps}
+use Rattle.sim_match.proofs.Kept.{length-actions_of, actions_of-post, post_event_room, post_counted, post_exists, post_within, post_ready, post_room, post_met_exists, post_answers, post_keeps}
 use Rattle.sim_match.proofs.Sides.{sides_length, sides_read, sides_set, there_is}
 use Rattle.sim_match.proofs.match_table.MatchTable.post.Goals as goal
 use Rattle.goal_graph.proofs.ForCallers.{whole_back}
@@ -10,12 +10,12 @@ use Rattle.goal_graph.proofs.ForCallers.{whole_back}
 pub overflow_cast-entry : goal.overflow_cast-entry
 overflow_cast-entry c =
     let counted = post_counted _ _ _ _ _ _ c.requires.kept.mirrors c.args.recv c.requires.receive c.requires.fresh in
-    omega (arith, counted, length-actions_of c.args.self.now.events.items, c.len.ensures, c.args.self.now.events.ok.0, c.requires.kept.few)
+    omega (arith, counted, length-actions_of c.args.sched.now c.args.self.now.events.items, c.len.ensures, c.args.self.now.events.ok.0, c.requires.kept.few)
 
 pub push_reserved-requires : goal.push_reserved-requires
 push_reserved-requires c =
     let room = post_event_room _ _ _ _ _ _ c.requires.kept.mirrors c.args.recv c.requires.receive c.requires.fresh in
-    omega (arith, room, length-actions_of c.args.self.now.events.items, c.args.self.now.events.ok.0)
+    omega (arith, room, length-actions_of c.args.sched.now c.args.self.now.events.items, c.args.self.now.events.ok.0)
 
 pub push-requires-clause-within : goal.push-requires-clause-within
 push-requires-clause-within c =
@@ -55,7 +55,7 @@ pair-requires-clause-other c =
     let long = sides_length c.args.self.now.receives c.args.self.now.sends c.requires.kept.as_many in
     let r = there_is c.args.self.now.receives c.list_of_receive-list.result (omega (arith, within, long)) in
     let s = there_is c.args.self.now.sends c.list_of_receive-list.result (omega (arith, within, long, c.requires.kept.as_many)) in
-    let at : c.len.result ≡ length (actions_of c.args.self.now.events.items) = omega (arith, c.len.ensures, length-actions_of c.args.self.now.events.items, c.args.self.now.events.ok.0) in
+    let at : c.len.result ≡ length (actions_of c.args.sched.now c.args.self.now.events.items) = omega (arith, c.len.ensures, length-actions_of c.args.sched.now c.args.self.now.events.items, c.args.self.now.events.ok.0) in
     let first = c.first-met.ensures s.0 s.1 in
     let grown = ap (λ (n : ℕ). pushed r.0 (record { op = c.args.recv; at = n })) at in
     post_met_exists _ _ _ _ _ _ c.requires.kept.mirrors c.args.recv c.requires.receive c.requires.fresh c.list_of_receive-list.result c.list_of_receive-list.ensures.list (record { receives = r.0; sends = s.0 }) (sides_read c.args.self.now.receives c.args.self.now.sends c.list_of_receive-list.result r.0 s.0 r.1 s.1) (record { receives = pushed r.0 (record { op = c.args.recv; at = c.len.result }); sends = record { entries = s.0.entries; head = first.0; room = s.0.room } }) c.first-met.result (rw c.deref.ensures.value at first.2) grown
@@ -66,7 +66,7 @@ returns-clause-kept c =
     let long = sides_length c.args.self.now.receives c.args.self.now.sends c.requires.kept.as_many in
     let r = there_is c.args.self.now.receives c.list_of_receive-list.result (omega (arith, within, long)) in
     let s = there_is c.args.self.now.sends c.list_of_receive-list.result (omega (arith, within, long, c.requires.kept.as_many)) in
-    let at : c.len.result ≡ length (actions_of c.args.self.now.events.items) = omega (arith, c.len.ensures, length-actions_of c.args.self.now.events.items, c.args.self.now.events.ok.0) in
+    let at : c.len.result ≡ length (actions_of c.args.sched.now c.args.self.now.events.items) = omega (arith, c.len.ensures, length-actions_of c.args.sched.now c.args.self.now.events.items, c.args.self.now.events.ok.0) in
     let first = c.first-met.ensures s.0 s.1 in
     let grown = ap (λ (n : ℕ). pushed r.0 (record { op = c.args.recv; at = n })) at in
     let changes = rw c.deref_mut.ensures.value at c.pair.ensures.paired in
@@ -80,7 +80,7 @@ returns-clause-kept c =
       few = c.requires.kept.few;
       numbered = c.requires.kept.numbered;
       as_many = omega (arith, more, less, c.requires.kept.as_many);
-      mirrors = rw (sides, back, c.push_reserved.ensures.items, c.push_reserved.ensures.capacity, actions_of-push) kept;
+      mirrors = rw (sides, back, c.push_reserved.ensures.items, c.push_reserved.ensures.capacity, actions_of-post _ _ c.args.recv c.requires.receive) kept;
     }
 
 pub returns-clause-taken : goal.returns-clause-taken
@@ -89,7 +89,7 @@ returns-clause-taken c =
     let long = sides_length c.args.self.now.receives c.args.self.now.sends c.requires.kept.as_many in
     let r = there_is c.args.self.now.receives c.list_of_receive-list.result (omega (arith, within, long)) in
     let s = there_is c.args.self.now.sends c.list_of_receive-list.result (omega (arith, within, long, c.requires.kept.as_many)) in
-    let at : c.len.result ≡ length (actions_of c.args.self.now.events.items) = omega (arith, c.len.ensures, length-actions_of c.args.self.now.events.items, c.args.self.now.events.ok.0) in
+    let at : c.len.result ≡ length (actions_of c.args.sched.now c.args.self.now.events.items) = omega (arith, c.len.ensures, length-actions_of c.args.sched.now c.args.self.now.events.items, c.args.self.now.events.ok.0) in
     let first = c.first-met.ensures s.0 s.1 in
     let grown = ap (λ (n : ℕ). pushed r.0 (record { op = c.args.recv; at = n })) at in
     c.pair.ensures.answer ∙ post_answers _ _ _ _ _ _ c.requires.kept.mirrors c.args.recv c.requires.receive c.requires.fresh c.list_of_receive-list.result c.list_of_receive-list.ensures.list (record { receives = r.0; sends = s.0 }) (sides_read c.args.self.now.receives c.args.self.now.sends c.list_of_receive-list.result r.0 s.0 r.1 s.1) (record { receives = pushed r.0 (record { op = c.args.recv; at = c.len.result }); sends = record { entries = s.0.entries; head = first.0; room = s.0.room } }) c.first-met.result (rw c.deref.ensures.value at first.2) grown

@@ -4,7 +4,7 @@ use Rattle.goal_graph.specs.declared.action.Class.TheVariants.{Arrive}
 use Rattle.goal_graph.specs.Action.{happened}
 use Rattle.goal_graph.specs.Laws.{IsSend}
 use Rattle.sim_match.specs.PostsAndArrivals.{PostsAndArrivals, with_arrival, receive_for, NoReceiveFits}
-use Rattle.sim_match.proofs.Kept.{actions_of-push}
+use Rattle.sim_match.proofs.Kept.{actions_of-arrival}
 use Rattle.sim_match.proofs.Partnered.{arrival_partner, arrival_none}
 use Rattle.sim_match.proofs.matcher.Matcher.arrive.Goals as goal
 
@@ -23,7 +23,8 @@ invariant_of-self c = c.arrive.ensures.kept
 
 pub returns-clause-actions : goal.returns-clause-actions
 returns-clause-actions c =
-    rw (c.arrive.ensures.events, actions_of-push) (ap (λ (v : PostsAndArrivals). with_arrival v c.args.send) c.self.view_is)
+    let its = subst (λ (v : PostsAndArrivals). IsSend v.plans c.args.send) (sym c.self.view_is) c.requires.send in
+    rw (c.arrive.ensures.events, actions_of-arrival _ _ c.args.send its) (ap (λ (v : PostsAndArrivals). with_arrival v c.args.send) c.self.view_is)
 
 pub returns-clause-taken : goal.returns-clause-taken
 returns-clause-taken c =
@@ -33,7 +34,7 @@ pub returns-clause-partner : goal.returns-clause-partner
 returns-clause-partner c =
     let its = subst (λ (v : PostsAndArrivals). IsSend v.plans c.args.send) (sym c.self.view_is) c.requires.send in
     let fresh = subst (λ (v : PostsAndArrivals). happened Arrive c.args.send v.actions ≡ false) (sym c.self.view_is) c.requires.fresh in
-    rw (c.arrive.ensures.events, actions_of-push) (c.arrive.ensures.taken ∙ arrival_partner _ _ c.args.send its fresh)
+    rw (c.arrive.ensures.events, actions_of-arrival _ _ c.args.send its) (c.arrive.ensures.taken ∙ arrival_partner _ _ c.args.send its fresh)
 
 pub returns-clause-none : goal.returns-clause-none
 returns-clause-none c =

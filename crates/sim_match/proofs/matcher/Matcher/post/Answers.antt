@@ -4,7 +4,7 @@ use Rattle.goal_graph.specs.declared.action.Class.TheVariants.{Post}
 use Rattle.goal_graph.specs.Action.{happened}
 use Rattle.goal_graph.specs.Laws.{IsReceive}
 use Rattle.sim_match.specs.PostsAndArrivals.{PostsAndArrivals, with_post, send_for, NoSendFits}
-use Rattle.sim_match.proofs.Kept.{actions_of-push}
+use Rattle.sim_match.proofs.Kept.{actions_of-post}
 use Rattle.sim_match.proofs.Partnered.{post_partner, post_none}
 use Rattle.sim_match.proofs.matcher.Matcher.post.Goals as goal
 
@@ -23,7 +23,8 @@ invariant_of-self c = c.post.ensures.kept
 
 pub returns-clause-actions : goal.returns-clause-actions
 returns-clause-actions c =
-    rw (c.post.ensures.events, actions_of-push) (ap (λ (v : PostsAndArrivals). with_post v c.args.recv) c.self.view_is)
+    let its = subst (λ (v : PostsAndArrivals). IsReceive v.plans c.args.recv) (sym c.self.view_is) c.requires.receive in
+    rw (c.post.ensures.events, actions_of-post _ _ c.args.recv its) (ap (λ (v : PostsAndArrivals). with_post v c.args.recv) c.self.view_is)
 
 pub returns-clause-taken : goal.returns-clause-taken
 returns-clause-taken c =
@@ -33,7 +34,7 @@ pub returns-clause-partner : goal.returns-clause-partner
 returns-clause-partner c =
     let its = subst (λ (v : PostsAndArrivals). IsReceive v.plans c.args.recv) (sym c.self.view_is) c.requires.receive in
     let fresh = subst (λ (v : PostsAndArrivals). happened Post c.args.recv v.actions ≡ false) (sym c.self.view_is) c.requires.fresh in
-    rw (c.post.ensures.events, actions_of-push) (c.post.ensures.taken ∙ post_partner _ _ c.args.recv its fresh)
+    rw (c.post.ensures.events, actions_of-post _ _ c.args.recv its) (c.post.ensures.taken ∙ post_partner _ _ c.args.recv its fresh)
 
 pub returns-clause-none : goal.returns-clause-none
 returns-clause-none c =
