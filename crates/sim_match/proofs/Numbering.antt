@@ -1,15 +1,26 @@
 -- The list of an operation's own pattern: of a receive its list, of a send the first of its lists.
-use Rattle.std.proofs.Common.{ℕ, ◌<◌, ◌≡◌, ◌-◌, ◌^◌, true, List, [], ◌∷◌, length, Option, Some, None, refl, arith, sym, ap, ◌∙◌}
-use Rattle.std.specs.List.{list_all}
+use Rattle.std.proofs.Common.{ℕ, ◌<◌, ◌≡◌, ◌-◌, ◌^◌, List, [], ◌∷◌, length, Option, Some, None, refl, arith, sym, ap, ◌∙◌, subst}
 use Rattle.std.proofs.lemmas.Option.{none-some}
 use Rattle.goal_graph.specs.declared.action.OpId.{OpId}
 use Rattle.goal_graph.specs.declared.plan.Kind.{Kind}
 use Rattle.goal_graph.specs.Schedule.{Plan, kind_at}
 use Rattle.goal_graph.specs.Laws.{IsSend, IsReceive}
 use Rattle.sim_match.specs.declared.pattern.Pattern.{Pattern}
-use Rattle.sim_match.specs.Patterns.{pattern_of, own_pattern, number, list_number, list_of, own_list, lists_for, names_a_source, names_a_tag}
-use Rattle.sim_match.specs.ListNumbers.{IsCodable}
+use Rattle.sim_match.specs.Patterns.{pattern_of, own_pattern, number, list_number, list_of, own_list, lists_for}
+use Rattle.sim_match.specs.declared.list_numbers.ListNumbers.{ListNumbers}
+use Rattle.sim_match.specs.ListNumbers.{IsCodable, AreNamed, AreSought, AreNumbered}
 use Rattle.sim_match.proofs.PatternLemmas.{number_within, send_lists, unnamed}
+
+-- numbers that are the same have the same patterns
+unfoldable pub same_numbers : (plans : List Plan) (new old : ListNumbers) → new ≡ old → AreNumbered plans old → AreNumbered plans new
+same_numbers plans new old same are = record {
+  keys = are.keys;
+  listed = are.listed;
+  few = are.few;
+  own = ap (λ (n : ListNumbers). n.own.items) same ∙ are.own;
+  count = ap (λ (n : ListNumbers). n.count) same ∙ are.count;
+  sought = subst (λ (n : ListNumbers). AreSought are.keys n.patterns) (sym same) are.sought;
+}
 
 module _ (plans : List Plan) (keys : List Pattern) (x : OpId) where
   pub own_codable : length keys < 2 ^ 32 - 1 → IsCodable (own_list plans keys x)
@@ -32,9 +43,9 @@ module _ (plans : List Plan) (keys : List Pattern) (x : OpId) where
     lists_of_send = send_lists plans keys x s ∙ ap (λ (o : Option ℕ). o ∷ number keys (record { rank = s.to; from = Some x.rank; tag = None }) ∷ number keys (record { rank = s.to; from = None; tag = Some s.tag }) ∷ number keys (record { rank = s.to; from = None; tag = None }) ∷ []) (sym own_of_send)
 
     -- where each pattern names a source and a tag
-    pub lists_where_named : list_all names_a_source keys ≡ true → list_all names_a_tag keys ≡ true → lists_for plans keys x ≡ own_list plans keys x ∷ None ∷ None ∷ None ∷ []
-    lists_where_named sources tags =
-        let any_tag = unnamed (λ (p : Pattern). p.tag) keys (record { rank = s.to; from = Some x.rank; tag = None }) tags refl in
-        let any_source = unnamed (λ (p : Pattern). p.from) keys (record { rank = s.to; from = None; tag = Some s.tag }) sources refl in
-        let any = unnamed (λ (p : Pattern). p.from) keys (record { rank = s.to; from = None; tag = None }) sources refl in
+    pub lists_where_named : AreNamed keys → lists_for plans keys x ≡ own_list plans keys x ∷ None ∷ None ∷ None ∷ []
+    lists_where_named named =
+        let any_tag = unnamed (λ (p : Pattern). p.tag) keys (record { rank = s.to; from = Some x.rank; tag = None }) named.tags refl in
+        let any_source = unnamed (λ (p : Pattern). p.from) keys (record { rank = s.to; from = None; tag = Some s.tag }) named.sources refl in
+        let any = unnamed (λ (p : Pattern). p.from) keys (record { rank = s.to; from = None; tag = None }) named.sources refl in
         lists_of_send ∙ (λ i. own_list plans keys x ∷ sym any_tag i ∷ sym any_source i ∷ sym any i ∷ [])

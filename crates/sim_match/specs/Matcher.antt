@@ -108,4 +108,4 @@ pub record IsKept (plans : List Plan) (table : MatchTable) : Type 0 where
   pub few : length (operations plans) < 2 ^ 32
   pub as_many : length table.receives ≡ length table.sends
   pub numbered : AreNumbered plans table.numbers
-  pub mirrors : Mirrors plans table.numbers.patterns (side_by_side table.receives table.sends) table.marks.items (actions_of plans table.events.items) (vec_capacity table.events)
+  pub mirrors : Mirrors plans numbered.keys (side_by_side table.receives table.sends) table.marks.items (actions_of plans table.events.items) (vec_capacity table.events)

@@ -60,13 +60,13 @@ pub fn capacities(
     numbers: &ListNumbers,
 ) -> Result<Vec<Capacity>, AllocError>
     requires { AreNumbered sched.now numbers.now }
-    ensures { IfOk result (λ capacities. AreCapacities sched.now numbers.now.patterns (operations sched.now) capacities.items) }
+    ensures { IfOk result (λ capacities. (n : AreNumbered sched.now numbers.now) → AreCapacities sched.now n.keys (operations sched.now) capacities.items) }
 {
     let none = Capacity {
         receives: 0,
         sends: 0,
     };
-    let mut capacities = vec![in alloc; none; numbers.patterns.len()]?;
+    let mut capacities = vec![in alloc; none; numbers.count]?;
     for id in sched.operations() {
         match sched.op(*id).kind {
             Kind::Recv { .. } => {

@@ -4,20 +4,21 @@ ghost use Rattle.goal_graph.specs.Schedule.{operations};
 ghost use Rattle.goal_graph.specs.Fault.{IsOp};
 ghost use Rattle.goal_graph.specs.Laws.{IsSend, IsReceive};
 ghost use Rattle.sim_match.specs.Patterns.{own_list, list_of, lists_for, AreListed};
-ghost use Rattle.sim_match.specs.ListNumbers.{coded, IsCodable, AreNumbered};
+ghost use Rattle.sim_match.specs.ListNumbers.{coded, IsCodable, AreSought, AreNumbered};
 
 use crate::pattern::{Pattern, Patterns, own_list};
 use goal_base::NoMemory;
 use goal_graph::{Kind, Message, OpId, Sched};
 use std::alloc::{AllocError, Global};
 
-/// The patterns of a schedule, and for each operation, in the order of all, the number of the list of its own pattern:
-/// of what a receive asks for, and of what names the source and the tag of a send. `NO_LIST` stands where the schedule
-/// doesn't have that pattern.
+/// For each operation, in the order of all, the number of the list of its own pattern: of what a receive asks for, and of
+/// what names the source and the tag of a send. `NO_LIST` stands where the schedule doesn't have that pattern. The
+/// patterns are kept only where a run looks for some, and else their count alone.
 #[derive(Drop)]
 pub struct ListNumbers {
-    pub patterns: Patterns,
+    pub patterns: Option<Patterns>,
     pub own: Vec<u32>,
+    pub count: usize,
 }
 
 const NO_LIST: u32 = u32::MAX;
@@ -68,6 +69,17 @@ fn own_numbers(alloc: Global, sched: &Sched, patterns: &Patterns) -> Result<Vec<
     Ok(numbers)
 }
 
+// Patterns, where a run looks for some of them: where one takes any source or any tag.
+fn sought(patterns: Patterns) -> Option<Patterns>
+    ensures { AreSought patterns result }
+{
+    if patterns.name_all() {
+        None
+    } else {
+        Some(patterns)
+    }
+}
+
 impl ListNumbers {
     /// The numbers of a schedule. Each pattern is looked up here, next to the one before or by halving.
     pub fn of(alloc: Global, sched: &Sched) -> Result<ListNumbers, NoMemory>
@@ -75,14 +87,19 @@ impl ListNumbers {
     {
         let patterns = Patterns::of(alloc, sched)?;
         let own = own_numbers(alloc, sched, &patterns)?;
-        Ok(ListNumbers { patterns, own })
+        let count = patterns.len();
+        Ok(ListNumbers {
+            patterns: sought(patterns),
+            own,
+            count,
+        })
     }
 
     // What is kept of an operation.
     fn own(&self, sched: &Sched, id: OpId) -> u32
         requires op { IsOp sched.now id }
         requires numbered { AreNumbered sched.now self.now }
-        ensures { result ≡ coded (own_list sched.now self.now.patterns id) }
+        ensures { (n : AreNumbered sched.now self.now) → result ≡ coded (own_list sched.now n.keys id) }
     {
         self.own[sched.index(id) as usize]
     }
@@ -91,8 +108,8 @@ impl ListNumbers {
     pub fn list_of_receive(&self, sched: &Sched, recv: OpId) -> usize
         requires receive { IsReceive sched.now recv }
         requires numbered { AreNumbered sched.now self.now }
-        ensures list { list_of sched.now self.now.patterns recv ≡ Some result }
-        ensures within { result < length self.now.patterns }
+        ensures list { (n : AreNumbered sched.now self.now) → list_of sched.now n.keys recv ≡ Some result }
+        ensures within { result < self.now.count }
     {
         self.own(sched, recv) as usize
     }
@@ -102,19 +119,20 @@ impl ListNumbers {
     pub fn lists_of_send(&self, sched: &Sched, send: OpId) -> [Option<usize>; 4]
         requires send { IsSend sched.now send }
         requires numbered { AreNumbered sched.now self.now }
-        ensures { result ≡ lists_for sched.now self.now.patterns send }
+        ensures { (n : AreNumbered sched.now self.now) → result ≡ lists_for sched.now n.keys send }
     {
         let own = decoded(self.own(sched, send));
-        if self.patterns.name_all() {
-            return [own, None, None, None];
+        match &self.patterns {
+            None => [own, None, None, None],
+            Some(patterns) => {
+                let Message { to, tag, .. } = sched.message(send);
+                [
+                    own,
+                    patterns.number(Pattern::new(to, Some(send.rank), None)),
+                    patterns.number(Pattern::new(to, None, Some(tag))),
+                    patterns.number(Pattern::new(to, None, None)),
+                ]
+            }
         }
-        let Message { to, tag, .. } = sched.message(send);
-        [
-            own,
-            self.patterns
-                .number(Pattern::new(to, Some(send.rank), None)),
-            self.patterns.number(Pattern::new(to, None, Some(tag))),
-            self.patterns.number(Pattern::new(to, None, None)),
-        ]
     }
 }

@@ -95,7 +95,7 @@ impl MatchTable {
         requires kept { IsKept sched.now self.old }
         requires send { IsSend sched.now send }
         requires fresh { happened Arrive send (actions_of sched.now self.old.events.items) ≡ false }
-        ensures joined { IsJoined sched.now self.old.numbers.patterns (actions_of sched.now self.old.events.items) send (lists_for sched.now self.old.numbers.patterns send) (side_by_side self.new.receives self.new.sends) result }
+        ensures joined { (kept : IsKept sched.now self.old) → IsJoined sched.now kept.numbered.keys (actions_of sched.now self.old.events.items) send (lists_for sched.now kept.numbered.keys send) (side_by_side self.new.receives self.new.sends) result }
         ensures numbers { self.new.numbers ≡ self.old.numbers }
         ensures as_many { length self.new.receives ≡ length self.new.sends }
         ensures marks { self.new.marks ≡ self.old.marks }

@@ -1,4 +1,4 @@
-use Rattle.std.proofs.Common.{◌<◌, length, Some, ℕ, sym, ap, ◌∙◌, subst}
+use Rattle.std.proofs.Common.{Some, ℕ, arith, sym, ap, ◌∙◌}
 use Rattle.sim_match.specs.ListNumbers.{coded}
 use Rattle.sim_match.proofs.Numbering.{own_of_receive}
 use Rattle.sim_match.proofs.list_numbers.ListNumbers.list_of_receive.Goals as goal
@@ -8,13 +8,14 @@ pub own-requires-clause-op : goal.own-requires-clause-op
 own-requires-clause-op c = op_of_kind _ c.args.recv _ c.requires.receive.kind
 
 pub returns-clause-list : goal.returns-clause-list
-returns-clause-list c =
-    let its = c.requires.numbered.listed c.args.recv c.requires.receive in
-    let number = c.own.ensures ∙ ap coded (own_of_receive _ _ c.args.recv c.requires.receive ∙ its.is) in
+returns-clause-list c = λ n.
+    let its = n.listed c.args.recv c.requires.receive in
+    let number = c.own.ensures n ∙ ap coded (own_of_receive _ _ c.args.recv c.requires.receive ∙ its.is) in
     its.is ∙ ap (λ (n : ℕ). Some n) (sym number)
 
 pub returns-clause-within : goal.returns-clause-within
 returns-clause-within c =
-    let its = c.requires.numbered.listed c.args.recv c.requires.receive in
-    let number = c.own.ensures ∙ ap coded (own_of_receive _ _ c.args.recv c.requires.receive ∙ its.is) in
-    subst (λ (n : ℕ). n < length c.args.self.now.patterns) (sym number) its.within
+    let n = c.requires.numbered in
+    let its = n.listed c.args.recv c.requires.receive in
+    let number = c.own.ensures n ∙ ap coded (own_of_receive _ _ c.args.recv c.requires.receive ∙ its.is) in
+    omega (arith, number, its.within, n.count)

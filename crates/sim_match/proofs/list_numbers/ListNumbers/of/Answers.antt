@@ -1,4 +1,11 @@
 use Rattle.sim_match.proofs.list_numbers.ListNumbers.of.Goals as goal
 
 pub returns : goal.returns
-returns c = record { listed = c.in_ok-patterns.ensures.listed; few = c.in_ok-own.ensures.few; own = c.in_ok-own.ensures.numbers }
+returns c = record {
+  keys = c.in_ok-patterns.patterns;
+  listed = c.in_ok-patterns.ensures.listed;
+  few = c.in_ok-own.ensures.few;
+  own = c.in_ok-own.ensures.numbers;
+  count = c.len-count.ensures;
+  sought = c.sought.ensures;
+}

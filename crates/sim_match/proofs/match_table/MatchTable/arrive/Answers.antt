@@ -1,5 +1,6 @@
 use Rattle.std.proofs.Common.{arith, ◌∙◌}
 use Rattle.sim_match.proofs.Kept.{length-actions_of, actions_of-arrival, arrival_event_room, arrival_exists, arrival_met_exists, arrival_answers, arrival_keeps}
+use Rattle.sim_match.proofs.Numbering.{same_numbers}
 use Rattle.sim_match.proofs.match_table.MatchTable.arrive.Goals as goal
 use Rattle.goal_graph.proofs.ForCallers.{whole_back}
 
@@ -14,21 +15,22 @@ pair-requires-clause-op c =
 
 pub pair-requires-clause-other : goal.pair-requires-clause-other
 pair-requires-clause-other c =
-    arrival_met_exists _ _ _ _ _ _ c.requires.kept.mirrors c.args.send c.requires.send c.requires.fresh _ _ c.join-met.ensures.joined
+    arrival_met_exists _ _ _ _ _ _ c.requires.kept.mirrors c.args.send c.requires.send c.requires.fresh _ _ (c.join-met.ensures.joined c.requires.kept)
 
 pub returns-clause-kept : goal.returns-clause-kept
+unfolding same_numbers
 returns-clause-kept c =
     let changes = rw (c.deref_mut.ensures.value, c.join-met.ensures.marks) at c.pair.ensures.paired in
     let long = rw (c.deref_mut.ensures.value, c.join-met.ensures.marks) at c.pair.ensures.long in
     let back = whole_back c.join-met.new.self.marks.len c.pair.new.marks c.join-met.new.self.marks.items (rw c.deref_mut.ensures.value at c.pair.ensures.long) (omega (arith, c.join-met.new.self.marks.ok.0)) in
-    let kept = arrival_keeps _ _ _ _ _ _ c.requires.kept.mirrors c.args.send c.requires.send c.requires.fresh _ _ c.join-met.ensures.joined c.pair.new.marks changes long in
+    let kept = arrival_keeps _ _ _ _ _ _ c.requires.kept.mirrors c.args.send c.requires.send c.requires.fresh _ _ (c.join-met.ensures.joined c.requires.kept) c.pair.new.marks changes long in
     record {
       few = c.requires.kept.few;
       as_many = c.join-met.ensures.as_many;
-      numbered = rw c.join-met.ensures.numbers c.requires.kept.numbered;
-      mirrors = rw (back, c.push_reserved.ensures.items, c.push_reserved.ensures.capacity, c.join-met.ensures.numbers, c.join-met.ensures.events, actions_of-arrival _ _ c.args.send c.requires.send) kept;
+      numbered = same_numbers _ _ _ c.join-met.ensures.numbers c.requires.kept.numbered;
+      mirrors = rw (back, c.push_reserved.ensures.items, c.push_reserved.ensures.capacity, c.join-met.ensures.events, actions_of-arrival _ _ c.args.send c.requires.send) kept;
     }
 
 pub returns-clause-taken : goal.returns-clause-taken
 returns-clause-taken c =
-    c.pair.ensures.answer ∙ arrival_answers _ _ _ _ _ _ c.requires.kept.mirrors c.args.send c.requires.send c.requires.fresh _ _ c.join-met.ensures.joined
+    c.pair.ensures.answer ∙ arrival_answers _ _ _ _ _ _ c.requires.kept.mirrors c.args.send c.requires.send c.requires.fresh _ _ (c.join-met.ensures.joined c.requires.kept)

@@ -19,31 +19,31 @@ push_reserved-requires c =
 
 pub push-requires-clause-within : goal.push-requires-clause-within
 push-requires-clause-within c =
-    let within = post_within _ _ _ _ _ _ c.requires.kept.mirrors c.args.recv c.requires.receive c.requires.fresh c.list_of_receive-list.result c.list_of_receive-list.ensures.list in
+    let within = post_within _ _ _ _ _ _ c.requires.kept.mirrors c.args.recv c.requires.receive c.requires.fresh c.list_of_receive-list.result (c.list_of_receive-list.ensures.list c.requires.kept.numbered) in
     let long = sides_length c.args.self.now.receives c.args.self.now.sends c.requires.kept.as_many in
     omega (arith, within, long)
 
 pub push-requires-clause-room : goal.push-requires-clause-room
 push-requires-clause-room c = λ w e.
-    let within = post_within _ _ _ _ _ _ c.requires.kept.mirrors c.args.recv c.requires.receive c.requires.fresh c.list_of_receive-list.result c.list_of_receive-list.ensures.list in
+    let within = post_within _ _ _ _ _ _ c.requires.kept.mirrors c.args.recv c.requires.receive c.requires.fresh c.list_of_receive-list.result (c.list_of_receive-list.ensures.list c.requires.kept.numbered) in
     let long = sides_length c.args.self.now.receives c.args.self.now.sends c.requires.kept.as_many in
     let r = there_is c.args.self.now.receives c.list_of_receive-list.result (omega (arith, within, long)) in
     let s = there_is c.args.self.now.sends c.list_of_receive-list.result (omega (arith, within, long, c.requires.kept.as_many)) in
-    post_room _ _ _ _ _ _ c.requires.kept.mirrors c.args.recv c.requires.receive c.requires.fresh c.list_of_receive-list.result c.list_of_receive-list.ensures.list (record { receives = w; sends = s.0 }) (sides_read c.args.self.now.receives c.args.self.now.sends c.list_of_receive-list.result w s.0 e s.1)
+    post_room _ _ _ _ _ _ c.requires.kept.mirrors c.args.recv c.requires.receive c.requires.fresh c.list_of_receive-list.result (c.list_of_receive-list.ensures.list c.requires.kept.numbered) (record { receives = w; sends = s.0 }) (sides_read c.args.self.now.receives c.args.self.now.sends c.list_of_receive-list.result w s.0 e s.1)
 
 pub first-met-requires-clause-within : goal.first-met-requires-clause-within
 first-met-requires-clause-within c =
-    let within = post_within _ _ _ _ _ _ c.requires.kept.mirrors c.args.recv c.requires.receive c.requires.fresh c.list_of_receive-list.result c.list_of_receive-list.ensures.list in
+    let within = post_within _ _ _ _ _ _ c.requires.kept.mirrors c.args.recv c.requires.receive c.requires.fresh c.list_of_receive-list.result (c.list_of_receive-list.ensures.list c.requires.kept.numbered) in
     let long = sides_length c.args.self.now.receives c.args.self.now.sends c.requires.kept.as_many in
     omega (arith, within, long, c.requires.kept.as_many)
 
 pub first-met-requires-clause-ready : goal.first-met-requires-clause-ready
 first-met-requires-clause-ready c = λ w e.
-    let within = post_within _ _ _ _ _ _ c.requires.kept.mirrors c.args.recv c.requires.receive c.requires.fresh c.list_of_receive-list.result c.list_of_receive-list.ensures.list in
+    let within = post_within _ _ _ _ _ _ c.requires.kept.mirrors c.args.recv c.requires.receive c.requires.fresh c.list_of_receive-list.result (c.list_of_receive-list.ensures.list c.requires.kept.numbered) in
     let long = sides_length c.args.self.now.receives c.args.self.now.sends c.requires.kept.as_many in
     let r = there_is c.args.self.now.receives c.list_of_receive-list.result (omega (arith, within, long)) in
     let s = there_is c.args.self.now.sends c.list_of_receive-list.result (omega (arith, within, long, c.requires.kept.as_many)) in
-    rw c.deref.ensures.value (post_ready _ _ _ _ _ _ c.requires.kept.mirrors c.args.recv c.requires.receive c.requires.fresh c.list_of_receive-list.result c.list_of_receive-list.ensures.list (record { receives = r.0; sends = w }) (sides_read c.args.self.now.receives c.args.self.now.sends c.list_of_receive-list.result r.0 w r.1 e))
+    rw c.deref.ensures.value (post_ready _ _ _ _ _ _ c.requires.kept.mirrors c.args.recv c.requires.receive c.requires.fresh c.list_of_receive-list.result (c.list_of_receive-list.ensures.list c.requires.kept.numbered) (record { receives = r.0; sends = w }) (sides_read c.args.self.now.receives c.args.self.now.sends c.list_of_receive-list.result r.0 w r.1 e))
 
 pub pair-requires-clause-op : goal.pair-requires-clause-op
 pair-requires-clause-op c =
@@ -51,18 +51,18 @@ pair-requires-clause-op c =
 
 pub pair-requires-clause-other : goal.pair-requires-clause-other
 pair-requires-clause-other c =
-    let within = post_within _ _ _ _ _ _ c.requires.kept.mirrors c.args.recv c.requires.receive c.requires.fresh c.list_of_receive-list.result c.list_of_receive-list.ensures.list in
+    let within = post_within _ _ _ _ _ _ c.requires.kept.mirrors c.args.recv c.requires.receive c.requires.fresh c.list_of_receive-list.result (c.list_of_receive-list.ensures.list c.requires.kept.numbered) in
     let long = sides_length c.args.self.now.receives c.args.self.now.sends c.requires.kept.as_many in
     let r = there_is c.args.self.now.receives c.list_of_receive-list.result (omega (arith, within, long)) in
     let s = there_is c.args.self.now.sends c.list_of_receive-list.result (omega (arith, within, long, c.requires.kept.as_many)) in
     let at : c.len.result ≡ length (actions_of c.args.sched.now c.args.self.now.events.items) = omega (arith, c.len.ensures, length-actions_of c.args.sched.now c.args.self.now.events.items, c.args.self.now.events.ok.0) in
     let first = c.first-met.ensures s.0 s.1 in
     let grown = ap (λ (n : ℕ). pushed r.0 (record { op = c.args.recv; at = n })) at in
-    post_met_exists _ _ _ _ _ _ c.requires.kept.mirrors c.args.recv c.requires.receive c.requires.fresh c.list_of_receive-list.result c.list_of_receive-list.ensures.list (record { receives = r.0; sends = s.0 }) (sides_read c.args.self.now.receives c.args.self.now.sends c.list_of_receive-list.result r.0 s.0 r.1 s.1) (record { receives = pushed r.0 (record { op = c.args.recv; at = c.len.result }); sends = record { entries = s.0.entries; head = first.0; room = s.0.room } }) c.first-met.result (rw c.deref.ensures.value at first.2) grown
+    post_met_exists _ _ _ _ _ _ c.requires.kept.mirrors c.args.recv c.requires.receive c.requires.fresh c.list_of_receive-list.result (c.list_of_receive-list.ensures.list c.requires.kept.numbered) (record { receives = r.0; sends = s.0 }) (sides_read c.args.self.now.receives c.args.self.now.sends c.list_of_receive-list.result r.0 s.0 r.1 s.1) (record { receives = pushed r.0 (record { op = c.args.recv; at = c.len.result }); sends = record { entries = s.0.entries; head = first.0; room = s.0.room } }) c.first-met.result (rw c.deref.ensures.value at first.2) grown
 
 pub returns-clause-kept : goal.returns-clause-kept
 returns-clause-kept c =
-    let within = post_within _ _ _ _ _ _ c.requires.kept.mirrors c.args.recv c.requires.receive c.requires.fresh c.list_of_receive-list.result c.list_of_receive-list.ensures.list in
+    let within = post_within _ _ _ _ _ _ c.requires.kept.mirrors c.args.recv c.requires.receive c.requires.fresh c.list_of_receive-list.result (c.list_of_receive-list.ensures.list c.requires.kept.numbered) in
     let long = sides_length c.args.self.now.receives c.args.self.now.sends c.requires.kept.as_many in
     let r = there_is c.args.self.now.receives c.list_of_receive-list.result (omega (arith, within, long)) in
     let s = there_is c.args.self.now.sends c.list_of_receive-list.result (omega (arith, within, long, c.requires.kept.as_many)) in
@@ -72,7 +72,7 @@ returns-clause-kept c =
     let changes = rw c.deref_mut.ensures.value at c.pair.ensures.paired in
     let marked = rw c.deref_mut.ensures.value at c.pair.ensures.long in
     let back = whole_back c.args.self.now.marks.len c.pair.new.marks c.args.self.now.marks.items marked (omega (arith, c.args.self.now.marks.ok.0)) in
-    let kept = post_keeps _ _ _ _ _ _ c.requires.kept.mirrors c.args.recv c.requires.receive c.requires.fresh c.list_of_receive-list.result c.list_of_receive-list.ensures.list (record { receives = r.0; sends = s.0 }) (sides_read c.args.self.now.receives c.args.self.now.sends c.list_of_receive-list.result r.0 s.0 r.1 s.1) (record { receives = pushed r.0 (record { op = c.args.recv; at = c.len.result }); sends = record { entries = s.0.entries; head = first.0; room = s.0.room } }) c.first-met.result (rw c.deref.ensures.value at first.2) grown c.pair.new.marks changes marked in
+    let kept = post_keeps _ _ _ _ _ _ c.requires.kept.mirrors c.args.recv c.requires.receive c.requires.fresh c.list_of_receive-list.result (c.list_of_receive-list.ensures.list c.requires.kept.numbered) (record { receives = r.0; sends = s.0 }) (sides_read c.args.self.now.receives c.args.self.now.sends c.list_of_receive-list.result r.0 s.0 r.1 s.1) (record { receives = pushed r.0 (record { op = c.args.recv; at = c.len.result }); sends = record { entries = s.0.entries; head = first.0; room = s.0.room } }) c.first-met.result (rw c.deref.ensures.value at first.2) grown c.pair.new.marks changes marked in
     let sides = ap₂ side_by_side (c.push.ensures r.0 r.1) first.1 ∙ sides_set c.args.self.now.receives c.args.self.now.sends c.list_of_receive-list.result _ _ in
     let more = ap length (c.push.ensures r.0 r.1) ∙ length-set c.args.self.now.receives c.list_of_receive-list.result _ in
     let less = ap length first.1 ∙ length-set c.args.self.now.sends c.list_of_receive-list.result _ in
@@ -85,11 +85,11 @@ returns-clause-kept c =
 
 pub returns-clause-taken : goal.returns-clause-taken
 returns-clause-taken c =
-    let within = post_within _ _ _ _ _ _ c.requires.kept.mirrors c.args.recv c.requires.receive c.requires.fresh c.list_of_receive-list.result c.list_of_receive-list.ensures.list in
+    let within = post_within _ _ _ _ _ _ c.requires.kept.mirrors c.args.recv c.requires.receive c.requires.fresh c.list_of_receive-list.result (c.list_of_receive-list.ensures.list c.requires.kept.numbered) in
     let long = sides_length c.args.self.now.receives c.args.self.now.sends c.requires.kept.as_many in
     let r = there_is c.args.self.now.receives c.list_of_receive-list.result (omega (arith, within, long)) in
     let s = there_is c.args.self.now.sends c.list_of_receive-list.result (omega (arith, within, long, c.requires.kept.as_many)) in
     let at : c.len.result ≡ length (actions_of c.args.sched.now c.args.self.now.events.items) = omega (arith, c.len.ensures, length-actions_of c.args.sched.now c.args.self.now.events.items, c.args.self.now.events.ok.0) in
     let first = c.first-met.ensures s.0 s.1 in
     let grown = ap (λ (n : ℕ). pushed r.0 (record { op = c.args.recv; at = n })) at in
-    c.pair.ensures.answer ∙ post_answers _ _ _ _ _ _ c.requires.kept.mirrors c.args.recv c.requires.receive c.requires.fresh c.list_of_receive-list.result c.list_of_receive-list.ensures.list (record { receives = r.0; sends = s.0 }) (sides_read c.args.self.now.receives c.args.self.now.sends c.list_of_receive-list.result r.0 s.0 r.1 s.1) (record { receives = pushed r.0 (record { op = c.args.recv; at = c.len.result }); sends = record { entries = s.0.entries; head = first.0; room = s.0.room } }) c.first-met.result (rw c.deref.ensures.value at first.2) grown
+    c.pair.ensures.answer ∙ post_answers _ _ _ _ _ _ c.requires.kept.mirrors c.args.recv c.requires.receive c.requires.fresh c.list_of_receive-list.result (c.list_of_receive-list.ensures.list c.requires.kept.numbered) (record { receives = r.0; sends = s.0 }) (sides_read c.args.self.now.receives c.args.self.now.sends c.list_of_receive-list.result r.0 s.0 r.1 s.1) (record { receives = pushed r.0 (record { op = c.args.recv; at = c.len.result }); sends = record { entries = s.0.entries; head = first.0; room = s.0.room } }) c.first-met.result (rw c.deref.ensures.value at first.2) grown
