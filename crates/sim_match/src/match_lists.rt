@@ -11,14 +11,13 @@ use goal_graph::{OpId, Sched};
 use std::alloc::Global;
 use std::marker::Model;
 
-/// Where a match list stands among the entries: from `start` on, so many of them; it has room up to `end`. Those before
-/// the head are skipped.
+/// Where a match list stands among the entries: from `start` on, so many of them. It has room up to where the next
+/// begins. Those before the head are skipped.
 #[derive(Clone, Copy, Debug)]
 pub struct Span {
     pub start: u32,
     pub len: u32,
     pub head: u32,
-    pub end: u32,
 }
 
 /// Match lists by number. Contracts see the list of them.
@@ -29,16 +28,16 @@ pub struct MatchLists {
 }
 
 impl Model for MatchLists {
-    ghost use Rattle.std.specs.Prelude.{List, map};
+    ghost use Rattle.std.specs.Prelude.{List, map, length};
     ghost use Rattle.sim_match.specs.MatchLists.{MatchList};
 
     ghost Value = { List MatchList };
 
-    ghost use Rattle.sim_match.specs.Packed.{list_at, ArePacked};
+    ghost use Rattle.sim_match.specs.Packed.{list_at, stretches, ArePacked};
 
-    ghost view = { λ m. map (list_at m.entries.items) m.spans.items };
+    ghost view = { λ m. map (list_at m.entries.items) (stretches m.spans.items (length m.entries.items)) };
 
-    ghost invariant = { λ m. ArePacked m.spans.items m.entries.items };
+    ghost invariant = { λ m. ArePacked (stretches m.spans.items (length m.entries.items)) m.entries.items };
 }
 
 impl MatchLists {
@@ -59,7 +58,6 @@ impl MatchLists {
                 start,
                 len: 0,
                 head: 0,
-                end,
             });
         }
         let none = MatchEntry {
@@ -82,7 +80,6 @@ impl MatchLists {
             start: span.start,
             len: span.len + 1,
             head: span.head,
-            end: span.end,
         };
     }
 
@@ -102,7 +99,6 @@ impl MatchLists {
             start: span.start,
             len: span.len,
             head: head as u32,
-            end: span.end,
         };
         first
     }
