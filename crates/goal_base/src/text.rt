@@ -52,6 +52,9 @@ impl TextOut {
         if n < 10_000 {
             return self.short(n as u32);
         }
+        if n < 100_000_000 {
+            return self.middle(n as u32);
+        }
         self.long(n)
     }
 
@@ -63,6 +66,18 @@ impl TextOut {
     {
         self.bytes.reserve(4)?;
         four_digits(&mut self.bytes, n);
+        Ok(())
+    }
+
+    // Most times have five to eight digits, and are written without a buffer too.
+    fn middle(&mut self, n: u32) -> Result<(), NoMemory>
+        requires long { 10000 ≤ n }
+        requires short { n < 100000000 }
+        ensures ok { OnOk result (self.new ≡ self.old ++ decimal n) }
+        ensures err { OnErr result (self.new ≡ self.old) }
+    {
+        self.bytes.reserve(8)?;
+        eight_digits(&mut self.bytes, n);
         Ok(())
     }
 
@@ -178,5 +193,26 @@ fn four_digits(bytes: &mut Vec<u8>, n: u32)
     if n >= 10 {
         three_digits(bytes, n / 10);
     }
+    one_digit(bytes, n % 10);
+}
+
+// Appends a number of five to eight digits.
+#[inline(always)]
+#[tactic(auto, using(crate::proofs::TextLemmas::last_digit))]
+fn eight_digits(bytes: &mut Vec<u8>, n: u32)
+    requires long { 10000 ≤ n }
+    requires short { n < 100000000 }
+    requires room { vec_len bytes.old + 8 ≤ vec_capacity bytes.old }
+    ensures items { bytes.new.items ≡ bytes.old.items ++ decimal n }
+    ensures len { vec_len bytes.new ≤ vec_len bytes.old + 8 }
+    ensures capacity { vec_capacity bytes.new ≡ vec_capacity bytes.old }
+{
+    let tens = n / 10;
+    let hundreds = tens / 10;
+    let thousands = hundreds / 10;
+    four_digits(bytes, thousands / 10);
+    one_digit(bytes, thousands % 10);
+    one_digit(bytes, hundreds % 10);
+    one_digit(bytes, tens % 10);
     one_digit(bytes, n % 10);
 }
