@@ -10,6 +10,8 @@ pub mod CommentLaws
 pub mod NothingLaws
 pub mod ReadingLaws
 pub mod OnlyLaws
+pub mod AheadLaws
+pub mod FoundAheadLaws
 pub mod StretchLaws
 pub mod WholeLaws
 pub mod GoesOnLaws

@@ -1,9 +1,12 @@
--- Reserved words are looked up among those of their length.
-use Rattle.std.proofs.Common.{◌≡◌, ℕ, Bool, true, false, List, [], ◌∷◌, length, nat_eq, bytes_eq, if◌then◌else◌, refl, sym, ap, ◌∙◌, arith}
+-- Reserved words are looked up among those of their length, and known by their last bytes.
+use Rattle.std.proofs.Common.{◌≡◌, ℕ, ◌-◌, ◌&&◌, Bool, true, false, not, List, [], ◌∷◌, length, get_or, nat_eq, bytes_eq, if◌then◌else◌, refl, sym, ap, ◌∙◌, arith}
+use Rattle.std.proofs.lemmas.Bool.{and_parts}
 use Rattle.std.proofs.lemmas.Slice.Eq.{bytes_eq-Decides}
 use Rattle.std.proofs.lemmas.Bool.Decides.{nat_tests}
 use Rattle.goal_lexer.specs.declared.tokens.TokenKind.{TokenKind}
-use Rattle.goal_lexer.specs.Words.{kind_among, words_of_length}
+use Rattle.goal_lexer.specs.declared.tokens.TokenKind.TheVariants.{Label}
+use Rattle.goal_lexer.specs.Bytes.{ends_reserved}
+use Rattle.goal_lexer.specs.Words.{kind_among, words_of_length, reserved_words, word_kind}
 
 -- bytes of another length are not the word
 other_length : (xs ys : List ℕ) → nat_eq (length xs) (length ys) ≡ false → bytes_eq xs ys ≡ false
@@ -30,3 +33,35 @@ kind_among_length [] word = refl
 kind_among_length (entry ∷ entries) word =
     kind_of_entry (nat_eq (length word) (length entry.0)) entry entries (words_of_length (length word) entries) word refl
     (kind_among_length entries word)
+
+-- the last byte is that of a reserved word
+abbrev pub ends_as_reserved : List ℕ → Bool
+ends_as_reserved bytes = ends_reserved (get_or bytes (length bytes - 1) 0)
+
+-- each word of the table ends so
+abbrev all_end_so : List (List ℕ × TokenKind) → Bool
+all_end_so [] = true
+all_end_so (entry ∷ entries) = ends_as_reserved entry.0 && all_end_so entries
+
+-- bytes that end otherwise are not the word
+other_end : (xs ys : List ℕ) → ends_as_reserved xs ≡ false → ends_as_reserved ys ≡ true → bytes_eq xs ys ≡ false
+other_end xs ys free other = differs (bytes_eq xs ys) refl
+  where
+    differs : (b : Bool) → bytes_eq xs ys ≡ b → bytes_eq xs ys ≡ false
+    differs false is = is
+    differs true is =
+        let same : ends_as_reserved xs ≡ ends_as_reserved ys = ap ends_as_reserved ((bytes_eq-Decides xs ys).0 is) in
+        let no : false ≡ true = sym free ∙ same ∙ other in
+        cc
+
+label_among : (entries : List (List ℕ × TokenKind)) (word : List ℕ) → all_end_so entries ≡ true → ends_as_reserved word ≡ false →
+    kind_among entries word ≡ Label word
+label_among [] word all free = refl
+label_among (entry ∷ entries) word all free =
+    let parts = and_parts (ends_as_reserved entry.0) (all_end_so entries) all in
+    ap (λ (b : Bool). if b then entry.1 else kind_among entries word) (other_end word entry.0 free parts.0)
+    ∙ label_among entries word parts.1 free
+
+-- a word that ends as none of them does is a label
+pub label_by_end : (word : List ℕ) → ends_as_reserved word ≡ false → word_kind word ≡ Label word
+label_by_end word free = label_among reserved_words word refl free

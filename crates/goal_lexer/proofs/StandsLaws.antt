@@ -75,7 +75,7 @@ stands_on new place text xs tokens at_place scan_is sound =
     record { place = at_place; open_there = ap (λ (r : Scanned). r.0) scan_is; run_there = tt; sound = sound }
 
 -- what a run's token says of what is open
-run_by_closing : (mode : Mode) (place : ℕ) (token : Token) → closing place mode ≡ token ∷ [] →
+pub run_by_closing : (mode : Mode) (place : ℕ) (token : Token) → closing place mode ≡ token ∷ [] →
     (after_run mode ≡ Between) × IsRun mode
 run_by_closing (Run start bytes form) place token some = (refl, tt)
 run_by_closing Between place token some = cc

@@ -11,6 +11,7 @@ pub mod State
 pub mod Stands
 pub mod Open
 pub mod Found
+pub mod Ahead
 -- What only the code keeps.
 pub mod Sound
 pub mod Steps

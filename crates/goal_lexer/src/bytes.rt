@@ -1,6 +1,6 @@
 //! What a byte of the text is.
 ghost use Rattle.std.specs.Prelude.{◌≡◌};
-ghost use Rattle.goal_lexer.specs.Bytes.{is_blank, begins_word, is_digit, is_run_byte};
+ghost use Rattle.goal_lexer.specs.Bytes.{is_blank, begins_word, is_digit, is_run_byte, ends_reserved};
 
 /// The bytes of runs among all bytes: an `x` at each.
 const RUN_BYTES: [u8; 256] = *b"\
@@ -32,6 +32,22 @@ pub(crate) fn is_digit(byte: u8) -> bool
     ensures { result ≡ is_digit byte }
 {
     byte.is_ascii_digit()
+}
+
+/// Whether a reserved word ends with the byte.
+pub(crate) fn ends_reserved(byte: u8) -> bool
+    ensures { result ≡ ends_reserved byte }
+{
+    byte == b'c'
+        || byte == b'd'
+        || byte == b'g'
+        || byte == b'k'
+        || byte == b'm'
+        || byte == b'o'
+        || byte == b's'
+        || byte == b'u'
+        || byte == b'v'
+        || byte == b'y'
 }
 
 /// Whether the byte is a letter, a digit or `_`.

@@ -43,7 +43,7 @@ impl Label {
     }
 
     /// The label of these bytes.
-    pub(crate) fn of(text: &[u8]) -> Label
+    pub fn of(text: &[u8]) -> Label
         requires some { 0 < length text.now }
         requires most { length text.now ≤ 64 }
         ensures { result ≡ text.now }

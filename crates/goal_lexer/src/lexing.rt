@@ -4,6 +4,8 @@ ghost use Rattle.goal_lexer.specs.Sound.{IsSound};
 ghost use Rattle.goal_lexer.specs.Scan.{scanned, lexed};
 ghost use Rattle.goal_lexer.specs.Stands.{Stands, handed, begins_run};
 ghost use Rattle.goal_lexer.specs.Found.{found_token};
+ghost use Rattle.goal_lexer.specs.Ahead.{IsAhead};
+ghost use Rattle.goal_lexer.specs.declared.tokens.Token.{Token};
 ghost use Rattle.goal_lexer.specs.State.{LexState};
 
 use crate::mode::Mode;
@@ -52,6 +54,46 @@ impl Lexer {
             place: 0,
             ends_run: false,
         }
+    }
+
+    /// Whether nothing is open.
+    #[inline(always)]
+    pub fn is_between(&self) -> bool
+        ensures { result ≡ true → self.now.mode ≡ Mode.Between }
+    {
+        match self.mode {
+            Mode::Between => true,
+            _ => false,
+        }
+    }
+
+    /// Takes so many bytes from the front of `rest`, which the functions that look ahead found to be tokens, and whether
+    /// they end with a run.
+    #[inline(always)]
+    pub fn go_on(&mut self, rest: &[u8], count: usize, ends_run: bool)
+        // The places are numbers of 64 bits.
+        requires place { self.old.place + length rest.now < 2 ^ 64 }
+
+        // Nothing is open, and what follows a run that was handed out is no more of that run.
+        requires between { self.old.mode ≡ Mode.Between }
+        requires apart { self.old.ends_run ≡ true → begins_run rest.now ≡ false }
+
+        // The bytes are tokens.
+        requires some { 0 < count }
+        requires ahead { (tokens : List Token) × IsAhead self.old.place rest.now count ends_run tokens }
+
+        ensures place { self.new.place ≡ self.old.place + count }
+        ensures between { self.new.mode ≡ Mode.Between }
+        ensures apart_next { self.new.ends_run ≡ true → begins_run (drop count rest.now) ≡ false }
+        ensures left { self.new.ends_run ≡ true → count < length rest.now }
+
+        // The text goes on by these bytes, and the tokens handed out by their tokens.
+        ensures stands { (text : List ℕ) → Stands self.old text → Stands self.new (text ++ take count rest.now) }
+        ensures handed { (tokens : List Token) → IsAhead self.old.place rest.now count ends_run tokens → (text : List ℕ) → Stands self.old text → handed self.new (text ++ take count rest.now) ≡ handed self.old text ++ tokens }
+    {
+        let _rest = rest;
+        self.place += count as u64;
+        self.ends_run = ends_run;
     }
 
     /// Takes bytes from the front of `rest`, up to the end of the next token, and hands that token out. Where

@@ -4,8 +4,12 @@
 //! [`Lexer::next_token`] takes bytes from the front of a piece up to the end of the next token, and
 //! [`Lexer::finish`] ends the text. The lexer takes no memory, and keeps no byte but those of the run
 //! that is open.
+//!
+//! Functions as [`word_ahead`] and [`label_ahead`] look ahead at the tokens that a piece begins with and take none, and
+//! [`Lexer::go_on`] takes what they found by one call.
 #![tactic(auto)]
 
+mod ahead;
 mod bytes;
 mod labels;
 mod laws;
@@ -20,6 +24,9 @@ mod tokens;
 mod whole;
 mod words;
 
+pub use ahead::{
+    Amount, begins_with_colon, blanks_ahead, label_ahead, number_ahead, size_ahead, word_ahead,
+};
 pub use labels::{Label, MOST_RUN_BYTES};
 pub use laws::{laws_of_lexers, laws_of_tokens};
 pub use lexing::Lexer;

@@ -1,0 +1,157 @@
+-- Tokens that are found ahead.
+use Rattle.std.proofs.Common.{◌≡◌, ℕ, ◌+◌, ◌-◌, ◌<◌, ◌≤◌, Bool, true, false, List, [], ◌∷◌, length, take, drop, get_or, nat_eq, refl, sym, ap, subst, ◌∙◌, arith, length-drop}
+use Rattle.std.proofs.lemmas.Bool.{false≢true, and_parts}
+use Rattle.std.proofs.lemmas.Bool.Decides.{nat_tests}
+use Rattle.std.proofs.lemmas.List.{take_rest, get_or-drop, get_or-take, drop_more, length-take-le}
+use Rattle.std.specs.List.{list_all}
+use Rattle.goal_lexer.specs.declared.tokens.Token.{Token}
+use Rattle.goal_lexer.specs.declared.tokens.TokenKind.{TokenKind}
+use Rattle.goal_lexer.specs.declared.tokens.TokenKind.TheVariants.{Number, Size, Label, Colon}
+use Rattle.goal_lexer.specs.declared.mode.Form.TheVariants.{Word}
+use Rattle.goal_lexer.specs.declared.mode.Mode.{Mode}
+use Rattle.goal_lexer.specs.declared.mode.Mode.TheVariants.{Between, Run}
+use Rattle.goal_lexer.specs.Bytes.{is_blank, begins_word, is_digit, is_run_byte, ends_reserved, size_mark}
+use Rattle.goal_lexer.specs.Numbers.{number_value}
+use Rattle.goal_lexer.specs.Words.{word_kind}
+use Rattle.goal_lexer.specs.Scan.{Scanned, next, scan, closing, ended}
+use Rattle.goal_lexer.specs.Sound.{IsRun}
+use Rattle.goal_lexer.specs.Stands.{begins_run}
+use Rattle.goal_lexer.specs.Pieces.{Each, AreWord}
+use Rattle.goal_lexer.specs.Whole.{IsWholeRun}
+use Rattle.goal_lexer.specs.Ahead.{AreBlanks, is_word, IsAhead}
+use Rattle.goal_lexer.proofs.ScanLaws.{scan_one}
+use Rattle.goal_lexer.proofs.StandsLaws.{run_by_closing}
+use Rattle.goal_lexer.proofs.StretchLaws.{Each-take, scan_blanks}
+use Rattle.goal_lexer.proofs.WholeLaws.{whole_letters, whole_digits, whole_size, run_in_piece, scan_of_run}
+use Rattle.goal_lexer.proofs.ReservedWords.{ends_as_reserved, label_by_end}
+
+-- what is behind the blanks, as code takes it
+abbrev pub behind : ℕ → List ℕ → List ℕ
+behind n xs = take (length xs - n) (drop n xs)
+
+pub get_or-behind : (xs : List ℕ) (n k : ℕ) → get_or (behind n xs) k 0 ≡ get_or xs (n + k) 0
+get_or-behind xs n k = ap (λ (ys : List ℕ). get_or ys k 0) (take_rest xs n) ∙ get_or-drop n xs k 0
+
+length-behind : (xs : List ℕ) (n : ℕ) → length (behind n xs) ≡ length xs - n
+length-behind xs n = ap length (take_rest xs n) ∙ length-drop n xs
+
+-- a run behind blanks is ahead
+run_ahead : (place blanks count total : ℕ) (piece : List ℕ) (kind : TokenKind) → AreBlanks piece blanks →
+    total ≡ blanks + count →
+    IsWholeRun (place + blanks) (behind blanks piece) count (record { kind = kind; start = place + blanks; end = place + blanks + count }) →
+    IsAhead place piece total true (record { kind = kind; start = place + blanks; end = place + total } ∷ [])
+run_ahead place blanks count total piece kind are total_is whole =
+    let quiet = scan_blanks place (take blanks piece) (Each-take is_blank blanks piece are.1 are.0) in
+    let found = run_in_piece Between place blanks count piece (record { kind = kind; start = place + blanks; end = place + blanks + count }) are.0 quiet whole in
+    let run = found.2.0 in
+    let known = run_by_closing run (place + (blanks + count)) (record { kind = kind; start = place + blanks; end = place + blanks + count }) found.2.2 in
+    let at : place + blanks + count ≡ place + (blanks + count) = omega arith in
+    subst (λ (n : ℕ). IsAhead place piece n true (record { kind = kind; start = place + blanks; end = place + n } ∷ [])) (sym total_is) (
+      found.0,
+      found.1,
+      subst (λ (r : Scanned). IsRun r.0) (sym found.2.1) known.1,
+      ap (ended (place + (blanks + count))) found.2.1
+          ∙ ap (λ (m : Mode). (m, closing (place + (blanks + count)) run)) known.0
+          ∙ ap (λ (ts : List Token). (Between, ts)) found.2.2
+          ∙ ap (λ (e : ℕ). (Between, record { kind = kind; start = place + blanks; end = e } ∷ [])) at,
+    )
+
+-- digits behind blanks
+pub digits_ahead : (place blanks count value : ℕ) (piece : List ℕ) → AreBlanks piece blanks → 0 < count →
+    blanks + count < length piece → count ≤ 64 →
+    ((k : ℕ) → k < count → is_digit (get_or (behind blanks piece) k 0) ≡ true) → is_run_byte (get_or piece (blanks + count) 0) ≡ false →
+    value ≡ number_value (take count (behind blanks piece)) →
+    IsAhead place piece (blanks + count) true (record { kind = Number value; start = place + blanks; end = place + (blanks + count) } ∷ [])
+digits_ahead place blanks count value piece are some inside few each ends is =
+    let run = behind blanks piece in
+    run_ahead place blanks count (blanks + count) piece (Number value) are refl
+    (whole_digits (place + blanks) count value run some (omega (arith, length-behind piece blanks)) few each
+    (ap is_run_byte (get_or-behind piece blanks count) ∙ ends) is)
+
+-- a size behind blanks
+pub size_found : (place blanks count value : ℕ) (piece : List ℕ) → AreBlanks piece blanks → 0 < count →
+    blanks + count + 1 < length piece → count < 64 →
+    ((k : ℕ) → k < count → is_digit (get_or (behind blanks piece) k 0) ≡ true) → get_or piece (blanks + count) 0 ≡ size_mark →
+    is_run_byte (get_or piece (blanks + count + 1) 0) ≡ false → value ≡ number_value (take count (behind blanks piece)) →
+    IsAhead place piece (blanks + count + 1) true (record { kind = Size value; start = place + blanks; end = place + (blanks + count + 1) } ∷ [])
+size_found place blanks count value piece are some inside few each mark ends is =
+    let run = behind blanks piece in
+    let at : blanks + count + 1 ≡ blanks + (count + 1) = omega arith in
+    run_ahead place blanks (count + 1) (blanks + count + 1) piece (Size value) are at
+    (whole_size (place + blanks) count value run some (omega (arith, length-behind piece blanks)) few each
+    (get_or-behind piece blanks count ∙ mark)
+    (ap is_run_byte (get_or-behind piece blanks (count + 1)) ∙ ap (λ (k : ℕ). is_run_byte (get_or piece k 0)) (sym at) ∙ ends) is)
+
+-- a word that ends with a digit, behind blanks
+pub label_found : (place blanks count : ℕ) (piece : List ℕ) → AreBlanks piece blanks → 0 < count → count < length (behind blanks piece) →
+    count ≤ 64 → begins_word (get_or (behind blanks piece) 0 0) ≡ true →
+    ((k : ℕ) → k < count → is_run_byte (get_or (behind blanks piece) k 0) ≡ true) →
+    is_run_byte (get_or (behind blanks piece) count 0) ≡ false → ends_reserved (get_or (behind blanks piece) (count - 1) 0) ≡ false →
+    IsAhead place piece (blanks + count) true
+    (record { kind = Label (take (blanks + count - blanks) (drop blanks piece)); start = place + blanks; end = place + (blanks + count) } ∷ [])
+label_found place blanks count piece are some inside few begins each ends digit =
+    let run = behind blanks piece in
+    let word = take count run in
+    let long : length word ≡ count = length-take-le count run (omega arith) in
+    let last : ends_as_reserved word ≡ false =
+    ap (λ (n : ℕ). ends_reserved (get_or word (n - 1) 0)) long
+    ∙ ap ends_reserved (get_or-take count run (count - 1) 0 (omega arith))
+    ∙ digit in
+    let same : count ≡ blanks + count - blanks = omega arith in
+    let spelled : word ≡ take (blanks + count - blanks) (drop blanks piece) =
+    ap (take count) (take_rest piece blanks) ∙ ap (λ (n : ℕ). take n (drop blanks piece)) same in
+    subst (λ (w : List ℕ). IsAhead place piece (blanks + count) true (record { kind = Label w; start = place + blanks; end = place + (blanks + count) } ∷ [])) spelled
+    (run_ahead place blanks count (blanks + count) piece (Label word) are refl
+    (whole_letters (place + blanks) count run (Label word) some inside few begins each ends (sym (label_by_end word last))))
+
+-- the bytes of a word
+Each-all : (test : ℕ → Bool) (xs : List ℕ) → list_all test xs ≡ true → Each test xs
+Each-all test [] all = tt
+Each-all test (x ∷ xs) all =
+    let parts = and_parts (test x) (list_all test xs) all in
+    (parts.0, Each-all test xs parts.1)
+
+are_word : (word : List ℕ) → is_word word ≡ true → AreWord word
+are_word [] is = absurd (false≢true is)
+are_word (c ∷ cs) is =
+    let parts = and_parts (begins_word c) (list_all is_run_byte cs) is in
+    (parts.0, Each-all is_run_byte cs parts.1)
+
+word_each : (word : List ℕ) → AreWord word → Each is_run_byte word
+word_each [] are = absurd are
+word_each (c ∷ cs) are = let begins = are.0 in (rw begins, are.1)
+
+word_some : (word : List ℕ) → AreWord word → 0 < length word
+word_some [] are = absurd are
+word_some (c ∷ cs) are = omega arith
+
+-- the word itself, behind blanks
+pub word_found : (place blanks : ℕ) (piece word : List ℕ) → AreBlanks piece blanks → is_word word ≡ true → length word ≤ 64 →
+    blanks + length word < length piece → take (length word) (drop blanks piece) ≡ word →
+    is_run_byte (get_or piece (blanks + length word) 0) ≡ false →
+    IsAhead place piece (blanks + length word) true
+    (record { kind = word_kind word; start = place + blanks; end = place + (blanks + length word) } ∷ [])
+word_found place blanks piece word are is short inside same ends =
+    let run = behind blanks piece in
+    let at = place + blanks in
+    let parts = are_word word is in
+    let few : length word < length run = omega (arith, length-behind piece blanks) in
+    let front : take (length word) run ≡ word = ap (take (length word)) (take_rest piece blanks) ∙ same in
+    run_ahead place blanks (length word) (blanks + length word) piece (word_kind word) are refl (
+      word_some word parts,
+      few,
+      ap begins_run (drop_more run (length word) 0 few) ∙ ap is_run_byte (get_or-behind piece blanks (length word)) ∙ ends,
+      refl,
+      (Run at word Word, ap (scan Between at) front ∙ scan_of_run at word Word (word_each word parts) parts short, refl),
+    )
+
+-- a colon in front
+pub colon_found : (piece : List ℕ) → 0 < length piece → nat_eq (get_or piece 0 0) 58 ≡ true → (place : ℕ) →
+    IsAhead place piece 1 false (record { kind = Colon; start = place; end = place + 1 } ∷ [])
+colon_found [] some is place = absurd (omega arith)
+colon_found (c ∷ cs) some is place =
+    let same : c ≡ 58 = grind (arith, nat_tests) in (
+      omega arith,
+      scan_one Between place c
+          ∙ subst (λ (b : ℕ). next Between place b ≡ (Between, record { kind = Colon; start = place; end = place + 1 } ∷ [])) (sym same) refl,
+    )

@@ -1,0 +1,126 @@
+//! What stands ahead in a piece, where nothing is open.
+//!
+//! These look at tokens without taking them: a caller that finds what it waits for takes all of it by one
+//! [`crate::Lexer::go_on`]. Each finds less than a text may have: a token that isn't found so is taken by
+//! [`crate::Lexer::next_token_into`].
+ghost use Rattle.std.specs.Prelude.{◌≡◌, ℕ, ◌+◌, ◌-◌, ◌<◌, ◌≤◌, true, false, [], ◌∷◌, length, take, drop};
+ghost use Rattle.goal_lexer.specs.Ahead.{AreBlanks, is_word, IsAhead};
+ghost use Rattle.goal_lexer.specs.Words.{word_kind};
+
+use crate::bytes::{begins_word, ends_reserved, is_blank, is_run_byte};
+use crate::labels::MOST_RUN_BYTES;
+use crate::numbers::{Leading, leading_digits};
+use crate::stretches::{count_blanks, count_run};
+use crate::tokens::TokenKind;
+
+/// A number or a size that stands ahead.
+#[derive(Clone, Copy, Debug, PartialEq, Eq)]
+pub struct Amount {
+    /// How many bytes it takes, with the blanks before it; 0 where none was found.
+    pub count: usize,
+    /// Its value.
+    pub value: u64,
+}
+
+/// How many blanks stand in front, where they may be many.
+#[inline(never)]
+fn many_blanks(rest: &[u8]) -> usize
+    ensures { AreBlanks rest.now result }
+{
+    count_blanks(rest)
+}
+
+/// How many blanks stand in front.
+#[inline(always)]
+pub fn blanks_ahead(rest: &[u8]) -> usize
+    ensures { AreBlanks rest.now result }
+{
+    if rest.len() >= 2 && is_blank(rest[0]) && !is_blank(rest[1]) {
+        return 1;
+    }
+    many_blanks(rest)
+}
+
+/// How many bytes so many blanks and the word behind them take, where it ends inside the piece, and else 0.
+#[inline(always)]
+pub fn word_ahead(rest: &[u8], blanks: usize, word: &[u8]) -> usize
+    requires blanks { AreBlanks rest.now blanks }
+    requires word { is_word word.now ≡ true }
+    requires short { length word.now ≤ 64 }
+    ensures within { result ≤ length rest.now }
+    ensures ahead { 0 < result → (place : ℕ) → IsAhead place rest.now result true (record { kind = word_kind word.now; start = place + blanks; end = place + result } ∷ []) }
+{
+    let end = blanks + word.len();
+    if end >= rest.len() {
+        return 0;
+    }
+    for (k, byte) in word.iter().enumerate() {
+        if rest[blanks + k] != *byte {
+            return 0;
+        }
+    }
+    if is_run_byte(rest[end]) {
+        return 0;
+    }
+    end
+}
+
+/// Whether a colon stands in front.
+#[inline(always)]
+pub fn begins_with_colon(rest: &[u8]) -> bool
+    ensures { result ≡ true → (place : ℕ) → IsAhead place rest.now 1 false (record { kind = TokenKind.Colon; start = place; end = place + 1 } ∷ []) }
+{
+    !rest.is_empty() && rest[0] == b':'
+}
+
+/// The number that stands ahead, where it ends inside the piece and has few digits.
+#[inline(never)]
+pub fn number_ahead(rest: &[u8]) -> Amount
+    ensures within { result.count ≤ length rest.now }
+    ensures ahead { 0 < result.count → (place : ℕ) → (start : ℕ) × IsAhead place rest.now result.count true (record { kind = TokenKind.Number result.value; start = start; end = place + result.count } ∷ []) }
+{
+    let blanks = blanks_ahead(rest);
+    let Leading { count, value } = leading_digits(&rest[blanks..]);
+    let end = blanks + count;
+    if count == 0 || end >= rest.len() || is_run_byte(rest[end]) {
+        return Amount { count: 0, value: 0 };
+    }
+    Amount { count: end, value }
+}
+
+/// The size that stands ahead, where it ends inside the piece and has few digits.
+#[inline(never)]
+pub fn size_ahead(rest: &[u8]) -> Amount
+    ensures within { result.count ≤ length rest.now }
+    ensures ahead { 0 < result.count → (place : ℕ) → (start : ℕ) × IsAhead place rest.now result.count true (record { kind = TokenKind.Size result.value; start = start; end = place + result.count } ∷ []) }
+{
+    let blanks = blanks_ahead(rest);
+    let Leading { count, value } = leading_digits(&rest[blanks..]);
+    let mark = blanks + count;
+    let end = mark + 1;
+    if count == 0 || end >= rest.len() || rest[mark] != b'b' || is_run_byte(rest[end]) {
+        return Amount { count: 0, value: 0 };
+    }
+    Amount { count: end, value }
+}
+
+/// How many bytes so many blanks and the label behind them take, where the label ends inside the piece and no reserved word
+/// ends as it does, and else 0.
+#[inline(never)]
+pub fn label_ahead(rest: &[u8], blanks: usize) -> usize
+    requires blanks { AreBlanks rest.now blanks }
+    ensures within { result ≤ length rest.now }
+    ensures some { 0 < result → blanks < result }
+    ensures short { result ≤ blanks + 64 }
+    ensures ahead { 0 < result → (place : ℕ) → IsAhead place rest.now result true (record { kind = TokenKind.Label (take (result - blanks) (drop blanks rest.now)); start = place + blanks; end = place + result } ∷ []) }
+{
+    let run = &rest[blanks..];
+    let count = count_run(run);
+    if count == 0 || count >= run.len() || count > MOST_RUN_BYTES {
+        return 0;
+    }
+    if !begins_word(run[0]) || ends_reserved(run[count - 1]) {
+        return 0;
+    }
+    blanks + count
+}
