@@ -63,14 +63,16 @@ impl HeapItem {
         (self.tail % SLOTS) as u32
     }
 
-    /// Whether the key is before that of the other. It ticks once.
+    /// Whether the key is before that of the other. It ticks once. The time and the tail of a key are compared as one number
+    /// of 128 bits, which takes no branch.
     #[inline(always)]
     pub fn before<L: Ledger>(&self, other: &HeapItem, steps: &mut Steps<L>) -> bool
         ensures tells { result ≡ event_before self.now.key other.now.key }
         ensures ticks { steps.new ≡ steps.old + 1 }
     {
         steps.tick();
-        self.time < other.time
-            || (self.time == other.time && self.tail / SLOTS < other.tail / SLOTS)
+        let own = (u128::from(self.time) << 64) + u128::from(self.tail / SLOTS);
+        let others = (u128::from(other.time) << 64) + u128::from(other.tail / SLOTS);
+        own < others
     }
 }
