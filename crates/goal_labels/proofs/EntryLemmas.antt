@@ -1,5 +1,5 @@
 -- Entries, each the only one of its label.
-use Rattle.std.proofs.Common.{◌≡◌, ℕ, zero, suc, ◌<◌, Bool, true, false, cond, List, [], ◌∷◌, ◌++◌, Option, Some, None, length, slice_get, slice_set, refl, sym, ap, subst, ◌∙◌, arith, bytes_eq, if◌then◌else◌, length-append, ltb, Decides, unwrap_or}
+use Rattle.std.proofs.Common.{◌≡◌, ℕ, zero, suc, ◌<◌, Bool, true, false, cond, List, [], ◌∷◌, ◌++◌, Option, Some, None, length, slice_get, slice_set, refl, sym, ap, subst, ◌∙◌, arith, bytes_eq, if◌then◌else◌, length-append, ltb, Decides}
 use Rattle.std.specs.Map.{lookup}
 use Rattle.std.specs.Option.{option_map_or}
 use Rattle.std.proofs.lemmas.Cmp.{nat_list_eq_equiv}
@@ -7,6 +7,8 @@ use Rattle.std.proofs.lemmas.Slice.Eq.{bytes_eq-Decides}
 use Rattle.std.proofs.lemmas.Bool.Decides.{Decides-ltb, not_from_Decides}
 use Rattle.std.proofs.lemmas.Option.{slice_get_within}
 use Rattle.goal_labels.specs.declared.label_map.Slot.{Slot}
+use Rattle.goal_labels.specs.declared.label_map.Found.{Found}
+use Rattle.goal_labels.specs.declared.label_map.Found.TheVariants.{At, Absent}
 use Rattle.goal_labels.specs.Entries.{Entries, put, is_at, IsAt, IsAbsent, AreUnique}
 use Rattle.goal_labels.proofs.ChainLemmas.{slice_get-left, slice_get-before, slice_get-last}
 
@@ -34,9 +36,9 @@ is_at-no es label i h there =
     absurd (cc)
 
 -- a guess that is compared
-pub is_at-guess : (read es : Entries) (label : List ℕ) (guess i : ℕ) → is_at read label guess ≡ true → read ≡ es → Some guess ≡ Some i → IsAt es label i
+pub is_at-guess : (read es : Entries) (label : List ℕ) (guess i : ℕ) → is_at read label guess ≡ true → read ≡ es → At guess ≡ At i → IsAt es label i
 is_at-guess read es label guess i told same one =
-    subst (λ (ds : Entries). IsAt ds label i) same (subst (IsAt read label) (ap (λ (o : Option ℕ). unwrap_or o 0) one) (is_at-yes read label guess told))
+    subst (λ (ds : Entries). IsAt ds label i) same (subst (IsAt read label) (ap (λ (f : Found). elim f [ At k ↦ k | Absent hash ↦ 0 ]) one) (is_at-yes read label guess told))
 
 -- an entry is added
 

@@ -1,7 +1,8 @@
 -- The index of the entries, once one more has a number.
 use Rattle.std.proofs.Common.{◌≡◌, ◌≢◌, ℕ, ◌+◌, ◌-◌, ◌<◌, ◌≤◌, Bool, true, false, cond, List, [], ◌∷◌, ◌++◌, Option, Some, None, length, slice_get, slice_set, refl, sym, ap, subst, ◌∙◌, arith, inl, inr, ◌⊎◌, length-append, bytes_eq, nat_cmp, eqb}
 use Rattle.std.specs.Cmp.Lexicographic.{slice_cmp}
-use Rattle.std.specs.BTreeMap.{Updates}
+use Rattle.std.specs.Map.{lookup}
+use Rattle.std.specs.BTreeMap.{Updates, is_at as is_key}
 use Rattle.std.proofs.lemmas.Map.Text.{is_eq-slice_cmp}
 use Rattle.std.proofs.lemmas.Slice.Eq.{bytes_eq-Decides}
 use Rattle.std.proofs.lemmas.Bool.Decides.{eqb_tells}
@@ -9,10 +10,11 @@ use Rattle.std.proofs.lemmas.Option.{slice_get_within}
 use Rattle.goal_labels.specs.declared.chains.Link.{Link}
 use Rattle.goal_labels.specs.declared.chains.Chains.{Chains}
 use Rattle.goal_labels.specs.declared.label_map.Slot.{Slot}
+use Rattle.goal_labels.specs.declared.label_map.Entry.{Entry}
 use Rattle.goal_labels.specs.Chains.{head_of, Leads, IsLinked}
-use Rattle.goal_labels.specs.Entries.{Entries, IsAt, IsAbsent, AreUnique}
+use Rattle.goal_labels.specs.Entries.{Entries, entries_of, IsAt, IsAbsent, AreUnique}
 use Rattle.goal_labels.specs.Indexed.{label_hash, Apart, apart_at, IsFound, IsIndexed, IsMap}
-use Rattle.std.proofs.lemmas.List.{length-set}
+use Rattle.std.proofs.lemmas.List.{length-set, nil_from_length}
 use Rattle.goal_labels.proofs.ChainLemmas.{Leads-step, slice_get-before, slice_get-last, slice_get-set, slice_get-apart}
 use Rattle.goal_labels.proofs.EntryLemmas.{IsAt-within, IsAt-before, AreUnique-more}
 
@@ -150,3 +152,20 @@ IsMap-more es fs chains apart label slot same unique absent indexed = record {
   indexed = subst (λ n. IsIndexed fs n chains apart) (sym (length-append es ((label, slot) ∷ [])) ∙ sym (ap length same)) indexed;
   unique = subst AreUnique (sym same) (AreUnique-more es label slot unique absent);
 }
+
+-- where no label is apart
+pub apart-none : (apart : Apart) (label : List ℕ) → length apart.entries ≡ 0 → apart_at apart label ≡ None
+apart-none apart label none = ap (lookup (is_key (slice_cmp nat_cmp label))) (nil_from_length apart.entries none)
+
+-- what a search read is what the map has
+pub search-read : (read bytes : List ℕ) (seen es : List Entry) → read ≡ bytes → seen ≡ es → (label : List ℕ) (Q : ℕ → Type 0) → ((i : ℕ) → Q i → IsAt (entries_of read seen) label i → ⊥)
+    → (i : ℕ) → Q i → IsAt (entries_of bytes es) label i → ⊥
+search-read read bytes seen es same_bytes same_entries label Q absent i has at =
+    absent i has (subst (λ (ds : List Entry). IsAt (entries_of read ds) label i) (sym same_entries) (subst (λ bs. IsAt (entries_of bs es) label i) (sym same_bytes) at))
+
+-- a label to which no link leads
+pub no_link : (read bytes : List ℕ) (seen es : List Entry) (walked links : List Link) → read ≡ bytes → seen ≡ es → walked ≡ links → (label : List ℕ) (first : ℕ)
+    → ((i : ℕ) → Leads walked i first → IsAt (entries_of read seen) label i → ⊥) → (i : ℕ) → Leads links i first → IsAt (entries_of bytes es) label i → ⊥
+no_link read bytes seen es walked links same_bytes same_entries same_links label first absent =
+    search-read read bytes seen es same_bytes same_entries label (λ i. Leads links i first)
+    (subst (λ (ls : List Link). (i : ℕ) → Leads ls i first → IsAt (entries_of read seen) label i → ⊥) same_links absent)

@@ -1,3 +1,4 @@
 mod ChainLemmas
 mod EntryLemmas
+mod HeldLemmas
 mod IndexLemmas

@@ -1,7 +1,8 @@
 -- Labels with their slots, in the order in which the labels stood first.
-use Rattle.std.specs.Prelude.{◌≡◌, ℕ, Bool, false, List, [], ◌∷◌, Some, slice_get, bytes_eq, if◌then◌else◌}
+use Rattle.std.specs.Prelude.{◌≡◌, ℕ, ◌+◌, ◌<◌, ◌≤◌, Bool, false, List, [], ◌∷◌, Some, length, take, drop, map, slice_get, bytes_eq, if◌then◌else◌}
 use Rattle.std.specs.Option.{option_map_or}
 use Rattle.goal_labels.specs.declared.label_map.Slot.{Slot}
+use Rattle.goal_labels.specs.declared.label_map.Entry.{Entry}
 
 abbrev pub Entries : Type 0
 Entries = List (List ℕ × Slot)
@@ -26,3 +27,22 @@ AreUnique entries = (i j : ℕ) (label : List ℕ) → IsAt entries label i → 
 -- whether the entry of that number is the label's
 unfoldable pub is_at : Entries → List ℕ → ℕ → Bool
 is_at entries label i = option_map_or (λ e. bytes_eq e.0 label) (slice_get entries i) false
+
+-- The labels' bytes stand one behind another, and an entry says which of them are its label.
+
+-- the label of an entry
+abbrev pub label_of : List ℕ → Entry → List ℕ
+label_of bytes e = take e.len (drop e.from bytes)
+
+-- the entries, each with its label
+unfoldable pub entries_of : List ℕ → List Entry → Entries
+entries_of bytes entries = map (λ e. (label_of bytes e, e.slot)) entries
+
+-- the label of an entry stands among the bytes, and has 1 to 64 of them
+pub record IsHeld (bytes : List ℕ) (entry : Entry) : Type 0 where
+  pub within : entry.from + entry.len ≤ length bytes
+  pub some : 0 < entry.len
+  pub short : entry.len ≤ 64
+
+abbrev pub AreHeld : List ℕ → List Entry → Type 0
+AreHeld bytes entries = (i : ℕ) (entry : Entry) → slice_get entries i ≡ Some entry → IsHeld bytes entry

@@ -1,17 +1,33 @@
 -- How a label is found among the entries.
-use Rattle.std.specs.Prelude.{◌≡◌, ℕ, ◌<◌, ◌^◌, ◌/◌, ◌⊎◌, List, Option, Some, length, slice_get}
+use Rattle.std.specs.Prelude.{◌≡◌, ℕ, ◌+◌, ◌-◌, ◌*◌, ◌<◌, ◌^◌, ◌/◌, ◌%◌, ◌⊎◌, List, Option, Some, length, take, drop, fold, slice_get}
 use Rattle.std.specs.Ordering.{nat_cmp}
 use Rattle.std.specs.Cmp.Lexicographic.{slice_cmp}
 use Rattle.std.specs.BTreeMap.{BTreeMap, get}
 use Rattle.std.specs.Hash.FoldHasher as folding
 use Rattle.goal_labels.specs.declared.chains.Link.{Link}
 use Rattle.goal_labels.specs.declared.chains.Chains.{Chains}
+use Rattle.goal_labels.specs.declared.label_map.Found.{Found}
+use Rattle.goal_labels.specs.declared.label_map.Found.TheVariants.{At, Absent}
 use Rattle.goal_labels.specs.Chains.{head_of, Leads}
-use Rattle.goal_labels.specs.Entries.{Entries, IsAt, AreUnique}
+use Rattle.goal_labels.specs.Entries.{Entries, IsAt, IsAbsent, AreUnique}
 
--- the hash of a label: the upper half of that of its bytes
+-- The labels of a block are mostly numbered, as l8 and l9 and l10, and are mentioned in about that order. So the hash of a
+-- label is the upper half of that of all its bytes but the last two, plus the number of these two: labels that differ in
+-- their last digits have hashes next to each other, and so chains next to each other, and a block that is read in order
+-- reads its chains in order. Any function of the label would be right: this one only saves time.
+
+-- where the last two bytes begin
+abbrev pub ending_start : List ℕ → ℕ
+ending_start label = length label - 2
+
+-- the number of the last bytes, as if they were digits
+abbrev pub ending_number : List ℕ → ℕ
+ending_number ending = fold (λ number byte. number * 10 + byte) 0 ending
+
+-- the hash of a label
 unfoldable pub label_hash : List ℕ → ℕ
-label_hash label = folding.finish (folding.write folding.initial label) / 2 ^ 32
+label_hash label =
+    (folding.finish (folding.write folding.initial (take (ending_start label) label)) / 2 ^ 32 + ending_number (drop (ending_start label) label)) % 2 ^ 32
 
 -- the numbers of labels whose chains are long
 abbrev pub Apart : Type 0
@@ -34,3 +50,8 @@ pub record IsIndexed (entries : Entries) (n : ℕ) (chains : Chains) (apart : Ap
 pub record IsMap (entries : Entries) (chains : Chains) (apart : Apart) : Type 0 where
   pub indexed : IsIndexed entries (length entries) chains apart
   pub unique : AreUnique entries
+
+-- what is found of a label: the number of its entry, or that it has none, and its hash
+abbrev pub IsFinding : Entries → List ℕ → Found → Type 0
+IsFinding entries label (At i) = IsAt entries label i
+IsFinding entries label (Absent hash) = IsAbsent entries label × (hash ≡ label_hash label)

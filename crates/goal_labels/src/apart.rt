@@ -1,5 +1,5 @@
 //! Labels in the order of their bytes.
-ghost use Rattle.std.specs.Prelude.{◌≡◌, nat_eq, refl, Some};
+ghost use Rattle.std.specs.Prelude.{◌≡◌, ◌<◌, ◌≤◌, length, nat_eq, refl, Some};
 ghost use Rattle.std.specs.Ordering.{nat_cmp};
 ghost use Rattle.std.specs.Cmp.Lexicographic.{pointwise, slice_cmp, nat_list_eq_equiv, nat_list_cmp_total, texts_ties, texts_po};
 ghost use Rattle.std.specs.Cmp.{partial_equiv_from_equiv};
@@ -25,11 +25,15 @@ impl Model for Sorted {
 }
 
 impl Sorted {
-    /// A label, to be compared.
-    pub fn of(label: &Label) -> Sorted
+    /// The label of these bytes, to be compared.
+    pub fn of(label: &[u8]) -> Sorted
+        requires some { 0 < length label.now }
+        requires short { length label.now ≤ 64 }
         ensures { result ≡ label.now }
     {
-        Sorted { label: *label }
+        Sorted {
+            label: Label::of(label),
+        }
     }
 }
 

@@ -1,17 +1,16 @@
 //! A map from labels to slots, in the order in which the labels came.
-ghost use Rattle.std.specs.Prelude.{◌≡◌, ℕ, ◌+◌, ◌≤◌, List, [], ◌∷◌, ◌++◌, Some, None, length, slice_get, bytes_eq, IfSome, IfNone, IfOk, OnOk, MatchOption};
+ghost use Rattle.std.specs.Prelude.{◌≡◌, ℕ, ◌+◌, ◌<◌, ◌≤◌, List, [], ◌∷◌, ◌++◌, Some, None, length, slice_get, bytes_eq, IfSome, IfNone, IfOk, OnOk, MatchOption};
 ghost use Rattle.std.specs.Map.{lookup};
 ghost use Rattle.goal_labels.specs.declared.chains.Link.{Link};
 ghost use Rattle.goal_labels.specs.Chains.{Leads, head_of};
-ghost use Rattle.goal_labels.specs.Entries.{Entries, put, is_at, IsAt, IsAbsent, AreUnique};
-ghost use Rattle.goal_labels.specs.Indexed.{label_hash, apart_at, IsIndexed, IsMap};
+ghost use Rattle.goal_labels.specs.Entries.{Entries, put, is_at, label_of, entries_of, IsAt, IsAbsent, IsHeld, AreUnique, AreHeld};
+ghost use Rattle.goal_labels.specs.Indexed.{ending_number, label_hash, apart_at, IsFinding, IsIndexed, IsMap};
 
 use crate::apart::Sorted;
 use crate::chains::{Chains, Link};
-use goal_lexer::Label;
 use std::alloc::{AllocError, Global};
 use std::collections::BTreeMap;
-use std::hash::{FoldHasher, Hash, Hasher};
+use std::hash::{FoldHasher, Hasher};
 use std::marker::Model;
 
 /// What is known of a label.
@@ -26,10 +25,23 @@ pub struct Slot {
 // The fewest chains that a map with labels has.
 const FEWEST_CHAINS: usize = 64;
 
+/// A label's slot, and where among all labels' bytes its own stand.
+#[derive(Clone, Copy, Debug)]
+pub struct Entry {
+    /// What is known of the label.
+    pub slot: Slot,
+    /// Where its bytes begin.
+    pub from: u32,
+    /// How many bytes it has.
+    pub len: u32,
+}
+
 /// Labels with their slots, in the order in which the labels came. Contracts see the list of them.
 #[derive(Drop)]
 pub struct LabelMap {
-    entries: Vec<(Label, Slot)>,
+    entries: Vec<Entry>,
+    // The bytes of all labels, one label behind another: a short label takes little memory.
+    bytes: Vec<u8>,
     chains: Chains,
     apart: BTreeMap<Sorted, u32>,
     // The numbers that were found last and before that. They only save time: any values are right.
@@ -38,49 +50,83 @@ pub struct LabelMap {
 }
 
 impl Model for LabelMap {
-    ghost use Rattle.goal_labels.specs.Entries.{Entries};
+    ghost use Rattle.goal_labels.specs.Entries.{Entries, entries_of, AreHeld};
 
     ghost Value = { Entries };
 
     ghost use Rattle.goal_labels.specs.Indexed.{IsMap};
 
-    ghost view = { λ m. m.entries.items };
+    ghost view = { λ m. entries_of m.bytes.items m.entries.items };
 
-    ghost invariant = { λ m. IsMap m.entries.items m.chains m.apart };
+    ghost invariant = { λ m. AreHeld m.bytes.items m.entries.items × IsMap (entries_of m.bytes.items m.entries.items) m.chains m.apart };
 }
 
-// The hash of a label.
+/// What a search for a label finds.
+#[derive(Clone, Copy, Debug)]
+pub enum Found {
+    /// The number of the label's entry.
+    At(usize),
+    /// No entry. This is the hash of the label, by which it can be added.
+    Absent(u32),
+}
+
+// The number of the last bytes of a label, of which there are two at most, as if they were digits.
+fn ending_number(ending: &[u8]) -> u32
+    requires { length ending.now ≤ 2 }
+    ensures { result ≡ ending_number ending.now }
+{
+    match ending {
+        [tens, ones] => u32::from(*tens) * 10 + u32::from(*ones),
+        [ones] => u32::from(*ones),
+        _ => 0,
+    }
+}
+
+// The hash of a label. Labels that differ in their last two bytes alone have hashes that are close to each other, and so have
+// their chains: in a block whose labels are numbered, this keeps what is read one after another in nearby memory.
 #[tactic(auto, unfolding(crate::specs::Indexed::label_hash))]
-fn hash_of(label: &Label) -> u32
+fn hash_of(label: &[u8]) -> u32
     ensures { result ≡ label_hash label.now }
 {
+    let ending = label.len().saturating_sub(2);
     let mut state = FoldHasher::default();
-    label.hash(&mut state);
-    (state.finish() >> 32) as u32
+    state.write(&label[..ending]);
+    ((state.finish() >> 32) as u32).wrapping_add(ending_number(&label[ending..]))
 }
 
-// Whether the entry of that number is the label's.
-#[tactic(auto, unfolding(crate::specs::Entries::is_at))]
-fn is_at(entries: &[(Label, Slot)], label: &Label, i: usize) -> bool
-    ensures { result ≡ is_at entries.now label.now i }
+// The label of an entry.
+fn label_of<'a>(bytes: &'a [u8], entry: &Entry) -> &'a [u8]
+    requires held { IsHeld bytes.now entry.now }
+    ensures { result.now ≡ label_of bytes.now entry.now }
+{
+    let from = entry.from as usize;
+    &bytes[from..from + entry.len as usize]
+}
+
+// Whether the entry of that number is the label's. The lengths are compared first, since that takes least.
+fn is_at(entries: &[Entry], bytes: &[u8], label: &[u8], i: usize) -> bool
+    requires held { AreHeld bytes.now entries.now }
+    ensures { result ≡ is_at (entries_of bytes.now entries.now) label.now i }
 {
     match entries.get(i) {
-        Some(entry) => entry.0 == *label,
+        Some(entry) => entry.len as usize == label.len() && label_of(bytes, entry) == label,
         None => false,
     }
 }
 
 // The number of a label among those to which the links lead from a number and 1.
 fn seek(
-    entries: &[(Label, Slot)],
+    entries: &[Entry],
+    bytes: &[u8],
     links: &[Link],
-    label: &Label,
+    label: &[u8],
     hash: u32,
     first: u32,
 ) -> Option<usize>
-    requires hash { (i : ℕ) (l : Link) → IsAt entries.now label.now i → slice_get links.now i ≡ Some l → l.hash ≡ hash }
-    ensures found { IfSome result (IsAt entries.now label.now) }
-    ensures absent { IfNone result ((i : ℕ) → Leads links.now i first → IsAt entries.now label.now i → ⊥) }
+    requires held { AreHeld bytes.now entries.now }
+    requires hash { (i : ℕ) (l : Link) → IsAt (entries_of bytes.now entries.now) label.now i → slice_get links.now i ≡ Some l → l.hash ≡ hash }
+    ensures found { IfSome result (IsAt (entries_of bytes.now entries.now) label.now) }
+    ensures absent { IfNone result ((i : ℕ) → Leads links.now i first → IsAt (entries_of bytes.now entries.now) label.now i → ⊥) }
 {
     let mut at = first;
     while at > 0 {
@@ -88,7 +134,7 @@ fn seek(
         let Some(link) = links.get(i) else {
             return None;
         };
-        if link.hash == hash && is_at(entries, label, i) {
+        if link.hash == hash && is_at(entries, bytes, label, i) {
             return Some(i);
         }
         if link.next >= at {
@@ -99,17 +145,41 @@ fn seek(
     None
 }
 
+// The number of a label among those whose chains are long. Hardly any text has such labels.
+#[cold]
+fn seek_apart(
+    entries: &[Entry],
+    bytes: &[u8],
+    apart: &BTreeMap<Sorted, u32>,
+    label: &[u8],
+) -> Option<usize>
+    requires held { AreHeld bytes.now entries.now }
+    requires some { 0 < length label.now }
+    requires short { length label.now ≤ 64 }
+    ensures found { IfSome result (IsAt (entries_of bytes.now entries.now) label.now) }
+    ensures absent { IfNone result ((i : ℕ) → apart_at apart.now label.now ≡ Some i → IsAt (entries_of bytes.now entries.now) label.now i → ⊥) }
+{
+    match apart.get(&Sorted::of(label)) {
+        Some(i) if is_at(entries, bytes, label, *i as usize) => Some(*i as usize),
+        _ => None,
+    }
+}
+
 // Gives the next number to a label, where its entry stands.
 fn place(
     chains: &mut Chains,
     apart: &mut BTreeMap<Sorted, u32>,
-    label: &Label,
+    label: &[u8],
+    hash: u32,
 ) -> Result<(), AllocError>
+    requires some { 0 < length label.now }
+    requires short { length label.now ≤ 64 }
+    requires hash { hash ≡ label_hash label.now }
     ensures { OnOk result ((entries : Entries) (n : ℕ) → IsIndexed entries n chains.old apart.old → AreUnique entries
         → IsAt entries label.now n → IsIndexed entries (n + 1) chains.new apart.new) }
 {
     let number = chains.links.len();
-    if !chains.push(hash_of(label))? {
+    if !chains.push(hash)? {
         apart.insert(Sorted::of(label), number as u32)?;
     }
     Ok(())
@@ -117,41 +187,59 @@ fn place(
 
 // Numbers all entries anew, by so many chains.
 fn place_all(
-    entries: &[(Label, Slot)],
+    entries: &[Entry],
+    bytes: &[u8],
     chains: &mut Chains,
     apart: &mut BTreeMap<Sorted, u32>,
     count: usize,
 ) -> Result<(), AllocError>
-    requires unique { AreUnique entries.now }
-    ensures { OnOk result (IsIndexed entries.now (length entries.now) chains.new apart.new) }
+    requires held { AreHeld bytes.now entries.now }
+    requires unique { AreUnique (entries_of bytes.now entries.now) }
+    ensures { OnOk result (IsIndexed (entries_of bytes.now entries.now) (length entries.now) chains.new apart.new) }
 {
     chains.reset(count)?;
     apart.clear();
     for entry in entries {
-        place(chains, apart, &entry.0)?;
+        let label = label_of(bytes, entry);
+        place(chains, apart, label, hash_of(label))?;
     }
     Ok(())
 }
 
 // Adds a label that has no entry. There are as many chains as labels, or more.
 fn append(
-    entries: &mut Vec<(Label, Slot)>,
+    entries: &mut Vec<Entry>,
+    bytes: &mut Vec<u8>,
     chains: &mut Chains,
     apart: &mut BTreeMap<Sorted, u32>,
-    label: &Label,
+    label: &[u8],
     slot: Slot,
+    hash: u32,
 ) -> Result<(), AllocError>
-    requires map { IsMap entries.old.items chains.old apart.old }
-    requires absent { IsAbsent entries.old.items label.now }
-    ensures entries { OnOk result (entries.new.items ≡ entries.old.items ++ (label.now, slot) ∷ []) }
-    ensures map { OnOk result (IsMap entries.new.items chains.new apart.new) }
+    requires some { 0 < length label.now }
+    requires short { length label.now ≤ 64 }
+    requires hash { hash ≡ label_hash label.now }
+    requires held { AreHeld bytes.old.items entries.old.items }
+    requires map { IsMap (entries_of bytes.old.items entries.old.items) chains.old apart.old }
+    requires absent { IsAbsent (entries_of bytes.old.items entries.old.items) label.now }
+    ensures entries { OnOk result (entries_of bytes.new.items entries.new.items ≡ entries_of bytes.old.items entries.old.items ++ (label.now, slot) ∷ []) }
+    ensures held { OnOk result (AreHeld bytes.new.items entries.new.items) }
+    ensures map { OnOk result (IsMap (entries_of bytes.new.items entries.new.items) chains.new apart.new) }
 {
     if entries.len() >= chains.heads.len() {
         let count = FEWEST_CHAINS.max(chains.heads.len().saturating_mul(4));
-        place_all(entries, chains, apart, count)?;
+        place_all(entries, bytes, chains, apart, count)?;
     }
-    entries.push((*label, slot))?;
-    place(chains, apart, label)?;
+    let Ok(from) = u32::try_from(bytes.len()) else {
+        return Err(AllocError);
+    };
+    bytes.extend_from_slice(label)?;
+    entries.push(Entry {
+        slot,
+        from,
+        len: label.len() as u32,
+    })?;
+    place(chains, apart, label, hash)?;
     Ok(())
 }
 
@@ -162,6 +250,7 @@ impl LabelMap {
     {
         LabelMap {
             entries: Vec::new(alloc),
+            bytes: Vec::new(alloc),
             chains: Chains::new(alloc),
             apart: BTreeMap::new(alloc),
             last: 0,
@@ -174,6 +263,7 @@ impl LabelMap {
         ensures { self.new ≡ [] }
     {
         self.entries.truncate(0);
+        self.bytes.truncate(0);
         self.chains.clear();
         self.apart.clear();
     }
@@ -191,100 +281,116 @@ impl LabelMap {
         ensures none { IfNone result (length self.now ≤ i) }
     {
         match self.entries.get(i) {
-            Some(entry) => Some(entry.1),
+            Some(entry) => Some(entry.slot),
             None => None,
         }
     }
 
-    // The number of a label.
-    fn find(&self, label: &Label) -> Option<usize>
-        ensures found { IfSome result (IsAt self.now label.now) }
-        ensures absent { IfNone result (IsAbsent self.now label.now) }
+    // What is found of a label by its hash.
+    fn find(&self, label: &[u8]) -> Found
+        requires some { 0 < length label.now }
+        requires short { length label.now ≤ 64 }
+        ensures found { IsFinding self.now label.now result }
         ensures unique { AreUnique self.now }
     {
         let hash = hash_of(label);
         let first = self.chains.first(hash);
-        if let Some(i) = seek(&self.entries, &self.chains.links, label, hash, first) {
-            return Some(i);
+        let links = &self.chains.links;
+        if let Some(i) = seek(&self.entries, &self.bytes, links, label, hash, first) {
+            return Found::At(i);
         }
-        match self.apart.get(&Sorted::of(label)) {
-            Some(i) if is_at(&self.entries, label, *i as usize) => Some(*i as usize),
-            _ => None,
+        if self.apart.is_empty() {
+            return Found::Absent(hash);
+        }
+        match seek_apart(&self.entries, &self.bytes, &self.apart, label) {
+            Some(i) => Found::At(i),
+            None => Found::Absent(hash),
         }
     }
 
-    // The number of a label. Mentions mostly go on in order: the label behind the one that was found last is looked at first,
-    // and then the label behind the one that was found before that.
-    fn find_near(&mut self, label: &Label) -> Option<usize>
-        ensures found { IfSome result (IsAt self.new label.now) }
-        ensures absent { IfNone result (IsAbsent self.new label.now) }
+    // What is found of a label. Mentions mostly go on in order: the label behind the one that was found last is looked at
+    // first, and then the label behind the one that was found before that.
+    fn find_near(&mut self, label: &[u8]) -> Found
+        requires some { 0 < length label.now }
+        requires short { length label.now ≤ 64 }
+        ensures found { IsFinding self.new label.now result }
         ensures unique { AreUnique self.new }
         ensures kept { self.new ≡ self.old }
     {
         let after = self.last.saturating_add(1);
         let later = self.before.saturating_add(1);
-        let found = if is_at(&self.entries, label, after) {
-            Some(after)
-        } else if is_at(&self.entries, label, later) {
-            Some(later)
+        let found = if is_at(&self.entries, &self.bytes, label, after) {
+            Found::At(after)
+        } else if is_at(&self.entries, &self.bytes, label, later) {
+            Found::At(later)
         } else {
             self.find(label)
         };
-        if let Some(i) = found {
+        if let Found::At(i) = found {
             self.before = self.last;
             self.last = i;
         }
         found
     }
 
-    // Adds a label that has no entry.
-    fn add(&mut self, label: &Label, slot: Slot) -> Result<(), AllocError>
-        requires { IsAbsent self.old label.now }
+    // Adds a label that has no entry, by its hash.
+    fn add(&mut self, label: &[u8], slot: Slot, hash: u32) -> Result<(), AllocError>
+        requires some { 0 < length label.now }
+        requires short { length label.now ≤ 64 }
+        requires hash { hash ≡ label_hash label.now }
+        requires absent { IsAbsent self.old label.now }
         ensures { OnOk result (self.new ≡ self.old ++ (label.now, slot) ∷ []) }
     {
         let added = append(
             &mut self.entries,
+            &mut self.bytes,
             &mut self.chains,
             &mut self.apart,
             label,
             slot,
+            hash,
         );
         if added.is_err() {
             self.entries.truncate(0);
+            self.bytes.truncate(0);
             self.chains.clear();
         }
         added
     }
 
     /// Gives a slot to a label, and hands out the one that it had. Where there is no memory left, the map may lose its labels.
-    pub fn insert(&mut self, label: &Label, slot: Slot) -> Result<Option<Slot>, AllocError>
+    pub fn insert(&mut self, label: &[u8], slot: Slot) -> Result<Option<Slot>, AllocError>
+        requires some { 0 < length label.now }
+        requires short { length label.now ≤ 64 }
         ensures old { IfOk result (λ old. old ≡ lookup (bytes_eq label.now) self.old) }
         ensures entries { OnOk result (self.new ≡ put self.old label.now slot) }
     {
         match self.find(label) {
-            Some(i) => {
-                let old = self.entries[i].1;
-                self.entries[i].1 = slot;
+            Found::At(i) => {
+                let old = self.entries[i].slot;
+                self.entries[i].slot = slot;
                 Ok(Some(old))
             }
-            None => {
-                self.add(label, slot)?;
+            Found::Absent(hash) => {
+                self.add(label, slot, hash)?;
                 Ok(None)
             }
         }
     }
 
     /// The number of a label. Where it is new, it gets this slot. Where there is no memory left, the map may lose its labels.
-    pub fn number(&mut self, label: &Label, slot: Slot) -> Result<usize, AllocError>
+    pub fn number(&mut self, label: &[u8], slot: Slot) -> Result<usize, AllocError>
+        requires some { 0 < length label.now }
+        requires short { length label.now ≤ 64 }
         ensures old { OnOk result ((there : Slot) → lookup (bytes_eq label.now) self.old ≡ Some there → self.new ≡ self.old) }
         ensures new { OnOk result (lookup (bytes_eq label.now) self.old ≡ None → self.new ≡ put self.old label.now slot) }
         ensures number { IfOk result (IsAt self.new label.now) }
     {
         match self.find_near(label) {
-            Some(i) => Ok(i),
-            None => {
+            Found::At(i) => Ok(i),
+            Found::Absent(hash) => {
                 let number = self.entries.len();
-                self.add(label, slot)?;
+                self.add(label, slot, hash)?;
                 Ok(number)
             }
         }

@@ -11,7 +11,7 @@ use Rattle.goal_labels.proofs.label_map.place.Goals as goal
 pub returns-in_ok-insert : goal.returns-in_ok-insert
 returns-in_ok-insert c = λ es n indexed unique there.
     let label = c.args.label.now in
-    let push : IsLinked c.args.chains.now c.push.new.self (label_hash label) c.in_ok-push.field-0 = subst (λ h. IsLinked c.args.chains.now c.push.new.self h c.in_ok-push.field-0) c.hash_of.ensures c.in_ok-push.ensures in
+    let push : IsLinked c.args.chains.now c.push.new.self (label_hash label) c.in_ok-push.field-0 = subst (λ h. IsLinked c.args.chains.now c.push.new.self h c.in_ok-push.field-0) c.requires.hash c.in_ok-push.ensures in
     let number : c.len-number.result ≡ n = omega (arith, c.len-number.ensures, indexed.count, c.args.chains.now.links.ok.0) in
     let updates : Updates (slice_cmp nat_cmp) c.args.apart.now c.insert.new.self label (Some n) =
     subst (λ (q : List ℕ). Updates (slice_cmp nat_cmp) c.args.apart.now c.insert.new.self q (Some n)) c.of.ensures
@@ -25,7 +25,7 @@ returns-in_ok-insert c = λ es n indexed unique there.
 pub returns-else-not-branch : goal.returns-else-not-branch
 returns-else-not-branch c = λ es n indexed unique there.
     let label = c.args.label.now in
-    let push : IsLinked c.args.chains.now c.push.new.self (label_hash label) c.in_ok-push.field-0 = subst (λ h. IsLinked c.args.chains.now c.push.new.self h c.in_ok-push.field-0) c.hash_of.ensures c.in_ok-push.ensures in
+    let push : IsLinked c.args.chains.now c.push.new.self (label_hash label) c.in_ok-push.field-0 = subst (λ h. IsLinked c.args.chains.now c.push.new.self h c.in_ok-push.field-0) c.requires.hash c.in_ok-push.ensures in
     IsIndexed-more es n c.args.chains.now c.push.new.self c.args.apart.now c.args.apart.now label c.in_ok-push.field-0 indexed unique there push
     (λ q i below at is. is)
     (inl (subst (λ k. Leads c.push.new.self.links.items k (head_of c.push.new.self.heads.items (label_hash label))) indexed.count (push.led (search (rules)))))

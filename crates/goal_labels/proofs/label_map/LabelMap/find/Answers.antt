@@ -1,43 +1,47 @@
-use Rattle.std.proofs.Common.{◌≡◌, ◌∙◌, sym, ap, subst, rules, Some, None, ℕ, Option, List, unwrap_or}
-use Rattle.goal_labels.specs.declared.chains.Link.{Link}
-use Rattle.goal_labels.specs.Chains.{Leads}
-use Rattle.goal_labels.specs.Entries.{Entries, IsAt, IsAbsent, AreUnique}
+use Rattle.std.proofs.Common.{◌≡◌, ◌∙◌, sym, subst, refl, Some, None, ℕ}
+use Rattle.goal_labels.specs.Entries.{Entries, AreUnique, IsAbsent, IsAt, entries_of}
 use Rattle.goal_labels.specs.Indexed.{apart_at}
-use Rattle.goal_labels.proofs.EntryLemmas.{is_at-yes, is_at-no}
-use Rattle.goal_labels.proofs.IndexLemmas.{find-absent}
+use Rattle.goal_labels.proofs.IndexLemmas.{find-absent, apart-none, search-read, no_link}
 use Rattle.goal_labels.proofs.label_map.LabelMap.find.Goals as goal
 
 pub returns-in-Some-clause-unique : goal.returns-in-Some-clause-unique
-returns-in-Some-clause-unique c = subst AreUnique c.self.view_is c.self.invariant.unique
+returns-in-Some-clause-unique c = subst AreUnique c.self.view_is c.self.invariant.1.unique
 
-pub returns-in-Some-get-clause-unique : goal.returns-in-Some-get-clause-unique
-returns-in-Some-get-clause-unique c = subst AreUnique c.self.view_is c.self.invariant.unique
+pub returns-then-is_empty-clause-unique : goal.returns-then-is_empty-clause-unique
+returns-then-is_empty-clause-unique c = subst AreUnique c.self.view_is c.self.invariant.1.unique
 
-pub returns-in_default-get-clause-unique : goal.returns-in_default-get-clause-unique
-returns-in_default-get-clause-unique c = subst AreUnique c.self.view_is c.self.invariant.unique
+pub returns-in-Some-seek_apart-clause-unique : goal.returns-in-Some-seek_apart-clause-unique
+returns-in-Some-seek_apart-clause-unique c = subst AreUnique c.self.view_is c.self.invariant.1.unique
 
-pub returns-in_default-get-2-clause-unique : goal.returns-in_default-get-2-clause-unique
-returns-in_default-get-2-clause-unique c = subst AreUnique c.self.view_is c.self.invariant.unique
+pub returns-in-None-clause-unique : goal.returns-in-None-clause-unique
+returns-in-None-clause-unique c = subst AreUnique c.self.view_is c.self.invariant.1.unique
 
-pub returns-in-Some-get-clause-found : goal.returns-in-Some-get-clause-found
-returns-in-Some-get-clause-found c =
-    is_at-yes c.args.self.now c.args.label.now c.in-Some-get.i.now (sym (search (rules)) ∙ c.if-is_at.true)
+pub returns-then-is_empty-clause-found : goal.returns-then-is_empty-clause-found
+returns-then-is_empty-clause-found c =
+    let bytes = c.self.inside.bytes.items in
+    let es = c.self.inside.entries.items in
+    let label = c.args.label.now in
+    let first = c.first-first.result in
+    let unlinked = no_link c.deref-2.result.now bytes c.deref.result.now es c.deref-3.result.now c.self.inside.chains.links.items c.deref-2.ensures.value c.deref.ensures.value c.deref-3.ensures.value label first c.in_default.ensures.absent in
+    let none : (i : ℕ) → apart_at c.self.inside.apart label ≡ Some i → ⊥ = λ i is.
+    let one : None ≡ Some i = sym (apart-none c.self.inside.apart label (c.if-is_empty.ensures.0 refl)) ∙ is in
+    cc in (
+      subst (λ (ds : Entries). IsAbsent ds label) c.self.view_is
+          (find-absent (entries_of bytes es) c.self.inside.chains c.self.inside.apart label first c.hash_of-hash.result c.self.invariant.1 c.hash_of-hash.ensures c.first-first.ensures unlinked
+          (λ i is at. none i is)),
+      c.hash_of-hash.ensures,
+    )
 
-pub returns-in_default-get-clause-absent : goal.returns-in_default-get-clause-absent
-returns-in_default-get-clause-absent c =
-    subst (λ (es : Entries). IsAbsent es c.args.label.now) c.self.view_is
-    (find-absent c.self.inside.entries.items c.self.inside.chains c.self.inside.apart c.args.label.now c.first-first.result c.hash_of-hash.result c.self.invariant c.hash_of-hash.ensures c.first-first.ensures
-    (λ i leads at. c.in_default.ensures.absent i (subst (λ (ls : List Link). Leads ls i c.first-first.result) (sym c.deref-2.ensures.value) leads) (subst (λ (es : Entries). IsAt es c.args.label.now i) (sym c.deref.ensures.value) at))
-    (λ i is at.
-    let found : Some c.in-Some-get.i.now ≡ apart_at c.self.inside.apart c.args.label.now = subst (λ k. Some c.in-Some-get.i.now ≡ apart_at c.self.inside.apart k) c.of.ensures c.in-Some-get.ensures.value in
-    let same : c.in-Some-get.i.now ≡ i = ap (λ (o : Option ℕ). unwrap_or o 0) (found ∙ is) in
-    is_at-no c.self.inside.entries.items c.args.label.now i (search (rules)) at))
-
-pub returns-in_default-get-2-clause-absent : goal.returns-in_default-get-2-clause-absent
-returns-in_default-get-2-clause-absent c =
-    subst (λ (es : Entries). IsAbsent es c.args.label.now) c.self.view_is
-    (find-absent c.self.inside.entries.items c.self.inside.chains c.self.inside.apart c.args.label.now c.first-first.result c.hash_of-hash.result c.self.invariant c.hash_of-hash.ensures c.first-first.ensures
-    (λ i leads at. c.in_default.ensures.absent i (subst (λ (ls : List Link). Leads ls i c.first-first.result) (sym c.deref-2.ensures.value) leads) (subst (λ (es : Entries). IsAt es c.args.label.now i) (sym c.deref.ensures.value) at))
-    (λ i is at.
-    let none : None ≡ apart_at c.self.inside.apart c.args.label.now = subst (λ k. None ≡ apart_at c.self.inside.apart k) c.of.ensures (search (rules)) in
-    absurd cc))
+pub returns-in-None-clause-found : goal.returns-in-None-clause-found
+returns-in-None-clause-found c =
+    let bytes = c.self.inside.bytes.items in
+    let es = c.self.inside.entries.items in
+    let label = c.args.label.now in
+    let first = c.first-first.result in
+    let unlinked = no_link c.deref-2.result.now bytes c.deref.result.now es c.deref-3.result.now c.self.inside.chains.links.items c.deref-2.ensures.value c.deref.ensures.value c.deref-3.ensures.value label first c.in_default.ensures.absent in
+    let not_apart : (i : ℕ) → apart_at c.self.inside.apart label ≡ Some i → IsAt (entries_of bytes es) label i → ⊥ =
+    search-read c.deref-5.result.now bytes c.deref-4.result.now es c.deref-5.ensures.value c.deref-4.ensures.value label (λ i. apart_at c.self.inside.apart label ≡ Some i) c.in-None.ensures.absent in (
+      subst (λ (ds : Entries). IsAbsent ds label) c.self.view_is
+          (find-absent (entries_of bytes es) c.self.inside.chains c.self.inside.apart label first c.hash_of-hash.result c.self.invariant.1 c.hash_of-hash.ensures c.first-first.ensures unlinked not_apart),
+      c.hash_of-hash.ensures,
+    )

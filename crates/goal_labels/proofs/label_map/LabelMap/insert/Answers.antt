@@ -1,40 +1,63 @@
-use Rattle.std.proofs.Common.{◌≡◌, ◌∙◌, sym, ap, subst, Some, slice_get, slice_set, List, ℕ}
-use Rattle.std.proofs.lemmas.Option.{get_or_from_slice_get}
-use Rattle.goal_labels.specs.Entries.{Entries}
+use Rattle.std.proofs.Common.{◌≡◌, ◌∙◌, sym, ap, subst, arith, Some, slice_get, slice_set}
+use Rattle.goal_labels.specs.Entries.{Entries, IsAt, entries_of}
 use Rattle.goal_labels.specs.Indexed.{IsMap}
-use Rattle.goal_labels.proofs.EntryLemmas.{lookup-there, lookup-absent, put-absent, put-there}
+use Rattle.goal_labels.proofs.EntryLemmas.{lookup-there, lookup-absent, put-absent, put-there, IsAt-within}
+use Rattle.goal_labels.proofs.HeldLemmas.{entry-at, entry-same, entries_of-set, AreHeld-set, length-entries_of}
 use Rattle.goal_labels.proofs.IndexLemmas.{IsMap-set}
 use Rattle.goal_labels.proofs.label_map.LabelMap.insert.Goals as goal
 
+pub index-requires : goal.index-requires
+index-requires c =
+    let es = entries_of c.self.inside.bytes.items c.self.inside.entries.items in
+    let at : IsAt es c.args.label.now c.in-At.i = subst (λ (ds : Entries). IsAt ds c.args.label.now c.in-At.i) (sym c.self.view_is) c.in-At.ensures.found in
+    omega (arith, IsAt-within es c.args.label.now c.in-At.i at, length-entries_of c.self.inside.bytes.items c.self.inside.entries.items, c.self.inside.entries.ok.0)
+
+pub index_mut-requires : goal.index_mut-requires
+index_mut-requires c =
+    let es = entries_of c.self.inside.bytes.items c.self.inside.entries.items in
+    let at : IsAt es c.args.label.now c.in-At.i = subst (λ (ds : Entries). IsAt ds c.args.label.now c.in-At.i) (sym c.self.view_is) c.in-At.ensures.found in
+    omega (arith, IsAt-within es c.args.label.now c.in-At.i at, length-entries_of c.self.inside.bytes.items c.self.inside.entries.items, c.self.inside.entries.ok.0)
+
 pub invariant_of-self : goal.invariant_of-self
 invariant_of-self c =
+    let bytes = c.self.inside.bytes.items in
+    let held = c.self.inside.entries.items in
+    let es = entries_of bytes held in
     let label = c.args.label.now in
-    let found = c.in-Some.ensures.found in
-    let there : slice_get c.self.inside.entries.items c.in-Some.i ≡ Some (label, found.0) = subst (λ (es : Entries). slice_get es c.in-Some.i ≡ Some (label, found.0)) (sym c.self.view_is) found.1 in
-    let key : label ≡ c.index_mut.result.now.0 = ap (λ e. e.0) (sym (get_or_from_slice_get c.self.inside.entries.items c.in-Some.i (label, found.0) _ there) ∙ sym c.index_mut.ensures.value) in
-    subst (λ (k : List ℕ). IsMap (slice_set c.self.inside.entries.items c.in-Some.i (k, c.args.slot)) c.self.inside.chains c.self.inside.apart) key
-    (IsMap-set c.self.inside.entries.items c.self.inside.chains c.self.inside.apart c.in-Some.i label found.0 c.args.slot there c.self.invariant)
+    let i = c.in-At.i in
+    let e = c.index_mut.result.now in
+    let at : IsAt es label i = subst (λ (ds : Entries). IsAt ds label i) (sym c.self.view_is) c.in-At.ensures.found in (
+      AreHeld-set bytes held label i e c.args.slot at c.index_mut.ensures.value c.self.invariant.0,
+      subst (λ (ds : Entries). IsMap ds c.self.inside.chains c.self.inside.apart) (sym (entries_of-set bytes held label i e c.args.slot at c.index_mut.ensures.value))
+          (IsMap-set es c.self.inside.chains c.self.inside.apart i label at.0 c.args.slot at.1 c.self.invariant.1),
+    )
 
-pub returns-in-Some-clause-old : goal.returns-in-Some-clause-old
-returns-in-Some-clause-old c =
+pub returns-in-At-clause-old : goal.returns-in-At-clause-old
+returns-in-At-clause-old c =
+    let bytes = c.self.inside.bytes.items in
+    let held = c.self.inside.entries.items in
     let label = c.args.label.now in
-    let found = c.in-Some.ensures.found in
-    let there : slice_get c.self.inside.entries.items c.in-Some.i ≡ Some (label, found.0) = subst (λ (es : Entries). slice_get es c.in-Some.i ≡ Some (label, found.0)) (sym c.self.view_is) found.1 in
-    ap (λ e. Some e.1) (c.index.ensures ∙ get_or_from_slice_get c.self.inside.entries.items c.in-Some.i (label, found.0) _ there)
-    ∙ sym (lookup-there c.args.self.now label c.in-Some.i found.0 c.in-Some.ensures.unique found.1)
+    let i = c.in-At.i in
+    let e = c.index.result.now in
+    let found = c.in-At.ensures.found in
+    let there : slice_get (entries_of bytes held) i ≡ Some (label, found.0) = subst (λ (es : Entries). slice_get es i ≡ Some (label, found.0)) (sym c.self.view_is) found.1 in
+    ap Some (entry-same bytes held label i e found.0 (entry-at bytes held label i e (found.0, there) c.index.ensures) there).1
+    ∙ sym (lookup-there c.args.self.now label i found.0 c.in-At.ensures.unique found.1)
 
-pub returns-in-Some-clause-entries : goal.returns-in-Some-clause-entries
-returns-in-Some-clause-entries c =
+pub returns-in-At-clause-entries : goal.returns-in-At-clause-entries
+returns-in-At-clause-entries c =
+    let bytes = c.self.inside.bytes.items in
+    let held = c.self.inside.entries.items in
     let label = c.args.label.now in
-    let found = c.in-Some.ensures.found in
-    let there : slice_get c.self.inside.entries.items c.in-Some.i ≡ Some (label, found.0) = subst (λ (es : Entries). slice_get es c.in-Some.i ≡ Some (label, found.0)) (sym c.self.view_is) found.1 in
-    let key : c.index_mut.result.now.0 ≡ label = ap (λ e. e.0) (c.index_mut.ensures.value ∙ get_or_from_slice_get c.self.inside.entries.items c.in-Some.i (label, found.0) _ there) in
-    ap (λ (k : List ℕ). slice_set c.self.inside.entries.items c.in-Some.i (k, c.args.slot)) key
-    ∙ ap (λ (es : Entries). slice_set es c.in-Some.i (label, c.args.slot)) c.self.view_is
-    ∙ put-there c.args.self.now label c.in-Some.i found.0 c.args.slot c.in-Some.ensures.unique found.1
+    let i = c.in-At.i in
+    let found = c.in-At.ensures.found in
+    let at : IsAt (entries_of bytes held) label i = subst (λ (es : Entries). IsAt es label i) (sym c.self.view_is) found in
+    entries_of-set bytes held label i c.index_mut.result.now c.args.slot at c.index_mut.ensures.value
+    ∙ ap (λ (es : Entries). slice_set es i (label, c.args.slot)) c.self.view_is
+    ∙ put-there c.args.self.now label i found.0 c.args.slot c.in-At.ensures.unique found.1
 
-pub returns-in_ok-add-in-None-clause-old : goal.returns-in_ok-add-in-None-clause-old
-returns-in_ok-add-in-None-clause-old c = sym (lookup-absent c.args.self.now c.args.label.now c.in-None.ensures.absent)
+pub returns-in_ok-add-in-Absent-clause-old : goal.returns-in_ok-add-in-Absent-clause-old
+returns-in_ok-add-in-Absent-clause-old c = sym (lookup-absent c.args.self.now c.args.label.now c.in-Absent.ensures.found.0)
 
-pub returns-in_ok-add-in-None-clause-entries : goal.returns-in_ok-add-in-None-clause-entries
-returns-in_ok-add-in-None-clause-entries c = c.in_ok-add-in-None.ensures ∙ put-absent c.args.self.now c.args.label.now c.args.slot c.in-None.ensures.absent
+pub returns-in_ok-add-in-Absent-clause-entries : goal.returns-in_ok-add-in-Absent-clause-entries
+returns-in_ok-add-in-Absent-clause-entries c = c.in_ok-add-in-Absent.ensures ∙ put-absent c.args.self.now c.args.label.now c.args.slot c.in-Absent.ensures.found.0

@@ -1,0 +1,147 @@
+-- The entries' labels among the bytes.
+use Rattle.std.proofs.Common.{◌≡◌, ℕ, suc, ◌<◌, ◌≤◌, Bool, true, false, List, [], ◌∷◌, ◌++◌, Option, Some, None, length, take, drop, get_or, slice_get, slice_set, refl, sym, ap, subst, ◌∙◌, arith, bytes_eq, inl, inr, ◌⊎◌, ◌≢◌, length-append, length-drop, eqb, option_map}
+use Rattle.std.specs.Option.{option_map_or}
+use Rattle.std.proofs.lemmas.Option.{slice_get-map, slice_get_within, slice_get_read}
+use Rattle.std.proofs.lemmas.List.{map-append, map-set, length-map, take-append-le, drop-append-le, length-take-le}
+use Rattle.std.proofs.lemmas.Bool.Decides.{eqb_tells}
+use Rattle.std.proofs.lemmas.Slice.Eq.{bytes_eq-Decides}
+use Rattle.std.proofs.Math.Seq.{drop-append_seam, take-length}
+use Rattle.goal_labels.specs.declared.label_map.Slot.{Slot}
+use Rattle.goal_labels.specs.declared.label_map.Entry.{Entry}
+use Rattle.goal_labels.specs.Entries.{Entries, is_at, label_of, entries_of, IsAt, IsHeld, AreHeld}
+use Rattle.goal_labels.proofs.ChainLemmas.{slice_get-before, slice_get-last, slice_get-set, slice_get-apart}
+
+pub entries_of-none : (bytes : List ℕ) → entries_of bytes [] ≡ []
+unfolding entries_of
+entries_of-none bytes = refl
+
+pub entries_of-empty : (bytes : List ℕ) (es : List Entry) → es ≡ [] → entries_of bytes es ≡ []
+entries_of-empty bytes es none = ap (entries_of bytes) none ∙ entries_of-none bytes
+
+pub AreHeld-none : (bytes : List ℕ) (es : List Entry) → es ≡ [] → AreHeld bytes es
+AreHeld-none bytes es none i e at = absurd (omega (arith, slice_get_within es i e at, ap length none))
+
+pub length-entries_of : (bytes : List ℕ) (es : List Entry) → length (entries_of bytes es) ≡ length es
+unfolding entries_of
+length-entries_of bytes es = length-map es _
+
+-- what was read
+pub entries_of-read : (read bytes : List ℕ) (seen es : List Entry) → read ≡ bytes → seen ≡ es → entries_of read seen ≡ entries_of bytes es
+entries_of-read read bytes seen es same_bytes same_entries = ap (λ (bs : List ℕ). entries_of bs seen) same_bytes ∙ ap (entries_of bytes) same_entries
+
+-- an entry, seen with its label
+pub entry-there : (bytes : List ℕ) (es : List Entry) (i : ℕ) (e : Entry) → slice_get es i ≡ Some e → slice_get (entries_of bytes es) i ≡ Some (label_of bytes e, e.slot)
+unfolding entries_of
+entry-there bytes es i e there = slice_get-map _ es i ∙ ap (option_map (λ (k : Entry). (label_of bytes k, k.slot))) there
+
+pub IsAt-entry : (bytes : List ℕ) (es : List Entry) (i : ℕ) (e : Entry) → slice_get es i ≡ Some e → IsAt (entries_of bytes es) (label_of bytes e) i
+IsAt-entry bytes es i e there = (e.slot, entry-there bytes es i e there)
+
+pub entry-read : (bytes : List ℕ) (es : List Entry) (i : ℕ) → slice_get (entries_of bytes es) i ≡ option_map (λ (e : Entry). (label_of bytes e, e.slot)) (slice_get es i)
+unfolding entries_of
+entry-read bytes es i = slice_get-map _ es i
+
+-- an entry that was read, where the label's stands
+pub entry-at : (bytes : List ℕ) (es : List Entry) (label : List ℕ) (i : ℕ) (e : Entry) → IsAt (entries_of bytes es) label i → e ≡ get_or es i e → slice_get es i ≡ Some e
+entry-at bytes es label i e at read =
+    slice_get_read es (length es) i e refl (omega (arith, slice_get_within (entries_of bytes es) i (label, at.0) at.1, length-entries_of bytes es)) read
+
+pub entry-same : (bytes : List ℕ) (es : List Entry) (label : List ℕ) (i : ℕ) (e : Entry) (slot : Slot) → slice_get es i ≡ Some e → slice_get (entries_of bytes es) i ≡ Some (label, slot)
+    → (label_of bytes e ≡ label) × (e.slot ≡ slot)
+entry-same bytes es label i e slot there at =
+    let one : Some (label_of bytes e, e.slot) ≡ Some (label, slot) = sym (entry-there bytes es i e there) ∙ at in
+    (ap (λ (o : Option (List ℕ × Slot)). elim o [ None ↦ label | Some k ↦ k.0 ]) one, ap (λ (o : Option (List ℕ × Slot)). elim o [ None ↦ slot | Some k ↦ k.1 ]) one)
+
+-- the length of a label
+pub length-label_of : (bytes : List ℕ) (e : Entry) → IsHeld bytes e → length (label_of bytes e) ≡ e.len
+length-label_of bytes e held = length-take-le e.len (drop e.from bytes) (omega (arith, length-drop e.from bytes, held.within))
+
+-- the test of an entry
+pub is_at-entry : (bytes : List ℕ) (es : List Entry) (label : List ℕ) (i : ℕ) (e : Entry) → slice_get es i ≡ Some e → is_at (entries_of bytes es) label i ≡ bytes_eq (label_of bytes e) label
+unfolding is_at
+is_at-entry bytes es label i e there = ap (λ (o : Option (List ℕ × Slot)). option_map_or (λ k. bytes_eq k.0 label) o false) (entry-there bytes es i e there)
+
+pub is_at-past : (bytes : List ℕ) (es : List Entry) (label : List ℕ) (i : ℕ) → slice_get es i ≡ None → is_at (entries_of bytes es) label i ≡ false
+unfolding is_at
+is_at-past bytes es label i past = ap (λ (o : Option (List ℕ × Slot)). option_map_or (λ k. bytes_eq k.0 label) o false) (entry-read bytes es i ∙ ap (option_map _) past)
+
+-- an entry of another length
+pub is_at-other : (bytes : List ℕ) (es : List Entry) (label : List ℕ) (i : ℕ) (e : Entry) → slice_get es i ≡ Some e → IsHeld bytes e → e.len ≢ length label → is_at (entries_of bytes es) label i ≡ false
+is_at-other bytes es label i e there held other = is_at-entry bytes es label i e there ∙ by (bytes_eq (label_of bytes e) label) refl
+  where
+    by : (b : Bool) → bytes_eq (label_of bytes e) label ≡ b → b ≡ false
+    by false told = refl
+    by true told = absurd (other (sym (length-label_of bytes e held) ∙ ap length ((bytes_eq-Decides (label_of bytes e) label).0 told)))
+
+-- more bytes follow
+label_of-more : (bytes more : List ℕ) (e : Entry) → IsHeld bytes e → label_of (bytes ++ more) e ≡ label_of bytes e
+label_of-more bytes more e held =
+    ap (take e.len) (drop-append-le e.from bytes more (omega (arith, held.within)))
+    ∙ take-append-le e.len (drop e.from bytes) more (omega (arith, length-drop e.from bytes, held.within))
+
+AreHeld-tail : (bytes : List ℕ) (e : Entry) (es : List Entry) → AreHeld bytes (e ∷ es) → AreHeld bytes es
+AreHeld-tail bytes e es held i k at = held (suc i) k at
+
+entries_of-left : (bytes more : List ℕ) (es : List Entry) → AreHeld bytes es → entries_of (bytes ++ more) es ≡ entries_of bytes es
+unfolding entries_of
+entries_of-left bytes more [] held = refl
+entries_of-left bytes more (e ∷ es) held =
+    ap (λ (k : List ℕ). (k, e.slot) ∷ entries_of (bytes ++ more) es) (label_of-more bytes more e (held 0 e refl))
+    ∙ ap (λ (ks : Entries). (label_of bytes e, e.slot) ∷ ks) (entries_of-left bytes more es (AreHeld-tail bytes e es held))
+
+-- a label is added, behind the others
+module _ (bytes label : List ℕ) (es : List Entry) (e : Entry) (from : e.from ≡ length bytes) (len : e.len ≡ length label) where
+  label_of-last : label_of (bytes ++ label) e ≡ label
+  label_of-last =
+      ap (λ n. take n (drop e.from (bytes ++ label))) len ∙ ap (λ n. take (length label) (drop n (bytes ++ label))) from
+      ∙ ap (take (length label)) (drop-append_seam bytes label) ∙ take-length label
+
+  pub entries_of-more : AreHeld bytes es → entries_of (bytes ++ label) (es ++ e ∷ []) ≡ entries_of bytes es ++ (label, e.slot) ∷ []
+  unfolding entries_of
+  entries_of-more held =
+      map-append _ es (e ∷ []) ∙ ap (λ (k : List ℕ). entries_of (bytes ++ label) es ++ (k, e.slot) ∷ []) label_of-last
+      ∙ ap (λ (ks : Entries). ks ++ (label, e.slot) ∷ []) (entries_of-left bytes label es held)
+
+  pub AreHeld-more : 0 < length label → length label ≤ 64 → AreHeld bytes es → AreHeld (bytes ++ label) (es ++ e ∷ [])
+  AreHeld-more some short held i k at = by (eqb_tells i (length es))
+    where
+      last : IsHeld (bytes ++ label) e
+      last = record {
+        within = omega (arith, from, len, length-append bytes label);
+        some = omega (arith, len, some);
+        short = omega (arith, len, short);
+      }
+
+      by : ((eqb i (length es) ≡ true) × (i ≡ length es)) ⊎ ((eqb i (length es) ≡ false) × (i ≢ length es)) → IsHeld (bytes ++ label) k
+      by (inl told) =
+          let one : Some e ≡ Some k = sym (slice_get-last es e) ∙ ap (slice_get (es ++ e ∷ [])) (sym told.1) ∙ at in
+          subst (IsHeld (bytes ++ label)) (ap (λ (o : Option Entry). elim o [ None ↦ e | Some x ↦ x ]) one) last
+      by (inr told) =
+          let was = held i k (slice_get-before es (e ∷ []) i k (omega (arith, told.1, slice_get_within (es ++ e ∷ []) i k at, length-append es (e ∷ []))) at) in
+          record {
+            within = omega (arith, was.within, length-append bytes label);
+            some = was.some;
+            short = was.short;
+          }
+
+-- the slot of an entry that was read changes, where the label's stands
+module _ (bytes : List ℕ) (es : List Entry) (label : List ℕ) (i : ℕ) (old : Entry) (slot : Slot) (at : IsAt (entries_of bytes es) label i) (read : old ≡ get_or es i old) where
+  abbrev pub changed : Entry
+  changed = record { slot = slot; from = old.from; len = old.len }
+
+  there : slice_get es i ≡ Some old
+  there = entry-at bytes es label i old at read
+
+  pub entries_of-set : entries_of bytes (slice_set es i changed) ≡ slice_set (entries_of bytes es) i (label, slot)
+  unfolding entries_of
+  entries_of-set = map-set _ es i changed ∙ ap (λ (k : List ℕ). slice_set (entries_of bytes es) i (k, slot)) (entry-same bytes es label i old at.0 there at.1).0
+
+  pub AreHeld-set : AreHeld bytes es → AreHeld bytes (slice_set es i changed)
+  AreHeld-set held j k is = by (eqb_tells j i)
+    where
+      by : ((eqb j i ≡ true) × (j ≡ i)) ⊎ ((eqb j i ≡ false) × (j ≢ i)) → IsHeld bytes k
+      by (inl told) =
+          let one : Some changed ≡ Some k = sym (slice_get-set es i changed (slice_get_within es i old there)) ∙ ap (slice_get (slice_set es i changed)) (sym told.1) ∙ is in
+          let was = held i old there in
+          subst (IsHeld bytes) (ap (λ (o : Option Entry). elim o [ None ↦ changed | Some x ↦ x ]) one) (record { within = was.within; some = was.some; short = was.short })
+      by (inr told) = held j k (sym (slice_get-apart es i j changed told.1) ∙ is)
