@@ -1,6 +1,6 @@
 -- The lemmas of this crate that upper crates cite: they import this file alone.
 pub use Rattle.goal_lexer.proofs.StandsLaws.{finishes, goes_on}
-pub use Rattle.goal_lexer.proofs.AheadLaws.{ahead_on}
+pub use Rattle.goal_lexer.proofs.AheadLaws.{ahead_on, ahead_within, goes_ahead}
 pub use Rattle.goal_lexer.proofs.FormLaws.{first_in_run}
 pub use Rattle.goal_lexer.proofs.OnlyLaws.{only_reading}
 pub use Rattle.goal_lexer.proofs.NothingLaws.{Each-push}

@@ -31,9 +31,9 @@ use Rattle.goal_parser.specs.Plans.{empty_plan, plans_with, plans_of}
 use Rattle.goal_parser.specs.Faults.{fault_if, fault_by, token_fault, syntax_fault, number_fault, rank_fault, rank_fault_of, numbered_rank_fault, option_fault, defined_fault, label_fault, count_fault, unknown_fault}
 use Rattle.goal_parser.specs.FaultInText.{fault_in_text}
 use Rattle.goal_parser.specs.Slots.{NamesHold}
-use Rattle.goal_parser.specs.Taken.{HasTaken, Takes, Refuses, IsAction, IsOption, IsVerb, IsPlain}
+use Rattle.goal_parser.specs.Taken.{KeepsHead, HasTaken, Takes, Refuses, IsAction, IsOption, IsVerb, IsPlain}
 use Rattle.goal_parser.proofs.SlotLaws.{option_or-none}
-use Rattle.goal_parser.proofs.ParserLaws.{fault_taken, rank_passes}
+use Rattle.goal_parser.proofs.ParserLaws.{fault_taken, rank_passes, KeepsHead-next, defined_kept, used_kept, deps_kept, notes_kept}
 
 -- The tests behind that of the sentence.
 
@@ -169,9 +169,14 @@ pub record Gives (old new : Parser) (s : State) (k : TokenKind) (at : ℕ) : Typ
   pub names : NamesGive old.block.names new.block.names s k at old.head (length old.block.ops.items)
   pub plans : PlansGive old new s k
 
-given : (old new : Parser) (t : Token) → Gives old new old.state t.kind t.start → (before : List Token) → HasTaken old before → HasTaken new (t ∷ before)
+-- the state behind a token
+behind : (s next : State) (k : TokenKind) → entry s k ≡ Some next → next ≡ unwrap_or (entry s k) s
+behind s next k enters = sym (ap (λ (o : Option State). unwrap_or o s) enters)
+
+given : (old new : Parser) (t : Token) (next : State) → entry old.state t.kind ≡ Some next → Gives old new old.state t.kind t.start → (before : List Token) → HasTaken old before → HasTaken new (t ∷ before)
 unfolding state_of ranks_of rank_of blocks_of counts_of draft_of head_of ops_of defined_of used_of deps_of notes_of plans_of
-given old new t gives before taken =
+given old new t next enters gives before taken =
+    let head = head_of before in
     let ds = defined_of before in
     let us = used_of before in
     let deps = deps_of before in
@@ -183,10 +188,20 @@ given old new t gives before taken =
       blocks = gives.blocks ∙ (λ i. blocks_with (taken.state i) t.kind (taken.blocks i));
       counts = gives.counts ∙ (λ i. counts_with t.kind (taken.counts i));
       draft = gives.draft ∙ (λ i. draft_with (taken.state i) t.kind (taken.draft i));
-      head = gives.head ∙ (λ i. head_with (taken.state i) t.kind t.start (taken.head i));
+      head = subst (λ (z : State × ItemHead × State). KeepsHead z.0 z.1 (head_with z.2 t.kind t.start head))
+          (λ i. (sym (gives.state ∙ sym (behind old.state next t.kind enters)) i, sym gives.head i, taken.state i))
+          (KeepsHead-next old.state next t.kind t.start old.head head enters taken.head);
       ops = gives.ops ∙ (λ i. ops_with (taken.state i) t.kind (op_of (taken.draft i)) (taken.ops i));
-      names = subst (λ (z : State × ItemHead × List Op). NamesHold new.block.names (defined_with t.kind z.1.subject (length z.2) ds) (used_with z.0 t.kind t.start z.1 us) (deps_with z.0 t.kind z.1 deps) (notes_with z.0 t.kind z.1 notes))
-          (λ i. (taken.state i, taken.head i, taken.ops i)) (gives.names ds us deps notes taken.names);
+      names = subst (λ (z : State × List Op). NamesHold new.block.names (defined_with t.kind head.subject (length z.1) ds) (used_with z.0 t.kind t.start head us) (deps_with z.0 t.kind head deps) (notes_with z.0 t.kind head notes))
+          (λ i. (taken.state i, taken.ops i))
+          (subst (λ (z : List Definition × List Mention × List NamedDep × List NamedNote). NamesHold new.block.names z.0 z.1 z.2 z.3)
+          (λ i. (
+            defined_kept t.kind old.state next old.head head (length old.block.ops.items) ds enters taken.head i,
+            used_kept t.kind old.state t.start old.head head us taken.head i,
+            deps_kept t.kind old.state old.head head deps taken.head i,
+            notes_kept t.kind old.state old.head head notes taken.head i,
+          ))
+          (gives.names ds us deps notes taken.names));
       plans = gives.plans ds us deps notes taken.names
           ∙ (λ i. plans_with (taken.state i) t.kind (taken.rank i) (record {
             ops = ended_ops (taken.state i) token.Close (op_of (taken.draft i)) (taken.ops i);
@@ -197,7 +212,7 @@ given old new t gives before taken =
 
 pub takes : (old new : Parser) (t : Token) (next : State) → entry old.state t.kind ≡ Some next
     → ((before : List Token) → HasTaken old before → rest_fault old before t ≡ None) → Gives old new old.state t.kind t.start → Takes old t new
-takes old new t next enters rest gives = λ before taken. (told old before t next None taken enters (rest before taken), given old new t gives before taken)
+takes old new t next enters rest gives = λ before taken. (told old before t next None taken enters (rest before taken), given old new t next enters gives before taken)
 
 -- What a token leaves, where its kind gives nothing there.
 
@@ -274,10 +289,6 @@ unfolding plans_with
 plans_other s (token.Number n) rank plan plans absent = absurd absent
 plans_other s token.Close rank plan plans absent = absurd absent
 plans_other s _ rank plan plans absent = refl
-
--- the state behind a token
-behind : (s next : State) (k : TokenKind) → entry s k ≡ Some next → next ≡ unwrap_or (entry s k) s
-behind s next k enters = sym (ap (λ (o : Option State). unwrap_or o s) enters)
 
 -- a token that begins no item, names nothing and has no number
 gives_beside : (old : Parser) (next : State) (counts : Counts) (draft : Draft) (head : ItemHead) (k : TokenKind) (at : ℕ) → entry old.state k ≡ Some next

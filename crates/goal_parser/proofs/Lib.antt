@@ -3,7 +3,9 @@ pub mod NameLaws
 pub mod BlockLaws
 pub mod ParserLaws
 pub mod KindLaws
+pub mod GroupLaws
 pub mod ReaderLaws
+pub mod AheadLaws
 pub mod LimitLaws
 pub mod GrammarLaws
 pub mod OneReading

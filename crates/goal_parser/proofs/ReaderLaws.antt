@@ -29,7 +29,7 @@ or_none None = refl
 or_none (Some x) = refl
 
 -- the faults of tokens and of more tokens
-first_fault-append : (before xs ys : List Token) → first_fault before (xs ++ ys) ≡ option_or (first_fault before xs) (first_fault (reverse xs ++ before) ys)
+pub first_fault-append : (before xs ys : List Token) → first_fault before (xs ++ ys) ≡ option_or (first_fault before xs) (first_fault (reverse xs ++ before) ys)
 unfolding first_fault
 first_fault-append before [] ys = refl
 first_fault-append before (x ∷ xs) ys =
@@ -50,7 +50,7 @@ first_fault-more hs t passed =
 pub reverse-more : (hs : List Token) (t : Token) → t ∷ reverse hs ≡ reverse (hs ++ t ∷ [])
 reverse-more hs t = sym (reverse-append hs (t ∷ []))
 
-first_fault-front : (hs ys : List Token) (f : TextFault) → first_fault [] hs ≡ Some f → first_fault [] (hs ++ ys) ≡ Some f
+pub first_fault-front : (hs ys : List Token) (f : TextFault) → first_fault [] hs ≡ Some f → first_fault [] (hs ++ ys) ≡ Some f
 first_fault-front hs ys f h = first_fault-append [] hs ys ∙ ap (λ o. option_or o (first_fault (reverse hs ++ []) ys)) h
 
 -- the tokens that were handed out stand in front of those of each text that goes on, where no run goes on

@@ -15,6 +15,7 @@ pub mod FaultWords
 pub mod FaultInText
 pub mod Slots
 pub mod Taken
+pub mod Ahead
 -- Laws.
 pub mod Grammar
 pub mod Laws

@@ -1,10 +1,15 @@
 -- What a parser keeps of the tokens that it has taken.
-use Rattle.std.specs.Prelude.{◌≡◌, List, ◌∷◌, None, Some, ⊤}
+use Rattle.std.specs.Prelude.{◌≡◌, ℕ, ◌⊎◌, List, ◌∷◌, ◌++◌, None, Some, ⊤, reverse}
 use Rattle.goal_lexer.specs.declared.tokens.Token.{Token}
 use Rattle.goal_lexer.specs.declared.tokens.TokenKind.{TokenKind}
 use Rattle.goal_lexer.specs.declared.tokens.TokenKind.TheVariants as token
 use Rattle.goal_parser.specs.declared.token_faults.TokenFault.{TokenFault}
 use Rattle.goal_parser.specs.declared.parser.Parser.{Parser}
+use Rattle.goal_parser.specs.declared.sentence.State.{State}
+use Rattle.goal_parser.specs.declared.sentence.State.TheVariants as state
+use Rattle.goal_parser.specs.declared.head.ItemHead.{ItemHead}
+use Rattle.goal_parser.specs.declared.head.Verb.{Verb}
+use Rattle.goal_parser.specs.declared.head.Verb.TheVariants as verb
 use Rattle.goal_parser.specs.Sentence.{state_of}
 use Rattle.goal_parser.specs.Ranks.{ranks_of, rank_of, blocks_of}
 use Rattle.goal_parser.specs.Counts.{counts_of}
@@ -12,8 +17,19 @@ use Rattle.goal_parser.specs.Actions.{draft_of}
 use Rattle.goal_parser.specs.Items.{head_of, ops_of, defined_of, used_of, deps_of, notes_of}
 use Rattle.goal_parser.specs.Plans.{plans_of}
 use Rattle.goal_parser.specs.Faults.{token_fault}
+use Rattle.goal_parser.specs.Reads.{first_fault}
 use Rattle.goal_parser.specs.FaultInText.{fault_in_text}
 use Rattle.goal_parser.specs.Slots.{NamesHold}
+
+-- What is kept of the newest item that begins with a label, as long as its tokens need it: the label, then its verb, then
+-- its first slot.
+abbrev pub KeepsHead : State → ItemHead → ItemHead → Type 0
+KeepsHead state.Word kept given = kept.subject ≡ given.subject
+KeepsHead state.Label kept given = (kept.subject ≡ given.subject) × (kept.verb ≡ given.verb)
+KeepsHead state.Note1 kept given = (kept.subject ≡ given.subject) × (kept.verb ≡ given.verb)
+KeepsHead state.Note2 kept given = kept ≡ given
+KeepsHead state.Note3 kept given = kept ≡ given
+KeepsHead _ kept given = ⊤
 
 -- The parser has taken these tokens, of which the newest stands first: it keeps what they give.
 pub record HasTaken (parser : Parser) (before : List Token) : Type 0 where
@@ -23,7 +39,7 @@ pub record HasTaken (parser : Parser) (before : List Token) : Type 0 where
   pub blocks : parser.ranks.blocks.keys ≡ blocks_of before
   pub counts : parser.counts ≡ counts_of before
   pub draft : parser.draft ≡ draft_of before
-  pub head : parser.head ≡ head_of before
+  pub head : KeepsHead parser.state parser.head (head_of before)
   pub ops : parser.block.ops.items ≡ ops_of before
   pub names : NamesHold parser.block.names (defined_of before) (used_of before) (deps_of before) (notes_of before)
   pub plans : parser.plans.items ≡ plans_of before
@@ -35,6 +51,37 @@ Takes old token new = (before : List Token) → HasTaken old before → (token_f
 -- the parser refuses the token: this is the first test that it fails
 abbrev pub Refuses : Parser → Token → TokenFault → Type 0
 Refuses old token fault = (before : List Token) → HasTaken old before → token_fault before token ≡ Some (fault_in_text fault)
+
+-- the parser takes these tokens, one after another: none fails a test, and what they give is kept
+abbrev pub TakesAll : Parser → List Token → Parser → Type 0
+TakesAll old tokens new =
+    (before : List Token) → HasTaken old before → (first_fault before tokens ≡ None) × HasTaken new (reverse tokens ++ before)
+
+-- the parser refuses these tokens: this is the first test that one of them fails
+abbrev pub RefusesAll : Parser → List Token → TokenFault → Type 0
+RefusesAll old tokens fault = (before : List Token) → HasTaken old before → first_fault before tokens ≡ Some (fault_in_text fault)
+
+-- the verb's word
+abbrev pub verb_kind : Verb → TokenKind
+verb_kind verb.Requires = token.Requires
+verb_kind verb.Irequires = token.Irequires
+verb_kind verb.Moves = token.Moves
+verb_kind verb.Adds = token.Adds
+
+-- the verb of a dependency, and that of a note
+abbrev pub IsOfDeps : Verb → Type 0
+IsOfDeps verb.Requires = ⊤
+IsOfDeps verb.Irequires = ⊤
+IsOfDeps _ = ⊥
+
+abbrev pub IsOfNotes : Verb → Type 0
+IsOfNotes verb.Moves = ⊤
+IsOfNotes verb.Adds = ⊤
+IsOfNotes _ = ⊥
+
+-- so many bytes, as a number or as a size
+abbrev pub IsAmount : TokenKind → ℕ → Type 0
+IsAmount kind bytes = (kind ≡ token.Number bytes) ⊎ (kind ≡ token.Size bytes)
 
 -- the word of an action
 abbrev pub IsAction : TokenKind → Type 0

@@ -56,7 +56,8 @@ pub struct Draft {
 
 impl Draft {
     /// An action that has only begun, where this option word stood last.
-    fn begun(action: Action, option: OptionWord) -> Draft
+    #[inline(always)]
+    pub fn begun(action: Action, option: OptionWord) -> Draft
         ensures { result ≡ begun action option }
     {
         Draft {
@@ -162,6 +163,7 @@ impl Draft {
     }
 
     /// The operation of the action.
+    #[inline(always)]
     pub fn op(&self) -> Op
         ensures { result ≡ op_of self.now }
     {

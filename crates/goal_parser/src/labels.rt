@@ -1,15 +1,13 @@
 //! The labels of a block.
-ghost use Rattle.std.specs.Prelude.{◌≡◌, ◌≢◌, ◌<◌, List, [], ◌∷◌, ◌++◌, Some, None, IfOk, IfErr, OnOk, length};
+ghost use Rattle.std.specs.Prelude.{◌≡◌, ◌≢◌, ◌<◌, ◌≤◌, List, [], ◌∷◌, ◌++◌, Some, None, IfOk, IfErr, OnOk, length};
 ghost use Rattle.goal_parser.specs.Items.{Definition, first_unknown};
 ghost use Rattle.goal_parser.specs.declared.head.Mention.{Mention};
 ghost use Rattle.goal_parser.specs.Faults.{defined_fault};
 ghost use Rattle.goal_parser.specs.FaultInText.{fault_in_text};
 ghost use Rattle.goal_parser.specs.Slots.{Keeps, Grows, op_in, label_at, op_at};
 
-use crate::head::Mention;
 use crate::token_faults::TokenFault;
 use goal_labels::{LabelMap, Slot};
-use goal_lexer::Label;
 use std::alloc::{AllocError, Global};
 
 /// The number of a slot's operation, if there is a slot and it has one.
@@ -53,15 +51,16 @@ impl Labels {
     /// # Errors
     ///
     /// `Repeat` where the label is defined already, and want of memory.
-    pub fn define(&mut self, mention: &Mention, op: u32) -> Result<(), TokenFault>
+    pub fn define(&mut self, label: &[u8], at: u64, op: u32) -> Result<(), TokenFault>
+        requires some { 0 < length label.now }
+        requires short { length label.now ≤ 64 }
         ensures ok { OnOk result ((ds : List Definition) (us : List Mention) → Keeps self.old.slots ds us →
-            (defined_fault ds (Some mention.now) ≡ None) × Keeps self.new.slots (ds ++ record { label = mention.now.label; op = op } ∷ []) us) }
+            (defined_fault ds (Some (record { label = label.now; at = at })) ≡ None) × Keeps self.new.slots (ds ++ record { label = label.now; op = op } ∷ []) us) }
         ensures grows { OnOk result (Grows self.old.slots self.new.slots) }
-        ensures fault { IfErr result (λ f. f ≢ TokenFault.NoMemory → (ds : List Definition) (us : List Mention) → Keeps self.old.slots ds us → defined_fault ds (Some mention.now) ≡ Some (fault_in_text f)) }
+        ensures fault { IfErr result (λ f. f ≢ TokenFault.NoMemory → (ds : List Definition) (us : List Mention) → Keeps self.old.slots ds us → defined_fault ds (Some (record { label = label.now; at = at })) ≡ Some (fault_in_text f)) }
     {
-        let at = mention.at;
         let slot = Slot { op: Some(op), at };
-        let before = self.slots.insert(&mention.label, slot)?;
+        let before = self.slots.insert(label, slot)?;
         match op_in(before) {
             Some(_) => Err(TokenFault::Repeat { at }),
             None => Ok(()),
@@ -69,7 +68,9 @@ impl Labels {
     }
 
     /// The index of a label that is used here, with a slot of its own from now on.
-    fn place(&mut self, label: &Label, at: u64) -> Result<usize, AllocError>
+    fn place(&mut self, label: &[u8], at: u64) -> Result<usize, AllocError>
+        requires some { 0 < length label.now }
+        requires short { length label.now ≤ 64 }
         ensures kept { OnOk result ((ds : List Definition) (us : List Mention) → Keeps self.old.slots ds us →
             Keeps self.new.slots ds (us ++ record { label = label.now; at = at } ∷ [])) }
         ensures grows { OnOk result (Grows self.old.slots self.new.slots) }
@@ -81,7 +82,9 @@ impl Labels {
     }
 
     /// The slot of a label that is used here.
-    pub fn mention(&mut self, label: &Label, at: u64) -> Result<u32, AllocError>
+    pub fn mention(&mut self, label: &[u8], at: u64) -> Result<u32, AllocError>
+        requires some { 0 < length label.now }
+        requires short { length label.now ≤ 64 }
         ensures kept { OnOk result ((ds : List Definition) (us : List Mention) → Keeps self.old.slots ds us →
             Keeps self.new.slots ds (us ++ record { label = label.now; at = at } ∷ [])) }
         ensures grows { OnOk result (Grows self.old.slots self.new.slots) }

@@ -14,10 +14,12 @@
 //! labels of a block are numbered by slots up to the block's end. `Slots`, `Taken` and `Reader` say what these keep.
 #![tactic(auto)]
 
+mod ahead;
 mod block;
 mod counts;
 mod draft;
 mod faults;
+mod groups;
 mod head;
 mod labels;
 mod laws;

@@ -27,7 +27,7 @@ pub struct Names {
 }
 
 /// Which moment of the earlier operation a dependency waits for.
-fn when_of(verb: Verb) -> When
+pub fn when_of(verb: Verb) -> When
     ensures { result ≡ when_of verb }
 {
     match verb {
@@ -37,7 +37,7 @@ fn when_of(verb: Verb) -> When
 }
 
 /// A note of an operation or a slot.
-fn note_as(verb: Verb, op: u32, first: u32, second: u32) -> Note
+pub fn note_as(verb: Verb, op: u32, first: u32, second: u32) -> Note
     ensures { result ≡ note_as verb op first second }
 {
     match verb {
@@ -77,7 +77,7 @@ impl Names {
         ensures fault { IfErr result (λ f. f ≢ TokenFault.NoMemory → (ds : List Definition) (us : List Mention) → Keeps self.old.labels.slots ds us → defined_fault ds subject.now ≡ Some (fault_in_text f)) }
     {
         match subject {
-            Some(subject) => self.labels.define(subject, op),
+            Some(subject) => self.labels.define(subject.label.as_bytes(), subject.at, op),
             None => Ok(()),
         }
     }
@@ -89,8 +89,8 @@ impl Names {
     {
         match &head.subject {
             Some(subject) => {
-                let later = self.labels.mention(&subject.label, subject.at)?;
-                let earlier = self.labels.mention(label, at)?;
+                let later = self.labels.mention(subject.label.as_bytes(), subject.at)?;
+                let earlier = self.labels.mention(label.as_bytes(), at)?;
                 self.deps.push(Dep {
                     later,
                     earlier,
@@ -112,7 +112,7 @@ impl Names {
         match (state, &head.subject) {
             (State::Note3, Some(subject)) => {
                 let second = second as u32;
-                let op = self.labels.mention(&subject.label, subject.at)?;
+                let op = self.labels.mention(subject.label.as_bytes(), subject.at)?;
                 self.notes.push(note_as(head.verb, op, head.low, second))?;
                 Ok(())
             }

@@ -99,7 +99,11 @@ impl Reader {
         let mut token = Token::nowhere();
         let mut at = 0;
         while at < piece.len() {
-            match self.step(&piece[at..], &mut token) {
+            match self.take_ahead(&piece[at..]) {
+                Ok(0) => match self.step(&piece[at..], &mut token) {
+                    Ok(taken) => at += taken,
+                    Err(fault) => return Err(fault),
+                },
                 Ok(taken) => at += taken,
                 Err(fault) => return Err(fault),
             }

@@ -8,8 +8,8 @@ use Rattle.goal_parser.proofs.labels.Labels.define.Goals as goal
 pub returns-in-None-clause-ok : goal.returns-in-None-clause-ok
 returns-in-None-clause-ok c = λ ds us keeps.
     let es = c.args.self.now.slots in
-    let label = c.args.mention.now.label in
-    let at = c.args.mention.now.at in
+    let label = c.args.label.now in
+    let at = c.args.at in
     let before = c.in_ok-before.before in
     let fresh : is_defined ds label ≡ false = defined_before es ds us label before keeps (search (rules)) ∙ ap (λ (o : Option ℕ). is_some o) (sym c.op_in.ensures ∙ c.in-None.is) in (
       ap (λ (b : Bool). fault_if b (Repeat at)) fresh,
@@ -18,11 +18,11 @@ returns-in-None-clause-ok c = λ ds us keeps.
 
 pub returns-in-None-clause-grows : goal.returns-in-None-clause-grows
 returns-in-None-clause-grows c =
-    Grows-put c.args.self.now.slots c.insert.new.self c.args.mention.now.label (record { op = Some c.args.op; at = c.args.mention.now.at }) c.in_ok-before.ensures.entries
+    Grows-put c.args.self.now.slots c.insert.new.self c.args.label.now (record { op = Some c.args.op; at = c.args.at }) c.in_ok-before.ensures.entries
 
 pub returns-in-Some-clause-fault : goal.returns-in-Some-clause-fault
 returns-in-Some-clause-fault c = λ memory ds us keeps.
     let es = c.args.self.now.slots in
-    let label = c.args.mention.now.label in
+    let label = c.args.label.now in
     let defined : is_defined ds label ≡ true = defined_before es ds us label c.in_ok-before.before keeps (search (rules)) ∙ ap (λ (o : Option ℕ). is_some o) (sym c.op_in.ensures ∙ c.in-Some.is) in
-    ap (λ (b : Bool). fault_if b (Repeat c.args.mention.now.at)) defined
+    ap (λ (b : Bool). fault_if b (Repeat c.args.at)) defined

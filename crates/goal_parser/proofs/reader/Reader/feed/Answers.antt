@@ -1,46 +1,66 @@
-use Rattle.std.proofs.Common.{◌≡◌, sym, ap, ◌∙◌, subst, List, ◌++◌, ◌-◌, ℕ, Some, take, drop, length, arith, length-drop, append_assoc, take-append-drop, false}
-use Rattle.std.proofs.lemmas.List.{take_all}
-use Rattle.goal_lexer.specs.Stands.{begins_run}
-use Rattle.goal_parser.specs.Reads.{text_fault}
+use Rattle.std.proofs.Common.{◌≡◌, ◌∙◌, sym, ap, subst, arith, ℕ, ◌+◌, ◌-◌, List, ◌++◌, take, length, length-drop}
+use Rattle.std.proofs.lemmas.List.{take_all, take_rest}
+use Rattle.goal_parser.specs.declared.reader.Reader.{Reader}
 use Rattle.goal_parser.specs.FaultInText.{fault_in_text}
 use Rattle.goal_parser.specs.Reader.{StandsFor}
-use Rattle.goal_parser.proofs.ReaderLaws.{take-plus, drop-plus}
+use Rattle.goal_parser.proofs.AheadLaws.{stands_on_piece, apart_in_piece, fault_in_piece}
 use Rattle.goal_parser.proofs.reader.Reader.feed.Goals as goal
+
+pub loop-at-preserved-in-Ok-step : goal.loop-at-preserved-in-Ok-step
+loop-at-preserved-in-Ok-step c =
+    let piece = c.args.piece.now in
+    let at = c.loop-at.at in
+    let n = c.in-Ok-step.taken in
+    let old = c.take_ahead.new.self in
+    let same : old ≡ c.loop-at.self = c.in-Ok-eq0.ensures.ahead.none (omega arith) in
+    let done = c.in-Ok-step.ensures in
+    let rest = length-drop at piece in
+    let long = ap length (take_rest piece at) in
+    let inv = c.loop-at.invariant in
+    let there : old.place ≡ c.args.self.now.place + at = ap (λ (r : Reader). r.place) same ∙ inv.place in
+    record {
+      within = omega (arith, done.taken, long, rest);
+      place = omega (arith, done.place, there);
+      same = done.same;
+      apart = λ ends. apart_in_piece piece at n (done.apart ends);
+      left = λ ends. omega (arith, done.left ends, long, rest);
+      stands = stands_on_piece c.args.self.now old c.step.new.self piece at n
+          (λ text stood. subst (λ (r : Reader). StandsFor r (text ++ take at piece)) (sym same) (inv.stands text stood)) done.stands;
+    }
 
 pub loop-at-preserved : goal.loop-at-preserved
 loop-at-preserved c =
     let piece = c.args.piece.now in
     let at = c.loop-at.at in
     let n = c.in-Ok.taken in
-    let done = c.in-Ok.ensures in
-    let long = length-drop at piece in
+    let done = c.in-Ok.ensures.ahead in
+    let rest = length-drop at piece in
+    let long = ap length (take_rest piece at) in
     let inv = c.loop-at.invariant in
-    let within = inv.within in
-    let there = inv.place in
-    let rest_is : take (length piece - at) (drop at piece) ≡ drop at piece = take_all (length piece - at) (drop at piece) (omega (arith, long)) in
-    let rest_long = ap length rest_is in
     record {
-      within = omega (arith, done.taken, long, rest_long);
-      place = omega (arith, done.place, there);
+      within = omega (arith, done.taken, long, rest);
+      place = omega (arith, done.place, inv.place);
       same = done.same;
-      apart = λ ends. subst (λ (l : List ℕ). begins_run l ≡ false) (sym (drop-plus at n piece)) (subst (λ (l : List ℕ). begins_run (drop n l) ≡ false) rest_is (done.apart ends));
-      left = λ ends. omega (arith, done.left ends, long, rest_long);
-      stands = λ text stood. subst (λ (w : List ℕ). StandsFor c.step.new.self w)
-          (append_assoc text (take at piece) (take n (drop at piece)) ∙ ap (λ (l : List ℕ). text ++ l) (sym (take-plus at n piece)))
-          (subst (λ (l : List ℕ). StandsFor c.step.new.self ((text ++ take at piece) ++ take n l)) rest_is (done.stands (text ++ take at piece) (inv.stands text stood)));
+      apart = λ ends. apart_in_piece piece at n (done.apart ends);
+      left = λ ends. omega (arith, done.left (omega arith) ends, long, rest);
+      stands = stands_on_piece c.args.self.now c.loop-at.self c.take_ahead.new.self piece at n inv.stands done.stands;
     }
 
-pub returns-in-Err-clause-fault : goal.returns-in-Err-clause-fault
-returns-in-Err-clause-fault c = λ memory text more stood.
+pub returns-in-Err-step-clause-fault : goal.returns-in-Err-step-clause-fault
+returns-in-Err-step-clause-fault c memory text more stood =
     let piece = c.args.piece.now in
     let at = c.loop-at.at in
-    let within = c.loop-at.invariant.within in
-    let long = length-drop at piece in
-    let rest_is : take (length piece - at) (drop at piece) ≡ drop at piece = take_all (length piece - at) (drop at piece) (omega (arith, long)) in
-    subst (λ (w : List ℕ). text_fault (w ++ more) ≡ Some (fault_in_text c.in-Err.fault))
-    (append_assoc text (take at piece) (drop at piece) ∙ ap (λ (l : List ℕ). text ++ l) (take-append-drop at piece))
-    (subst (λ (l : List ℕ). text_fault (((text ++ take at piece) ++ l) ++ more) ≡ Some (fault_in_text c.in-Err.fault)) rest_is
-    (c.in-Err.ensures.fault memory (text ++ take at piece) more (c.loop-at.invariant.stands text stood)))
+    let same : c.take_ahead.new.self ≡ c.loop-at.self = c.in-Ok-eq0.ensures.ahead.none (omega arith) in
+    fault_in_piece piece text more at (fault_in_text c.in-Err-step.fault)
+    (c.in-Err-step.ensures.fault memory (text ++ take at piece) more
+    (subst (λ (r : Reader). StandsFor r (text ++ take at piece)) (sym same) (c.loop-at.invariant.stands text stood)))
+
+pub returns-in-Err-clause-fault : goal.returns-in-Err-clause-fault
+returns-in-Err-clause-fault c memory text more stood =
+    let piece = c.args.piece.now in
+    let at = c.loop-at.at in
+    fault_in_piece piece text more at (fault_in_text c.in-Err.fault)
+    (c.in-Err.ensures.fault memory (text ++ take at piece) more (c.loop-at.invariant.stands text stood))
 
 pub returns-clause-stands : goal.returns-clause-stands
 returns-clause-stands c = λ text stood.

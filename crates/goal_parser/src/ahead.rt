@@ -1,0 +1,529 @@
+//! Tokens that are taken several at once, where they stand in the piece as most texts have them.
+ghost use Rattle.std.specs.Prelude.{◌≡◌, ◌≢◌, ℕ, ◌+◌, ◌-◌, ◌<◌, ◌≤◌, ◌⊎◌, ◌^◌, true, false, List, [], ◌∷◌, length, drop, Some, IfOk, IfErr, IfSome, slice_index};
+ghost use Rattle.goal_base.specs.declared.limits.TheConstants.{MAX_BYTES, MAX_OPS};
+ghost use Rattle.goal_lexer.specs.declared.tokens.Token.{Token};
+ghost use Rattle.goal_lexer.specs.Ahead.{AreBlanks, is_word, IsAhead};
+ghost use Rattle.goal_lexer.specs.Stands.{begins_run};
+ghost use Rattle.goal_lexer.specs.Words.{word_kind};
+ghost use Rattle.goal_parser.specs.declared.parser.Parser.{Parser};
+ghost use Rattle.goal_parser.specs.Ahead.{MayGoOn, GoesAhead, IsFaultAhead, AwaitsAction, AwaitsItem, IsRunAhead, IsSmallAhead, IsPeerAhead, IsMessageAhead, IsLabelAhead};
+ghost use Rattle.goal_parser.specs.Taken.{TakesAll, verb_kind, IsOfDeps, IsOfNotes, IsAmount};
+
+use crate::head::Verb;
+use crate::reader::Reader;
+use crate::sentence::State;
+use crate::token_faults::TokenFault;
+use goal_base::{MAX_BYTES, MAX_DEPS, MAX_NANOS, MAX_NOTES, MAX_OPS};
+use goal_lexer::{
+    Amount, TokenKind, begins_with_colon, blanks_ahead, label_ahead, number_ahead, size_ahead,
+    word_ahead,
+};
+
+/// A number below 2^32 that stands ahead, and the index behind it.
+#[derive(Clone, Copy)]
+struct Small {
+    value: u32,
+    end: usize,
+}
+
+/// The size of a message in bytes and its peer, as they stand ahead, and the index behind them.
+#[derive(Clone, Copy)]
+struct Message {
+    bytes: u64,
+    peer: u32,
+    end: usize,
+}
+
+/// The bytes of a message that stand ahead, as a size or as a number.
+#[inline(always)]
+fn amount_ahead(rest: &[u8]) -> Amount
+    ensures within { result.count ≤ length rest.now }
+    ensures ahead { 0 < result.count → (place : ℕ) → (size : Token) × IsAmount size.kind result.value × IsAhead place rest.now result.count true (size ∷ []) }
+{
+    let size = size_ahead(rest);
+    if size.count > 0 {
+        return size;
+    }
+    number_ahead(rest)
+}
+
+/// The number that stands at this index, where it is below 2^32.
+#[inline(always)]
+fn small_ahead(rest: &[u8], at: usize) -> Option<Small>
+    requires { at ≤ length rest.now }
+    ensures within { IfSome result (λ n. (at < n.end) × (n.end ≤ length rest.now)) }
+    ensures ahead { IfSome result (λ n. IsSmallAhead rest.now at n.value n.end) }
+{
+    let number = number_ahead(&rest[at..]);
+    let Ok(value) = u32::try_from(number.value) else {
+        return None;
+    };
+    if number.count == 0 {
+        return None;
+    }
+    Some(Small {
+        value,
+        end: at + number.count,
+    })
+}
+
+/// The word and the number below 2^32 that stand at this index.
+#[inline(always)]
+fn peer_ahead(rest: &[u8], at: usize, word: &[u8]) -> Option<Small>
+    requires at { at ≤ length rest.now }
+    requires word { is_word word.now ≡ true }
+    requires short { length word.now ≤ 64 }
+    ensures within { IfSome result (λ n. at < n.end) }
+    ensures ahead { IfSome result (λ n. IsPeerAhead rest.now at (word_kind word.now) n.value n.end) }
+{
+    let count = word_ahead(&rest[at..], blanks_ahead(&rest[at..]), word);
+    if count == 0 {
+        return None;
+    }
+    small_ahead(rest, at + count)
+}
+
+/// What stands at this index of a message behind its first word: its size, a word and its peer.
+#[inline(always)]
+fn message_ahead(rest: &[u8], at: usize, word: &[u8]) -> Option<Message>
+    requires at { at ≤ length rest.now }
+    requires word { is_word word.now ≡ true }
+    requires short { length word.now ≤ 64 }
+    ensures within { IfSome result (λ m. at < m.end) }
+    ensures bytes { IfSome result (λ m. m.bytes ≤ MAX_BYTES) }
+    ensures ahead { IfSome result (λ m. IsMessageAhead rest.now at (word_kind word.now) m.bytes m.peer m.end) }
+{
+    let size = amount_ahead(&rest[at..]);
+    if size.count == 0 || size.value > MAX_BYTES {
+        return None;
+    }
+    match peer_ahead(rest, at + size.count, word) {
+        None => None,
+        Some(peer) => Some(Message {
+            bytes: size.value,
+            peer: peer.value,
+            end: peer.end,
+        }),
+    }
+}
+
+/// How many bytes so many blanks and the word of an option behind them take, by the word's first byte, and 0 where no such
+/// word stands there.
+#[inline(always)]
+fn option_ahead(rest: &[u8], blanks: usize) -> usize
+    requires blanks { AreBlanks rest.now blanks }
+    requires some { blanks < length rest.now }
+    ensures tag { 0 < result → slice_index rest.now blanks ≡ 116 → (place : ℕ) → IsRunAhead place rest.now result TokenKind.Tag }
+    ensures nic { 0 < result → slice_index rest.now blanks ≡ 110 → (place : ℕ) → IsRunAhead place rest.now result TokenKind.Nic }
+    ensures cpu { 0 < result → slice_index rest.now blanks ≡ 99 → (place : ℕ) → IsRunAhead place rest.now result TokenKind.Cpu }
+{
+    match rest[blanks] {
+        b't' => word_ahead(rest, blanks, b"tag"),
+        b'n' => word_ahead(rest, blanks, b"nic"),
+        b'c' => word_ahead(rest, blanks, b"cpu"),
+        _ => 0,
+    }
+}
+
+/// Whether an action may stand behind so many blanks, by the first byte of its word. Any answer is right: it saves time alone.
+#[inline(always)]
+fn begins_as_action(rest: &[u8], blanks: usize) -> bool
+{
+    blanks < rest.len() && matches!(rest[blanks], b'c' | b's' | b'r')
+}
+
+impl Reader {
+    /// Takes so many bytes, which are tokens that the parser took, and whether they end with a run.
+    #[inline(always)]
+    fn go_on(&mut self, rest: &[u8], count: usize, ends_run: bool)
+        requires ready { MayGoOn self.old.lexer self.old.place rest.now }
+        requires some { 0 < count }
+        requires ahead { (tokens : List Token) × IsAhead self.old.place rest.now count ends_run tokens }
+        ensures { (before : Parser) (tokens : List Token) → IsAhead self.old.place rest.now count ends_run tokens
+            → TakesAll before tokens self.old.parser → GoesAhead (record self.old { parser = before }) rest.now self.new count }
+    {
+        self.lexer.go_on(rest, count, ends_run);
+        self.place += count as u64;
+    }
+
+    /// Takes a label, of which the bytes are known, and the colon behind it.
+    #[inline(always)]
+    fn take_definition(
+        &mut self,
+        rest: &[u8],
+        blanks: usize,
+        label: usize,
+    ) -> Result<usize, TokenFault>
+        requires ready { MayGoOn self.old.lexer self.old.place rest.now }
+        requires state { AwaitsItem self.old.parser.state }
+        requires label { IsLabelAhead self.old.place rest.now blanks label }
+        requires colon { (place : ℕ) → IsAhead place (drop label rest.now) 1 false (record { kind = TokenKind.Colon; start = place; end = place + 1 } ∷ []) }
+        ensures ahead { IfOk result (λ n. GoesAhead self.old rest.now self.new n) }
+        ensures fault { IfErr result (λ f. IsFaultAhead self.old rest.now f) }
+    {
+        match self
+            .parser
+            .take_definition(&rest[blanks..label], self.place + blanks as u64)
+        {
+            Ok(()) => {
+                self.go_on(rest, label + 1, false);
+                Ok(label + 1)
+            }
+            Err(fault) => Err(fault),
+        }
+    }
+
+    /// Takes a dependency, of which the bytes of the first label and of the word are known; 0 where the word isn't there.
+    #[inline(always)]
+    fn take_dependency(
+        &mut self,
+        rest: &[u8],
+        blanks: usize,
+        label: usize,
+        verb: Verb,
+        word: usize,
+    ) -> Result<usize, TokenFault>
+        requires ready { MayGoOn self.old.lexer self.old.place rest.now }
+        requires state { AwaitsItem self.old.parser.state }
+        requires label { IsLabelAhead self.old.place rest.now blanks label }
+        requires verb { IsOfDeps verb }
+        requires word { 0 < word → IsRunAhead (self.old.place + label) (drop label rest.now) word (verb_kind verb) }
+        ensures ahead { IfOk result (λ n. GoesAhead self.old rest.now self.new n) }
+        ensures fault { IfErr result (λ f. IsFaultAhead self.old rest.now f) }
+    {
+        if word == 0 || self.parser.counts.deps >= MAX_DEPS {
+            return Ok(0);
+        }
+        let at = label + word;
+        let more = blanks_ahead(&rest[at..]);
+        let earlier = label_ahead(&rest[at..], more);
+        if earlier == 0 {
+            return Ok(0);
+        }
+        let from = at + more;
+        let end = at + earlier;
+        self.parser.take_dependency(
+            verb,
+            &rest[blanks..label],
+            self.place + blanks as u64,
+            &rest[from..end],
+            self.place + from as u64,
+        )?;
+        self.go_on(rest, end, true);
+        Ok(end)
+    }
+
+    /// Takes a note, of which the bytes of the label and of the word are known; 0 where the word isn't there.
+    #[inline(always)]
+    fn take_note(
+        &mut self,
+        rest: &[u8],
+        blanks: usize,
+        label: usize,
+        verb: Verb,
+        word: usize,
+    ) -> Result<usize, TokenFault>
+        requires ready { MayGoOn self.old.lexer self.old.place rest.now }
+        requires state { AwaitsItem self.old.parser.state }
+        requires label { IsLabelAhead self.old.place rest.now blanks label }
+        requires verb { IsOfNotes verb }
+        requires word { 0 < word → IsRunAhead (self.old.place + label) (drop label rest.now) word (verb_kind verb) }
+        ensures ahead { IfOk result (λ n. GoesAhead self.old rest.now self.new n) }
+        ensures fault { IfErr result (λ f. IsFaultAhead self.old rest.now f) }
+    {
+        if word == 0 || self.parser.counts.notes >= MAX_NOTES {
+            return Ok(0);
+        }
+        let Some(first) = small_ahead(rest, label + word) else {
+            return Ok(0);
+        };
+        let Some(second) = peer_ahead(rest, first.end, b"to") else {
+            return Ok(0);
+        };
+        self.parser.take_note(
+            verb,
+            &rest[blanks..label],
+            self.place + blanks as u64,
+            first.value,
+            second.value,
+        )?;
+        self.go_on(rest, second.end, true);
+        Ok(second.end)
+    }
+
+    /// Takes a dependency or a note, of which the bytes of the label are known.
+    #[inline(always)]
+    fn take_labelled(
+        &mut self,
+        rest: &[u8],
+        blanks: usize,
+        label: usize,
+    ) -> Result<usize, TokenFault>
+        requires ready { MayGoOn self.old.lexer self.old.place rest.now }
+        requires state { AwaitsItem self.old.parser.state }
+        requires label { IsLabelAhead self.old.place rest.now blanks label }
+        ensures ahead { IfOk result (λ n. GoesAhead self.old rest.now self.new n) }
+        ensures fault { IfErr result (λ f. IsFaultAhead self.old rest.now f) }
+    {
+        let behind = &rest[label..];
+        let more = blanks_ahead(behind);
+        if more == behind.len() {
+            return Ok(0);
+        }
+        match behind[more] {
+            b'r' => {
+                let word = word_ahead(behind, more, b"requires");
+                self.take_dependency(rest, blanks, label, Verb::Requires, word)
+            }
+            b'i' => {
+                let word = word_ahead(behind, more, b"irequires");
+                self.take_dependency(rest, blanks, label, Verb::Irequires, word)
+            }
+            b'm' => {
+                let word = word_ahead(behind, more, b"moves");
+                self.take_note(rest, blanks, label, Verb::Moves, word)
+            }
+            b'a' => {
+                let word = word_ahead(behind, more, b"adds");
+                self.take_note(rest, blanks, label, Verb::Adds, word)
+            }
+            _ => Ok(0),
+        }
+    }
+
+    /// Takes an item that begins with a label, before which so many blanks stand.
+    #[inline(always)]
+    fn take_label(&mut self, rest: &[u8], blanks: usize) -> Result<usize, TokenFault>
+        requires ready { MayGoOn self.old.lexer self.old.place rest.now }
+        requires state { AwaitsItem self.old.parser.state }
+        requires blanks { AreBlanks rest.now blanks }
+        ensures ahead { IfOk result (λ n. GoesAhead self.old rest.now self.new n) }
+        ensures fault { IfErr result (λ f. IsFaultAhead self.old rest.now f) }
+    {
+        let label = label_ahead(rest, blanks);
+        if label == 0 {
+            return Ok(0);
+        }
+        if begins_with_colon(&rest[label..]) {
+            return self.take_definition(rest, blanks, label);
+        }
+        self.take_labelled(rest, blanks, label)
+    }
+
+    /// Takes an item, before which so many blanks stand. An action is looked for first where its word may stand there.
+    #[inline(always)]
+    fn take_item(&mut self, rest: &[u8], blanks: usize) -> Result<usize, TokenFault>
+        requires ready { MayGoOn self.old.lexer self.old.place rest.now }
+        requires state { AwaitsItem self.old.parser.state }
+        requires blanks { AreBlanks rest.now blanks }
+        ensures ahead { IfOk result (λ n. GoesAhead self.old rest.now self.new n) }
+        ensures fault { IfErr result (λ f. IsFaultAhead self.old rest.now f) }
+    {
+        if !begins_as_action(rest, blanks) {
+            return self.take_label(rest, blanks);
+        }
+        match self.take_action(rest, blanks) {
+            Ok(0) => self.take_label(rest, blanks),
+            Ok(taken) => Ok(taken),
+            Err(fault) => Err(fault),
+        }
+    }
+
+    /// Takes a calc, of which the bytes of the word are known; 0 where the word isn't there.
+    #[inline(always)]
+    fn take_calc(&mut self, rest: &[u8], word: usize) -> Result<usize, TokenFault>
+        requires ready { MayGoOn self.old.lexer self.old.place rest.now }
+        requires state { AwaitsAction self.old.parser.state }
+        requires room { self.old.parser.counts.ops < MAX_OPS }
+        requires word { 0 < word → IsRunAhead self.old.place rest.now word TokenKind.Calc }
+        ensures ahead { IfOk result (λ n. GoesAhead self.old rest.now self.new n) }
+        ensures fault { IfErr result (λ f. IsFaultAhead self.old rest.now f) }
+    {
+        if word == 0 {
+            return Ok(0);
+        }
+        let nanos = number_ahead(&rest[word..]);
+        if nanos.count == 0 || nanos.value > MAX_NANOS {
+            return Ok(0);
+        }
+        self.parser.take_calc(nanos.value)?;
+        let end = word + nanos.count;
+        self.go_on(rest, end, true);
+        Ok(end)
+    }
+
+    /// Takes a send, of which the bytes of the word are known; 0 where the word isn't there.
+    #[inline(always)]
+    fn take_send(&mut self, rest: &[u8], word: usize) -> Result<usize, TokenFault>
+        requires ready { MayGoOn self.old.lexer self.old.place rest.now }
+        requires state { AwaitsAction self.old.parser.state }
+        requires room { self.old.parser.counts.ops < MAX_OPS }
+        requires word { 0 < word → IsRunAhead self.old.place rest.now word TokenKind.Send }
+        ensures ahead { IfOk result (λ n. GoesAhead self.old rest.now self.new n) }
+        ensures fault { IfErr result (λ f. IsFaultAhead self.old rest.now f) }
+    {
+        if word == 0 {
+            return Ok(0);
+        }
+        let Some(message) = message_ahead(rest, word, b"to") else {
+            return Ok(0);
+        };
+        self.parser.take_send(message.bytes, message.peer)?;
+        self.go_on(rest, message.end, true);
+        Ok(message.end)
+    }
+
+    /// Takes a receive, of which the bytes of the word are known; 0 where the word isn't there.
+    #[inline(always)]
+    fn take_recv(&mut self, rest: &[u8], word: usize) -> Result<usize, TokenFault>
+        requires ready { MayGoOn self.old.lexer self.old.place rest.now }
+        requires state { AwaitsAction self.old.parser.state }
+        requires room { self.old.parser.counts.ops < MAX_OPS }
+        requires word { 0 < word → IsRunAhead self.old.place rest.now word TokenKind.Recv }
+        ensures ahead { IfOk result (λ n. GoesAhead self.old rest.now self.new n) }
+        ensures fault { IfErr result (λ f. IsFaultAhead self.old rest.now f) }
+    {
+        if word == 0 {
+            return Ok(0);
+        }
+        let Some(message) = message_ahead(rest, word, b"from") else {
+            return Ok(0);
+        };
+        self.parser.take_recv(message.bytes, message.peer)?;
+        self.go_on(rest, message.end, true);
+        Ok(message.end)
+    }
+
+    /// Takes an action up to its options, before which so many blanks stand.
+    #[inline(always)]
+    fn take_action(&mut self, rest: &[u8], blanks: usize) -> Result<usize, TokenFault>
+        requires ready { MayGoOn self.old.lexer self.old.place rest.now }
+        requires state { AwaitsAction self.old.parser.state }
+        requires blanks { AreBlanks rest.now blanks }
+        ensures ahead { IfOk result (λ n. GoesAhead self.old rest.now self.new n) }
+        ensures fault { IfErr result (λ f. IsFaultAhead self.old rest.now f) }
+    {
+        if blanks == rest.len() || self.parser.counts.ops >= MAX_OPS {
+            return Ok(0);
+        }
+        match rest[blanks] {
+            b'c' => self.take_calc(rest, word_ahead(rest, blanks, b"calc")),
+            b's' => self.take_send(rest, word_ahead(rest, blanks, b"send")),
+            b'r' => self.take_recv(rest, word_ahead(rest, blanks, b"recv")),
+            _ => Ok(0),
+        }
+    }
+
+    /// Takes the option `tag`, of which the bytes of the word are known.
+    #[inline(always)]
+    fn take_tag(&mut self, rest: &[u8], word: usize) -> Result<usize, TokenFault>
+        requires ready { MayGoOn self.old.lexer self.old.place rest.now }
+        requires here { (self.old.parser.state ≡ State.Send4) ⊎ (self.old.parser.state ≡ State.Recv4) }
+        requires word { IsRunAhead self.old.place rest.now word TokenKind.Tag }
+        ensures ahead { IfOk result (λ n. GoesAhead self.old rest.now self.new n) }
+        ensures fault { IfErr result (λ f. IsFaultAhead self.old rest.now f) }
+    {
+        let Some(tag) = small_ahead(rest, word) else {
+            return Ok(0);
+        };
+        if self.parser.draft.has_tag {
+            return Ok(0);
+        }
+        self.parser.take_tag(tag.value);
+        self.go_on(rest, tag.end, true);
+        Ok(tag.end)
+    }
+
+    /// Takes the option `cpu`, of which the bytes of the word are known.
+    #[inline(always)]
+    fn take_cpu(&mut self, rest: &[u8], word: usize) -> Result<usize, TokenFault>
+        requires ready { MayGoOn self.old.lexer self.old.place rest.now }
+        requires here { (self.old.parser.state ≡ State.Calc2) ⊎ (self.old.parser.state ≡ State.Send4) ⊎ (self.old.parser.state ≡ State.Recv4) }
+        requires word { IsRunAhead self.old.place rest.now word TokenKind.Cpu }
+        ensures ahead { IfOk result (λ n. GoesAhead self.old rest.now self.new n) }
+        ensures fault { IfErr result (λ f. IsFaultAhead self.old rest.now f) }
+    {
+        let cpu = number_ahead(&rest[word..]);
+        let Ok(value) = u8::try_from(cpu.value) else {
+            return Ok(0);
+        };
+        if cpu.count == 0 || self.parser.draft.has_cpu {
+            return Ok(0);
+        }
+        self.parser.take_cpu(value);
+        let end = word + cpu.count;
+        self.go_on(rest, end, true);
+        Ok(end)
+    }
+
+    /// Takes the option `nic`, of which the bytes of the word are known.
+    #[inline(always)]
+    fn take_nic(&mut self, rest: &[u8], word: usize) -> Result<usize, TokenFault>
+        requires ready { MayGoOn self.old.lexer self.old.place rest.now }
+        requires here { (self.old.parser.state ≡ State.Send4) ⊎ (self.old.parser.state ≡ State.Recv4) }
+        requires word { IsRunAhead self.old.place rest.now word TokenKind.Nic }
+        ensures ahead { IfOk result (λ n. GoesAhead self.old rest.now self.new n) }
+        ensures fault { IfErr result (λ f. IsFaultAhead self.old rest.now f) }
+    {
+        let nic = number_ahead(&rest[word..]);
+        let Ok(value) = u8::try_from(nic.value) else {
+            return Ok(0);
+        };
+        if nic.count == 0 || self.parser.draft.has_nic {
+            return Ok(0);
+        }
+        self.parser.take_nic(value);
+        let end = word + nic.count;
+        self.go_on(rest, end, true);
+        Ok(end)
+    }
+
+    /// Takes an option of an action, or the item behind the action.
+    #[inline(always)]
+    fn take_option(&mut self, rest: &[u8], blanks: usize) -> Result<usize, TokenFault>
+        requires ready { MayGoOn self.old.lexer self.old.place rest.now }
+        requires here { (self.old.parser.state ≡ State.Calc2) ⊎ (self.old.parser.state ≡ State.Send4) ⊎ (self.old.parser.state ≡ State.Recv4) }
+        requires blanks { AreBlanks rest.now blanks }
+        ensures ahead { IfOk result (λ n. GoesAhead self.old rest.now self.new n) }
+        ensures fault { IfErr result (λ f. IsFaultAhead self.old rest.now f) }
+    {
+        if blanks == rest.len() {
+            return Ok(0);
+        }
+        let word = option_ahead(rest, blanks);
+        if word == 0 {
+            return self.take_item(rest, blanks);
+        }
+        match (self.parser.state, rest[blanks]) {
+            (State::Send4 | State::Recv4, b't') => self.take_tag(rest, word),
+            (State::Send4 | State::Recv4, b'n') => self.take_nic(rest, word),
+            (_, b'c') => self.take_cpu(rest, word),
+            _ => Ok(0),
+        }
+    }
+
+    /// Takes bytes from the front of `rest` that are several whole tokens: a definition, a dependency, a note, an action up
+    /// to its options, or an option. The answer is how many; it is 0, and nothing is taken, where other tokens stand
+    /// ahead, where they go on behind the piece, or where one of them fails a test that is made before it is taken.
+    #[inline(always)]
+    pub fn take_ahead(&mut self, rest: &[u8]) -> Result<usize, TokenFault>
+        requires place { self.old.place + length rest.now < 2 ^ 64 }
+        requires same { self.old.lexer.place ≡ self.old.place }
+        requires apart { self.old.lexer.ends_run ≡ true → begins_run rest.now ≡ false }
+        ensures ahead { IfOk result (λ n. GoesAhead self.old rest.now self.new n) }
+        ensures fault { IfErr result (λ f. IsFaultAhead self.old rest.now f) }
+    {
+        if !self.lexer.is_between() {
+            return Ok(0);
+        }
+        match self.parser.state {
+            State::Item => self.take_item(rest, blanks_ahead(rest)),
+            State::Action => self.take_action(rest, blanks_ahead(rest)),
+            State::Calc2 | State::Send4 | State::Recv4 => self.take_option(
+                rest,
+                blanks_ahead(rest),
+            ),
+            _ => Ok(0),
+        }
+    }
+}
