@@ -7,7 +7,7 @@ ghost use Rattle.sim_queue.specs.Map.{key_at, IsEmptyMap, IsLeast, IsSoleLeast};
 ghost use Rattle.sim_queue.specs.Groups.{IsSoleLeastOf};
 ghost use Rattle.sim_queue.specs.Floors.{is_waiting, has_key, waits_for_room, at_time, floor_of, seen_keys, IsFloored, IsRenewed, IsStep, IsLate, IsLifted};
 
-use crate::{EventQueue, Groups, SlotHeap, TopHeap};
+use crate::{Arrivals, EventQueue, Groups, SlotHeap, TopHeap};
 use goal_base::NoMemory;
 use goal_graph::Class;
 use sim_order::{CompactKey, EventOrder, Steps};
@@ -173,7 +173,7 @@ fn park<L: Ledger>(
     ensures lifted { IsLifted waiting.old.groups (seen_keys heads.old ahead.old waiting.old.keys waiting.old.groups) (seen_keys heads.new ahead.new waiting.new.keys waiting.new.groups) slot time }
 {
     let group = waiting.group(slot);
-    ahead.take(slot, steps);
+    ahead.take(slot, Arrivals::Mixed, steps);
     waiting.put(slot, key.at(0), steps);
     renew(waiting, heads, group, time, steps);
 }
@@ -263,7 +263,7 @@ impl FloorQueue {
             leave(&self.ahead, &mut self.waiting, &mut self.heads, slot, steps);
             return;
         }
-        self.ahead.take(slot, steps);
+        self.ahead.take(slot, Arrivals::Mixed, steps);
     }
 
     /// Raises the key of a slot that is before that of each other slot to a time. The keys of other slots of its group
@@ -284,7 +284,7 @@ impl FloorQueue {
             return;
         };
         if floor(&self.heads, group) > time {
-            self.ahead.take(slot, steps);
+            self.ahead.take(slot, Arrivals::Mixed, steps);
             self.ahead.put(slot, key.at(time), steps);
             return;
         }

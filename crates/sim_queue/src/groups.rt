@@ -5,7 +5,7 @@ ghost use Rattle.sim_order.specs.Events.{event_before};
 ghost use Rattle.sim_queue.specs.Map.{key_at};
 ghost use Rattle.sim_queue.specs.Groups.{IsEmptyGroup, IsLeastOf, IsSoleLeastOf, AreHomes, no_keys};
 
-use crate::TopHeap;
+use crate::{Arrivals, TopHeap};
 use goal_base::NoMemory;
 use sim_order::{CompactKey, Steps};
 use std::alloc::Global;
@@ -106,7 +106,7 @@ impl Groups {
         ensures { self.new ≡ record self.old { keys = slice_set self.old.keys slot None } }
     {
         let home = self.homes[slot as usize];
-        self.heaps[home.group as usize].take(home.place, steps);
+        self.heaps[home.group as usize].take(home.place, Arrivals::InOrder, steps);
     }
 
     /// The least key of a group. None where no slot of the group has a key, or there is no such group.

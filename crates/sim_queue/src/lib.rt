@@ -20,5 +20,5 @@ pub use queue::EventQueue;
 pub use ranked_queue::RankedQueue;
 pub use row::row_28;
 pub use slot_heap::SlotHeap;
-pub use top_heap::TopHeap;
+pub use top_heap::{Arrivals, TopHeap};
 pub use vec_queue::VecQueue;

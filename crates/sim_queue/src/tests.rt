@@ -2,7 +2,7 @@
 ghost use Rattle.std.specs.Prelude.{◌≡◌, ◌<◌, None, length, replicate};
 ghost use Rattle.goal_graph.specs.declared.action.Class.TheVariants.{Begin};
 
-use crate::{EventQueue, RankedQueue, SlotHeap, TopHeap, VecQueue};
+use crate::{Arrivals, EventQueue, RankedQueue, SlotHeap, TopHeap, VecQueue};
 use goal_graph::{Class, Kind, Op, OpId, RankPlan, Sched};
 use sim_order::{CompactKey, Counted, Steps};
 use std::alloc::{AllocError, Global};
@@ -114,7 +114,7 @@ fn first_and_second<L: Ledger>(
     heap.put(1, begin(2), &mut steps);
     heap.put(2, begin(3), &mut steps);
     let first = heap.least();
-    heap.take(1, &mut steps);
+    heap.take(1, Arrivals::Mixed, &mut steps);
     (first, heap.least())
 }
 
