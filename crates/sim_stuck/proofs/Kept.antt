@@ -1,5 +1,5 @@
 -- What a filter keeps, what is found there, and where the elements of a mapped list come from.
-use Rattle.std.proofs.Common.{zero, suc, ◌≡◌, Bool, true, false, ◌&&◌, ◌⊎◌, inl, inr, cond, List, [], ◌∷◌, map, find, filter, Contains, Some, refl, ap, ◌∙◌, subst, arith}
+use Rattle.std.proofs.Common.{zero, suc, ◌≡◌, Bool, true, false, ◌&&◌, ◌⊎◌, inl, inr, cond, List, [], ◌∷◌, find, filter, Contains, Some, refl, ap, ◌∙◌, subst, arith}
 use Rattle.std.proofs.lemmas.Bool.{both_ways}
 use Rattle.std.proofs.lemmas.List.Elements.{All-contains, All-filter, All-contains_itself, filter_passes}
 use Rattle.goal_graph.proofs.ForCallers.{contains_first, contains_more}

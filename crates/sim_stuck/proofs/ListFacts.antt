@@ -82,12 +82,12 @@ module _ (plans : List Plan) (costs : CostModel) (h : List Timed) where
       let alone = ap (λ (t : Stuck). t.why) l.3 ∙ e in
       subst (λ (z : OpId). (has_started plans y (plain h) ≡ true) × IsTaken plans (plain h) y z) same (alone_is_alone plans (is_eager plans costs) (plain h) complete l.0 y (not-true _ l.2) alone (subst (λ (z : OpId). are_fit plans (is_eager plans costs) z y ≡ true) (sym same) fit))
 
--- the list of all operations of a schedule that was read
-module _ (plans read : List Plan) (costs : CostModel) (h : List Timed) (items : List OpId) (k : ℕ) (list : List Stuck) (same : plans ≡ read) (are_all : items ≡ operations read) (whole : length items ≤ k) (so_far : list ≡ map (with_reason plans costs h) (filter (lacks_end plans costs h) (take k items))) where
+-- the list of all operations without an end, of a schedule that was read
+module _ (plans read : List Plan) (costs : CostModel) (h : List Timed) (stuck : List OpId) (k : ℕ) (list : List Stuck) (same : plans ≡ read) (are_all : stuck ≡ filter (lacks_end plans costs h) (operations plans)) (whole : length stuck ≤ k) (so_far : list ≡ map (with_reason plans costs h) (take k stuck)) where
   pub list_is : list ≡ stuck_list read costs h
   unfolding stuck_list
   list_is =
-      so_far ∙ ap (λ (xs : List OpId). map (with_reason plans costs h) (filter (lacks_end plans costs h) xs)) (take_all k items whole ∙ are_all) ∙ ap (λ (ps : List Plan). map (with_reason ps costs h) (filter (lacks_end ps costs h) (operations read))) same
+      so_far ∙ ap (map (with_reason plans costs h)) (take_all k stuck whole ∙ are_all) ∙ ap (λ (ps : List Plan). map (with_reason ps costs h) (filter (lacks_end ps costs h) (operations ps))) same
 
   pub list_stuck : ListsStuck read costs h list
   list_stuck = subst (λ (xs : List Stuck). ListsStuck read costs h xs) (sym list_is) (lists_stuck read costs h)

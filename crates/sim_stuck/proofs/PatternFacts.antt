@@ -1,10 +1,7 @@
 -- Patterns that are alike, and the receives that a message fits by its patterns.
-use Rattle.std.proofs.Common.{ℕ, ◌≡◌, ◌==◌, ◌&&◌, ◌||◌, Bool, true, false, cond, Option, Some, None, refl, arith, sym, ap₂, ◌∙◌, eq-eqb, nat_lt}
-use Rattle.std.specs.declared.cmp.Ordering.{Ordering}
-use Rattle.std.specs.declared.cmp.Ordering.TheVariants.{Less, Equal, Greater}
-use Rattle.std.specs.Ordering.{nat_cmp, ordering_then, is_eq}
+use Rattle.std.proofs.Common.{ℕ, ◌≡◌, ◌==◌, ◌&&◌, ◌||◌, Bool, true, false, Option, Some, None, refl, sym, ap₂, ◌∙◌}
+use Rattle.std.specs.Ordering.{nat_cmp, is_eq}
 use Rattle.std.specs.Option.{option_cmp}
-use Rattle.std.proofs.lemmas.Bool.{both_ways, eqb-true, false_from_ne_true, le-ltb}
 use Rattle.goal_graph.specs.Matching.{accepts}
 use Rattle.sim_stuck.specs.declared.pattern.Pattern.{Pattern}
 use Rattle.sim_stuck.specs.Patterns.{pattern_cmp}

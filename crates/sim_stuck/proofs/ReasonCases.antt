@@ -57,12 +57,12 @@ module _ (plans : List Plan) (eager : OpId → Bool) (h : List Act) where
         go None e = refl
         go (Some d) e = absurd (cc e)
 
--- the operations that have not started exist
-pub unstarted_exist : (plans read : List Plan) (h : List Act) (ids : List OpId) → read ≡ plans → ids ≡ filter (is_unstarted plans h) (operations plans) → All (IsOp read) ids
-unstarted_exist plans read h ids same is =
-    subst (λ (xs : List OpId). All (IsOp read) xs) (sym is) (subst (λ (ps : List Plan). All (IsOp ps) (filter (is_unstarted plans h) (operations plans))) (sym same) (All-filter (is_unstarted plans h) (IsOp plans) (operations plans) (listed_exist plans plans (operations plans) refl refl)))
+-- operations that are picked from all exist
+pub picked_exist : (p : OpId → Bool) (plans read : List Plan) (ids : List OpId) → read ≡ plans → ids ≡ filter p (operations plans) → All (IsOp read) ids
+picked_exist p plans read ids same is =
+    subst (λ (xs : List OpId). All (IsOp read) xs) (sym is) (subst (λ (ps : List Plan). All (IsOp ps) (filter p (operations plans))) (sym same) (All-filter p (IsOp plans) (operations plans) (listed_exist plans plans (operations plans) refl refl)))
 
--- the first of them, by pattern
+-- the first of those that have not started, by pattern
 pub firsts_of_unstarted : (plans read : List Plan) (h : List Act) (ids : List OpId) (firsts : Firsts) → read ≡ plans → ids ≡ filter (is_unstarted plans h) (operations plans) → AreFirsts read ids firsts → AreFirsts plans (filter (is_unstarted plans h) (operations plans)) firsts
 firsts_of_unstarted plans read h ids firsts same is are =
     subst (λ (xs : List OpId). AreFirsts plans xs firsts) is (subst (λ (ps : List Plan). AreFirsts ps ids firsts) same are)

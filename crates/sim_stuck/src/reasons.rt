@@ -47,18 +47,35 @@ pub fn explain<C: Costs>(
         AloneAreAlone sched.now (C.model engine.now.costs) engine.now.history list.items) }
 {
     engine.known();
+    let stuck = unended(alloc, engine)?;
+    if stuck.is_empty() {
+        return Ok(Vec::new(alloc));
+    }
     let absent = unstarted(alloc, engine)?;
-    let firsts = Firsts::of(alloc, engine.sched(), &absent)?;
+    let firsts = Firsts::of(alloc, sched, &absent)?;
     let mut list = Vec::new(alloc);
-    for id in sched.operations() {
-        if !has_ended(engine, *id) {
-            list.push(Stuck {
-                op: *id,
-                why: reason(engine, &firsts, *id),
-            })?;
-        }
+    for id in &stuck {
+        list.push(Stuck {
+            op: *id,
+            why: reason(engine, &firsts, *id),
+        })?;
     }
     Ok(list)
+}
+
+// The operations that have no end, by rank and number.
+fn unended<C: Costs>(alloc: Global, engine: &Engine<'_, C>) -> Result<Vec<OpId>, AllocError>
+    ensures { IfOk result (λ ids. ids.items
+        ≡ filter (λ x. not (has_ended engine.now.plans (is_eager engine.now.plans (C.model engine.now.costs)) x
+        (plain engine.now.history))) (operations engine.now.plans)) }
+{
+    let mut ids = Vec::new(alloc);
+    for id in engine.sched().operations() {
+        if !has_ended(engine, *id) {
+            ids.push(*id)?;
+        }
+    }
+    Ok(ids)
 }
 
 // The operations that have not started, by rank and number.
