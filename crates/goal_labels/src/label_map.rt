@@ -44,9 +44,8 @@ pub struct LabelMap {
     bytes: Vec<u8>,
     chains: Chains,
     apart: BTreeMap<Sorted, u32>,
-    // The numbers that were found last and before that. They only save time: any values are right.
-    last: usize,
-    before: usize,
+    // The numbers that were found last, the newest first. They only save time: any values are right.
+    recent: [usize; 4],
 }
 
 impl Model for LabelMap {
@@ -253,8 +252,7 @@ impl LabelMap {
             bytes: Vec::new(alloc),
             chains: Chains::new(alloc),
             apart: BTreeMap::new(alloc),
-            last: 0,
-            before: 0,
+            recent: [0; 4],
         }
     }
 
@@ -308,8 +306,8 @@ impl LabelMap {
         }
     }
 
-    // What is found of a label. Mentions mostly go on in order: the label behind the one that was found last is looked at
-    // first, and then the label behind the one that was found before that.
+    // What is found of a label. Mentions mostly go on as they did, each second one with a step of its own, as in `l4 requires l3`
+    // behind `l2 requires l1`: so the label is looked at first to which this leads, and then the one behind that found last.
     fn find_near(&mut self, label: &[u8]) -> Found
         requires some { 0 < length label.now }
         requires short { length label.now ≤ 64 }
@@ -317,18 +315,18 @@ impl LabelMap {
         ensures unique { AreUnique self.new }
         ensures kept { self.new ≡ self.old }
     {
-        let after = self.last.saturating_add(1);
-        let later = self.before.saturating_add(1);
-        let found = if is_at(&self.entries, &self.bytes, label, after) {
-            Found::At(after)
-        } else if is_at(&self.entries, &self.bytes, label, later) {
-            Found::At(later)
+        let [newest, second, third, fourth] = self.recent;
+        let onward = second.saturating_add(second).saturating_sub(fourth);
+        let behind = newest.saturating_add(1);
+        let found = if is_at(&self.entries, &self.bytes, label, onward) {
+            Found::At(onward)
+        } else if is_at(&self.entries, &self.bytes, label, behind) {
+            Found::At(behind)
         } else {
             self.find(label)
         };
         if let Found::At(i) = found {
-            self.before = self.last;
-            self.last = i;
+            self.recent = [i, newest, second, third];
         }
         found
     }
