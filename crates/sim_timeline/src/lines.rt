@@ -4,7 +4,7 @@ ghost use Rattle.goal_graph.specs.Schedule.{operations};
 ghost use Rattle.sim_timeline.specs.Timeline.{operation_line, summary_line, kind_text, partner_text, match_text, first_line, timeline, IsSummary, is_unread_send};
 
 use goal_base::{NoMemory, TextOut};
-use goal_graph::{Kind, OpId, Sched};
+use goal_graph::{Kind, Op, OpId, Sched};
 use sim_events::{Engine, Record};
 use sim_params::Costs;
 use std::alloc::Global;
@@ -55,18 +55,18 @@ struct Summary {
 }
 
 impl Summary {
-    // The same of these operations and one more, which is of that kind.
-    fn with(self, kind: Kind, times: Record) -> Summary
+    // The same of these operations and one more.
+    fn with(self, op: &Op, times: Record) -> Summary
         requires stuck_fits { self.stuck < 2 ^ 64 - 1 }
         requires unread_fits { self.unread < 2 ^ 64 - 1 }
         ensures stuck { result.stuck ≡ self.stuck + (if is_some times.end then 0 else 1) }
         ensures unread { result.unread ≡ self.unread
-            + (if is_unread_send (Some kind) times.start times.partner then 1 else 0) }
+            + (if is_unread_send (Some op.now.kind) times.start times.partner then 1 else 0) }
         ensures finish { result.finish ≡ max self.finish (unwrap_or times.end 0) }
     {
         Summary {
             stuck: self.stuck + u64::from(times.end.is_none()),
-            unread: self.unread + u64::from(is_unread(kind, times)),
+            unread: self.unread + u64::from(is_unread(op, times)),
             finish: self.finish.max(times.end.unwrap_or(0)),
         }
     }
@@ -84,20 +84,16 @@ fn sum_up<C: Costs>(sched: &Sched, engine: &Engine<'_, C>) -> Summary
         finish: 0,
     };
     for id in sched.operations() {
-        summary = summary.with(sched.op(*id).kind, engine.record(*id));
+        summary = summary.with(sched.op(*id), engine.record(*id));
     }
     summary
 }
 
-// A message that has begun and that no receive takes.
-fn is_unread(kind: Kind, times: Record) -> bool
-    ensures { result ≡ is_unread_send (Some kind) times.start times.partner }
+// A message that has begun and that no receive takes. The kind is read last, and only where the times leave it open.
+fn is_unread(op: &Op, times: Record) -> bool
+    ensures { result ≡ is_unread_send (Some op.now.kind) times.start times.partner }
 {
-    match kind {
-        Kind::Send { .. } => times.start.is_some() && times.partner.is_none(),
-        Kind::Calc { .. } => false,
-        Kind::Recv { .. } => false,
-    }
+    times.start.is_some() && times.partner.is_none() && matches!(op.kind, Kind::Send { .. })
 }
 
 // Appends the first line.
