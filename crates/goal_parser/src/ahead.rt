@@ -127,8 +127,7 @@ fn option_ahead(rest: &[u8], blanks: usize) -> usize
 
 /// Whether an action may stand behind so many blanks, by the first byte of its word. Any answer is right: it saves time alone.
 #[inline(always)]
-fn begins_as_action(rest: &[u8], blanks: usize) -> bool
-{
+fn begins_as_action(rest: &[u8], blanks: usize) -> bool {
     blanks < rest.len() && matches!(rest[blanks], b'c' | b's' | b'r')
 }
 
