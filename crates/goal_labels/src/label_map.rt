@@ -83,6 +83,7 @@ fn ending_number(ending: &[u8]) -> u32
 
 // The hash of a label. Labels that differ in their last two bytes alone have hashes that are close to each other, and so have
 // their chains: in a block whose labels are numbered, this keeps what is read one after another in nearby memory.
+#[inline(always)]
 #[tactic(auto, unfolding(crate::specs::Indexed::label_hash))]
 fn hash_of(label: &[u8]) -> u32
     ensures { result ≡ label_hash label.now }
@@ -165,6 +166,7 @@ fn seek_apart(
 }
 
 // Gives the next number to a label, where its entry stands.
+#[inline(always)]
 fn place(
     chains: &mut Chains,
     apart: &mut BTreeMap<Sorted, u32>,

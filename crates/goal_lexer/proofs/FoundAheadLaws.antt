@@ -68,6 +68,35 @@ digits_ahead place blanks count value piece are some inside few each ends is =
     (whole_digits (place + blanks) count value run some (omega (arith, length-behind piece blanks)) few each
     (ap is_run_byte (get_or-behind piece blanks count) ∙ ends) is)
 
+value_of_one : (b : ℕ) → b ≤ 57 → number_value (b ∷ []) ≡ b - 48
+value_of_one b most = omega (arith, most)
+
+-- the value of a digit
+digit_value : (piece : List ℕ) → 2 ≤ length piece → get_or piece 1 0 ≤ 57 → get_or piece 1 0 - 48 ≡ number_value (take 1 (behind 1 piece))
+digit_value [] long most = absurd (omega (arith, long))
+digit_value (a ∷ []) long most = absurd (omega (arith, long))
+digit_value (a ∷ b ∷ cs) long most =
+    sym (ap (λ (ys : List ℕ). number_value (take 1 ys)) (take_rest (a ∷ b ∷ cs) 1) ∙ value_of_one b most)
+
+-- a digit is at most `9`
+pub most_of_digit : (c : ℕ) → is_digit c ≡ true → c ≤ 57
+most_of_digit c is = grind (arith, nat_tests)
+
+first : (k : ℕ) → k < 1 → 0 ≡ k
+first k few = omega (arith, few)
+
+-- one digit behind a space
+pub one_digit_ahead : (place value : ℕ) (piece : List ℕ) → 2 < length piece → get_or piece 0 0 ≡ 32 → is_digit (get_or piece 1 0) ≡ true →
+    get_or piece 1 0 ≤ 57 → is_run_byte (get_or piece 2 0) ≡ false → value ≡ get_or piece 1 0 - 48 →
+    IsAhead place piece 2 true (record { kind = Number value; start = place + 1; end = place + 2 } ∷ [])
+one_digit_ahead place value piece long blank digit most ends is =
+    digits_ahead place 1 1 value piece
+    (omega (arith, long), λ k few. subst (λ (j : ℕ). is_blank (get_or piece j 0) ≡ true) (first k few) (ap is_blank blank))
+    (omega arith) long (omega arith)
+    (λ k few. subst (λ (j : ℕ). is_digit (get_or (behind 1 piece) j 0) ≡ true) (first k few) (ap is_digit (get_or-behind piece 1 0) ∙ digit))
+    ends
+    (is ∙ digit_value piece (omega (arith, long)) most)
+
 -- a size behind blanks
 pub size_found : (place blanks count value : ℕ) (piece : List ℕ) → AreBlanks piece blanks → 0 < count →
     blanks + count + 1 < length piece → count < 64 →

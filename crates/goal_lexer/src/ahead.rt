@@ -7,7 +7,7 @@ ghost use Rattle.std.specs.Prelude.{◌≡◌, ℕ, ◌+◌, ◌-◌, ◌<◌, �
 ghost use Rattle.goal_lexer.specs.Ahead.{AreBlanks, is_word, IsAhead};
 ghost use Rattle.goal_lexer.specs.Words.{word_kind};
 
-use crate::bytes::{begins_word, ends_reserved, is_blank, is_run_byte};
+use crate::bytes::{begins_word, ends_reserved, is_blank, is_digit, is_run_byte};
 use crate::labels::MOST_RUN_BYTES;
 use crate::numbers::{Leading, leading_digits};
 use crate::stretches::{count_blanks, count_run};
@@ -75,7 +75,7 @@ pub fn begins_with_colon(rest: &[u8]) -> bool
 
 /// The number that stands ahead, where it ends inside the piece and has few digits.
 #[inline(never)]
-pub fn number_ahead(rest: &[u8]) -> Amount
+fn long_number_ahead(rest: &[u8]) -> Amount
     ensures within { result.count ≤ length rest.now }
     ensures ahead { 0 < result.count → (place : ℕ) → (start : ℕ) × IsAhead place rest.now result.count true (record { kind = TokenKind.Number result.value; start = start; end = place + result.count } ∷ []) }
 {
@@ -86,6 +86,19 @@ pub fn number_ahead(rest: &[u8]) -> Amount
         return Amount { count: 0, value: 0 };
     }
     Amount { count: end, value }
+}
+
+/// The number that stands ahead, where it ends inside the piece and has few digits. Most numbers are a digit behind a space.
+#[inline(always)]
+pub fn number_ahead(rest: &[u8]) -> Amount
+    ensures within { result.count ≤ length rest.now }
+    ensures ahead { 0 < result.count → (place : ℕ) → (start : ℕ) × IsAhead place rest.now result.count true (record { kind = TokenKind.Number result.value; start = start; end = place + result.count } ∷ []) }
+{
+    if rest.len() >= 3 && rest[0] == b' ' && is_digit(rest[1]) && !is_run_byte(rest[2]) {
+        let value = u64::from(rest[1] - b'0');
+        return Amount { count: 2, value };
+    }
+    long_number_ahead(rest)
 }
 
 /// The size that stands ahead, where it ends inside the piece and has few digits.
