@@ -5,7 +5,7 @@ ghost use Rattle.goal_graph.specs.Laws.{IsSend, IsReceive};
 ghost use Rattle.sim_resources.specs.FreeTimes.{SameFreeTimes, cpu_free, tx_free, rx_free, hold_cpu, hold_tx, hold_rx, unheld};
 
 use crate::Hold;
-use crate::slots::{Part, Slots, free, number, raise, side_by_side};
+use crate::slots::{Slots, free, number, raise};
 use goal_base::NoMemory;
 use goal_graph::{OpId, Sched};
 use std::alloc::Global;
@@ -38,15 +38,13 @@ impl<'a> Resources<'a> {
     pub fn new(alloc: Global, sched: &'a Sched) -> Result<Resources<'a>, NoMemory>
         ensures { IfOk result (λ r. SameFreeTimes r (unheld sched.now)) }
     {
-        let cpu = number(alloc, sched, Part::Cpu)?;
-        let nic = number(alloc, sched, Part::Nic)?;
-        let slots = side_by_side(alloc, &cpu.slots, &nic.slots)?;
-        let rx = Vec::from_slice(alloc, &nic.holds)?;
+        let numbering = number(alloc, sched)?;
+        let rx = Vec::from_slice(alloc, &numbering.nics)?;
         Ok(Resources {
             sched,
-            slots,
-            cpu: cpu.holds,
-            tx: nic.holds,
+            slots: numbering.slots,
+            cpu: numbering.cpus,
+            tx: numbering.nics,
             rx,
         })
     }

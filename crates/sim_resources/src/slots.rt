@@ -1,38 +1,28 @@
 // Slots of operations: two operations have the same slot where they use the same cpu, or the same interface.
-ghost use Rattle.std.specs.Prelude.{◌≡◌, ◌≢◌, ℕ, ◌<◌, max, Some, None, replicate, IfOk, IfSome, IfNone, All, length, map, slice_get, slice_set};
+ghost use Rattle.std.specs.Prelude.{◌≡◌, ◌≢◌, ℕ, ◌<◌, ◌^◌, max, Some, None, replicate, IfOk, IfSome, IfNone, All, length, map, slice_get, slice_set};
 ghost use Rattle.goal_graph.specs.Schedule.{operations};
+ghost use Rattle.goal_graph.specs.declared.plan.Op.{Op};
 ghost use Rattle.sim_resources.specs.declared.holds.Hold.{Hold};
-ghost use Rattle.sim_resources.specs.Slots.{part_of, users, cpu_of, nic_of, IsNumbered};
+ghost use Rattle.sim_resources.specs.Slots.{users, cpu_of, nic_of, IsNumbered, IsGiven};
 
 use crate::Hold;
 use goal_base::NoMemory;
-use goal_graph::{Op, Sched};
-use std::alloc::{AllocError, Global};
+use goal_graph::{OpId, Sched};
+use std::alloc::Global;
 
-/// What an operation uses of its rank.
+/// The slots of an operation: that of its cpu and that of its interface.
 #[derive(Clone, Copy, Debug, PartialEq, Eq)]
-pub enum Part {
-    Cpu,
-    Nic,
+pub struct Slots {
+    pub cpu: u32,
+    pub nic: u32,
 }
 
-impl Part {
-    /// The number of the cpu or of the interface that an operation uses.
-    fn number(self, op: &Op) -> u8
-        ensures { result ≡ part_of self op.now }
-    {
-        match self {
-            Part::Cpu => op.cpu,
-            Part::Nic => op.nic,
-        }
-    }
-}
-
-/// The slot of each operation, in the order of all, and a hold for each slot.
+/// The slots of each operation, in the order of all, and a hold for each slot of a cpu and for each of an interface.
 #[derive(Drop)]
 pub struct Numbering {
-    pub slots: Vec<u32>,
-    pub holds: Vec<Hold>,
+    pub slots: Vec<Slots>,
+    pub cpus: Vec<Hold>,
+    pub nics: Vec<Hold>,
 }
 
 // The slot that a number was given last, and the rank whose cpu or interface it is.
@@ -63,58 +53,56 @@ fn no_slots() -> [Option<Latest>; NUMBERS]
     [None; NUMBERS]
 }
 
-/// Numbers what the operations use, in the order in which they first use it. The holds are until 0.
+// The slot of a number of a rank: that which it was given last, where that was of this rank, and else a new one.
+//
+// A new slot's hold is of the operation `id`, until 0.
+fn slot_of(
+    latest: &mut [Option<Latest>; NUMBERS],
+    holds: &mut Vec<Hold>,
+    id: OpId,
+    number: u8,
+) -> Result<u32, NoMemory>
+    requires few { length holds.old.items < 2 ^ 32 }
+    ensures { IfOk result (λ slot. IsGiven latest.old latest.new holds.old.items holds.new.items id number slot) }
+{
+    match given(latest[number as usize], id.rank) {
+        Some(slot) => Ok(slot),
+        None => {
+            let slot = holds.len() as u32;
+            holds.push(Hold { op: id, until: 0 })?;
+            latest[number as usize] = Some(Latest {
+                rank: id.rank,
+                slot,
+            });
+            Ok(slot)
+        }
+    }
+}
+
+/// Numbers the cpus and the interfaces that the operations use, each in the order in which they first use it. The holds are
+/// until 0.
 ///
 /// The operations of a rank stand one after another, so what a number was given last is of the same rank, or of one that is
 /// over.
-pub fn number(alloc: Global, sched: &Sched, part: Part) -> Result<Numbering, NoMemory>
+pub fn number(alloc: Global, sched: &Sched) -> Result<Numbering, NoMemory>
     ensures counted { IfOk result (λ n. length n.slots.items ≡ length (operations sched.now)) }
-    ensures numbered { IfOk result (λ n. IsNumbered (part_of part) sched.now n.slots.items (users n.holds.items)) }
-    ensures unheld { IfOk result (λ n. All (λ h. h.until ≡ 0) n.holds.items) }
+    ensures cpus { IfOk result (λ n. IsNumbered (λ (o : Op). o.cpu) sched.now (map cpu_of n.slots.items) (users n.cpus.items)) }
+    ensures nics { IfOk result (λ n. IsNumbered (λ (o : Op). o.nic) sched.now (map nic_of n.slots.items) (users n.nics.items)) }
+    ensures unheld_cpus { IfOk result (λ n. All (λ h. h.until ≡ 0) n.cpus.items) }
+    ensures unheld_nics { IfOk result (λ n. All (λ h. h.until ≡ 0) n.nics.items) }
 {
-    let mut latest = no_slots();
+    let mut latest_cpus = no_slots();
+    let mut latest_nics = no_slots();
     let mut slots = Vec::with_capacity(alloc, sched.count() as usize)?;
-    let mut holds = Vec::new(alloc);
+    let mut cpus = Vec::new(alloc);
+    let mut nics = Vec::new(alloc);
     for id in sched.operations() {
-        let number = part.number(sched.op(*id)) as usize;
-        let slot = match given(latest[number], id.rank) {
-            Some(slot) => slot,
-            None => {
-                let slot = holds.len() as u32;
-                holds.push(Hold { op: *id, until: 0 })?;
-                latest[number] = Some(Latest {
-                    rank: id.rank,
-                    slot,
-                });
-                slot
-            }
-        };
-        slots.push(slot)?;
+        let op = sched.op(*id);
+        let cpu = slot_of(&mut latest_cpus, &mut cpus, *id, op.cpu)?;
+        let nic = slot_of(&mut latest_nics, &mut nics, *id, op.nic)?;
+        slots.push_reserved(Slots { cpu, nic });
     }
-    Ok(Numbering { slots, holds })
-}
-
-/// The slots of an operation: that of its cpu and that of its interface.
-#[derive(Clone, Copy, Debug, PartialEq, Eq)]
-pub struct Slots {
-    pub cpu: u32,
-    pub nic: u32,
-}
-
-/// The slots of cpus and those of interfaces side by side, both in the order of all operations.
-pub fn side_by_side(alloc: Global, cpus: &[u32], nics: &[u32]) -> Result<Vec<Slots>, AllocError>
-    requires { length cpus.now ≡ length nics.now }
-    ensures cpus { IfOk result (λ slots. map cpu_of slots.items ≡ cpus.now) }
-    ensures nics { IfOk result (λ slots. map nic_of slots.items ≡ nics.now) }
-{
-    let mut slots = Vec::with_capacity(alloc, cpus.len())?;
-    for (cpu, nic) in cpus.iter().zip(nics) {
-        slots.push_reserved(Slots {
-            cpu: *cpu,
-            nic: *nic,
-        });
-    }
-    Ok(slots)
+    Ok(Numbering { slots, cpus, nics })
 }
 
 /// When the hold of a slot ends.

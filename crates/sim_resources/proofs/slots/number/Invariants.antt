@@ -1,12 +1,13 @@
-use Rattle.std.proofs.Common.{◌≡◌, ◌≤◌, All, length}
-use Rattle.sim_resources.specs.declared.holds.Hold.{Hold}
-use Rattle.sim_resources.specs.Slots.{part_of, users}
-use Rattle.sim_resources.proofs.Numbered.{IsBegun}
+use Rattle.std.proofs.Common.{◌≤◌, length, map, vec_capacity}
+use Rattle.goal_graph.specs.declared.plan.Op.{Op}
+use Rattle.goal_graph.specs.Schedule.{operations}
+use Rattle.sim_resources.specs.Slots.{cpu_of, nic_of}
+use Rattle.sim_resources.proofs.Numbered.{IsSoFar}
 use Rattle.sim_resources.proofs.slots.number.Given as goal
 
 abbrev pub invariant-loop-id : goal.invariant-loop-id
 invariant-loop-id l = record {
-  begun : IsBegun (part_of l.part) l.sched l.id-index l.latest l.slots.items (users l.holds.items);
-  unheld : All (λ (h : Hold). h.until ≡ 0) l.holds.items;
-  few : length l.holds.items ≤ l.id-index;
+  cpus : IsSoFar (λ (o : Op). o.cpu) l.sched l.id-index l.latest_cpus (map cpu_of l.slots.items) l.cpus.items;
+  nics : IsSoFar (λ (o : Op). o.nic) l.sched l.id-index l.latest_nics (map nic_of l.slots.items) l.nics.items;
+  room : length (operations l.sched) ≤ vec_capacity l.slots;
 }
