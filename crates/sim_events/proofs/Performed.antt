@@ -64,7 +64,7 @@ pub record Parts : Type 0 where
   pub res : Holds
   pub room : ℕ
 
--- what it keeps after one action more; its table of entries was lent to be written
+-- what it keeps after one action more, whose key was put to the history; its table of entries was lent to be written
 pub record Change (plans : List Plan) (costs : CostModel) (old : Parts) (a : Timed) : Type 0 where
   pub items : List Timed
   pub lent : List Entry
@@ -73,7 +73,9 @@ pub record Change (plans : List Plan) (costs : CostModel) (old : Parts) (a : Tim
   pub matcher : PostsAndArrivals
   pub res : Holds
   pub room : ℕ
-  pub pushed : items ≡ old.items ++ a ∷ []
+  pub key : Timed
+  pub pushed : items ≡ old.items ++ key ∷ []
+  pub same_action : key ≡ a
   pub same_room : room ≡ old.room
   pub whole : count ≡ length old.entries
   pub same_table : lent ≡ old.entries
@@ -90,7 +92,7 @@ module _ (plans : List Plan) (costs : CostModel) (old : Parts) (m : Represents p
   pub performed : (new : Change plans costs old a) → Represents plans costs (reverse new.items) (take new.count (new.written ++ drop (length new.written) old.entries)) old.works new.matcher new.res new.room
   performed new =
       let table : take new.count (new.written ++ drop (length new.written) old.entries) ≡ new.written = whole_back new.count new.written old.entries (new.kept ∙ ap length new.same_table) new.whole in
-      let list : a ∷ reverse old.items ≡ reverse new.items = sym (ap reverse new.pushed ∙ reverse_push old.items a) in
+      let list : a ∷ reverse old.items ≡ reverse new.items = sym (ap reverse new.pushed ∙ reverse_push old.items new.key ∙ ap (λ (b : Timed). b ∷ reverse old.items) new.same_action) in
       let after : Represents plans costs (a ∷ reverse old.items) (take new.count (new.written ++ drop (length new.written) old.entries)) old.works new.matcher new.res new.room = record {
         accepted = m.accepted;
         within = m.within;

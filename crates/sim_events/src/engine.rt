@@ -19,7 +19,7 @@ use crate::state::State;
 use crate::station::stations;
 use goal_base::NoMemory;
 use goal_graph::{OpId, Sched, Timed};
-use sim_order::Steps;
+use sim_order::{CompactKey, Steps};
 use sim_params::Costs;
 use std::alloc::{AllocError, Global};
 use std::marker::{Brand, Model};
@@ -168,7 +168,7 @@ impl<'a, C: Costs> Engine<'a, C> {
     }
 
     /// What has happened, oldest first.
-    pub fn trace(&self) -> &[Timed]
+    pub fn trace(&self) -> &[CompactKey]
         ensures { result.now ≡ reverse self.now.history }
     {
         self.state.trace()

@@ -13,9 +13,10 @@ ghost use Rattle.sim_events.specs.Cursors.{IsCursorOf, AreCursors};
 ghost use Rattle.sim_events.specs.Queue.{IsEarly, IsQueue, IsQueueBut, IsQueueWithout, HasEarlyKeys, IsRefreshed, IsDueAfter, Awaits, gives, IsEnabledActionOf};
 
 use crate::cursor::Cursor;
+use crate::key::compact;
 use crate::state::State;
 use goal_graph::{Class, OpId, Timed, When};
-use sim_order::{CompactKey, Steps};
+use sim_order::Steps;
 use sim_params::Costs;
 use sim_queue::FloorQueue;
 use std::sync::ledger::{Blank, Ledger};
@@ -108,15 +109,6 @@ fn action_of<C: Costs>(state: &State<C>, early: Timed) -> Timed
         early.time
     };
     Timed { time, ..early }
-}
-
-// The key of an action.
-fn key_of<C: Costs>(state: &State<C>, action: Timed) -> CompactKey
-    requires { IsOp state.now.plans action.op }
-    ensures { result ≡ action }
-{
-    let _plans = state.sched().plans();
-    CompactKey::new(action.time, action.class, action.op)
 }
 
 /// Gives their keys to those whose next action may be possible only since an action: its operation, the partner, and
@@ -244,7 +236,7 @@ fn refresh<C: Costs, L: Ledger>(
         return;
     }
     if let Some(action) = choice_from(state, cursors, id) {
-        queue.put(slot, key_of(state, action), steps);
+        queue.put(slot, compact(state.sched(), action), steps);
     }
 }
 

@@ -5,6 +5,7 @@ mod cursor;
 mod engine;
 mod entry;
 mod follow;
+mod key;
 mod moment;
 mod pairing;
 mod shape;

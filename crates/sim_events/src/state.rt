@@ -20,8 +20,9 @@ use crate::entry::{Entry, read};
 use crate::shape::Shape;
 use crate::work::{Work, works};
 use goal_base::MAX_BUDGET;
-use goal_graph::{OpId, Sched, Timed};
+use goal_graph::{OpId, Sched};
 use sim_match::Matcher;
+use sim_order::CompactKey;
 use sim_params::{Costs, budget};
 use sim_resources::Resources;
 use std::alloc::Global;
@@ -37,7 +38,7 @@ pub struct State<'a, C: Costs> {
     sched: &'a Sched,
     costs: C,
     // what has happened, oldest first
-    history: Vec<Timed>,
+    history: Vec<CompactKey>,
     // what is known of each operation, in the order of all
     entries: Vec<Entry>,
     // what each operation does, in the same order
@@ -96,7 +97,7 @@ impl<'a, C: Costs + Drop> State<'a, C> {
 
 impl<'a, C: Costs> State<'a, C> {
     /// What has happened, oldest first.
-    pub fn trace(&self) -> &[Timed]
+    pub fn trace(&self) -> &[CompactKey]
         ensures { result.now ≡ reverse self.now.history }
     {
         self.history.as_slice()

@@ -1,6 +1,7 @@
 // A run with times worked by hand, and the engine beside a plain evaluator of the rules.
 use super::{Engine, EngineFault, Record};
 use goal_graph::{Class, Dep, Kind, Op, OpId, RankPlan, Sched, Timed, When};
+use sim_order::CompactKey;
 use sim_params::{LogGops, Params};
 use std::alloc::{AllocError, Global};
 use std::process::Abort;
@@ -63,6 +64,19 @@ fn told(
     (start, end, partner)
 }
 
+// The actions of a trace, which has their keys.
+fn actions(alloc: Global, trace: &[CompactKey]) -> Result<Vec<Timed>, AllocError> {
+    let mut actions = Vec::new(alloc);
+    for key in trace {
+        actions.push(Timed {
+            time: key.time(),
+            class: key.class(),
+            op: key.id(),
+        })?;
+    }
+    Ok(actions)
+}
+
 fn id(rank: u32, op: u32) -> Option<OpId> {
     Some(OpId { rank, op })
 }
@@ -90,7 +104,8 @@ fn a_large_message(rt: HostRuntime) -> Result<(), Fail> {
         at(6500, Class::Data, 0, 0),
         at(403_710, Class::Serve, 1, 0),
     ];
-    assert_eq!(rt; engine.trace(), trace.as_slice());
+    let actions = actions(rt.alloc(), engine.trace())?;
+    assert_eq!(rt; actions.as_slice(), trace.as_slice());
     assert_eq!(rt; told(&rt, &engine, 0, 0), (Some(0), Some(8000), id(1, 0)));
     assert_eq!(rt;
         told(&rt, &engine, 1, 0),

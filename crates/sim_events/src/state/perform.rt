@@ -9,6 +9,7 @@ ghost use Rattle.sim_eager.specs.Messages.{IsMessage};
 
 use super::State;
 use crate::entry::{Entry, write, write_met};
+use crate::key::compact;
 use crate::moment::Moment;
 use crate::shape::Shape;
 use crate::work::Work;
@@ -64,7 +65,7 @@ impl<'a, C: Costs> State<'a, C> {
             ..entry
         };
         write(sched, &mut self.entries, action.op, begun);
-        self.history.push_reserved(action);
+        self.history.push_reserved(compact(sched, action));
     }
 
     // An eager send begins.
@@ -93,7 +94,7 @@ impl<'a, C: Costs> State<'a, C> {
             ..entry
         };
         write(sched, &mut self.entries, action.op, entry);
-        self.history.push_reserved(action);
+        self.history.push_reserved(compact(sched, action));
     }
 
     // A large send begins: its request goes out.
@@ -120,7 +121,7 @@ impl<'a, C: Costs> State<'a, C> {
             ..entry
         };
         write(sched, &mut self.entries, action.op, entry);
-        self.history.push_reserved(action);
+        self.history.push_reserved(compact(sched, action));
     }
 
     // A receive is posted, and takes the first message that it fits.
@@ -138,7 +139,7 @@ impl<'a, C: Costs> State<'a, C> {
         let partner = self.matcher.post(action.op);
         let entries = &mut self.entries;
         write_met(sched, entries, action.op, posted, partner, action.time);
-        self.history.push_reserved(action);
+        self.history.push_reserved(compact(sched, action));
     }
 
     // A message or a request arrives, and is taken by the first receive that fits it.
@@ -156,7 +157,7 @@ impl<'a, C: Costs> State<'a, C> {
         let partner = self.matcher.arrive(action.op);
         let entries = &mut self.entries;
         write_met(sched, entries, action.op, arrived, partner, action.time);
-        self.history.push_reserved(action);
+        self.history.push_reserved(compact(sched, action));
     }
 
     // A large send hands over its bytes.
@@ -183,7 +184,7 @@ impl<'a, C: Costs> State<'a, C> {
             ..entry
         };
         write(sched, &mut self.entries, action.op, entry);
-        self.history.push_reserved(action);
+        self.history.push_reserved(compact(sched, action));
     }
 
     // A receive takes the message of its partner.
@@ -213,6 +214,6 @@ impl<'a, C: Costs> State<'a, C> {
             ..entry
         };
         write(sched, &mut self.entries, action.op, entry);
-        self.history.push_reserved(action);
+        self.history.push_reserved(compact(sched, action));
     }
 }

@@ -2,7 +2,7 @@
 ghost use Rattle.std.specs.Prelude.{◌<◌};
 
 use super::evaluator::{Past, run};
-use super::told;
+use super::{actions, told};
 use crate::Engine;
 use goal_graph::{Dep, Kind, Op, RankPlan, Sched, When};
 use sim_params::{LogGops, Params};
@@ -155,7 +155,8 @@ fn is_stuck(rt: &impl Abort, alloc: Global, params: Params, seed: u64) -> Result
     let past = Past::of(alloc, sched.plans(), params, &history)?;
     let mut engine = Engine::new(alloc, &sched, LogGops { params })?;
     engine.run();
-    assert_eq!(rt; engine.trace(), history.as_slice(), "seed {seed}");
+    let actions = actions(alloc, engine.trace())?;
+    assert_eq!(rt; actions.as_slice(), history.as_slice(), "seed {seed}");
     let mut stuck = false;
     for id in sched.operations() {
         let expected = (past.start(*id), past.end(*id), past.partner(*id));

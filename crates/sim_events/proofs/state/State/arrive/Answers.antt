@@ -48,6 +48,11 @@ write_met-requires g c =
       each = each_entry _ _ _ _ _ _ _ _ m _ c.deref_mut.ensures.value;
     }
 
+pub compact-requires : goal.compact-requires
+compact-requires g c =
+    let next = next_at g.C.Costs.model _ _ c.args.action c.self.view_is c.requires.next in
+    is_op _ _ _ _ _ _ _ _ c.self.invariant c.args.action next
+
 pub push_reserved-requires : goal.push_reserved-requires
 push_reserved-requires g c =
     let next = next_at g.C.Costs.model _ _ c.args.action c.self.view_is c.requires.next in
@@ -77,7 +82,9 @@ invariant_of-self g c =
       matcher = c.arrive-partner.new.self;
       res = c.self.inside.resources;
       room = vec_capacity c.push_reserved.new.self;
+      key = c.compact.result;
       pushed = c.push_reserved.ensures.items;
+      same_action = c.compact.ensures;
       same_room = c.push_reserved.ensures.capacity;
       whole = c.self.inside.entries.ok.0;
       same_table = c.deref_mut.ensures.value;
