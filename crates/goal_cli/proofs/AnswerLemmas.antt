@@ -1,32 +1,27 @@
 -- What follows from the table of causes.
-use Rattle.std.proofs.Common.{◌≡◌, ◌≢◌, ℕ, ◌+◌, ◌<◌, ◌≤◌, ◌⊎◌, Bool, true, false, List, [], length, Option, Some, None, is_some, IfSome, IsSomeAnd, inl, inr, refl, sym, ap, ◌∙◌, subst, arith}
+use Rattle.std.proofs.Common.{◌≡◌, ◌≢◌, ℕ, ◌+◌, ◌<◌, ◌⊎◌, true, false, List, [], length, Option, Some, None, IfSome, IsSomeAnd, inl, inr, refl, sym, ap, ◌∙◌, subst, arith}
 use Rattle.std.proofs.Math.Seq.{take-length}
 use Rattle.std.specs.FinMap.{get, insert}
 use Rattle.goal_base.specs.declared.limits.TheConstants.{MAX_INPUT}
-use Rattle.goal_base.specs.Device as device
 use Rattle.goal_base.specs.Device.{HostState, SinkState, Files, Later, KeepsFiles, KeepsReading, SameFiles, SameRest, ReadsAtMost, Holds, HoldsPart, Held, Grows, file_of, ReadFaulted, SameReadCounts}
 use Rattle.goal_graph.specs.Schedule.{Plan}
 use Rattle.sim_params.specs.Costs.{Numbers, log_gops}
 use Rattle.sim_classes.specs.Machine.{Known, costs_of}
-use Rattle.goal_parser.specs.declared.faults.TextFault.{TextFault}
-use Rattle.goal_binary.specs.declared.fault.FileFault.{FileFault}
-use Rattle.goal_input.specs.Input.{IsTextFault, IsFaultOfFile}
-use Rattle.goal_input.specs.Unread.{ForFile, IfFile}
+use Rattle.goal_input.specs.Unread.{IfFile}
 use Rattle.goal_words.specs.Words.{Command, Sim, Waits, Knots, Nodes, Compile, Show, Gen, Certify, Probe}
 use Rattle.goal_cli.specs.declared.answer.Answer.{Answer}
 use Rattle.goal_cli.specs.declared.answer.Answer.TheVariants as answer
 use Rattle.goal_cli.specs.declared.answer.Ending.{Ending}
 use Rattle.goal_cli.specs.declared.answer.Ending.TheVariants as ending
 use Rattle.goal_cli.specs.declared.answer.Refusal.{Refusal}
-use Rattle.goal_cli.specs.declared.answer.Refusal.TheVariants as refusal
 use Rattle.goal_cli.specs.declared.output.Stop.{Stop}
 use Rattle.goal_cli.specs.declared.output.Stop.TheVariants.{Refused}
 use Rattle.goal_cli.specs.declared.answer.Status.{Status}
 use Rattle.goal_cli.specs.declared.answer.Status.TheVariants as status
-use Rattle.goal_cli.specs.Output.{Input, input_with, input_of, machine_of, HasInput, ending_if, IsScheduleOf, IsWorkOf, IsOutput, MayEnd, IsCertify, IsTooLong, IsRefused, IsStop, HasRun, HasRunOn, HasOutput}
+use Rattle.goal_cli.specs.Output.{Input, input_with, input_of, machine_of, IsWorkOf, IsOutput, MayEnd, IsCertify, IsRefused, IsStop, HasRun, HasRunOn, HasOutput}
 use Rattle.goal_cli.specs.Refusal.{refused_line}
 use Rattle.goal_cli.specs.Answer.{ForNamed, IfNamed, ForRead, IfRead, ForInput, IfInput, ReadsFaulted, GrowsByPart, ReadsHeld, Target, ToOut, ToFile, target_of, Gets, GetsPart, Elsewhere, WritesRose, WritesHeld, WritesSame, InputHeld, GetsOutput, GetsPartOfOutput, AnswersWhole, PrintsRun, IsUntouched, IsWritten, IsCutOff, IsCauseOf, IsCauseOfNone, IsCause, line_for, status_at, status_of, Answers, AnswersWith, IsSilent, line_at, input_in, machine_in, Says, IsCutShort, IsAnswered, IsTakenOf}
-use Rattle.goal_cli.specs.Unmade.{IsUnmade, IsUntold, IsIdle, IsGot, IsTakenFrom}
+use Rattle.goal_cli.specs.Unmade.{IsIdle, IsTakenFrom}
 use Rattle.goal_cli.specs.World.{Devices, devices}
 use Rattle.goal_input.proofs.ForCallers.{same_schedule}
 use Rattle.goal_cli.proofs.RefusalLemmas.{same_refusal, no_refusal, output_had, one_machine}

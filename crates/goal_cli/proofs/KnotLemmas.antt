@@ -1,5 +1,6 @@
 -- What the search for knots asks of stuck operations.
-use Rattle.std.proofs.Common.{◌≡◌, ◌≤◌, ◌⊎◌, inl, inr, List, length, filter, Some, ap, arith}
+use Rattle.std.proofs.Common.{◌≡◌, ℕ, not, eqb, nat_lt, ◌≤◌, ◌⊎◌, inl, inr, List, length, filter, count_by, Some, ap, ◌∙◌, arith}
+use Rattle.std.proofs.lemmas.Bool.Decides.{nat_tests}
 use Rattle.std.proofs.lemmas.List.{length-map}
 use Rattle.std.proofs.lemmas.List.Sums.{length-filter, count_by-le-length}
 use Rattle.goal_graph.specs.declared.action.OpId.{OpId}
@@ -19,6 +20,17 @@ pub few_stuck : (plans : List Plan) (costs : CostModel) (h : List Timed) → len
 unfolding stuck_list
 few_stuck plans costs h =
     omega (arith, length-map (filter (lacks_end plans costs h) (operations plans)) (with_reason plans costs h), length-filter (lacks_end plans costs h) (operations plans), count_by-le-length (lacks_end plans costs h) (operations plans))
+
+-- so many are stuck as have no end
+pub count_stuck : (plans : List Plan) (costs : CostModel) (h : List Timed)
+    → length (stuck_list plans costs h) ≡ count_by (lacks_end plans costs h) (operations plans)
+unfolding stuck_list
+count_stuck plans costs h =
+    length-map (filter (lacks_end plans costs h) (operations plans)) (with_reason plans costs h) ∙ length-filter (lacks_end plans costs h) (operations plans)
+
+-- there are some exactly where there are not none
+pub stuck_if_some : (n m : ℕ) → n ≡ m → not (eqb n 0) ≡ nat_lt 0 m
+stuck_if_some n m same = grind (arith, nat_tests, same)
 
 -- an operation that a reason names is one of those that it names as one or the other
 named_cases : (w : Why) (y : OpId) → named w ≡ Some y → (w ≡ Op y) ⊎ (w ≡ Partner y)

@@ -21,7 +21,6 @@ use Rattle.goal_cli.specs.Probe.{probe_text}
 use Rattle.goal_cli.specs.Verdict.{faulty_text, IsVerdictOn}
 use Rattle.goal_input.specs.Input.{IsReadAs}
 use Rattle.goal_cli.specs.declared.answer.Ending.{Ending}
-use Rattle.goal_cli.specs.declared.output.Output.{Output}
 use Rattle.goal_cli.specs.declared.output.Stop.{Stop}
 use Rattle.goal_cli.specs.Output.{Input, input_with, IsWorkOf, IsStop, IsSameMachine, run_text, knots_shown, IsPrintedRun, IsReportedRun, IsKnotted, IsSummedUp, ending_if, IsOutput}
 use Rattle.goal_input.proofs.ForCallers.{same_schedule}
@@ -136,7 +135,7 @@ module _ (whole : SaidIsWhole) (alike : AlikeIsLogGops) where
       }
 
 -- why nothing is made on a machine, told of the input
-pub stop_on : (r : Result Output Stop) (name other : List ℕ) (sched : List Plan) (machine : List ℕ)
+pub stop_on : {A : Type 0} (r : Result A Stop) (name other : List ℕ) (sched : List Plan) (machine : List ℕ)
     → IfErr r (λ stop. (n m schedule : List ℕ) → IsReadAs schedule sched → IsStop (Nodes n m) (input_with schedule machine) stop)
     → IfErr r (λ stop. (input : Input) → IsWorkOf (Nodes name other) sched machine input → IsStop (Nodes name other) input stop)
 stop_on (Ok output) name other sched machine told = tt

@@ -1,5 +1,5 @@
 -- A command has at most one refusal for an input, and none where it makes something of it.
-use Rattle.std.proofs.Common.{◌≡◌, ◌≢◌, ℕ, ◌<◌, ◌≤◌, ◌⊎◌, ◌^◌, List, length, Result, inl, inr, refl, sym, ap, ◌∙◌, arith}
+use Rattle.std.proofs.Common.{◌≡◌, ◌≢◌, ℕ, ◌<◌, ◌≤◌, ◌⊎◌, List, length, Result, inl, inr, refl, sym, ap, ◌∙◌, arith}
 use Rattle.std.specs.declared.result.Result.TheVariants.{Ok, Err}
 use Rattle.goal_base.specs.declared.limits.TheConstants.{MAX_INPUT}
 use Rattle.goal_parser.specs.declared.faults.TextFault.{TextFault}
@@ -18,7 +18,7 @@ use Rattle.goal_words.specs.Words.{Command, Sim, Waits, Knots, Nodes, Compile, S
 use Rattle.goal_cli.specs.declared.answer.Ending.{Ending}
 use Rattle.goal_cli.specs.declared.answer.Refusal.{Refusal}
 use Rattle.goal_cli.specs.declared.answer.Refusal.TheVariants.{TooLong, Text, File, Machine, MachineRanks, Generator, Budget}
-use Rattle.goal_input.specs.Input.{IsReadAs, IsTextFault, IsFaultOfFile}
+use Rattle.goal_input.specs.Input.{IsReadAs}
 use Rattle.goal_cli.specs.Output.{Input, HasInput, HasMachine, AreRead, HasRun, HasRunOn, HasOutput, IsOutput, IsProbe, IsProbeOverBudget, IsOverBudget, IsOverBudgetOn, IsRefusedBudget, IsNotMade, IsRefusedCollective, IsMachineFault, IsMisfit, IsTooLong, IsRefused}
 use Rattle.goal_input.proofs.ForCallers.{same_schedule, same_text_fault, same_file_fault, not_both, no_text_fault, no_file_fault}
 

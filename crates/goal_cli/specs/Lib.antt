@@ -7,6 +7,7 @@ pub mod Refusal
 pub mod Answer
 -- What only the code keeps.
 pub mod Unmade
+pub mod Pages
 -- Laws.
 pub mod CertifiedRuns
 -- What the clauses cite of lower crates.

@@ -6,7 +6,7 @@ use Rattle.goal_words.specs.Words.{Command}
 use Rattle.goal_cli.specs.declared.answer.Answer.{Answer}
 use Rattle.goal_cli.specs.declared.answer.Answer.TheVariants as answer
 use Rattle.goal_cli.specs.declared.answer.Refusal.TheVariants as refusal
-use Rattle.goal_cli.specs.Output.{input_of, machine_of, input_with, IsRefused}
+use Rattle.goal_cli.specs.Output.{input_of, input_with, IsRefused}
 use Rattle.goal_cli.specs.Answer.{ForNamed, ForRead, ReadsFaulted}
 
 -- why there is no schedule, whatever the machine is, as long as that is not too long; want of memory is free

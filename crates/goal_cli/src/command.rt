@@ -9,11 +9,13 @@ ghost use Rattle.goal_words.specs.Words.{Sim, Nodes, command, command_in, IsSize
 ghost use Rattle.goal_cli.specs.Answer.{IfInput, GrowsByPart, ReadsHeld, InputHeld, target_of, Gets, GetsPart, Elsewhere, WritesRose, WritesHeld, WritesSame, AnswersWhole, PrintsRun, IsCauseOf, IsCause, AnswersWith, Says, IsCutShort, IsAnswered, Answered, IsTaken};
 ghost use Rattle.goal_cli.specs.World.{devices, world, DevicesLater, WorldLater};
 ghost use Rattle.goal_cli.specs.Output.{HasOutput, HasRun, HasRunOn, IsRefused};
+ghost use Rattle.goal_cli.specs.Pages.{text_of, Suits};
 ghost use Rattle.goal_cli.specs.Refusal.{refused_line};
 ghost use Rattle.goal_cli.specs.declared.answer.Refusal.{Refusal};
 
 use crate::answer::{Answer, Ending, Status};
 use crate::output::{Stop, output_of};
+use crate::pages::{Output, print_output};
 use crate::refusal::refused_line;
 use crate::source::gather;
 use goal_base::{Host, IoFault, NoMemory, Sink, write_all, write_file};
@@ -124,13 +126,14 @@ fn carry_out_line<H: Host, W: Sink>(alloc: Global, line: &Line, host: &mut H, ou
         Ok(work) => work,
         Err(answer) => return answer,
     };
-    let output = match output_of(alloc, line, &work.sched, &work.machine) {
+    let mut output = match output_of(alloc, line, &work.sched, &work.machine) {
         Ok(output) => output,
         Err(Stop::Refused(refusal)) => return Answer::Refused(refusal),
         Err(Stop::NoMemory) => return Answer::NoMemory,
     };
-    match put(line, host, out, &output.bytes) {
-        Ok(()) => Answer::Written(output.ending),
+    let ending = output.ending;
+    match put(alloc, line, host, out, &mut output) {
+        Ok(()) => Answer::Written(ending),
         Err(IoFault::Failed) => Answer::WriteFault,
         Err(IoFault::NoMemory) => Answer::NoMemory,
     }
@@ -138,16 +141,18 @@ fn carry_out_line<H: Host, W: Sink>(alloc: Global, line: &Line, host: &mut H, ou
 
 // Writes the output of a command, to where it goes.
 fn put<H: Host, W: Sink>(
+    alloc: Global,
     line: &Line,
     host: &mut H,
     out: &mut W,
-    bytes: &[u8],
+    output: &mut Output<'_>,
 ) -> Result<(), IoFault>
+    requires suits { Suits (target_of (command line.now)) output.old }
     ensures whole { let old = devices (H.state host.old) (W.state out.old) in
         let new = devices (H.state host.new) (W.state out.new) in
-        OnOk result (Gets old new (target_of (command line.now)) bytes.now × WritesSame old new (target_of (command line.now))) }
+        OnOk result (Gets old new (target_of (command line.now)) (text_of output.old) × WritesSame old new (target_of (command line.now))) }
     ensures part { OnErr result (GetsPart (devices (H.state host.old) (W.state out.old))
-        (devices (H.state host.new) (W.state out.new)) (target_of (command line.now)) bytes.now) }
+        (devices (H.state host.new) (W.state out.new)) (target_of (command line.now)) (text_of output.old)) }
     ensures rose { IsErrOf result IoFault.Failed → WritesRose (devices (H.state host.old) (W.state out.old))
         (devices (H.state host.new) (W.state out.new)) (target_of (command line.now)) }
     ensures elsewhere { Elsewhere (devices (H.state host.old) (W.state out.old))
@@ -157,30 +162,15 @@ fn put<H: Host, W: Sink>(
         (devices (H.state host.new) (W.state out.new)) }
 {
     match line {
-        Line::Sim { .. } => print(out, bytes),
-        Line::Waits { .. } => print(out, bytes),
-        Line::Knots { .. } => print(out, bytes),
-        Line::Nodes { .. } => print(out, bytes),
-        Line::Compile { out: name, .. } => write_file(host, name.as_str(), bytes),
-        Line::Show { .. } => print(out, bytes),
-        Line::Gen { .. } => print(out, bytes),
-        Line::Certify { .. } => print(out, bytes),
-        Line::Probe { .. } => print(out, bytes),
-    }
-}
-
-// Writes bytes to a sink.
-fn print<W: Sink>(out: &mut W, bytes: &[u8]) -> Result<(), IoFault>
-    ensures whole { OnOk result (Grows (W.state out.old) (W.state out.new) bytes.now) }
-    ensures same { OnOk result ((W.state out.new).count ≡ (W.state out.old).count) }
-    ensures part { OnErr result (GrowsByPart (W.state out.old) (W.state out.new) bytes.now) }
-    ensures rose { IsErrOf result IoFault.Failed
-        → Rose (W.state out.old).stops (W.state out.old).count (W.state out.new).count }
-    ensures later { SinkLater (W.state out.old) (W.state out.new) }
-{
-    match write_all(out, bytes) {
-        Ok(()) => Ok(()),
-        Err(stop) => Err(stop.why),
+        Line::Sim { .. } => print_output(alloc, out, output),
+        Line::Waits { .. } => print_output(alloc, out, output),
+        Line::Knots { .. } => print_output(alloc, out, output),
+        Line::Nodes { .. } => print_output(alloc, out, output),
+        Line::Compile { out: name, .. } => write_file(host, name.as_str(), &output.head),
+        Line::Show { .. } => print_output(alloc, out, output),
+        Line::Gen { .. } => print_output(alloc, out, output),
+        Line::Certify { .. } => print_output(alloc, out, output),
+        Line::Probe { .. } => print_output(alloc, out, output),
     }
 }
 

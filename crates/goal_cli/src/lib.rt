@@ -12,6 +12,7 @@ mod certified_runs;
 mod command;
 mod laws;
 mod output;
+mod pages;
 mod probe;
 mod refusal;
 mod source;

@@ -1,40 +1,38 @@
 // From what a command works on to what it makes of it.
-ghost use Rattle.std.specs.Prelude.{ℕ, List, Bool, ◌≡◌, ◌<◌, ◌≤◌, ◌^◌, length, Ok, OnOk, IfOk, IfErr};
+ghost use Rattle.std.specs.Prelude.{ℕ, List, Bool, ◌≡◌, ◌++◌, ◌<◌, ◌≤◌, ◌^◌, length, Ok, OnOk, IfOk, IfErr};
 ghost use Rattle.goal_base.specs.declared.limits.TheConstants.{MAX_INPUT};
 ghost use Rattle.sim_params.specs.Numbers.{numbers};
 ghost use Rattle.sim_params.specs.Costs.{log_gops};
 ghost use Rattle.sim_params.specs.Budget.{budget};
 ghost use Rattle.sim_params.specs.Run.{IsFinished};
 ghost use Rattle.sim_events.specs.Engine.{IsEngineFault};
+ghost use Rattle.sim_params.specs.Stuck.{is_stuck};
+ghost use Rattle.goal_parser.specs.Reads.{reads, plans};
 ghost use Rattle.goal_print.specs.Canonical.{canonical};
 ghost use Rattle.goal_binary.specs.File.{file};
 ghost use Rattle.goal_words.specs.Words.{command, Nodes};
 ghost use Rattle.goal_input.specs.Input.{IsReadAs};
+ghost use Rattle.goal_cli.specs.Answer.{target_of};
+ghost use Rattle.goal_cli.specs.Pages.{text_of, Suits};
 ghost use Rattle.goal_cli.specs.Output.{Input, input_with, run_text, knots_shown, IsPrintedRun, IsReportedRun, IsKnotted, IsSummedUp, IsRunOf, ending_if, IsOutput, IsSimulatedOn, MayEnd, IsWorkOf, IsStop};
 
 use crate::answer::{Ending, Refusal};
+use crate::pages::{Output, Pages, Whole};
 use crate::probe::probe_text;
 use crate::verdict::verdict;
 use goal_base::NoMemory;
 use goal_binary::{encode, laws_of_files};
 use goal_graph::Sched;
-use goal_print::print_text;
+use goal_print::{Blocks, heading};
 use goal_words::Line;
-use sim_classes::{MachineFault, read_machine};
+use sim_classes::{Machine, MachineFault, read_machine};
 use sim_cycles::{knots, knots_text};
 use sim_events::{Engine, EngineFault};
 use sim_params::{Costs, LogGops, Params};
 use sim_stuck::{explain, is_stuck, stuck_text};
-use sim_timeline::{first_line, timeline};
+use sim_timeline::{Lines, first_line};
 use sim_waits::waits;
 use std::alloc::Global;
-
-// What a command writes, and how it ends.
-#[derive(Drop)]
-pub struct Output {
-    pub bytes: Vec<u8>,
-    pub ending: Ending,
-}
 
 // Why a command makes nothing of its input or its words.
 pub enum Stop {
@@ -70,50 +68,70 @@ fn run<C: Costs + Drop>(
     }
 }
 
-// The timeline of a run that is over, and the lines of its stuck operations.
-fn run_text<C: Costs>(
+// A printed run: its first line, the lines of its operations, and those of its stuck operations.
+#[derive(Drop)]
+struct Parts<'a, C: Costs> {
+    head: Vec<u8>,
+    lines: Lines<'a, C>,
+    tail: Vec<u8>,
+    ending: Ending,
+}
+
+// The printed run of an engine whose run is over.
+fn run_text<'a, C: Costs + Drop>(
     alloc: Global,
-    sched: &Sched,
-    engine: &Engine<'_, C>,
-) -> Result<Vec<u8>, NoMemory>
-    requires same { engine.now.plans ≡ sched.now }
-    requires done { IsFinished engine.now.plans (C.model engine.now.costs) engine.now.history }
-    ensures { IfOk result (λ text.
-        text.items ≡ run_text sched.now (C.model engine.now.costs) engine.now.history) }
+    sched: &'a Sched,
+    engine: Engine<'a, C>,
+) -> Result<Parts<'a, C>, NoMemory>
+    requires same { engine.plans ≡ sched.now }
+    requires done { IsFinished engine.plans (C.model engine.costs) engine.history }
+    ensures text { IfOk result (λ run.
+        run.head.items ++ run.lines ++ run.tail.items ≡ run_text sched.now (C.model engine.entry.costs) engine.entry.history) }
+    ensures ending { IfOk result (λ run.
+        run.ending ≡ ending_if (is_stuck sched.now (C.model engine.entry.costs) engine.entry.history)) }
 {
-    let mut text = timeline(alloc, sched, engine)?;
-    let stuck = explain(alloc, sched, engine)?;
-    let lines = stuck_text(alloc, &stuck)?;
-    text.extend_from_slice(&lines)?;
-    Ok(text)
+    let head = first_line(alloc, sched, &engine)?;
+    let stuck = explain(alloc, sched, &engine)?;
+    let tail = stuck_text(alloc, &stuck)?;
+    Ok(Parts {
+        head,
+        lines: Lines::new(engine),
+        tail,
+        ending: ending_if(!stuck.is_empty()),
+    })
 }
 
 // The printed run of a schedule with these costs.
-fn print_run<C: Costs + Drop>(alloc: Global, sched: &Sched, costs: C) -> Result<Output, EngineFault>
+fn print_run<C: Costs + Drop>(
+    alloc: Global,
+    sched: &Sched,
+    costs: C,
+) -> Result<Parts<'_, C>, EngineFault>
     ensures fits { OnOk result (budget sched.now (C.model costs) < 2 ^ 63) }
-    ensures run { IfOk result (λ output. (stuck : Bool) × (output.ending ≡ ending_if stuck)
-        × IsPrintedRun (C.model costs) sched.now output.bytes.items stuck) }
+    ensures run { IfOk result (λ run. (stuck : Bool) × (run.ending ≡ ending_if stuck)
+        × IsPrintedRun (C.model costs) sched.now (run.head.items ++ run.lines ++ run.tail.items) stuck) }
     ensures fault { IfErr result (IsEngineFault (budget sched.now (C.model costs))) }
 {
     let engine = match run(alloc, sched, costs) {
         Ok(engine) => engine,
         Err(fault) => return Err(fault),
     };
-    match run_text(alloc, sched, &engine) {
-        Ok(bytes) => Ok(Output {
-            bytes,
-            ending: ending_if(is_stuck(&engine)),
-        }),
+    match run_text(alloc, sched, engine) {
+        Ok(run) => Ok(run),
         Err(NoMemory) => Err(EngineFault::NoMemory),
     }
 }
 
 // The printed run of a schedule on the machine of a text.
-fn print_run_on(alloc: Global, sched: &Sched, text: &[u8]) -> Result<Output, Stop>
+fn print_run_on<'a>(
+    alloc: Global,
+    sched: &'a Sched,
+    text: &[u8],
+) -> Result<Parts<'a, Machine>, Stop>
     requires short { length text.now ≤ MAX_INPUT }
-    ensures output { IfOk result (λ output. (schedule : List ℕ) → IsReadAs schedule sched.now
-        → IsSimulatedOn schedule text.now output.bytes.items output.ending) }
-    ensures ends { IfOk result (λ output. (stuck : Bool) × (output.ending ≡ ending_if stuck)) }
+    ensures output { IfOk result (λ run. (schedule : List ℕ) → IsReadAs schedule sched.now
+        → IsSimulatedOn schedule text.now (run.head.items ++ run.lines ++ run.tail.items) run.ending) }
+    ensures ends { IfOk result (λ run. (stuck : Bool) × (run.ending ≡ ending_if stuck)) }
     ensures stop { IfErr result (λ stop. (name machine schedule : List ℕ) → IsReadAs schedule sched.now
         → IsStop (Nodes name machine) (input_with schedule text.now) stop) }
 {
@@ -127,14 +145,14 @@ fn print_run_on(alloc: Global, sched: &Sched, text: &[u8]) -> Result<Output, Sto
         return Err(Stop::Refused(Refusal::MachineRanks { ranks }));
     }
     match print_run(alloc, sched, machine) {
-        Ok(output) => Ok(output),
+        Ok(run) => Ok(run),
         Err(EngineFault::Budget { sum }) => Err(Stop::Refused(Refusal::Budget { sum })),
         Err(EngineFault::NoMemory) => Err(Stop::NoMemory),
     }
 }
 
 // The report on the waits of the run of a schedule.
-fn report_waits(alloc: Global, sched: &Sched, params: Params) -> Result<Output, EngineFault>
+fn report_waits(alloc: Global, sched: &Sched, params: Params) -> Result<Whole, EngineFault>
     ensures fits { OnOk result (budget sched.now (log_gops (numbers params)) < 2 ^ 63) }
     ensures run { IfOk result (λ output. (stuck : Bool) × (output.ending ≡ ending_if stuck)
         × IsReportedRun (log_gops (numbers params)) sched.now output.bytes.items stuck) }
@@ -145,7 +163,7 @@ fn report_waits(alloc: Global, sched: &Sched, params: Params) -> Result<Output, 
         Err(fault) => return Err(fault),
     };
     match waits(alloc, sched, &engine) {
-        Ok(bytes) => Ok(Output {
+        Ok(bytes) => Ok(Whole {
             bytes,
             ending: ending_if(is_stuck(&engine)),
         }),
@@ -174,7 +192,7 @@ fn show_knots(
 }
 
 // The knots of the run of a schedule.
-fn report_knots(alloc: Global, sched: &Sched, params: Params) -> Result<Output, EngineFault>
+fn report_knots(alloc: Global, sched: &Sched, params: Params) -> Result<Whole, EngineFault>
     ensures fits { OnOk result (budget sched.now (log_gops (numbers params)) < 2 ^ 63) }
     ensures run { IfOk result (λ output. (stuck : Bool) × (output.ending ≡ ending_if stuck)
         × IsKnotted (log_gops (numbers params)) sched.now output.bytes.items stuck) }
@@ -185,7 +203,7 @@ fn report_knots(alloc: Global, sched: &Sched, params: Params) -> Result<Output, 
         Err(fault) => return Err(fault),
     };
     match show_knots(alloc, sched, &engine) {
-        Ok(bytes) => Ok(Output {
+        Ok(bytes) => Ok(Whole {
             bytes,
             ending: ending_if(is_stuck(&engine)),
         }),
@@ -194,7 +212,7 @@ fn report_knots(alloc: Global, sched: &Sched, params: Params) -> Result<Output, 
 }
 
 // The sum of the run of a schedule.
-fn sum_up_run(alloc: Global, sched: &Sched, params: Params) -> Result<Output, EngineFault>
+fn sum_up_run(alloc: Global, sched: &Sched, params: Params) -> Result<Whole, EngineFault>
     ensures fits { OnOk result (budget sched.now (log_gops (numbers params)) < 2 ^ 63) }
     ensures run { IfOk result (λ output. (stuck : Bool) × (output.ending ≡ ending_if stuck)
         × IsSummedUp (log_gops (numbers params)) sched.now output.bytes.items stuck) }
@@ -205,7 +223,7 @@ fn sum_up_run(alloc: Global, sched: &Sched, params: Params) -> Result<Output, En
         Err(fault) => return Err(fault),
     };
     match probe_text(alloc, sched, &engine) {
-        Ok(bytes) => Ok(Output {
+        Ok(bytes) => Ok(Whole {
             bytes,
             ending: ending_if(is_stuck(&engine)),
         }),
@@ -214,12 +232,12 @@ fn sum_up_run(alloc: Global, sched: &Sched, params: Params) -> Result<Output, En
 }
 
 // An output of a command that runs nothing.
-fn whole(bytes: Result<Vec<u8>, NoMemory>) -> Result<Output, Stop>
+fn whole(bytes: Result<Vec<u8>, NoMemory>) -> Result<Whole, Stop>
     ensures output { IfOk result (λ output. (bytes ≡ Ok output.bytes) × (output.ending ≡ Ending.Done)) }
     ensures stop { IfErr result (λ stop. stop ≡ Stop.NoMemory) }
 {
     match bytes {
-        Ok(bytes) => Ok(Output {
+        Ok(bytes) => Ok(Whole {
             bytes,
             ending: Ending::Done,
         }),
@@ -237,42 +255,82 @@ fn compile(alloc: Global, sched: &Sched) -> Result<Vec<u8>, NoMemory>
     encode(alloc, sched)
 }
 
+// The canonical text of a schedule, as an output.
+fn show<'a>(alloc: Global, sched: &'a Sched) -> Result<Output<'a>, Stop>
+    ensures text { IfOk result (λ output. text_of output ≡ canonical sched.now) }
+    ensures read_back { IfOk result (λ output. reads (text_of output) ≡ plans sched.now) }
+    ensures ending { IfOk result (λ output. output.ending ≡ Ending.Done) }
+    ensures stop { IfErr result (λ stop. stop ≡ Stop.NoMemory) }
+{
+    match heading(alloc, sched) {
+        Ok(head) => Ok(Output {
+            head,
+            pages: Pages::Blocks(Blocks::new(sched)),
+            tail: Vec::new(alloc),
+            ending: Ending::Done,
+        }),
+        Err(NoMemory) => Err(Stop::NoMemory),
+    }
+}
+
 // What a command makes of the schedule that it works on, and of the text of its machine.
-pub fn output_of(alloc: Global, line: &Line, sched: &Sched, machine: &[u8]) -> Result<Output, Stop>
+pub fn output_of<'a>(
+    alloc: Global,
+    line: &Line,
+    sched: &'a Sched,
+    machine: &[u8],
+) -> Result<Output<'a>, Stop>
     requires short { length machine.now ≤ MAX_INPUT }
     ensures output { IfOk result (λ output. (input : Input) → IsWorkOf (command line.now) sched.now machine.now input
-        → IsOutput (command line.now) input output.bytes.items output.ending) }
+        → IsOutput (command line.now) input (text_of output) output.ending) }
     ensures ends { IfOk result (λ output. MayEnd (command line.now) output.ending) }
+    ensures suits { IfOk result (λ output. Suits (target_of (command line.now)) output) }
     ensures stop { IfErr result (λ stop. (input : Input) → IsWorkOf (command line.now) sched.now machine.now input
         → IsStop (command line.now) input stop) }
 {
     match line {
         Line::Sim { params, .. } => match print_run(alloc, sched, LogGops { params: *params }) {
-            Ok(output) => Ok(output),
+            Ok(run) => Ok(Output {
+                head: run.head,
+                pages: Pages::Run(run.lines),
+                tail: run.tail,
+                ending: run.ending,
+            }),
             Err(EngineFault::Budget { sum }) => Err(Stop::Refused(Refusal::Budget { sum })),
             Err(EngineFault::NoMemory) => Err(Stop::NoMemory),
         },
         Line::Waits { params, .. } => match report_waits(alloc, sched, *params) {
-            Ok(output) => Ok(output),
+            Ok(report) => Ok(report.into_output(alloc)),
             Err(EngineFault::Budget { sum }) => Err(Stop::Refused(Refusal::Budget { sum })),
             Err(EngineFault::NoMemory) => Err(Stop::NoMemory),
         },
         Line::Knots { params, .. } => match report_knots(alloc, sched, *params) {
-            Ok(output) => Ok(output),
+            Ok(report) => Ok(report.into_output(alloc)),
             Err(EngineFault::Budget { sum }) => Err(Stop::Refused(Refusal::Budget { sum })),
             Err(EngineFault::NoMemory) => Err(Stop::NoMemory),
         },
-        Line::Nodes { .. } => print_run_on(alloc, sched, machine),
-        Line::Compile { .. } => whole(compile(alloc, sched)),
-        Line::Show { .. } => whole(print_text(alloc, sched)),
-        Line::Gen { .. } => whole(print_text(alloc, sched)),
+        Line::Nodes { .. } => match print_run_on(alloc, sched, machine) {
+            Ok(run) => Ok(Output {
+                head: run.head,
+                pages: Pages::RunOn(run.lines),
+                tail: run.tail,
+                ending: run.ending,
+            }),
+            Err(stop) => Err(stop),
+        },
+        Line::Compile { .. } => match whole(compile(alloc, sched)) {
+            Ok(file) => Ok(file.into_output(alloc)),
+            Err(stop) => Err(stop),
+        },
+        Line::Show { .. } => show(alloc, sched),
+        Line::Gen { .. } => show(alloc, sched),
         Line::Probe { params, .. } => match sum_up_run(alloc, sched, *params) {
-            Ok(output) => Ok(output),
+            Ok(sum) => Ok(sum.into_output(alloc)),
             Err(EngineFault::Budget { sum }) => Err(Stop::Refused(Refusal::Budget { sum })),
             Err(EngineFault::NoMemory) => Err(Stop::NoMemory),
         },
         Line::Certify { what, .. } => match verdict(alloc, sched, *what) {
-            Ok(output) => Ok(output),
+            Ok(verdict) => Ok(verdict.into_output(alloc)),
             Err(NoMemory) => Err(Stop::NoMemory),
         },
     }

@@ -4,7 +4,7 @@ ghost use Rattle.goal_blocks.specs.declared.cert_fault.CertFault.{CertFault};
 ghost use Rattle.goal_cli.specs.Verdict.{kind_text, op_text, ops_text, slot_text, fault_text, certified_text, faulty_text, IsVerdictOn};
 
 use crate::answer::Ending;
-use crate::output::Output;
+use crate::pages::Whole;
 use goal_base::{NoMemory, TextOut};
 use goal_blocks::{CertFault, Collective};
 use goal_certify::certify;
@@ -12,16 +12,16 @@ use goal_graph::{OpId, Sched};
 use std::alloc::Global;
 
 /// The verdict on a schedule, for a collective.
-pub fn verdict(alloc: Global, sched: &Sched, what: Collective) -> Result<Output, NoMemory>
+pub fn verdict(alloc: Global, sched: &Sched, what: Collective) -> Result<Whole, NoMemory>
     ensures { IfOk result (λ output. IsVerdictOn what sched.now output.bytes.items output.ending) }
 {
     match certify(alloc, sched, what) {
-        Ok(()) => Ok(Output {
+        Ok(()) => Ok(Whole {
             bytes: certified_text(alloc, what, sched.plans().len())?,
             ending: Ending::Done,
         }),
         Err(CertFault::NoMemory) => Err(NoMemory),
-        Err(fault) => Ok(Output {
+        Err(fault) => Ok(Whole {
             bytes: faulty_text(alloc, fault)?,
             ending: Ending::NotCertified,
         }),

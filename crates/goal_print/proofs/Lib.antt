@@ -9,4 +9,5 @@ mod LabelLaws
 mod BlocksRead
 mod TextRead
 mod Accepted
+mod Ranks
 pub mod RoundTrip

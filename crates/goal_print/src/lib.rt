@@ -1,14 +1,17 @@
-//! The canonical text of a schedule: [`print_text`] gives it, and what is read of it is the schedule.
+//! The canonical text of a schedule: [`print_text`] gives it whole, and [`heading`] and [`Blocks`] page by page. What is
+//! read of it is the schedule.
 //!
 //! `specs/Canonical` says what the text is, by lines. [`read_printed`] prints a schedule and reads it again.
 #![tactic(auto)]
 
 mod again;
 mod laws;
+mod pages;
 mod print;
 #[cfg(test)]
 mod tests;
 
 pub use again::read_printed;
 pub use laws::laws_of_canonical_texts;
-pub use print::print_text;
+pub use pages::Blocks;
+pub use print::{heading, print_text};

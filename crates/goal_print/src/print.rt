@@ -2,7 +2,7 @@
 ghost use Rattle.std.specs.Prelude.{◌≡◌, ◌++◌, decimal, codes, IfOk, OnOk};
 ghost use Rattle.std.specs.List.{flat_map};
 ghost use Rattle.goal_parser.specs.Reads.{reads, plans};
-ghost use Rattle.goal_print.specs.Canonical.{label, number_or_any, action, op_line, op_lines, verb, dep_line, note_line, block, unless_empty, canonical};
+ghost use Rattle.goal_print.specs.Canonical.{label, number_or_any, action, op_line, op_lines, verb, dep_line, note_line, heading, block, unless_empty, blocks, canonical};
 
 use goal_base::{NoMemory, TextOut};
 use goal_graph::{Dep, Kind, Note, Op, RankPlan, Sched, When};
@@ -21,17 +21,41 @@ pub fn print_text(alloc: Global, sched: &Sched) -> Result<Vec<u8>, NoMemory>
 {
     let plans = sched.plans();
     let mut out = TextOut::new(alloc);
-    out.word("num_ranks ")?;
-    out.number(plans.len() as u128)?;
-    out.word("\n")?;
+    put_heading(&mut out, plans.len())?;
     for (rank, plan) in plans.iter().enumerate() {
         put_rank(&mut out, rank as u64, plan)?;
     }
     Ok(out.into_bytes())
 }
 
-// Appends the lines of a rank: none where it has no operation.
-fn put_rank(out: &mut TextOut, rank: u64, plan: &RankPlan) -> Result<(), NoMemory>
+/// The first line of the canonical text of a schedule. Behind it stand the blocks of all ranks.
+///
+/// # Errors
+///
+/// Want of memory alone.
+pub fn heading(alloc: Global, sched: &Sched) -> Result<Vec<u8>, NoMemory>
+    ensures canonical { IfOk result (λ text. text.items ++ blocks 0 sched.now ≡ canonical sched.now) }
+
+    // What is read of the whole text is the schedule.
+    ensures read_back { OnOk result (reads (canonical sched.now) ≡ plans sched.now) }
+{
+    let plans = sched.plans();
+    let mut out = TextOut::new(alloc);
+    put_heading(&mut out, plans.len())?;
+    Ok(out.into_bytes())
+}
+
+// Appends the first line.
+fn put_heading(out: &mut TextOut, ranks: usize) -> Result<(), NoMemory>
+    ensures { OnOk result (out.new ≡ out.old ++ heading ranks) }
+{
+    out.word("num_ranks ")?;
+    out.number(ranks as u128)?;
+    out.word("\n")
+}
+
+/// Appends the lines of a rank: none where it has no operation.
+pub fn put_rank(out: &mut TextOut, rank: u64, plan: &RankPlan) -> Result<(), NoMemory>
     ensures { OnOk result (out.new ≡ out.old ++ unless_empty plan.now.ops (block rank plan.now)) }
 {
     if plan.ops.is_empty() {

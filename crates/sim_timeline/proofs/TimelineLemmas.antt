@@ -1,11 +1,16 @@
--- The summary of operations, one operation after another.
-use Rattle.std.proofs.Common.{◌≡◌, ℕ, ◌+◌, max, Bool, true, false, not, List, [], ◌∷◌, ◌++◌, length, Option, Some, None, is_some, unwrap_or, cond, count_by, refl, sym, ap, ◌∙◌, arith}
+-- The summary of operations, one operation after another, and their lines, page by page.
+use Rattle.std.proofs.Common.{◌≡◌, ℕ, zero, suc, ◌+◌, ◌<◌, max, Bool, true, false, not, List, [], ◌∷◌, ◌++◌, length, Option, Some, None, is_some, unwrap_or, cond, count_by, take, drop, refl, sym, ap, ◌∙◌, arith}
+use Rattle.std.specs.List.{flat_map, All}
+use Rattle.std.proofs.lemmas.List.{take-append-drop, drop-drop}
+use Rattle.std.proofs.lemmas.List.Elements.{All-head}
+use Rattle.std.proofs.lemmas.Grind.{flat_map-append}
 use Rattle.std.proofs.lemmas.List.Sums.{fold-append}
 use Rattle.goal_graph.specs.declared.action.OpId.{OpId}
 use Rattle.goal_graph.specs.declared.action.Timed.{Timed}
 use Rattle.goal_graph.specs.declared.plan.Op.{Op}
 use Rattle.goal_graph.specs.declared.plan.Kind.{Kind}
 use Rattle.goal_graph.specs.Schedule.{Plan, op_at, operations}
+use Rattle.goal_graph.specs.Fault.{IsOp}
 use Rattle.goal_graph.specs.Action.{plain}
 use Rattle.goal_graph.specs.Matching.{pairs, partner}
 use Rattle.goal_graph.specs.Allowed.{has_started, has_ended}
@@ -36,6 +41,11 @@ end_there false n = refl
 started : (b : Bool) (n : ℕ) → is_some (cond b (Some n) None) ≡ b
 started true n = refl
 started false n = refl
+
+-- where two texts are none, the first is none
+no_front : {A : Type 0} (xs ys : List A) → xs ++ ys ≡ [] → xs ≡ []
+no_front [] ys none = refl
+no_front (x ∷ xs) ys none = absurd (cc)
 
 module _ (plans : List Plan) (costs : CostModel) (h : List Timed) where
   unread_found : (x : OpId) (o : Op) → op_at plans x ≡ Some o
@@ -68,3 +78,25 @@ module _ (plans : List Plan) (costs : CostModel) (h : List Timed) where
       → operation_line x o.kind (start_known plans costs h x) (end_known plans costs h x) (partner (pairs plans (plain h)) x) ≡ line_of plans costs h x
   unfolding line_of
   line_is x o found = ap (line_by plans costs h x) (sym (at_kind plans x o found))
+
+  -- the line of an operation that is there is not empty
+  line_not_empty : (x : OpId) (o : Option Op) → op_at plans x ≡ o → is_some o ≡ true → line_of plans costs h x ≡ [] → ⊥
+  line_not_empty x None found there empty = cc
+  line_not_empty x (Some o) found there empty = let line = line_is x o found ∙ empty in cc
+
+  -- where the first lines of operations are no text, there are no operations
+  pub no_line_left : (xs : List OpId) (count : ℕ) → (0 < length xs → 0 < count) → All (IsOp plans) xs
+      → flat_map (line_of plans costs h) (take count xs) ≡ [] → flat_map (line_of plans costs h) xs ≡ []
+  no_line_left [] count some exist empty = refl
+  no_line_left (x ∷ xs) zero some exist empty = absurd (omega (arith, some (omega arith)))
+  no_line_left (x ∷ xs) (suc count) some exist empty =
+      absurd (line_not_empty x (op_at plans x) refl (All-head (IsOp plans) x xs exist)
+      (no_front (line_of plans costs h x) (flat_map (line_of plans costs h) (take count xs)) empty))
+
+-- a page, and then what is left
+pub page_and_rest : {X A : Type 0} (f : X → List A) (xs : List X) (done count : ℕ)
+    → flat_map f (drop done xs) ≡ flat_map f (take count (drop done xs)) ++ flat_map f (drop (done + count) xs)
+page_and_rest f xs done count =
+    ap (flat_map f) (sym (take-append-drop count (drop done xs)))
+    ∙ flat_map-append f (take count (drop done xs)) (drop count (drop done xs))
+    ∙ ap (λ ys. flat_map f (take count (drop done xs)) ++ flat_map f ys) (drop-drop count done xs)

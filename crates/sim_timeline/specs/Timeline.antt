@@ -1,6 +1,6 @@
 -- The printed run: a line on the whole, then a line for each operation. Every line ends with a line feed, and numbers
 -- are decimal.
-use Rattle.std.specs.Prelude.{ℕ, ◌≡◌, ◌&&◌, Bool, true, false, not, List, [], ◌++◌, Option, Some, None, is_some, if◌then◌else◌, length, codes, decimal, count_by}
+use Rattle.std.specs.Prelude.{ℕ, ◌≡◌, ◌&&◌, Bool, true, false, not, List, [], ◌++◌, Option, Some, None, is_some, if◌then◌else◌, length, drop, codes, decimal, count_by}
 use Rattle.std.specs.List.{flat_map}
 use Rattle.goal_base.specs.Text.{line_feed, time_text}
 use Rattle.goal_graph.specs.declared.action.OpId.{OpId}
@@ -83,6 +83,10 @@ module _ (plans : List Plan) (costs : CostModel) (h : List Timed) where
   -- the line of an operation
   unfoldable pub line_of : OpId → List ℕ
   line_of x = line_by x (kind_at plans x)
+
+  -- the lines of all operations but so many, by rank and number
+  abbrev pub lines_from : ℕ → List ℕ
+  lines_from done = flat_map line_of (drop done (operations plans))
 
   -- the first line, and the lines of all operations by rank and number
   unfoldable pub timeline : List ℕ

@@ -2,5 +2,7 @@
 #![tactic(auto)]
 
 mod lines;
+mod pages;
 
-pub use lines::{first_line, timeline};
+pub use lines::first_line;
+pub use pages::Lines;

@@ -1,7 +1,7 @@
 // The lines of the timeline.
 ghost use Rattle.std.specs.Prelude.{◌≡◌, ◌+◌, ◌-◌, ◌++◌, ◌<◌, ◌^◌, length, OnOk, IfOk, Some, is_some, unwrap_or, max, if◌then◌else◌};
 ghost use Rattle.goal_graph.specs.Schedule.{operations};
-ghost use Rattle.sim_timeline.specs.Timeline.{operation_line, summary_line, kind_text, partner_text, match_text, first_line, timeline, IsSummary, is_unread_send};
+ghost use Rattle.sim_timeline.specs.Timeline.{operation_line, summary_line, kind_text, partner_text, match_text, first_line, IsSummary, is_unread_send};
 
 use goal_base::{NoMemory, TextOut};
 use goal_graph::{Kind, Op, OpId, Sched};
@@ -9,29 +9,9 @@ use sim_events::{Engine, Record};
 use sim_params::Costs;
 use std::alloc::Global;
 
-/// The first line and the lines of all operations, by rank and number, of an engine whose run is over. The first line is
-/// `ranks P ops N stuck K unread U finish T`: how many operations there are, how many of them have no end, how many
-/// messages have begun and are taken by no receive, and the last end, in nanoseconds. The line of an operation is
-/// `op R I calc start A end B`, `op R I send start A end B match Q J`, or the same with `recv`; what is absent is a dash.
-/// `NoMemory` where memory ran out.
-pub fn timeline<C: Costs>(
-    alloc: Global,
-    sched: &Sched,
-    engine: &Engine<'_, C>,
-) -> Result<Vec<u8>, NoMemory>
-    requires same { engine.now.plans ≡ sched.now }
-    ensures { IfOk result (λ text.
-        text.items ≡ timeline sched.now (C.model engine.now.costs) engine.now.history) }
-{
-    let mut out = TextOut::new(alloc);
-    put_summary(&mut out, sched, &sum_up(sched, engine))?;
-    for id in sched.operations() {
-        put_operation(&mut out, *id, sched.op(*id).kind, engine.record(*id))?;
-    }
-    Ok(out.into_bytes())
-}
-
-/// The first line of the timeline alone. `NoMemory` where memory ran out.
+/// The first line of the timeline of an engine whose run is over: `ranks P ops N stuck K unread U finish T`, how many
+/// operations there are, how many of them have no end, how many messages have begun and are taken by no receive, and the
+/// last end, in nanoseconds. `NoMemory` where memory ran out.
 pub fn first_line<C: Costs>(
     alloc: Global,
     sched: &Sched,
@@ -114,8 +94,8 @@ fn put_summary(out: &mut TextOut, sched: &Sched, summary: &Summary) -> Result<()
     out.word("\n")
 }
 
-// Appends the line of an operation of that kind.
-fn put_operation(out: &mut TextOut, id: OpId, kind: Kind, times: Record) -> Result<(), NoMemory>
+/// Appends the line of an operation of that kind.
+pub fn put_operation(out: &mut TextOut, id: OpId, kind: Kind, times: Record) -> Result<(), NoMemory>
     ensures { OnOk result (out.new
         ≡ out.old ++ operation_line id kind times.start times.end times.partner) }
 {

@@ -2,7 +2,8 @@ use Rattle.std.proofs.Common.{rules, inr}
 use Rattle.goal_words.specs.Words.{command}
 use Rattle.goal_cli.specs.World.{devices}
 use Rattle.goal_cli.specs.Output.{input_of, machine_of}
-use Rattle.goal_cli.proofs.AnswerLemmas.{idle_cause, refused_of, written_from, cut_off_from, rose_from, taken_still}
+use Rattle.goal_cli.specs.Pages.{text_of}
+use Rattle.goal_cli.proofs.AnswerLemmas.{refused_of, written_from, cut_off_from, rose_from, taken_still}
 use Rattle.goal_cli.proofs.command.carry_out_line.Goals as goal
 
 pub returns-in-Err-Failed-clause-cause : goal.returns-in-Err-Failed-clause-cause
@@ -11,7 +12,7 @@ returns-in-Err-Failed-clause-cause g c =
     let new = devices (g.H.Host.state c.put.new.host) (g.W.Sink.state c.put.new.out) in (
       cut_off_from (g.H.Host.state c.args.host.now) read (g.W.Sink.state c.args.out.now) new c.gather.ensures.kept
           c.gather.ensures.later (command c.args.line.now)
-          c.in-Ok.work.sched c.in-Ok.work.machine.items c.in-Ok-output_of.output.bytes.items c.in-Ok-output_of.output.ending (search rules) (search rules)
+          c.in-Ok.work.sched c.in-Ok.work.machine.items (text_of c.in-Ok-output_of.output) c.in-Ok-output_of.output.ending (search rules) (search rules)
           (search rules) (search rules) (search rules) (search rules),
       rose_from (g.H.Host.state c.args.host.now) read (g.W.Sink.state c.args.out.now) new c.gather.ensures.kept
           c.gather.ensures.later _ (search rules),
@@ -22,7 +23,7 @@ returns-clause-cause g c =
     inr (cut_off_from (g.H.Host.state c.args.host.now) (g.H.Host.state c.gather.new.host) (g.W.Sink.state c.args.out.now)
     (devices (g.H.Host.state c.put.new.host) (g.W.Sink.state c.put.new.out)) c.gather.ensures.kept
     c.gather.ensures.later (command c.args.line.now)
-    c.in-Ok.work.sched c.in-Ok.work.machine.items c.in-Ok-output_of.output.bytes.items c.in-Ok-output_of.output.ending (search rules) (search rules)
+    c.in-Ok.work.sched c.in-Ok.work.machine.items (text_of c.in-Ok-output_of.output) c.in-Ok-output_of.output.ending (search rules) (search rules)
     (search rules) (search rules) (search rules) (search rules))
 
 pub returns-in-Ok-put-clause-taken : goal.returns-in-Ok-put-clause-taken
@@ -41,17 +42,18 @@ returns-clause-taken g c =
     c.gather.ensures.later c.gather.ensures.taken c.put.ensures.kept
 
 pub returns-in-Err-Refused-clause-cause : goal.returns-in-Err-Refused-clause-cause
-returns-in-Err-Refused-clause-cause g c = (
-  refused_of (g.H.Host.state c.args.host.now) (command c.args.line.now) c.in-Ok.work.sched c.in-Ok.work.machine.items c.in-Err-Refused.field-0 c.in-Err-Refused.refusal
-      (search rules) c.in-Ok.ensures.work (rw c.deref.ensures.value at c.in-Err-Refused.ensures.stop),
-  search rules,
-  search rules,
-)
+returns-in-Err-Refused-clause-cause g c =
+    rw c.in-Err-Refused.refusal-is (
+      refused_of (g.H.Host.state c.args.host.now) (command c.args.line.now) c.in-Ok.work.sched c.in-Ok.work.machine.items c.in-Err-Refused.field-0 c.in-Err-Refused.refusal
+          (search rules) c.in-Ok.ensures.work (rw c.deref.ensures.value at c.in-Err-Refused.ensures.stop),
+      search rules,
+      search rules,
+    )
 
 pub returns-in-Ok-put-clause-cause : goal.returns-in-Ok-put-clause-cause
 returns-in-Ok-put-clause-cause g c =
     written_from (g.H.Host.state c.args.host.now) (g.H.Host.state c.gather.new.host) (g.W.Sink.state c.args.out.now)
     (devices (g.H.Host.state c.put.new.host) (g.W.Sink.state c.put.new.out)) c.gather.ensures.kept
     c.gather.ensures.later (command c.args.line.now)
-    c.in-Ok.work.sched c.in-Ok.work.machine.items c.in-Ok-output_of.output.bytes.items c.in-Ok-output_of.output.ending (search rules) (search rules)
+    c.in-Ok.work.sched c.in-Ok.work.machine.items (text_of c.in-Ok-output_of.output) c.in-Ok-output_of.output.ending (search rules) (search rules)
     (search rules) (search rules) (search rules) (search rules) (search rules) (search rules)

@@ -1,0 +1,44 @@
+-- Text that is written piece by piece.
+use Rattle.std.proofs.Common.{◌≡◌, ℕ, List, [], ◌∷◌, ◌++◌, length, take, drop, refl, sym, ap, ◌∙◌, subst, append_assoc, append-nil, take-append-drop, arith, Result, OnErr}
+use Rattle.std.proofs.Math.Seq.{take-append_seam}
+use Rattle.std.specs.declared.result.Result.TheVariants.{Ok, Err}
+use Rattle.goal_base.specs.Device.{SinkState, Grows}
+use Rattle.goal_cli.specs.Answer.{GrowsByPart}
+
+-- nothing was written
+pub grows_none : (a : SinkState) → Grows a a []
+grows_none a = record { told = λ t. sym (append-nil a.bytes) }
+
+-- what has no byte is empty
+pub empty_by_length : (xs : List ℕ) → length xs ≡ 0 → xs ≡ []
+empty_by_length [] none = refl
+empty_by_length (x ∷ xs) none = absurd (omega (arith, none))
+
+-- a text, and then another
+pub grows_then : (a b c : SinkState) (xs ys : List ℕ) → Grows a b xs → b.tells ≡ a.tells → Grows b c ys → Grows a c (xs ++ ys)
+grows_then a b c xs ys first same more = record {
+  told = λ t. more.told (same ∙ t) ∙ ap (λ (l : List ℕ). l ++ ys) (first.told t) ∙ append_assoc a.bytes xs ys;
+}
+
+-- what was written is a part of what goes on from there
+pub part_of : (a b : SinkState) (xs ys : List ℕ) → Grows a b xs → GrowsByPart a b (xs ++ ys)
+part_of a b xs ys all = (length xs, subst (Grows a b) (sym (take-append_seam xs ys)) all)
+
+-- a part of the first text is a part of both
+pub part_of_first : (a b : SinkState) (xs ys : List ℕ) → GrowsByPart a b xs → GrowsByPart a b (xs ++ ys)
+part_of_first a b xs ys part =
+    let n = part.0 in
+    subst (GrowsByPart a b) (sym (append_assoc (take n xs) (drop n xs) ys) ∙ ap (λ (l : List ℕ). l ++ ys) (take-append-drop n xs))
+    (part_of a b (take n xs) (drop n xs ++ ys) part.1)
+
+-- a text, and then a part of another
+pub part_then : (a b c : SinkState) (xs ys : List ℕ) → Grows a b xs → b.tells ≡ a.tells → GrowsByPart b c ys → GrowsByPart a c (xs ++ ys)
+part_then a b c xs ys first same part =
+    let n = part.0 in
+    subst (GrowsByPart a c) (append_assoc xs (take n ys) (drop n ys) ∙ ap (λ (l : List ℕ). xs ++ l) (take-append-drop n ys))
+    (part_of a c (xs ++ take n ys) (drop n ys) (grows_then a b c xs (take n ys) first same part.1))
+
+-- what is so at an error
+pub on_error : {A E : Type 0} (r : Result A E) (P Q : Type 0) → (P → Q) → OnErr r P → OnErr r Q
+on_error (Ok a) P Q f h = tt
+on_error (Err e) P Q f h = f h

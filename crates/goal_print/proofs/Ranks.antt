@@ -1,0 +1,39 @@
+-- The blocks of a canonical text, rank by rank.
+use Rattle.std.proofs.Common.{◌≡◌, ℕ, ◌+◌, ◌<◌, ◌≤◌, List, [], ◌∷◌, ◌++◌, length, get_or, drop, sym, ap, ◌∙◌, append_assoc, append-nil, arith, refl}
+use Rattle.std.proofs.lemmas.List.{at_drop_more, at_drop_all, length-append}
+use Rattle.goal_graph.specs.declared.plan.Op.{Op}
+use Rattle.goal_graph.specs.Schedule.{Plan}
+use Rattle.goal_print.specs.Canonical.{block, unless_empty, blocks}
+
+-- one rank more
+pub one_more : (i : ℕ) (ps : List Plan) (p : Plan) (out all : List ℕ) → i < length ps → p ≡ get_or ps i p
+    → out ++ blocks i (drop i ps) ≡ all
+    → (out ++ unless_empty p.ops (block i p)) ++ blocks (i + 1) (drop (i + 1) ps) ≡ all
+unfolding blocks
+one_more i ps p out all within this is =
+    let left = blocks (i + 1) (drop (i + 1) ps) in
+    append_assoc out (unless_empty p.ops (block i p)) left
+    ∙ ap (λ (l : List ℕ). out ++ l)
+    (ap (λ (q : Plan). unless_empty q.ops (block i q) ++ left) this ∙ sym (at_drop_more (blocks i) ps i p within))
+    ∙ is
+
+none_left : (i : ℕ) → blocks i [] ≡ []
+unfolding blocks
+none_left i = refl
+
+-- where no rank is left, what is printed is all
+pub all_done : (i : ℕ) (ps : List Plan) (out all : List ℕ) → length ps ≤ i → out ++ blocks i (drop i ps) ≡ all → out ≡ all
+all_done i ps out all over is =
+    sym (append-nil out) ∙ ap (λ (l : List ℕ). out ++ l) (sym (at_drop_all (blocks i) ps i over ∙ none_left i)) ∙ is
+
+-- a text with lines has bytes: one rank more
+pub more_bytes : (os : List Op) (out text : List ℕ) (lines : ℕ) → 0 < length text → (0 < lines → 0 < length out)
+    → 0 < lines + length os → 0 < length (out ++ unless_empty os text)
+more_bytes [] out text lines long before some =
+    let old = before (omega (arith, some)) in
+    omega (arith, old, length-append out [])
+more_bytes (o ∷ os) out text lines long before some = omega (arith, long, length-append out text)
+
+-- a block has bytes
+pub block_bytes : (i : ℕ) (p : Plan) → 0 < length (block i p)
+block_bytes i p = omega arith

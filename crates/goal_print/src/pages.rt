@@ -1,0 +1,62 @@
+// The blocks of a canonical text, page by page.
+ghost use Rattle.std.specs.Prelude.{◌≡◌, ◌++◌, [], IfOk, OnErr};
+ghost use Rattle.goal_print.specs.Canonical.{blocks};
+
+use crate::print::put_rank;
+use goal_base::{NoMemory, TextOut};
+use goal_graph::Sched;
+use std::alloc::Global;
+use std::marker::Model;
+
+// A page ends with the rank whose block brings its operations to so many.
+const PAGE: usize = 1024;
+
+/// The blocks of the canonical text of a schedule, by rank, as far as they are still to come. Contracts see their text.
+#[derive(Drop)]
+pub struct Blocks<'a> {
+    sched: &'a Sched,
+    // of how many ranks the blocks have come
+    done: usize,
+}
+
+impl<'a> Model for Blocks<'a> {
+    ghost use Rattle.std.specs.Prelude.{ℕ, List};
+    ghost use Rattle.goal_print.specs.Canonical.{blocks_from};
+
+    ghost Value = { List ℕ };
+
+    ghost view = { λ b. blocks_from b.sched.now b.done };
+}
+
+impl<'a> Blocks<'a> {
+    /// The blocks of all ranks.
+    pub fn new(sched: &'a Sched) -> Blocks<'a>
+        ensures { result ≡ blocks 0 sched.now }
+    {
+        Blocks { sched, done: 0 }
+    }
+
+    /// The next page of blocks. It is empty where no block is left.
+    ///
+    /// # Errors
+    ///
+    /// Want of memory alone. The blocks are then still to come.
+    pub fn next_page(&mut self, alloc: Global) -> Result<Vec<u8>, NoMemory>
+        ensures page { IfOk result (λ page. self.old ≡ page.items ++ self.new) }
+        ensures end { IfOk result (λ page. page.items ≡ [] → self.old ≡ []) }
+        ensures same { OnErr result (self.new ≡ self.old) }
+    {
+        let plans = self.sched.plans();
+        let mut out = TextOut::new(alloc);
+        let mut rank = self.done;
+        let mut lines: usize = 0;
+        while rank < plans.len() && lines < PAGE {
+            let plan = &plans[rank];
+            put_rank(&mut out, rank as u64, plan)?;
+            lines = lines.saturating_add(plan.ops.len());
+            rank += 1;
+        }
+        self.done = rank;
+        Ok(out.into_bytes())
+    }
+}

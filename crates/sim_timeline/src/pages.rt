@@ -1,0 +1,86 @@
+// The lines of the operations, page by page.
+ghost use Rattle.std.specs.Prelude.{◌≡◌, ◌++◌, [], All, IfOk, OnErr};
+ghost use Rattle.std.specs.List.{flat_map};
+ghost use Rattle.goal_graph.specs.Schedule.{operations};
+ghost use Rattle.goal_graph.specs.Fault.{IsOp};
+ghost use Rattle.sim_timeline.specs.Timeline.{line_of};
+
+use crate::lines::put_operation;
+use goal_base::{NoMemory, TextOut};
+use goal_graph::OpId;
+use sim_events::Engine;
+use sim_params::Costs;
+use std::alloc::Global;
+use std::marker::Model;
+
+// So many lines a page has at most.
+const PAGE: usize = 1024;
+
+/// The lines of the operations, by rank and number, of an engine whose run is over, as far as they are still to come.
+/// Contracts see their text.
+///
+/// The line of an operation is `op R I calc start A end B`, `op R I send start A end B match Q J`, or the same with `recv`;
+/// times are in nanoseconds, and what is absent is a dash.
+#[derive(Drop)]
+pub struct Lines<'a, C: Costs> {
+    engine: Engine<'a, C>,
+    // of how many operations the lines have come
+    done: usize,
+}
+
+impl<'a, C: Costs> Model for Lines<'a, C> {
+    ghost use Rattle.std.specs.Prelude.{ℕ, List, ◌≤◌, length};
+    ghost use Rattle.goal_graph.specs.Schedule.{operations};
+    ghost use Rattle.sim_timeline.specs.Timeline.{lines_from};
+
+    ghost Value = { List ℕ };
+
+    ghost view = { λ l. lines_from l.engine.plans (C.model l.engine.costs) l.engine.history l.done };
+
+    ghost invariant = { λ l. l.done ≤ length (operations l.engine.plans) };
+}
+
+impl<'a, C: Costs> Lines<'a, C> {
+    /// The lines of all operations.
+    pub fn new(engine: Engine<'a, C>) -> Lines<'a, C>
+        ensures { result ≡ flat_map (line_of engine.entry.plans (C.model engine.entry.costs) engine.entry.history)
+            (operations engine.entry.plans) }
+    {
+        Lines { engine, done: 0 }
+    }
+
+    /// The next page of lines. It is empty where no line is left.
+    ///
+    /// # Errors
+    ///
+    /// Want of memory alone. The lines are then still to come.
+    pub fn next_page(&mut self, alloc: Global) -> Result<Vec<u8>, NoMemory>
+        ensures page { IfOk result (λ page. self.old ≡ page.items ++ self.new) }
+        ensures end { IfOk result (λ page. page.items ≡ [] → self.old ≡ []) }
+        ensures same { OnErr result (self.new ≡ self.old) }
+    {
+        let left = &self.engine.sched().operations()[self.done..];
+        let count = left.len().min(PAGE);
+        let page = page_of(alloc, &self.engine, &left[..count])?;
+        self.done += count;
+        Ok(page)
+    }
+}
+
+// The lines of these operations.
+fn page_of<C: Costs>(
+    alloc: Global,
+    engine: &Engine<'_, C>,
+    ids: &[OpId],
+) -> Result<Vec<u8>, NoMemory>
+    requires { All (IsOp engine.now.plans) ids.now }
+    ensures { IfOk result (λ page.
+        page.items ≡ flat_map (line_of engine.now.plans (C.model engine.now.costs) engine.now.history) ids.now) }
+{
+    let mut out = TextOut::new(alloc);
+    let sched = engine.sched();
+    for id in ids {
+        put_operation(&mut out, *id, sched.op(*id).kind, engine.record(*id))?;
+    }
+    Ok(out.into_bytes())
+}
