@@ -15,7 +15,7 @@ ghost use Rattle.goal_cli.specs.declared.answer.Refusal.{Refusal};
 
 use crate::answer::{Answer, Ending, Status};
 use crate::output::{Stop, output_of};
-use crate::pages::{Output, print_output};
+use crate::pages::{Output, let_go, print_output};
 use crate::refusal::refused_line;
 use crate::source::gather;
 use goal_base::{Host, IoFault, NoMemory, Sink, write_all, write_file};
@@ -132,7 +132,9 @@ fn carry_out_line<H: Host, W: Sink>(alloc: Global, line: &Line, host: &mut H, ou
         Err(Stop::NoMemory) => return Answer::NoMemory,
     };
     let ending = output.ending;
-    match put(alloc, line, host, out, &mut output) {
+    let written = put(alloc, line, host, out, &mut output);
+    let_go(output);
+    match written {
         Ok(()) => Answer::Written(ending),
         Err(IoFault::Failed) => Answer::WriteFault,
         Err(IoFault::NoMemory) => Answer::NoMemory,

@@ -72,6 +72,11 @@ impl<'a> Pages<'a> {
     }
 }
 
+// Gives back the memory of an output. A function of its own keeps what goes here out of the proofs of its callers.
+pub fn let_go(output: Output<'_>) {
+    let _output = output;
+}
+
 // Writes bytes to a sink.
 fn print<W: Sink>(out: &mut W, bytes: &[u8]) -> Result<(), IoFault>
     ensures whole { OnOk result (Grows (W.state out.old) (W.state out.new) bytes.now) }

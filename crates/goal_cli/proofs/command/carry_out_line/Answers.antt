@@ -9,7 +9,7 @@ use Rattle.goal_cli.proofs.command.carry_out_line.Goals as goal
 pub returns-in-Err-Failed-clause-cause : goal.returns-in-Err-Failed-clause-cause
 returns-in-Err-Failed-clause-cause g c =
     let read = g.H.Host.state c.gather.new.host in
-    let new = devices (g.H.Host.state c.put.new.host) (g.W.Sink.state c.put.new.out) in (
+    let new = devices (g.H.Host.state c.put-written.new.host) (g.W.Sink.state c.put-written.new.out) in (
       cut_off_from (g.H.Host.state c.args.host.now) read (g.W.Sink.state c.args.out.now) new c.gather.ensures.kept
           c.gather.ensures.later (command c.args.line.now)
           c.in-Ok.work.sched c.in-Ok.work.machine.items (text_of c.in-Ok-output_of.output) c.in-Ok-output_of.output.ending (search rules) (search rules)
@@ -21,25 +21,25 @@ returns-in-Err-Failed-clause-cause g c =
 pub returns-clause-cause : goal.returns-clause-cause
 returns-clause-cause g c =
     inr (cut_off_from (g.H.Host.state c.args.host.now) (g.H.Host.state c.gather.new.host) (g.W.Sink.state c.args.out.now)
-    (devices (g.H.Host.state c.put.new.host) (g.W.Sink.state c.put.new.out)) c.gather.ensures.kept
+    (devices (g.H.Host.state c.put-written.new.host) (g.W.Sink.state c.put-written.new.out)) c.gather.ensures.kept
     c.gather.ensures.later (command c.args.line.now)
     c.in-Ok.work.sched c.in-Ok.work.machine.items (text_of c.in-Ok-output_of.output) c.in-Ok-output_of.output.ending (search rules) (search rules)
     (search rules) (search rules) (search rules) (search rules))
 
-pub returns-in-Ok-put-clause-taken : goal.returns-in-Ok-put-clause-taken
-returns-in-Ok-put-clause-taken g c =
-    taken_still (input_of (command c.args.line.now)) (machine_of (command c.args.line.now)) (g.H.Host.state c.args.host.now) (g.H.Host.state c.gather.new.host) (g.H.Host.state c.put.new.host)
-    c.gather.ensures.later c.gather.ensures.taken c.put.ensures.kept
+pub returns-in-Ok-written-clause-taken : goal.returns-in-Ok-written-clause-taken
+returns-in-Ok-written-clause-taken g c =
+    taken_still (input_of (command c.args.line.now)) (machine_of (command c.args.line.now)) (g.H.Host.state c.args.host.now) (g.H.Host.state c.gather.new.host) (g.H.Host.state c.put-written.new.host)
+    c.gather.ensures.later c.gather.ensures.taken c.put-written.ensures.kept
 
 pub returns-in-Err-Failed-clause-taken : goal.returns-in-Err-Failed-clause-taken
 returns-in-Err-Failed-clause-taken g c =
-    taken_still (input_of (command c.args.line.now)) (machine_of (command c.args.line.now)) (g.H.Host.state c.args.host.now) (g.H.Host.state c.gather.new.host) (g.H.Host.state c.put.new.host)
-    c.gather.ensures.later c.gather.ensures.taken c.put.ensures.kept
+    taken_still (input_of (command c.args.line.now)) (machine_of (command c.args.line.now)) (g.H.Host.state c.args.host.now) (g.H.Host.state c.gather.new.host) (g.H.Host.state c.put-written.new.host)
+    c.gather.ensures.later c.gather.ensures.taken c.put-written.ensures.kept
 
 pub returns-clause-taken : goal.returns-clause-taken
 returns-clause-taken g c =
-    taken_still (input_of (command c.args.line.now)) (machine_of (command c.args.line.now)) (g.H.Host.state c.args.host.now) (g.H.Host.state c.gather.new.host) (g.H.Host.state c.put.new.host)
-    c.gather.ensures.later c.gather.ensures.taken c.put.ensures.kept
+    taken_still (input_of (command c.args.line.now)) (machine_of (command c.args.line.now)) (g.H.Host.state c.args.host.now) (g.H.Host.state c.gather.new.host) (g.H.Host.state c.put-written.new.host)
+    c.gather.ensures.later c.gather.ensures.taken c.put-written.ensures.kept
 
 pub returns-in-Err-Refused-clause-cause : goal.returns-in-Err-Refused-clause-cause
 returns-in-Err-Refused-clause-cause g c =
@@ -50,10 +50,10 @@ returns-in-Err-Refused-clause-cause g c =
       search rules,
     )
 
-pub returns-in-Ok-put-clause-cause : goal.returns-in-Ok-put-clause-cause
-returns-in-Ok-put-clause-cause g c =
+pub returns-in-Ok-written-clause-cause : goal.returns-in-Ok-written-clause-cause
+returns-in-Ok-written-clause-cause g c =
     written_from (g.H.Host.state c.args.host.now) (g.H.Host.state c.gather.new.host) (g.W.Sink.state c.args.out.now)
-    (devices (g.H.Host.state c.put.new.host) (g.W.Sink.state c.put.new.out)) c.gather.ensures.kept
+    (devices (g.H.Host.state c.put-written.new.host) (g.W.Sink.state c.put-written.new.out)) c.gather.ensures.kept
     c.gather.ensures.later (command c.args.line.now)
     c.in-Ok.work.sched c.in-Ok.work.machine.items (text_of c.in-Ok-output_of.output) c.in-Ok-output_of.output.ending (search rules) (search rules)
     (search rules) (search rules) (search rules) (search rules) (search rules) (search rules)
