@@ -1,5 +1,5 @@
 -- A queue with floors in which no slot has a key.
-use Rattle.std.proofs.Common.{◌≡◌, ◌⊎◌, ◌<◌, ◌≤◌, ℕ, All, List, length, replicate, slice_index_or, Option, None, refl, sym, ap, ◌∙◌, subst, arith, inl, inr}
+use Rattle.std.proofs.Common.{◌≡◌, ◌⊎◌, ◌<◌, ◌≤◌, ◌^◌, ℕ, All, List, length, replicate, slice_index_or, Option, None, refl, sym, ap, ◌∙◌, subst, arith, inl, inr}
 use Rattle.std.proofs.lemmas.Bool.{cases_lt}
 use Rattle.std.proofs.lemmas.List.{length-replicate, get_or-replicate, get_or_past}
 use Rattle.std.proofs.lemmas.List.Elements.{All-get_or}
@@ -22,7 +22,7 @@ nowhere count slot = go (cases_lt slot count)
     go (inr l) =
         get_or_past (replicate count Nowhere) slot Nowhere (omega (arith, l, length-replicate {A = Stand} count Nowhere))
 
-module _ (numbers : List ℕ) (groups : ℕ) (within : All (λ g. g < groups) numbers) where
+module _ (numbers : List ℕ) (groups : ℕ) (within : All (λ g. g < groups) numbers) (few : groups < 2 ^ 32) where
   abbrev none : List (Option Timed)
   none = replicate (length numbers) None
 
@@ -44,6 +44,7 @@ module _ (numbers : List ℕ) (groups : ℕ) (within : All (λ g. g < groups) nu
         let l : slot < length numbers = slice_get_within numbers slot g e in
         let is = get_or_from_slice_get numbers slot g 0 e in
         omega (arith, All-get_or (λ x. x < groups) numbers slot 0 l within, is, length-replicate {A = Option Timed} groups None);
+    few = omega (arith, few, length-replicate {A = Option Timed} groups None);
     apart = λ slot k e. none_of (length numbers) slot;
     waits = λ slot k e. absurd (no_key k (sym (none_of (length numbers) slot) ∙ e));
     headed = λ g. subst (IsHead idle g) (sym (none_of groups g)) (λ slot e. none_of (length numbers) slot);

@@ -269,3 +269,10 @@ module _ (ahead : List (Option Timed)) (waiting : Grouped Timed) (heads : List (
 pub slot_within : (ahead : List (Option Timed)) (waiting : Grouped Timed) (heads : List (Option Timed)) → IsFloored ahead waiting heads → (now : Grouped Timed) → seen_queue ahead waiting heads ≡ now → (slot : ℕ) → slot < length now.keys → slot < length waiting.keys
 slot_within ahead waiting heads floored now view slot l =
     omega (arith, l, ap (λ (q : Grouped Timed). length q.keys) view, seen_long ahead waiting heads floored)
+
+-- a queue with floors is seen with as many slots as it has
+pub slots_seen :
+    {ahead heads : List (Option Timed)} {waiting now : Grouped Timed}
+    → IsFloored ahead waiting heads → seen_queue ahead waiting heads ≡ now → length now.keys ≡ length waiting.keys
+slots_seen {ahead = ahead} {heads = heads} {waiting = waiting} {now = now} floored view =
+    sym (ap (λ (q : Grouped Timed). length q.keys) view) ∙ seen_long ahead waiting heads floored

@@ -106,6 +106,7 @@ module _ (ahead : List (Option Timed)) (waiting : Grouped Timed) (heads : List (
       within =
           λ other g e.
           omega (arith, floored.within other g (old_member other g e), ap length renewed.put, length-set heads group renewed.head);
+      few = omega (arith, floored.few, ap length renewed.put, length-set heads group renewed.head);
       apart = λ other k e. apart_now other k e (cases_eq other slot);
       waits = λ other k e. waits_now other k e (cases_eq other slot);
       headed = heads_now;
@@ -188,6 +189,7 @@ module _ (ahead : List (Option Timed)) (waiting : Grouped Timed) (heads : List (
       each = length-set ahead slot value ∙ floored.each;
       grouped = floored.grouped;
       within = floored.within;
+      few = floored.few;
       apart = λ other k e. apart_now other k e (cases_eq other slot);
       waits = floored.waits;
       headed = floored.headed;

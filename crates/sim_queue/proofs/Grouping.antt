@@ -111,6 +111,7 @@ module _ {K : Type 0} (homes : List Home) (heaps : List (List (Option K))) (hous
       few = housed.few;
       group_in = λ s h e. rw (length-set heaps home.group new) (housed.group_in s h e);
       place_in = λ s h e. rw (lengths h.group) (housed.place_in s h e);
+      sized = λ group. rw (lengths group) (housed.sized group);
       apart = housed.apart;
       inhabited = λ group place key e. inside group place key e (cases_eq group home.group) (cases_eq place home.place);
     }

@@ -1,7 +1,8 @@
 -- How homes are given out, and groups in which no slot has a key.
-use Rattle.std.proofs.Common.{◌≡◌, ◌≢◌, ◌⊎◌, ◌+◌, ◌<◌, ◌≤◌, ◌^◌, ℕ, List, [], ◌∷◌, ◌++◌, length, map, set, get_or, slice_get, slice_index, replicate, Option, Some, None, refl, sym, ap, ◌∙◌, arith, inl, inr}
+use Rattle.std.proofs.Common.{◌≡◌, ◌≢◌, ◌⊎◌, ◌+◌, ◌<◌, ◌≤◌, ◌^◌, ℕ, All, List, [], ◌∷◌, ◌++◌, length, map, set, get_or, slice_get, slice_index, replicate, Option, Some, None, refl, sym, ap, ◌∙◌, arith, inl, inr}
 use Rattle.std.proofs.lemmas.Bool.{cases_eq, cases_lt}
 use Rattle.std.proofs.lemmas.List.{get_or-set_same, get_or-set_other, length-set, length-append, length-map, map-append, get_or-map, get_or_past, get_or_append_left, get_or-replicate, length-replicate}
+use Rattle.std.proofs.lemmas.List.Elements.{All-get_or}
 use Rattle.std.proofs.lemmas.Option.{slice_get-get_or, slice_get_within, get_or_from_slice_get}
 use Rattle.std.proofs.Math.Seq.{get_or-append_seam}
 use Rattle.sim_queue.specs.declared.groups.Home.{Home}
@@ -108,26 +109,38 @@ module _ {K : Type 0} where
     heap_empty : (group : ℕ) → group < length counts → heap_at (map (no_keys {K = K}) counts) group ≡ no_keys {K = K} (slice_index counts group)
     heap_empty group l = get_or-map (no_keys {K = K}) counts group 0 [] l
 
+    heap_past : (group : ℕ) → length counts ≤ group → heap_at (map (no_keys {K = K}) counts) group ≡ []
+    heap_past group l =
+        get_or_past (map (no_keys {K = K}) counts) group [] (omega (arith, l, length-map counts (no_keys {K = K})))
+
     pub none_at : (group place : ℕ) → key_at (heap_at (map (no_keys {K = K}) counts) group) place ≡ None
     none_at group place = go (cases_lt group (length counts))
       where
         go : (group < length counts) ⊎ (length counts ≤ group) → key_at (heap_at (map (no_keys {K = K}) counts) group) place ≡ None
         go (inl l) = ap (λ h. key_at h place) (heap_empty group l) ∙ none_of (slice_index counts group) place
-        go (inr l) =
-            let past : heap_at (map (no_keys {K = K}) counts) group ≡ [] = get_or_past (map (no_keys {K = K}) counts) group [] (omega (arith, l, length-map counts (no_keys {K = K}))) in
-            ap (λ h. key_at h place) past ∙ get_or_past [] place None (omega arith)
+        go (inr l) = ap (λ h. key_at h place) (heap_past group l) ∙ get_or_past [] place None (omega arith)
 
-    pub empty_housed : length homes < 2 ^ 32 → IsHoused homes (map (no_keys {K = K}) counts)
-    empty_housed few = record {
+    pub empty_housed :
+        length homes < 2 ^ 32 → All (λ count. count ≤ length homes) counts → IsHoused homes (map (no_keys {K = K}) counts)
+    empty_housed few sized = record {
       few = few;
       group_in = λ slot home e. rw (length-map counts (no_keys {K = K})) (given.group_in slot home e);
       place_in = λ slot home e. rw (heap_empty home.group (given.group_in slot home e), length-replicate {A = Option K} (slice_index counts home.group) None) (given.place_in slot home e);
+      sized = λ group. size_of group (cases_lt group (length counts));
       apart = given.apart;
       inhabited = λ group place key e. absurd (none_some key (sym (none_at group place) ∙ e));
     }
       where
         none_some : (key : K) → None ≡ Some key → ⊥
         none_some key e = absurd (cc)
+
+        size_of :
+            (group : ℕ) → (group < length counts) ⊎ (length counts ≤ group)
+            → length (heap_at (map (no_keys {K = K}) counts) group) ≤ length homes
+        size_of group (inl l) =
+            let count = All-get_or (λ count. count ≤ length homes) counts group 0 l sized in
+            rw (heap_empty group l, length-replicate {A = Option K} (slice_index counts group) None) count
+        size_of group (inr l) = rw (heap_past group l) (omega arith)
 
     pub empty_grouped : grouped homes (map (no_keys {K = K}) counts) ≡ record { keys = replicate (length numbers) None; groups = numbers }
     empty_grouped i = record { keys = keys_are i; groups = given.groups i }

@@ -2,8 +2,8 @@
 use Rattle.std.proofs.Common.{◌≡◌, ◌≢◌, ◌⊎◌, ◌+◌, ◌-◌, ◌<◌, ◌≤◌, ◌^◌, ℕ, zero, suc, All, Bool, false, List, [], ◌∷◌, ◌++◌, length, map, set, take, sum, get_or, slice_get, slice_index, replicate, Option, Some, None, refl, sym, ap, ◌∙◌, subst, arith, inl, inr, length-append}
 use Rattle.std.proofs.lemmas.Bool.{cases_eq, cases_lt}
 use Rattle.std.proofs.lemmas.List.{get_or-set_same, get_or-set_other, length-set, length-map, get_or-map, get_or_past, get_or_append_left, get_or-append-add, get_or_push, length-replicate, map-append, take_more}
-use Rattle.std.proofs.lemmas.List.Elements.{All-get_or}
-use Rattle.std.proofs.lemmas.List.Sums.{sum_by-cons, sum-map}
+use Rattle.std.proofs.lemmas.List.Elements.{All-get_or, All-from_get_or}
+use Rattle.std.proofs.lemmas.List.Sums.{sum_by-cons, sum-map, get_or-le-sum_by}
 use Rattle.std.specs.Option.{option_map}
 use Rattle.std.proofs.lemmas.Option.{slice_get-get_or, slice_get_within, get_or_from_slice_get, slice_get-map, same_Some}
 use Rattle.goal_graph.specs.declared.action.OpId.{OpId}
@@ -120,8 +120,18 @@ starts_more sizes starts new i next each is old e rank l =
 
 -- homes of all operations, and a queue in which none has a key
 module _ (plans : List Plan) (homes : List Home) (are : homes ≡ map home_of (operations plans)) where
+  homes_in_all : length homes ≡ sum (map size_of plans)
+  homes_in_all = omega (arith, ap length are, length-map (operations plans) home_of, length-places 0 plans)
+
   pub few_homes : sum (map size_of plans) < 2 ^ 32 → length homes < 2 ^ 32
-  few_homes few = omega (arith, few, ap length are, length-map (operations plans) home_of, length-places 0 plans)
+  few_homes few = omega (arith, few, homes_in_all)
+
+  -- no rank has more operations than there are
+  sizes_in_all : All (λ size. size ≤ length homes) (map size_of plans)
+  sizes_in_all = All-from_get_or (λ size. size ≤ length homes) (map size_of plans) 0 each
+    where
+      each : (rank : ℕ) → rank < length (map size_of plans) → slice_index (map size_of plans) rank ≤ length homes
+      each rank l = omega (arith, get_or-le-sum_by (λ n. n) (map size_of plans) rank 0 l, homes_in_all)
 
   placed : (slot : ℕ) (home : Home) → slice_get homes slot ≡ Some home → IsPlaced plans 0 slot (place home.group home.place)
   placed slot home e = go (slice_get (operations plans) slot) refl
@@ -170,7 +180,7 @@ module _ (plans : List Plan) (homes : List Home) (are : homes ≡ map home_of (o
 
     none_ranked : IsRanked before homes starts empty no_heads
     none_ranked = record {
-      housed = empty_housed (map group_of_home homes) homes (map size_of plans) are_homes few;
+      housed = empty_housed (map group_of_home homes) homes (map size_of plans) are_homes few sizes_in_all;
       started = each ∙ sym many;
       each = length-replicate {A = Option K} (length (map size_of plans)) None ∙ sym many;
       found =

@@ -1,6 +1,6 @@
 -- A queue with floors. The slots of a group wait for the same thing, so that none of their events is before the moment at
 -- which it is free. Such a moment is the floor of the group: keys that are at the floor are raised together with it.
-use Rattle.std.specs.Prelude.{◌≡◌, ◌⊎◌, ◌<◌, ◌≤◌, ℕ, Bool, true, false, List, [], ◌∷◌, Option, Some, None, length, slice_get, slice_index_or, slice_set}
+use Rattle.std.specs.Prelude.{◌≡◌, ◌⊎◌, ◌<◌, ◌≤◌, ◌^◌, ℕ, Bool, true, false, List, [], ◌∷◌, Option, Some, None, length, slice_get, slice_index_or, slice_set}
 use Rattle.std.specs.Option.{option_map}
 use Rattle.goal_graph.specs.declared.action.Timed.{Timed}
 use Rattle.goal_graph.specs.declared.action.Class.{Class}
@@ -69,6 +69,7 @@ pub record IsFloored (ahead : List (Option Timed)) (waiting : Grouped Timed) (he
   pub each : length ahead ≡ length waiting.keys
   pub grouped : length waiting.groups ≡ length waiting.keys
   pub within : (slot group : ℕ) → slice_get waiting.groups slot ≡ Some group → group < length heads
+  pub few : length heads < 2 ^ 32
   pub apart : (slot : ℕ) (k : Timed) → key_at ahead slot ≡ Some k → key_at waiting.keys slot ≡ None
   pub waits : (slot : ℕ) (k : Timed) → key_at waiting.keys slot ≡ Some k → (k.time ≡ 0) × (waits_for_room k.class ≡ true)
   pub headed : (group : ℕ) → IsHead waiting group (key_at heads group)

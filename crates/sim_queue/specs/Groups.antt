@@ -1,5 +1,5 @@
 -- Slots in groups, each of which knows its least key.
-use Rattle.std.specs.Prelude.{◌≡◌, ◌⊎◌, ◌<◌, ◌^◌, ℕ, Bool, true, false, List, [], Option, Some, None, length, map, replicate, slice_get, slice_index, slice_index_or}
+use Rattle.std.specs.Prelude.{◌≡◌, ◌⊎◌, ◌<◌, ◌≤◌, ◌^◌, ℕ, Bool, true, false, List, [], Option, Some, None, length, map, replicate, slice_get, slice_index, slice_index_or}
 use Rattle.sim_queue.specs.declared.groups.Home.{Home}
 use Rattle.sim_queue.specs.Map.{key_at}
 
@@ -55,11 +55,13 @@ module _ {K : Type 0} where
   abbrev pub grouped : List Home → List (List (Option K)) → Grouped K
   grouped homes heaps = record { keys = map (key_of_home heaps) homes; groups = map group_of_home homes }
 
-  -- each slot has a home of its own in the heap of its group, and each key is at the home of a slot
+  -- Each slot has a home of its own in the heap of its group, and each key is at the home of a slot. No heap has more slots
+  -- than there are.
   pub record IsHoused (homes : List Home) (heaps : List (List (Option K))) : Type 0 where
     pub few : length homes < 2 ^ 32
     pub group_in : (slot : ℕ) (home : Home) → slice_get homes slot ≡ Some home → home.group < length heaps
     pub place_in : (slot : ℕ) (home : Home) → slice_get homes slot ≡ Some home → home.place < length (heap_at heaps home.group)
+    pub sized : (group : ℕ) → length (heap_at heaps group) ≤ length homes
     pub apart : (slot other : ℕ) (home : Home) → slice_get homes slot ≡ Some home → slice_get homes other ≡ Some home → slot ≡ other
     pub inhabited :
         (group place : ℕ) (key : K)

@@ -1,5 +1,5 @@
 // A queue with floors.
-ghost use Rattle.std.specs.Prelude.{◌≡◌, ◌<◌, ◌≤◌, ℕ, All, IfOk, IfSome, IsNone, ◌↔◌, true, Some, None, is_some, length, replicate, slice_get, slice_set};
+ghost use Rattle.std.specs.Prelude.{◌≡◌, ◌+◌, ◌*◌, ◌^◌, ◌<◌, ◌≤◌, ℕ, All, IfOk, IfSome, IsNone, ◌↔◌, true, Some, None, is_some, length, replicate, slice_get, slice_set};
 ghost use Rattle.goal_base.specs.declared.limits.TheConstants.{MAX_OPS};
 ghost use Rattle.goal_graph.specs.declared.action.Timed.{Timed};
 ghost use Rattle.sim_order.specs.Events.{event_before};
@@ -56,6 +56,7 @@ fn first_ahead(ahead: &TopHeap) -> Option<CompactKey>
 fn first_head<L: Ledger>(heads: &SlotHeap<CompactKey>, steps: &mut Steps<L>) -> Option<CompactKey>
     ensures none { IsNone result ↔ IsEmptyMap heads.now }
     ensures least { IfSome result (λ key. (group : ℕ) × IsLeast event_before heads.now group key) }
+    ensures counted { steps.new ≡ steps.old }
 {
     let (_, key) = heads.least(steps)?;
     Some(key)
@@ -92,7 +93,9 @@ fn renew<L: Ledger>(
 )
     requires exists { group < length heads.old }
     requires at_zero { (slot : ℕ) (k : Timed) → key_at waiting.now.keys slot ≡ Some k → k.time ≡ 0 }
-    ensures { IsRenewed waiting.now heads.old heads.new group floor }
+    ensures renewed { IsRenewed waiting.now heads.old heads.new group floor }
+    ensures counted { (j : ℕ) → length heads.old ≤ 2 ^ j → steps.new ≤ steps.old + (2 * j + 1) }
+    ensures onward { steps.old ≤ steps.new }
 {
     match waiting.least_of(group) {
         Some(key) => heads.put(group, key.at(floor), steps),
@@ -116,6 +119,9 @@ fn leave<L: Ledger>(
     ensures gone { key_at waiting.new.keys slot ≡ None }
     ensures seen { seen_keys heads.new ahead.now waiting.new.keys waiting.new.groups
         ≡ slice_set (seen_keys heads.old ahead.now waiting.old.keys waiting.old.groups) slot None }
+    ensures counted { (k j : ℕ) → length waiting.old.keys ≤ 2 ^ k → length heads.old ≤ 2 ^ j
+        → steps.new ≤ steps.old + (2 * k + 2 * j + 2) }
+    ensures onward { steps.old ≤ steps.new }
 {
     let group = waiting.group(slot);
     let floor = floor(heads, group);
@@ -143,6 +149,9 @@ fn join<L: Ledger>(
     ensures waits { key_at waiting.new.keys slot ≡ Some (at_time 0 key) }
     ensures seen { seen_keys heads.new ahead.now waiting.new.keys waiting.new.groups
         ≡ slice_set (seen_keys heads.old ahead.now waiting.old.keys waiting.old.groups) slot (Some key) }
+    ensures counted { (k j : ℕ) → length waiting.old.keys ≤ 2 ^ k → length heads.old ≤ 2 ^ j
+        → steps.new ≤ steps.old + (2 * k + 2 * j + 2) }
+    ensures onward { steps.old ≤ steps.new }
 {
     let group = waiting.group(slot);
     let floor = floor(heads, group);
@@ -171,6 +180,9 @@ fn park<L: Ledger>(
     ensures gone { key_at ahead.new slot ≡ None }
     ensures waits { key_at waiting.new.keys slot ≡ Some (at_time 0 key) }
     ensures lifted { IsLifted waiting.old.groups (seen_keys heads.old ahead.old waiting.old.keys waiting.old.groups) (seen_keys heads.new ahead.new waiting.new.keys waiting.new.groups) slot time }
+    ensures counted { (k j : ℕ) → length waiting.old.keys ≤ 2 ^ k → length heads.old ≤ 2 ^ j
+        → steps.new ≤ steps.old + (4 * k + 2 * j + 3) }
+    ensures onward { steps.old ≤ steps.new }
 {
     let group = waiting.group(slot);
     ahead.take(slot, Arrivals::Mixed, steps);
@@ -180,7 +192,8 @@ fn park<L: Ledger>(
 
 /// A map from slots to the keys of events, whose slots are in groups. The slots of a group wait for the same thing, so
 /// that the keys of all that are at their time already are raised together: a call of `lift` changes a few keys of heaps
-/// however many slots wait.
+/// however many slots wait. With at most 2^k slots a lift compares 4k + 67 times at most, and a put or a take 2k + 66
+/// times: 65 of them among the groups, of which there are fewer than 2^32.
 #[derive(Drop)]
 pub struct FloorQueue {
     // keys that stand for themselves
@@ -233,7 +246,9 @@ impl FloorQueue {
     pub fn put<L: Ledger>(&mut self, slot: u32, key: CompactKey, steps: &mut Steps<L>)
         requires slot_in { slot < length self.old.keys }
         requires free { key_at self.old.keys slot ≡ None }
-        ensures { self.new ≡ record self.old { keys = slice_set self.old.keys slot (Some key) } }
+        ensures put { self.new ≡ record self.old { keys = slice_set self.old.keys slot (Some key) } }
+        ensures counted { (k : ℕ) → length self.old.keys ≤ 2 ^ k → steps.new ≤ steps.old + (2 * k + 66) }
+        ensures onward { steps.old ≤ steps.new }
     {
         let group = self.waiting.group(slot);
         if !waits_for_room(key.class()) || floor(&self.heads, group) != key.time() {
@@ -255,7 +270,9 @@ impl FloorQueue {
     /// Takes out the key of a slot that is before that of each other slot.
     pub fn take<L: Ledger>(&mut self, slot: u32, steps: &mut Steps<L>)
         requires { IsSoleLeast event_before self.old.keys slot }
-        ensures { self.new ≡ record self.old { keys = slice_set self.old.keys slot None } }
+        ensures taken { self.new ≡ record self.old { keys = slice_set self.old.keys slot None } }
+        ensures counted { (k : ℕ) → length self.old.keys ≤ 2 ^ k → steps.new ≤ steps.old + (2 * k + 66) }
+        ensures onward { steps.old ≤ steps.new }
     {
         let waits = is_waiting(self.stands[slot as usize]);
         self.stands[slot as usize] = Stand::Nowhere;
@@ -273,6 +290,8 @@ impl FloorQueue {
         requires least { IsSoleLeast event_before self.old.keys slot }
         ensures lifted { IsLifted self.old.groups self.old.keys self.new.keys slot time }
         ensures groups { self.new.groups ≡ self.old.groups }
+        ensures counted { (k : ℕ) → length self.old.keys ≤ 2 ^ k → steps.new ≤ steps.old + (4 * k + 67) }
+        ensures onward { steps.old ≤ steps.new }
     {
         let group = self.waiting.group(slot);
         if is_waiting(self.stands[slot as usize]) {
@@ -304,6 +323,9 @@ impl FloorQueue {
     pub fn least<L: Ledger>(&self, steps: &mut Steps<L>) -> Option<CompactKey>
         ensures none { IsNone result ↔ IsEmptyMap self.now.keys }
         ensures least { IfSome result (λ key. (slot : ℕ) × IsLeast event_before self.now.keys slot key) }
+        ensures counted { steps.new ≤ steps.old + 1 }
+        ensures none_compared { IsNone result → steps.new ≡ steps.old }
+        ensures onward { steps.old ≤ steps.new }
     {
         let Some(key) = first_ahead(&self.ahead) else {
             return first_head(&self.heads, steps);

@@ -1,5 +1,5 @@
 // Slots in groups.
-ghost use Rattle.std.specs.Prelude.{◌≡◌, ◌<◌, ◌≤◌, All, IfOk, IfSome, IsNone, OnOk, Some, None, length, map, replicate, slice_get, slice_set};
+ghost use Rattle.std.specs.Prelude.{◌≡◌, ◌+◌, ◌*◌, ◌^◌, ◌<◌, ◌≤◌, ℕ, All, IfOk, IfSome, IsNone, OnOk, Some, None, length, map, replicate, slice_get, slice_set};
 ghost use Rattle.goal_base.specs.declared.limits.TheConstants.{MAX_OPS};
 ghost use Rattle.sim_order.specs.Events.{event_before};
 ghost use Rattle.sim_queue.specs.Map.{key_at};
@@ -19,7 +19,8 @@ pub struct Home {
     pub place: u32,
 }
 
-/// A finite map from slots to keys, whose slots are in groups. The least key of a group is asked for.
+/// A finite map from slots to keys, whose slots are in groups. The least key of a group is asked for. With at most 2^k
+/// slots a put or a take compares 2k + 1 times at most, and asking for the least compares nothing.
 #[derive(Drop)]
 pub struct Groups {
     homes: Vec<Home>,
@@ -44,7 +45,7 @@ fn homes(alloc: Global, numbers: &[u32], counts: &mut [u32]) -> Result<Vec<Home>
     requires zero { All (λ count. count ≡ 0) counts.old }
     requires few { length numbers.now ≤ MAX_OPS }
     ensures homes { IfOk result (λ homes. AreHomes numbers.now homes.items counts.new) }
-    ensures few { OnOk result (All (λ count. count ≤ MAX_OPS) counts.new) }
+    ensures few { OnOk result (All (λ count. count ≤ length numbers.now) counts.new) }
 {
     let mut homes = Vec::with_capacity(alloc, numbers.len())?;
     'slots: for number in numbers {
@@ -94,7 +95,9 @@ impl Groups {
     pub fn put<L: Ledger>(&mut self, slot: u32, key: CompactKey, steps: &mut Steps<L>)
         requires slot_in { slot < length self.old.keys }
         requires free { key_at self.old.keys slot ≡ None }
-        ensures { self.new ≡ record self.old { keys = slice_set self.old.keys slot (Some key) } }
+        ensures put { self.new ≡ record self.old { keys = slice_set self.old.keys slot (Some key) } }
+        ensures counted { (k : ℕ) → length self.old.keys ≤ 2 ^ k → steps.new ≤ steps.old + (2 * k + 1) }
+        ensures onward { steps.old ≤ steps.new }
     {
         let home = self.homes[slot as usize];
         self.heaps[home.group as usize].put(home.place, key, steps);
@@ -103,7 +106,9 @@ impl Groups {
     /// Takes out the key of a slot that is before that of each other slot of its group.
     pub fn take<L: Ledger>(&mut self, slot: u32, steps: &mut Steps<L>)
         requires { IsSoleLeastOf event_before self.old slot }
-        ensures { self.new ≡ record self.old { keys = slice_set self.old.keys slot None } }
+        ensures taken { self.new ≡ record self.old { keys = slice_set self.old.keys slot None } }
+        ensures counted { (k : ℕ) → length self.old.keys ≤ 2 ^ k → steps.new ≤ steps.old + (2 * k + 1) }
+        ensures onward { steps.old ≤ steps.new }
     {
         let home = self.homes[slot as usize];
         self.heaps[home.group as usize].take(home.place, Arrivals::InOrder, steps);

@@ -2,7 +2,6 @@ use Rattle.std.proofs.Common.{◌≡◌, ◌⊎◌, ◌<◌, ◌≤◌, ℕ, ◌
 use Rattle.std.proofs.lemmas.Bool.{cases_lt}
 use Rattle.std.proofs.lemmas.List.{take_more, take_all, get_or_past}
 use Rattle.std.proofs.lemmas.List.Elements.{All-get_or, All-from_get_or}
-use Rattle.goal_base.specs.declared.limits.TheConstants.{MAX_OPS}
 use Rattle.sim_queue.specs.declared.groups.Home.{Home}
 use Rattle.sim_queue.specs.Groups.{AreHomes}
 use Rattle.sim_queue.proofs.Homes.{no_homes, home_given, counted, counted_within}
@@ -37,7 +36,7 @@ slots-preserved c =
 
 pub returns-clause-few : goal.returns-clause-few
 returns-clause-few c =
-    All-from_get_or (λ n. n ≤ MAX_OPS) c.slots.counts 0 (λ group h. omega (arith, c.slots.invariant.few group, c.slots.auto.number-index-end, c.requires.few))
+    All-from_get_or (λ n. n ≤ length c.args.numbers.now) c.slots.counts 0 (λ group h. omega (arith, c.slots.invariant.few group, c.slots.auto.number-index-end))
 
 pub returns-clause-homes : goal.returns-clause-homes
 returns-clause-homes c =

@@ -1,4 +1,4 @@
-use Rattle.std.proofs.Common.{◌≡◌, ◌≤◌, length, set, Some, None, true, is_some, sym, ap, ◌∙◌, subst, arith}
+use Rattle.std.proofs.Common.{◌≡◌, ◌≤◌, ◌^◌, length, set, Some, None, true, is_some, sym, ap, ◌∙◌, subst, arith}
 use Rattle.std.proofs.lemmas.List.{length-set, set-set}
 use Rattle.std.proofs.lemmas.Option.{same_Some}
 use Rattle.goal_graph.specs.declared.action.Timed.{Timed}
@@ -8,7 +8,7 @@ use Rattle.sim_queue.specs.Map.{key_at, IsSoleLeast}
 use Rattle.sim_queue.specs.Groups.{Grouped}
 use Rattle.sim_queue.specs.Floors.{waits_for_room, at_time, floor_of, seen_keys, stand_of, IsLifted}
 use Rattle.sim_queue.proofs.Maps.{key_within, least_is_sole}
-use Rattle.sim_queue.proofs.FloorSteps.{no_key, slot_within, step_none, at_the_floor, up_floored, up_lifted, lifted_alone, written_floored, written_seen, written_here, written_step}
+use Rattle.sim_queue.proofs.FloorSteps.{no_key, slot_within, slots_seen, step_none, at_the_floor, up_floored, up_lifted, lifted_alone, written_floored, written_seen, written_here, written_step}
 use Rattle.sim_queue.proofs.FloorStands.{read_waiting, read_ahead, sole_ahead, stands_step, stands_same}
 use Rattle.sim_queue.proofs.floor_queue.FloorQueue.lift.Goals as goal
 
@@ -35,7 +35,7 @@ invariant_of-self g c =
     let idle = read_waiting c.self.inside.ahead c.self.inside.waiting c.self.inside.heads c.self.invariant.0 c.self.inside.stands.items c.self.invariant.1 c.args.slot c.index.result.now c.index.ensures c.requires.late.key had c.is_waiting.result c.is_waiting.ensures c.if-is_waiting.true in
     let floor = at_the_floor ahead waiting heads c.self.invariant.0 slot c.group-group.result c.group-group.ensures idle c.requires.late.key had in
     let later : floor_of (key_at heads c.group-group.result) ≤ c.args.time = omega (arith, ap (λ (k : Timed). k.time) floor.2, c.requires.late.before) in (
-      up_floored ahead waiting heads c.self.invariant.0 slot c.group-group.result c.group-group.ensures c.args.time later ahead waiting c.renew.new.heads (step_none ahead waiting heads c.self.invariant.0 slot) c.renew.ensures,
+      up_floored ahead waiting heads c.self.invariant.0 slot c.group-group.result c.group-group.ensures c.args.time later ahead waiting c.renew.new.heads (step_none ahead waiting heads c.self.invariant.0 slot) c.renew.ensures.renewed,
       c.self.invariant.1,
     )
 
@@ -49,7 +49,7 @@ returns-then-is_waiting-clause-lifted g c =
     let idle = read_waiting c.self.inside.ahead c.self.inside.waiting c.self.inside.heads c.self.invariant.0 c.self.inside.stands.items c.self.invariant.1 c.args.slot c.index.result.now c.index.ensures c.requires.late.key had c.is_waiting.result c.is_waiting.ensures c.if-is_waiting.true in
     let floor = at_the_floor ahead waiting heads c.self.invariant.0 slot c.group-group.result c.group-group.ensures idle c.requires.late.key had in
     let later : floor_of (key_at heads c.group-group.result) ≤ c.args.time = omega (arith, ap (λ (k : Timed). k.time) floor.2, c.requires.late.before) in
-    let lifted = up_lifted ahead waiting heads c.self.invariant.0 slot c.group-group.result c.group-group.ensures c.args.time later ahead waiting c.renew.new.heads (step_none ahead waiting heads c.self.invariant.0 slot) c.renew.ensures (λ k e. let w = at_the_floor ahead waiting heads c.self.invariant.0 slot c.group-group.result c.group-group.ensures idle k e in (w.0, idle, w.1, sym (ap (at_time c.args.time) w.2))) in
+    let lifted = up_lifted ahead waiting heads c.self.invariant.0 slot c.group-group.result c.group-group.ensures c.args.time later ahead waiting c.renew.new.heads (step_none ahead waiting heads c.self.invariant.0 slot) c.renew.ensures.renewed (λ k e. let w = at_the_floor ahead waiting heads c.self.invariant.0 slot c.group-group.result c.group-group.ensures idle k e in (w.0, idle, w.1, sym (ap (at_time c.args.time) w.2))) in
     subst (λ (q : Grouped Timed). IsLifted q.groups q.keys (seen_keys c.renew.new.heads ahead waiting.keys waiting.groups) slot c.args.time) c.self.view_is lifted
 
 pub returns-in_default-clause-lifted : goal.returns-in_default-clause-lifted
@@ -161,3 +161,21 @@ invariant_of-self-2 g c =
       c.park.ensures.floored,
       stands_step c.self.inside.stands.items c.self.inside.ahead c.self.inside.waiting c.self.invariant.1 c.args.slot c.park.new.ahead c.park.new.waiting c.park.ensures.step l Waiting stand,
     )
+
+pub returns-then-is_waiting-clause-counted : goal.returns-then-is_waiting-clause-counted
+returns-then-is_waiting-clause-counted g c =
+    λ k few. omega (arith, c.renew.ensures.counted 32 (omega (arith, c.self.invariant.0.few)))
+
+pub returns-then-floor-time-clause-counted : goal.returns-then-floor-time-clause-counted
+returns-then-floor-time-clause-counted g c =
+    λ k few.
+    let seen = slots_seen c.self.invariant.0 c.self.view_is in
+    let ahead : length c.self.inside.ahead ≤ 2 ^ k = omega (arith, few, seen, c.self.invariant.0.each) in
+    let left = ap length c.take.ensures.taken ∙ length-set c.self.inside.ahead c.args.slot None in
+    omega (arith, c.take.ensures.counted k ahead, c.put.ensures.counted k (omega (arith, ahead, left)))
+
+pub returns-clause-counted : goal.returns-clause-counted
+returns-clause-counted g c =
+    λ k few.
+    let seen = slots_seen c.self.invariant.0 c.self.view_is in
+    omega (arith, c.park.ensures.counted k 32 (omega (arith, few, seen)) (omega (arith, c.self.invariant.0.few)))
