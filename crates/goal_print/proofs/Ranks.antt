@@ -26,13 +26,13 @@ pub all_done : (i : ℕ) (ps : List Plan) (out all : List ℕ) → length ps ≤
 all_done i ps out all over is =
     sym (append-nil out) ∙ ap (λ (l : List ℕ). out ++ l) (sym (at_drop_all (blocks i) ps i over ∙ none_left i)) ∙ is
 
--- a text with lines has bytes: one rank more
-pub more_bytes : (os : List Op) (out text : List ℕ) (lines : ℕ) → 0 < length text → (0 < lines → 0 < length out)
-    → 0 < lines + length os → 0 < length (out ++ unless_empty os text)
-more_bytes [] out text lines long before some =
+-- a text with operations has bytes: one rank more
+pub more_bytes : (os : List Op) (out text : List ℕ) (operations : ℕ) → 0 < length text → (0 < operations → 0 < length out)
+    → 0 < operations + length os → 0 < length (out ++ unless_empty os text)
+more_bytes [] out text operations long before some =
     let old = before (omega (arith, some)) in
     omega (arith, old, length-append out [])
-more_bytes (o ∷ os) out text lines long before some = omega (arith, long, length-append out text)
+more_bytes (o ∷ os) out text operations long before some = omega (arith, long, length-append out text)
 
 -- a block has bytes
 pub block_bytes : (i : ℕ) (p : Plan) → 0 < length (block i p)

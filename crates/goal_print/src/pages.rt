@@ -49,11 +49,11 @@ impl<'a> Blocks<'a> {
         let plans = self.sched.plans();
         let mut out = TextOut::new(alloc);
         let mut rank = self.done;
-        let mut lines: usize = 0;
-        while rank < plans.len() && lines < PAGE {
+        let mut operations: usize = 0;
+        while rank < plans.len() && operations < PAGE {
             let plan = &plans[rank];
             put_rank(&mut out, rank as u64, plan)?;
-            lines = lines.saturating_add(plan.ops.len());
+            operations = operations.saturating_add(plan.ops.len());
             rank += 1;
         }
         self.done = rank;

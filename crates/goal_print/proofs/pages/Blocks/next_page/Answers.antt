@@ -3,7 +3,7 @@ use Rattle.goal_graph.specs.Schedule.{Plan}
 use Rattle.goal_print.specs.Canonical.{block, blocks_from}
 use Rattle.goal_print.proofs.Ranks.{one_more, all_done, more_bytes, block_bytes}
 use Rattle.goal_print.proofs.pages.Blocks.next_page.Goals as goal
-use Rattle.goal_print.proofs.pages.Blocks.next_page.Goals.{then-loop-rank-test+else-lines-lt-PAGE, else-loop-rank-test}
+use Rattle.goal_print.proofs.pages.Blocks.next_page.Goals.{then-loop-rank-test+else-operations-lt-PAGE, else-loop-rank-test}
 
 pub loop-rank-preserved : goal.loop-rank-preserved
 loop-rank-preserved c =
@@ -13,7 +13,7 @@ loop-rank-preserved c =
     let ops : c.len.result ≡ length p.ops = c.len.ensures ∙ c.plan.inside.ops.ok.0 ∙ ap (λ (q : Plan). length q.ops) c.plan.view_is in
     rw c.in_ok-put_rank.ensures (
       one_more rank c.plans-plans.result.now p c.loop-rank.out _ c.loop-rank-test.true c.index-plans-rank.is inv.0,
-      λ some. more_bytes p.ops c.loop-rank.out (block rank p) c.loop-rank.lines (block_bytes rank p) inv.1 (omega (arith, some, ops, c.saturating_add-lines.ensures)),
+      λ some. more_bytes p.ops c.loop-rank.out (block rank p) c.loop-rank.operations (block_bytes rank p) inv.1 (omega (arith, some, ops, c.saturating_add-operations.ensures)),
     )
 
 pub returns-clause-end : goal.returns-clause-end
@@ -23,7 +23,7 @@ returns-clause-end c none =
     let inv = c.loop-rank.invariant in
     let bare : length c.loop-rank.out ≡ 0 = ap length (sym c.into_bytes.ensures ∙ none) in
     let over : length plans ≤ rank = elim c.loop-rank-test.branch [
-      | then-loop-rank-test+else-lines-lt-PAGE w ↦ (let some = inv.1 (omega (arith, w.if-lines-lt-PAGE.false)) in omega (arith, some, bare))
+      | then-loop-rank-test+else-operations-lt-PAGE w ↦ (let some = inv.1 (omega (arith, w.if-operations-lt-PAGE.false)) in omega (arith, some, bare))
       | else-loop-rank-test w ↦ w.loop-rank-test.false
     ] in
     sym c.self.view_is ∙ ap (λ (ps : List Plan). blocks_from ps c.self.inside.done) (sym c.plans-plans.ensures.plans)

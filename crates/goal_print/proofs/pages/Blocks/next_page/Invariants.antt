@@ -5,7 +5,7 @@ use Rattle.goal_print.proofs.pages.Blocks.next_page.Given as goal
 -- the page so far, and then the blocks of the ranks that are left, are the blocks that were to come
 abbrev pub invariant-loop-rank : goal.invariant-loop-rank
 invariant-loop-rank l =
-    (l.out ++ blocks l.rank (drop l.rank l.plans) ≡ blocks_from l.plans l.self-inside.done) × (0 < l.lines → 0 < length l.out)
+    (l.out ++ blocks l.rank (drop l.rank l.plans) ≡ blocks_from l.plans l.self-inside.done) × (0 < l.operations → 0 < length l.out)
 
 abbrev pub decreases-loop-rank : goal.decreases-loop-rank
 decreases-loop-rank l = length l.plans - l.rank
