@@ -23,5 +23,7 @@ pub mod EnabledLemmas
 pub mod Shapes
 pub mod Choice
 pub mod Numbering
+pub mod Changes
 pub mod Lifts
+pub mod Once
 pub mod ForCallers

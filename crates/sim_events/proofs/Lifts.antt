@@ -1,6 +1,6 @@
 -- The keys of a station are raised together: what it waits for is free for all its operations at one time, and no action
 -- that waits for it is possible before.
-use Rattle.std.proofs.Common.{◌≡◌, ◌≢◌, ◌⊎◌, ◌==◌, ◌&&◌, ◌+◌, ◌<◌, ◌≤◌, ℕ, zero, suc, max, Bool, true, false, List, [], ◌∷◌, length, Option, Some, None, slice_get, if◌then◌else◌, refl, sym, ap, ap₂, ◌∙◌, subst, arith, inl, inr}
+use Rattle.std.proofs.Common.{◌≡◌, ◌≢◌, ◌⊎◌, ◌==◌, ◌&&◌, ◌+◌, ◌<◌, ◌≤◌, ℕ, zero, suc, max, Bool, true, false, List, [], ◌∷◌, length, Option, Some, None, is_some, slice_get, if◌then◌else◌, refl, sym, ap, ap₂, ◌∙◌, subst, arith, inl, inr}
 use Rattle.std.specs.List.{sum_by}
 use Rattle.std.specs.Option.{option_map}
 use Rattle.std.proofs.lemmas.Bool.{both_ways, cases_eq}
@@ -21,9 +21,10 @@ use Rattle.sim_queue.specs.Groups.{Grouped}
 use Rattle.sim_queue.specs.Floors.{waits_for_room, at_time, IsLifted, IsRaised}
 use Rattle.sim_events.specs.declared.station.Station.{Station}
 use Rattle.sim_events.specs.Stations.{station_by, HaveOneStation, AreStationed, free, free_of}
-use Rattle.sim_events.specs.Queue.{IsIdle, IsEarly, IsQueue, HasKey, lag, lags}
+use Rattle.sim_events.specs.Queue.{IsIdle, IsEarly, IsQueue, HasKey, lag, lags, changes}
 use Rattle.sim_events.proofs.Queue.{key_found}
 use Rattle.sim_events.proofs.Keys.{before_event}
+use Rattle.sim_events.proofs.Changes.{IsKept, mark, marked_later, marked_anew, changes_grow}
 use Rattle.sim_events.proofs.Kept.{told_waiting, free_first}
 use Rattle.goal_graph.proofs.ForCallers.{key_cases, other_place}
 
@@ -202,3 +203,63 @@ module _ (plans : List Plan) (costs : CostModel) (h : List Timed) (queue new : G
       let was = ap (lag plans costs h) up.has in
       let first : free plans costs h early.op ≤ time plans costs h early.class early.op = free_first plans costs h early.class early.op up.waits found.early.allowed in
       sum_falls (lag plans costs h) queue.keys new.keys lifted.each (λ i. lag_now i (lifted.others i)) slot found.within (omega (arith, now, was, up.before, up.free_then, first))
+
+  -- a key that is raised is at the time of its action
+  raised_on_time : (i : ℕ) (x : OpId) → slice_get (operations plans) i ≡ Some x → (k : Timed) → k.time ≤ n
+      → waits_for_room k.class ≡ true → slice_get queue.groups i ≡ slice_get queue.groups slot → IsEarly plans costs h x k
+      → lag plans costs h (Some (at_time n k)) ≡ 0
+  raised_on_time i x at k late w group b =
+      let one = q.stationed.same i slot x early.op at up.is_slot group in
+      let together = free_together plans costs h x early.op one in
+      omega (arith, b.told, told_waiting plans costs h k w, together, ap (free plans costs h) b.op, up.free_then, late)
+
+  module _ (first : List (Option Timed)) (kept : (i : ℕ) → IsKept plans costs h (key_at first i) (key_at queue.keys i)) where
+    kept_on_time : (i : ℕ) (k : Timed) → key_at queue.keys i ≡ Some k → key_at new.keys i ≡ Some (at_time n k) → k.time ≤ n
+        → waits_for_room k.class ≡ true → slice_get queue.groups i ≡ slice_get queue.groups slot
+        → IsKept plans costs h (key_at first i) (key_at new.keys i)
+    kept_on_time i k was now late w group =
+        let found = key_found plans costs h queue i k q was in
+        record {
+          there = ap is_some now ∙ sym (ap is_some was) ∙ (kept i).there;
+          once = inr (ap (lag plans costs h) now ∙ raised_on_time i k.op found.is_slot k late w group found.early);
+        }
+
+    kept_now : (i : ℕ) → IsChanged i → IsKept plans costs h (key_at first i) (key_at new.keys i)
+    kept_now i (inl s) =
+        let now = ap (key_at new.keys) s ∙ lifted.here early up.has in
+        let was = ap (key_at queue.keys) s ∙ up.has in
+        kept_on_time i early was now (omega (arith, up.before)) up.waits (ap (slice_get queue.groups) s)
+    kept_now i (inr (inl s)) = subst (IsKept plans costs h (key_at first i)) (sym s) (kept i)
+    kept_now i (inr (inr r)) = kept_on_time i r.key r.had r.has r.not_later r.waits r.group
+
+    -- what was kept of the keys at first is kept when some are raised
+    pub lifted_kept : (i : ℕ) → IsKept plans costs h (key_at first i) (key_at new.keys i)
+    lifted_kept i = kept_now i (lifted.others i)
+
+    mark_now : (i : ℕ) → IsChanged i → mark (key_at first i) (key_at queue.keys i) ≤ mark (key_at first i) (key_at new.keys i)
+    mark_now i (inl s) =
+        let now = ap (key_at new.keys) s ∙ lifted.here early up.has in
+        let was = ap (key_at queue.keys) s ∙ up.has in
+        marked_later (key_at first i) _ _ early (at_time n early) was now (omega (arith, up.before))
+    mark_now i (inr (inl s)) = omega (arith, ap (mark (key_at first i)) s)
+    mark_now i (inr (inr r)) = marked_later (key_at first i) _ _ r.key (at_time n r.key) r.had r.has r.not_later
+
+    -- the key of the slot was not raised before
+    as_at_first : key_at first slot ≡ Some early
+    as_at_first =
+        let found = key_found plans costs h queue slot early q up.has in
+        let least = free_first plans costs h early.class early.op up.waits found.early.allowed in
+        elim ((kept slot).once) [
+          | inl s ↦ sym s ∙ up.has
+          | inr z ↦ absurd (omega (arith, sym (ap (lag plans costs h) up.has) ∙ z, up.before, up.free_then, least))
+        ]
+
+    -- so one more key is changed at least
+    pub lifted_changes : length queue.keys ≡ length first → changes first queue.keys < changes first new.keys
+    lifted_changes each =
+        let found = key_found plans costs h queue slot early q up.has in
+        let here : slot < length first = omega (arith, found.within, each) in
+        let more =
+        marked_anew (key_at first slot) _ _ early (at_time n early) as_at_first up.has (lifted.here early up.has) up.before in
+        let stay = λ (i : ℕ). mark_now i (lifted.others i) in
+        changes_grow first queue.keys new.keys each (lifted.each ∙ each) stay slot here more

@@ -1,5 +1,5 @@
 -- What the queue of an engine holds: for each operation that has a possible action a time that is never too late.
-use Rattle.std.specs.Prelude.{ℕ, ◌-◌, ◌≡◌, ◌≢◌, ◌⊎◌, Bool, true, false, List, Contains, length, max, Option, Some, None, if◌then◌else◌, slice_get, slice_set}
+use Rattle.std.specs.Prelude.{ℕ, ◌+◌, ◌-◌, ◌≡◌, ◌≢◌, ◌⊎◌, Bool, true, false, nat_lt, List, ◌∷◌, Contains, length, max, Option, Some, None, if◌then◌else◌, slice_get, slice_set}
 use Rattle.std.specs.List.{sum_by}
 use Rattle.goal_graph.specs.declared.action.OpId.{OpId}
 use Rattle.goal_graph.specs.declared.action.Timed.{Timed}
@@ -30,6 +30,17 @@ gives Post AfterStart = true
 gives Data AfterEnd = true
 gives Serve AfterEnd = true
 gives _ _ = false
+
+-- a key was raised to a later time, or taken out
+abbrev pub is_changed : Option Timed → Option Timed → Bool
+is_changed None now = false
+is_changed (Some was) None = true
+is_changed (Some was) (Some now) = nat_lt was.time now.time
+
+-- how many keys of a map were, between two states of it
+unfoldable pub changes : List (Option Timed) → List (Option Timed) → ℕ
+changes (a ∷ old) (b ∷ new) = (if is_changed a b then 1 else 0) + changes old new
+changes _ _ = 0
 
 -- by one of these needs y waits for a moment of x that an action of that class may give
 pub record IsAwaiting (needs : List Need) (class : Class) (x y : OpId) : Type 0 where

@@ -1,5 +1,5 @@
 // The queue of an engine: what it holds, and how it follows what happens.
-ghost use Rattle.std.specs.Prelude.{◌≡◌, ◌≢◌, ℕ, ◌<◌, ◌≤◌, ◌+◌, ◌↔◌, ◌⊎◌, IsTrue, IfSome, IfNone, IsNone, Some, length};
+ghost use Rattle.std.specs.Prelude.{◌≡◌, ◌≢◌, ℕ, ◌<◌, ◌≤◌, ◌+◌, ◌*◌, ◌^◌, ◌↔◌, ◌⊎◌, IsTrue, IfSome, IfNone, IsNone, Some, length};
 ghost use Rattle.goal_graph.specs.declared.action.Class.TheVariants.{Serve};
 ghost use Rattle.goal_graph.specs.Schedule.{operations};
 ghost use Rattle.goal_graph.specs.Fault.{IsOp};
@@ -10,7 +10,7 @@ ghost use Rattle.sim_queue.specs.Map.{IsEmptyMap, IsLeast};
 ghost use Rattle.sim_queue.specs.Floors.{waits_for_room};
 ghost use Rattle.sim_events.specs.Stations.{AreStationed};
 ghost use Rattle.sim_events.specs.Cursors.{IsCursorOf, AreCursors};
-ghost use Rattle.sim_events.specs.Queue.{IsEarly, IsQueue, IsQueueBut, IsQueueWithout, HasEarlyKeys, IsRefreshed, IsDueAfter, Awaits, gives, IsEnabledActionOf};
+ghost use Rattle.sim_events.specs.Queue.{IsEarly, IsQueue, IsQueueBut, IsQueueWithout, HasEarlyKeys, IsRefreshed, IsDueAfter, Awaits, gives, IsEnabledActionOf, changes};
 
 use crate::cursor::Cursor;
 use crate::key::compact;
@@ -60,7 +60,8 @@ pub fn next<C: Costs, L: Ledger>(
     ensures queue { IfNone result (IsQueue state.now.plans (C.model state.now.costs) state.now.history queue.new) }
     ensures next { IfSome result (IsNext state.now.plans (C.model state.now.costs) state.now.history) }
     ensures none { IfNone result (IsFinished state.now.plans (C.model state.now.costs) state.now.history) }
-    ensures counted { (k : ℕ) → length queue.old.keys ≤ 2 ^ k → steps.new ≤ steps.old + changes queue.old.keys queue.new.keys * (6 * k + 135) }
+    ensures counted { (k : ℕ) → length queue.old.keys ≤ 2 ^ k
+        → steps.new ≤ steps.old + changes queue.old.keys queue.new.keys * (6 * k + 135) }
 {
     state.known();
     'looks: while let Some(early) = least(queue, steps) {

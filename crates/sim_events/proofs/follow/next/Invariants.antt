@@ -1,8 +1,11 @@
-use Rattle.sim_events.specs.Queue.{IsQueue, lags}
+use Rattle.sim_events.specs.Queue.{lags}
+use Rattle.sim_events.proofs.Once.{IsRaisedOnce}
 use Rattle.sim_events.proofs.follow.next.Given as goal
 
 abbrev pub invariant-looks : goal.invariant-looks
-invariant-looks g l = IsQueue l.state.plans (g.C.Costs.model l.state.costs) l.state.history l.queue
+invariant-looks g l =
+    let model = g.C.Costs.model l.state.costs in
+    IsRaisedOnce l.state.plans model l.state.history l.fn.queue.keys l.fn.steps l.queue l.steps
 
 -- the keys come nearer to the times of their actions
 abbrev pub decreases-looks : goal.decreases-looks

@@ -29,7 +29,7 @@ returns-then-has-clause-queue g c =
 
 pub returns-in-Some-clause-queue : goal.returns-in-Some-clause-queue
 returns-in-Some-clause-queue g c =
-    put_enabled _ _ _ c.args.id _ c.index-slot.result _ _ _ _ c.sched.ensures c.index-slot.ensures.index c.choice_from.ensures.enabled (c.in-Some.is ∙ ap (λ (a : Timed). Some a) (sym c.compact.ensures)) c.put.ensures
+    put_enabled _ _ _ c.args.id _ c.index-slot.result _ _ _ _ c.sched.ensures c.index-slot.ensures.index c.choice_from.ensures.enabled (c.in-Some.is ∙ ap (λ (a : Timed). Some a) (sym c.compact.ensures)) c.put.ensures.put
 
 pub returns-in_default-clause-queue : goal.returns-in_default-clause-queue
 returns-in_default-clause-queue g c =
