@@ -7,7 +7,6 @@ ghost use Rattle.sim_params.specs.Times.{Possible, mate};
 ghost use Rattle.sim_params.specs.Run.{IsNext, IsFinished};
 ghost use Rattle.sim_order.specs.Events.{event_before};
 ghost use Rattle.sim_queue.specs.Map.{IsEmptyMap, IsLeast};
-ghost use Rattle.sim_queue.specs.Floors.{waits_for_room};
 ghost use Rattle.sim_events.specs.Stations.{AreStationed};
 ghost use Rattle.sim_events.specs.Cursors.{IsCursorOf, AreCursors};
 ghost use Rattle.sim_events.specs.Queue.{IsEarly, IsQueue, IsQueueBut, IsQueueWithout, HasEarlyKeys, IsRefreshed, IsDueAfter, Awaits, gives, IsEnabledActionOf, changes};
@@ -18,7 +17,7 @@ use crate::state::State;
 use goal_graph::{Class, OpId, Timed, When};
 use sim_order::Steps;
 use sim_params::Costs;
-use sim_queue::FloorQueue;
+use sim_queue::{FloorQueue, waits_for_room};
 use std::sync::ledger::{Blank, Ledger};
 
 /// For each operation that has a possible action, the key of that action at a time that is never too late.
@@ -74,16 +73,6 @@ pub fn next<C: Costs, L: Ledger>(
         queue.lift(slot, action.time, steps);
     }
     None
-}
-
-// Whether actions of a class wait for a cpu or an interface.
-fn waits_for_room(class: Class) -> bool
-    ensures { result ≡ waits_for_room class }
-{
-    match class {
-        Class::Begin | Class::Data | Class::Serve => true,
-        Class::Arrive | Class::Post => false,
-    }
 }
 
 // The least key of the queue.

@@ -62,8 +62,8 @@ fn first_head<L: Ledger>(heads: &SlotHeap<CompactKey>, steps: &mut Steps<L>) -> 
     Some(key)
 }
 
-// Whether actions of a class wait for a cpu or an interface.
-fn waits_for_room(class: Class) -> bool
+/// Whether actions of a class wait for a cpu or an interface.
+pub fn waits_for_room(class: Class) -> bool
     ensures { result ≡ waits_for_room class }
 {
     match class {

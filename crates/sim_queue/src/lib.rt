@@ -14,7 +14,7 @@ mod tests;
 mod top_heap;
 mod vec_queue;
 
-pub use floor_queue::FloorQueue;
+pub use floor_queue::{FloorQueue, waits_for_room};
 pub use groups::{Groups, Home};
 pub use queue::EventQueue;
 pub use ranked_queue::RankedQueue;
