@@ -129,10 +129,25 @@ pub(crate) fn count_run(bytes: &[u8]) -> usize
     ensures each { (k : ℕ) → k < result → is_run_byte (slice_index bytes.now k) ≡ true }
     ensures ends { result < length bytes.now → is_run_byte (slice_index bytes.now result) ≡ false }
 {
-    for (n, byte) in bytes.iter().enumerate() {
-        if !is_run_byte(*byte) {
-            return n;
+    let mut count = 0;
+    // four at a time, as long as there are so many: most runs have more than three
+    while bytes.len() - count >= 4 {
+        if !is_run_byte(bytes[count]) {
+            return count;
         }
+        if !is_run_byte(bytes[count + 1]) {
+            return count + 1;
+        }
+        if !is_run_byte(bytes[count + 2]) {
+            return count + 2;
+        }
+        if !is_run_byte(bytes[count + 3]) {
+            return count + 3;
+        }
+        count += 4;
     }
-    bytes.len()
+    while count < bytes.len() && is_run_byte(bytes[count]) {
+        count += 1;
+    }
+    count
 }
