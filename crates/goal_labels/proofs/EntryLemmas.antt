@@ -8,7 +8,7 @@ use Rattle.std.proofs.lemmas.Bool.Decides.{Decides-ltb, not_from_Decides}
 use Rattle.std.proofs.lemmas.Option.{slice_get_within}
 use Rattle.goal_labels.specs.declared.label_map.Slot.{Slot}
 use Rattle.goal_labels.specs.declared.label_map.Found.{Found}
-use Rattle.goal_labels.specs.declared.label_map.Found.TheVariants.{At, Absent}
+use Rattle.goal_labels.specs.declared.label_map.Found.TheVariants.{At, Behind, Absent}
 use Rattle.goal_labels.specs.Entries.{Entries, put, is_at, IsAt, IsAbsent, AreUnique}
 use Rattle.goal_labels.proofs.ChainLemmas.{slice_get-left, slice_get-before, slice_get-last}
 
@@ -38,7 +38,8 @@ is_at-no es label i h there =
 -- a guess that is compared
 pub is_at-guess : (read es : Entries) (label : List ℕ) (guess i : ℕ) → is_at read label guess ≡ true → read ≡ es → At guess ≡ At i → IsAt es label i
 is_at-guess read es label guess i told same one =
-    subst (λ (ds : Entries). IsAt ds label i) same (subst (IsAt read label) (ap (λ (f : Found). elim f [ At k ↦ k | Absent hash ↦ 0 ]) one) (is_at-yes read label guess told))
+    let number : guess ≡ i = ap (λ (f : Found). elim f [ At k ↦ k | Behind ↦ 0 | Absent hash ↦ 0 ]) one in
+    subst (λ (ds : Entries). IsAt ds label i) same (subst (IsAt read label) number (is_at-yes read label guess told))
 
 -- an entry is added
 
@@ -53,6 +54,13 @@ IsAt-within es label i at = slice_get_within es i (label, at.0) at.1
 
 pub IsAt-last : (es : Entries) (label : List ℕ) (slot : Slot) → IsAt (es ++ (label, slot) ∷ []) label (length es)
 IsAt-last es label slot = (slot, slice_get-last es (label, slot))
+
+pub IsAt-added : (es fs : Entries) (label : List ℕ) (slot : Slot) (n : ℕ) → fs ≡ es ++ (label, slot) ∷ []
+    → n ≡ length es → IsAt fs label n
+IsAt-added es fs label slot n same last =
+    let there : IsAt fs label (length es) =
+    subst (λ (ds : Entries). IsAt ds label (length es)) (sym same) (IsAt-last es label slot) in
+    subst (λ (k : ℕ). IsAt fs label k) (sym last) there
 
 last-label : (es : Entries) (label q : List ℕ) (slot : Slot) (i : ℕ) → i ≡ length es → IsAt (es ++ (label, slot) ∷ []) q i → q ≡ label
 last-label es label q slot i same at =

@@ -1,7 +1,9 @@
 -- The index of the entries, once one more has a number.
 use Rattle.std.proofs.Common.{◌≡◌, ◌≢◌, ℕ, ◌+◌, ◌-◌, ◌<◌, ◌≤◌, Bool, true, false, cond, List, [], ◌∷◌, ◌++◌, Option, Some, None, length, slice_get, slice_set, refl, sym, ap, subst, ◌∙◌, arith, inl, inr, ◌⊎◌, length-append, bytes_eq, nat_cmp, eqb}
+use Rattle.std.proofs.Common.{Result, Ok, Err}
 use Rattle.std.specs.Cmp.Lexicographic.{slice_cmp}
 use Rattle.std.specs.Map.{lookup}
+use Rattle.std.specs.Result.{OnOk, is_err}
 use Rattle.std.specs.BTreeMap.{Updates, is_at as is_key}
 use Rattle.std.proofs.lemmas.Map.Text.{is_eq-slice_cmp}
 use Rattle.std.proofs.lemmas.Slice.Eq.{bytes_eq-Decides}
@@ -12,11 +14,14 @@ use Rattle.goal_labels.specs.declared.chains.Chains.{Chains}
 use Rattle.goal_labels.specs.declared.label_map.Slot.{Slot}
 use Rattle.goal_labels.specs.declared.label_map.Entry.{Entry}
 use Rattle.goal_labels.specs.Chains.{head_of, Leads, IsLinked}
-use Rattle.goal_labels.specs.Entries.{Entries, entries_of, IsAt, IsAbsent, AreUnique}
+use Rattle.goal_labels.specs.Entries.{Entries, entries_of, IsAt, IsAbsent, AreUnique, AreHeld}
+use Rattle.goal_labels.specs.Ordered.{AreAscending, AreBefore}
 use Rattle.goal_labels.specs.Indexed.{label_hash, Apart, apart_at, IsFound, IsIndexed, IsMap}
 use Rattle.std.proofs.lemmas.List.{length-set, nil_from_length}
 use Rattle.goal_labels.proofs.ChainLemmas.{Leads-step, slice_get-before, slice_get-last, slice_get-set, slice_get-apart}
 use Rattle.goal_labels.proofs.EntryLemmas.{IsAt-within, IsAt-before, AreUnique-more}
+use Rattle.goal_labels.proofs.HeldLemmas.{AreHeld-none, entries_of-empty, entries_of-read, length-entries_of}
+use Rattle.goal_labels.proofs.OrderedLemmas.{ascending_more, ascending_none, before_absent}
 
 -- nothing has a number
 pub IsIndexed-none : (es : Entries) (chains : Chains) (apart : Apart) → chains.links.items ≡ [] → IsIndexed es 0 chains apart
@@ -28,9 +33,62 @@ IsIndexed-none es chains apart none = record {
 
 pub IsMap-none : (es : Entries) (chains : Chains) (apart : Apart) → es ≡ [] → chains.links.items ≡ [] → IsMap es chains apart
 IsMap-none es chains apart none unlinked = record {
-  indexed = subst (λ n. IsIndexed es n chains apart) (sym (ap length none)) (IsIndexed-none es chains apart unlinked);
+  found = inr (unlinked, ascending_none es none);
   unique = λ i j label a b. absurd (omega (arith, IsAt-within es label i a, ap length none));
 }
+
+-- what a map keeps, where it has no labels
+pub keeps-none : (bytes : List ℕ) (es : List Entry) (chains : Chains) (apart : Apart) → es ≡ [] → chains.links.items ≡ []
+    → AreHeld bytes es × IsMap (entries_of bytes es) chains apart
+keeps-none bytes es chains apart none unlinked = (
+  AreHeld-none bytes es none,
+  IsMap-none (entries_of bytes es) chains apart (entries_of-empty bytes es none) unlinked,
+)
+
+-- what a call that succeeded says
+pub on_success : {T E P : Type 0} (r : Result T E) → false ≡ is_err r → OnOk r P → P
+on_success (Ok x) told said = said
+on_success (Err e) told said = absurd (cc)
+
+module _ (es : Entries) (chains : Chains) (apart : Apart) (map : IsMap es chains apart) where
+  -- each entry is found by its label, where nothing is linked only in a map with no labels
+  pub IsMap-indexed : (length chains.links.items ≡ 0 → length es ≡ 0) → IsIndexed es (length es) chains apart
+  IsMap-indexed linked = by map.found
+    where
+      by : IsIndexed es (length es) chains apart ⊎ ((chains.links.items ≡ []) × AreAscending es)
+          → IsIndexed es (length es) chains apart
+      by (inl indexed) = indexed
+      by (inr (none, ascending)) =
+          subst (λ n. IsIndexed es n chains apart) (sym (linked (ap length none))) (IsIndexed-none es chains apart none)
+
+  -- the labels ascend, where nothing is linked
+  pub IsMap-ascending : length chains.links.items ≡ 0 → AreAscending es
+  IsMap-ascending none = by map.found
+    where
+      by : IsIndexed es (length es) chains apart ⊎ ((chains.links.items ≡ []) × AreAscending es) → AreAscending es
+      by (inl indexed) = ascending_none es (nil_from_length es (sym indexed.count ∙ none))
+      by (inr (unlinked, ascending)) = ascending
+
+-- what was read is what the map has
+module _ (bytes read : List ℕ) (es seen : List Entry) (chains : Chains) (apart : Apart)
+    (same_bytes : read ≡ bytes) (same_entries : seen ≡ es) where
+  same : entries_of read seen ≡ entries_of bytes es
+  same = entries_of-read read bytes seen es same_bytes same_entries
+
+  count : length (entries_of bytes es) ≡ length seen
+  count = length-entries_of bytes es ∙ sym (ap length same_entries)
+
+  pub IsIndexed-seen : IsIndexed (entries_of bytes es) (length (entries_of bytes es)) chains apart
+      → IsIndexed (entries_of read seen) (length seen) chains apart
+  IsIndexed-seen indexed =
+      subst (λ (ds : Entries). IsIndexed ds (length seen) chains apart) (sym same)
+      (subst (λ n. IsIndexed (entries_of bytes es) n chains apart) count indexed)
+
+  pub IsIndexed-read : IsIndexed (entries_of read seen) (length seen) chains apart
+      → IsIndexed (entries_of bytes es) (length (entries_of bytes es)) chains apart
+  IsIndexed-read indexed =
+      subst (λ n. IsIndexed (entries_of bytes es) n chains apart) (sym count)
+      (subst (λ (ds : Entries). IsIndexed ds (length seen) chains apart) same indexed)
 
 -- an entry follows
 pub IsIndexed-left : (es : Entries) (e : List ℕ × Slot) (chains : Chains) (apart : Apart) → IsIndexed es (length es) chains apart → IsIndexed (es ++ e ∷ []) (length es) chains apart
@@ -102,9 +160,12 @@ module _ (es : Entries) (n : ℕ) (old new : Chains) (was now : Apart) (label : 
               kept i less at (indexed.found i q less at)
 
 -- a label that is found in no way has no entry
-pub find-absent : (es : Entries) (chains : Chains) (apart : Apart) (label : List ℕ) (first hash : ℕ) → IsMap es chains apart → hash ≡ label_hash label → first ≡ head_of chains.heads.items hash
-    → ((i : ℕ) → Leads chains.links.items i first → IsAt es label i → ⊥) → ((i : ℕ) → apart_at apart label ≡ Some i → IsAt es label i → ⊥) → IsAbsent es label
-find-absent es chains apart label first hash map is_hash is_first no_link not_apart i at = by (map.indexed.found i label (IsAt-within es label i at) at)
+pub find-absent : (es : Entries) (n : ℕ) (chains : Chains) (apart : Apart) (label : List ℕ) (first hash : ℕ)
+    → IsIndexed es n chains apart → n ≡ length es → hash ≡ label_hash label → first ≡ head_of chains.heads.items hash
+    → ((i : ℕ) → Leads chains.links.items i first → IsAt es label i → ⊥)
+    → ((i : ℕ) → apart_at apart label ≡ Some i → IsAt es label i → ⊥) → IsAbsent es label
+find-absent es n chains apart label first hash indexed all is_hash is_first no_link not_apart i at =
+    by (indexed.found i label (omega (arith, IsAt-within es label i at, all)) at)
   where
     by : IsFound chains apart label i → ⊥
     by (inl leads) = no_link i (subst (Leads chains.links.items i) (sym (is_first ∙ ap (head_of chains.heads.items) is_hash)) leads) at
@@ -125,13 +186,27 @@ IsAt-set es i label old slot there q j at = by (eqb_tells j i)
 pub IsMap-set : (es : Entries) (chains : Chains) (apart : Apart) (i : ℕ) (label : List ℕ) (old slot : Slot) → slice_get es i ≡ Some (label, old) → IsMap es chains apart
     → IsMap (slice_set es i (label, slot)) chains apart
 IsMap-set es chains apart i label old slot there map = record {
-  indexed = record {
-    count = map.indexed.count ∙ sym (length-set es i (label, slot));
-    hashes = λ j q l at has. map.indexed.hashes j q l (IsAt-set es i label old slot there q j at) has;
-    found = λ j q below at. map.indexed.found j q (omega (arith, below, length-set es i (label, slot))) (IsAt-set es i label old slot there q j at);
-  };
-  unique = λ j k q a b. map.unique j k q (IsAt-set es i label old slot there q j a) (IsAt-set es i label old slot there q k b);
+  found = by map.found;
+  unique = λ j k q a b. map.unique j k q (was q j a) (was q k b);
 }
+  where
+    now : Entries
+    now = slice_set es i (label, slot)
+
+    was : (q : List ℕ) (j : ℕ) → IsAt now q j → IsAt es q j
+    was q j at = IsAt-set es i label old slot there q j at
+
+    by : IsIndexed es (length es) chains apart ⊎ ((chains.links.items ≡ []) × AreAscending es)
+        → IsIndexed now (length now) chains apart ⊎ ((chains.links.items ≡ []) × AreAscending now)
+    by (inl indexed) =
+        inl
+        record {
+          count = indexed.count ∙ sym (length-set es i (label, slot));
+          hashes = λ j q l at has. indexed.hashes j q l (was q j at) has;
+          found = λ j q below at. indexed.found j q (omega (arith, below, length-set es i (label, slot))) (was q j at);
+        }
+    by (inr (none, ascending)) =
+        inr (none, λ j k one other less a b. ascending j k one other less (was one j a) (was other k b))
 
 -- one step of the search goes on
 pub seek-on : (es : Entries) (links : List Link) (label : List ℕ) (i at : ℕ) (l : Link) → 0 < at → slice_get links (at - 1) ≡ Some l → (IsAt es label (at - 1) → ⊥)
@@ -149,23 +224,31 @@ seek-on es links label i at l some has other is leads = by (Leads-step links i a
 pub IsMap-more : (es fs : Entries) (chains : Chains) (apart : Apart) (label : List ℕ) (slot : Slot) → fs ≡ es ++ (label, slot) ∷ [] → AreUnique es → IsAbsent es label
     → IsIndexed fs (length es + 1) chains apart → IsMap fs chains apart
 IsMap-more es fs chains apart label slot same unique absent indexed = record {
-  indexed = subst (λ n. IsIndexed fs n chains apart) (sym (length-append es ((label, slot) ∷ [])) ∙ sym (ap length same)) indexed;
+  found = inl (subst (λ n. IsIndexed fs n chains apart) count indexed);
   unique = subst AreUnique (sym same) (AreUnique-more es label slot unique absent);
 }
+  where
+    count : length es + 1 ≡ length fs
+    count = sym (length-append es ((label, slot) ∷ [])) ∙ sym (ap length same)
+
+-- a new label goes behind all others, and nothing is linked
+pub IsMap-behind : (es fs : Entries) (chains : Chains) (apart : Apart) (label : List ℕ) (slot : Slot)
+    → fs ≡ es ++ (label, slot) ∷ [] → IsMap es chains apart → length chains.links.items ≡ 0 → AreBefore es label
+    → IsMap fs chains apart
+IsMap-behind es fs chains apart label slot same map none before = record {
+  found = inr (nil_from_length chains.links.items none, subst AreAscending (sym same) more);
+  unique = subst AreUnique (sym same) (AreUnique-more es label slot map.unique (before_absent es label before));
+}
+  where
+    more : AreAscending (es ++ (label, slot) ∷ [])
+    more = ascending_more es label slot (IsMap-ascending es chains apart map none) before
 
 -- where no label is apart
 pub apart-none : (apart : Apart) (label : List ℕ) → length apart.entries ≡ 0 → apart_at apart label ≡ None
 apart-none apart label none = ap (lookup (is_key (slice_cmp nat_cmp label))) (nil_from_length apart.entries none)
 
--- what a search read is what the map has
-pub search-read : (read bytes : List ℕ) (seen es : List Entry) → read ≡ bytes → seen ≡ es → (label : List ℕ) (Q : ℕ → Type 0) → ((i : ℕ) → Q i → IsAt (entries_of read seen) label i → ⊥)
-    → (i : ℕ) → Q i → IsAt (entries_of bytes es) label i → ⊥
-search-read read bytes seen es same_bytes same_entries label Q absent i has at =
-    absent i has (subst (λ (ds : List Entry). IsAt (entries_of read ds) label i) (sym same_entries) (subst (λ bs. IsAt (entries_of bs es) label i) (sym same_bytes) at))
-
 -- a label to which no link leads
-pub no_link : (read bytes : List ℕ) (seen es : List Entry) (walked links : List Link) → read ≡ bytes → seen ≡ es → walked ≡ links → (label : List ℕ) (first : ℕ)
-    → ((i : ℕ) → Leads walked i first → IsAt (entries_of read seen) label i → ⊥) → (i : ℕ) → Leads links i first → IsAt (entries_of bytes es) label i → ⊥
-no_link read bytes seen es walked links same_bytes same_entries same_links label first absent =
-    search-read read bytes seen es same_bytes same_entries label (λ i. Leads links i first)
-    (subst (λ (ls : List Link). (i : ℕ) → Leads ls i first → IsAt (entries_of read seen) label i → ⊥) same_links absent)
+pub no_link : (es : Entries) (read known : List Link) → read ≡ known → (label : List ℕ) (first : ℕ)
+    → ((i : ℕ) → Leads read i first → IsAt es label i → ⊥) → (i : ℕ) → Leads known i first → IsAt es label i → ⊥
+no_link es read known same label first =
+    subst (λ (ls : List Link). (i : ℕ) → Leads ls i first → IsAt es label i → ⊥) same

@@ -1,4 +1,5 @@
 mod ChainLemmas
 mod EntryLemmas
 mod HeldLemmas
+mod OrderedLemmas
 mod IndexLemmas

@@ -1,5 +1,5 @@
 -- How a label is found among the entries.
-use Rattle.std.specs.Prelude.{◌≡◌, ℕ, ◌+◌, ◌-◌, ◌*◌, ◌<◌, ◌^◌, ◌/◌, ◌%◌, ◌⊎◌, List, Option, Some, length, take, drop, fold, slice_get}
+use Rattle.std.specs.Prelude.{◌≡◌, ℕ, ◌+◌, ◌-◌, ◌*◌, ◌<◌, ◌^◌, ◌/◌, ◌%◌, ◌⊎◌, List, [], Option, Some, length, take, drop, fold, slice_get}
 use Rattle.std.specs.Ordering.{nat_cmp}
 use Rattle.std.specs.Cmp.Lexicographic.{slice_cmp}
 use Rattle.std.specs.BTreeMap.{BTreeMap, get}
@@ -7,9 +7,10 @@ use Rattle.std.specs.Hash.FoldHasher as folding
 use Rattle.goal_labels.specs.declared.chains.Link.{Link}
 use Rattle.goal_labels.specs.declared.chains.Chains.{Chains}
 use Rattle.goal_labels.specs.declared.label_map.Found.{Found}
-use Rattle.goal_labels.specs.declared.label_map.Found.TheVariants.{At, Absent}
+use Rattle.goal_labels.specs.declared.label_map.Found.TheVariants.{At, Behind, Absent}
 use Rattle.goal_labels.specs.Chains.{head_of, Leads}
 use Rattle.goal_labels.specs.Entries.{Entries, IsAt, IsAbsent, AreUnique}
+use Rattle.goal_labels.specs.Ordered.{AreBefore, AreAscending}
 
 -- The labels of a block are mostly numbered, as l8 and l9 and l10, and are mentioned in about that order. So the hash of a
 -- label is the upper half of that of all its bytes but the last two, plus the number of these two: labels that differ in
@@ -46,12 +47,13 @@ pub record IsIndexed (entries : Entries) (n : ℕ) (chains : Chains) (apart : Ap
   pub hashes : (i : ℕ) (label : List ℕ) (l : Link) → IsAt entries label i → slice_get chains.links.items i ≡ Some l → l.hash ≡ label_hash label
   pub found : (i : ℕ) (label : List ℕ) → i < n → IsAt entries label i → IsFound chains apart label i
 
--- what a map of labels keeps
+-- what a map of labels keeps: each entry is found by its label, or nothing is linked, and the labels ascend
 pub record IsMap (entries : Entries) (chains : Chains) (apart : Apart) : Type 0 where
-  pub indexed : IsIndexed entries (length entries) chains apart
+  pub found : IsIndexed entries (length entries) chains apart ⊎ ((chains.links.items ≡ []) × AreAscending entries)
   pub unique : AreUnique entries
 
--- what is found of a label: the number of its entry, or that it has none, and its hash
+-- what is found of a label: the number of its entry, or that it has none and goes behind all, or that it has none, and its hash
 abbrev pub IsFinding : Entries → List ℕ → Found → Type 0
 IsFinding entries label (At i) = IsAt entries label i
+IsFinding entries label Behind = AreBefore entries label
 IsFinding entries label (Absent hash) = IsAbsent entries label × (hash ≡ label_hash label)

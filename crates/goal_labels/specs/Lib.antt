@@ -2,4 +2,5 @@
 pub mod Entries
 -- What only the code keeps.
 pub mod Chains
+pub mod Ordered
 pub mod Indexed

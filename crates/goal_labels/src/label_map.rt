@@ -4,11 +4,13 @@ ghost use Rattle.std.specs.Map.{lookup};
 ghost use Rattle.goal_labels.specs.declared.chains.Link.{Link};
 ghost use Rattle.goal_labels.specs.Chains.{Leads, head_of};
 ghost use Rattle.goal_labels.specs.Entries.{Entries, put, is_at, label_of, entries_of, IsAt, IsAbsent, IsHeld, AreUnique, AreHeld};
+ghost use Rattle.goal_labels.specs.Ordered.{label_cmp, AreAscending, AreBefore};
 ghost use Rattle.goal_labels.specs.Indexed.{ending_number, label_hash, apart_at, IsFinding, IsIndexed, IsMap};
 
 use crate::apart::Sorted;
 use crate::chains::{Chains, Link};
 use std::alloc::{AllocError, Global};
+use std::cmp::Ordering;
 use std::collections::BTreeMap;
 use std::hash::{FoldHasher, Hasher};
 use std::marker::Model;
@@ -22,8 +24,13 @@ pub struct Slot {
     pub at: u64,
 }
 
-// The fewest chains that a map with labels has.
+// The fewest chains that a map with labels has, and the number from which on it gets no more.
 const FEWEST_CHAINS: usize = 64;
+
+const MANY_CHAINS: usize = 1 << 40;
+
+// So many searches are made among labels that ascend, and one more for each eighth label, before the labels are chained.
+const SEARCHES: usize = 64;
 
 /// A label's slot, and where among all labels' bytes its own stand.
 #[derive(Clone, Copy, Debug)]
@@ -37,6 +44,9 @@ pub struct Entry {
 }
 
 /// Labels with their slots, in the order in which the labels came. Contracts see the list of them.
+///
+/// Labels mostly are numbered, and come in that order: as long as they do, each new one goes behind all, and a label is found
+/// by a search among them. Only once one comes out of order, or many are searched for, all are chained by their hashes.
 #[derive(Drop)]
 pub struct LabelMap {
     entries: Vec<Entry>,
@@ -46,6 +56,8 @@ pub struct LabelMap {
     apart: BTreeMap<Sorted, u32>,
     // The numbers that were found last, the newest first. They only save time: any values are right.
     recent: [usize; 4],
+    // How many searches were made among labels that ascend. It only saves time.
+    searches: usize,
 }
 
 impl Model for LabelMap {
@@ -65,6 +77,8 @@ impl Model for LabelMap {
 pub enum Found {
     /// The number of the label's entry.
     At(usize),
+    /// No entry, and it goes behind all labels.
+    Behind,
     /// No entry. This is the hash of the label, by which it can be added.
     Absent(u32),
 }
@@ -111,6 +125,54 @@ fn is_at(entries: &[Entry], bytes: &[u8], label: &[u8], i: usize) -> bool
     match entries.get(i) {
         Some(entry) => entry.len as usize == label.len() && label_of(bytes, entry) == label,
         None => false,
+    }
+}
+
+// The order of labels: by their lengths, and those of one length by their bytes.
+#[inline(always)]
+fn order(one: &[u8], other: &[u8]) -> Ordering
+    ensures { result ≡ label_cmp one.now other.now }
+{
+    match one.len().cmp(&other.len()) {
+        Ordering::Equal => one.cmp(other),
+        unequal => unequal,
+    }
+}
+
+// The number of a label among labels that ascend.
+fn search(entries: &[Entry], bytes: &[u8], label: &[u8]) -> Option<usize>
+    requires held { AreHeld bytes.now entries.now }
+    requires ascending { AreAscending (entries_of bytes.now entries.now) }
+    ensures found { IfSome result (IsAt (entries_of bytes.now entries.now) label.now) }
+    ensures absent { IfNone result (IsAbsent (entries_of bytes.now entries.now) label.now) }
+{
+    let mut low = 0;
+    let mut high = entries.len();
+    while low < high {
+        let middle = low + (high - low) / 2;
+        match order(label_of(bytes, &entries[middle]), label) {
+            Ordering::Less => low = middle + 1,
+            Ordering::Equal => return Some(middle),
+            Ordering::Greater => high = middle,
+        }
+    }
+    None
+}
+
+// What is found of a label by the last of labels that ascend. None where it goes before that one.
+#[inline(always)]
+fn find_at_end(entries: &[Entry], bytes: &[u8], label: &[u8]) -> Option<Found>
+    requires held { AreHeld bytes.now entries.now }
+    requires ascending { AreAscending (entries_of bytes.now entries.now) }
+    ensures { IfSome result (IsFinding (entries_of bytes.now entries.now) label.now) }
+{
+    let Some(last) = entries.last() else {
+        return Some(Found::Behind);
+    };
+    match order(label_of(bytes, last), label) {
+        Ordering::Less => Some(Found::Behind),
+        Ordering::Equal => Some(Found::At(entries.len() - 1)),
+        Ordering::Greater => None,
     }
 }
 
@@ -165,6 +227,46 @@ fn seek_apart(
     }
 }
 
+// What is found of a label by its hash, where all labels are linked or apart.
+fn find_chained(
+    entries: &[Entry],
+    bytes: &[u8],
+    chains: &Chains,
+    apart: &BTreeMap<Sorted, u32>,
+    label: &[u8],
+) -> Found
+    requires some { 0 < length label.now }
+    requires short { length label.now ≤ 64 }
+    requires held { AreHeld bytes.now entries.now }
+    requires indexed { IsIndexed (entries_of bytes.now entries.now) (length entries.now) chains.now apart.now }
+    ensures { IsFinding (entries_of bytes.now entries.now) label.now result }
+{
+    let hash = hash_of(label);
+    let first = chains.first(hash);
+    if let Some(i) = seek(entries, bytes, &chains.links, label, hash, first) {
+        return Found::At(i);
+    }
+    if apart.is_empty() {
+        return Found::Absent(hash);
+    }
+    match seek_apart(entries, bytes, apart, label) {
+        Some(i) => Found::At(i),
+        None => Found::Absent(hash),
+    }
+}
+
+// What is found of a label among labels that ascend, by a search.
+fn find_ascending(entries: &[Entry], bytes: &[u8], label: &[u8]) -> Found
+    requires held { AreHeld bytes.now entries.now }
+    requires ascending { AreAscending (entries_of bytes.now entries.now) }
+    ensures { IsFinding (entries_of bytes.now entries.now) label.now result }
+{
+    match search(entries, bytes, label) {
+        Some(number) => Found::At(number),
+        None => Found::Absent(hash_of(label)),
+    }
+}
+
 // Gives the next number to a label, where its entry stands.
 #[inline(always)]
 fn place(
@@ -207,7 +309,42 @@ fn place_all(
     Ok(())
 }
 
-// Adds a label that has no entry. There are as many chains as labels, or more.
+// So many chains do for so many labels. Any number would be right: this one only saves time.
+fn chains_for(labels: usize) -> usize {
+    let mut count = FEWEST_CHAINS;
+    while count <= labels && count < MANY_CHAINS {
+        count *= 4;
+    }
+    count
+}
+
+// Adds an entry with a label that has none.
+#[inline(always)]
+fn hold(
+    entries: &mut Vec<Entry>,
+    bytes: &mut Vec<u8>,
+    label: &[u8],
+    slot: Slot,
+) -> Result<(), AllocError>
+    requires some { 0 < length label.now }
+    requires short { length label.now ≤ 64 }
+    requires held { AreHeld bytes.old.items entries.old.items }
+    ensures entries { OnOk result (entries_of bytes.new.items entries.new.items ≡ entries_of bytes.old.items entries.old.items ++ (label.now, slot) ∷ []) }
+    ensures held { OnOk result (AreHeld bytes.new.items entries.new.items) }
+{
+    let Ok(from) = u32::try_from(bytes.len()) else {
+        return Err(AllocError);
+    };
+    bytes.extend_from_slice(label)?;
+    entries.push(Entry {
+        slot,
+        from,
+        len: label.len() as u32,
+    })?;
+    Ok(())
+}
+
+// Adds a label that has no entry, by its hash. There are as many chains as labels, or more.
 fn append(
     entries: &mut Vec<Entry>,
     bytes: &mut Vec<u8>,
@@ -227,21 +364,27 @@ fn append(
     ensures held { OnOk result (AreHeld bytes.new.items entries.new.items) }
     ensures map { OnOk result (IsMap (entries_of bytes.new.items entries.new.items) chains.new apart.new) }
 {
-    if entries.len() >= chains.heads.len() {
-        let count = FEWEST_CHAINS.max(chains.heads.len().saturating_mul(4));
-        place_all(entries, bytes, chains, apart, count)?;
+    if chains.links.len() < entries.len() || entries.len() >= chains.heads.len() {
+        place_all(entries, bytes, chains, apart, chains_for(entries.len()))?;
     }
-    let Ok(from) = u32::try_from(bytes.len()) else {
-        return Err(AllocError);
-    };
-    bytes.extend_from_slice(label)?;
-    entries.push(Entry {
-        slot,
-        from,
-        len: label.len() as u32,
-    })?;
-    place(chains, apart, label, hash)?;
-    Ok(())
+    hold(entries, bytes, label, slot)?;
+    place(chains, apart, label, hash)
+}
+
+// Forgets all labels, in time by the labels that go. Of what a map had when memory ran out, nothing need be known.
+fn forget(
+    entries: &mut Vec<Entry>,
+    bytes: &mut Vec<u8>,
+    chains: &mut Chains,
+    apart: &mut BTreeMap<Sorted, u32>,
+)
+    ensures entries { entries.new.items ≡ [] }
+    ensures unlinked { chains.new.links.items ≡ [] }
+{
+    entries.truncate(0);
+    bytes.truncate(0);
+    chains.clear();
+    apart.clear();
 }
 
 impl LabelMap {
@@ -255,6 +398,7 @@ impl LabelMap {
             chains: Chains::new(alloc),
             apart: BTreeMap::new(alloc),
             recent: [0; 4],
+            searches: 0,
         }
     }
 
@@ -262,10 +406,13 @@ impl LabelMap {
     pub fn clear(&mut self)
         ensures { self.new ≡ [] }
     {
-        self.entries.truncate(0);
-        self.bytes.truncate(0);
-        self.chains.clear();
-        self.apart.clear();
+        forget(
+            &mut self.entries,
+            &mut self.bytes,
+            &mut self.chains,
+            &mut self.apart,
+        );
+        self.searches = 0;
     }
 
     /// How many labels there are.
@@ -286,30 +433,87 @@ impl LabelMap {
         }
     }
 
-    // What is found of a label by its hash.
-    fn find(&self, label: &[u8]) -> Found
+    // What is found of a label.
+    #[inline(always)]
+    fn find(&mut self, label: &[u8]) -> Found
         requires some { 0 < length label.now }
         requires short { length label.now ≤ 64 }
-        ensures found { IsFinding self.now label.now result }
-        ensures unique { AreUnique self.now }
+        ensures found { IsFinding self.new label.now result }
+        ensures unique { AreUnique self.new }
+        ensures kept { self.new ≡ self.old }
     {
-        let hash = hash_of(label);
-        let first = self.chains.first(hash);
-        let links = &self.chains.links;
-        if let Some(i) = seek(&self.entries, &self.bytes, links, label, hash, first) {
-            return Found::At(i);
+        if !self.chains.links.is_empty() {
+            return find_chained(&self.entries, &self.bytes, &self.chains, &self.apart, label);
         }
-        if self.apart.is_empty() {
-            return Found::Absent(hash);
+        if let Some(found) = find_at_end(&self.entries, &self.bytes, label) {
+            return found;
         }
-        match seek_apart(&self.entries, &self.bytes, &self.apart, label) {
-            Some(i) => Found::At(i),
-            None => Found::Absent(hash),
-        }
+        self.searches = self.searches.saturating_add(1);
+        find_ascending(&self.entries, &self.bytes, label)
     }
 
-    // What is found of a label. Mentions mostly go on as they did, each second one with a step of its own, as in `l4 requires l3`
-    // behind `l2 requires l1`: so the label is looked at first to which this leads, and then the one behind that found last.
+    // Chains all labels, once many were searched for.
+    #[inline(never)]
+    fn chain_all(&mut self) -> Result<(), AllocError>
+        ensures { OnOk result (self.new ≡ self.old) }
+    {
+        self.searches = 0;
+        let count = chains_for(self.entries.len());
+        let placed = place_all(
+            &self.entries,
+            &self.bytes,
+            &mut self.chains,
+            &mut self.apart,
+            count,
+        );
+        if placed.is_err() {
+            forget(
+                &mut self.entries,
+                &mut self.bytes,
+                &mut self.chains,
+                &mut self.apart,
+            );
+        }
+        placed
+    }
+
+    // Chains all labels where they ascend and many were searched for.
+    #[inline(always)]
+    fn chain_if_due(&mut self) -> Result<(), AllocError>
+        ensures { OnOk result (self.new ≡ self.old) }
+    {
+        if self.searches > SEARCHES + self.entries.len() / 8 {
+            return self.chain_all();
+        }
+        Ok(())
+    }
+
+    // Adds a label that goes behind all others.
+    #[inline(always)]
+    fn add_behind(&mut self, label: &[u8], slot: Slot) -> Result<(), AllocError>
+        requires some { 0 < length label.now }
+        requires short { length label.now ≤ 64 }
+        requires before { AreBefore self.old label.now }
+        ensures { OnOk result (self.new ≡ self.old ++ (label.now, slot) ∷ []) }
+    {
+        if !self.chains.links.is_empty() {
+            return self.add(label, slot, hash_of(label));
+        }
+        let held = hold(&mut self.entries, &mut self.bytes, label, slot);
+        if held.is_err() {
+            forget(
+                &mut self.entries,
+                &mut self.bytes,
+                &mut self.chains,
+                &mut self.apart,
+            );
+        }
+        held
+    }
+
+    // What is found of a label that is mentioned. Mentions mostly go on as they did, each second one with a step of its own, as
+    // in `l4 requires l3` behind `l2 requires l1`: so the label is looked at first to which this leads, and then the one behind
+    // that found last.
     fn find_near(&mut self, label: &[u8]) -> Found
         requires some { 0 < length label.now }
         requires short { length label.now ≤ 64 }
@@ -334,6 +538,7 @@ impl LabelMap {
     }
 
     // Adds a label that has no entry, by its hash.
+    #[inline(never)]
     fn add(&mut self, label: &[u8], slot: Slot, hash: u32) -> Result<(), AllocError>
         requires some { 0 < length label.now }
         requires short { length label.now ≤ 64 }
@@ -351,9 +556,12 @@ impl LabelMap {
             hash,
         );
         if added.is_err() {
-            self.entries.truncate(0);
-            self.bytes.truncate(0);
-            self.chains.clear();
+            forget(
+                &mut self.entries,
+                &mut self.bytes,
+                &mut self.chains,
+                &mut self.apart,
+            );
         }
         added
     }
@@ -365,11 +573,16 @@ impl LabelMap {
         ensures old { IfOk result (λ old. old ≡ lookup (bytes_eq label.now) self.old) }
         ensures entries { OnOk result (self.new ≡ put self.old label.now slot) }
     {
+        self.chain_if_due()?;
         match self.find(label) {
             Found::At(i) => {
                 let old = self.entries[i].slot;
                 self.entries[i].slot = slot;
                 Ok(Some(old))
+            }
+            Found::Behind => {
+                self.add_behind(label, slot)?;
+                Ok(None)
             }
             Found::Absent(hash) => {
                 self.add(label, slot, hash)?;
@@ -386,8 +599,14 @@ impl LabelMap {
         ensures new { OnOk result (lookup (bytes_eq label.now) self.old ≡ None → self.new ≡ put self.old label.now slot) }
         ensures number { IfOk result (IsAt self.new label.now) }
     {
+        self.chain_if_due()?;
         match self.find_near(label) {
             Found::At(i) => Ok(i),
+            Found::Behind => {
+                let number = self.entries.len();
+                self.add_behind(label, slot)?;
+                Ok(number)
+            }
             Found::Absent(hash) => {
                 let number = self.entries.len();
                 self.add(label, slot, hash)?;

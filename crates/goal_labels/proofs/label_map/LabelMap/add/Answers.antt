@@ -1,7 +1,6 @@
 use Rattle.std.proofs.Common.{sym, subst}
-use Rattle.goal_labels.specs.Entries.{Entries, IsAbsent, entries_of}
-use Rattle.goal_labels.proofs.HeldLemmas.{AreHeld-none, entries_of-empty}
-use Rattle.goal_labels.proofs.IndexLemmas.{IsMap-none}
+use Rattle.goal_labels.specs.Entries.{Entries, IsAbsent}
+use Rattle.goal_labels.proofs.IndexLemmas.{keeps-none}
 use Rattle.goal_labels.proofs.label_map.LabelMap.add.Goals as goal
 
 pub append-added-requires-clause-absent : goal.append-added-requires-clause-absent
@@ -9,6 +8,5 @@ append-added-requires-clause-absent c = subst (λ (es : Entries). IsAbsent es c.
 
 pub invariant_of-self : goal.invariant_of-self
 invariant_of-self c =
-    let bytes = c.truncate-then-is_err.new.self.items in
-    let es = c.truncate.new.self.items in
-    (AreHeld-none bytes es c.truncate.ensures.items, IsMap-none (entries_of bytes es) c.clear.new.self c.append-added.new.apart (entries_of-empty bytes es c.truncate.ensures.items) c.clear.ensures)
+    let now = c.forget.new in
+    keeps-none now.bytes.items now.entries.items now.chains now.apart c.forget.ensures.entries c.forget.ensures.unlinked

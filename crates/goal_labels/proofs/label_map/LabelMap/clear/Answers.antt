@@ -1,13 +1,11 @@
-use Rattle.goal_labels.specs.Entries.{entries_of}
-use Rattle.goal_labels.proofs.HeldLemmas.{AreHeld-none, entries_of-empty}
-use Rattle.goal_labels.proofs.IndexLemmas.{IsMap-none}
+use Rattle.goal_labels.proofs.HeldLemmas.{entries_of-empty}
+use Rattle.goal_labels.proofs.IndexLemmas.{keeps-none}
 use Rattle.goal_labels.proofs.label_map.LabelMap.clear.Goals as goal
 
 pub invariant_of-self : goal.invariant_of-self
 invariant_of-self c =
-    let bytes = c.truncate-2.new.self.items in
-    let es = c.truncate.new.self.items in
-    (AreHeld-none bytes es c.truncate.ensures.items, IsMap-none (entries_of bytes es) c.clear.new.self c.clear-2.new.self (entries_of-empty bytes es c.truncate.ensures.items) c.clear.ensures)
+    let now = c.forget.new in
+    keeps-none now.bytes.items now.entries.items now.chains now.apart c.forget.ensures.entries c.forget.ensures.unlinked
 
 pub returns : goal.returns
-returns c = entries_of-empty c.truncate-2.new.self.items c.truncate.new.self.items c.truncate.ensures.items
+returns c = entries_of-empty c.forget.new.bytes.items c.forget.new.entries.items c.forget.ensures.entries

@@ -1,9 +1,11 @@
-use Rattle.std.proofs.Common.{◌≡◌, ◌∙◌, sym, ap, subst, arith, Some, slice_get, slice_set}
-use Rattle.goal_labels.specs.Entries.{Entries, IsAt, entries_of}
+use Rattle.std.proofs.Common.{◌≡◌, ◌∙◌, sym, ap, subst, arith, Some, slice_get, slice_set, bytes_eq}
+use Rattle.std.specs.Map.{lookup}
+use Rattle.goal_labels.specs.Entries.{Entries, put, IsAt, entries_of}
 use Rattle.goal_labels.specs.Indexed.{IsMap}
 use Rattle.goal_labels.proofs.EntryLemmas.{lookup-there, lookup-absent, put-absent, put-there, IsAt-within}
 use Rattle.goal_labels.proofs.HeldLemmas.{entry-at, entry-same, entries_of-set, AreHeld-set, length-entries_of}
 use Rattle.goal_labels.proofs.IndexLemmas.{IsMap-set}
+use Rattle.goal_labels.proofs.OrderedLemmas.{before_absent}
 use Rattle.goal_labels.proofs.label_map.LabelMap.insert.Goals as goal
 
 pub index-requires : goal.index-requires
@@ -42,7 +44,8 @@ returns-in-At-clause-old c =
     let found = c.in-At.ensures.found in
     let there : slice_get (entries_of bytes held) i ≡ Some (label, found.0) = subst (λ (es : Entries). slice_get es i ≡ Some (label, found.0)) (sym c.self.view_is) found.1 in
     ap Some (entry-same bytes held label i e found.0 (entry-at bytes held label i e (found.0, there) c.index.ensures) there).1
-    ∙ sym (lookup-there c.args.self.now label i found.0 c.in-At.ensures.unique found.1)
+    ∙ sym (lookup-there c.find.new.self label i found.0 c.in-At.ensures.unique found.1)
+    ∙ ap (lookup (bytes_eq label)) (c.in-At.ensures.kept ∙ c.in_ok-chain_if_due.ensures)
 
 pub returns-in-At-clause-entries : goal.returns-in-At-clause-entries
 returns-in-At-clause-entries c =
@@ -54,10 +57,32 @@ returns-in-At-clause-entries c =
     let at : IsAt (entries_of bytes held) label i = subst (λ (es : Entries). IsAt es label i) (sym c.self.view_is) found in
     entries_of-set bytes held label i c.index_mut.result.now c.args.slot at c.index_mut.ensures.value
     ∙ ap (λ (es : Entries). slice_set es i (label, c.args.slot)) c.self.view_is
-    ∙ put-there c.args.self.now label i found.0 c.args.slot c.in-At.ensures.unique found.1
+    ∙ put-there c.find.new.self label i found.0 c.args.slot c.in-At.ensures.unique found.1
+    ∙ ap (λ (es : Entries). put es label c.args.slot) (c.in-At.ensures.kept ∙ c.in_ok-chain_if_due.ensures)
+
+pub returns-in_ok-add_behind-in-Behind-clause-old : goal.returns-in_ok-add_behind-in-Behind-clause-old
+returns-in_ok-add_behind-in-Behind-clause-old c =
+    let label = c.args.label.now in
+    let absent = before_absent c.find.new.self label c.in-Behind.ensures.found in
+    sym (lookup-absent c.find.new.self label absent)
+    ∙ ap (lookup (bytes_eq label)) (c.in-Behind.ensures.kept ∙ c.in_ok-chain_if_due.ensures)
+
+pub returns-in_ok-add_behind-in-Behind-clause-entries : goal.returns-in_ok-add_behind-in-Behind-clause-entries
+returns-in_ok-add_behind-in-Behind-clause-entries c =
+    let label = c.args.label.now in
+    c.in_ok-add_behind-in-Behind.ensures
+    ∙ put-absent c.find.new.self label c.args.slot (before_absent c.find.new.self label c.in-Behind.ensures.found)
+    ∙ ap (λ (es : Entries). put es label c.args.slot) (c.in-Behind.ensures.kept ∙ c.in_ok-chain_if_due.ensures)
 
 pub returns-in_ok-add-in-Absent-clause-old : goal.returns-in_ok-add-in-Absent-clause-old
-returns-in_ok-add-in-Absent-clause-old c = sym (lookup-absent c.args.self.now c.args.label.now c.in-Absent.ensures.found.0)
+returns-in_ok-add-in-Absent-clause-old c =
+    let label = c.args.label.now in
+    sym (lookup-absent c.find.new.self label c.in-Absent.ensures.found.0)
+    ∙ ap (lookup (bytes_eq label)) (c.in-Absent.ensures.kept ∙ c.in_ok-chain_if_due.ensures)
 
 pub returns-in_ok-add-in-Absent-clause-entries : goal.returns-in_ok-add-in-Absent-clause-entries
-returns-in_ok-add-in-Absent-clause-entries c = c.in_ok-add-in-Absent.ensures ∙ put-absent c.args.self.now c.args.label.now c.args.slot c.in-Absent.ensures.found.0
+returns-in_ok-add-in-Absent-clause-entries c =
+    let label = c.args.label.now in
+    c.in_ok-add-in-Absent.ensures
+    ∙ put-absent c.find.new.self label c.args.slot c.in-Absent.ensures.found.0
+    ∙ ap (λ (es : Entries). put es label c.args.slot) (c.in-Absent.ensures.kept ∙ c.in_ok-chain_if_due.ensures)

@@ -1,0 +1,111 @@
+-- Labels in their order.
+use Rattle.std.proofs.Common.{◌≡◌, ℕ, ◌+◌, ◌<◌, Bool, true, false, List, [], ◌∷◌, ◌++◌, Option, length, nat_cmp}
+use Rattle.std.proofs.Common.{refl, sym, ap, subst, ◌∙◌, arith, length-append, ltb, Decides}
+use Rattle.std.specs.Cmp.Lexicographic.{slice_cmp}
+use Rattle.std.specs.Cmp.{IsTotalOrder}
+use Rattle.std.specs.Option.{option_map_or}
+use Rattle.std.specs.Ordering.{ordering_then, ordering_reverse, is_eq}
+use Rattle.std.specs.declared.cmp.Ordering.{Ordering}
+use Rattle.std.specs.declared.cmp.Ordering.TheVariants.{Less, Equal, Greater}
+use Rattle.std.proofs.lemmas.Cmp.{nat_cmp_total, nat_list_cmp_total, tied_itself, on_total, then_total}
+use Rattle.std.proofs.lemmas.Map.Text.{is_eq-slice_cmp}
+use Rattle.std.proofs.lemmas.Slice.Eq.{bytes_eq-Decides}
+use Rattle.std.proofs.lemmas.Bool.Decides.{Decides-ltb, not_from_Decides}
+use Rattle.goal_labels.specs.declared.label_map.Slot.{Slot}
+use Rattle.goal_labels.specs.Entries.{Entries, IsAt, IsAbsent}
+use Rattle.goal_labels.specs.Ordered.{or_else, label_cmp, AreBefore, AreAscending}
+use Rattle.goal_labels.proofs.EntryLemmas.{IsAt-before, IsAt-within, IsAt-last}
+
+-- the order of labels is total
+
+or_else-is : (one other : Ordering) → ordering_then one other ≡ or_else one other
+or_else-is Less other = refl
+or_else-is Equal other = refl
+or_else-is Greater other = refl
+
+total : IsTotalOrder label_cmp
+total =
+    let lengths : IsTotalOrder (λ (x y : List ℕ). nat_cmp (length x) (length y)) = on_total (length {A = ℕ}) nat_cmp_total in
+    let both : IsTotalOrder (λ (x y : List ℕ). ordering_then (nat_cmp (length x) (length y)) (slice_cmp nat_cmp x y)) =
+    then_total lengths nat_list_cmp_total in
+    subst IsTotalOrder (λ i x y. or_else-is (nat_cmp (length x) (length y)) (slice_cmp nat_cmp x y) i) both
+
+pub label_cmp-trans : (x y z : List ℕ) → label_cmp x y ≡ Less → label_cmp y z ≡ Less → label_cmp x z ≡ Less
+label_cmp-trans x y z = total.trans x y z
+
+pub label_cmp-back : (x y : List ℕ) → label_cmp x y ≡ Greater → label_cmp y x ≡ Less
+label_cmp-back x y past = total.antisymm y x ∙ ap ordering_reverse past
+
+pub label_cmp-same : (x : List ℕ) → label_cmp x x ≡ Equal
+label_cmp-same x = tied_itself total x
+
+-- a label does not go before itself
+pub label_cmp-apart : (x y : List ℕ) → label_cmp x y ≡ Less → x ≡ y → ⊥
+label_cmp-apart x y before same =
+    let one : Less ≡ Equal = sym before ∙ ap (λ (k : List ℕ). label_cmp k y) same ∙ label_cmp-same y in
+    absurd (cc)
+
+-- labels that tie are the same
+pub label_cmp-tied : (x y : List ℕ) → label_cmp x y ≡ Equal → x ≡ y
+label_cmp-tied x y tied =
+    (bytes_eq-Decides x y).0 (sym (is_eq-slice_cmp x y) ∙ ap is_eq (by (nat_cmp (length x) (length y)) tied))
+  where
+    by : (o : Ordering) → or_else o (slice_cmp nat_cmp x y) ≡ Equal → slice_cmp nat_cmp x y ≡ Equal
+    by Less told = absurd (cc)
+    by Equal told = told
+    by Greater told = absurd (cc)
+
+-- a label that goes behind all is none of them
+pub before_absent : (es : Entries) (label : List ℕ) → AreBefore es label → IsAbsent es label
+before_absent es label before i at = label_cmp-apart label label (before i label at) refl
+
+-- an entry has one label
+IsAt-same : (es : Entries) (one other : List ℕ) (i : ℕ) → IsAt es one i → IsAt es other i → one ≡ other
+IsAt-same es one other i a b = ap (λ (o : Option (List ℕ × Slot)). option_map_or (λ e. e.0) o []) (sym a.1 ∙ b.1)
+
+-- the last label of those that ascend goes before this one, and so all do
+pub before_last : (es : Entries) (last label : List ℕ) (n : ℕ) → AreAscending es → length es ≡ n + 1 → IsAt es last n
+    → label_cmp last label ≡ Less → AreBefore es label
+before_last es last label n ascending count there less i one at = by (ltb i n) (Decides-ltb _ _)
+  where
+    by : (c : Bool) → Decides c (i < n) → label_cmp one label ≡ Less
+    by true p = label_cmp-trans one last label (ascending i n one last (p.0 refl) at there) less
+    by false p =
+        let here : i ≡ n = omega (arith, count, IsAt-within es one i at, not_from_Decides false p refl) in
+        ap (λ (k : List ℕ). label_cmp k label) (IsAt-same es one last n (subst (IsAt es one) here at) there) ∙ less
+
+-- among labels that ascend, one that goes before another stands before it
+pub stands_before : (es : Entries) (one other : List ℕ) (i j : ℕ) → AreAscending es → IsAt es one i → IsAt es other j
+    → label_cmp one other ≡ Less → i < j
+stands_before es one other i j ascending a b less = by (ltb i j) (Decides-ltb _ _) (ltb j i) (Decides-ltb _ _)
+  where
+    by : (c : Bool) → Decides c (i < j) → (d : Bool) → Decides d (j < i) → i < j
+    by true p d q = p.0 refl
+    by false p true q =
+        let back = ascending j i other one (q.0 refl) b a in
+        absurd (label_cmp-apart one one (label_cmp-trans one other one less back) refl)
+    by false p false q =
+        let here : i ≡ j = omega (arith, not_from_Decides false p refl, not_from_Decides false q refl) in
+        absurd (label_cmp-apart one other less (IsAt-same es one other j (subst (IsAt es one) here a) b))
+
+-- a label is added that goes behind all, and they still ascend
+pub ascending_more : (es : Entries) (label : List ℕ) (slot : Slot) → AreAscending es → AreBefore es label
+    → AreAscending (es ++ (label, slot) ∷ [])
+ascending_more es label slot ascending before i j one other less a b = by (ltb j (length es)) (Decides-ltb _ _)
+  where
+    more : Entries
+    more = es ++ (label, slot) ∷ []
+
+    by : (c : Bool) → Decides c (j < length es) → label_cmp one other ≡ Less
+    by true p =
+        let within = p.0 refl in
+        let first = IsAt-before es _ one i (omega (arith, less, within)) a in
+        ascending i j one other less first (IsAt-before es _ other j within b)
+    by false p =
+        let within : j < length es + 1 = omega (arith, IsAt-within more other j b, length-append es ((label, slot) ∷ [])) in
+        let last : j ≡ length es = omega (arith, within, not_from_Decides false p refl) in
+        ap (label_cmp one) (IsAt-same more other label (length es) (subst (IsAt more other) last b) (IsAt-last es label slot))
+        ∙ before i one (IsAt-before es _ one i (omega (arith, less, last)) a)
+
+pub ascending_none : (es : Entries) → es ≡ [] → AreAscending es
+ascending_none es none i j one other less a b = absurd (omega (arith, IsAt-within es one i a, ap length none))

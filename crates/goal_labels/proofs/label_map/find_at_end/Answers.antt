@@ -1,0 +1,42 @@
+use Rattle.std.proofs.Common.{◌≡◌, ◌∙◌, ◌-◌, ◌<◌, arith, sym, subst, Some, None, length, slice_get}
+use Rattle.std.proofs.lemmas.Option.{none-some, slice_get-get_or, slice_get_within}
+use Rattle.goal_labels.specs.declared.label_map.Entry.{Entry}
+use Rattle.goal_labels.specs.Entries.{entries_of, IsAt}
+use Rattle.goal_labels.proofs.EntryLemmas.{IsAt-within}
+use Rattle.goal_labels.proofs.HeldLemmas.{IsAt-entry, length-entries_of}
+use Rattle.goal_labels.proofs.OrderedLemmas.{label_cmp-tied, before_last}
+use Rattle.goal_labels.proofs.label_map.find_at_end.Goals as goal
+
+pub returns-in_default : goal.returns-in_default
+returns-in_default c = λ i one at.
+    let bytes = c.args.bytes.now in
+    let held = c.args.entries.now in
+    let last = length held - 1 in
+    let es = entries_of bytes held in
+    let any : Entry = record { slot = record { op = None; at = 0 }; from = 0; len = 0 } in
+    let within : last < length held = omega (arith, IsAt-within es one i at, length-entries_of bytes held) in
+    absurd (none-some _ (c.in_default.ensures.value ∙ slice_get-get_or held last any within))
+
+pub returns-in-Less : goal.returns-in-Less
+returns-in-Less c =
+    let bytes = c.args.bytes.now in
+    let held = c.args.entries.now in
+    let es = entries_of bytes held in
+    let read = c.label_of.result.now in
+    let last = length held - 1 in
+    let entry : slice_get held last ≡ Some c.in-Some.last.now = sym c.in-Some.ensures.value in
+    let there : IsAt es read last =
+    subst (λ k. IsAt es k last) (sym c.label_of.ensures) (IsAt-entry bytes held last c.in-Some.last.now entry) in
+    let within : last < length held = slice_get_within held last c.in-Some.last.now entry in
+    before_last es read c.args.label.now last c.requires.ascending (omega (arith, length-entries_of bytes held, within)) there
+    (sym c.order.ensures ∙ c.in-Less.is)
+
+pub returns-in-Equal : goal.returns-in-Equal
+returns-in-Equal c =
+    let bytes = c.args.bytes.now in
+    let held = c.args.entries.now in
+    let es = entries_of bytes held in
+    let last = length held - 1 in
+    let same = label_cmp-tied c.label_of.result.now c.args.label.now (sym c.order.ensures ∙ c.in-Equal.is) in
+    subst (λ k. IsAt es k last) (sym c.label_of.ensures ∙ same)
+    (IsAt-entry bytes held last c.in-Some.last.now (sym c.in-Some.ensures.value))

@@ -1,0 +1,26 @@
+-- Labels in their order. Most blocks number their labels and define them in that order: each goes behind all before it.
+use Rattle.std.specs.Prelude.{◌≡◌, ℕ, ◌<◌, List, length}
+use Rattle.std.specs.Ordering.{nat_cmp}
+use Rattle.std.specs.declared.cmp.Ordering.{Ordering}
+use Rattle.std.specs.declared.cmp.Ordering.TheVariants.{Less, Equal, Greater}
+use Rattle.std.specs.Cmp.Lexicographic.{slice_cmp}
+use Rattle.goal_labels.specs.Entries.{Entries, IsAt}
+
+-- the first of two comparisons that tells a difference
+abbrev pub or_else : Ordering → Ordering → Ordering
+or_else Less second = Less
+or_else Equal second = second
+or_else Greater second = Greater
+
+-- the order of labels: by their lengths, and those of one length by their bytes, so that l9 goes before l10
+abbrev pub label_cmp : List ℕ → List ℕ → Ordering
+label_cmp one other = or_else (nat_cmp (length one) (length other)) (slice_cmp nat_cmp one other)
+
+-- each entry's label goes before this one
+abbrev pub AreBefore : Entries → List ℕ → Type 0
+AreBefore entries label = (i : ℕ) (one : List ℕ) → IsAt entries one i → label_cmp one label ≡ Less
+
+-- each entry's label goes before those of all entries behind it
+abbrev pub AreAscending : Entries → Type 0
+AreAscending entries =
+    (i j : ℕ) (one other : List ℕ) → i < j → IsAt entries one i → IsAt entries other j → label_cmp one other ≡ Less
