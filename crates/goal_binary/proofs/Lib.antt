@@ -12,6 +12,7 @@ pub mod Round
 pub mod Follows
 pub mod Groups
 pub mod Packed
+pub mod FromLast
 pub mod NumbersTaken
 pub mod NumbersAgain
 pub mod NumbersRead

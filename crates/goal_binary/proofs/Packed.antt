@@ -76,11 +76,11 @@ option_error d f e = cc
 abbrev rest_of : (bytes : List ℕ) (left : ℕ) → ℕ × ℕ → Bool → Read (Option ℕ)
 rest_of bytes left group low = cond low (Ok (Some group.0, group.1)) (groups_at bytes left group.1 >>= λ others. Ok (read_of (below (group.0 - 128) others.0) others.1))
 
-step_is : (bytes : List ℕ) (left at : ℕ) → groups_at bytes (suc left) at ≡ (byte_at bytes at >>= λ group. rest_of bytes left group (ltb group.0 128))
+pub step_is : (bytes : List ℕ) (left at : ℕ) → groups_at bytes (suc left) at ≡ (byte_at bytes at >>= λ group. rest_of bytes left group (ltb group.0 128))
 unfolding groups_at
 step_is bytes left at = refl
 
-none_is : (bytes : List ℕ) (at : ℕ) → groups_at bytes 0 at ≡ Ok (read_of None at)
+pub none_is : (bytes : List ℕ) (at : ℕ) → groups_at bytes 0 at ≡ Ok (read_of None at)
 unfolding groups_at
 none_is bytes at = refl
 

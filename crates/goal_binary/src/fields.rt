@@ -1,5 +1,5 @@
 //! The fields of a file. Each function gives the value at a place and the place behind it, or the first fault.
-ghost use Rattle.std.specs.Prelude.{◌≡◌, ◌+◌, ◌<◌, ◌≤◌, length, IfOk};
+ghost use Rattle.std.specs.Prelude.{◌≡◌, ℕ, ◌+◌, ◌<◌, ◌≤◌, length, slice_index, IfOk};
 ghost use Rattle.goal_binary.specs.Fields.{byte_at, u32_at, u64_at, below, groups_at, packed_at, byte_up_to, u32_up_to, u64_up_to, packed_up_to, some_byte_at, number_at, count_at, magic_at, layout_at, opening_at, rank_count_at};
 
 use crate::fault::FileFault;
@@ -74,20 +74,40 @@ fn below(group: u8, others: Option<u64>) -> Option<u64>
     }
 }
 
-/// The groups of a packed number, `left` at most: the field ends with the first below 128, or else with the last.
-#[tactic(auto, unfolding(crate::specs::Fields::groups_at))]
+/// The groups of a packed number, `left` at most: the field ends with the first below 128, or else with the last. They are
+/// put together from the last one on.
 fn groups_at(bytes: &[u8], left: u32, at: usize) -> Result<(Option<u64>, usize), FileFault>
     ensures { result ≡ groups_at bytes.now left at }
 {
-    if left == 0 {
-        return Ok((None, at));
+    let more = groups_before_last(bytes, left, at);
+    let last_at = at + more;
+    let (mut groups, after) = if more == left as usize {
+        (None, last_at)
+    } else {
+        let (last, after) = byte_at(bytes, last_at)?;
+        (Some(u64::from(last)), after)
+    };
+    let mut place = last_at;
+    while place > at {
+        place -= 1;
+        groups = below(bytes[place] - 128, groups);
     }
-    let (group, others_at) = byte_at(bytes, at)?;
-    if group < 128 {
-        return Ok((Some(u64::from(group)), others_at));
+    Ok((groups, after))
+}
+
+/// How many bytes at this place are not below 128, up to the first that is, and `most` at most.
+#[inline(always)]
+fn groups_before_last(bytes: &[u8], most: u32, at: usize) -> usize
+    ensures most { result ≤ most }
+    ensures within { 0 < result → at + result ≤ length bytes.now }
+    ensures each { (k : ℕ) → k < result → 128 ≤ slice_index bytes.now (at + k) }
+    ensures ends { result < most → at + result < length bytes.now → slice_index bytes.now (at + result) < 128 }
+{
+    let mut count = 0;
+    while count < most as usize && at + count < bytes.len() && bytes[at + count] >= 128 {
+        count += 1;
     }
-    let (others, after) = groups_at(bytes, left - 1, others_at)?;
-    Ok((below(group - 128, others), after))
+    count
 }
 
 /// The groups behind the first of a packed number. Where there are some, most often it is one.
