@@ -38,16 +38,10 @@ pub(crate) fn is_digit(byte: u8) -> bool
 pub(crate) fn ends_reserved(byte: u8) -> bool
     ensures { result ≡ ends_reserved byte }
 {
-    byte == b'c'
-        || byte == b'd'
-        || byte == b'g'
-        || byte == b'k'
-        || byte == b'm'
-        || byte == b'o'
-        || byte == b's'
-        || byte == b'u'
-        || byte == b'v'
-        || byte == b'y'
+    matches!(
+        byte,
+        b'c' | b'd' | b'g' | b'k' | b'm' | b'o' | b's' | b'u' | b'v' | b'y'
+    )
 }
 
 /// Whether the byte is a letter, a digit or `_`.

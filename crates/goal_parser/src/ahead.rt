@@ -477,7 +477,7 @@ impl Reader {
         Ok(end)
     }
 
-    /// Takes an option of an action, or the item behind the action.
+    /// Takes an option of an action, of which so many blanks stand before; 0 where another token stands there.
     #[inline(always)]
     fn take_option(&mut self, rest: &[u8], blanks: usize) -> Result<usize, TokenFault>
         requires ready { MayGoOn self.old.lexer self.old.place rest.now }
@@ -491,7 +491,7 @@ impl Reader {
         }
         let word = option_ahead(rest, blanks);
         if word == 0 {
-            return self.take_item(rest, blanks);
+            return Ok(0);
         }
         match (self.parser.state, rest[blanks]) {
             (State::Send4 | State::Recv4, b't') => self.take_tag(rest, word),
@@ -515,14 +515,17 @@ impl Reader {
         if !self.lexer.is_between() {
             return Ok(0);
         }
+        let blanks = blanks_ahead(rest);
         match self.parser.state {
-            State::Item => self.take_item(rest, blanks_ahead(rest)),
-            State::Action => self.take_action(rest, blanks_ahead(rest)),
-            State::Calc2 | State::Send4 | State::Recv4 => self.take_option(
-                rest,
-                blanks_ahead(rest),
-            ),
-            _ => Ok(0),
+            State::Item => {}
+            State::Action => return self.take_action(rest, blanks),
+            State::Calc2 | State::Send4 | State::Recv4 => match self.take_option(rest, blanks) {
+                Ok(0) => {}
+                Ok(taken) => return Ok(taken),
+                Err(fault) => return Err(fault),
+            },
+            _ => return Ok(0),
         }
+        self.take_item(rest, blanks)
     }
 }
