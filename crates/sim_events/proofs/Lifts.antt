@@ -1,11 +1,11 @@
 -- The keys of a station are raised together: what it waits for is free for all its operations at one time, and no action
 -- that waits for it is possible before.
-use Rattle.std.proofs.Common.{◌≡◌, ◌≢◌, ◌⊎◌, ◌==◌, ◌&&◌, ◌+◌, ◌<◌, ◌≤◌, ℕ, zero, suc, max, Bool, true, false, List, [], ◌∷◌, length, Option, Some, None, is_some, slice_get, if◌then◌else◌, refl, sym, ap, ap₂, ◌∙◌, subst, arith, inl, inr}
+use Rattle.std.proofs.Common.{◌≡◌, ◌≢◌, ◌⊎◌, ◌==◌, ◌&&◌, ◌+◌, ◌<◌, ◌≤◌, ℕ, zero, suc, max, Bool, true, false, List, [], ◌∷◌, length, get_or, Option, Some, None, slice_get, if◌then◌else◌, refl, sym, ap, ap₂, ◌∙◌, subst, arith, inl, inr}
 use Rattle.std.specs.List.{sum_by}
 use Rattle.std.specs.Option.{option_map}
 use Rattle.std.proofs.lemmas.Bool.{both_ways, cases_eq}
 use Rattle.std.proofs.lemmas.List.Sums.{sum_by-cons}
-use Rattle.std.proofs.lemmas.Option.{same_Some}
+use Rattle.std.proofs.lemmas.Option.{same_Some, slice_get-get_or}
 use Rattle.goal_graph.specs.declared.action.OpId.{OpId}
 use Rattle.goal_graph.specs.declared.action.Timed.{Timed}
 use Rattle.goal_graph.specs.declared.plan.Kind.{Kind}
@@ -17,14 +17,13 @@ use Rattle.sim_params.specs.Times.{same_place, holds_cpu, holds_tx, holds_rx, cp
 use Rattle.goal_graph.specs.Order.{IsLess, key}
 use Rattle.sim_order.specs.Events.{event_before}
 use Rattle.sim_queue.specs.Map.{key_at, IsLeast, IsSoleLeast}
-use Rattle.sim_queue.specs.Groups.{Grouped}
-use Rattle.sim_queue.specs.Floors.{waits_for_room, at_time, IsLifted, IsRaised}
+use Rattle.sim_queue.specs.Floors.{Floored, waits_at, waits_for_room, at_time, HasFloor, IsFloorBy, IsLifted, IsRaised}
+use Rattle.sim_queue.proofs.Maps.{key_within}
 use Rattle.sim_events.specs.declared.station.Station.{Station}
 use Rattle.sim_events.specs.Stations.{station_by, HaveOneStation, AreStationed, free, free_of}
-use Rattle.sim_events.specs.Queue.{IsIdle, IsEarly, IsQueue, HasKey, lag, lags, changes}
-use Rattle.sim_events.proofs.Queue.{key_found}
+use Rattle.sim_events.specs.Queue.{IsIdle, IsEarly, IsQueue, HasEarlyKeys, HasKey, lag, lags}
+use Rattle.sim_events.proofs.Queue.{IsFound, key_found}
 use Rattle.sim_events.proofs.Keys.{before_event}
-use Rattle.sim_events.proofs.Changes.{IsKept, mark, marked_later, marked_anew, changes_grow}
 use Rattle.sim_events.proofs.Kept.{told_waiting, free_first}
 use Rattle.goal_graph.proofs.ForCallers.{key_cases, other_place}
 
@@ -107,13 +106,13 @@ sum_falls f (o ∷ old) (n ∷ new) l each (suc slot) within less =
     omega (arith, rest, each 0, sum_by-cons f o old, sum_by-cons f n new)
 
 -- a key of the queue stands in the slot of its operation
-pub has_there : (plans : List Plan) (costs : CostModel) (h : List Timed) (queue : Grouped Timed) → IsQueue plans costs h queue → (early : Timed) → HasKey queue.keys early → (slot : ℕ) → slice_get (operations plans) slot ≡ Some early.op → key_at queue.keys slot ≡ Some early
+pub has_there : (plans : List Plan) (costs : CostModel) (h : List Timed) (queue : Floored) → IsQueue plans costs h queue → (early : Timed) → HasKey queue.keys early → (slot : ℕ) → slice_get (operations plans) slot ≡ Some early.op → key_at queue.keys slot ≡ Some early
 has_there plans costs h queue q early has slot is =
     let found = key_found plans costs h queue has.0 early q has.1 in
     elim (cases_eq has.0 slot) [ inl s ↦ ap (key_at queue.keys) (sym s) ∙ has.1 | inr d ↦ absurd (other_place plans has.0 slot early.op early.op found.is_slot is d refl) ]
 
 -- the least key is before each other, since no two operations have one
-pub sole_least : (plans : List Plan) (costs : CostModel) (h : List Timed) (queue : Grouped Timed) → IsQueue plans costs h queue → (early : Timed) → ((at : ℕ) × IsLeast event_before queue.keys at early) → (slot : ℕ) → slice_get (operations plans) slot ≡ Some early.op → IsSoleLeast event_before queue.keys slot
+pub sole_least : (plans : List Plan) (costs : CostModel) (h : List Timed) (queue : Floored) → IsQueue plans costs h queue → (early : Timed) → ((at : ℕ) × IsLeast event_before queue.keys at early) → (slot : ℕ) → slice_get (operations plans) slot ≡ Some early.op → IsSoleLeast event_before queue.keys slot
 sole_least plans costs h queue q early least slot is = record {
   key = early;
   has = has_there plans costs h queue q early (least.0, least.1.has) slot is;
@@ -136,7 +135,7 @@ pub record IsHeldUp (plans : List Plan) (costs : CostModel) (h : List Timed) (ke
   pub free_then : n ≡ free plans costs h e.op
 
 -- so it is with the least key, where its time is not that of its action
-pub held_up : (plans : List Plan) (costs : CostModel) (h : List Timed) (queue : Grouped Timed) → IsQueue plans costs h queue → (early : Timed) → ((at : ℕ) × IsLeast event_before queue.keys at early) → (slot : ℕ) → slice_get (operations plans) slot ≡ Some early.op → (a : Timed) → Possible plans costs h a → a.class ≡ early.class → a.op ≡ early.op → a.time ≢ early.time → IsHeldUp plans costs h queue.keys slot early a.time
+pub held_up : (plans : List Plan) (costs : CostModel) (h : List Timed) (queue : Floored) → IsQueue plans costs h queue → (early : Timed) → ((at : ℕ) × IsLeast event_before queue.keys at early) → (slot : ℕ) → slice_get (operations plans) slot ≡ Some early.op → (a : Timed) → Possible plans costs h a → a.class ≡ early.class → a.op ≡ early.op → a.time ≢ early.time → IsHeldUp plans costs h queue.keys slot early a.time
 held_up plans costs h queue q early least slot is a possible class op differ =
     let has = has_there plans costs h queue q early (least.0, least.1.has) slot is in
     let times : time plans costs h a.class a.op ≡ time plans costs h early.class early.op = λ i. time plans costs h (class i) (op i) in
@@ -146,120 +145,124 @@ held_up plans costs h queue q early least slot is a possible class op differ =
     go has true w at = record { is_slot = is; has = has; waits = w; before = omega (arith, at, differ); free_then = omega (arith, at, differ) }
     go has false w at = absurd (differ at)
 
+-- what begins to wait where others of its station do is not later than the moment at which this is free
+pub put_floored : (plans : List Plan) (costs : CostModel) (h : List Timed) (queue : Floored) → HasEarlyKeys plans costs h queue → (known : List Plan) → known ≡ plans → (slot : ℕ) (x : OpId) (time : ℕ) → slice_get (operations known) slot ≡ Some x → (time ≡ 0) ⊎ HasFloor queue slot time → time ≤ free plans costs h x
+put_floored plans costs h queue q known same slot x time at (inl z) = omega (arith, z)
+put_floored plans costs h queue q known same slot x time at (inr f) =
+    let here : slice_get (operations plans) slot ≡ Some x = ap (λ (ps : List Plan). slice_get (operations ps) slot) (sym same) ∙ at in
+    let there : slice_get (operations plans) f.other ≡ Some (get_or (operations plans) f.other x) = slice_get-get_or (operations plans) f.other x (omega (arith, key_within queue.keys f.other f.key f.mate.has, q.each)) in
+    let one = q.stationed.same f.other slot _ x there here f.mate.group in
+    omega (arith, q.floored f.other _ f.key there f.mate.waits f.mate.has, f.at, free_together plans costs h _ x one)
+
 -- the keys of a station are raised to the moment at which it is free
-module _ (plans : List Plan) (costs : CostModel) (h : List Timed) (queue new : Grouped Timed) (q : IsQueue plans costs h queue) (slot n : ℕ) (early : Timed) (up : IsHeldUp plans costs h queue.keys slot early n) (lifted : IsLifted queue.groups queue.keys new.keys slot n) (groups : new.groups ≡ queue.groups) where
-  -- a key that is raised tells the time of its action as before
-  raised_early : (i : ℕ) (x : OpId) → slice_get (operations plans) i ≡ Some x → (k : Timed) → k.time ≤ n → waits_for_room k.class ≡ true → slice_get queue.groups i ≡ slice_get queue.groups slot → IsEarly plans costs h x k → IsEarly plans costs h x (at_time n k)
-  raised_early i x at k late w group b =
-      let together : free plans costs h x ≡ free plans costs h early.op = free_together plans costs h x early.op (q.stationed.same i slot x early.op at up.is_slot group) in
-      record {
-        op = b.op;
-        allowed = b.allowed;
-        told = omega (arith, b.told, told_waiting plans costs h k w, told_waiting plans costs h (at_time n k) w, together, ap (free plans costs h) b.op, up.free_then, late);
-      }
+module _ (plans : List Plan) (costs : CostModel) (h : List Timed) (queue new : Floored) (q : IsQueue plans costs h queue) (slot n : ℕ) (early : Timed) (up : IsHeldUp plans costs h queue.keys slot early n) where
+  -- the station is free then for each of its operations
+  pub free_then : (i : ℕ) (x : OpId) → slice_get (operations plans) i ≡ Some x → slice_get queue.groups i ≡ slice_get queue.groups slot → free plans costs h x ≡ n
+  free_then i x at group =
+      free_together plans costs h x early.op (q.stationed.same i slot x early.op at up.is_slot group) ∙ sym up.free_then
 
-  -- what a slot has now
-  abbrev IsChanged : ℕ → Type 0
-  IsChanged i =
-      (i ≡ slot) ⊎ (key_at new.keys i ≡ key_at queue.keys i) ⊎ IsRaised queue.groups queue.keys new.keys slot n i
-
-  early_now : (i : ℕ) (x : OpId) (e : Timed) → slice_get (operations plans) i ≡ Some x → key_at new.keys i ≡ Some e → IsChanged i → IsEarly plans costs h x e
-  early_now i x e at is (inl s) =
-      let now : key_at new.keys i ≡ Some (at_time n early) = ap (key_at new.keys) s ∙ lifted.here early up.has in
-      let was : key_at queue.keys i ≡ Some early = ap (key_at queue.keys) s ∙ up.has in
-      subst (IsEarly plans costs h x) (same_Some _ e (sym now ∙ is)) (raised_early i x at early (omega (arith, up.before)) up.waits (ap (slice_get queue.groups) s) (q.early i x early at was))
-  early_now i x e at is (inr (inl s)) = q.early i x e at (sym s ∙ is)
-  early_now i x e at is (inr (inr r)) =
-      subst (IsEarly plans costs h x) (same_Some _ e (sym r.has ∙ is)) (raised_early i x at r.key r.not_later r.waits r.group (q.early i x r.key at r.had))
-
-  idle_now : (i : ℕ) (x : OpId) → slice_get (operations plans) i ≡ Some x → key_at new.keys i ≡ None → IsChanged i → IsIdle plans costs h x ⊎ ⊥
-  idle_now i x at none (inl s) =
-      let now : key_at new.keys i ≡ Some (at_time n early) = ap (key_at new.keys) s ∙ lifted.here early up.has in
-      absurd (cc)
-  idle_now i x at none (inr (inl s)) = q.idle i x at (sym s ∙ none)
-  idle_now i x at none (inr (inr r)) = let now : key_at new.keys i ≡ Some (at_time n r.key) = r.has in absurd (cc)
-
-  pub lifted_queue : IsQueue plans costs h new
-  lifted_queue = record {
-    each = lifted.each ∙ q.each;
-    early = λ i x e at is. early_now i x e at is (lifted.others i);
-    idle = λ i x at none. idle_now i x at none (lifted.others i);
-    stationed = subst (AreStationed plans) (sym groups) q.stationed;
+  -- what waits there is not later
+  pub floor_by : IsFloorBy queue slot n
+  floor_by = record {
+    each =
+        λ i k mate.
+        let found = key_found plans costs h queue i k q mate.has in
+        omega (arith, q.floored i k.op k found.is_slot mate.waits mate.has, free_then i k.op found.is_slot mate.group);
   }
 
-  lag_now : (i : ℕ) → IsChanged i → lag plans costs h (key_at new.keys i) ≤ lag plans costs h (key_at queue.keys i)
-  lag_now i (inl s) =
-      let now = ap (lag plans costs h) (ap (key_at new.keys) s ∙ lifted.here early up.has) in
-      let was = ap (lag plans costs h) (ap (key_at queue.keys) s ∙ up.has) in
-      omega (arith, now, was, up.before)
-  lag_now i (inr (inl s)) = omega (arith, ap (lag plans costs h) s)
-  lag_now i (inr (inr r)) =
-      omega (arith, ap (lag plans costs h) r.has, ap (lag plans costs h) r.had, r.not_later)
+  module _ (lifted : IsLifted queue new slot n) where
+    -- the key of a slot of the station is raised
+    pub record IsUp (i : ℕ) : Type 0 where
+      pub key : Timed
+      pub had : key_at queue.keys i ≡ Some key
+      pub has : key_at new.keys i ≡ Some (at_time n key)
+      pub not_later : key.time ≤ n
+      pub waits : waits_for_room key.class ≡ true
+      pub group : slice_get queue.groups i ≡ slice_get queue.groups slot
 
-  pub lifted_less : lags plans costs h new < lags plans costs h queue
-  lifted_less =
-      let found = key_found plans costs h queue slot early q up.has in
-      let now = ap (lag plans costs h) (lifted.here early up.has) in
-      let was = ap (lag plans costs h) up.has in
-      let first : free plans costs h early.op ≤ time plans costs h early.class early.op = free_first plans costs h early.class early.op up.waits found.early.allowed in
-      sum_falls (lag plans costs h) queue.keys new.keys lifted.each (λ i. lag_now i (lifted.others i)) slot found.within (omega (arith, now, was, up.before, up.free_then, first))
+    pub slot_up : IsUp slot
+    slot_up = record { key = early; had = up.has; has = lifted.here early up.has; not_later = omega (arith, up.before); waits = up.waits; group = refl }
 
-  -- a key that is raised is at the time of its action
-  raised_on_time : (i : ℕ) (x : OpId) → slice_get (operations plans) i ≡ Some x → (k : Timed) → k.time ≤ n
-      → waits_for_room k.class ≡ true → slice_get queue.groups i ≡ slice_get queue.groups slot → IsEarly plans costs h x k
-      → lag plans costs h (Some (at_time n k)) ≡ 0
-  raised_on_time i x at k late w group b =
-      let one = q.stationed.same i slot x early.op at up.is_slot group in
-      let together = free_together plans costs h x early.op one in
-      omega (arith, b.told, told_waiting plans costs h k w, together, ap (free plans costs h) b.op, up.free_then, late)
+    -- each slot's key stays, or is raised with it
+    pub each_up : (i : ℕ) → (key_at new.keys i ≡ key_at queue.keys i) ⊎ IsUp i
+    each_up i = go (lifted.others i)
+      where
+        go : (i ≡ slot) ⊎ (key_at new.keys i ≡ key_at queue.keys i) ⊎ IsRaised queue new slot n i → (key_at new.keys i ≡ key_at queue.keys i) ⊎ IsUp i
+        go (inl s) = inr (subst IsUp (sym s) slot_up)
+        go (inr (inl same)) = inl same
+        go (inr (inr r)) =
+            inr (record { key = r.key; had = r.mate.has; has = r.has; not_later = r.not_later; waits = r.waits; group = r.mate.group })
 
-  module _ (first : List (Option Timed)) (kept : (i : ℕ) → IsKept plans costs h (key_at first i) (key_at queue.keys i)) where
-    kept_on_time : (i : ℕ) (k : Timed) → key_at queue.keys i ≡ Some k → key_at new.keys i ≡ Some (at_time n k) → k.time ≤ n
-        → waits_for_room k.class ≡ true → slice_get queue.groups i ≡ slice_get queue.groups slot
-        → IsKept plans costs h (key_at first i) (key_at new.keys i)
-    kept_on_time i k was now late w group =
-        let found = key_found plans costs h queue i k q was in
-        record {
-          there = ap is_some now ∙ sym (ap is_some was) ∙ (kept i).there;
-          once = inr (ap (lag plans costs h) now ∙ raised_on_time i k.op found.is_slot k late w group found.early);
-        }
+    -- a key that is raised tells the time of its action as before, and is at this time
+    module _ (i : ℕ) (u : IsUp i) (x : OpId) (at : slice_get (operations plans) i ≡ Some x) (b : IsEarly plans costs h x u.key) where
+      told_now : time plans costs h u.key.class u.key.op ≡ n
+      told_now =
+          let free_x = free_then i x at u.group in
+          omega (arith, b.told, told_waiting plans costs h u.key u.waits, ap (free plans costs h) b.op, free_x, u.not_later)
 
-    kept_now : (i : ℕ) → IsChanged i → IsKept plans costs h (key_at first i) (key_at new.keys i)
-    kept_now i (inl s) =
-        let now = ap (key_at new.keys) s ∙ lifted.here early up.has in
-        let was = ap (key_at queue.keys) s ∙ up.has in
-        kept_on_time i early was now (omega (arith, up.before)) up.waits (ap (slice_get queue.groups) s)
-    kept_now i (inr (inl s)) = subst (IsKept plans costs h (key_at first i)) (sym s) (kept i)
-    kept_now i (inr (inr r)) = kept_on_time i r.key r.had r.has r.not_later r.waits r.group
+      up_early : IsEarly plans costs h x (at_time n u.key)
+      up_early =
+          let free_x = free_then i x at u.group in
+          record {
+            op = b.op;
+            allowed = b.allowed;
+            told = omega (arith, told_now, told_waiting plans costs h (at_time n u.key) u.waits, ap (free plans costs h) b.op, free_x);
+          }
 
-    -- what was kept of the keys at first is kept when some are raised
-    pub lifted_kept : (i : ℕ) → IsKept plans costs h (key_at first i) (key_at new.keys i)
-    lifted_kept i = kept_now i (lifted.others i)
+      up_on_time : lag plans costs h (Some (at_time n u.key)) ≡ 0
+      up_on_time = omega (arith, told_now)
 
-    mark_now : (i : ℕ) → IsChanged i → mark (key_at first i) (key_at queue.keys i) ≤ mark (key_at first i) (key_at new.keys i)
-    mark_now i (inl s) =
-        let now = ap (key_at new.keys) s ∙ lifted.here early up.has in
-        let was = ap (key_at queue.keys) s ∙ up.has in
-        marked_later (key_at first i) _ _ early (at_time n early) was now (omega (arith, up.before))
-    mark_now i (inr (inl s)) = omega (arith, ap (mark (key_at first i)) s)
-    mark_now i (inr (inr r)) = marked_later (key_at first i) _ _ r.key (at_time n r.key) r.had r.has r.not_later
+    up_found : (i : ℕ) (u : IsUp i) → IsFound plans costs h queue.keys i u.key
+    up_found i u = key_found plans costs h queue i u.key q u.had
 
-    -- the key of the slot was not raised before
-    as_at_first : key_at first slot ≡ Some early
-    as_at_first =
+    pub lag_up : (i : ℕ) → IsUp i → lag plans costs h (key_at new.keys i) ≡ 0
+    lag_up i u = ap (lag plans costs h) u.has ∙ up_on_time i u u.key.op (up_found i u).is_slot (up_found i u).early
+
+    early_now : (i : ℕ) (x : OpId) (e : Timed) → slice_get (operations plans) i ≡ Some x → key_at new.keys i ≡ Some e → (key_at new.keys i ≡ key_at queue.keys i) ⊎ IsUp i → IsEarly plans costs h x e
+    early_now i x e at is (inl same) = q.early i x e at (sym same ∙ is)
+    early_now i x e at is (inr u) =
+        subst (IsEarly plans costs h x) (same_Some _ e (sym u.has ∙ is)) (up_early i u x at (q.early i x u.key at u.had))
+
+    idle_now : (i : ℕ) (x : OpId) → slice_get (operations plans) i ≡ Some x → key_at new.keys i ≡ None → (key_at new.keys i ≡ key_at queue.keys i) ⊎ IsUp i → IsIdle plans costs h x ⊎ ⊥
+    idle_now i x at none (inl same) = q.idle i x at (sym same ∙ none)
+    idle_now i x at none (inr u) = let now : key_at new.keys i ≡ Some (at_time n u.key) = u.has in absurd (cc)
+
+    lag_now : (i : ℕ) → (key_at new.keys i ≡ key_at queue.keys i) ⊎ IsUp i → lag plans costs h (key_at new.keys i) ≤ lag plans costs h (key_at queue.keys i)
+    lag_now i (inl same) = omega (arith, ap (lag plans costs h) same)
+    lag_now i (inr u) = omega (arith, lag_up i u)
+
+    -- how far the key of the slot was from the time of its action
+    pub lag_before : 0 < lag plans costs h (key_at queue.keys slot)
+    lag_before =
         let found = key_found plans costs h queue slot early q up.has in
-        let least = free_first plans costs h early.class early.op up.waits found.early.allowed in
-        elim ((kept slot).once) [
-          | inl s ↦ sym s ∙ up.has
-          | inr z ↦ absurd (omega (arith, sym (ap (lag plans costs h) up.has) ∙ z, up.before, up.free_then, least))
-        ]
+        let first = free_first plans costs h early.class early.op up.waits found.early.allowed in
+        omega (arith, ap (lag plans costs h) up.has, up.before, up.free_then, first)
 
-    -- so one more key is changed at least
-    pub lifted_changes : length queue.keys ≡ length first → changes first queue.keys < changes first new.keys
-    lifted_changes each =
+    pub lifted_less : lags plans costs h new < lags plans costs h queue
+    lifted_less =
         let found = key_found plans costs h queue slot early q up.has in
-        let here : slot < length first = omega (arith, found.within, each) in
-        let more =
-        marked_anew (key_at first slot) _ _ early (at_time n early) as_at_first up.has (lifted.here early up.has) up.before in
-        let stay = λ (i : ℕ). mark_now i (lifted.others i) in
-        changes_grow first queue.keys new.keys each (lifted.each ∙ each) stay slot here more
+        sum_falls (lag plans costs h) queue.keys new.keys lifted.each (λ i. lag_now i (each_up i)) slot found.within (omega (arith, lag_up slot slot_up, lag_before))
+
+    module _ (groups : new.groups ≡ queue.groups) (others : (other : ℕ) → other ≢ slot → waits_at new other ≡ waits_at queue other) where
+      -- what waits is not later than the moment at which its station is free
+      floored_now : (i : ℕ) (x : OpId) (e : Timed) → slice_get (operations plans) i ≡ Some x → waits_at new i ≡ true → key_at new.keys i ≡ Some e → e.time ≤ free plans costs h x
+      floored_now i x e at w is = go (cases_eq i slot) (each_up i)
+        where
+          go : (i ≡ slot) ⊎ (i ≢ slot) → (key_at new.keys i ≡ key_at queue.keys i) ⊎ IsUp i → e.time ≤ free plans costs h x
+          go s (inr u) =
+              let time : n ≡ e.time = ap (λ (k : Timed). k.time) (same_Some (at_time n u.key) e (sym u.has ∙ is)) in
+              omega (arith, time, free_then i x at u.group)
+          go (inr d) (inl same) = q.floored i x e at (sym (others i d) ∙ w) (sym same ∙ is)
+          go (inl s) (inl same) =
+              let now : key_at new.keys i ≡ Some (at_time n early) = ap (key_at new.keys) s ∙ lifted.here early up.has in
+              let time : n ≡ e.time = ap (λ (k : Timed). k.time) (same_Some (at_time n early) e (sym now ∙ is)) in
+              omega (arith, time, free_then i x at (ap (slice_get queue.groups) s))
+
+      pub lifted_queue : IsQueue plans costs h new
+      lifted_queue = record {
+        each = lifted.each ∙ q.each;
+        early = λ i x e at is. early_now i x e at is (each_up i);
+        idle = λ i x at none. idle_now i x at none (each_up i);
+        stationed = subst (AreStationed plans) (sym groups) q.stationed;
+        floored = floored_now;
+      }

@@ -72,6 +72,9 @@ module _ (plans : List Plan) where
 
   pub numbered_all : (n : ℕ) (keys : List Station) (numbers : List ℕ) → AreNumberedTo n keys numbers → length (operations plans) ≤ n → AreStationed plans numbers
   numbered_all n keys numbers to all = record {
+    each =
+        λ i x e.
+        let one = to.each i x (omega (arith, all, slice_get_within (operations plans) i x e)) e in (one.number, one.number_is);
     same =
         λ i j x y e f s.
         let one = to.each i x (omega (arith, all, slice_get_within (operations plans) i x e)) e in

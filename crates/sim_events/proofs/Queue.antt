@@ -19,15 +19,15 @@ use Rattle.sim_params.specs.Run.{IsNext, IsRun, IsFinished}
 use Rattle.sim_params.specs.Laws.{at_its_time, HasBound}
 use Rattle.sim_params.proofs.ForCallers.{run_interleaving, possible_at, least_is_next}
 use Rattle.sim_order.specs.Events.{event_before}
-use Rattle.sim_queue.specs.Groups.{Grouped}
+use Rattle.sim_queue.specs.Floors.{Floored, waits_at}
 use Rattle.sim_queue.specs.Map.{key_at, IsEmptyMap, IsLeast}
-use Rattle.sim_events.specs.Stations.{AreStationed}
+use Rattle.sim_events.specs.Stations.{AreStationed, free}
 use Rattle.sim_events.specs.Queue.{IsIdle, IsEnabledActionOf, IsEarly, IsBoundOf, IsQueueBut, IsQueue, IsQueueWithout, HasEarlyKeys, IsRefreshed, IsDueAfter}
 use Rattle.sim_events.proofs.After.{other_op, happened_this}
 use Rattle.sim_events.proofs.Awaited.{IsConcerned, newly_allowed}
 use Rattle.sim_events.proofs.Done.{serve_or_not, served_is_done}
 use Rattle.sim_events.proofs.Keys.{before_event}
-use Rattle.sim_events.proofs.Kept.{not_later, told_itself, told_after}
+use Rattle.sim_events.proofs.Kept.{not_later, told_itself, told_after, free_grows}
 use Rattle.sim_events.proofs.Places.{listed_exists, possible_exists}
 
 -- a slot that has no key
@@ -88,12 +88,14 @@ module _ (plans : List Plan) (costs : CostModel) where
         go (inl (c, t)) = elim (newly c x t) [ inl was ↦ absurd (both_ways _ (idle c) was) | inr new ↦ inr (due c x t new) ]
 
     -- so after an action, whose own key was taken out, those are due that it concerns
-    pub queue_after : (queue : Grouped Timed) → IsQueueWithout plans costs h a.op queue → IsQueueBut plans costs (a ∷ h) (IsDueAfter plans costs (a ∷ h) a) queue
+    pub queue_after : (queue : Floored) → IsQueueWithout plans costs h a.op queue → IsQueueBut plans costs (a ∷ h) (IsDueAfter plans costs (a ∷ h) a) queue
     queue_after queue q = record {
       each = q.rest.each;
       early = λ i x e at has. early_stays x e (taken i x e at has) (q.rest.early i x e at has);
       idle = λ i x at none. elim (q.rest.idle i x at none) [ inl idle ↦ idle_stays x idle | inr own ↦ inr (inl own) ];
       stationed = q.rest.stationed;
+      floored = λ i x e at w has.
+          let was = q.rest.floored i x e at w has in omega (arith, was, free_grows plans costs a h x);
     }
       where
         taken : (i : ℕ) (x : OpId) (e : Timed) → slice_get (operations plans) i ≡ Some x → key_at queue.keys i ≡ Some e → ¬ (x ≡ a.op)
@@ -101,16 +103,17 @@ module _ (plans : List Plan) (costs : CostModel) where
 
   module _ (h : List Timed) where
     -- where an operation has got its key it is no longer due
-    pub refreshed : (Due Later : OpId → Type 0) (old new : Grouped Timed) (x : OpId) → IsQueueBut plans costs h Due old → IsRefreshed plans costs h x old new → ((y : OpId) → IsOp plans y → Due y → ¬ (y ≡ x) → Later y) → IsQueueBut plans costs h Later new
+    pub refreshed : (Due Later : OpId → Type 0) (old new : Floored) (x : OpId) → IsQueueBut plans costs h Due old → IsRefreshed plans costs h x old new → ((y : OpId) → IsOp plans y → Due y → ¬ (y ≡ x) → Later y) → IsQueueBut plans costs h Later new
     refreshed Due Later old new x q r still = record {
-      each = ap (λ (g : Grouped Timed). length g.keys) r.put ∙ length-set old.keys r.slot r.key ∙ q.each;
+      each = ap length r.put ∙ length-set old.keys r.slot r.key ∙ q.each;
       early = λ i y e at has. early i y e at (sym (now i) ∙ has) (cases_eq i r.slot);
       idle = λ i y at none. idle i y at (sym (now i) ∙ none) (cases_eq i r.slot);
-      stationed = subst (λ (g : Grouped Timed). AreStationed plans g.groups) (sym r.put) q.stationed;
+      stationed = subst (AreStationed plans) (sym r.groups) q.stationed;
+      floored = λ i y e at w has. floored i y e at w (sym (now i) ∙ has) (cases_eq i r.slot);
     }
       where
         now : (i : ℕ) → key_at new.keys i ≡ key_at (set old.keys r.slot r.key) i
-        now i = ap (λ (g : Grouped Timed). key_at g.keys i) r.put
+        now i = ap (λ ks. key_at ks i) r.put
 
         within : r.slot < length old.keys
         within = omega (arith, q.each, slice_get_within (operations plans) r.slot x r.is_slot)
@@ -125,50 +128,62 @@ module _ (plans : List Plan) (costs : CostModel) where
         early i y e at has (inl s) = subst (λ (k : Option Timed). IsBoundOf plans costs h y k) has (here i y at s)
         early i y e at has (inr d) = q.early i y e at (sym (get_or-set_other old.keys r.slot i r.key None d) ∙ has)
 
+        floored : (i : ℕ) (y : OpId) (e : Timed) → slice_get (operations plans) i ≡ Some y → waits_at new i ≡ true → key_at (set old.keys r.slot r.key) i ≡ Some e → (i ≡ r.slot) ⊎ (i ≢ r.slot) → e.time ≤ free plans costs h y
+        floored i y e at w has (inl s) =
+            let same : x ≡ y = same_Some x y (sym r.is_slot ∙ ap (slice_get (operations plans)) (sym s) ∙ at) in
+            let is : key_at (set old.keys r.slot r.key) i ≡ r.key = ap (key_at (set old.keys r.slot r.key)) s ∙ get_or-set_same old.keys r.slot r.key None within in
+            let by = r.floored e (sym (ap (waits_at new) s) ∙ w) (sym is ∙ has) in
+            omega (arith, by, ap (free plans costs h) same)
+        floored i y e at w has (inr d) =
+            q.floored i y e at (sym (r.others i d) ∙ w) (sym (get_or-set_other old.keys r.slot i r.key None d) ∙ has)
+
         idle : (i : ℕ) (y : OpId) → slice_get (operations plans) i ≡ Some y → key_at (set old.keys r.slot r.key) i ≡ None → (i ≡ r.slot) ⊎ (i ≢ r.slot) → IsIdle plans costs h y ⊎ Later y
         idle i y at none (inl s) = inl (subst (λ (k : Option Timed). IsBoundOf plans costs h y k) none (here i y at s))
         idle i y at none (inr d) =
             elim (q.idle i y at (sym (get_or-set_other old.keys r.slot i r.key None d) ∙ none)) [ inl is ↦ inl is | inr due ↦ inr (still y (listed_exists plans i y at) due (other_place plans i r.slot y x at r.is_slot d)) ]
 
     -- fewer are due
-    pub fewer_due : (Due Later : OpId → Type 0) (queue : Grouped Timed) → IsQueueBut plans costs h Due queue → ((y : OpId) → IsOp plans y → Due y → Later y) → IsQueueBut plans costs h Later queue
+    pub fewer_due : (Due Later : OpId → Type 0) (queue : Floored) → IsQueueBut plans costs h Due queue → ((y : OpId) → IsOp plans y → Due y → Later y) → IsQueueBut plans costs h Later queue
     fewer_due Due Later queue q still = record {
       each = q.each;
       early = q.early;
       idle = λ i y at none. elim (q.idle i y at none) [ inl is ↦ inl is | inr due ↦ inr (still y (listed_exists plans i y at) due) ];
       stationed = q.stationed;
+      floored = q.floored;
     }
 
     -- all may be due: each key that there is is early
-    pub early_keys : (Due : OpId → Type 0) (queue : Grouped Timed) → IsQueueBut plans costs h Due queue → HasEarlyKeys plans costs h queue
+    pub early_keys : (Due : OpId → Type 0) (queue : Floored) → IsQueueBut plans costs h Due queue → HasEarlyKeys plans costs h queue
     early_keys Due queue q = fewer_due Due (λ y. Unit {0}) queue q (λ y is due. tt)
 
     -- where all are due an empty queue will do
-    pub all_due : (Due : OpId → Type 0) (queue : Grouped Timed) → length queue.keys ≡ length (operations plans) → IsEmptyMap queue.keys → AreStationed plans queue.groups → ((y : OpId) → IsOp plans y → Due y) → IsQueueBut plans costs h Due queue
+    pub all_due : (Due : OpId → Type 0) (queue : Floored) → length queue.keys ≡ length (operations plans) → IsEmptyMap queue.keys → AreStationed plans queue.groups → ((y : OpId) → IsOp plans y → Due y) → IsQueueBut plans costs h Due queue
     all_due Due queue e empty stationed every = record {
       each = e;
       early = λ i y k at has. no_key i k has;
       idle = λ i y at none. inr (every y (listed_exists plans i y at));
       stationed = stationed;
+      floored = λ i y k at w has. no_key i k has;
     }
       where
         no_key : {T : Type 0} (i : ℕ) (k : Timed) → key_at queue.keys i ≡ Some k → T
         no_key i k has = let none : key_at queue.keys i ≡ None = empty i in absurd (cc)
 
     -- where the key of an operation is taken out, the others stay
-    pub taken_out : (queue new : Grouped Timed) (slot : ℕ) (x : OpId) → IsQueue plans costs h queue → slice_get (operations plans) slot ≡ Some x → new ≡ record { keys = slice_set queue.keys slot None; groups = queue.groups } → IsQueueWithout plans costs h x new
+    pub taken_out : (queue new : Floored) (slot : ℕ) (x : OpId) → IsQueue plans costs h queue → slice_get (operations plans) slot ≡ Some x → new ≡ record { keys = slice_set queue.keys slot None; groups = queue.groups; waits = slice_set queue.waits slot false } → IsQueueWithout plans costs h x new
     taken_out queue new slot x q is put = record {
       rest = record {
-        each = ap (λ (g : Grouped Timed). length g.keys) put ∙ length-set queue.keys slot None ∙ q.each;
+        each = ap (λ (g : Floored). length g.keys) put ∙ length-set queue.keys slot None ∙ q.each;
         early = λ i y e at has. early i y e at (sym (now i) ∙ has) (cases_eq i slot);
         idle = λ i y at none. idle i y at (sym (now i) ∙ none) (cases_eq i slot);
-        stationed = subst (λ (g : Grouped Timed). AreStationed plans g.groups) (sym put) q.stationed;
+        stationed = subst (λ (g : Floored). AreStationed plans g.groups) (sym put) q.stationed;
+        floored = λ i y e at w has. floored i y e at w (sym (now i) ∙ has) (cases_eq i slot);
       };
       free = λ i at. now i ∙ ap (key_at (set queue.keys slot None)) (one_place plans i slot x at is) ∙ gone;
     }
       where
         now : (i : ℕ) → key_at new.keys i ≡ key_at (set queue.keys slot None) i
-        now i = ap (λ (g : Grouped Timed). key_at g.keys i) put
+        now i = ap (λ (g : Floored). key_at g.keys i) put
 
         gone : key_at (set queue.keys slot None) slot ≡ None
         gone =
@@ -179,6 +194,14 @@ module _ (plans : List Plan) (costs : CostModel) where
             let none : key_at (set queue.keys slot None) i ≡ None = ap (key_at (set queue.keys slot None)) s ∙ gone in
             absurd (cc)
         early i y e at has (inr d) = q.early i y e at (sym (get_or-set_other queue.keys slot i None None d) ∙ has)
+
+        floored : (i : ℕ) (y : OpId) (e : Timed) → slice_get (operations plans) i ≡ Some y → waits_at new i ≡ true → key_at (set queue.keys slot None) i ≡ Some e → (i ≡ slot) ⊎ (i ≢ slot) → e.time ≤ free plans costs h y
+        floored i y e at w has (inl s) =
+            let none : key_at (set queue.keys slot None) i ≡ None = ap (key_at (set queue.keys slot None)) s ∙ gone in
+            absurd (cc)
+        floored i y e at w has (inr d) =
+            let waited = ap (λ (g : Floored). waits_at g i) put ∙ get_or-set_other queue.waits slot i false false d in
+            q.floored i y e at (sym waited ∙ w) (sym (get_or-set_other queue.keys slot i None None d) ∙ has)
 
         idle : (i : ℕ) (y : OpId) → slice_get (operations plans) i ≡ Some y → key_at (set queue.keys slot None) i ≡ None → (i ≡ slot) ⊎ (i ≢ slot) → IsIdle plans costs h y ⊎ (y ≡ x)
         idle i y at none (inl s) = inr (same_Some y x (sym at ∙ ap (slice_get (operations plans)) s ∙ is))
@@ -191,7 +214,7 @@ module _ (plans : List Plan) (costs : CostModel) where
       pub is_slot : slice_get (operations plans) slot ≡ Some e.op
       pub early : IsEarly plans costs h e.op e
 
-    pub key_found : (queue : Grouped Timed) (slot : ℕ) (e : Timed) → IsQueue plans costs h queue → key_at queue.keys slot ≡ Some e → IsFound queue.keys slot e
+    pub key_found : (queue : Floored) (slot : ℕ) (e : Timed) → IsQueue plans costs h queue → key_at queue.keys slot ≡ Some e → IsFound queue.keys slot e
     key_found queue slot e q has = go (cases_lt slot (length queue.keys))
       where
         found : slot < length queue.keys → (x : OpId) → slice_get (operations plans) slot ≡ Some x → IsEarly plans costs h x e → IsFound queue.keys slot e
@@ -207,7 +230,7 @@ module _ (plans : List Plan) (costs : CostModel) where
             let at : slice_get (operations plans) slot ≡ Some (get_or (operations plans) slot e.op) = slice_get-get_or (operations plans) slot e.op (omega (arith, l, q.each)) in
             found l _ at (q.early slot _ e at has)
 
-    module _ (run : IsRun plans costs h) (queue : Grouped Timed) (q : IsQueue plans costs h queue) where
+    module _ (run : IsRun plans costs h) (queue : Floored) (q : IsQueue plans costs h queue) where
       abbrev InQueue : Timed → Type 0
       InQueue e = (slot : ℕ) × (key_at queue.keys slot ≡ Some e)
 
@@ -259,7 +282,7 @@ module _ (plans : List Plan) (costs : CostModel) where
           least_next slot a (subst (IsLeast event_before queue.keys slot) same least) p
 
     -- where nothing is possible the queue is empty
-    pub empty_from : (queue : Grouped Timed) → IsQueue plans costs h queue → IsFinished plans costs h → IsEmptyMap queue.keys
+    pub empty_from : (queue : Floored) → IsQueue plans costs h queue → IsFinished plans costs h → IsEmptyMap queue.keys
     empty_from queue q none slot = go (key_at queue.keys slot) refl
       where
         go : (k : Option Timed) → key_at queue.keys slot ≡ k → k ≡ None
@@ -267,35 +290,43 @@ module _ (plans : List Plan) (costs : CostModel) where
         go (Some k) e = absurd (none (at_its_time plans costs h k.class k.op) (possible_at plans costs h k.class k.op (key_found queue slot k q e).early.allowed))
 
   -- an operation that had no key has got that of its possible action
-  pub put_enabled : (h : List Timed) (x : OpId) (known : List Plan) (slot : ℕ) (enabled : Option Timed) (a : Timed) (old new : Grouped Timed) → known ≡ plans → slice_get (operations known) slot ≡ Some x → IsEnabledActionOf plans costs h x enabled → enabled ≡ Some a → new ≡ record { keys = slice_set old.keys slot (Some a); groups = old.groups } → IsRefreshed plans costs h x old new
-  put_enabled h x known slot enabled a old new same at is e set_there = record {
+  pub put_enabled : (h : List Timed) (x : OpId) (known : List Plan) (slot : ℕ) (enabled : Option Timed) (a : Timed) (old new : Floored) → known ≡ plans → slice_get (operations known) slot ≡ Some x → IsEnabledActionOf plans costs h x enabled → enabled ≡ Some a → new.keys ≡ slice_set old.keys slot (Some a) → new.groups ≡ old.groups → ((other : ℕ) → other ≢ slot → waits_at new other ≡ waits_at old other) → (waits_at new slot ≡ true → a.time ≤ free plans costs h x) → IsRefreshed plans costs h x old new
+  put_enabled h x known slot enabled a old new same at is e keys groups others floored = record {
     slot = slot;
     is_slot = ap (λ (ps : List Plan). slice_get (operations ps) slot) (sym same) ∙ at;
     key = Some a;
     bound = subst (λ (k : Option Timed). IsBoundOf plans costs h x k) e (enabled_bound h x enabled is);
-    put = set_there;
+    put = keys;
+    groups = groups;
+    others = others;
+    floored = λ k w has. omega (arith, floored w, ap (λ (t : Timed). t.time) (same_Some a k has));
   }
 
   -- what has its bound stays as it is
-  bound_kept : (h : List Timed) (x : OpId) (known : List Plan) (slot : ℕ) (queue : Grouped Timed) → known ≡ plans → slice_get (operations known) slot ≡ Some x → IsBoundOf plans costs h x (key_at queue.keys slot) → IsRefreshed plans costs h x queue queue
-  bound_kept h x known slot queue same at bound = record {
-    slot = slot;
-    is_slot = ap (λ (ps : List Plan). slice_get (operations ps) slot) (sym same) ∙ at;
-    key = key_at queue.keys slot;
-    bound = bound;
-    put = ap (λ (ks : List (Option Timed)). record { keys = ks; groups = queue.groups }) (sym (set-get_or queue.keys slot None));
-  }
+  bound_kept : (h : List Timed) (x : OpId) (known : List Plan) (slot : ℕ) (queue : Floored) → HasEarlyKeys plans costs h queue → known ≡ plans → slice_get (operations known) slot ≡ Some x → IsBoundOf plans costs h x (key_at queue.keys slot) → IsRefreshed plans costs h x queue queue
+  bound_kept h x known slot queue q same at bound =
+      let is_slot = ap (λ (ps : List Plan). slice_get (operations ps) slot) (sym same) ∙ at in
+      record {
+        slot = slot;
+        is_slot = is_slot;
+        key = key_at queue.keys slot;
+        bound = bound;
+        put = sym (set-get_or queue.keys slot None);
+        groups = refl;
+        others = λ other d. refl;
+        floored = λ e w has. q.floored slot x e is_slot w has;
+      }
 
   -- a key that is there is early
-  pub key_kept : (h : List Timed) (x : OpId) (known : List Plan) (slot : ℕ) (queue : Grouped Timed) → HasEarlyKeys plans costs h queue → known ≡ plans → slice_get (operations known) slot ≡ Some x → is_some (key_at queue.keys slot) ≡ true → IsRefreshed plans costs h x queue queue
+  pub key_kept : (h : List Timed) (x : OpId) (known : List Plan) (slot : ℕ) (queue : Floored) → HasEarlyKeys plans costs h queue → known ≡ plans → slice_get (operations known) slot ≡ Some x → is_some (key_at queue.keys slot) ≡ true → IsRefreshed plans costs h x queue queue
   key_kept h x known slot queue q same at some = go (key_at queue.keys slot) refl
     where
       go : (k : Option Timed) → key_at queue.keys slot ≡ k → IsRefreshed plans costs h x queue queue
       go None none = absurd (both_ways _ (ap is_some none) some)
       go (Some e) has =
-          bound_kept h x known slot queue same at (subst (IsBoundOf plans costs h x) (sym has) (q.early slot x e (ap (λ (ps : List Plan). slice_get (operations ps) slot) (sym same) ∙ at) has))
+          bound_kept h x known slot queue q same at (subst (IsBoundOf plans costs h x) (sym has) (q.early slot x e (ap (λ (ps : List Plan). slice_get (operations ps) slot) (sym same) ∙ at) has))
 
   -- what is idle has none
-  pub idle_kept : (h : List Timed) (x : OpId) (known : List Plan) (slot : ℕ) (enabled : Option Timed) (queue : Grouped Timed) → known ≡ plans → slice_get (operations known) slot ≡ Some x → IsEnabledActionOf plans costs h x enabled → enabled ≡ None → is_some (key_at queue.keys slot) ≡ false → IsRefreshed plans costs h x queue queue
-  idle_kept h x known slot enabled queue same at is e none =
-      bound_kept h x known slot queue same at (subst (IsBoundOf plans costs h x) (sym (no_key (key_at queue.keys slot) none)) (subst (λ (k : Option Timed). IsBoundOf plans costs h x k) e (enabled_bound h x enabled is)))
+  pub idle_kept : (h : List Timed) (x : OpId) (known : List Plan) (slot : ℕ) (enabled : Option Timed) (queue : Floored) → HasEarlyKeys plans costs h queue → known ≡ plans → slice_get (operations known) slot ≡ Some x → IsEnabledActionOf plans costs h x enabled → enabled ≡ None → is_some (key_at queue.keys slot) ≡ false → IsRefreshed plans costs h x queue queue
+  idle_kept h x known slot enabled queue q same at is e none =
+      bound_kept h x known slot queue q same at (subst (IsBoundOf plans costs h x) (sym (no_key (key_at queue.keys slot) none)) (subst (λ (k : Option Timed). IsBoundOf plans costs h x k) e (enabled_bound h x enabled is)))

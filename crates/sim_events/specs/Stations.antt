@@ -29,8 +29,9 @@ module _ (plans : List Plan) where
     pub is_other : op_at plans y ≡ Some other
     pub same : station_of x op ≡ station_of y other
 
-  -- where two operations have the same number, they have one station
+  -- each operation has a number, and where two have the same, they have one station
   pub record AreStationed (numbers : List ℕ) : Type 0 where
+    pub each : (i : ℕ) (x : OpId) → slice_get (operations plans) i ≡ Some x → (n : ℕ) × (slice_get numbers i ≡ Some n)
     pub same :
         (i j : ℕ) (x y : OpId)
         → slice_get (operations plans) i ≡ Some x → slice_get (operations plans) j ≡ Some y

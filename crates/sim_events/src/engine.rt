@@ -133,7 +133,7 @@ impl<'a, C: Costs> Engine<'a, C> {
         ensures same { IfNone result (self.new ≡ self.old) }
         ensures run { IsRun self.new.plans (C.model self.new.costs) self.new.history }
     {
-        self.step_counted::<Brand>(Blank::new(1))
+        self.step_counted::<Brand, Brand>(Blank::new(1), Blank::new(1))
     }
 
     /// Lets all that is possible happen, until nothing is. Then it gives back the memory that steps need.
@@ -209,11 +209,18 @@ impl<'a, C: Costs> Engine<'a, C> {
         self.state.known();
     }
 
-    // A step whose comparisons are counted.
-    fn step_counted<L: Ledger>(&mut self, blank: Blank) -> Option<Timed>
+    // A step whose comparisons and lifts are counted.
+    fn step_counted<L: Ledger, R: Ledger>(
+        &mut self,
+        blank: Blank,
+        for_lifts: Blank,
+    ) -> Option<Timed>
         requires name { blank.name ≡ L.name }
         requires parts { blank.parts ≡ L.parts }
         requires some { 0 < blank.parts }
+        requires lifts_name { for_lifts.name ≡ R.name }
+        requires lifts_parts { for_lifts.parts ≡ R.parts }
+        requires lifts_some { 0 < for_lifts.parts }
         ensures next { IfSome result (IsNext self.old.plans (C.model self.old.costs) self.old.history) }
         ensures after { IfSome result (λ a. self.new ≡ record self.old { history = a ∷ self.old.history }) }
         ensures finished { IfNone result (IsFinished self.old.plans (C.model self.old.costs) self.old.history) }
@@ -221,11 +228,12 @@ impl<'a, C: Costs> Engine<'a, C> {
         ensures run { IsRun self.new.plans (C.model self.new.costs) self.new.history }
     {
         let mut steps = Steps::<L>::new(blank);
+        let mut lifts = Steps::<R>::new(for_lifts);
         self.known();
         let Some(Outlook { queue, cursors }) = &mut self.outlook else {
             return None;
         };
-        let action = next(&self.state, queue, &mut steps)?;
+        let action = next(&self.state, queue, &mut steps, &mut lifts)?;
         self.state.perform(action);
         follow(&self.state, queue, cursors, action, &mut steps);
         Some(action)

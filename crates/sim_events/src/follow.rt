@@ -1,5 +1,5 @@
 // The queue of an engine: what it holds, and how it follows what happens.
-ghost use Rattle.std.specs.Prelude.{◌≡◌, ◌≢◌, ℕ, ◌<◌, ◌≤◌, ◌+◌, ◌*◌, ◌^◌, ◌↔◌, ◌⊎◌, IsTrue, IfSome, IfNone, IsNone, Some, length};
+ghost use Rattle.std.specs.Prelude.{◌≡◌, ◌≢◌, ℕ, ◌<◌, ◌≤◌, ◌+◌, ◌↔◌, ◌⊎◌, IsTrue, IfSome, IfNone, IsNone, Some, length};
 ghost use Rattle.goal_graph.specs.declared.action.Class.TheVariants.{Serve};
 ghost use Rattle.goal_graph.specs.Schedule.{operations};
 ghost use Rattle.goal_graph.specs.Fault.{IsOp};
@@ -9,7 +9,7 @@ ghost use Rattle.sim_order.specs.Events.{event_before};
 ghost use Rattle.sim_queue.specs.Map.{IsEmptyMap, IsLeast};
 ghost use Rattle.sim_events.specs.Stations.{AreStationed};
 ghost use Rattle.sim_events.specs.Cursors.{IsCursorOf, AreCursors};
-ghost use Rattle.sim_events.specs.Queue.{IsEarly, IsQueue, IsQueueBut, IsQueueWithout, HasEarlyKeys, IsRefreshed, IsDueAfter, Awaits, gives, IsEnabledActionOf, changes};
+ghost use Rattle.sim_events.specs.Queue.{IsEarly, IsQueue, IsQueueBut, IsQueueWithout, HasEarlyKeys, IsRefreshed, IsDueAfter, Awaits, gives, IsEnabledActionOf, IsEachRaisedOnce};
 
 use crate::cursor::Cursor;
 use crate::key::compact;
@@ -47,20 +47,22 @@ pub fn fill<C: Costs, L: Ledger>(
 }
 
 /// The action that happens next, none where nothing is possible. Its operation's key is taken out. Keys that are too
-/// early are raised on the way: those of a station together, to the moment at which it is free. Each key is raised at most
-/// once: a key that is raised or taken costs a lift and a take at most, which are 6k + 135 comparisons among 2^k operations.
-pub fn next<C: Costs, L: Ledger>(
+/// early are raised on the way, to the moment at which their station is free: those that wait there together, and one that
+/// does not wait yet for itself, which waits from then on.
+///
+/// - `once`: each station is lifted at most once, and `lifts` counts it; each key begins to wait at most once.
+pub fn next<C: Costs, L: Ledger, R: Ledger>(
     state: &State<C>,
     queue: &mut Queue,
     steps: &mut Steps<L>,
+    lifts: &mut Steps<R>,
 ) -> Option<Timed>
     requires queue { IsQueue state.now.plans (C.model state.now.costs) state.now.history queue.old }
     ensures without { IfSome result (λ a. IsQueueWithout state.now.plans (C.model state.now.costs) state.now.history a.op queue.new) }
     ensures queue { IfNone result (IsQueue state.now.plans (C.model state.now.costs) state.now.history queue.new) }
     ensures next { IfSome result (IsNext state.now.plans (C.model state.now.costs) state.now.history) }
     ensures none { IfNone result (IsFinished state.now.plans (C.model state.now.costs) state.now.history) }
-    ensures counted { (k : ℕ) → length queue.old.keys ≤ 2 ^ k
-        → steps.new ≤ steps.old + changes queue.old.keys queue.new.keys * (6 * k + 135) }
+    ensures once { IsEachRaisedOnce state.now.plans (C.model state.now.costs) state.now.history queue.old queue.new result lifts.old lifts.new steps.old steps.new }
 {
     state.known();
     'looks: while let Some(early) = least(queue, steps) {
@@ -70,7 +72,7 @@ pub fn next<C: Costs, L: Ledger>(
             queue.take(slot, steps);
             return Some(action);
         }
-        queue.lift(slot, action.time, steps);
+        queue.lift(slot, action.time, steps, lifts);
     }
     None
 }

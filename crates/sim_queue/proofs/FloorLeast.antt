@@ -1,6 +1,6 @@
 -- The least key of a queue with floors: the lesser of the least that is ahead and the least of the heads.
-use Rattle.std.proofs.Common.{◌≡◌, ◌⊎◌, ℕ, true, false, nat_lt, List, slice_get, slice_index, Option, Some, None, is_some, refl, sym, ap, ◌∙◌, subst, arith, le-ltb, inl, inr}
-use Rattle.std.proofs.lemmas.Option.{same_Some, slice_get_within, slice_get-get_or}
+use Rattle.std.proofs.Common.{◌≡◌, ◌⊎◌, ℕ, true, false, nat_lt, List, slice_get, slice_index, Option, Some, None, refl, sym, ap, ◌∙◌, subst, arith, le-ltb, inl, inr}
+use Rattle.std.proofs.lemmas.Option.{same_Some}
 use Rattle.goal_graph.specs.declared.action.Timed.{Timed}
 use Rattle.sim_order.specs.Events.{event_before}
 use Rattle.sim_order.specs.EventLaws.{event_laws}
@@ -10,7 +10,7 @@ use Rattle.sim_queue.specs.Floors.{at_time, floor_of, seen_keys, IsFloored, IsHe
 use Rattle.sim_queue.proofs.Weak.{through, not_both}
 use Rattle.sim_queue.proofs.Maps.{key_within}
 use Rattle.sim_queue.proofs.Floors.{effective_at, from_ahead, from_waiting, from_nothing, seen_here, group_of}
-use Rattle.sim_queue.proofs.FloorSteps.{not_ahead, no_key}
+use Rattle.sim_queue.proofs.FloorSteps.{no_key, seen_waiting}
 
 -- at one time events stand as at another
 pub at_one_time : (time : ℕ) (x y : Timed) → event_before (at_time time x) (at_time time y) ≡ event_before (at_time 0 x) (at_time 0 y)
@@ -74,10 +74,7 @@ module _ (ahead : List (Option Timed)) (waiting : Grouped Timed) (heads : List (
     where
       go : IsHead waiting group (Some h) → (slot : ℕ) × (key_at seen slot ≡ Some h)
       go least =
-          let idle : key_at ahead least.slot ≡ None = not_ahead ahead waiting heads floored least.slot (ap is_some least.has) in
-          let index : slice_index waiting.groups least.slot ≡ group = same_Some _ group (sym (slice_get-get_or waiting.groups least.slot 0 (slice_get_within waiting.groups least.slot group least.member)) ∙ least.member) in
-          let floor_is : floor_of (key_at heads (slice_index waiting.groups least.slot)) ≡ h.time = ap (λ g. floor_of (key_at heads g)) index ∙ ap floor_of e in
-          (least.slot, seen_here ahead waiting heads floored least.slot ∙ from_waiting heads ahead waiting least.slot (at_time 0 h) idle least.has ∙ ap (λ t. Some (at_time t (at_time 0 h))) floor_is)
+          (least.slot, seen_waiting ahead waiting heads floored least.slot group least.member (at_time 0 h) least.has ∙ ap (λ o. Some (at_time (floor_of o) h)) e)
 
   pub not_empty_ahead : (slot : ℕ) (k : Timed) → key_at ahead slot ≡ Some k → IsEmptyMap seen → ⊥
   not_empty_ahead slot k e empty =

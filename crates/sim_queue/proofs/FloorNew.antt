@@ -1,5 +1,5 @@
 -- A queue with floors in which no slot has a key.
-use Rattle.std.proofs.Common.{◌≡◌, ◌⊎◌, ◌<◌, ◌≤◌, ◌^◌, ℕ, All, List, length, replicate, slice_index_or, Option, None, refl, sym, ap, ◌∙◌, subst, arith, inl, inr}
+use Rattle.std.proofs.Common.{◌≡◌, ◌⊎◌, ◌<◌, ◌≤◌, ◌^◌, ◌∷◌, ℕ, zero, suc, All, false, List, length, map, replicate, slice_index_or, Option, None, refl, sym, ap, ◌∙◌, subst, arith, inl, inr}
 use Rattle.std.proofs.lemmas.Bool.{cases_lt}
 use Rattle.std.proofs.lemmas.List.{length-replicate, get_or-replicate, get_or_past}
 use Rattle.std.proofs.lemmas.List.Elements.{All-get_or}
@@ -9,7 +9,7 @@ use Rattle.sim_queue.specs.declared.floor_queue.Stand.{Stand}
 use Rattle.sim_queue.specs.declared.floor_queue.Stand.TheVariants.{Nowhere}
 use Rattle.sim_queue.specs.Map.{key_at}
 use Rattle.sim_queue.specs.Groups.{Grouped}
-use Rattle.sim_queue.specs.Floors.{seen_keys, stand_of, AreStands, IsFloored, IsHead}
+use Rattle.sim_queue.specs.Floors.{seen_keys, stand_of, is_waiting, AreStands, IsFloored, IsHead}
 use Rattle.sim_queue.proofs.Floors.{same_maps, from_nothing, seen_at, seen_length}
 use Rattle.sim_queue.proofs.FloorSteps.{no_key, seen_queue}
 use Rattle.sim_queue.proofs.Homes.{none_of}
@@ -21,6 +21,11 @@ nowhere count slot = go (cases_lt slot count)
     go (inl l) = get_or-replicate count slot Nowhere Nowhere l
     go (inr l) =
         get_or_past (replicate count Nowhere) slot Nowhere (omega (arith, l, length-replicate {A = Stand} count Nowhere))
+
+-- a slot that stands nowhere does not wait
+none_wait : (count : ℕ) → map is_waiting (replicate count Nowhere) ≡ replicate count false
+none_wait zero = refl
+none_wait (suc n) = ap (λ l. false ∷ l) (none_wait n)
 
 module _ (numbers : List ℕ) (groups : ℕ) (within : All (λ g. g < groups) numbers) (few : groups < 2 ^ 32) where
   abbrev none : List (Option Timed)
@@ -58,11 +63,12 @@ module _ (numbers : List ℕ) (groups : ℕ) (within : All (λ g. g < groups) nu
     new_floored =
         subst (λ x. IsFloored x waiting heads) (sym a) (subst (λ x. IsFloored none x heads) (sym w) (subst (IsFloored none idle) (sym h) headless))
 
-    pub new_seen : seen_queue ahead waiting heads ≡ idle
-    new_seen =
+    pub new_seen : (stands : List Stand) → stands ≡ replicate (length numbers) Nowhere → seen_queue stands ahead waiting heads ≡ record { keys = none; groups = numbers; waits = replicate (length numbers) false }
+    new_seen stands s =
         let keys = ap (λ x. seen_keys x ahead waiting.keys waiting.groups) h ∙ ap (λ x. seen_keys no_heads x waiting.keys waiting.groups) a ∙ ap (λ (x : Grouped Timed). seen_keys no_heads none x.keys x.groups) w ∙ seen_none in
         let same = ap (λ (x : Grouped Timed). x.groups) w in
-        λ i. record { keys = keys i; groups = same i }
+        let waits = ap (map is_waiting) s ∙ none_wait (length numbers) in
+        λ i. record { keys = keys i; groups = same i; waits = waits i }
 
     pub new_stands : (stands : List Stand) → stands ≡ replicate (length numbers) Nowhere → AreStands stands ahead waiting
     new_stands stands s = record {

@@ -1,5 +1,6 @@
 -- Where the slots of a queue with floors have their keys.
-use Rattle.std.proofs.Common.{◌≡◌, ◌≢◌, ◌⊎◌, ◌<◌, ℕ, Bool, true, false, List, length, set, slice_get, slice_index, slice_index_or, Option, Some, None, is_some, refl, sym, ap, ◌∙◌, subst, arith, inl, inr}
+use Rattle.std.proofs.Common.{◌≡◌, ◌≢◌, ◌⊎◌, ◌<◌, ℕ, Bool, true, false, List, length, map, set, slice_get, slice_index, slice_index_or, Option, Some, None, is_some, refl, sym, ap, ◌∙◌, subst, arith, inl, inr}
+use Rattle.std.proofs.Math.ListN.{get_or-map}
 use Rattle.std.proofs.lemmas.Bool.{cases_eq}
 use Rattle.std.proofs.lemmas.List.{get_or-set_same, get_or-set_other, length-set, get_or_read}
 use Rattle.std.proofs.lemmas.Option.{same_Some}
@@ -12,8 +13,13 @@ use Rattle.sim_queue.specs.Groups.{Grouped, IsSoleLeastOf}
 use Rattle.sim_queue.specs.Floors.{at_time, floor_of, seen_keys, stand_of, is_waiting, has_key, AreStands, IsFloored, IsStep}
 use Rattle.sim_queue.proofs.Maps.{key_within}
 use Rattle.sim_queue.proofs.Floors.{effective_at, from_ahead, from_waiting, from_nothing, seen_here, seen_long, group_of}
-use Rattle.sim_queue.proofs.FloorSteps.{no_key, not_ahead, at_the_floor}
+use Rattle.sim_queue.proofs.FloorSteps.{no_key, at_the_floor, seen_waiting}
 use Rattle.sim_queue.proofs.FloorLeast.{at_one_time}
+
+-- whether a slot waits is read as it was written
+pub waits_now : (stands : List Stand) (slot : ℕ) (stand : Stand) → slot < length stands → slice_index_or (map is_waiting (set stands slot stand)) slot false ≡ is_waiting stand
+waits_now stands slot stand l =
+    get_or-map is_waiting (set stands slot stand) slot Nowhere ∙ ap is_waiting (get_or-set_same stands slot stand Nowhere l)
 
 -- One slot is changed.
 module _ (stands : List Stand) (ahead : List (Option Timed)) (waiting : Grouped Timed) (told : AreStands stands ahead waiting) (slot : ℕ) (new_ahead : List (Option Timed)) (new_waiting : Grouped Timed) (step : IsStep slot ahead new_ahead waiting new_waiting) where
@@ -32,18 +38,6 @@ module _ (stands : List Stand) (ahead : List (Option Timed)) (waiting : Grouped 
       go other (inl s) =
           ap (λ o. slice_index_or (set stands slot stand) o Nowhere) s ∙ get_or-set_same stands slot stand Nowhere (omega (arith, l, told.each)) ∙ sym is ∙ ap (λ o. stand_of (key_at new_ahead o) (key_at new_waiting.keys o)) (sym s)
       go other (inr n) = get_or-set_other stands slot other stand Nowhere n ∙ stays other n
-
-  -- the slot stands where it stood
-  pub stands_same : stand_of (key_at new_ahead slot) (key_at new_waiting.keys slot) ≡ stand_of (key_at ahead slot) (key_at waiting.keys slot) → AreStands stands new_ahead new_waiting
-  stands_same is = record {
-    each = told.each ∙ sym step.each_waiting;
-    tells = λ other. go other (cases_eq other slot);
-  }
-    where
-      go : (other : ℕ) → (other ≡ slot) ⊎ (other ≢ slot) → slice_index_or stands other Nowhere ≡ stand_of (key_at new_ahead other) (key_at new_waiting.keys other)
-      go other (inl s) =
-          told.tells other ∙ ap (λ o. stand_of (key_at ahead o) (key_at waiting.keys o)) s ∙ sym is ∙ ap (λ o. stand_of (key_at new_ahead o) (key_at new_waiting.keys o)) (sym s)
-      go other (inr n) = stays other n
 
 module _ (ahead : List (Option Timed)) (waiting : Grouped Timed) (heads : List (Option Timed)) (floored : IsFloored ahead waiting heads) where
   abbrev seen : List (Option Timed)
@@ -96,13 +90,8 @@ module _ (ahead : List (Option Timed)) (waiting : Grouped Timed) (heads : List (
     others : (other : ℕ) (k : Timed) → slice_get waiting.groups other ≡ slice_get waiting.groups slot → key_at waiting.keys other ≡ Some k → (other ≡ slot) ⊎ (event_before here.0 k ≡ true)
     others other k same has = go (sole.first other (at_time floor k) seen_there)
       where
-        index : slice_index waiting.groups other ≡ group
-        index =
-            same_Some (slice_index waiting.groups other) group (sym (group_of ahead waiting heads floored other (key_within waiting.keys other k has)) ∙ same ∙ member)
-
         seen_there : key_at seen other ≡ Some (at_time floor k)
-        seen_there =
-            seen_here ahead waiting heads floored other ∙ from_waiting heads ahead waiting other k (not_ahead ahead waiting heads floored other (ap is_some has)) has ∙ ap (λ g. Some (at_time (floor_of (key_at heads g)) k)) index
+        seen_there = seen_waiting ahead waiting heads floored other group (same ∙ member) k has
 
         go : (other ≡ slot) ⊎ (event_before sole.key (at_time floor k) ≡ true) → (other ≡ slot) ⊎ (event_before here.0 k ≡ true)
         go (inl s) = inl s

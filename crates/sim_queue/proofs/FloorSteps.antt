@@ -1,12 +1,13 @@
--- The steps of a queue with floors: a slot waits no longer, begins to wait, or is raised where it waits.
-use Rattle.std.proofs.Common.{◌≡◌, ◌≢◌, ◌⊎◌, ◌<◌, ◌≤◌, ℕ, true, false, List, length, set, slice_get, slice_index, Option, Some, None, is_some, refl, sym, ap, ◌∙◌, subst, arith, inl, inr}
+-- The steps of a queue with floors: a slot waits no longer, or begins to wait.
+use Rattle.std.proofs.Common.{◌≡◌, ◌≢◌, ◌⊎◌, ◌<◌, ℕ, true, false, List, length, map, set, slice_get, slice_index, slice_index_or, Option, Some, None, is_some, refl, sym, ap, ◌∙◌, subst, arith, inl, inr}
 use Rattle.std.proofs.lemmas.Bool.{cases_eq}
-use Rattle.std.proofs.lemmas.List.{get_or-set_same, get_or-set_other, length-set}
-use Rattle.std.proofs.lemmas.Option.{same_Some, slice_get_within, slice_get-get_or}
+use Rattle.std.proofs.lemmas.List.{get_or-set_same, get_or-set_other, length-set, map-set}
+use Rattle.std.proofs.lemmas.Option.{same_Some, slice_get_within, get_or_from_slice_get}
 use Rattle.goal_graph.specs.declared.action.Timed.{Timed}
+use Rattle.sim_queue.specs.declared.floor_queue.Stand.{Stand}
 use Rattle.sim_queue.specs.Map.{key_at}
 use Rattle.sim_queue.specs.Groups.{Grouped}
-use Rattle.sim_queue.specs.Floors.{waits_for_room, at_time, floor_of, seen_keys, IsFloored, IsRenewed, IsStep, IsLifted, IsRaised}
+use Rattle.sim_queue.specs.Floors.{Floored, waits_at, is_waiting, waits_for_room, at_time, floor_of, seen_keys, IsFloored, IsRenewed, IsStep}
 use Rattle.sim_queue.proofs.Maps.{key_within}
 use Rattle.sim_queue.proofs.Floors.{same_maps, effective_at, from_ahead, from_waiting, from_nothing, seen_here, seen_long, ahead_floored, ahead_seen, still_floored, here_nothing, here_waiting, there, IsWith}
 
@@ -90,38 +91,6 @@ module _ (ahead : List (Option Timed)) (waiting : Grouped Timed) (heads : List (
             go (inl e) = e
             go (inr w) = w.is ∙ sym w.was
 
-  -- the keys that wait in the group are raised
-  module _ (time : ℕ) (later : floor_of (key_at heads group) ≤ time) (new_ahead : List (Option Timed)) (new_waiting : Grouped Timed) (new_heads : List (Option Timed)) (step : IsStep slot ahead new_ahead waiting new_waiting) (renewed : IsRenewed new_waiting heads new_heads group time) where
-    pub up_floored : IsFloored new_ahead new_waiting new_heads
-    up_floored = still_floored ahead waiting heads floored slot group member new_ahead new_waiting new_heads time step renewed
-
-    pub up_lifted : ((k : Timed) → key_at seen slot ≡ Some k → (w : Timed) × (key_at new_ahead slot ≡ None) × (key_at new_waiting.keys slot ≡ Some w) × (at_time time w ≡ at_time time k)) → IsLifted waiting.groups seen (seen_keys new_heads new_ahead new_waiting.keys new_waiting.groups) slot time
-    up_lifted waits = record {
-      each = seen_long new_ahead new_waiting new_heads up_floored ∙ step.each_waiting ∙ sym (seen_long ahead waiting heads floored);
-      here =
-          λ k e.
-          let w = waits k e in
-          seen_here new_ahead new_waiting new_heads up_floored slot ∙ here_waiting ahead waiting heads floored slot group member new_ahead new_waiting new_heads time step renewed w.0 w.1 w.2 ∙ ap Some w.3;
-      others = λ other. go other (cases_eq other slot);
-    }
-      where
-        with_it : (other : ℕ) → (effective_at new_heads new_ahead new_waiting other ≡ effective_at heads ahead waiting other) ⊎ IsWith ahead waiting heads floored slot group member new_ahead new_waiting new_heads time step renewed other → (other ≡ slot) ⊎ (key_at (seen_keys new_heads new_ahead new_waiting.keys new_waiting.groups) other ≡ key_at seen other) ⊎ IsRaised waiting.groups seen (seen_keys new_heads new_ahead new_waiting.keys new_waiting.groups) slot time other
-        with_it other (inl e) =
-            inr (inl (seen_here new_ahead new_waiting new_heads up_floored other ∙ e ∙ sym (seen_here ahead waiting heads floored other)))
-        with_it other (inr w) = inr (inr (record {
-          key = at_time (floor_of (key_at heads group)) w.key;
-          had = seen_here ahead waiting heads floored other ∙ w.was;
-          has = seen_here new_ahead new_waiting new_heads up_floored other ∙ w.is;
-          not_later = later;
-          waits = (floored.waits other w.key w.waits).1;
-          group = w.group_is ∙ sym member;
-        }))
-
-        go : (other : ℕ) → (other ≡ slot) ⊎ (other ≢ slot) → (other ≡ slot) ⊎ (key_at (seen_keys new_heads new_ahead new_waiting.keys new_waiting.groups) other ≡ key_at seen other) ⊎ IsRaised waiting.groups seen (seen_keys new_heads new_ahead new_waiting.keys new_waiting.groups) slot time other
-        go other (inl s) = inl s
-        go other (inr n) =
-            with_it other (there ahead waiting heads floored slot group member new_ahead new_waiting new_heads time step renewed other n)
-
 -- what waits, with the key of the slot at 0
 pub with_key : (waiting new : Grouped Timed) (slot : ℕ) (key put : Timed) → new ≡ record { keys = set waiting.keys slot (Some put); groups = waiting.groups } → put ≡ at_time 0 key → new ≡ record { keys = set waiting.keys slot (Some (at_time 0 key)); groups = waiting.groups }
 with_key waiting new slot key put e f = e ∙ ap (λ (k : Timed). record { keys = set waiting.keys slot (Some k); groups = waiting.groups }) f
@@ -193,8 +162,7 @@ at_the_floor ahead waiting heads floored slot group member idle k e = go (key_at
     effective_is = sym (seen_here ahead waiting heads floored slot) ∙ e
 
     index : slice_index waiting.groups slot ≡ group
-    index =
-        same_Some (slice_index waiting.groups slot) group (sym (slice_get-get_or waiting.groups slot 0 (slice_get_within waiting.groups slot group member)) ∙ member)
+    index = get_or_from_slice_get waiting.groups slot group 0 member
 
     go : (o : Option Timed) → key_at waiting.keys slot ≡ o → (w : Timed) × (key_at waiting.keys slot ≡ Some w) × (k ≡ at_time (floor_of (key_at heads group)) w)
     go None f = absurd (no_key k (sym (from_nothing heads ahead waiting slot idle f) ∙ effective_is))
@@ -202,45 +170,47 @@ at_the_floor ahead waiting heads floored slot group member idle k e = go (key_at
         let is : at_time (floor_of (key_at heads (slice_index waiting.groups slot))) w ≡ k = same_Some _ k (sym (from_waiting heads ahead waiting slot w idle f) ∙ effective_is) in
         (w, f, sym is ∙ ap (λ g. at_time (floor_of (key_at heads g)) w) index)
 
--- a key that is ahead is raised alone
-pub lifted_alone : (groups : List ℕ) (keys : List (Option Timed)) (slot time : ℕ) (k : Timed) → key_at keys slot ≡ Some k → IsLifted groups keys (set keys slot (Some (at_time time k))) slot time
-lifted_alone groups keys slot time k has = record {
-  each = length-set keys slot (Some (at_time time k));
-  here =
-      λ q e.
-      let same : k ≡ q = same_Some k q (sym has ∙ e) in
-      get_or-set_same keys slot (Some (at_time time k)) None (key_within keys slot k has) ∙ ap (λ (t : Timed). Some (at_time time t)) same;
-  others = λ other. go other (cases_eq other slot);
-}
-  where
-    go : (other : ℕ) → (other ≡ slot) ⊎ (other ≢ slot) → (other ≡ slot) ⊎ (key_at (set keys slot (Some (at_time time k))) other ≡ key_at keys other) ⊎ IsRaised groups keys (set keys slot (Some (at_time time k))) slot time other
-    go other (inl s) = inl s
-    go other (inr n) = inr (inl (get_or-set_other keys slot other (Some (at_time time k)) None n))
+-- and such a slot is seen with that key
+pub seen_waiting : (ahead : List (Option Timed)) (waiting : Grouped Timed) (heads : List (Option Timed)) → IsFloored ahead waiting heads → (slot group : ℕ) → slice_get waiting.groups slot ≡ Some group → (w : Timed) → key_at waiting.keys slot ≡ Some w → key_at (seen_keys heads ahead waiting.keys waiting.groups) slot ≡ Some (at_time (floor_of (key_at heads group)) w)
+seen_waiting ahead waiting heads floored slot group member w has =
+    let index : slice_index waiting.groups slot ≡ group = get_or_from_slice_get waiting.groups slot group 0 member in
+    seen_here ahead waiting heads floored slot ∙ from_waiting heads ahead waiting slot w (not_ahead ahead waiting heads floored slot (ap is_some has)) has ∙ ap (λ g. Some (at_time (floor_of (key_at heads g)) w)) index
 
 -- what a slot that begins to wait has
-pub parked : (ahead : List (Option Timed)) (waiting : Grouped Timed) (heads : List (Option Timed)) → IsFloored ahead waiting heads → (slot time : ℕ) (key : Timed) → key_at ahead slot ≡ Some key → (new_ahead : List (Option Timed)) → new_ahead ≡ set ahead slot None → (new : Grouped Timed) → new ≡ record { keys = set waiting.keys slot (Some (at_time 0 key)); groups = waiting.groups } → (k : Timed) → key_at (seen_keys heads ahead waiting.keys waiting.groups) slot ≡ Some k → (w : Timed) × (key_at new_ahead slot ≡ None) × (key_at new.keys slot ≡ Some w) × (at_time time w ≡ at_time time k)
-parked ahead waiting heads floored slot time key has new_ahead out new is k e =
-    let within : slot < length ahead = key_within ahead slot key has in
-    let same : key ≡ k = same_Some key k (sym (from_ahead heads ahead waiting slot key has) ∙ sym (seen_here ahead waiting heads floored slot) ∙ e) in (
-      at_time 0 key,
-      ap (λ a. key_at a slot) out ∙ get_or-set_same ahead slot None None within,
-      ap (λ (q : Grouped Timed). key_at q.keys slot) is ∙ get_or-set_same waiting.keys slot (Some (at_time 0 key)) None (omega (arith, within, floored.each)),
-      ap (at_time time) same,
-    )
+pub parked : (ahead : List (Option Timed)) (waiting : Grouped Timed) (heads : List (Option Timed)) → IsFloored ahead waiting heads → (slot time : ℕ) (key : Timed) → key_at ahead slot ≡ Some key → (new_ahead : List (Option Timed)) → key_at new_ahead slot ≡ None → (new_waiting : Grouped Timed) → key_at new_waiting.keys slot ≡ Some (at_time 0 key) → (k : Timed) → key_at (seen_keys heads ahead waiting.keys waiting.groups) slot ≡ Some k → (w : Timed) × (key_at new_ahead slot ≡ None) × (key_at new_waiting.keys slot ≡ Some w) × (at_time time w ≡ at_time time k)
+parked ahead waiting heads floored slot time key has new_ahead gone new_waiting waits k e =
+    let same : key ≡ k = same_Some key k (sym (from_ahead heads ahead waiting slot key has) ∙ sym (seen_here ahead waiting heads floored slot) ∙ e) in
+    (at_time 0 key, gone, waits, ap (at_time time) same)
 
 -- what a queue with floors is seen as
-abbrev pub seen_queue : List (Option Timed) → Grouped Timed → List (Option Timed) → Grouped Timed
-seen_queue ahead waiting heads = record {
+abbrev pub seen_queue : List Stand → List (Option Timed) → Grouped Timed → List (Option Timed) → Floored
+seen_queue stands ahead waiting heads = record {
   keys = seen_keys heads ahead waiting.keys waiting.groups;
   groups = waiting.groups;
+  waits = map is_waiting stands;
 }
 
 -- what one slot has is changed
-pub changed_queue : (ahead new_ahead : List (Option Timed)) (waiting new_waiting : Grouped Timed) (heads new_heads : List (Option Timed)) (slot : ℕ) (value : Option Timed) → new_waiting.groups ≡ waiting.groups → seen_keys new_heads new_ahead new_waiting.keys new_waiting.groups ≡ set (seen_keys heads ahead waiting.keys waiting.groups) slot value → (now : Grouped Timed) → seen_queue ahead waiting heads ≡ now → seen_queue new_ahead new_waiting new_heads ≡ record { keys = set now.keys slot value; groups = now.groups }
-changed_queue ahead new_ahead waiting new_waiting heads new_heads slot value groups seen now view =
-    let keys = seen ∙ ap (λ (q : Grouped Timed). set q.keys slot value) view in
-    let same = groups ∙ ap (λ (q : Grouped Timed). q.groups) view in
-    λ i. record { keys = keys i; groups = same i }
+pub changed_keys : (stands : List Stand) (ahead : List (Option Timed)) (waiting : Grouped Timed) (heads : List (Option Timed)) (slot : ℕ) (value : Option Timed) (new_keys : List (Option Timed)) → new_keys ≡ set (seen_keys heads ahead waiting.keys waiting.groups) slot value → (now : Floored) → seen_queue stands ahead waiting heads ≡ now → new_keys ≡ set now.keys slot value
+changed_keys stands ahead waiting heads slot value new_keys seen now view = seen ∙ ap (λ (q : Floored). set q.keys slot value) view
+
+-- where one slot stands is changed
+pub changed_waits : (stands : List Stand) (ahead : List (Option Timed)) (waiting : Grouped Timed) (heads : List (Option Timed)) (slot : ℕ) (stand : Stand) (now : Floored) → seen_queue stands ahead waiting heads ≡ now → map is_waiting (set stands slot stand) ≡ set now.waits slot (is_waiting stand)
+changed_waits stands ahead waiting heads slot stand now view =
+    map-set is_waiting stands slot stand ∙ ap (λ (q : Floored). set q.waits slot (is_waiting stand)) view
+
+-- another waits as it did
+pub waits_as : (stands : List Stand) (ahead : List (Option Timed)) (waiting : Grouped Timed) (heads : List (Option Timed)) (slot : ℕ) (stand : Stand) (now : Floored) → seen_queue stands ahead waiting heads ≡ now → (other : ℕ) → other ≢ slot → slice_index_or (map is_waiting (set stands slot stand)) other false ≡ waits_at now other
+waits_as stands ahead waiting heads slot stand now view other n =
+    ap (λ ws. slice_index_or ws other false) (changed_waits stands ahead waiting heads slot stand now view) ∙ get_or-set_other now.waits slot other (is_waiting stand) false n
+
+-- both are
+pub changed_queue : (stands : List Stand) (ahead new_ahead : List (Option Timed)) (waiting new_waiting : Grouped Timed) (heads new_heads : List (Option Timed)) (slot : ℕ) (stand : Stand) (value : Option Timed) → new_waiting.groups ≡ waiting.groups → seen_keys new_heads new_ahead new_waiting.keys new_waiting.groups ≡ set (seen_keys heads ahead waiting.keys waiting.groups) slot value → (now : Floored) → seen_queue stands ahead waiting heads ≡ now → seen_queue (set stands slot stand) new_ahead new_waiting new_heads ≡ record { keys = set now.keys slot value; groups = now.groups; waits = set now.waits slot (is_waiting stand) }
+changed_queue stands ahead new_ahead waiting new_waiting heads new_heads slot stand value groups seen now view =
+    let keys = changed_keys stands ahead waiting heads slot value (seen_keys new_heads new_ahead new_waiting.keys new_waiting.groups) seen now view in
+    let same = groups ∙ ap (λ (q : Floored). q.groups) view in
+    let waits = changed_waits stands ahead waiting heads slot stand now view in
+    λ i. record { keys = keys i; groups = same i; waits = waits i }
 
 -- what a slot has ahead is written, where it does not wait
 module _ (ahead : List (Option Timed)) (waiting : Grouped Timed) (heads : List (Option Timed)) (floored : IsFloored ahead waiting heads) (slot : ℕ) (within : slot < length ahead) (value : Option Timed) (idle : key_at waiting.keys slot ≡ None) (new_ahead : List (Option Timed)) (put : new_ahead ≡ set ahead slot value) where
@@ -266,13 +236,13 @@ module _ (ahead : List (Option Timed)) (waiting : Grouped Timed) (heads : List (
     waits = λ k e. absurd (no_key k (sym idle ∙ e));
   }
 
-pub slot_within : (ahead : List (Option Timed)) (waiting : Grouped Timed) (heads : List (Option Timed)) → IsFloored ahead waiting heads → (now : Grouped Timed) → seen_queue ahead waiting heads ≡ now → (slot : ℕ) → slot < length now.keys → slot < length waiting.keys
-slot_within ahead waiting heads floored now view slot l =
-    omega (arith, l, ap (λ (q : Grouped Timed). length q.keys) view, seen_long ahead waiting heads floored)
+pub slot_within : (stands : List Stand) (ahead : List (Option Timed)) (waiting : Grouped Timed) (heads : List (Option Timed)) → IsFloored ahead waiting heads → (now : Floored) → seen_queue stands ahead waiting heads ≡ now → (slot : ℕ) → slot < length now.keys → slot < length waiting.keys
+slot_within stands ahead waiting heads floored now view slot l =
+    omega (arith, l, ap (λ (q : Floored). length q.keys) view, seen_long ahead waiting heads floored)
 
 -- a queue with floors is seen with as many slots as it has
 pub slots_seen :
-    {ahead heads : List (Option Timed)} {waiting now : Grouped Timed}
-    → IsFloored ahead waiting heads → seen_queue ahead waiting heads ≡ now → length now.keys ≡ length waiting.keys
-slots_seen {ahead = ahead} {heads = heads} {waiting = waiting} {now = now} floored view =
-    sym (ap (λ (q : Grouped Timed). length q.keys) view) ∙ seen_long ahead waiting heads floored
+    {ahead heads : List (Option Timed)} {waiting : Grouped Timed} {now : Floored} (stands : List Stand)
+    → IsFloored ahead waiting heads → seen_queue stands ahead waiting heads ≡ now → length now.keys ≡ length waiting.keys
+slots_seen {ahead = ahead} {heads = heads} {waiting = waiting} {now = now} stands floored view =
+    sym (ap (λ (q : Floored). length q.keys) view) ∙ seen_long ahead waiting heads floored

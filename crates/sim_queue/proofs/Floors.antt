@@ -146,6 +146,21 @@ module _ (ahead : List (Option Timed)) (waiting : Grouped Timed) (heads : List (
       pub was : effective_at heads ahead waiting other ≡ Some (at_time (floor_of (key_at heads group)) key)
       pub is : effective_at new_heads new_ahead new_waiting other ≡ Some (at_time floor key)
 
+    -- each slot that waits there is such
+    pub with_it : (other : ℕ) → other ≢ slot → (k : Timed) → key_at ahead other ≡ None → key_at waiting.keys other ≡ Some k → slice_index waiting.groups other ≡ group → IsWith other
+    with_it other n k e f g =
+        let of_group : slice_get waiting.groups other ≡ Some group = group_of other (key_within waiting.keys other k f) ∙ ap Some g in
+        let member_now : slice_get new_waiting.groups other ≡ Some group = ap (λ gs. slice_get gs other) step.groups ∙ of_group in
+        let waits_now : key_at new_waiting.keys other ≡ Some k = step.waiting_stays other n ∙ f in
+        let floor_is : floor_of (key_at new_heads (slice_index new_waiting.groups other)) ≡ floor = ap (λ gs. floor_of (key_at new_heads (slice_index gs other))) step.groups ∙ ap (λ x. floor_of (key_at new_heads x)) g ∙ floor_now other k member_now waits_now in
+        record {
+          key = k;
+          group_is = of_group;
+          waits = f;
+          was = from_waiting heads ahead waiting other k e f ∙ ap (λ x. Some (at_time (floor_of (key_at heads x)) k)) g;
+          is = from_waiting new_heads new_ahead new_waiting other k (step.ahead_stays other n ∙ e) waits_now ∙ ap (λ t. Some (at_time t k)) floor_is;
+        }
+
     pub there : (other : ℕ) → other ≢ slot → (effective_at new_heads new_ahead new_waiting other ≡ effective_at heads ahead waiting other) ⊎ IsWith other
     there other n = go (key_at ahead other) (key_at waiting.keys other) refl refl
       where
@@ -155,24 +170,11 @@ module _ (ahead : List (Option Timed)) (waiting : Grouped Timed) (heads : List (
         waiting_is : key_at new_waiting.keys other ≡ key_at waiting.keys other
         waiting_is = step.waiting_stays other n
 
-        index_is : slice_index new_waiting.groups other ≡ slice_index waiting.groups other
-        index_is = ap (λ gs. slice_index gs other) step.groups
-
         waits_there : (k : Timed) → key_at ahead other ≡ None → key_at waiting.keys other ≡ Some k → (slice_index waiting.groups other ≡ group) ⊎ (slice_index waiting.groups other ≢ group) → (effective_at new_heads new_ahead new_waiting other ≡ effective_at heads ahead waiting other) ⊎ IsWith other
         waits_there k e f (inr d) =
-            let same : floor_of (key_at new_heads (slice_index new_waiting.groups other)) ≡ floor_of (key_at heads (slice_index waiting.groups other)) = ap (λ g. floor_of (key_at new_heads g)) index_is ∙ ap floor_of (head_there (slice_index waiting.groups other) d) in
+            let same : floor_of (key_at new_heads (slice_index new_waiting.groups other)) ≡ floor_of (key_at heads (slice_index waiting.groups other)) = ap (λ gs. floor_of (key_at new_heads (slice_index gs other))) step.groups ∙ ap floor_of (head_there (slice_index waiting.groups other) d) in
             inl (from_waiting new_heads new_ahead new_waiting other k (ahead_is ∙ e) (waiting_is ∙ f) ∙ ap (λ t. Some (at_time t k)) same ∙ sym (from_waiting heads ahead waiting other k e f))
-        waits_there k e f (inl g) =
-            let of_group : slice_get waiting.groups other ≡ Some group = group_of other (key_within waiting.keys other k f) ∙ ap Some g in
-            let member_now : slice_get new_waiting.groups other ≡ Some group = ap (λ gs. slice_get gs other) step.groups ∙ of_group in
-            let floor_is : floor_of (key_at new_heads (slice_index new_waiting.groups other)) ≡ floor = ap (λ x. floor_of (key_at new_heads x)) (index_is ∙ g) ∙ floor_now other k member_now (waiting_is ∙ f) in
-            inr (record {
-              key = k;
-              group_is = of_group;
-              waits = f;
-              was = from_waiting heads ahead waiting other k e f ∙ ap (λ x. Some (at_time (floor_of (key_at heads x)) k)) g;
-              is = from_waiting new_heads new_ahead new_waiting other k (ahead_is ∙ e) (waiting_is ∙ f) ∙ ap (λ t. Some (at_time t k)) floor_is;
-            })
+        waits_there k e f (inl g) = inr (with_it other n k e f g)
 
         go : (a w : Option Timed) → key_at ahead other ≡ a → key_at waiting.keys other ≡ w → (effective_at new_heads new_ahead new_waiting other ≡ effective_at heads ahead waiting other) ⊎ IsWith other
         go (Some k) w e f = inl (from_ahead new_heads new_ahead new_waiting other k (ahead_is ∙ e) ∙ sym (from_ahead heads ahead waiting other k e))

@@ -21,3 +21,4 @@ pub mod FloorSteps
 pub mod FloorLeast
 pub mod FloorStands
 pub mod FloorNew
+pub mod FloorMates

@@ -1,6 +1,6 @@
 -- A queue with floors. The slots of a group wait for the same thing, so that none of their events is before the moment at
 -- which it is free. Such a moment is the floor of the group: keys that are at the floor are raised together with it.
-use Rattle.std.specs.Prelude.{◌≡◌, ◌⊎◌, ◌<◌, ◌≤◌, ◌^◌, ℕ, Bool, true, false, List, [], ◌∷◌, Option, Some, None, length, slice_get, slice_index_or, slice_set}
+use Rattle.std.specs.Prelude.{◌≡◌, ◌⊎◌, ◌<◌, ◌≤◌, ◌^◌, ◌+◌, ℕ, Bool, true, false, nat_lt, List, [], ◌∷◌, Option, Some, None, length, slice_get, slice_index_or, slice_set}
 use Rattle.std.specs.Option.{option_map}
 use Rattle.goal_graph.specs.declared.action.Timed.{Timed}
 use Rattle.goal_graph.specs.declared.action.Class.{Class}
@@ -10,6 +10,17 @@ use Rattle.sim_queue.specs.declared.floor_queue.Stand.{Stand}
 use Rattle.sim_queue.specs.declared.floor_queue.Stand.TheVariants.{Nowhere, Ahead, Waiting}
 use Rattle.sim_queue.specs.Map.{key_at}
 use Rattle.sim_queue.specs.Groups.{Grouped, IsEmptyGroup, IsLeastOf}
+
+-- What each slot has, a key or none, the group that it is in, and whether it waits: the keys of all that wait in a group are
+-- raised together.
+pub record Floored : Type 0 where
+  pub keys : List (Option Timed)
+  pub groups : List ℕ
+  pub waits : List Bool
+
+-- whether a slot waits
+abbrev pub waits_at : Floored → ℕ → Bool
+waits_at q slot = slice_index_or q.waits slot false
 
 -- actions of this class wait for a cpu or an interface
 abbrev pub waits_for_room : Class → Bool
@@ -30,26 +41,60 @@ pub record IsLate (keys : List (Option Timed)) (slot time : ℕ) : Type 0 where
   pub waits : waits_for_room key.class ≡ true
   pub before : key.time < time
 
--- The key of another slot is raised to a time, with that of a slot of its group.
-pub record IsRaised (groups : List ℕ) (old new : List (Option Timed)) (slot time other : ℕ) : Type 0 where
+-- A slot of the group of a slot, this one or another, waits with a key.
+pub record IsMate (q : Floored) (slot other : ℕ) (key : Timed) : Type 0 where
+  pub group : slice_get q.groups other ≡ slice_get q.groups slot
+  pub waits : waits_at q other ≡ true
+  pub has : key_at q.keys other ≡ Some key
+
+-- nothing that waits in the group of a slot has a later key
+pub record IsFloorBy (q : Floored) (slot time : ℕ) : Type 0 where
+  pub each : (other : ℕ) (key : Timed) → IsMate q slot other key → key.time ≤ time
+
+-- something that waits in the group of a slot has an earlier key
+pub record HasLowFloor (q : Floored) (slot time : ℕ) : Type 0 where
+  pub other : ℕ
   pub key : Timed
-  pub had : key_at old other ≡ Some key
-  pub has : key_at new other ≡ Some (at_time time key)
+  pub mate : IsMate q slot other key
+  pub before : key.time < time
+
+-- something that waits in the group of a slot has a key at this time
+pub record HasFloor (q : Floored) (slot time : ℕ) : Type 0 where
+  pub other : ℕ
+  pub key : Timed
+  pub mate : IsMate q slot other key
+  pub at : key.time ≡ time
+
+-- The key of another slot, which waits in the group of a slot, is raised to a time with it.
+pub record IsRaised (old new : Floored) (slot time other : ℕ) : Type 0 where
+  pub key : Timed
+  pub mate : IsMate old slot other key
+  pub has : key_at new.keys other ≡ Some (at_time time key)
   pub not_later : key.time ≤ time
   pub waits : waits_for_room key.class ≡ true
-  pub group : slice_get groups other ≡ slice_get groups slot
 
--- The key of a slot is raised to a time. Each other stays, or is raised with it.
-pub record IsLifted (groups : List ℕ) (old new : List (Option Timed)) (slot time : ℕ) : Type 0 where
-  pub each : length new ≡ length old
-  pub here : (k : Timed) → key_at old slot ≡ Some k → key_at new slot ≡ Some (at_time time k)
-  pub others : (other : ℕ) → other ≡ slot ⊎ (key_at new other ≡ key_at old other) ⊎ IsRaised groups old new slot time other
+-- The key of a slot is raised to a time, and those of all that wait in its group with it. Each other stays.
+pub record IsLifted (old new : Floored) (slot time : ℕ) : Type 0 where
+  pub each : length new.keys ≡ length old.keys
+  pub here : (k : Timed) → key_at old.keys slot ≡ Some k → key_at new.keys slot ≡ Some (at_time time k)
+  pub together : (other : ℕ) (k : Timed) → IsMate old slot other k → key_at new.keys other ≡ Some (at_time time k)
+  pub others : (other : ℕ) → (other ≡ slot) ⊎ (key_at new.keys other ≡ key_at old.keys other) ⊎ IsRaised old new slot time other
+
+-- A lift is counted where it raises something that waits.
+abbrev pub IsLiftCounted : Floored → ℕ → ℕ → ℕ → ℕ → Type 0
+IsLiftCounted q slot time before after =
+    (HasLowFloor q slot time × (after ≡ before + 1)) ⊎ ((HasLowFloor q slot time → ⊥) × (after ≡ before))
 
 -- What the code keeps: keys that stand for themselves, `ahead`; keys at the floor of their group, `waiting`, whose own
 -- times are 0; and for each group the least of the latter at the time of the floor, `heads`.
 abbrev pub floor_of : Option Timed → ℕ
 floor_of None = 0
 floor_of (Some k) = k.time
+
+-- a floor is before a time
+abbrev pub is_low : Option Timed → ℕ → Bool
+is_low None time = false
+is_low (Some k) time = nat_lt k.time time
 
 -- the key of a slot, by the head of its group, what it has ahead and what it has waiting
 abbrev pub effective : Option Timed → Option Timed → Option Timed → Option Timed

@@ -1,11 +1,11 @@
 // A queue with floors.
-ghost use Rattle.std.specs.Prelude.{◌≡◌, ◌+◌, ◌*◌, ◌^◌, ◌<◌, ◌≤◌, ℕ, All, IfOk, IfSome, IsNone, ◌↔◌, true, Some, None, is_some, length, replicate, slice_get, slice_set};
+ghost use Rattle.std.specs.Prelude.{◌≡◌, ◌≢◌, ◌⊎◌, ◌+◌, ◌*◌, ◌^◌, ◌<◌, ◌≤◌, ℕ, All, IfOk, IfSome, IsNone, ◌↔◌, true, false, Some, None, is_some, length, replicate, slice_get, slice_set};
 ghost use Rattle.goal_base.specs.declared.limits.TheConstants.{MAX_OPS};
 ghost use Rattle.goal_graph.specs.declared.action.Timed.{Timed};
 ghost use Rattle.sim_order.specs.Events.{event_before};
 ghost use Rattle.sim_queue.specs.Map.{key_at, IsEmptyMap, IsLeast, IsSoleLeast};
 ghost use Rattle.sim_queue.specs.Groups.{IsSoleLeastOf};
-ghost use Rattle.sim_queue.specs.Floors.{is_waiting, has_key, waits_for_room, at_time, floor_of, seen_keys, IsFloored, IsRenewed, IsStep, IsLate, IsLifted};
+ghost use Rattle.sim_queue.specs.Floors.{is_waiting, has_key, waits_for_room, at_time, floor_of, seen_keys, IsFloored, is_low, waits_at, HasFloor, IsFloorBy, IsRenewed, IsStep, IsLate, IsLifted, IsLiftCounted};
 
 use crate::{Arrivals, EventQueue, Groups, SlotHeap, TopHeap};
 use goal_base::NoMemory;
@@ -80,6 +80,17 @@ fn floor(heads: &SlotHeap<CompactKey>, group: u32) -> u64
     match heads.key(group) {
         Some(head) => head.time(),
         None => 0,
+    }
+}
+
+// Whether something waits in a group at a floor before a time.
+fn is_low(heads: &SlotHeap<CompactKey>, group: u32, time: u64) -> bool
+    requires { group < length heads.now }
+    ensures { result ≡ is_low (key_at heads.now group) time }
+{
+    match heads.key(group) {
+        Some(head) => head.time() < time,
+        None => false,
     }
 }
 
@@ -174,12 +185,11 @@ fn park<L: Ledger>(
     requires least { IsSoleLeast event_before ahead.old slot }
     requires key { key_at ahead.old slot ≡ Some key }
     requires waits { waits_for_room key.class ≡ true }
-    requires not_later { (group : ℕ) → slice_get waiting.old.groups slot ≡ Some group → floor_of (key_at heads.old group) ≤ time }
     ensures floored { IsFloored ahead.new waiting.new heads.new }
     ensures step { IsStep slot ahead.old ahead.new waiting.old waiting.new }
     ensures gone { key_at ahead.new slot ≡ None }
     ensures waits { key_at waiting.new.keys slot ≡ Some (at_time 0 key) }
-    ensures lifted { IsLifted waiting.old.groups (seen_keys heads.old ahead.old waiting.old.keys waiting.old.groups) (seen_keys heads.new ahead.new waiting.new.keys waiting.new.groups) slot time }
+    ensures renewed { (group : ℕ) → slice_get waiting.old.groups slot ≡ Some group → IsRenewed waiting.new heads.old heads.new group time }
     ensures counted { (k j : ℕ) → length waiting.old.keys ≤ 2 ^ k → length heads.old ≤ 2 ^ j
         → steps.new ≤ steps.old + (4 * k + 2 * j + 3) }
     ensures onward { steps.old ≤ steps.new }
@@ -192,8 +202,9 @@ fn park<L: Ledger>(
 
 /// A map from slots to the keys of events, whose slots are in groups. The slots of a group wait for the same thing, so
 /// that the keys of all that are at their time already are raised together: a call of `lift` changes a few keys of heaps
-/// however many slots wait. With at most 2^k slots a lift compares 4k + 67 times at most, and a put or a take 2k + 66
-/// times: 65 of them among the groups, of which there are fewer than 2^32.
+/// however many slots wait. A slot that has begun to wait waits until its key is taken out. With at most 2^k slots a lift
+/// compares 4k + 67 times at most, and a put or a take 2k + 66 times: 65 of them among the groups, of which there are fewer
+/// than 2^32.
 #[derive(Drop)]
 pub struct FloorQueue {
     // keys that stand for themselves
@@ -207,13 +218,12 @@ pub struct FloorQueue {
 }
 
 impl Model for FloorQueue {
-    ghost use Rattle.goal_graph.specs.declared.action.Timed.{Timed};
-    ghost use Rattle.sim_queue.specs.Groups.{Grouped};
-    ghost use Rattle.sim_queue.specs.Floors.{seen_keys, IsFloored, AreStands};
+    ghost use Rattle.std.specs.Prelude.{map};
+    ghost use Rattle.sim_queue.specs.Floors.{Floored, seen_keys, is_waiting, IsFloored, AreStands};
 
-    ghost Value = { Grouped Timed };
+    ghost Value = { Floored };
 
-    ghost view = { λ q. record { keys = seen_keys q.heads q.ahead q.waiting.keys q.waiting.groups; groups = q.waiting.groups } };
+    ghost view = { λ q. record { keys = seen_keys q.heads q.ahead q.waiting.keys q.waiting.groups; groups = q.waiting.groups; waits = map is_waiting q.stands.items } };
 
     ghost invariant = { λ q. IsFloored q.ahead q.waiting q.heads × AreStands q.stands.items q.ahead q.waiting };
 }
@@ -224,7 +234,7 @@ impl FloorQueue {
     pub fn new(alloc: Global, numbers: &[u32], groups: u32) -> Result<FloorQueue, NoMemory>
         requires within { All (λ group. group < groups) numbers.now }
         requires few { length numbers.now ≤ MAX_OPS }
-        ensures { IfOk result (λ q. q ≡ record { keys = replicate (length numbers.now) None; groups = numbers.now }) }
+        ensures { IfOk result (λ q. q ≡ record { keys = replicate (length numbers.now) None; groups = numbers.now; waits = replicate (length numbers.now) false }) }
     {
         Ok(FloorQueue {
             ahead: TopHeap::new(alloc, numbers.len() as u32)?,
@@ -242,11 +252,14 @@ impl FloorQueue {
         has_key(self.stands[slot as usize])
     }
 
-    /// Gives a slot that has no key a key.
+    /// Gives a slot that has no key a key. It waits at most where others of its group wait at that time, or the time is 0.
     pub fn put<L: Ledger>(&mut self, slot: u32, key: CompactKey, steps: &mut Steps<L>)
         requires slot_in { slot < length self.old.keys }
         requires free { key_at self.old.keys slot ≡ None }
-        ensures put { self.new ≡ record self.old { keys = slice_set self.old.keys slot (Some key) } }
+        ensures put { self.new.keys ≡ slice_set self.old.keys slot (Some key) }
+        ensures groups { self.new.groups ≡ self.old.groups }
+        ensures others { (other : ℕ) → other ≢ slot → waits_at self.new other ≡ waits_at self.old other }
+        ensures waits { waits_at self.new slot ≡ true → (key.time ≡ 0) ⊎ HasFloor self.old slot key.time }
         ensures counted { (k : ℕ) → length self.old.keys ≤ 2 ^ k → steps.new ≤ steps.old + (2 * k + 66) }
         ensures onward { steps.old ≤ steps.new }
     {
@@ -270,7 +283,7 @@ impl FloorQueue {
     /// Takes out the key of a slot that is before that of each other slot.
     pub fn take<L: Ledger>(&mut self, slot: u32, steps: &mut Steps<L>)
         requires { IsSoleLeast event_before self.old.keys slot }
-        ensures taken { self.new ≡ record self.old { keys = slice_set self.old.keys slot None } }
+        ensures taken { self.new ≡ record { keys = slice_set self.old.keys slot None; groups = self.old.groups; waits = slice_set self.old.waits slot false } }
         ensures counted { (k : ℕ) → length self.old.keys ≤ 2 ^ k → steps.new ≤ steps.old + (2 * k + 66) }
         ensures onward { steps.old ≤ steps.new }
     {
@@ -283,17 +296,32 @@ impl FloorQueue {
         self.ahead.take(slot, Arrivals::Mixed, steps);
     }
 
-    /// Raises the key of a slot that is before that of each other slot to a time. The keys of other slots of its group
-    /// that wait for the same thing may be raised with it.
-    pub fn lift<L: Ledger>(&mut self, slot: u32, time: u64, steps: &mut Steps<L>)
+    /// Raises the key of a slot that is before that of each other slot to a time, and those of all that wait in its group
+    /// with it; none of these may be later. From then on the slot waits with them. Where this raises something that waits,
+    /// `lifts` counts it; where the slot waits itself, it costs 65 comparisons at most.
+    pub fn lift<L: Ledger, R: Ledger>(
+        &mut self,
+        slot: u32,
+        time: u64,
+        steps: &mut Steps<L>,
+        lifts: &mut Steps<R>,
+    )
         requires late { IsLate self.old.keys slot time }
         requires least { IsSoleLeast event_before self.old.keys slot }
-        ensures lifted { IsLifted self.old.groups self.old.keys self.new.keys slot time }
+        requires not_later { IsFloorBy self.old slot time }
+        ensures lifted { IsLifted self.old self.new slot time }
         ensures groups { self.new.groups ≡ self.old.groups }
+        ensures waits { waits_at self.new slot ≡ true }
+        ensures others { (other : ℕ) → other ≢ slot → waits_at self.new other ≡ waits_at self.old other }
+        ensures once { IsLiftCounted self.old slot time lifts.old lifts.new }
         ensures counted { (k : ℕ) → length self.old.keys ≤ 2 ^ k → steps.new ≤ steps.old + (4 * k + 67) }
+        ensures together { waits_at self.old slot ≡ true → steps.new ≤ steps.old + 65 }
         ensures onward { steps.old ≤ steps.new }
     {
         let group = self.waiting.group(slot);
+        if is_low(&self.heads, group, time) {
+            lifts.tick();
+        }
         if is_waiting(self.stands[slot as usize]) {
             renew(&self.waiting, &mut self.heads, group, time, steps);
             return;
@@ -302,11 +330,6 @@ impl FloorQueue {
         let Some(key) = first_ahead(&self.ahead) else {
             return;
         };
-        if floor(&self.heads, group) > time {
-            self.ahead.take(slot, Arrivals::Mixed, steps);
-            self.ahead.put(slot, key.at(time), steps);
-            return;
-        }
         park(
             &mut self.ahead,
             &mut self.waiting,

@@ -3,6 +3,7 @@ use Rattle.goal_graph.specs.declared.action.Timed.{Timed}
 use Rattle.goal_graph.specs.Schedule.{Plan, operations}
 use Rattle.goal_graph.specs.Fault.{IsOp}
 use Rattle.sim_events.proofs.Queue.{no_key, key_kept, idle_kept, put_enabled}
+use Rattle.sim_events.proofs.Lifts.{put_floored}
 use Rattle.sim_events.proofs.Places.{possible_exists}
 use Rattle.sim_events.specs.Queue.{IsEnabledActionOf}
 use Rattle.sim_events.proofs.follow.refresh.Goals as goal
@@ -29,8 +30,8 @@ returns-then-has-clause-queue g c =
 
 pub returns-in-Some-clause-queue : goal.returns-in-Some-clause-queue
 returns-in-Some-clause-queue g c =
-    put_enabled _ _ _ c.args.id _ c.index-slot.result _ _ _ _ c.sched.ensures c.index-slot.ensures.index c.choice_from.ensures.enabled (c.in-Some.is ∙ ap (λ (a : Timed). Some a) (sym c.compact.ensures)) c.put.ensures.put
+    put_enabled _ _ _ c.args.id _ c.index-slot.result _ _ _ _ c.sched.ensures c.index-slot.ensures.index c.choice_from.ensures.enabled (c.in-Some.is ∙ ap (λ (a : Timed). Some a) (sym c.compact.ensures)) c.put.ensures.put c.put.ensures.groups c.put.ensures.others (λ w. put_floored _ _ _ c.args.queue.now c.requires.early _ c.sched.ensures c.index-slot.result c.args.id _ c.index-slot.ensures.index (c.put.ensures.waits w))
 
 pub returns-in_default-clause-queue : goal.returns-in_default-clause-queue
 returns-in_default-clause-queue g c =
-    idle_kept _ _ _ c.args.id _ c.index-slot.result _ c.args.queue.now c.sched.ensures c.index-slot.ensures.index c.choice_from.ensures.enabled c.in_default.is (sym c.has.ensures ∙ c.if-has.false)
+    idle_kept _ _ _ c.args.id _ c.index-slot.result _ c.args.queue.now c.requires.early c.sched.ensures c.index-slot.ensures.index c.choice_from.ensures.enabled c.in_default.is (sym c.has.ensures ∙ c.if-has.false)

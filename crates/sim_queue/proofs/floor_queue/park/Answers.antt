@@ -6,7 +6,8 @@ use Rattle.sim_queue.specs.Map.{key_at}
 use Rattle.sim_queue.specs.Groups.{Grouped}
 use Rattle.sim_queue.specs.Floors.{at_time}
 use Rattle.sim_queue.proofs.Maps.{key_within}
-use Rattle.sim_queue.proofs.FloorSteps.{zeros, with_key, step_in, up_floored, up_lifted, parked}
+use Rattle.sim_queue.proofs.Floors.{still_floored}
+use Rattle.sim_queue.proofs.FloorSteps.{zeros, with_key, step_in}
 use Rattle.sim_queue.proofs.floor_queue.park.Goals as goal
 
 pub renew-requires-clause-at_zero : goal.renew-requires-clause-at_zero
@@ -17,13 +18,7 @@ pub returns-clause-floored : goal.returns-clause-floored
 returns-clause-floored g c =
     let is = with_key c.args.waiting.now c.put.new.self c.args.slot c.args.key c.at.result c.put.ensures.put c.at.ensures in
     let step = step_in c.args.ahead.now c.args.waiting.now c.args.heads.now c.requires.floored c.args.slot c.args.key c.requires.key c.requires.waits c.take.new.self c.take.ensures.taken c.put.new.self is in
-    up_floored c.args.ahead.now c.args.waiting.now c.args.heads.now c.requires.floored c.args.slot c.group-group.result c.group-group.ensures c.args.time (c.requires.not_later c.group-group.result c.group-group.ensures) c.take.new.self c.put.new.self c.renew.new.heads step c.renew.ensures.renewed
-
-pub returns-clause-lifted : goal.returns-clause-lifted
-returns-clause-lifted g c =
-    let is = with_key c.args.waiting.now c.put.new.self c.args.slot c.args.key c.at.result c.put.ensures.put c.at.ensures in
-    let step = step_in c.args.ahead.now c.args.waiting.now c.args.heads.now c.requires.floored c.args.slot c.args.key c.requires.key c.requires.waits c.take.new.self c.take.ensures.taken c.put.new.self is in
-    up_lifted c.args.ahead.now c.args.waiting.now c.args.heads.now c.requires.floored c.args.slot c.group-group.result c.group-group.ensures c.args.time (c.requires.not_later c.group-group.result c.group-group.ensures) c.take.new.self c.put.new.self c.renew.new.heads step c.renew.ensures.renewed (parked c.args.ahead.now c.args.waiting.now c.args.heads.now c.requires.floored c.args.slot c.args.time c.args.key c.requires.key c.take.new.self c.take.ensures.taken c.put.new.self is)
+    still_floored c.args.ahead.now c.args.waiting.now c.args.heads.now c.requires.floored c.args.slot c.group-group.result c.group-group.ensures c.take.new.self c.put.new.self c.renew.new.heads c.args.time step c.renew.ensures.renewed
 
 pub returns-clause-step : goal.returns-clause-step
 returns-clause-step g c =
