@@ -8,7 +8,6 @@ pub mod Awaited
 pub mod Queue
 pub mod Steps
 pub mod Empty
-pub mod Finished
 pub mod Runs
 pub mod After
 pub mod Pairings
@@ -24,6 +23,7 @@ pub mod Shapes
 pub mod Choice
 pub mod Numbering
 pub mod Changes
+pub mod Costs
 pub mod Lifts
 pub mod Once
 pub mod ForCallers

@@ -1,7 +1,7 @@
 -- Each station of a queue is lifted at most once on the way to the next action, and each key begins to wait at most once.
 use Rattle.std.proofs.Common.{◌≡◌, ◌≢◌, ◌⊎◌, ℕ, ◌+◌, ◌*◌, ◌^◌, ◌<◌, ◌≤◌, suc, true, false, Bool, List, [], ◌∷◌, All, length, Option, Some, None, is_some, slice_get, slice_set, if◌then◌else◌, max, refl, sym, ap, ◌∙◌, subst, inl, inr, arith}
 use Rattle.std.proofs.lemmas.Bool.{cases_eq, cases_Bool, both_ways}
-use Rattle.std.proofs.lemmas.List.{get_or-set_same, get_or-set_other}
+use Rattle.std.proofs.lemmas.List.{get_or-set_same, get_or-set_other, length-set}
 use Rattle.std.proofs.lemmas.List.Elements.{All-cons}
 use Rattle.std.proofs.lemmas.List.Kept.{AllPairs-cons}
 use Rattle.std.proofs.lemmas.Option.{same_Some}
@@ -15,9 +15,11 @@ use Rattle.sim_queue.specs.Map.{key_at}
 use Rattle.sim_queue.specs.Floors.{Floored, waits_at, waits_for_room, at_time, IsMate, HasLowFloor, IsLiftCounted, IsLifted}
 use Rattle.sim_events.specs.Stations.{free}
 use Rattle.sim_events.specs.Queue.{IsEarly, IsQueue, IsStationRaised, HasBegunToWait, AreDistinct, IsEachRaisedOnce, is_changed, lag}
+use Rattle.sim_events.specs.Comparisons.{spent, cost_of_actions}
 use Rattle.sim_events.proofs.Queue.{key_found}
 use Rattle.sim_events.proofs.Kept.{told_waiting}
 use Rattle.sim_events.proofs.Changes.{IsKept, is_raised, stays_changed, is_taken, changed_there}
+use Rattle.sim_events.proofs.Costs.{spent_lifted, spent_joined, spent_taken}
 use Rattle.sim_events.proofs.Lifts.{IsHeldUp, IsUp, slot_up, each_up, lag_up, lag_before, free_then, lifted_queue}
 
 -- a look and a lift of a key that begins to wait are paid by one more slot
@@ -64,6 +66,7 @@ module _ (plans : List Plan) (costs : CostModel) (h : List Timed) where
       pub began : All (HasBegunToWait first queue) slots
       pub lifted : lifts ≡ lifts_before + length stations
       pub counted : (k : ℕ) → length first.keys ≤ 2 ^ k → steps ≤ steps_before + length stations * 66 + length slots * (4 * k + 68)
+      pub paid : (k : ℕ) → length first.keys ≤ 2 ^ k → steps + spent k first + cost_of_actions k 0 lifts_before ≤ steps_before + spent k queue + cost_of_actions k 0 lifts
 
     module _ (queue new : Floored) (lifts steps : ℕ) (so : IsRaisedSoFar queue lifts steps) (looked steps_now : ℕ)
         (look : looked ≤ steps + 1) where
@@ -244,6 +247,14 @@ module _ (plans : List Plan) (costs : CostModel) (h : List Timed) where
           pub waiting : All (λ i. waits_at new i ≡ true) slots
           pub began : All (HasBegunToWait first new) slots
           pub cost : (k : ℕ) → length first.keys ≤ 2 ^ k → steps_now ≤ steps_before + lifts_made * 66 + length slots * (4 * k + 68)
+          pub paid : (k : ℕ) → length first.keys ≤ 2 ^ k → steps_now + spent k first + cost_of_actions k 0 lifts_before ≤ steps_before + spent k new + cost_of_actions k 0 lifts_now
+
+        slot_in : slot < length queue.keys
+        slot_in = (key_found plans costs h queue slot early so.bounds up.has).within
+
+        there_now : (i : ℕ) → is_some (key_at new.keys i) ≡ is_some (key_at queue.keys i)
+        there_now i =
+            elim (up_each i) [ inl same ↦ ap is_some same | inr u ↦ ap is_some u.has ∙ sym (ap is_some u.had) ]
 
         joined_now : (l : HasLifted) → (waits_at queue slot ≡ true) ⊎ (waits_at queue slot ≡ false) → HasJoined (length l.stations)
         joined_now l (inl w) = record {
@@ -252,6 +263,7 @@ module _ (plans : List Plan) (costs : CostModel) (h : List Timed) where
           waiting = λ k d i. waits_still _ (cases_eq _ slot) (so.waiting k d i);
           began = λ k d i. began_still _ (so.waiting k d i) (so.began k d i);
           cost = λ k few. omega (arith, so.counted k few, look, together w, l.one w);
+          paid = λ k few. omega (arith, so.paid k few, look, together w, l.one w, l.count, so.lifted, spent_lifted k queue new slot lifted.each slot_in others there_now early up.has waits w);
         }
         joined_now l (inr w) = record {
           slots = slot ∷ so.slots;
@@ -261,6 +273,9 @@ module _ (plans : List Plan) (costs : CostModel) (h : List Timed) where
           cost = λ k few.
               let lift = counted k (omega (arith, so.each, few)) in
               joined_paid k steps_before steps looked steps_now (length so.stations) (length l.stations) (length so.slots) (so.counted k few) look lift l.more;
+          paid = λ k few.
+              let lift = counted k (omega (arith, so.each, few)) in
+              omega (arith, so.paid k few, look, lift, l.more, l.count, so.lifted, spent_joined k queue new slot lifted.each slot_in others there_now early up.has waits w);
         }
           where
             began_here : HasBegunToWait first new slot
@@ -291,6 +306,7 @@ module _ (plans : List Plan) (costs : CostModel) (h : List Timed) where
               began = j.began;
               lifted = l.count;
               counted = j.cost;
+              paid = j.paid;
             }
 
       -- the key of a slot is taken out
@@ -350,6 +366,14 @@ module _ (plans : List Plan) (costs : CostModel) (h : List Timed) where
               omega (arith, so.counted k few, look, take);
         }
 
+        pub taken_paid : (k : ℕ) → length first.keys ≤ 2 ^ k → steps_now + spent k first + cost_of_actions k 0 lifts_before ≤ steps_before + spent k new + cost_of_actions k 1 lifts
+        taken_paid k few =
+            let take = counted k (omega (arith, so.each, few)) in
+            let keys = ap (λ (q : Floored). q.keys) taken in
+            let same = λ (i : ℕ) (d : i ≢ slot). ap (λ (q : Floored). waits_at q i) taken ∙ get_or-set_other queue.waits slot i false false d in
+            let given = spent_taken k queue new slot (ap length keys ∙ length-set queue.keys slot None) within same keys in
+            omega (arith, so.paid k few, look, take, given)
+
     -- before the first look
     pub none_raised : IsQueue plans costs h first → IsRaisedSoFar first lifts_before steps_before
     none_raised q = record {
@@ -368,6 +392,7 @@ module _ (plans : List Plan) (costs : CostModel) (h : List Timed) where
       began = λ k d l. absurd (omega (arith, l));
       lifted = omega arith;
       counted = λ k few. omega arith;
+      paid = λ k few. omega arith;
     }
 
     -- where nothing is left
@@ -383,3 +408,6 @@ module _ (plans : List Plan) (costs : CostModel) (h : List Timed) where
       lifted = so.lifted;
       counted = λ k few. omega (arith, so.counted k few, same);
     }
+
+    pub ended_paid : (queue : Floored) (lifts steps steps_now : ℕ) → IsRaisedSoFar queue lifts steps → steps_now ≡ steps → (k : ℕ) → length first.keys ≤ 2 ^ k → steps_now + spent k first + cost_of_actions k 0 lifts_before ≤ steps_before + spent k queue + cost_of_actions k 0 lifts
+    ended_paid queue lifts steps steps_now so same k few = omega (arith, so.paid k few, same)

@@ -2,6 +2,7 @@
 pub mod Engine
 -- What only the code keeps.
 pub mod Queue
+pub mod Comparisons
 pub mod Moments
 pub mod Partners
 pub mod Tables

@@ -1,10 +1,11 @@
 -- What may come, as far as an engine knows it.
-use Rattle.std.specs.Prelude.{List, Option, Some, None}
+use Rattle.std.specs.Prelude.{◌≡◌, List, ◌∷◌, Option, Some, None}
 use Rattle.goal_graph.specs.declared.action.Timed.{Timed}
 use Rattle.goal_graph.specs.Schedule.{Plan}
 use Rattle.sim_params.specs.Costs.{CostModel}
-use Rattle.sim_params.specs.Run.{IsFinished}
-use Rattle.sim_events.specs.declared.engine.Outlook.{Outlook}
+use Rattle.sim_params.specs.Run.{IsNext, IsFinished}
+use Rattle.sim_events.specs.declared.outlook.Outlook.{Outlook}
+use Rattle.sim_events.specs.Engine.{View}
 use Rattle.sim_events.specs.Queue.{IsQueue}
 use Rattle.sim_events.specs.Cursors.{AreCursors}
 
@@ -12,3 +13,15 @@ use Rattle.sim_events.specs.Cursors.{AreCursors}
 abbrev pub IsOutlook : List Plan → CostModel → List Timed → Option Outlook → Type 0
 IsOutlook plans costs h (Some o) = IsQueue plans costs h o.queue × AreCursors plans costs h o.cursors.items
 IsOutlook plans costs h None = IsFinished plans costs h
+
+module _ {C : Type 0} (model : C → CostModel) where
+  -- the queue and the cursors of a state
+  abbrev pub IsOutlookOf : View C → Outlook → Type 0
+  IsOutlookOf v o = IsOutlook v.plans (model v.costs) v.history (Some o)
+
+  -- the next action has happened, or nothing is possible
+  abbrev pub IsStepped : View C → View C → Option Timed → Type 0
+  IsStepped old new None = IsFinished old.plans (model old.costs) old.history × (new ≡ old)
+  IsStepped old new (Some a) =
+      IsNext old.plans (model old.costs) old.history a
+      × (new ≡ record { plans = old.plans; costs = old.costs; history = a ∷ old.history })

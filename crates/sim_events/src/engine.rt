@@ -14,16 +14,17 @@ ghost use Rattle.sim_events.specs.Engine.{IsEngineFault, start_known, end_known}
 ghost use Rattle.sim_events.specs.Cursors.{AreCursors};
 
 use crate::cursor::Cursor;
-use crate::follow::{Queue, fill, follow, is_empty, next};
+use crate::follow::{Queue, fill, is_empty};
+use crate::outlook::{Outlook, run_on, step_once};
 use crate::state::State;
 use crate::station::stations;
 use goal_base::NoMemory;
 use goal_graph::{OpId, Sched, Timed};
-use sim_order::{CompactKey, Steps};
+use sim_order::CompactKey;
 use sim_params::Costs;
 use std::alloc::{AllocError, Global};
 use std::marker::{Brand, Model};
-use std::sync::ledger::{Blank, Ledger};
+use std::sync::ledger::Blank;
 
 /// Why an engine is not made.
 #[derive(Clone, Copy, Debug, PartialEq, Eq)]
@@ -71,15 +72,6 @@ pub struct Engine<'a, C: Costs> {
     state: State<'a, C>,
     // what may come, given back by a run once nothing may
     outlook: Option<Outlook>,
-}
-
-// What may come.
-#[derive(Drop)]
-struct Outlook {
-    // the possible actions, each at a time that is never too late
-    queue: Queue,
-    // how far the needs of each operation have been looked at
-    cursors: Vec<Cursor>,
 }
 
 impl<'a, C: Costs> Model for Engine<'a, C> {
@@ -133,7 +125,11 @@ impl<'a, C: Costs> Engine<'a, C> {
         ensures same { IfNone result (self.new ≡ self.old) }
         ensures run { IsRun self.new.plans (C.model self.new.costs) self.new.history }
     {
-        self.step_counted::<Brand, Brand>(Blank::new(1), Blank::new(1))
+        self.known();
+        let Some(outlook) = &mut self.outlook else {
+            return None;
+        };
+        step_once::<C, Brand, Brand>(&mut self.state, outlook, Blank::new(1), Blank::new(1))
     }
 
     /// Lets all that is possible happen, until nothing is. Then it gives back the memory that steps need.
@@ -152,7 +148,10 @@ impl<'a, C: Costs> Engine<'a, C> {
         ensures times { IsWithin self.new.plans (C.model self.new.costs) self.new.history (budget self.new.plans (C.model self.new.costs)) }
         ensures interleaving { IsCompleteInterleaving self.new.plans (is_eager self.new.plans (C.model self.new.costs)) (plain self.new.history) }
     {
-        'steps: while self.step().is_some() {}
+        self.known();
+        if let Some(outlook) = &mut self.outlook {
+            run_on::<C, Brand, Brand>(&mut self.state, outlook, Blank::new(1), Blank::new(1));
+        }
         self.outlook = None;
     }
 
@@ -207,35 +206,5 @@ impl<'a, C: Costs> Engine<'a, C> {
         ensures times { IsWithin self.now.plans (C.model self.now.costs) self.now.history (budget self.now.plans (C.model self.now.costs)) }
     {
         self.state.known();
-    }
-
-    // A step whose comparisons and lifts are counted.
-    fn step_counted<L: Ledger, R: Ledger>(
-        &mut self,
-        blank: Blank,
-        for_lifts: Blank,
-    ) -> Option<Timed>
-        requires name { blank.name ≡ L.name }
-        requires parts { blank.parts ≡ L.parts }
-        requires some { 0 < blank.parts }
-        requires lifts_name { for_lifts.name ≡ R.name }
-        requires lifts_parts { for_lifts.parts ≡ R.parts }
-        requires lifts_some { 0 < for_lifts.parts }
-        ensures next { IfSome result (IsNext self.old.plans (C.model self.old.costs) self.old.history) }
-        ensures after { IfSome result (λ a. self.new ≡ record self.old { history = a ∷ self.old.history }) }
-        ensures finished { IfNone result (IsFinished self.old.plans (C.model self.old.costs) self.old.history) }
-        ensures same { IfNone result (self.new ≡ self.old) }
-        ensures run { IsRun self.new.plans (C.model self.new.costs) self.new.history }
-    {
-        let mut steps = Steps::<L>::new(blank);
-        let mut lifts = Steps::<R>::new(for_lifts);
-        self.known();
-        let Some(Outlook { queue, cursors }) = &mut self.outlook else {
-            return None;
-        };
-        let action = next(&self.state, queue, &mut steps, &mut lifts)?;
-        self.state.perform(action);
-        follow(&self.state, queue, cursors, action, &mut steps);
-        Some(action)
     }
 }

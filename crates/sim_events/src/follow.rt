@@ -1,5 +1,5 @@
 // The queue of an engine: what it holds, and how it follows what happens.
-ghost use Rattle.std.specs.Prelude.{◌≡◌, ◌≢◌, ℕ, ◌<◌, ◌≤◌, ◌+◌, ◌↔◌, ◌⊎◌, IsTrue, IfSome, IfNone, IsNone, Some, length};
+ghost use Rattle.std.specs.Prelude.{◌≡◌, ◌≢◌, ℕ, ◌<◌, ◌≤◌, ◌+◌, ◌*◌, ◌^◌, ◌↔◌, ◌⊎◌, IsTrue, IfSome, IfNone, IsNone, Some, length};
 ghost use Rattle.goal_graph.specs.declared.action.Class.TheVariants.{Serve};
 ghost use Rattle.goal_graph.specs.Schedule.{operations};
 ghost use Rattle.goal_graph.specs.Fault.{IsOp};
@@ -9,6 +9,7 @@ ghost use Rattle.sim_order.specs.Events.{event_before};
 ghost use Rattle.sim_queue.specs.Map.{IsEmptyMap, IsLeast};
 ghost use Rattle.sim_events.specs.Stations.{AreStationed};
 ghost use Rattle.sim_events.specs.Cursors.{IsCursorOf, AreCursors};
+ghost use Rattle.sim_events.specs.Comparisons.{spent, cost_of_actions, count_of};
 ghost use Rattle.sim_events.specs.Queue.{IsEarly, IsQueue, IsQueueBut, IsQueueWithout, HasEarlyKeys, IsRefreshed, IsDueAfter, Awaits, gives, IsEnabledActionOf, IsEachRaisedOnce};
 
 use crate::cursor::Cursor;
@@ -51,6 +52,7 @@ pub fn fill<C: Costs, L: Ledger>(
 /// does not wait yet for itself, which waits from then on.
 ///
 /// - `once`: each station is lifted at most once, and `lifts` counts it; each key begins to wait at most once.
+/// - `counted`: what it compares is the cost of the action, of the lifts, and of the keys that have begun to wait.
 pub fn next<C: Costs, L: Ledger, R: Ledger>(
     state: &State<C>,
     queue: &mut Queue,
@@ -63,6 +65,8 @@ pub fn next<C: Costs, L: Ledger, R: Ledger>(
     ensures next { IfSome result (IsNext state.now.plans (C.model state.now.costs) state.now.history) }
     ensures none { IfNone result (IsFinished state.now.plans (C.model state.now.costs) state.now.history) }
     ensures once { IsEachRaisedOnce state.now.plans (C.model state.now.costs) state.now.history queue.old queue.new result lifts.old lifts.new steps.old steps.new }
+    ensures counted { (k : ℕ) → length queue.old.keys ≤ 2 ^ k
+        → steps.new + spent k queue.old + cost_of_actions k 0 lifts.old ≤ steps.old + spent k queue.new + cost_of_actions k (count_of result) lifts.new }
 {
     state.known();
     'looks: while let Some(early) = least(queue, steps) {
@@ -122,6 +126,7 @@ pub fn follow<C: Costs, L: Ledger>(
     requires cursors { AreCursors state.now.plans (C.model state.now.costs) state.now.history cursors.old }
     ensures queue { IsQueue state.now.plans (C.model state.now.costs) state.now.history queue.new }
     ensures cursors { AreCursors state.now.plans (C.model state.now.costs) state.now.history cursors.new }
+    ensures counted { (k : ℕ) → length queue.old.keys ≤ 2 ^ k → steps.new + spent k queue.old ≤ steps.old + spent k queue.new }
 {
     refresh(state, queue, cursors, action.op, steps);
     follow_partner(state, queue, cursors, action, steps);
@@ -141,6 +146,7 @@ fn follow_partner<C: Costs, L: Ledger>(
     requires cursors { AreCursors state.now.plans (C.model state.now.costs) state.now.history cursors.old }
     ensures queue { IsQueueBut state.now.plans (C.model state.now.costs) state.now.history (Awaits state.now.plans action.class action.op) queue.new }
     ensures cursors { AreCursors state.now.plans (C.model state.now.costs) state.now.history cursors.new }
+    ensures counted { (k : ℕ) → length queue.old.keys ≤ 2 ^ k → steps.new + spent k queue.old ≤ steps.old + spent k queue.new }
 {
     if let Class::Serve = action.class {
         return;
@@ -176,6 +182,7 @@ fn follow_waiting<C: Costs, L: Ledger>(
     requires cursors { AreCursors state.now.plans (C.model state.now.costs) state.now.history cursors.old }
     ensures queue { IsQueue state.now.plans (C.model state.now.costs) state.now.history queue.new }
     ensures cursors { AreCursors state.now.plans (C.model state.now.costs) state.now.history cursors.new }
+    ensures counted { (k : ℕ) → length queue.old.keys ≤ 2 ^ k → steps.new + spent k queue.old ≤ steps.old + spent k queue.new }
 {
     if let Class::Arrive = action.class {
         return;
@@ -227,6 +234,7 @@ fn refresh<C: Costs, L: Ledger>(
     requires cursors { AreCursors state.now.plans (C.model state.now.costs) state.now.history cursors.old }
     ensures queue { IsRefreshed state.now.plans (C.model state.now.costs) state.now.history id queue.old queue.new }
     ensures cursors { AreCursors state.now.plans (C.model state.now.costs) state.now.history cursors.new }
+    ensures counted { (k : ℕ) → length queue.old.keys ≤ 2 ^ k → steps.new + spent k queue.old ≤ steps.old + spent k queue.new }
 {
     let slot = state.sched().index(id);
     if queue.has(slot) {

@@ -7,6 +7,7 @@ mod entry;
 mod follow;
 mod key;
 mod moment;
+mod outlook;
 mod pairing;
 mod shape;
 mod state;

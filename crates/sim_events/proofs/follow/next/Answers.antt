@@ -3,7 +3,7 @@ use Rattle.goal_graph.specs.Schedule.{Plan, operations}
 use Rattle.goal_graph.specs.Fault.{IsOp}
 use Rattle.sim_events.proofs.Queue.{early_exists, key_found, taken_out, found_next, finished}
 use Rattle.sim_events.proofs.Lifts.{has_there, sole_least, held_up, floor_by, lifted_less}
-use Rattle.sim_events.proofs.Once.{none_raised, lifted_so_far, taken_once, ended_once}
+use Rattle.sim_events.proofs.Once.{none_raised, lifted_so_far, taken_once, taken_paid, ended_once, ended_paid}
 use Rattle.sim_events.proofs.follow.next.Goals as goal
 
 pub action_of-action-requires : goal.action_of-action-requires
@@ -77,9 +77,25 @@ returns-then-action-early-clause-once g c =
     taken_once plans _ _ _ _ _ c.looks.queue c.take.new.self c.looks.lifts c.looks.steps c.looks.invariant c.least.new.steps c.take.new.steps
     c.in-Some.ensures.counted slot early has c.take.ensures.taken c.take.ensures.counted c.action_of-action.result
 
+pub returns-then-action-early-clause-counted : goal.returns-then-action-early-clause-counted
+returns-then-action-early-clause-counted g c =
+    let plans = c.args.state.now.plans in
+    let early = c.in-Some.early in
+    let slot = c.index-slot.result in
+    let least = c.in-Some.ensures.least in
+    let is : slice_get (operations plans) slot ≡ Some early.op =
+    subst (λ (ps : List Plan). slice_get (operations ps) slot ≡ Some early.op) c.sched.ensures c.index-slot.ensures.index in
+    let has = has_there plans _ _ c.looks.queue c.looks.invariant.bounds early (least.0, least.1.has) slot is in
+    taken_paid plans _ _ _ _ _ c.looks.queue c.take.new.self c.looks.lifts c.looks.steps c.looks.invariant c.least.new.steps c.take.new.steps
+    c.in-Some.ensures.counted slot early has c.take.ensures.taken c.take.ensures.counted
+
 pub returns-clause-once : goal.returns-clause-once
 returns-clause-once g c =
     ended_once _ _ _ _ _ _ c.looks.queue c.looks.lifts c.looks.steps c.least.new.steps c.looks.invariant (c.least.ensures.none_compared (ap is_some c.in_default.is))
+
+pub returns-clause-counted : goal.returns-clause-counted
+returns-clause-counted g c =
+    ended_paid _ _ _ _ _ _ c.looks.queue c.looks.lifts c.looks.steps c.least.new.steps c.looks.invariant (c.least.ensures.none_compared (ap is_some c.in_default.is))
 
 pub returns-clause-none : goal.returns-clause-none
 returns-clause-none g c =

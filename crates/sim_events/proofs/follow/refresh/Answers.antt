@@ -1,8 +1,10 @@
-use Rattle.std.proofs.Common.{List, Some, length, ap, ◌∙◌, sym, subst, arith}
+use Rattle.std.proofs.Common.{◌<◌, List, Some, length, ap, ◌∙◌, sym, subst, arith}
+use Rattle.std.proofs.lemmas.List.{length-set}
 use Rattle.goal_graph.specs.declared.action.Timed.{Timed}
 use Rattle.goal_graph.specs.Schedule.{Plan, operations}
 use Rattle.goal_graph.specs.Fault.{IsOp}
 use Rattle.sim_events.proofs.Queue.{no_key, key_kept, idle_kept, put_enabled}
+use Rattle.sim_events.proofs.Costs.{spent_put}
 use Rattle.sim_events.proofs.Lifts.{put_floored}
 use Rattle.sim_events.proofs.Places.{possible_exists}
 use Rattle.sim_events.specs.Queue.{IsEnabledActionOf}
@@ -35,3 +37,12 @@ returns-in-Some-clause-queue g c =
 pub returns-in_default-clause-queue : goal.returns-in_default-clause-queue
 returns-in_default-clause-queue g c =
     idle_kept _ _ _ c.args.id _ c.index-slot.result _ c.args.queue.now c.requires.early c.sched.ensures c.index-slot.ensures.index c.choice_from.ensures.enabled c.in_default.is (sym c.has.ensures ∙ c.if-has.false)
+
+pub returns-in-Some-clause-counted : goal.returns-in-Some-clause-counted
+returns-in-Some-clause-counted g c =
+    λ k few.
+    let within : c.index-slot.result < length c.args.queue.now.keys = omega (arith, c.index-slot.ensures.below, c.requires.early.each, ap (λ (ps : List Plan). length (operations ps)) c.sched.ensures) in
+    let each = ap length c.put.ensures.put ∙ length-set c.args.queue.now.keys c.index-slot.result (Some c.compact.result) in
+    let free = no_key _ (sym c.has.ensures ∙ c.if-has.false) in
+    let more = spent_put k c.args.queue.now c.put.new.self c.index-slot.result each within c.put.ensures.others c.compact.result c.put.ensures.put free in
+    omega (arith, c.put.ensures.counted k few, more)

@@ -1,9 +1,7 @@
-use Rattle.std.proofs.Common.{◌≡◌, ◌*◌, ◌-◌, length}
-use Rattle.goal_graph.specs.Schedule.{operations}
 use Rattle.sim_events.proofs.engine.Engine.run.Given as goal
 
-abbrev pub invariant-steps : goal.invariant-steps
-invariant-steps g l = (l.self.plans ≡ l.fn.self.plans) × (l.self.costs ≡ l.fn.self.costs)
+abbrev pub ghosts-run_on-L-Ledger : goal.ghosts-run_on-L-Ledger
+ghosts-run_on-L-Ledger g a = record { name = a.blank.name; parts = a.blank.parts }
 
-abbrev pub decreases-steps : goal.decreases-steps
-decreases-steps g l = 3 * length (operations l.self.plans) - length l.self.history
+abbrev pub ghosts-run_on-R-Ledger : goal.ghosts-run_on-R-Ledger
+ghosts-run_on-R-Ledger g a = record { name = a.for_lifts.name; parts = a.for_lifts.parts }

@@ -1,7 +1,7 @@
 use Rattle.sim_events.proofs.engine.Engine.step.Given as goal
 
-abbrev pub ghosts-step_counted-L-Ledger : goal.ghosts-step_counted-L-Ledger
-ghosts-step_counted-L-Ledger g a = record { name = a.blank.name; parts = a.blank.parts }
+abbrev pub ghosts-step_once-L-Ledger : goal.ghosts-step_once-L-Ledger
+ghosts-step_once-L-Ledger g a = record { name = a.blank.name; parts = a.blank.parts }
 
-abbrev pub ghosts-step_counted-R-Ledger : goal.ghosts-step_counted-R-Ledger
-ghosts-step_counted-R-Ledger g a = record { name = a.for_lifts.name; parts = a.for_lifts.parts }
+abbrev pub ghosts-step_once-R-Ledger : goal.ghosts-step_once-R-Ledger
+ghosts-step_once-R-Ledger g a = record { name = a.for_lifts.name; parts = a.for_lifts.parts }

@@ -1,0 +1,49 @@
+use Rattle.std.proofs.Common.{◌*◌, ◌+◌, length, sym, ap, ◌∙◌, arith}
+use Rattle.goal_graph.specs.Schedule.{operations}
+use Rattle.sim_events.proofs.Costs.{spent_none}
+use Rattle.sim_events.proofs.Queue.{empty_from}
+use Rattle.sim_events.proofs.Runs.{stepped_plans, stepped_costs, stepped_length, stepped_last, fewer_left, none_counted}
+use Rattle.sim_events.proofs.outlook.run.Goals as goal
+
+pub steps-preserved : goal.steps-preserved
+steps-preserved g c =
+    let stepped = c.step.ensures.stepped in
+    let plans = stepped_plans g.C.Costs.model _ _ c.step.result stepped in
+    let more = stepped_length g.C.Costs.model _ _ c.step.result stepped in (
+      c.step.ensures.outlook,
+      plans ∙ c.steps.invariant.1,
+      stepped_costs g.C.Costs.model _ _ c.step.result stepped ∙ c.steps.invariant.2,
+      λ k few.
+          let step = c.step.ensures.counted k (omega (arith, few, ap (λ ps. length (operations ps)) c.steps.invariant.1)) in
+          omega (arith, c.steps.invariant.3 k few, step, ap (λ n. n * (8 * k + 201)) more),
+    )
+
+pub steps-smaller : goal.steps-smaller
+steps-smaller g c =
+    fewer_left g.C.Costs.model _ _ c.step.result (sym c.is_some.ensures ∙ c.steps-test.true) c.step.ensures.stepped c.step.ensures.run
+
+pub returns-clause-plans : goal.returns-clause-plans
+returns-clause-plans g c =
+    stepped_plans g.C.Costs.model _ _ c.step.result c.step.ensures.stepped ∙ c.steps.invariant.1
+
+pub returns-clause-costs : goal.returns-clause-costs
+returns-clause-costs g c =
+    stepped_costs g.C.Costs.model _ _ c.step.result c.step.ensures.stepped ∙ c.steps.invariant.2
+
+pub returns-clause-complete : goal.returns-clause-complete
+returns-clause-complete g c = record {
+  run = c.step.ensures.run;
+  finished = stepped_last g.C.Costs.model _ _ c.step.result (sym c.is_some.ensures ∙ c.steps-test.false) c.step.ensures.stepped;
+}
+
+pub returns-clause-counted : goal.returns-clause-counted
+returns-clause-counted g c =
+    λ k few.
+    let model = g.C.Costs.model in
+    let stepped = c.step.ensures.stepped in
+    let none = sym c.is_some.ensures ∙ c.steps-test.false in
+    let finished = stepped_last model _ _ c.step.result none stepped in
+    let empty = empty_from _ _ _ c.step.new.outlook.queue c.step.ensures.outlook.0 finished in
+    let step = c.step.ensures.counted k (omega (arith, few, ap (λ ps. length (operations ps)) c.steps.invariant.1)) in
+    let more = stepped_length model _ _ c.step.result stepped in
+    omega (arith, c.steps.invariant.3 k few, step, ap (λ n. n * (8 * k + 201)) more, ap (λ n. n * (8 * k + 201)) (none_counted c.step.result none), spent_none k c.step.new.outlook.queue empty)
