@@ -1,5 +1,5 @@
 // The parameters of LogGOPS, kept within their limits.
-ghost use Rattle.std.specs.Prelude.{◌≡◌, None, Some, IfOk, IfErr, OnOk};
+ghost use Rattle.std.specs.Prelude.{◌≡◌, ◌≤◌, ◌<◌, None, Some, IfOk, IfErr, OnOk, OnErr};
 ghost use Rattle.sim_params.specs.Limits.{IsWithinLimits, first_over};
 
 use goal_base::{MAX_PARAM, MAX_PER_BYTE};
@@ -115,42 +115,14 @@ impl Params {
         ensures within { OnOk result (first_over (asked l o g gb gp ob op s) ≡ None) }
         ensures fault { IfErr result (λ f. first_over (asked l o g gb gp ob op s) ≡ Some f.which) }
     {
-        if l > MAX_PARAM {
-            return Err(ParamFault {
-                which: Param::Latency,
-            });
-        }
-        if o > MAX_PARAM {
-            return Err(ParamFault {
-                which: Param::Overhead,
-            });
-        }
-        if g > MAX_PARAM {
-            return Err(ParamFault { which: Param::Gap });
-        }
-        if gb > MAX_PER_BYTE {
-            return Err(ParamFault {
-                which: Param::GapPerByte,
-            });
-        }
-        if gp > MAX_PICOS {
-            return Err(ParamFault {
-                which: Param::GapPicos,
-            });
-        }
-        if ob > MAX_PER_BYTE {
-            return Err(ParamFault {
-                which: Param::OverheadPerByte,
-            });
-        }
-        if op > MAX_PICOS {
-            return Err(ParamFault {
-                which: Param::OverheadPicos,
-            });
-        }
-        if s > MAX_PARAM {
-            return Err(ParamFault { which: Param::Sync });
-        }
+        at_most(l, MAX_PARAM, Param::Latency)?;
+        at_most(o, MAX_PARAM, Param::Overhead)?;
+        at_most(g, MAX_PARAM, Param::Gap)?;
+        at_most(gb, MAX_PER_BYTE, Param::GapPerByte)?;
+        at_most(gp, MAX_PICOS, Param::GapPicos)?;
+        at_most(ob, MAX_PER_BYTE, Param::OverheadPerByte)?;
+        at_most(op, MAX_PICOS, Param::OverheadPicos)?;
+        at_most(s, MAX_PARAM, Param::Sync)?;
         Ok(Params {
             latency: l,
             overhead: o,
@@ -161,5 +133,18 @@ impl Params {
             overhead_picos: op,
             sync: s,
         })
+    }
+}
+
+/// Takes a value up to a limit. A value over it is a fault of this parameter.
+fn at_most(value: u64, limit: u64, which: Param) -> Result<(), ParamFault>
+    ensures within { OnOk result (value ≤ limit) }
+    ensures over { OnErr result (limit < value) }
+    ensures fault { IfErr result (λ f. f.which ≡ which) }
+{
+    if value > limit {
+        Err(ParamFault { which })
+    } else {
+        Ok(())
     }
 }
