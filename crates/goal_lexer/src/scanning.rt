@@ -1,6 +1,7 @@
 //! What the bytes of a piece make of what is open.
 ghost use Rattle.std.specs.Prelude.{◌≡◌, ℕ, ◌+◌, ◌<◌, ◌^◌, true, false, length, IfSome};
-ghost use Rattle.goal_lexer.specs.Sound.{IsSound};
+ghost use Rattle.goal_lexer.specs.declared.tokens.Token.{Token};
+ghost use Rattle.goal_lexer.specs.Sound.{IsSound, IsRun};
 ghost use Rattle.goal_lexer.specs.Steps.{StepsTo, StopsAt};
 ghost use Rattle.goal_lexer.specs.Scan.{form_with};
 ghost use Rattle.goal_lexer.specs.Pieces.{sign_kind};
@@ -99,6 +100,58 @@ fn form_with(form: Form, byte: u8) -> Option<Form>
     }
 }
 
+/// Takes one byte at this place where a run is open: one that ends the run, or makes it longer, or else the fault is at its
+/// begin.
+#[cold]
+fn take_in_run(mode: &mut Mode, place: u64, byte: u8, token: &mut Token) -> Step
+    requires { IsRun mode.old }
+    ensures { StepsTo result mode.old place byte mode.new token.new }
+{
+    let Mode::Run { start, bytes, form } = mode else {
+        unreachable!()
+    };
+    let start = *start;
+    if !is_run_byte(byte) {
+        run_kind(bytes.as_bytes(), *form, &mut token.kind);
+        token.start = start;
+        token.end = place;
+        *mode = Mode::Between;
+        return Step::Run;
+    }
+    match form_with(*form, byte) {
+        Some(longer) if bytes.len() < MOST_RUN_BYTES => {
+            bytes.push(byte);
+            *form = longer;
+            Step::Nothing
+        }
+        _ => {
+            *mode = Mode::Failed { at: start };
+            Step::Fault(start)
+        }
+    }
+}
+
+/// Takes one byte behind a `/` that stands at `start`: one that begins a comment with it, or else the fault is there. The
+/// byte's own place makes no difference.
+#[cold]
+fn take_behind_slash(mode: &mut Mode, start: u64, byte: u8) -> Step
+    ensures { (place : ℕ) (token : Token) → StepsTo result (Mode.Slash start) place byte mode.new token }
+{
+    if byte == b'/' {
+        *mode = Mode::LineComment { start };
+        Step::Nothing
+    } else if byte == b'*' {
+        *mode = Mode::BlockComment {
+            start,
+            closes: false,
+        };
+        Step::Nothing
+    } else {
+        *mode = Mode::Failed { at: start };
+        Step::Fault(start)
+    }
+}
+
 /// Takes one byte at this place where a run or a comment may be open. Most runs and all blanks are taken without it.
 #[cold]
 fn take_open_byte(mode: &mut Mode, place: u64, byte: u8, token: &mut Token) -> Step
@@ -107,42 +160,10 @@ fn take_open_byte(mode: &mut Mode, place: u64, byte: u8, token: &mut Token) -> S
 {
     match mode {
         Mode::Between => begin_at(mode, place, byte, token),
-        Mode::Run { start, bytes, form } => {
-            let start = *start;
-            if !is_run_byte(byte) {
-                run_kind(bytes.as_bytes(), *form, &mut token.kind);
-                token.start = start;
-                token.end = place;
-                *mode = Mode::Between;
-                return Step::Run;
-            }
-            match form_with(*form, byte) {
-                Some(longer) if bytes.len() < MOST_RUN_BYTES => {
-                    bytes.push(byte);
-                    *form = longer;
-                    Step::Nothing
-                }
-                _ => {
-                    *mode = Mode::Failed { at: start };
-                    Step::Fault(start)
-                }
-            }
-        }
+        Mode::Run { .. } => take_in_run(mode, place, byte, token),
         Mode::Slash { start } => {
             let start = *start;
-            if byte == b'/' {
-                *mode = Mode::LineComment { start };
-                Step::Nothing
-            } else if byte == b'*' {
-                *mode = Mode::BlockComment {
-                    start,
-                    closes: false,
-                };
-                Step::Nothing
-            } else {
-                *mode = Mode::Failed { at: start };
-                Step::Fault(start)
-            }
+            take_behind_slash(mode, start, byte)
         }
         Mode::LineComment { .. } => {
             if byte == b'\n' {
