@@ -12,6 +12,8 @@ use Rattle.sim_classes.specs.Form as form
 use Rattle.sim_classes.specs.declared.fault.MachineFault.{MachineFault}
 use Rattle.sim_classes.specs.declared.fault.MachineFault.TheVariants as sayings
 use Rattle.sim_events.specs.Engine.{View}
+use Rattle.sim_events.specs.declared.engine.EngineFault.{EngineFault}
+use Rattle.sim_events.specs.declared.engine.EngineFault.TheVariants as faults
 use Rattle.sim_timeline.specs.Timeline.{first_line, timeline}
 use Rattle.sim_cycles.specs.Knots.{knots}
 use Rattle.sim_cycles.specs.KnotsText.{knots_text}
@@ -356,3 +358,8 @@ IsRefused c input (refusal.Budget sum) = IsRefusedBudget c input sum
 abbrev pub IsStop : Command → Input → Stop → Type 0
 IsStop c input (Refused refusal) = IsRefused c input refusal
 IsStop c input NoMemory = Unit {0}
+
+-- why a command writes nothing where its engine is not made
+abbrev pub stop_of : EngineFault → Stop
+stop_of (faults.Budget sum) = Refused (refusal.Budget sum)
+stop_of faults.NoMemory = NoMemory

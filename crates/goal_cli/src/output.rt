@@ -40,6 +40,29 @@ pub enum Stop {
     NoMemory,
 }
 
+impl From<EngineFault> for Stop {
+    ghost use Rattle.goal_cli.specs.Output.{stop_of};
+
+    ghost from_gives = { λ fault stop. stop ≡ stop_of fault };
+
+    fn from(fault: EngineFault) -> Stop {
+        match fault {
+            EngineFault::Budget { sum } => Stop::Refused(Refusal::Budget { sum }),
+            EngineFault::NoMemory => Stop::NoMemory,
+        }
+    }
+}
+
+impl From<NoMemory> for Stop {
+    ghost use Rattle.goal_cli.specs.declared.output.Stop.TheVariants.{NoMemory};
+
+    ghost from_gives = { λ _ stop. stop ≡ NoMemory };
+
+    fn from(_error: NoMemory) -> Stop {
+        Stop::NoMemory
+    }
+}
+
 // How a run ends a command.
 fn ending_if(stuck: bool) -> Ending
     ensures { result ≡ ending_if stuck }
@@ -144,11 +167,7 @@ fn print_run_on<'a>(
     if ranks as usize != sched.plans().len() {
         return Err(Stop::Refused(Refusal::MachineRanks { ranks }));
     }
-    match print_run(alloc, sched, machine) {
-        Ok(run) => Ok(run),
-        Err(EngineFault::Budget { sum }) => Err(Stop::Refused(Refusal::Budget { sum })),
-        Err(EngineFault::NoMemory) => Err(Stop::NoMemory),
-    }
+    Ok(print_run(alloc, sched, machine)?)
 }
 
 // The report on the waits of the run of a schedule.
@@ -289,49 +308,30 @@ pub fn output_of<'a>(
         → IsStop (command line.now) input stop) }
 {
     match line {
-        Line::Sim { params, .. } => match print_run(alloc, sched, LogGops { params: *params }) {
-            Ok(run) => Ok(Output {
+        Line::Sim { params, .. } => {
+            let run = print_run(alloc, sched, LogGops { params: *params })?;
+            Ok(Output {
                 head: run.head,
                 pages: Pages::Run(run.lines),
                 tail: run.tail,
                 ending: run.ending,
-            }),
-            Err(EngineFault::Budget { sum }) => Err(Stop::Refused(Refusal::Budget { sum })),
-            Err(EngineFault::NoMemory) => Err(Stop::NoMemory),
-        },
-        Line::Waits { params, .. } => match report_waits(alloc, sched, *params) {
-            Ok(report) => Ok(report.into_output(alloc)),
-            Err(EngineFault::Budget { sum }) => Err(Stop::Refused(Refusal::Budget { sum })),
-            Err(EngineFault::NoMemory) => Err(Stop::NoMemory),
-        },
-        Line::Knots { params, .. } => match report_knots(alloc, sched, *params) {
-            Ok(report) => Ok(report.into_output(alloc)),
-            Err(EngineFault::Budget { sum }) => Err(Stop::Refused(Refusal::Budget { sum })),
-            Err(EngineFault::NoMemory) => Err(Stop::NoMemory),
-        },
-        Line::Nodes { .. } => match print_run_on(alloc, sched, machine) {
-            Ok(run) => Ok(Output {
+            })
+        }
+        Line::Waits { params, .. } => Ok(report_waits(alloc, sched, *params)?.into_output(alloc)),
+        Line::Knots { params, .. } => Ok(report_knots(alloc, sched, *params)?.into_output(alloc)),
+        Line::Nodes { .. } => {
+            let run = print_run_on(alloc, sched, machine)?;
+            Ok(Output {
                 head: run.head,
                 pages: Pages::RunOn(run.lines),
                 tail: run.tail,
                 ending: run.ending,
-            }),
-            Err(stop) => Err(stop),
-        },
-        Line::Compile { .. } => match whole(compile(alloc, sched)) {
-            Ok(file) => Ok(file.into_output(alloc)),
-            Err(stop) => Err(stop),
-        },
+            })
+        }
+        Line::Compile { .. } => Ok(whole(compile(alloc, sched))?.into_output(alloc)),
         Line::Show { .. } => show(alloc, sched),
         Line::Gen { .. } => show(alloc, sched),
-        Line::Probe { params, .. } => match sum_up_run(alloc, sched, *params) {
-            Ok(sum) => Ok(sum.into_output(alloc)),
-            Err(EngineFault::Budget { sum }) => Err(Stop::Refused(Refusal::Budget { sum })),
-            Err(EngineFault::NoMemory) => Err(Stop::NoMemory),
-        },
-        Line::Certify { what, .. } => match verdict(alloc, sched, *what) {
-            Ok(verdict) => Ok(verdict.into_output(alloc)),
-            Err(NoMemory) => Err(Stop::NoMemory),
-        },
+        Line::Probe { params, .. } => Ok(sum_up_run(alloc, sched, *params)?.into_output(alloc)),
+        Line::Certify { what, .. } => Ok(verdict(alloc, sched, *what)?.into_output(alloc)),
     }
 }
