@@ -1,6 +1,6 @@
 -- What is written is a function of the schedule and the parameters.
-use Rattle.std.proofs.Common.{◌≡◌, ℕ, ◌<◌, ◌^◌, Bool, List, length, Result, IfErr, inl, inr, sym, ap, ◌∙◌, subst}
-use Rattle.std.specs.declared.result.Result.TheVariants.{Ok, Err}
+use Rattle.std.proofs.Common.{◌≡◌, ℕ, ◌<◌, ◌^◌, Bool, List, length, inl, inr, sym, ap, ◌∙◌, subst}
+use Rattle.std.specs.declared.result.Result.TheVariants.{Ok}
 use Rattle.goal_graph.specs.declared.action.Timed.{Timed}
 use Rattle.goal_graph.specs.Schedule.{Plan}
 use Rattle.sim_params.specs.Costs.{Numbers, CostModel, log_gops}
@@ -21,8 +21,7 @@ use Rattle.goal_cli.specs.Probe.{probe_text}
 use Rattle.goal_cli.specs.Verdict.{faulty_text, IsVerdictOn}
 use Rattle.goal_input.specs.Input.{IsReadAs}
 use Rattle.goal_cli.specs.declared.answer.Ending.{Ending}
-use Rattle.goal_cli.specs.declared.output.Stop.{Stop}
-use Rattle.goal_cli.specs.Output.{Input, input_with, IsWorkOf, IsStop, IsSameMachine, run_text, knots_shown, IsPrintedRun, IsReportedRun, IsKnotted, IsSummedUp, ending_if, IsOutput}
+use Rattle.goal_cli.specs.Output.{Input, IsSameMachine, run_text, knots_shown, IsPrintedRun, IsReportedRun, IsKnotted, IsSummedUp, ending_if, IsOutput}
 use Rattle.goal_input.proofs.ForCallers.{same_schedule}
 use Rattle.goal_cli.proofs.RefusalLemmas.{one_machine}
 
@@ -133,11 +132,3 @@ module _ (whole : SaidIsWhole) (alike : AlikeIsLogGops) where
         run = subst (λ (k : CostModel). IsPrintedRun k a.sched output a.stuck) costs a.run;
         ends = a.ends;
       }
-
--- why nothing is made on a machine, told of the input
-pub stop_on : {A : Type 0} (r : Result A Stop) (name other : List ℕ) (sched : List Plan) (machine : List ℕ)
-    → IfErr r (λ stop. (n m schedule : List ℕ) → IsReadAs schedule sched → IsStop (Nodes n m) (input_with schedule machine) stop)
-    → IfErr r (λ stop. (input : Input) → IsWorkOf (Nodes name other) sched machine input → IsStop (Nodes name other) input stop)
-stop_on (Ok output) name other sched machine told = tt
-stop_on (Err stop) name other sched machine told =
-    λ input work. subst (λ (text : List ℕ). IsStop (Nodes name other) (input_with input.schedule text) stop) (sym work.1) (told name other input.schedule work.0)

@@ -255,13 +255,10 @@ fn whole(bytes: Result<Vec<u8>, NoMemory>) -> Result<Whole, Stop>
     ensures output { IfOk result (λ output. (bytes ≡ Ok output.bytes) × (output.ending ≡ Ending.Done)) }
     ensures stop { IfErr result (λ stop. stop ≡ Stop.NoMemory) }
 {
-    match bytes {
-        Ok(bytes) => Ok(Whole {
-            bytes,
-            ending: Ending::Done,
-        }),
-        Err(NoMemory) => Err(Stop::NoMemory),
-    }
+    Ok(Whole {
+        bytes: bytes?,
+        ending: Ending::Done,
+    })
 }
 
 // The compiled file of a schedule.
@@ -281,15 +278,13 @@ fn show<'a>(alloc: Global, sched: &'a Sched) -> Result<Output<'a>, Stop>
     ensures ending { IfOk result (λ output. output.ending ≡ Ending.Done) }
     ensures stop { IfErr result (λ stop. stop ≡ Stop.NoMemory) }
 {
-    match heading(alloc, sched) {
-        Ok(head) => Ok(Output {
-            head,
-            pages: Pages::Blocks(Blocks::new(sched)),
-            tail: Vec::new(alloc),
-            ending: Ending::Done,
-        }),
-        Err(NoMemory) => Err(Stop::NoMemory),
-    }
+    let head = heading(alloc, sched)?;
+    Ok(Output {
+        head,
+        pages: Pages::Blocks(Blocks::new(sched)),
+        tail: Vec::new(alloc),
+        ending: Ending::Done,
+    })
 }
 
 // What a command makes of the schedule that it works on, and of the text of its machine.
