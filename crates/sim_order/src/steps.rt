@@ -1,10 +1,11 @@
-// Counting comparisons.
+// Counting what is done.
 ghost use Rattle.std.specs.Prelude.{◌≡◌, ◌+◌, ◌<◌};
 
 use std::marker::Model;
 use std::sync::ledger::{Blank, Book, Ledger, Share};
 
-/// A counter of comparisons. To a contract it is a number; at run time it takes no bytes, and its calls do nothing.
+/// A counter, of comparisons or of what else a contract counts. To a contract it is a number; at run time it takes no bytes,
+/// and its calls do nothing.
 ///
 /// To make one, pass a `Blank` to a function over `L: Ledger` that is called with `Brand` for `L`.
 #[derive(Drop)]
@@ -35,7 +36,7 @@ impl<L: Ledger> Steps<L> {
         Steps { book, share }
     }
 
-    /// Counts one comparison.
+    /// Counts one.
     pub fn tick(&mut self)
         ensures { self.new ≡ self.old + 1 }
     {
