@@ -14,8 +14,8 @@ ghost use Rattle.sim_events.specs.Engine.{IsEngineFault, start_known, end_known}
 ghost use Rattle.sim_events.specs.Cursors.{AreCursors};
 
 use crate::cursor::Cursor;
-use crate::follow::{Queue, fill, is_empty};
-use crate::outlook::{Outlook, run_on, step_once};
+use crate::follow::{Queue, is_empty};
+use crate::outlook::{Outlook, fill_once, run_on, step_once};
 use crate::state::State;
 use crate::station::stations;
 use goal_base::NoMemory;
@@ -107,7 +107,7 @@ impl<'a, C: Costs + Drop> Engine<'a, C> {
         let stations = stations(alloc, sched)?;
         let mut queue = Queue::new(alloc, &stations.numbers, stations.count)?;
         let mut cursors = at_first(alloc, sched)?;
-        fill::<C, Brand>(Blank::new(1), &state, &mut queue, &mut cursors);
+        fill_once::<C, Brand>(Blank::new(1), &state, &mut queue, &mut cursors);
         Ok(Engine {
             state,
             outlook: Some(Outlook { queue, cursors }),

@@ -26,24 +26,21 @@ pub type Queue = FloorQueue;
 
 /// Gives each operation its key, where none has one yet.
 pub fn fill<C: Costs, L: Ledger>(
-    blank: Blank,
     state: &State<C>,
     queue: &mut Queue,
     cursors: &mut [Cursor],
+    steps: &mut Steps<L>,
 )
-    requires name { blank.name ≡ L.name }
-    requires parts { blank.parts ≡ L.parts }
-    requires some { 0 < blank.parts }
     requires each { length queue.old.keys ≡ length (operations state.now.plans) }
     requires empty { IsEmptyMap queue.old.keys }
     requires stationed { AreStationed state.now.plans queue.old.groups }
     requires cursors { AreCursors state.now.plans (C.model state.now.costs) state.now.history cursors.old }
     ensures queue { IsQueue state.now.plans (C.model state.now.costs) state.now.history queue.new }
     ensures cursors { AreCursors state.now.plans (C.model state.now.costs) state.now.history cursors.new }
+    ensures counted { (k : ℕ) → length queue.old.keys ≤ 2 ^ k → steps.new ≤ steps.old + spent k queue.new }
 {
-    let mut steps = Steps::<L>::new(blank);
     for id in state.sched().operations() {
-        refresh(state, queue, cursors, *id, &mut steps);
+        refresh(state, queue, cursors, *id, steps);
     }
 }
 

@@ -2,11 +2,15 @@
 ghost use Rattle.std.specs.Prelude.{◌≡◌, ℕ, ◌<◌, ◌≤◌, ◌+◌, ◌^◌, length};
 ghost use Rattle.goal_graph.specs.Schedule.{operations};
 ghost use Rattle.sim_params.specs.Run.{IsRun, IsCompleteRun};
+ghost use Rattle.sim_queue.specs.Map.{IsEmptyMap};
+ghost use Rattle.sim_events.specs.Stations.{AreStationed};
+ghost use Rattle.sim_events.specs.Cursors.{AreCursors};
+ghost use Rattle.sim_events.specs.Queue.{IsQueue};
 ghost use Rattle.sim_events.specs.Comparisons.{spent, cost_of_actions, count_of};
 ghost use Rattle.sim_events.specs.Outlook.{IsOutlookOf, IsStepped};
 
 use crate::cursor::Cursor;
-use crate::follow::{Queue, follow, next};
+use crate::follow::{Queue, fill, follow, next};
 use crate::state::State;
 use goal_graph::Timed;
 use sim_order::Steps;
@@ -50,7 +54,7 @@ fn step<C: Costs, L: Ledger, R: Ledger>(
 }
 
 // Lets all that is possible happen. Among 2^k operations each action costs 8k + 201 comparisons at most, and each lift of
-// a station 66.
+// a station 66, what the keys have cost that are there before it included.
 fn run<C: Costs, L: Ledger, R: Ledger>(
     state: &mut State<C>,
     outlook: &mut Outlook,
@@ -62,9 +66,30 @@ fn run<C: Costs, L: Ledger, R: Ledger>(
     ensures costs { state.new.costs ≡ state.old.costs }
     ensures complete { IsCompleteRun state.new.plans (C.model state.new.costs) state.new.history }
     ensures counted { (k : ℕ) → length (operations state.old.plans) ≤ 2 ^ k
-        → steps.new + cost_of_actions k (length state.old.history) lifts.old ≤ steps.old + cost_of_actions k (length state.new.history) lifts.new }
+        → steps.new + spent k outlook.old.queue + cost_of_actions k (length state.old.history) lifts.old ≤ steps.old + cost_of_actions k (length state.new.history) lifts.new }
 {
     'steps: while step(state, outlook, steps, lifts).is_some() {}
+}
+
+/// Gives each operation its key, where none has one yet.
+pub fn fill_once<C: Costs, L: Ledger>(
+    blank: Blank,
+    state: &State<C>,
+    queue: &mut Queue,
+    cursors: &mut [Cursor],
+)
+    requires name { blank.name ≡ L.name }
+    requires parts { blank.parts ≡ L.parts }
+    requires some { 0 < blank.parts }
+    requires each { length queue.old.keys ≡ length (operations state.now.plans) }
+    requires empty { IsEmptyMap queue.old.keys }
+    requires stationed { AreStationed state.now.plans queue.old.groups }
+    requires cursors { AreCursors state.now.plans (C.model state.now.costs) state.now.history cursors.old }
+    ensures queue { IsQueue state.now.plans (C.model state.now.costs) state.now.history queue.new }
+    ensures cursors { AreCursors state.now.plans (C.model state.now.costs) state.now.history cursors.new }
+{
+    let mut steps = Steps::<L>::new(blank);
+    fill(state, queue, cursors, &mut steps);
 }
 
 /// Lets the next action happen and answers it: the possible one of the least key. Where nothing is possible it answers

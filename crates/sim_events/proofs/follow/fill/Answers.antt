@@ -12,7 +12,7 @@ first = record { rank = 0; op = 0 }
 pub loop-id-init : goal.loop-id-init
 loop-id-init g c =
     let plans = c.args.state.now.plans in
-    (all_due plans _ _ (Contains (operations plans)) _ c.requires.each c.requires.empty c.requires.stationed (λ y is. (listed_places plans y).1 is), c.requires.cursors)
+    (all_due plans _ _ (Contains (operations plans)) _ c.requires.each c.requires.empty c.requires.stationed (λ y is. (listed_places plans y).1 is), c.requires.cursors, λ k few. omega arith)
 
 pub refresh-requires : goal.refresh-requires
 refresh-requires g c =
@@ -29,10 +29,13 @@ loop-id-preserved g c =
     let items = c.operations-id-items.ensures.all ∙ ap operations c.sched.ensures in
     let k = c.loop-id.id-index in
     let within = subst (λ (xs : List OpId). k < length xs) items c.loop-id-test.true in
-    (refreshed plans _ _ _ _ _ _ _ c.loop-id.invariant.0 c.refresh.ensures.queue (λ y is left differ. still_left (operations plans) k first y within left (λ e. differ (e ∙ ap (λ (xs : List OpId). get_or xs k first) (sym items)))), c.refresh.ensures.cursors)
+    (refreshed plans _ _ _ _ _ _ _ c.loop-id.invariant.0 c.refresh.ensures.queue (λ y is left differ. still_left (operations plans) k first y within left (λ e. differ (e ∙ ap (λ (xs : List OpId). get_or xs k first) (sym items)))), c.refresh.ensures.cursors, λ k few. omega (arith, c.loop-id.invariant.2 k few, c.refresh.ensures.counted k (omega (arith, few, c.loop-id.invariant.0.each, c.requires.each))))
 
 pub returns-clause-queue : goal.returns-clause-queue
 returns-clause-queue g c =
     let plans = c.args.state.now.plans in
     let items = c.operations-id-items.ensures.all ∙ ap operations c.sched.ensures in
     fewer_due plans _ _ _ _ _ c.loop-id.invariant.0 (λ y is left. none_left (operations plans) c.loop-id.id-index y (omega (arith, ap length items, c.loop-id-test.false)) left)
+
+pub returns-clause-counted : goal.returns-clause-counted
+returns-clause-counted g c = λ k few. omega (arith, c.loop-id.invariant.2 k few)

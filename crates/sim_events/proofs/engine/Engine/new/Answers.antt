@@ -20,8 +20,8 @@ pub returns-in_err-cursors-clause-fault : goal.returns-in_err-cursors-clause-fau
 returns-in_err-cursors-clause-fault g c =
     no_memory _ c.in_ok-state.ensures.fits c.from_residual-in_err-cursors.result c.from_residual-in_err-cursors.ensures.1
 
-pub fill-requires-clause-cursors : goal.fill-requires-clause-cursors
-fill-requires-clause-cursors g c =
+pub fill_once-requires-clause-cursors : goal.fill_once-requires-clause-cursors
+fill_once-requires-clause-cursors g c =
     let state = c.in_ok-state.state in
     let model = g.C.Costs.model in
     subst (AreCursors state.plans (model state.costs) state.history) (sym c.deref_mut.ensures.value)
