@@ -1,10 +1,9 @@
 -- The keys of a station are raised together: what it waits for is free for all its operations at one time, and no action
 -- that waits for it is possible before.
-use Rattle.std.proofs.Common.{◌≡◌, ◌≢◌, ◌⊎◌, ◌==◌, ◌&&◌, ◌+◌, ◌<◌, ◌≤◌, ℕ, zero, suc, max, Bool, true, false, List, [], ◌∷◌, length, get_or, Option, Some, None, slice_get, if◌then◌else◌, refl, sym, ap, ap₂, ◌∙◌, subst, arith, inl, inr}
-use Rattle.std.specs.List.{sum_by}
+use Rattle.std.proofs.Common.{◌≡◌, ◌≢◌, ◌⊎◌, ◌==◌, ◌&&◌, ◌+◌, ◌<◌, ◌≤◌, ℕ, max, Bool, true, false, List, [], ◌∷◌, length, get_or, Option, Some, None, slice_get, if◌then◌else◌, refl, sym, ap, ap₂, ◌∙◌, subst, arith, inl, inr}
+use Rattle.std.specs.List.{sum_by, range_with_len}
 use Rattle.std.specs.Option.{option_map}
 use Rattle.std.proofs.lemmas.Bool.{both_ways, cases_eq}
-use Rattle.std.proofs.lemmas.List.Sums.{sum_by-cons}
 use Rattle.std.proofs.lemmas.Option.{same_Some, slice_get-get_or}
 use Rattle.goal_graph.specs.declared.action.OpId.{OpId}
 use Rattle.goal_graph.specs.declared.action.Timed.{Timed}
@@ -23,6 +22,7 @@ use Rattle.sim_events.specs.declared.station.Station.{Station}
 use Rattle.sim_events.specs.Stations.{station_by, HaveOneStation, AreStationed, free, free_of}
 use Rattle.sim_events.specs.Queue.{IsIdle, IsEarly, IsQueue, HasEarlyKeys, HasKey, lag, lags}
 use Rattle.sim_events.proofs.Queue.{IsFound, key_found}
+use Rattle.sim_events.proofs.Costs.{sum_moved}
 use Rattle.sim_events.proofs.Keys.{before_event}
 use Rattle.sim_events.proofs.Kept.{told_waiting, free_first}
 use Rattle.goal_graph.proofs.ForCallers.{key_cases, other_place}
@@ -87,23 +87,6 @@ free_together plans costs h x y s =
     let left = ap (λ (o : Option Op). free_of plans costs h x (option_map (λ (p : Op). p.kind) o)) s.is_op in
     let right = ap (λ (o : Option Op). free_of plans costs h y (option_map (λ (p : Op). p.kind) o)) s.is_other in
     left ∙ one_free plans costs x y s.op s.other s.is_op s.is_other (rank_same x y s.op s.other s.op.kind s.other.kind s.same) h s.op.kind s.other.kind s.same ∙ sym right
-
-sum_stays : {X : Type 0} (f : Option X → ℕ) (old new : List (Option X)) → length new ≡ length old → ((i : ℕ) → f (key_at new i) ≤ f (key_at old i)) → sum_by f new ≤ sum_by f old
-sum_stays f [] [] l each = omega arith
-sum_stays f [] (n ∷ new) l each = absurd (omega (arith, l))
-sum_stays f (o ∷ old) [] l each = absurd (omega (arith, l))
-sum_stays f (o ∷ old) (n ∷ new) l each =
-    let rest = sum_stays f old new (omega (arith, l)) (λ i. each (suc i)) in omega (arith, rest, each 0, sum_by-cons f o old, sum_by-cons f n new)
-
--- a sum falls where one of its terms does and none rises
-pub sum_falls : {X : Type 0} (f : Option X → ℕ) (old new : List (Option X)) → length new ≡ length old → ((i : ℕ) → f (key_at new i) ≤ f (key_at old i)) → (slot : ℕ) → slot < length old → f (key_at new slot) < f (key_at old slot) → sum_by f new < sum_by f old
-sum_falls f [] new l each slot within less = absurd (omega (arith, within))
-sum_falls f (o ∷ old) [] l each slot within less = absurd (omega (arith, l))
-sum_falls f (o ∷ old) (n ∷ new) l each zero within less =
-    let rest = sum_stays f old new (omega (arith, l)) (λ i. each (suc i)) in omega (arith, less, rest, sum_by-cons f o old, sum_by-cons f n new)
-sum_falls f (o ∷ old) (n ∷ new) l each (suc slot) within less =
-    let rest = sum_falls f old new (omega (arith, l)) (λ i. each (suc i)) slot (omega (arith, within)) less in
-    omega (arith, rest, each 0, sum_by-cons f o old, sum_by-cons f n new)
 
 -- a key of the queue stands in the slot of its operation
 pub has_there : (plans : List Plan) (costs : CostModel) (h : List Timed) (queue : Floored) → IsQueue plans costs h queue → (early : Timed) → HasKey queue.keys early → (slot : ℕ) → slice_get (operations plans) slot ≡ Some early.op → key_at queue.keys slot ≡ Some early
@@ -241,7 +224,8 @@ module _ (plans : List Plan) (costs : CostModel) (h : List Timed) (queue new : F
     pub lifted_less : lags plans costs h new < lags plans costs h queue
     lifted_less =
         let found = key_found plans costs h queue slot early q up.has in
-        sum_falls (lag plans costs h) queue.keys new.keys lifted.each (λ i. lag_now i (each_up i)) slot found.within (omega (arith, lag_up slot slot_up, lag_before))
+        let falls = sum_moved (λ i. lag plans costs h (key_at new.keys i)) (λ i. lag plans costs h (key_at queue.keys i)) slot 1 0 0 (length queue.keys) (omega arith) (omega (arith, found.within)) (λ i d. lag_now i (each_up i)) (omega (arith, lag_up slot slot_up, lag_before)) in
+        omega (arith, falls, ap (λ m. sum_by (λ i. lag plans costs h (key_at new.keys i)) (range_with_len 0 m)) lifted.each)
 
     module _ (groups : new.groups ≡ queue.groups) (others : (other : ℕ) → other ≢ slot → waits_at new other ≡ waits_at queue other) where
       -- what waits is not later than the moment at which its station is free

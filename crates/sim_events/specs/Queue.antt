@@ -1,6 +1,6 @@
 -- What the queue of an engine holds: for each operation that has a possible action a time that is never too late.
 use Rattle.std.specs.Prelude.{ℕ, ◌+◌, ◌-◌, ◌*◌, ◌^◌, ◌≡◌, ◌≢◌, ◌≤◌, ◌⊎◌, Bool, true, false, nat_lt, List, All, AllPairs, Contains, length, max, Option, Some, None, if◌then◌else◌, slice_get, slice_set}
-use Rattle.std.specs.List.{sum_by}
+use Rattle.std.specs.List.{sum_by, range_with_len}
 use Rattle.goal_graph.specs.declared.action.OpId.{OpId}
 use Rattle.goal_graph.specs.declared.action.Timed.{Timed}
 use Rattle.goal_graph.specs.declared.action.Class.{Class}
@@ -146,7 +146,7 @@ module _ (plans : List Plan) where
     lag (Some e) = time plans costs h e.class e.op - e.time
 
     abbrev pub lags : Floored → ℕ
-    lags queue = sum_by lag queue.keys
+    lags queue = sum_by (λ i. lag (key_at queue.keys i)) (range_with_len 0 (length queue.keys))
 
     -- What was raised on the way to the next action: `stations`, each once, of which keys that waited were raised together,
     -- and `slots`, each once, whose keys were raised for themselves and wait from then on. Each key that was raised is at
