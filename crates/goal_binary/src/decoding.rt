@@ -61,8 +61,9 @@ fn schedule_of(alloc: Global, bytes: &[u8]) -> Result<Sched, FileFault>
 
 /// The schedule of a compiled file, of either version.
 ///
-/// The bytes are read once, from the front. Items are kept as they are read, and never for a count alone: a count in a
-/// damaged file takes no more memory than the bytes behind it can hold.
+/// The bytes are read once, from the front, and items are kept as they are read. A list gets room at once for as many items as
+/// its count says, but for no more than half the bytes behind the count (`room` in items.rt), as each item has at least two:
+/// so a count in a damaged file takes no memory for items that cannot be there.
 ///
 /// # Errors
 ///

@@ -1,5 +1,5 @@
 //! The operations, dependencies and notes of a rank.
-ghost use Rattle.std.specs.Prelude.{◌≡◌, ◌≤◌, length, IfOk};
+ghost use Rattle.std.specs.Prelude.{◌≡◌, ◌-◌, ◌*◌, ◌≤◌, length, IfOk};
 ghost use Rattle.goal_binary.specs.Reading.{fixed_op_at, packed_op_at, op_at, fixed_dep_at, packed_dep_at, dep_at, when_of, fixed_note_at, packed_note_at, note_at, note_of, some_byte_if, packed_u32_at, packed_u32_if, list_at};
 ghost use Rattle.goal_binary.specs.Meaning.{Gives};
 
@@ -206,9 +206,10 @@ fn note_at(bytes: &[u8], layout: Layout, at: usize) -> Result<(Note, usize), Fil
     }
 }
 
-/// Room for so many items at this place, but for no more than the bytes behind it can hold.
+/// Room for so many items at this place, but for no more than half the bytes behind it: an item has at least two.
 fn room(bytes: &[u8], count: u32, at: usize) -> usize
-    ensures { result ≤ count }
+    ensures count { result ≤ count }
+    ensures held { 2 * result ≤ length bytes.now - at }
 {
     let most = bytes.len().saturating_sub(at) / 2;
     most.min(count as usize)

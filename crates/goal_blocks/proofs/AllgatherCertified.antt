@@ -278,9 +278,9 @@ module _ (ranks bytes : ℕ) (some : 0 < ranks) (few : ranks ≤ 512) where
       go true e false f = omega arith
       go false e b f = omega arith
 
-  total : bytes ≤ MAX_BYTES → sum_below ranks (λ r. sum_below 65536 (cap r)) + sum_by (λ r. sum_by (load r) (range_with_len 0 (count r))) (range_with_len 0 ranks) ≤ 2 ^ 24
+  total : bytes ≤ MAX_BYTES → sum_below ranks (λ r. sum_below (2 ^ 32) (cap r)) + sum_by (λ r. sum_by (load r) (range_with_len 0 (count r))) (range_with_len 0 ranks) ≤ 2 ^ 24
   total size =
-      let stores = sum_below_few ranks 512 (λ r. sum_below 65536 (cap r)) (λ r l. let s = sum_low_few 65536 ranks 1 (cap r) (cap_few r) (cap_high r) in omega (arith, s, few)) in
+      let stores = sum_below_few ranks 512 (λ r. sum_below (2 ^ 32) (cap r)) (λ r l. let s = sum_low_few (2 ^ 32) ranks 1 (cap r) (cap_few r) (cap_high r) in omega (arith, s, few)) in
       let loads = entries_few ranks count load 1 (λ r i l m. omega arith) in
       let ops = (allgather_fits ranks bytes size some few).few_ops in
       omega (arith, stores, loads, ops, few)

@@ -29,12 +29,12 @@ has_later d c v has = go (is_one c d) refl
     go true e = has_cons d c v true e
     go false e = has_cons d c v false e ∙ has
 
-has_none : (c : Contribution) → has_one [] c ≡ false
+pub has_none : (c : Contribution) → has_one [] c ≡ false
 unfolding has_one
 has_none c = refl
 
 -- a value that is merged with another has what each of them has
-has_new : (e c : Contribution) (v : Value) → is_one c e ≡ true → has_one (insert_one e v) c ≡ true
+pub has_new : (e c : Contribution) (v : Value) → is_one c e ≡ true → has_one (insert_one e v) c ≡ true
 unfolding insert_one
 has_new e c [] is = has_cons e c [] true is
 has_new e c (d ∷ ds) is = go (has_new e c ds is) (is_lower e d)
@@ -43,7 +43,7 @@ has_new e c (d ∷ ds) is = go (has_new e c ds is) (is_lower e d)
     go rest true = has_cons e c (d ∷ ds) true is
     go rest false = has_later d c (insert_one e ds) rest
 
-has_still : (e c : Contribution) (v : Value) → has_one v c ≡ true → has_one (insert_one e v) c ≡ true
+pub has_still : (e c : Contribution) (v : Value) → has_one v c ≡ true → has_one (insert_one e v) c ≡ true
 unfolding insert_one
 has_still e c [] has = absurd (both_ways _ (has_none c) has)
 has_still e c (d ∷ ds) has = go (λ h. has_still e c ds h) (is_one c d) refl (is_lower e d)

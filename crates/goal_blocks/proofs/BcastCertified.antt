@@ -174,9 +174,9 @@ module _ (ranks root bytes : ℕ) (rooted : root < ranks) (few : ranks ≤ 65536
   writes_zero zero i k w = absurd (writes_none zero i k refl w)
   writes_zero (suc v) i k w = (writes_first v i k w).1
 
-  cap_sum : (r : ℕ) → sum_below 65536 (cap r) ≤ 1
+  cap_sum : (r : ℕ) → sum_below (2 ^ 32) (cap r) ≤ 1
   unfolding cap
-  cap_sum r = sum_low_few 65536 1 1 (cap r) (λ k. each k) (λ k l. none k l)
+  cap_sum r = sum_low_few (2 ^ 32) 1 1 (cap r) (λ k. each k) (λ k l. none k l)
     where
       each : (k : ℕ) → cap r k ≤ 1
       each zero = omega arith
@@ -198,9 +198,9 @@ module _ (ranks root bytes : ℕ) (rooted : root < ranks) (few : ranks ≤ 65536
     total = total;
   }
     where
-      total : sum_below ranks (λ r. sum_below 65536 (cap r)) + sum_by (λ r. sum_by (load r) (range_with_len 0 (count r))) (range_with_len 0 ranks) ≤ 2 ^ 24
+      total : sum_below ranks (λ r. sum_below (2 ^ 32) (cap r)) + sum_by (λ r. sum_by (load r) (range_with_len 0 (count r))) (range_with_len 0 ranks) ≤ 2 ^ 24
       total =
-          let stores = sum_below_few ranks 1 (λ r. sum_below 65536 (cap r)) (λ r l. cap_sum r) in
+          let stores = sum_below_few ranks 1 (λ r. sum_below (2 ^ 32) (cap r)) (λ r l. cap_sum r) in
           let loads = entries_few ranks count load 1 (λ r i l m. omega arith) in
           let ops = (bcast_fits ranks bytes size root rooted few).few_ops in
           omega (arith, stores, loads, ops, few)

@@ -269,8 +269,8 @@ pub record IsThin (store : Store) : Type 0 where
 pub thin_light : (h : List Act) (held : Held) → IsThin held.store → carried two h held ≤ 1 → weight two h held ≤ 2 ^ 24
 unfolding weight stored
 thin_light h held thin few =
-    let each : (x : ℕ) → x < 2 → sum_below 65536 (λ k. length (held.store x k)) ≤ 1 = λ x l. one_slot 65536 (λ k. length (held.store x k)) (thin.first x l) (λ k. thin.others x k l) in
-    let sum = two_ranks (λ x. sum_below 65536 (λ k. length (held.store x k))) (each 0 (omega arith)) (each 1 (omega arith)) in
+    let each : (x : ℕ) → x < 2 → sum_below (2 ^ 32) (λ k. length (held.store x k)) ≤ 1 = λ x l. one_slot (2 ^ 32) (λ k. length (held.store x k)) (thin.first x l) (λ k. thin.others x k l) in
+    let sum = two_ranks (λ x. sum_below (2 ^ 32) (λ k. length (held.store x k))) (each 0 (omega arith)) (each 1 (omega arith)) in
     omega (arith, sum, few)
 
 pub later : (k : ℕ) → (suc k == 0) ≡ false

@@ -16,5 +16,11 @@ pub use Rattle.goal_blocks.proofs.Walk.{IsTail, whole, newer, one_tail, complete
 pub use Rattle.goal_blocks.proofs.Faults.{heavy_not}
 pub use Rattle.goal_blocks.proofs.SomeWalk.{IsFirst, takes_first, nothing_left, some_walk}
 pub use Rattle.goal_blocks.proofs.MadeCertified.{made_certified, made_right, all_made_right}
-pub use Rattle.goal_blocks.proofs.Sorted.{length_merge}
+pub use Rattle.goal_blocks.proofs.Sorted.{length_merge, sorted_merge, merge_none, lower_still, not_lower_still, alike, all_from}
 pub use Rattle.goal_blocks.proofs.SlotSums.{stored_most, stored_set}
+pub use Rattle.goal_blocks.proofs.Exchange.{first_initial, first_wanted, none_exchanged, stored_exchanged, exchange_twice}
+pub use Rattle.goal_blocks.proofs.StoreFacts.{same_place}
+pub use Rattle.goal_blocks.proofs.Wishes.{wanted_past}
+pub use Rattle.goal_blocks.proofs.Writes.{write_next, light_next}
+pub use Rattle.goal_blocks.proofs.PlacedAlike.{same_number, happened_placed, kind_placed, mate_placed, paired_placed, started_placed, ended_placed, last_of_placed, allowed_placed}
+pub use Rattle.goal_blocks.proofs.PlacedPlans.{there_and_back}

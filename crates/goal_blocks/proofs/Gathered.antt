@@ -37,7 +37,7 @@ swap_lower c d l (x ∷ v) = go (is_lower c x) (is_lower d x) refl refl (swap_lo
     go false false e f rest =
         ap (insert_one c) (insert_high d x v f) ∙ insert_high c x (insert_one d v) e ∙ ap (λ (w : Value). x ∷ w) rest ∙ sym (insert_high d x (insert_one c v) f) ∙ ap (insert_one d) (sym (insert_high c x v e))
 
-insert_swap : (c d : Contribution) (v : Value) → insert_one c (insert_one d v) ≡ insert_one d (insert_one c v)
+pub insert_swap : (c d : Contribution) (v : Value) → insert_one c (insert_one d v) ≡ insert_one d (insert_one c v)
 insert_swap c d v = go (is_lower c d) (is_lower d c) refl refl
   where
     go : (a b : Bool) → is_lower c d ≡ a → is_lower d c ≡ b → insert_one c (insert_one d v) ≡ insert_one d (insert_one c v)
@@ -45,7 +45,7 @@ insert_swap c d v = go (is_lower c d) (is_lower d c) refl refl
     go false true e f = sym (swap_lower d c f v)
     go false false e f = let same = alike c d e f in λ i. insert_one (same i) (insert_one (sym same i) v)
 
-merge_insert : (c : Contribution) (v w : Value) → merge (insert_one c v) w ≡ insert_one c (merge v w)
+pub merge_insert : (c : Contribution) (v w : Value) → merge (insert_one c v) w ≡ insert_one c (merge v w)
 unfolding insert_one merge
 merge_insert c [] w = refl
 merge_insert c (d ∷ v) w = go (is_lower c d) (merge_insert c v w)

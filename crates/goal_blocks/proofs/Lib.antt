@@ -17,6 +17,7 @@ pub mod BcastPaired
 pub mod ForCallers
 pub mod Matched
 pub mod Race
+pub mod GoesOn
 pub mod SomeWalk
 pub mod Walk
 mod Examples
@@ -62,8 +63,26 @@ pub mod Rounds
 pub mod RoundsHeavy
 pub mod BarrierCertified
 pub mod AllreduceCertified
+pub mod Picked
 pub mod ReduceScatterCertified
 pub mod ReduceCertified
 pub mod BlockBounds
 pub mod GatherCertified
 pub mod ScatterCertified
+pub mod AllowedAlike
+pub mod RenamedValues
+pub mod RenamedNotes
+pub mod SumPermuted
+pub mod RenamedRight
+pub mod RenamedSmall
+pub mod RenamedCertified
+pub mod Exchange
+pub mod Segments
+pub mod PlacedAlike
+pub mod PlacedValues
+pub mod PlacedPlans
+pub mod PlacedRight
+pub mod PlacedCertified
+pub mod PlacedCollectives
+pub mod Joined
+pub mod SegmentsAtOnce

@@ -26,10 +26,10 @@ use Rattle.goal_blocks.proofs.Flow.{IsFlow, Flows, all_flows, state}
 use Rattle.goal_blocks.proofs.Totals.{sum_by_le}
 use Rattle.goal_blocks.proofs.Trees.{sum_below_le}
 
-pub stored_le : (ranks : ℕ) (s : Store) (cap : ℕ → ℕ → ℕ) → ((r k : ℕ) → length (s r k) ≤ cap r k) → stored ranks s ≤ sum_below ranks (λ r. sum_below 65536 (cap r))
+pub stored_le : (ranks : ℕ) (s : Store) (cap : ℕ → ℕ → ℕ) → ((r k : ℕ) → length (s r k) ≤ cap r k) → stored ranks s ≤ sum_below ranks (λ r. sum_below (2 ^ 32) (cap r))
 unfolding stored
 stored_le ranks s cap each =
-    sum_below_le (λ r. sum_below 65536 (λ k. length (s r k))) (λ r. sum_below 65536 (cap r)) ranks (λ r l. sum_below_le (λ k. length (s r k)) (cap r) 65536 (λ k m. each r k))
+    sum_below_le (λ r. sum_below (2 ^ 32) (λ k. length (s r k))) (λ r. sum_below (2 ^ 32) (cap r)) ranks (λ r l. sum_below_le (λ k. length (s r k)) (cap r) (2 ^ 32) (λ k m. each r k))
 
 -- of a list of at most one, the first few are none or all
 take_few : {A : Type 0} (n : ℕ) (xs : List A) → length xs ≤ 1 → (take n xs ≡ []) ⊎ (take n xs ≡ xs)
@@ -52,7 +52,7 @@ pub record AreBounds (plans : List Plan) (first : Store) (finds leaves : OpId �
   pub leaves_cap : (y : OpId) (k : ℕ) → Mem k (written plans y) → length (leaves y k) ≤ cap y.rank k
   pub finds_load : (m : OpId) → IsSend plans m → sum_by (λ (v : Value). length v) (map (finds m) (slots plans m)) ≤ load m
   pub one_adding : (x : OpId) → IsCalc plans x → length (adds plans x) ≤ 1
-  pub total : sum_below (length plans) (λ r. sum_below 65536 (cap r)) + sum_by load (operations plans) ≤ 2 ^ 24
+  pub total : sum_below (length plans) (λ r. sum_below (2 ^ 32) (cap r)) + sum_by load (operations plans) ≤ 2 ^ 24
 
 module _ (plans : List Plan) (matched : IsMatched plans) (first : Store) (finds leaves : OpId → ℕ → Value) (flow : IsFlow plans matched first finds leaves) (cap : ℕ → ℕ → ℕ) (load : OpId → ℕ) (bounds : AreBounds plans first finds leaves cap load) where
   abbrev held : List Act → Held
@@ -112,7 +112,7 @@ module _ (plans : List Plan) (matched : IsMatched plans) (first : Store) (finds 
       whole : stored (length plans) (add_all a.op.rank (adds plans a.op) (held h).store) + carried plans h (held h) ≤ 2 ^ 24
       whole =
           let s = stored_le (length plans) (held (a ∷ h)).store cap (value_few (a ∷ h) i) in
-          let now = subst (λ (t : Store). stored (length plans) t ≤ sum_below (length plans) (λ r. sum_below 65536 (cap r))) (added_now a h i nanos e) s in
+          let now = subst (λ (t : Store). stored (length plans) t ≤ sum_below (length plans) (λ r. sum_below (2 ^ 32) (cap r))) (added_now a h i nanos e) s in
           let b = carried_few h h i.0 in
           let t = bounds.total in
           omega (arith, now, b, t)

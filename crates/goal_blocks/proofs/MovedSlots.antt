@@ -1,5 +1,5 @@
 -- Sums over all slots of which some may be more by one, and how many slots all operations move.
-use Rattle.std.proofs.Common.{⊎_elim, ℕ, zero, suc, ◌+◌, ◌-◌, ◌<◌, ◌≤◌, ◌≡◌, ◌==◌, ◌&&◌, ◌⊎◌, inl, inr, Bool, true, false, List, [], ◌∷◌, flat_map, length, if◌then◌else◌, refl, sym, ap, ◌∙◌, subst, arith, eq-eqb}
+use Rattle.std.proofs.Common.{⊎_elim, ℕ, zero, suc, ◌+◌, ◌-◌, ◌<◌, ◌≤◌, ◌≡◌, ◌==◌, ◌&&◌, ◌⊎◌, inl, inr, Bool, true, false, List, [], ◌∷◌, flat_map, length, if◌then◌else◌, refl, sym, ap, ◌∙◌, subst, arith, eq-eqb, ◌^◌}
 use Rattle.std.specs.List.{sum_by, range_with_len}
 use Rattle.std.proofs.lemmas.Bool.{cases_eq, ne_eqb, eqb-true}
 use Rattle.std.proofs.lemmas.List.{length-append}
@@ -28,11 +28,11 @@ pub record Place : Type 0 where
   pub slot : ℕ
 
 abbrev pub total_of : ℕ → (ℕ → ℕ → ℕ) → ℕ
-total_of ranks f = sum_below ranks (λ r. sum_below 65536 (f r))
+total_of ranks f = sum_below ranks (λ r. sum_below (2 ^ 32) (f r))
 
 total_le : (ranks : ℕ) (f g : ℕ → ℕ → ℕ) → ((r k : ℕ) → f r k ≤ g r k) → total_of ranks f ≤ total_of ranks g
 total_le ranks f g each =
-    sum_below_le (λ r. sum_below 65536 (f r)) (λ r. sum_below 65536 (g r)) ranks (λ r l. sum_below_le (f r) (g r) 65536 (λ k m. each r k))
+    sum_below_le (λ r. sum_below (2 ^ 32) (f r)) (λ r. sum_below (2 ^ 32) (g r)) ranks (λ r l. sum_below_le (f r) (g r) (2 ^ 32) (λ k m. each r k))
 
 -- one more at a place
 more_at : Place → (ℕ → ℕ → ℕ) → ℕ → ℕ → ℕ
@@ -65,7 +65,7 @@ more_once p f r k = go ((r == p.rank) && (k == p.slot))
 
 total_more : (ranks : ℕ) (p : Place) (f : ℕ → ℕ → ℕ) → total_of ranks (more_at p f) ≤ total_of ranks f + 1
 total_more ranks p f =
-    sum_one_more ranks p.rank (λ r. sum_below 65536 (f r)) (λ r. sum_below 65536 (more_at p f r)) (λ r differ. sum_below_le (more_at p f r) (f r) 65536 (λ k l. more_elsewhere p f r k (λ e g. differ e))) (sum_one_more 65536 p.slot (f p.rank) (more_at p f p.rank) (λ k differ. more_elsewhere p f p.rank k (λ e g. differ g)) (more_once p f p.rank p.slot))
+    sum_one_more ranks p.rank (λ r. sum_below (2 ^ 32) (f r)) (λ r. sum_below (2 ^ 32) (more_at p f r)) (λ r differ. sum_below_le (more_at p f r) (f r) (2 ^ 32) (λ k l. more_elsewhere p f r k (λ e g. differ e))) (sum_one_more (2 ^ 32) p.slot (f p.rank) (more_at p f p.rank) (λ k differ. more_elsewhere p f p.rank k (λ e g. differ g)) (more_once p f p.rank p.slot))
 
 -- where each number is at most another, or more by one at one of these places
 pub total_places : (ranks : ℕ) (places : List Place) (f g : ℕ → ℕ → ℕ) → ((r k : ℕ) → (f r k ≤ g r k) ⊎ ((f r k ≤ g r k + 1) × Mem (record { rank = r; slot = k }) places)) → total_of ranks f ≤ total_of ranks g + length places

@@ -564,19 +564,19 @@ module _ (ranks root bytes : ℕ) (rooted : root < ranks) (few : ranks ≤ 65536
           let twice = pow-suc 2 t in
           omega (arith, child, low_many, twice)
 
-  total : sum_below ranks (λ r. sum_below 65536 (cap r)) + sum_by (λ r. sum_by (load r) (range_with_len 0 (count r))) (range_with_len 0 ranks) ≤ 2 ^ 24
+  total : sum_below ranks (λ r. sum_below (2 ^ 32) (cap r)) + sum_by (λ r. sum_by (load r) (range_with_len 0 (count r))) (range_with_len 0 ranks) ≤ 2 ^ 24
   total =
       let sizes = sizes_sum ranks few root rooted in
-      let stores = sum_below_le (λ r. sum_below 65536 (cap r)) (λ r. 4 * block_size ranks (place r)) ranks (λ r l. store_few r l) in
+      let stores = sum_below_le (λ r. sum_below (2 ^ 32) (cap r)) (λ r. 4 * block_size ranks (place r)) ranks (λ r l. store_few r l) in
       let sent = sum_below_le (λ r. sum_by (load r) (range_with_len 0 (count r))) (λ r. 2 * block_size ranks (place r)) ranks (λ r l. let s = loads r in let p = power_few (place r) (back_below ranks r root l) in omega (arith, s, p)) in
       let four = sum_below_times 4 (λ r. block_size ranks (place r)) ranks in
       let two = sum_below_times 2 (λ r. block_size ranks (place r)) ranks in
       let range = sum_range (λ r. sum_by (load r) (range_with_len 0 (count r))) ranks in
       omega (arith, sizes, stores, sent, four, two, range)
     where
-      store_few : (r : ℕ) → r < ranks → sum_below 65536 (cap r) ≤ 4 * block_size ranks (place r)
+      store_few : (r : ℕ) → r < ranks → sum_below (2 ^ 32) (cap r) ≤ 4 * block_size ranks (place r)
       store_few r l =
-          let s = doubling_high (children (place r)) 65535 (let m = rounds_few ranks few (place r) in omega (arith, m)) in
+          let s = doubling_high (children (place r)) (2 ^ 32 - 1) (let m = rounds_few ranks few (place r) in omega (arith, m)) in
           let p = power_few (place r) (back_below ranks r root l) in
           omega (arith, s, p)
 

@@ -1,6 +1,6 @@
 -- Schedules in rounds: in each round a rank sends what slot 0 has, and adds to it what it hears. Where the two ends of a message
 -- know each other they are certified, if what is gained in the end is wanted.
-use Rattle.std.proofs.Common.{⊎_elim, ℕ, zero, suc, ◌+◌, ◌*◌, ◌/◌, ◌%◌, ◌^◌, ◌<◌, ◌≤◌, ◌≡◌, ◌==◌, ◌⊎◌, inl, inr, Bool, true, false, List, [], ◌∷◌, map, length, All, Option, Some, if◌then◌else◌, refl, sym, ap, ◌∙◌, subst, arith, flat_map}
+use Rattle.std.proofs.Common.{⊎_elim, ℕ, zero, suc, ◌+◌, ◌*◌, ◌/◌, ◌%◌, ◌^◌, ◌<◌, ◌≤◌, ◌≡◌, ◌==◌, ◌⊎◌, inl, inr, Bool, true, List, [], ◌∷◌, map, length, All, Option, Some, if◌then◌else◌, refl, sym, ap, ◌∙◌, subst, arith, flat_map, ◌-◌}
 use Rattle.std.specs.List.{range_with_len, sum_by}
 use Rattle.std.proofs.Math.Nat.{pow-suc, pow-le-pow_right}
 use Rattle.std.proofs.lemmas.Bool.{ne_eqb, cases_lt, cases_eq}
@@ -10,7 +10,7 @@ use Rattle.goal_graph.specs.declared.action.OpId.{OpId}
 use Rattle.goal_graph.specs.declared.plan.Kind.TheVariants.{Calc, Recv}
 use Rattle.goal_graph.specs.declared.plan.Note.TheVariants.{Moves, Adds}
 use Rattle.goal_blocks.specs.Slots.{Adding}
-use Rattle.goal_blocks.specs.Values.{Contribution, Value, Store, is_lower, insert_one, merge}
+use Rattle.goal_blocks.specs.Values.{Value, Store, merge}
 use Rattle.goal_blocks.specs.Weight.{sum_below}
 use Rattle.goal_blocks.specs.Certification.{NamesLowSlots, moved_count, IsSmall, IsCertified, IsRightEverywhere}
 use Rattle.goal_blocks.specs.Collectives.{single}
@@ -403,9 +403,9 @@ module _ (ranks n bytes : ℕ) (to from : ℕ → ℕ → ℕ) (to_rank : (r k :
           let room = load_send t.sender t.round in
           subst (λ (ks : List ℕ). sum_by (λ (v : Value). length v) (map (rounds_finds t.sender (3 * t.round)) ks) ≤ load t.sender (3 * t.round)) (sym (ap moved (sends t.sender t.round) ∙ moved_slot 0)) (omega (arith, is, room))
 
-      total : sum_below ranks (λ r. sum_below 65536 (cap r)) + sum_by (λ r. sum_by (load r) (range_with_len 0 (rounds_count r))) (range_with_len 0 ranks) ≤ 2 ^ 24
+      total : sum_below ranks (λ r. sum_below (2 ^ 32) (cap r)) + sum_by (λ r. sum_by (load r) (range_with_len 0 (rounds_count r))) (range_with_len 0 ranks) ≤ 2 ^ 24
       total =
-          let stores = sum_below_few ranks 4096 (λ r. sum_below 65536 (cap r)) (λ r l. let s = doubling_high n 65535 (omega (arith, few_rounds)) in omega (arith, s, few_gained)) in
+          let stores = sum_below_few ranks 4096 (λ r. sum_below (2 ^ 32) (cap r)) (λ r l. let s = doubling_high n (2 ^ 32 - 1) (omega (arith, few_rounds)) in omega (arith, s, few_gained)) in
           let loads = sum_range_few (λ r. sum_by (load r) (range_with_len 0 (rounds_count r))) ranks 2048 (λ r l. let s = loads_few r n in omega (arith, s, few_gained)) in
           omega (arith, stores, loads, few)
 

@@ -98,15 +98,15 @@ module _ (ranks n bytes : ℕ) (to from : ℕ → ℕ → ℕ) (to_rank : (r k :
     stored_many : (w : List Act) → IsWalk plans w → 2 ^ 24 < stored ranks (held_after plans no_send first w).store
     unfolding stored
     stored_many w is =
-        let all = sum_below_many ranks 8191 (λ r. sum_below 65536 (λ k. length ((held_after plans no_send first w).store r k))) (λ r l. in_rank r l) in
+        let all = sum_below_many ranks 8191 (λ r. sum_below (2 ^ 32) (λ k. length ((held_after plans no_send first w).store r k))) (λ r l. in_rank r l) in
         omega (arith, all, many)
       where
-        in_rank : (r : ℕ) → r < ranks → 8191 ≤ sum_below 65536 (λ k. length ((held_after plans no_send first w).store r k))
+        in_rank : (r : ℕ) → r < ranks → 8191 ≤ sum_below (2 ^ 32) (λ k. length ((held_after plans no_send first w).store r k))
         in_rank r l =
             let power : 2 ^ 12 ≤ 2 ^ n = pow_mono rounds.0 in
             let most = rounds.1 in
-            let least = doubling_least n 65536 (omega (arith, most)) in
-            let each = sum_below_le (doubling n) (λ k. length ((held_after plans no_send first w).store r k)) 65536 (λ k m. held_at_end w is r k l) in
+            let least = doubling_least n (2 ^ 32) (omega (arith, most)) in
+            let each = sum_below_le (doubling n) (λ k. length ((held_after plans no_send first w).store r k)) (2 ^ 32) (λ k m. held_at_end w is r k l) in
             omega (arith, power, least, each)
 
     pub rounds_too_heavy : (wanted : ℕ → ℕ → Value → Bool) → IsCertified plans first wanted → ⊥

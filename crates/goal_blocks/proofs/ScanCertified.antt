@@ -1,9 +1,8 @@
 -- The scan along a line is certified, for every number of ranks up to 2,048 and every size.
-use Rattle.std.proofs.Common.{⊎_elim, ℕ, zero, suc, ◌+◌, ◌*◌, ◌^◌, ◌<◌, ◌≤◌, ◌≡◌, ◌⊎◌, nat_lt, inl, inr, Bool, true, false, [], ◌∷◌, ◌++◌, map, length, All, Option, if◌then◌else◌, refl, sym, ◌∙◌, subst, arith, eq-eqb, add-one}
+use Rattle.std.proofs.Common.{⊎_elim, ℕ, zero, suc, ◌+◌, ◌*◌, ◌^◌, ◌<◌, ◌≤◌, ◌≡◌, ◌⊎◌, nat_lt, inl, inr, Bool, true, false, [], ◌∷◌, ◌++◌, map, length, All, Option, if◌then◌else◌, refl, sym, ◌∙◌, subst, arith, add-one}
 use Rattle.std.specs.List.{range_with_len, sum_by}
 use Rattle.std.proofs.lemmas.Bool.{lt-ltb, ltb-true, ne_eqb}
 use Rattle.std.proofs.lemmas.List.Elements.{All-head, All-tail, All-map}
-use Rattle.std.proofs.lemmas.List.FromFn.{length-map-range_with_len}
 use Rattle.goal_graph.specs.declared.plan.Kind.TheVariants.{Calc, Recv}
 use Rattle.goal_graph.specs.declared.plan.Note.TheVariants.{Moves, Adds}
 use Rattle.goal_base.specs.declared.limits.TheConstants.{MAX_BYTES}
@@ -12,7 +11,7 @@ use Rattle.goal_blocks.specs.Slots.{Adding, slots_from}
 use Rattle.goal_blocks.specs.Values.{Contribution, Value, Store, is_lower, insert_one, merge}
 use Rattle.goal_blocks.specs.Weight.{sum_below}
 use Rattle.goal_blocks.specs.Certification.{NamesLowSlots, moved_count, IsSmall, IsCertified}
-use Rattle.goal_blocks.specs.Collectives.{single, of_each, initial, is_value, wanted}
+use Rattle.goal_blocks.specs.Collectives.{single, of_each, initial, wanted}
 use Rattle.goal_blocks.specs.Certified.{IsCertifiedFor}
 use Rattle.goal_blocks.specs.Entries.{Entry, notes_of}
 use Rattle.goal_blocks.specs.Positions.{upward}
@@ -228,9 +227,9 @@ module _ (ranks bytes : ℕ) (some : 0 < ranks) (few : ranks ≤ 2048) where
   load (suc w) (suc zero) = 0
   load (suc w) (suc (suc b)) = ranks
 
-  cap_sum : (r : ℕ) → sum_below 65536 (cap r) ≤ 2 * ranks
+  cap_sum : (r : ℕ) → sum_below (2 ^ 32) (cap r) ≤ 2 * ranks
   unfolding cap
-  cap_sum r = sum_low_few 65536 2 ranks (cap r) each none
+  cap_sum r = sum_low_few (2 ^ 32) 2 ranks (cap r) each none
     where
       each : (k : ℕ) → cap r k ≤ ranks
       each zero = omega arith
@@ -299,9 +298,9 @@ module _ (ranks bytes : ℕ) (some : 0 < ranks) (few : ranks ≤ 2048) where
       let size = length_of_each (suc w + 1) 0 in
       rw two (omega (arith, size, inside))
 
-  total : sum_below ranks (λ r. sum_below 65536 (cap r)) + sum_by (λ r. sum_by (load r) (range_with_len 0 (count r))) (range_with_len 0 ranks) ≤ 2 ^ 24
+  total : sum_below ranks (λ r. sum_below (2 ^ 32) (cap r)) + sum_by (λ r. sum_by (load r) (range_with_len 0 (count r))) (range_with_len 0 ranks) ≤ 2 ^ 24
   total =
-      let stores = sum_below_few ranks 4096 (λ r. sum_below 65536 (cap r)) (λ r l. let s = cap_sum r in omega (arith, s, few)) in
+      let stores = sum_below_few ranks 4096 (λ r. sum_below (2 ^ 32) (cap r)) (λ r l. let s = cap_sum r in omega (arith, s, few)) in
       let loads = sum_range_few (λ r. sum_by (load r) (range_with_len 0 (count r))) ranks 2048 (λ r l. let s = load_sum r in omega (arith, s, few)) in
       omega (arith, stores, loads, few)
 

@@ -1,6 +1,6 @@
 -- Sums over all slots: what a changed slot changes, and the sums of what slots hold at the start.
-use Rattle.std.proofs.Common.{ℕ, zero, suc, ◌+◌, ◌<◌, ◌≤◌, ◌==◌, ◌&&◌, ◌≡◌, Bool, true, false, length, if◌then◌else◌, refl, sym, ap, arith, eq-eqb, ⊎_elim}
-use Rattle.std.proofs.lemmas.Bool.{cases_eq, eqb-true, true≢false}
+use Rattle.std.proofs.Common.{ℕ, zero, suc, ◌+◌, ◌<◌, ◌≤◌, ◌==◌, ◌&&◌, ◌≡◌, Bool, true, false, length, if◌then◌else◌, refl, sym, ap, arith, ⊎_elim, ◌^◌}
+use Rattle.std.proofs.lemmas.Bool.{cases_eq, eqb-true}
 use Rattle.goal_blocks.specs.Values.{Value, Store, set_slot}
 use Rattle.goal_blocks.specs.Weight.{sum_below, stored}
 use Rattle.goal_blocks.proofs.Effects.{set_itself}
@@ -65,24 +65,24 @@ set_nothing rank slot s = λ i r k. nothing_at rank slot s r k i
 
 -- the slots of one rank
 abbrev in_rank : Store → ℕ → ℕ
-in_rank s r = sum_below 65536 (λ k. length (s r k))
+in_rank s r = sum_below (2 ^ 32) (λ k. length (s r k))
 
-pub stored_set : (ranks rank slot : ℕ) (v : Value) (s : Store) → rank < ranks → slot < 65536
+pub stored_set : (ranks rank slot : ℕ) (v : Value) (s : Store) → rank < ranks → slot < 2 ^ 32
     → stored ranks (set_slot rank slot v s) + length (s rank slot) ≡ stored ranks s + length v
 unfolding stored
 stored_set ranks rank slot v s low small =
     let t : Store = set_slot rank slot v s in
     let inner : in_rank t rank + length (s rank slot) ≡ in_rank s rank + length (t rank slot) =
-    sum_changed 65536 slot (λ k. length (s rank k)) (λ k. length (t rank k)) small (λ k ne. ap length (set_apart rank slot v s rank k (λ e f. ne f))) in
+    sum_changed (2 ^ 32) slot (λ k. length (s rank k)) (λ k. length (t rank k)) small (λ k ne. ap length (set_apart rank slot v s rank k (λ e f. ne f))) in
     let outer : sum_below ranks (in_rank t) + in_rank s rank ≡ sum_below ranks (in_rank s) + in_rank t rank =
-    sum_changed ranks rank (in_rank s) (in_rank t) low (λ r ne. sum_same 65536 (λ k. length (t r k)) (λ k. length (s r k)) (λ k b. ap length (set_apart rank slot v s r k (λ e f. ne e)))) in
+    sum_changed ranks rank (in_rank s) (in_rank t) low (λ r ne. sum_same (2 ^ 32) (λ k. length (t r k)) (λ k. length (s r k)) (λ k b. ap length (set_apart rank slot v s r k (λ e f. ne e)))) in
     let here : length (t rank slot) ≡ length v = ap length (set_itself rank slot v s) in
     omega (arith, inner, outer, here)
 
 -- a slot holds no more than all together
-pub stored_most : (ranks rank slot : ℕ) (s : Store) → rank < ranks → slot < 65536 → length (s rank slot) ≤ stored ranks s
+pub stored_most : (ranks rank slot : ℕ) (s : Store) → rank < ranks → slot < 2 ^ 32 → length (s rank slot) ≤ stored ranks s
 unfolding stored
 stored_most ranks rank slot s low small =
-    let inner : length (s rank slot) ≤ in_rank s rank = sum_most 65536 slot (λ k. length (s rank k)) small in
+    let inner : length (s rank slot) ≤ in_rank s rank = sum_most (2 ^ 32) slot (λ k. length (s rank k)) small in
     let outer : in_rank s rank ≤ sum_below ranks (in_rank s) = sum_most ranks rank (in_rank s) low in
     omega (arith, inner, outer)

@@ -3,7 +3,6 @@ use Rattle.std.proofs.Common.{ℕ, zero, suc, ◌≤◌, ◌<◌, ⊎_elim, ◌�
 use Rattle.std.proofs.lemmas.Bool.{both_ways, cases_Bool}
 use Rattle.goal_graph.specs.declared.action.OpId.{OpId}
 use Rattle.goal_graph.specs.declared.action.Class.{Class}
-use Rattle.goal_graph.specs.declared.action.Class.TheVariants.{Arrive, Serve, Data, Post, Begin}
 use Rattle.goal_graph.specs.Schedule.{Plan, operations}
 use Rattle.goal_graph.specs.Action.{Act, place}
 use Rattle.goal_graph.specs.Allowed.{allowed}
@@ -12,30 +11,11 @@ use Rattle.goal_graph.specs.Laws.{left}
 use Rattle.goal_graph.specs.Order.{IsBefore}
 use Rattle.goal_graph.proofs.ForCallers.{one_allowed, allowed_listed, operations_in_order, left_falls}
 use Rattle.goal_blocks.specs.Walk.{no_send, ComesFirst, TakesFirst, IsWalk}
+use Rattle.goal_blocks.proofs.GoesOn.{class_of}
 
 module _ (plans : List Plan) where
   abbrev pub is_allowed : List Act → Class → OpId → Bool
   is_allowed h c x = allowed plans no_send h c x
-
-  -- an operation has an allowed action, or none
-  class_of : (h : List Act) (x : OpId) → ((c : Class) × (is_allowed h c x ≡ true)) ⊎ ((c : Class) → is_allowed h c x ≡ false)
-  class_of h x =
-      go (cases_Bool (is_allowed h Arrive x)) (cases_Bool (is_allowed h Serve x)) (cases_Bool (is_allowed h Data x)) (cases_Bool (is_allowed h Post x)) (cases_Bool (is_allowed h Begin x))
-    where
-      none : is_allowed h Arrive x ≡ false → is_allowed h Serve x ≡ false → is_allowed h Data x ≡ false → is_allowed h Post x ≡ false → is_allowed h Begin x ≡ false → (c : Class) → is_allowed h c x ≡ false
-      none p q r s t Arrive = p
-      none p q r s t Serve = q
-      none p q r s t Data = r
-      none p q r s t Post = s
-      none p q r s t Begin = t
-
-      go : ((is_allowed h Arrive x ≡ true) ⊎ (is_allowed h Arrive x ≡ false)) → ((is_allowed h Serve x ≡ true) ⊎ (is_allowed h Serve x ≡ false)) → ((is_allowed h Data x ≡ true) ⊎ (is_allowed h Data x ≡ false)) → ((is_allowed h Post x ≡ true) ⊎ (is_allowed h Post x ≡ false)) → ((is_allowed h Begin x ≡ true) ⊎ (is_allowed h Begin x ≡ false)) → ((c : Class) × (is_allowed h c x ≡ true)) ⊎ ((c : Class) → is_allowed h c x ≡ false)
-      go (inl p) q r s t = inl (Arrive, p)
-      go (inr p) (inl q) r s t = inl (Serve, q)
-      go (inr p) (inr q) (inl r) s t = inl (Data, r)
-      go (inr p) (inr q) (inr r) (inl s) t = inl (Post, s)
-      go (inr p) (inr q) (inr r) (inr s) (inl t) = inl (Begin, t)
-      go (inr p) (inr q) (inr r) (inr s) (inr t) = inr (none p q r s t)
 
   -- an allowed action of the first of these operations that has one
   pub record IsFirst (h : List Act) (os : List OpId) (a : Act) : Type 0 where
@@ -49,7 +29,7 @@ module _ (plans : List Plan) where
   search : (h : List Act) (os : List OpId) → AllPairs IsBefore os → ((a : Act) × IsFirst h os a) ⊎ NoneOf h os
   search h [] ordered = inr (λ y c d. absurd (omega (arith, c.1)))
   search h (x ∷ os) ordered =
-      ⊎_elim (λ found. inl (record { class = found.0; op = x }, here found.0 found.1)) (λ none. ⊎_elim (λ found. inl (found.0, later none found.0 found.1)) (λ rest. inr (nowhere none rest)) (search h os (λ i j d l b. ordered (suc i) (suc j) d (omega (arith, l)) (omega (arith, b))))) (class_of h x)
+      ⊎_elim (λ found. inl (record { class = found.0; op = x }, here found.0 found.1)) (λ none. ⊎_elim (λ found. inl (found.0, later none found.0 found.1)) (λ rest. inr (nowhere none rest)) (search h os (λ i j d l b. ordered (suc i) (suc j) d (omega (arith, l)) (omega (arith, b))))) (class_of plans no_send h x)
     where
       here : (c : Class) → is_allowed h c x ≡ true → IsFirst h (x ∷ os) (record { class = c; op = x })
       here c p = record { may = p; first = stands }

@@ -1,5 +1,5 @@
 -- What the slots hold at the start, and how much that is.
-use Rattle.std.proofs.Common.{ℕ, zero, suc, ◌*◌, ◌<◌, ◌≤◌, ◌==◌, ◌&&◌, nat_lt, ◌≡◌, Bool, true, false, [], length, if◌then◌else◌, refl, sym, ap, ◌∙◌, arith, eq-eqb, ⊎_elim, suc-mul, zero-mul}
+use Rattle.std.proofs.Common.{ℕ, zero, suc, ◌*◌, ◌<◌, ◌≤◌, ◌==◌, ◌&&◌, nat_lt, ◌≡◌, Bool, true, false, [], length, if◌then◌else◌, refl, sym, ap, ◌∙◌, arith, eq-eqb, ⊎_elim, suc-mul, zero-mul, ◌^◌}
 use Rattle.std.proofs.lemmas.Bool.{cases_eq, eqb-true, true≢false, lt-ltb, le-ltb}
 use Rattle.goal_blocks.specs.declared.collective.Collective.{Collective}
 use Rattle.goal_blocks.specs.declared.collective.Collective.TheVariants.{Bcast, Barrier, Allgather, Allreduce, Alltoall, Reduce, Gather, Scatter, ReduceScatter, Scan}
@@ -118,10 +118,10 @@ size_if false r k = refl
 abbrev OneEach : Collective → ℕ → (ℕ → ℕ) → Type 0
 OneEach what ranks place = (r k : ℕ) → length (initial_at what ranks r k) ≡ (if k == place r then 1 else 0)
 
-one_each : (what : Collective) (ranks : ℕ) (place : ℕ → ℕ) → ((r : ℕ) → r < ranks → place r < 65536) → OneEach what ranks place → stored ranks (initial what ranks) ≡ ranks
+one_each : (what : Collective) (ranks : ℕ) (place : ℕ → ℕ) → ((r : ℕ) → r < ranks → place r < 2 ^ 32) → OneEach what ranks place → stored ranks (initial what ranks) ≡ ranks
 unfolding stored
 one_each what ranks place low one =
-    sum_same ranks (λ r. sum_below 65536 (λ k. length (initial what ranks r k))) (λ r. 1) (λ r l. sum_same 65536 (λ k. length (initial what ranks r k)) (λ k. if k == place r then 1 else 0) (λ k b. ap length (initial_in what ranks r k l) ∙ one r k) ∙ sum_at 65536 (place r) 1 (low r l))
+    sum_same ranks (λ r. sum_below (2 ^ 32) (λ k. length (initial what ranks r k))) (λ r. 1) (λ r l. sum_same (2 ^ 32) (λ k. length (initial what ranks r k)) (λ k. if k == place r then 1 else 0) (λ k b. ap length (initial_in what ranks r k l) ∙ one r k) ∙ sum_at (2 ^ 32) (place r) 1 (low r l))
     ∙ all
   where
     all : sum_below ranks (λ r. 1) ≡ ranks
@@ -131,25 +131,25 @@ one_each what ranks place low one =
 rank_each : (what : Collective) (ranks : ℕ) → ranks ≤ 65536 → ((r k : ℕ) → length (initial_at what ranks r k) ≡ (if nat_lt k ranks then 1 else 0)) → stored ranks (initial what ranks) ≡ ranks * ranks
 unfolding stored
 rank_each what ranks few each =
-    sum_same ranks (λ r. sum_below 65536 (λ k. length (initial what ranks r k))) (λ r. ranks) (λ r l. sum_same 65536 (λ k. length (initial what ranks r k)) (first ranks) (λ k b. ap length (initial_in what ranks r k l) ∙ each r k) ∙ sum_first 65536 ranks few)
+    sum_same ranks (λ r. sum_below (2 ^ 32) (λ k. length (initial what ranks r k))) (λ r. ranks) (λ r l. sum_same (2 ^ 32) (λ k. length (initial what ranks r k)) (first ranks) (λ k b. ap length (initial_in what ranks r k l) ∙ each r k) ∙ sum_first (2 ^ 32) ranks (omega (arith, few)))
     ∙ sum_constant ranks ranks
 
 -- only the root has contributions
 abbrev OfRoot : Collective → ℕ → ℕ → ℕ → Type 0
 OfRoot what ranks root x =
-    (r : ℕ) → sum_below 65536 (λ k. length (initial_at what ranks r k)) ≡ (if r == root then x else 0)
+    (r : ℕ) → sum_below (2 ^ 32) (λ k. length (initial_at what ranks r k)) ≡ (if r == root then x else 0)
 
 of_root : (what : Collective) (ranks root x : ℕ) → OfRoot what ranks root x → stored ranks (initial what ranks) ≡ sum_below ranks (λ r. if r == root then x else 0)
 unfolding stored
 of_root what ranks root x has =
-    sum_same ranks (λ r. sum_below 65536 (λ k. length (initial what ranks r k))) (λ r. if r == root then x else 0) (λ r l. sum_same 65536 (λ k. length (initial what ranks r k)) (λ k. length (initial_at what ranks r k)) (λ k b. ap length (initial_in what ranks r k l)) ∙ has r)
+    sum_same ranks (λ r. sum_below (2 ^ 32) (λ k. length (initial what ranks r k))) (λ r. if r == root then x else 0) (λ r l. sum_same (2 ^ 32) (λ k. length (initial what ranks r k)) (λ k. length (initial_at what ranks r k)) (λ k b. ap length (initial_in what ranks r k l)) ∙ has r)
 
-root_or_none : (r root item : ℕ) (test : ℕ → Bool) (item_of : ℕ → ℕ) (x : ℕ) → sum_below 65536 (λ k. if test k then 1 else 0) ≡ x → sum_below 65536 (λ k. length (if (r == root) && test k then single root (item_of k) else [])) ≡ (if r == root then x else 0)
+root_or_none : (r root item : ℕ) (test : ℕ → Bool) (item_of : ℕ → ℕ) (x : ℕ) → sum_below (2 ^ 32) (λ k. if test k then 1 else 0) ≡ x → sum_below (2 ^ 32) (λ k. length (if (r == root) && test k then single root (item_of k) else [])) ≡ (if r == root then x else 0)
 root_or_none r root item test item_of x sum = go (r == root)
   where
-    go : (b : Bool) → sum_below 65536 (λ k. length (if b && test k then single root (item_of k) else [])) ≡ (if b then x else 0)
-    go true = sum_same 65536 (λ k. length (if test k then single root (item_of k) else [])) (λ k. if test k then 1 else 0) (λ k l. size_if (test k) root (item_of k)) ∙ sum
-    go false = let all = sum_constant 65536 0 in omega (arith, all)
+    go : (b : Bool) → sum_below (2 ^ 32) (λ k. length (if b && test k then single root (item_of k) else [])) ≡ (if b then x else 0)
+    go true = sum_same (2 ^ 32) (λ k. length (if test k then single root (item_of k) else [])) (λ k. if test k then 1 else 0) (λ k l. size_if (test k) root (item_of k)) ∙ sum
+    go false = let all = sum_constant (2 ^ 32) 0 in omega (arith, all)
 
 pub stored_barrier : (ranks : ℕ) → stored ranks (initial Barrier ranks) ≡ ranks
 stored_barrier ranks = one_each Barrier ranks (λ r. 0) (λ r l. omega arith) (λ r k. size_if (k == 0) r 0)
@@ -176,10 +176,10 @@ pub stored_reduce_scatter : (ranks : ℕ) → ranks ≤ 65536 → stored ranks (
 stored_reduce_scatter ranks few = rank_each ReduceScatter ranks few (λ r k. size_if (nat_lt k ranks) r k)
 
 bcast_rows : (ranks root : ℕ) → stored ranks (initial (Bcast root) ranks) ≡ sum_below ranks (λ r. if r == root then 1 else 0)
-bcast_rows ranks root = of_root (Bcast root) ranks root 1 (λ r. root_or_none r root 0 (λ k. k == 0) (λ k. 0) 1 (sum_at 65536 0 1 (omega arith)))
+bcast_rows ranks root = of_root (Bcast root) ranks root 1 (λ r. root_or_none r root 0 (λ k. k == 0) (λ k. 0) 1 (sum_at (2 ^ 32) 0 1 (omega arith)))
 
 scatter_rows : (ranks root : ℕ) → ranks ≤ 65536 → stored ranks (initial (Scatter root) ranks) ≡ sum_below ranks (λ r. if r == root then ranks else 0)
-scatter_rows ranks root few = of_root (Scatter root) ranks root ranks (λ r. root_or_none r root 0 (λ k. nat_lt k ranks) (λ k. k) ranks (sum_first 65536 ranks few))
+scatter_rows ranks root few = of_root (Scatter root) ranks root ranks (λ r. root_or_none r root 0 (λ k. nat_lt k ranks) (λ k. k) ranks (sum_first (2 ^ 32) ranks (omega (arith, few))))
 
 pub stored_bcast : (ranks root : ℕ) → root < ranks → stored ranks (initial (Bcast root) ranks) ≡ 1
 stored_bcast ranks root l = bcast_rows ranks root ∙ sum_at ranks root 1 l

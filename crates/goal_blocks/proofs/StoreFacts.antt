@@ -1,5 +1,5 @@
 -- What a store holds after a change of its map.
-use Rattle.std.proofs.Common.{ℕ, ◌≡◌, ◌==◌, ◌&&◌, nat_lt, Bool, true, false, cond, List, [], ◌∷◌, Option, Some, None, if◌then◌else◌, refl, sym, ap, ap₂, ◌∙◌, arith, eq-eqb, Vec, Global, ◌+◌, ◌-◌, ◌<◌, ◌≤◌, length, subst, unwrap_or, IsSome, is_some, All, map, Result, Ok, Err, IfOk}
+use Rattle.std.proofs.Common.{ℕ, ◌≡◌, ◌==◌, ◌&&◌, Bool, true, false, cond, List, [], ◌∷◌, Option, Some, None, if◌then◌else◌, refl, sym, ap, ap₂, ◌∙◌, arith, eq-eqb, Vec, Global, ◌+◌, ◌-◌, ◌<◌, ◌≤◌, length, subst, unwrap_or, IsSome, is_some, All, map, Result, Ok, Err, IfOk, ◌^◌}
 use Rattle.std.specs.Ordering.{nat_cmp}
 use Rattle.std.specs.Option.{option_map, MatchOption}
 use Rattle.std.specs.Map.{lookup}
@@ -100,14 +100,14 @@ module _ (what : Collective) (ranks : ℕ) (m n : Cells) (rank slot : ℕ) (v : 
       go false w = subst (λ (o : Option Value). IsSome o) (sym w) some
 
   -- the store is sound after it
-  pub sound_after : (held more : ℕ) → rank < ranks → slot ≤ 65535 → IsSorted v.items → IsSound (kept what ranks m) held → more ≡ held - length (values (kept what ranks m) rank slot) + length v.items → IsSound (kept what ranks n) more
+  pub sound_after : (held more : ℕ) → rank < ranks → slot < 2 ^ 32 → IsSorted v.items → IsSound (kept what ranks m) held → more ≡ held - length (values (kept what ranks m) rank slot) + length v.items → IsSound (kept what ranks n) more
   sound_after held more low small sorted sound is = record {
     ranks = sound.ranks;
     sorted = λ r k. sorted_after r k;
     held_is =
-        let kept_before = stored_set ranks rank slot v.items (values (kept what ranks m)) low (omega (arith, small)) in
+        let kept_before = stored_set ranks rank slot v.items (values (kept what ranks m)) low small in
         let now : stored ranks (values (kept what ranks n)) ≡ stored ranks (set_slot rank slot v.items (values (kept what ranks m))) = ap (stored ranks) values_after in
-        let most = stored_most ranks rank slot (values (kept what ranks m)) low (omega (arith, small)) in
+        let most = stored_most ranks rank slot (values (kept what ranks m)) low small in
         omega (arith, kept_before, now, most, is, sound.held_is);
   }
     where
@@ -157,9 +157,9 @@ module _ (what : Collective) (ranks : ℕ) (m : Cells) (s : Kept) (is : kept wha
   sorted_there held sound = subst (λ (t : Kept). IsSorted (values t r k)) is (sound.sorted r k)
 
   -- a slot has no more than all together
-  pub few_there : (held : ℕ) → IsSound (kept what ranks m) held → r < s.ranks → k ≤ 65535 → length (values s r k) ≤ held
+  pub few_there : (held : ℕ) → IsSound (kept what ranks m) held → r < s.ranks → k < 2 ^ 32 → length (values s r k) ≤ held
   few_there held sound low small =
-      let most = stored_most s.ranks r k (values s) low (omega (arith, small)) in
+      let most = stored_most s.ranks r k (values s) low small in
       let same : stored (kept what ranks m).ranks (values (kept what ranks m)) ≡ stored s.ranks (values s) = ap (λ (t : Kept). stored t.ranks (values t)) is in
       omega (arith, most, same, sound.held_is)
 

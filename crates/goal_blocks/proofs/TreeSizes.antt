@@ -99,12 +99,12 @@ module _ (ranks : ℕ) (few : ranks ≤ 65536) where
         let t : nat_lt (ranks + i) ranks ≡ false = grind (arith, nat_tests) in
         rw t refl
 
-    slots_sum : (f : ℕ → ℕ) → sum_below 65536 (at_slot f) ≤ sum_below ranks f
+    slots_sum : (f : ℕ → ℕ) → sum_below (2 ^ 32) (at_slot f) ≤ sum_below ranks f
     slots_sum f =
-        let whole : ranks + (65536 - ranks) ≡ 65536 = omega (arith, few) in
-        let parts = sum_below_add (at_slot f) ranks (65536 - ranks) in
+        let whole : ranks + (2 ^ 32 - ranks) ≡ 2 ^ 32 = omega (arith, few) in
+        let parts = sum_below_add (at_slot f) ranks (2 ^ 32 - ranks) in
         let low_slots = sum_below_le (at_slot f) (λ r. f (back ranks r root)) ranks (λ k l. let e = at_low f k l in omega (arith, e)) in
-        let high_slots = sum_below_none (λ i. at_slot f (ranks + i)) (65536 - ranks) (at_high f) in
+        let high_slots = sum_below_none (λ i. at_slot f (ranks + i)) (2 ^ 32 - ranks) (at_high f) in
         let over_ranks = turned ranks few root rooted f in
         subst (λ (n : ℕ). sum_below n (at_slot f) ≤ sum_below ranks f) whole (omega (arith, parts, low_slots, high_slots, over_ranks))
 
@@ -117,10 +117,10 @@ module _ (ranks : ℕ) (few : ranks ≤ 65536) where
     cap_of_block r k slot from before =
         at_low (in_block (back ranks r root)) k slot ∙ is_in_block (back ranks r root) (back ranks k root) from before
 
-    pub blocks_held : sum_below ranks (λ r. sum_below 65536 (block_cap r)) ≤ 589824
+    pub blocks_held : sum_below ranks (λ r. sum_below (2 ^ 32) (block_cap r)) ≤ 589824
     unfolding block_size block_cap
     blocks_held =
-        le_trans (sum_below_le (λ r. sum_below 65536 (block_cap r)) (λ r. block_size ranks (back ranks r root)) ranks (λ r l. le_trans (slots_sum (in_block (back ranks r root))) (block_sum (back ranks r root) ranks))) sizes_sum
+        le_trans (sum_below_le (λ r. sum_below (2 ^ 32) (block_cap r)) (λ r. block_size ranks (back ranks r root)) ranks (λ r l. le_trans (slots_sum (in_block (back ranks r root))) (block_sum (back ranks r root) ranks))) sizes_sum
 
     -- as much for each operation as the block of its rank has
     abbrev pub block_load : ℕ → ℕ → ℕ

@@ -12,7 +12,7 @@ use Rattle.goal_blocks.specs.Stored.{ComesFirst, IsSorted}
 abbrev pub item_of : ℕ → ℕ → Contribution
 item_of q item = record { rank = q; item = item }
 
-one_same : (c d : Contribution) → is_one c d ≡ true → c ≡ d
+pub one_same : (c d : Contribution) → is_one c d ≡ true → c ≡ d
 one_same c d h =
     let parts = and_parts (c.rank == d.rank) (c.item == d.item) h in
     let ranks = eqb-true c.rank d.rank parts.0 in
@@ -26,7 +26,7 @@ one_self c = go (c.rank == c.rank) (c.item == c.item) (eq-eqb c.rank c.rank refl
     go true t e f = f
     go false t e f = e
 
-value_equal : (v w : Value) → is_value v w ≡ true → v ≡ w
+pub value_equal : (v w : Value) → is_value v w ≡ true → v ≡ w
 unfolding is_value
 value_equal [] [] h = refl
 value_equal [] (d ∷ w) h = absurd (true≢false (sym h))
@@ -69,7 +69,7 @@ pub not_of_each : (v : Value) (n item k : ℕ) (d : Contribution) → k < n → 
 not_of_each v n item k d l ne e = ne (ap (λ (x : Value). get_or x k d) e ∙ get_of_each n item k d l)
 
 -- tests of all of a list of contributions
-all_yes : (test : Contribution → Bool) (from n : ℕ) → ((q : ℕ) → q < from + n → test (item_of q 0) ≡ true) → list_all test (map (λ (q : ℕ). item_of q 0) (range_with_len from n)) ≡ true
+pub all_yes : (test : Contribution → Bool) (from n : ℕ) → ((q : ℕ) → q < from + n → test (item_of q 0) ≡ true) → list_all test (map (λ (q : ℕ). item_of q 0) (range_with_len from n)) ≡ true
 all_yes test from zero each = refl
 all_yes test from (suc n) each = go (test (item_of from 0)) (list_all test (map (λ (q : ℕ). item_of q 0) (range_with_len (from + 1) n))) (each from (omega arith)) (all_yes test (from + 1) n (λ q l. each q (omega (arith, l))))
   where
@@ -77,7 +77,7 @@ all_yes test from (suc n) each = go (test (item_of from 0)) (list_all test (map 
     go true t e f = f
     go false t e f = e
 
-one_no : (test : Contribution → Bool) (from n q : ℕ) → from ≤ q → q < from + n → test (item_of q 0) ≡ false → list_all test (map (λ (q : ℕ). item_of q 0) (range_with_len from n)) ≡ false
+pub one_no : (test : Contribution → Bool) (from n q : ℕ) → from ≤ q → q < from + n → test (item_of q 0) ≡ false → list_all test (map (λ (q : ℕ). item_of q 0) (range_with_len from n)) ≡ false
 one_no test from zero q low high lacks = absurd (omega (arith, low, high))
 one_no test from (suc n) q low high lacks = ⊎_elim (λ e. here (subst (λ (k : ℕ). test (item_of k 0) ≡ false) e lacks)) (λ ne. later (one_no test (from + 1) n q (omega (arith, low, ne)) (omega (arith, high)) lacks)) (cases_eq q from)
   where

@@ -26,11 +26,11 @@ pub write_none : (rank n : ℕ) (slots : List ℕ) (left : List (Vec Contributio
 write_none rank n slots left s none all =
     ap (λ (ks : List ℕ). write rank ks (lists_of left) s) (drop_all n slots (omega (arith, none, all))) ∙ write_nothing rank (lists_of left) s
 
-pub light_next : (ranks more rank slot : ℕ) (v : Value) (vs all : List Value) (s t : Store) → all ≡ v ∷ vs → t ≡ set_slot rank slot v s → more ≡ ranks → rank < ranks → slot ≤ 65535 → stored ranks s + sum_by (λ (w : Value). length w) all ≤ 2 ^ 24 → stored more t + sum_by (λ (w : Value). length w) vs ≤ 2 ^ 24
+pub light_next : (ranks more rank slot : ℕ) (v : Value) (vs all : List Value) (s t : Store) → all ≡ v ∷ vs → t ≡ set_slot rank slot v s → more ≡ ranks → rank < ranks → slot < 2 ^ 32 → stored ranks s + sum_by (λ (w : Value). length w) all ≤ 2 ^ 24 → stored more t + sum_by (λ (w : Value). length w) vs ≤ 2 ^ 24
 light_next ranks more rank slot v vs all s t e set same low small light =
     let sum : sum_by (λ (w : Value). length w) all ≡ length v + sum_by (λ (w : Value). length w) vs = ap (sum_by (λ (w : Value). length w)) e ∙ sum_by-cons (λ (w : Value). length w) v vs in
     let now : stored more t ≡ stored ranks (set_slot rank slot v s) = ap (stored more) set ∙ ap (λ (n : ℕ). stored n (set_slot rank slot v s)) same in
-    let changed = stored_set ranks rank slot v s low (omega (arith, small)) in
+    let changed = stored_set ranks rank slot v s low small in
     omega (arith, sum, now, changed, light)
 
 -- the only value of a list is written

@@ -1,3 +1,4 @@
+-- What a reader must believe.
 pub mod Channels
 pub mod Walk
 pub mod Matched
@@ -6,18 +7,24 @@ pub mod Race
 pub mod Values
 pub mod Weight
 pub mod Certification
-pub mod HeldFew
 pub mod Collectives
 pub mod Entries
-pub mod Fitting
 pub mod Positions
 pub mod Made
 pub mod MadeRooted
 pub mod Generated
-pub mod Steps
-pub mod Messages
 pub mod Certified
+pub mod Renamed
+pub mod Segments
 pub mod Faults
-pub mod Levels
+-- What only the code keeps.
+pub mod Steps
 pub mod Stored
 pub mod SlotTables
+-- Laws.
+pub mod Joined
+pub mod Placed
+pub mod HeldFew
+pub mod Levels
+pub mod Fitting
+pub mod Messages

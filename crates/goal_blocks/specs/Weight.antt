@@ -1,5 +1,5 @@
 -- How many contributions are held at a moment: those of all stores, and those of the payloads under way.
-use Rattle.std.specs.Prelude.{ℕ, zero, suc, ◌+◌, ◌&&◌, Bool, false, not, List, length, take, Option, Some, None, if◌then◌else◌}
+use Rattle.std.specs.Prelude.{ℕ, zero, suc, ◌+◌, ◌&&◌, Bool, false, not, List, length, take, Option, Some, None, if◌then◌else◌, ◌^◌}
 use Rattle.std.specs.List.{sum_by}
 use Rattle.goal_graph.specs.declared.action.OpId.{OpId}
 use Rattle.goal_graph.specs.declared.action.Class.TheVariants.{Serve, Data}
@@ -13,9 +13,9 @@ unfoldable pub sum_below : ℕ → (ℕ → ℕ) → ℕ
 sum_below zero f = 0
 sum_below (suc n) f = sum_below n f + f n
 
--- by the stores of that many ranks, in their slots below 65,536
+-- by the stores of that many ranks, in all of their slots: a slot has a number below 2^32
 unfoldable pub stored : ℕ → Store → ℕ
-stored ranks store = sum_below ranks (λ r. sum_below 65536 (λ k. length (store r k)))
+stored ranks store = sum_below ranks (λ r. sum_below (2 ^ 32) (λ k. length (store r k)))
 
 abbrev pub has_received : List Act → Option OpId → Bool
 has_received h None = false

@@ -7,6 +7,7 @@ mod generated;
 mod laws;
 mod merging;
 mod positions;
+mod segment;
 mod slot_table;
 mod slots;
 mod steps;
@@ -17,15 +18,17 @@ pub use cert_fault::CertFault;
 pub use collective::{Collective, Contribution};
 pub use generated::laws_of_made_schedules;
 pub use laws::{
-    laws_of_certified_schedules, laws_of_faults, laws_of_matched_schedules, laws_of_positions,
-    laws_of_races,
+    laws_of_certified_schedules, laws_of_faults, laws_of_held_contributions, laws_of_joined_starts,
+    laws_of_matched_schedules, laws_of_placed_schedules, laws_of_positions, laws_of_races,
+    laws_of_renamed_slots, laws_of_segments,
 };
 pub use positions::{ahead, back, digits, power};
+pub use segment::Segment;
 pub use slot_table::SlotTable;
 pub use slots::{Adding, Slots};
 pub use steps::{Effect, Formula, Needs, Step, before_round, plans_of};
 pub use store::{Payload, Store};
-pub use wanted::initial_size;
+pub use wanted::{asked, first_of, initial_size, is_wanted};
 
 #[cfg(test)]
 mod tests;

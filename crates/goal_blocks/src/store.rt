@@ -93,7 +93,6 @@ impl Store {
     /// How many contributions the slot of the rank has.
     pub fn size_at(&self, rank: u32, slot: u32) -> u64
         requires rank { rank < self.now.ranks }
-        requires low { slot ≤ 65535 }
         ensures size { result ≡ length (values self.now rank slot) }
         ensures part { result ≤ stored self.now.ranks (values self.now) }
     {
@@ -104,7 +103,6 @@ impl Store {
     /// How many contributions `read` would copy.
     pub fn payload_size(&self, rank: u32, slots: &Slots) -> u64
         requires rank { rank < self.now.ranks }
-        requires low { All (λ k. k ≤ 65535) slots.now }
         requires few { length slots.now ≤ 2 ^ 24 }
         requires light { stored self.now.ranks (values self.now) ≤ 2 ^ 24 }
         ensures { result ≡ sum_by (λ k. length (values self.now rank k)) slots.now }
@@ -133,7 +131,6 @@ impl Store {
     pub fn write(&mut self, rank: u32, slots: &Slots, payload: Payload) -> Result<(), NoMemory>
         requires rank { rank < self.old.ranks }
         requires lengths { length slots.now ≡ length payload }
-        requires low { All (λ k. k ≤ 65535) slots.now }
         requires light { stored self.old.ranks (values self.old) + sum_by (λ v. length v) payload ≤ 2 ^ 24 }
         ensures written { OnOk result (values self.new ≡ write rank slots.now payload (values self.old)) }
         ensures unchanged { OnErr result (values self.new ≡ values self.old) }
@@ -154,8 +151,6 @@ impl Store {
     /// values are then as they were.
     pub fn add(&mut self, rank: u32, from: u32, to: u32) -> Result<(), NoMemory>
         requires rank { rank < self.old.ranks }
-        requires from { from ≤ 65535 }
-        requires to { to ≤ 65535 }
         requires light { stored self.old.ranks (values self.old) ≤ 2 ^ 24 }
         ensures added { OnOk result (values self.new
             ≡ set_slot rank to (merge (values self.old rank to) (values self.old rank from)) (values self.old)) }
@@ -262,7 +257,6 @@ impl Store {
     // Sets a slot. At `Err` it was not set before.
     fn put(&mut self, rank: u32, slot: u32, value: Vec<Contribution>) -> Result<(), NoMemory>
         requires rank { rank < self.old.ranks }
-        requires low { slot ≤ 65535 }
         requires sorted { IsSorted value.items }
         requires room { stored self.old.ranks (values self.old) + length value.items < 2 ^ 64 }
         ensures set { OnOk result (values self.new ≡ set_slot rank slot value.items (values self.old)) }
@@ -282,7 +276,6 @@ impl Store {
     // Sets a slot that is not set yet to what it holds.
     fn make_room(&mut self, rank: u32, slot: u32) -> Result<(), NoMemory>
         requires rank { rank < self.old.ranks }
-        requires low { slot ≤ 65535 }
         requires light { stored self.old.ranks (values self.old) ≤ 2 ^ 24 }
         ensures same { values self.new ≡ values self.old }
         ensures is_set { OnOk result (IsSome (written_at self.new (rank, slot))) }
@@ -307,7 +300,6 @@ impl Store {
     ) -> Result<(), NoMemory>
         requires rank { rank < self.old.ranks }
         requires one { length list.items ≡ 1 }
-        requires low { slot ≤ 65535 }
         requires sorted { All IsSorted (lists_of list.items) }
         requires light { stored self.old.ranks (values self.old) + sum_by (λ v. length v) (lists_of list.items) ≤ 2 ^ 24 }
         ensures written { OnOk result (values self.new ≡ write rank (slot ∷ []) (lists_of list.items) (values self.old)) }
@@ -325,7 +317,6 @@ impl Store {
     fn fill(&mut self, rank: u32, slots: &[u32], list: Vec<Vec<Contribution>>)
         requires rank { rank < self.old.ranks }
         requires lengths { length slots.now ≡ length list.items }
-        requires low { All (λ k. k ≤ 65535) slots.now }
         requires sorted { All IsSorted (lists_of list.items) }
         requires set { All (λ k. IsSome (written_at self.old (rank, k))) slots.now }
         requires light { stored self.old.ranks (values self.old) + sum_by (λ v. length v) (lists_of list.items) ≤ 2 ^ 24 }

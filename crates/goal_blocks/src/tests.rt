@@ -1,5 +1,5 @@
 // What no clause says: that the calls succeed. The values are worked by hand.
-ghost use Rattle.std.specs.Prelude.{◌≡◌, ◌<◌, ◌≤◌, All, IfOk, IsTrue};
+ghost use Rattle.std.specs.Prelude.{◌≡◌, ◌<◌, ◌≤◌, IfOk};
 
 use crate::{Adding, Collective, SlotTable, Slots, Store, initial_size};
 use goal_graph::{Kind, Note, Op, RankPlan, Sched};
@@ -107,8 +107,6 @@ fn store(alloc: Global, ranks: u32, what: Collective) -> Result<Store, Fail>
 // Adds the value of one slot of rank 0 to that of another.
 fn add(store: &mut Store, from: u32, to: u32) -> Result<(), Fail>
     requires some { 0 < store.old.ranks }
-    requires from { from ≤ 65535 }
-    requires to { to ≤ 65535 }
     ensures { store.new.ranks ≡ store.old.ranks }
 {
     if store.held() > 1 << 24 {
@@ -130,6 +128,9 @@ fn contributions_add_up(rt: HostRuntime) -> Result<(), Fail> {
     assert_eq!(rt; values.held(), 7);
     add(&mut values, 7, 0)?;
     assert_eq!(rt; values.held(), 7);
+    add(&mut values, 1, u32::MAX)?;
+    assert_eq!(rt; values.size_at(0, u32::MAX), 1);
+    assert_eq!(rt; values.held(), 8);
     Ok(())
 }
 
@@ -153,18 +154,6 @@ fn first_wrong_slots(rt: HostRuntime) -> Result<(), Fail> {
     Ok(())
 }
 
-// Whether all slots are at most 65,535.
-fn are_low(slots: &Slots) -> bool
-    ensures { IsTrue result → All (λ k. k ≤ 65535) slots.now }
-{
-    for slot in slots.as_slice() {
-        if *slot > 65_535 {
-            return false;
-        }
-    }
-    true
-}
-
 // Rank 1 takes what rank 0 has sent.
 fn hand_over(alloc: Global, values: &mut Store, sched: &Sched) -> Result<(), Fail>
     requires { values.old.ranks ≡ 2 }
@@ -177,7 +166,7 @@ fn hand_over(alloc: Global, values: &mut Store, sched: &Sched) -> Result<(), Fai
     }
     let sent = table.slots_of(ids[0]);
     let taken = table.slots_of(ids[1]);
-    if sent.len() != taken.len() || sent.len() > 1 << 24 || !are_low(sent) || !are_low(taken) {
+    if sent.len() != taken.len() || sent.len() > 1 << 24 {
         return Err(Fail::from("other slots"));
     }
     if values.held() > 1 << 23 || values.payload_size(0, sent) > 1 << 23 {

@@ -42,7 +42,7 @@ fn one_if(test: bool, rank: u32, item: u32) -> Option<Contribution>
 
 /// The one contribution that a slot has at the start, if it is not empty.
 #[tactic(auto, unfolding(crate::specs::Collectives::initial))]
-pub(crate) fn first_of(what: Collective, ranks: u32, rank: u32, slot: u32) -> Option<Contribution>
+pub fn first_of(what: Collective, ranks: u32, rank: u32, slot: u32) -> Option<Contribution>
     ensures { one_or_none result ≡ initial what ranks rank slot }
 {
     if rank >= ranks {
@@ -133,13 +133,7 @@ fn is_reduced(root: u32, ranks: u32, rank: u32, slot: u32, value: &[Contribution
 
 /// Whether the value is what the slot of the rank must hold at the end.
 #[tactic(auto, unfolding(crate::specs::Collectives::wanted))]
-pub(crate) fn is_wanted(
-    what: Collective,
-    ranks: u32,
-    rank: u32,
-    slot: u32,
-    value: &[Contribution],
-) -> bool
+pub fn is_wanted(what: Collective, ranks: u32, rank: u32, slot: u32, value: &[Contribution]) -> bool
     requires few { ranks ≤ 65536 }
     requires rank { rank < ranks }
     requires sorted { IsSorted value.now }
@@ -164,7 +158,7 @@ pub(crate) fn is_wanted(
 /// The slots of the rank of which something is asked, from the first up to the second: they are few where little is
 /// asked.
 #[tactic(auto, unfolding(crate::specs::Collectives::wanted))]
-pub(crate) fn asked(what: Collective, ranks: u32, rank: u32) -> (u32, u32)
+pub fn asked(what: Collective, ranks: u32, rank: u32) -> (u32, u32)
     requires few { ranks ≤ 65536 }
     requires rank { rank < ranks }
     ensures from { (k : ℕ) (v : Value) → wanted what ranks rank k v ≡ false → result.0 ≤ k }

@@ -1,10 +1,10 @@
 -- The rows of what ends before operations start, need by need.
-use Rattle.std.proofs.Common.{⊎_elim, ℕ, zero, suc, Bool, ◌+◌, ◌-◌, ◌≡◌, ◌<◌, ◌≤◌, ◌⊎◌, inl, inr, true, false, List, [], ◌∷◌, ◌++◌, drop, append-nil, length, get_or, set, take, replicate, slice_get, slice_index_or, Option, Some, None, is_some, unwrap_or, All, Contains, refl, sym, ap, ◌∙◌, subst, arith, true≢false, get_or-set_same, get_or-set_other}
+use Rattle.std.proofs.Common.{⊎_elim, ℕ, zero, suc, Bool, ◌+◌, ◌-◌, ◌≡◌, ◌<◌, ◌≤◌, ◌⊎◌, inl, inr, true, false, List, [], length, get_or, set, take, replicate, slice_get, slice_index_or, Option, Some, None, is_some, unwrap_or, All, Contains, refl, sym, ap, ◌∙◌, subst, arith, true≢false, get_or-set_same, get_or-set_other}
 use Rattle.std.specs.Option.{option_map, option_and_then}
 use Rattle.std.proofs.lemmas.Bool.{cases_eq, cases_lt}
-use Rattle.std.proofs.lemmas.List.{take_all, drop_all, get_or-replicate, get_or_past, length-replicate}
+use Rattle.std.proofs.lemmas.List.{get_or-replicate, get_or_past, length-replicate}
 use Rattle.std.proofs.lemmas.List.Sums.{AllPass-from_list_all}
-use Rattle.std.proofs.lemmas.Option.{slice_get-get_or, slice_get_within}
+use Rattle.std.proofs.lemmas.Option.{slice_get_within}
 use Rattle.std.proofs.lemmas.List.Elements.{All-more, All-weaker, All-contains, Contains-get_or}
 use Rattle.goal_graph.specs.declared.action.OpId.{OpId}
 use Rattle.goal_graph.specs.declared.plan.Need.{Need}
@@ -12,8 +12,8 @@ use Rattle.goal_graph.specs.declared.plan.Op.{Op}
 use Rattle.goal_graph.specs.declared.plan.When.TheVariants.{AfterEnd}
 use Rattle.goal_graph.specs.Schedule.{Plan, op_at, ops_at, needs, needed}
 use Rattle.goal_graph.specs.Fault.{IsOp, IsAccepted, is_below}
-use Rattle.goal_graph.proofs.ForCallers.{needs-exist, is_op_below, whole_back}
-use Rattle.goal_blocks.specs.Race.{Reaches, here, through, EndsBefore}
+use Rattle.goal_graph.proofs.ForCallers.{needs-exist, is_op_below}
+use Rattle.goal_blocks.specs.Race.{EndsBefore}
 use Rattle.goal_certify.specs.Rows.{has}
 use Rattle.goal_certify.specs.Before.{op_id, AreRows}
 use Rattle.goal_certify.proofs.Rows.{has_zeros}

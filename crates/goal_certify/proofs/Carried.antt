@@ -21,8 +21,7 @@ use Rattle.goal_blocks.specs.Walk.{no_send}
 use Rattle.goal_blocks.specs.Slots.{slots}
 use Rattle.goal_blocks.specs.Values.{Value, Store, Held, change, read, held_after}
 use Rattle.goal_blocks.specs.Weight.{carried, has_received, is_under_way}
-use Rattle.goal_certify.specs.declared.walk.parcel.Parcel.{Parcel}
-use Rattle.goal_certify.specs.Carried.{parcel_size, parcel_of, kept_of}
+use Rattle.goal_certify.specs.Carried.{Told, parcel_size, parcel_of, kept_of}
 
 -- what a send has read stays, but at its Data
 payload_same : (plans : List Plan) (o : Option OpId) (c : Class) (x m : OpId) (k : Option Kind) (held : Held) → ((place c == 2) ≡ false) ⊎ (same_op m x ≡ false) → (change plans no_send o c x k held).payload m ≡ held.payload m
@@ -65,10 +64,10 @@ module _ (plans : List Plan) (first : Store) (h : List Act) (a : Act) (now : IsI
   abbrev after : Held
   after = held_after plans no_send first (a ∷ h)
 
-  abbrev kept_before : OpId → Option Parcel
+  abbrev kept_before : OpId → Option Told
   kept_before = kept_of plans h before
 
-  abbrev kept_after : OpId → Option Parcel
+  abbrev kept_after : OpId → Option Told
   kept_after = kept_of plans (a ∷ h) after
 
   payload_before : (m : OpId) → ((place a.class == 2) ≡ false) ⊎ (same_op m a.op ≡ false) → after.payload m ≡ before.payload m

@@ -49,10 +49,10 @@ module _ (plans : List Plan) (first : Store) (wanted : ℕ → ℕ → Value →
   no_fault none NoMemory has = has
 
   module _ (faultless : FaultlessIsCertified) (excludes : FaultExcludesCertified) (one : OneFirstFault) (right : CertifiedIsRightEverywhere) (accepted : IsAccepted plans) where
-    certified : HasNone plans first wanted 0 9 → IsCertified plans first wanted
+    pub certified : HasNone plans first wanted 0 9 → IsCertified plans first wanted
     certified none = faultless plans first wanted accepted (λ fault is. no_fault none fault is.has)
 
-    is_fault : (fault : CertFault) → IsFirstOf plans first wanted 0 9 fault → IsCertificationFault plans first wanted fault
+    pub is_fault : (fault : CertFault) → IsFirstOf plans first wanted 0 9 fault → IsCertificationFault plans first wanted fault
     is_fault fault is = record { has = is.has; none_before = λ other less has. is.none_before other (omega arith) less has }
 
     pub certified_answer : {T : Type 0} (r : Result T CertFault) → OnOk r (HasNone plans first wanted 0 9) → OnOk r (IsCertified plans first wanted)

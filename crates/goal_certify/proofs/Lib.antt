@@ -18,6 +18,7 @@ mod Before
 mod Touches
 mod Table
 mod OpenPairs
+mod Holding
 mod LeastSlot
 pub mod Stalls
 pub mod SlotFacts
@@ -28,3 +29,5 @@ pub mod Deciding
 pub mod ValueStage
 pub mod Started
 pub mod Pairs
+pub mod FirstSegment
+pub mod SegmentAnswers

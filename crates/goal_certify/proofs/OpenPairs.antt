@@ -1,5 +1,5 @@
 -- The open pairs of a rank are its races.
-use Rattle.std.proofs.Common.{⊎_elim, ℕ, ◌+◌, ◌≡◌, ◌<◌, ◌≤◌, ◌⊎◌, ◌&&◌, inl, inr, Bool, true, false, not, List, length, get_or, flat_map, All, Contains, Option, Some, None, slice_get, if◌then◌else◌, refl, sym, ap, ◌∙◌, subst, arith, true≢false}
+use Rattle.std.proofs.Common.{⊎_elim, ℕ, ◌≡◌, ◌<◌, ◌≤◌, ◌⊎◌, ◌&&◌, inl, inr, Bool, true, false, not, List, length, get_or, flat_map, All, Contains, Option, Some, None, slice_get, if◌then◌else◌, refl, sym, ap, ◌∙◌, subst, arith, true≢false}
 use Rattle.std.specs.Option.{option_map, option_and_then}
 use Rattle.std.proofs.lemmas.Bool.{cases_lt, and_parts, cases_Bool}
 use Rattle.std.proofs.lemmas.Option.{slice_get_within, slice_get_read}
@@ -14,15 +14,14 @@ use Rattle.goal_blocks.specs.Certification.{NamesLowSlots, IsSmall}
 use Rattle.goal_blocks.specs.Slots.{slots, adds, touched_in, touched, written}
 use Rattle.goal_blocks.specs.Faults.{RaceAt, race_key, first_of, IsRace}
 use Rattle.goal_certify.specs.declared.races.search.Pair.{Pair}
-use Rattle.goal_certify.specs.declared.races.RankRace.{RankRace}
 use Rattle.goal_certify.specs.declared.races.touches.Touch.{Touch}
-use Rattle.goal_certify.specs.Stages.{IsFree, IsStopped}
+use Rattle.goal_certify.specs.Stages.{IsFree}
 use Rattle.goal_certify.specs.Rows.{has}
 use Rattle.goal_certify.specs.Before.{op_id, AreRows}
 use Rattle.goal_certify.specs.Touches.{touches_of, AreTouches}
 use Rattle.goal_certify.proofs.Touches.{are_touches}
 use Rattle.goal_certify.specs.Table.{AreMarked, meets, AreShared}
-use Rattle.goal_certify.specs.Races.{is_open, IsFirstOpen, IsLeastSlot, race_at, IsFirstOfRank}
+use Rattle.goal_certify.specs.Races.{is_open, IsMutual, IsFirstOpen, IsLeastSlot, race_at, IsFirstOfRank}
 
 -- what is open shares a slot
 open_shared : (before shared : List ℕ) (x y : ℕ) → is_open before shared x y ≡ true → has shared x y ≡ false → ⊥
@@ -33,6 +32,17 @@ open_shared before shared x y both none =
 pub none_skipped : (before shared : List ℕ) (x second next count : ℕ) → ((y : ℕ) → x < y → y < second → y < count → is_open before shared x y ≡ true → ⊥) → ((y : ℕ) → second ≤ y → y < next → has shared x y ≡ false) → (y : ℕ) → x < y → y < next → y < count → is_open before shared x y ≡ true → ⊥
 none_skipped before shared x second next count so_far skipped y low high within both =
     ⊎_elim (λ passed. so_far y low passed within both) (λ from. open_shared before shared x y both (skipped y from high)) (cases_lt y second)
+
+is_false : (b : Bool) → not b ≡ true → b ≡ false
+is_false true h = absurd (true≢false (sym h))
+is_false false h = refl
+
+-- no lesser operation is open with y, where the row of y has none but those that end before y starts
+pub none_open : (before shared : List ℕ) (x y : ℕ) → x < 2048 → y < 2048 → IsMutual shared → (has shared y x ≡ true → has before y x ≡ false → ⊥) → is_open before shared x y ≡ true → ⊥
+none_open before shared x y low high both_ways ordered both =
+    let a = and_parts (has shared x y) (not (has before y x) && not (has before x y)) both in
+    let b = and_parts (not (has before y x)) (not (has before x y)) a.1 in
+    ordered (both_ways x y low high a.0) (is_false (has before y x) b.0)
 
 module _ (plans : List Plan) (rank : ℕ) (touches : List Touch) (touchers writers : List ℕ) (known : AreTouches plans rank touches) (marked : AreMarked false touches touchers) (written_marked : AreMarked true touches writers) where
   -- both touch the slot, and one of them writes it
@@ -85,16 +95,20 @@ module _ (plans : List Plan) (rank : ℕ) (touches : List Touch) (touchers write
       let t = known.all_touched x s a in
       (t.0, t.1, t.2, t.3, met_by t.0 y (subst (λ (r : ℕ). has touchers r y ≡ true) (sym t.3) (in_touchers y s b)) (inr (subst (λ (r : ℕ). has writers r y ≡ true) (sym t.3) (in_writers y s w))))
 
+  -- the rows of what operations share are mutual
+  pub shared_mutual : (shared : List ℕ) → AreShared touchers writers touches shared → IsMutual shared
+  shared_mutual shared sharing x y low high there =
+      let t = sharing.no_more x y high there in
+      let s : Share x y t.0.slot = subst (λ (k : ℕ). Share k y t.0.slot) t.2 (meets_sound t.0 t.1 y high t.3) in
+      let other : Met y x t.0.slot = meets_all y x t.0.slot (s.1, s.0, ⊎_elim inr inl s.2) in
+      subst (λ (k : ℕ). has shared k x ≡ true) other.2 (sharing.has_all other.0 other.1 x low other.4)
+
   module _ (before shared : List ℕ) (rows : AreRows plans rank before (λ op. op < length (ops_at plans rank))) (sharing : AreShared touchers writers touches shared) (few : length (ops_at plans rank) ≤ 2048) where
     open_parts : (x y : ℕ) → is_open before shared x y ≡ true → (has shared x y ≡ true) × (has before y x ≡ false) × (has before x y ≡ false)
     open_parts x y h =
         let a = and_parts (has shared x y) (not (has before y x) && not (has before x y)) h in
         let b = and_parts (not (has before y x)) (not (has before x y)) a.1 in
-        (a.0, not_true (has before y x) b.0, not_true (has before x y) b.1)
-      where
-        not_true : (b : Bool) → not b ≡ true → b ≡ false
-        not_true true h = absurd (true≢false (sym h))
-        not_true false h = refl
+        (a.0, is_false (has before y x) b.0, is_false (has before x y) b.1)
 
     -- an open pair races at each slot at which it meets
     open_race : (x y s : ℕ) → x < y → y < length (ops_at plans rank) → is_open before shared x y ≡ true → Met x y s → IsRace plans (record { rank = rank; first = x; second = y; slot = s })

@@ -1,6 +1,6 @@
 -- The fields of a state before the first action, and after one more.
 use Rattle.std.proofs.Common.{◌≡◌, ℕ, ◌<◌, ◌≤◌, ◌*◌, true, false, List, [], ◌∷◌, ◌++◌, length, map, take, drop, reverse, Option, Some, None, IfSome, refl, sym, ap, ◌∙◌, subst, arith}
-use Rattle.std.proofs.lemmas.List.{drop_all, take_all, take-append-le, reverse-append, length-reverse, length-map}
+use Rattle.std.proofs.lemmas.List.{reverse-append, length-reverse, length-map}
 use Rattle.goal_graph.specs.declared.action.OpId.{OpId}
 use Rattle.goal_graph.specs.declared.action.Class.{Class}
 use Rattle.goal_graph.specs.declared.action.Class.TheVariants.{Arrive, Post}

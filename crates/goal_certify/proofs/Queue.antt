@@ -1,21 +1,17 @@
 -- The queue of a walker: its keys stay, are put anew, and lead to the action that is next.
-use Rattle.std.proofs.Common.{◌≡◌, ◌≢◌, ◌+◌, ◌<◌, ◌≤◌, ◌⊎◌, ℕ, zero, suc, Bool, true, false, nat_lt, List, [], ◌∷◌, Contains, length, drop, set, get_or, slice_get, slice_set, Option, Some, None, inl, inr, refl, sym, ap, ◌∙◌, subst, arith, ltb-false}
-use Rattle.std.proofs.lemmas.Bool.{cases_eq, cases_Bool, cases_lt, both_ways}
+use Rattle.std.proofs.Common.{◌≡◌, ◌≢◌, ◌+◌, ◌<◌, ◌≤◌, ◌⊎◌, ℕ, true, false, nat_lt, List, ◌∷◌, Contains, length, set, get_or, slice_get, slice_set, Option, Some, None, inl, inr, refl, sym, ap, ◌∙◌, subst, arith, ltb-false}
+use Rattle.std.proofs.lemmas.Bool.{cases_eq, cases_lt, both_ways}
 use Rattle.std.proofs.lemmas.List.{get_or-set_same, get_or-set_other, get_or_past, length-set}
 use Rattle.std.proofs.lemmas.Option.{slice_get-get_or, slice_get_within, get_or_from_slice_get, same_Some}
 use Rattle.goal_graph.specs.declared.action.OpId.{OpId}
 use Rattle.goal_graph.specs.declared.action.Class.{Class}
-use Rattle.goal_graph.specs.declared.action.Class.TheVariants.{Arrive, Serve, Data, Post, Begin}
-use Rattle.goal_graph.specs.declared.plan.Need.{Need}
-use Rattle.goal_graph.specs.Schedule.{Plan, operations, needed}
+use Rattle.goal_graph.specs.Schedule.{Plan, operations}
 use Rattle.goal_graph.specs.Action.{Act, place, same_op}
 use Rattle.goal_graph.specs.Order.{IsBefore}
-use Rattle.goal_graph.specs.Matching.{pairs, partner}
-use Rattle.goal_graph.specs.Fault.{IsOp}
 use Rattle.goal_graph.specs.Interleaving.{IsInterleaving, IsCompleteInterleaving}
-use Rattle.goal_graph.proofs.ForCallers.{cases_op, same_op_false, allowed_listed, one_allowed, partners_met, allowed_stays, fits_receive, fits_send, operations_in_order, send_is_op, receive_is_op, other_place, newly_allowed, find_class}
+use Rattle.goal_graph.proofs.ForCallers.{cases_op, same_op_false, allowed_listed, one_allowed, allowed_stays, operations_in_order, other_place, newly_allowed, find_class}
 use Rattle.goal_blocks.specs.Walk.{no_send, ComesFirst}
-use Rattle.sim_queue.specs.Map.{key_at, IsEmptyMap, IsLeast}
+use Rattle.sim_heaps.specs.Map.{key_at, IsEmptyMap, IsLeast}
 use Rattle.goal_certify.specs.WalkQueue.{Place, place_key, may_act, IsIdle, IsChoice, IsKeyOf, IsQueueBut, IsQueue, IsRefreshed, IsConcerned}
 use Rattle.std.proofs.lemmas.Bool.{false_from_ne_true, and_right}
 

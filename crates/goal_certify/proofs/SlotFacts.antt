@@ -3,7 +3,7 @@ use Rattle.std.proofs.Common.{◌≡◌, ◌==◌, ◌+◌, ◌-◌, ◌*◌, �
 use Rattle.std.specs.Prelude.{flat_map}
 use Rattle.std.specs.List.{sum_by}
 use Rattle.std.proofs.lemmas.Bool.{cases_lt}
-use Rattle.std.proofs.lemmas.List.{take_more, take_all}
+use Rattle.std.proofs.lemmas.List.{take_more}
 use Rattle.std.proofs.lemmas.List.Concat.{length-flat_map}
 use Rattle.std.proofs.lemmas.List.Elements.{All-append}
 use Rattle.std.proofs.lemmas.List.Sums.{sum_by-cons, get_or-le-sum_by}
@@ -18,7 +18,7 @@ use Rattle.goal_blocks.specs.Values.{Value, Store, merge, set_slot, write, add_a
 use Rattle.goal_blocks.specs.Weight.{stored}
 use Rattle.goal_blocks.specs.Certification.{NamesLowSlots, moved_count, IsSmall}
 use Rattle.goal_blocks.proofs.ForCallers.{length_merge, stored_most, stored_set}
-use Rattle.goal_certify.specs.Carried.{size_of, AddsOver, AddsWithin}
+use Rattle.goal_certify.specs.Carried.{size_of, AddsOver}
 use Rattle.goal_certify.proofs.Places.{rank_below, notes_there}
 use Rattle.goal_certify.proofs.Counting.{length-slots_from}
 use Rattle.goal_graph.proofs.ForCallers.{all_none, all_one}

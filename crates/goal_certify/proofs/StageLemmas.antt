@@ -6,10 +6,10 @@ use Rattle.goal_graph.specs.Schedule.{Plan}
 use Rattle.goal_blocks.specs.declared.cert_fault.CertFault.{CertFault}
 use Rattle.goal_blocks.specs.declared.cert_fault.CertFault.TheVariants.{TooLarge, Wildcard, DoubleChannel, Unpaired, Lengths, Race, Stalls, Weight, Wrong, NoMemory}
 use Rattle.goal_blocks.specs.Values.{Value, Store}
-use Rattle.goal_blocks.specs.Channels.{HasNoWildcard, HasNoDoubleChannel, HasNoUnpaired}
+use Rattle.goal_blocks.specs.Channels.{HasNoWildcard, HasNoDoubleChannel}
 use Rattle.goal_blocks.specs.Certification.{IsSmall, HasEqualLengths}
 use Rattle.goal_blocks.specs.Faults.{IsLeast, rank_key, op_key, IsLarge, IsWildcard, AreDouble, IsUnpaired, HaveOtherLengths, HasFault, fault_place}
-use Rattle.goal_blocks.proofs.ForCallers.{none_holds, small_from, wildcard_from, double_from, unpaired_from, lengths_from}
+use Rattle.goal_blocks.proofs.ForCallers.{none_holds, small_from, wildcard_from, double_from, lengths_from}
 use Rattle.goal_certify.specs.Stages.{HasNone, IsFirstOf, IsFree, IsStopped}
 
 module _ (plans : List Plan) where

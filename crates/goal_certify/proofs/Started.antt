@@ -12,15 +12,15 @@ use Rattle.goal_blocks.specs.declared.collective.Collective.{Collective}
 use Rattle.goal_blocks.specs.declared.cert_fault.CertFault.TheVariants.{Weight, Wrong, NoMemory}
 use Rattle.goal_blocks.specs.declared.cert_fault.CertFault.{CertFault}
 use Rattle.goal_graph.specs.Interleaving.{IsInterleaving}
-use Rattle.goal_blocks.specs.Collectives.{initial, wanted, wanted_at}
+use Rattle.goal_blocks.specs.Collectives.{wanted, wanted_at}
+use Rattle.goal_blocks.specs.Segments.{exchange, initial_in, wanted_in}
 use Rattle.goal_blocks.specs.Walk.{no_send, TakesFirst, IsWalk}
 use Rattle.goal_blocks.specs.Values.{Value, Store, Held, held_after, value}
 use Rattle.goal_blocks.specs.Weight.{stored, carried, weight}
 use Rattle.goal_blocks.specs.Faults.{IsLeast, SlotAt, slot_key, IsFirstTooHeavy}
-use Rattle.goal_blocks.specs.Stored.{Kept, values}
-use Rattle.goal_certify.specs.declared.walk.parcel.Parcel.{Parcel}
+use Rattle.goal_values.specs.Kept.{Kept, values}
 use Rattle.goal_certify.specs.Stages.{HasNone, IsFirstOf}
-use Rattle.goal_certify.specs.Carried.{parcel_size, kept_of, IsCarrying, IsOver}
+use Rattle.goal_certify.specs.Carried.{Told, parcel_size, kept_of, IsCarrying, IsOver}
 use Rattle.goal_certify.proofs.Carried.{carried_kept}
 use Rattle.goal_certify.proofs.Carrying.{weight_opened}
 use Rattle.goal_certify.proofs.ValueStage.{weight_first, values_none, wrong_first}
@@ -49,14 +49,14 @@ module _ (plans : List Plan) (first : Store) where
 
   start_carried : carried plans [] start ≡ 0
   start_carried =
-      carried_kept plans [] start ∙ ap (λ (ps : List (Option Parcel)). sum_by parcel_size ps) (kept_none (operations plans)) ∙ none_carried (length (operations plans))
+      carried_kept plans [] start ∙ ap (λ (ps : List (Option Told)). sum_by parcel_size ps) (kept_none (operations plans)) ∙ none_carried (length (operations plans))
 
   start_weight : weight plans [] start ≡ stored (length plans) first
   start_weight =
       let opened = weight_opened plans [] start in
       omega (arith, opened, start_carried, ap (stored (length plans)) start_store)
 
-  pub started : (s : Kept) (parcels : List (Option Parcel)) → values s ≡ first → s.ranks ≡ length plans → parcels ≡ replicate (length (operations plans)) None → stored (length plans) first ≤ 2 ^ 24 → IsCarrying plans first [] s parcels 0
+  pub started : (s : Kept) (parcels : List (Option Told)) → values s ≡ first → s.ranks ≡ length plans → parcels ≡ replicate (length (operations plans)) None → stored (length plans) first ≤ 2 ^ 24 → IsCarrying plans first [] s parcels 0
   started s parcels is ranks none light = record {
     values_are = is ∙ sym start_store;
     ranks = ranks;
@@ -78,26 +78,26 @@ wanted_inside what ranks r k v unwanted = go (nat_lt r ranks) refl unwanted
     go true e q = ltb-true r ranks e
     go false e q = absurd (both_ways true q refl)
 
-module _ (plans : List Plan) (what : Collective) (w : List Act) (s : Kept) (parcels : List (Option Parcel)) (count : ℕ) (is_walk : IsWalk plans w) (so_far : IsCarrying plans (initial what (length plans)) w s parcels count) where
+module _ (plans : List Plan) (what : Collective) (width block : ℕ) (w : List Act) (s : Kept) (parcels : List (Option Told)) (count : ℕ) (is_walk : IsWalk plans w) (so_far : IsCarrying plans (initial_in what width block (length plans)) w s parcels count) where
   abbrev first : Store
-  first = initial what (length plans)
+  first = initial_in what width block (length plans)
 
   abbrev wish : ℕ → ℕ → Value → Bool
-  wish = wanted what (length plans)
+  wish = wanted_in what width block (length plans)
 
   -- what is read of the store is what the walk leaves
-  read : (rank slot : ℕ) → wanted what s.ranks rank slot (values s rank slot) ≡ wish rank slot (value plans no_send first w rank slot)
+  read : (rank slot : ℕ) → wanted_in what width block s.ranks rank slot (values s rank slot) ≡ wish rank slot (value plans no_send first w rank slot)
   read rank slot =
-      ap (λ (n : ℕ). wanted what n rank slot (values s rank slot)) so_far.ranks ∙ ap (λ (v : Store). wish rank slot (v rank slot)) so_far.values_are
+      ap (λ (n : ℕ). wanted_in what width block n rank slot (values s rank slot)) so_far.ranks ∙ ap (λ (v : Store). wish rank slot (v rank slot)) so_far.values_are
 
-  pub ended_right : ((rank slot : ℕ) → wanted what s.ranks rank slot (values s rank slot) ≡ true) → HasNone plans first wish 7 9
+  pub ended_right : ((rank slot : ℕ) → wanted_in what width block s.ranks rank slot (values s rank slot) ≡ true) → HasNone plans first wish 7 9
   ended_right right =
       values_none plans first wish w is_walk so_far.light (λ rank slot inside. sym (read rank slot) ∙ right rank slot)
 
-  pub ended_wrong : (rank slot : ℕ) → IsLeast slot_key (λ (a : SlotAt). wanted what s.ranks a.rank a.slot (values s a.rank a.slot) ≡ false) (record { rank = rank; slot = slot }) → IsFirstOf plans first wish 7 9 (Wrong rank slot)
+  pub ended_wrong : (rank slot : ℕ) → IsLeast slot_key (λ (a : SlotAt). wanted_in what width block s.ranks a.rank a.slot (values s a.rank a.slot) ≡ false) (record { rank = rank; slot = slot }) → IsFirstOf plans first wish 7 9 (Wrong rank slot)
   ended_wrong rank slot least =
       let unwanted = sym (read rank slot) ∙ least.holds in
-      wrong_first plans first wish w is_walk so_far.light rank slot (wanted_inside what (length plans) rank slot _ unwanted) unwanted (λ other less inside. ⊎_elim (λ e. e) (λ e. absurd (least.none_less other less (read other.rank other.slot ∙ e))) (cases_Bool (wish other.rank other.slot (value plans no_send first w other.rank other.slot))))
+      wrong_first plans first wish w is_walk so_far.light rank slot (wanted_inside what (length plans) rank (exchange width block slot) _ unwanted) unwanted (λ other less inside. ⊎_elim (λ e. e) (λ e. absurd (least.none_less other less (read other.rank other.slot ∙ e))) (cases_Bool (wish other.rank other.slot (value plans no_send first w other.rank other.slot))))
 
 -- what stopped the walk with its values is the first fault of the last two kinds
 pub stopped_over : (plans : List Plan) (first : Store) (wanted : ℕ → ℕ → Value → Bool) (h : List Act) (fault : CertFault) → IsInterleaving plans no_send h → TakesFirst plans h → IsOver (λ total. IsFirstTooHeavy plans first h total) fault → (fault ≡ NoMemory) ⊎ IsFirstOf plans first wanted 7 9 fault

@@ -1,7 +1,7 @@
 -- What is kept of each operation after one more action.
 use Rattle.std.proofs.Common.{◌≡◌, ◌==◌, ◌⊎◌, true, false, List, ◌∷◌, map, filter, Option, Some, None, inl, inr, refl, sym, ap, ◌∙◌, subst}
 use Rattle.std.specs.Option.{option_map}
-use Rattle.std.proofs.lemmas.Bool.{cond-true, cond-false, and_left, and_right, both_ways, false_from_ne_true}
+use Rattle.std.proofs.lemmas.Bool.{and_left, and_right, false_from_ne_true}
 use Rattle.goal_graph.specs.declared.action.OpId.{OpId}
 use Rattle.goal_graph.specs.declared.action.Class.{Class}
 use Rattle.goal_graph.specs.declared.action.Class.TheVariants.{Arrive, Serve, Data, Post, Begin}
@@ -11,7 +11,7 @@ use Rattle.goal_graph.specs.Matching.{Pair, partner, new_pair, add_pair, pairs}
 use Rattle.goal_graph.specs.Fault.{IsOp}
 use Rattle.goal_graph.specs.Interleaving.{IsInterleaving}
 use Rattle.goal_graph.specs.Laws.{IsSend, IsReceive}
-use Rattle.goal_graph.proofs.ForCallers.{cases_op, happened_new, happened_other, is_act_from, same_op_true, same_op_from, not_send_receive, fits_receive, fits_send, new_pair_is, pairs_same, partner_other, IsListed, listed_partners, send_is_op, receive_is_op, same_tables, at_entry, off_entry, entry_written, same_op_swapped}
+use Rattle.goal_graph.proofs.ForCallers.{cases_op, happened_new, happened_other, is_act_from, same_op_true, not_send_receive, fits_receive, fits_send, new_pair_is, pairs_same, partner_other, IsListed, listed_partners, send_is_op, receive_is_op, same_tables, at_entry, off_entry, entry_written, same_op_swapped}
 use Rattle.goal_blocks.specs.Walk.{no_send}
 use Rattle.sim_match.specs.PostsAndArrivals.{is_post_or_arrival}
 use Rattle.sim_match.proofs.ForCallers.{send_for_filtered, receive_for_filtered}

@@ -1,6 +1,7 @@
 -- What is kept of values along the walk: those of the slots, and what is under way.
-use Rattle.std.specs.Prelude.{ℕ, ◌+◌, ◌^◌, ◌≡◌, ◌<◌, ◌≤◌, ◌⊎◌, List, map, length, take, Option, Some, None, if◌then◌else◌}
+use Rattle.std.specs.Prelude.{ℕ, ◌+◌, ◌^◌, ◌≡◌, ◌<◌, ◌≤◌, ◌⊎◌, List, ◌∷◌, map, drop, length, take, All, Option, Some, None, if◌then◌else◌}
 use Rattle.std.specs.List.{sum_by}
+use Rattle.std.specs.Option.{option_map}
 use Rattle.goal_graph.specs.declared.action.OpId.{OpId}
 use Rattle.goal_graph.specs.Schedule.{Plan, operations}
 use Rattle.goal_graph.specs.Action.{Act}
@@ -10,39 +11,92 @@ use Rattle.goal_blocks.specs.declared.slots.Adding.{Adding}
 use Rattle.goal_blocks.specs.Walk.{no_send}
 use Rattle.goal_blocks.specs.Values.{Value, Store, Held, add_all, held_after}
 use Rattle.goal_blocks.specs.Weight.{stored, carried, is_under_way}
-use Rattle.goal_blocks.specs.Certification.{IsLight}
-use Rattle.goal_blocks.specs.Faults.{IsTooHeavy}
-use Rattle.goal_blocks.specs.Stored.{Kept, values}
+use Rattle.goal_blocks.specs.Channels.{HasNoWildcard}
+use Rattle.goal_blocks.specs.Certification.{IsSmall, HasEqualLengths, IsLight}
+use Rattle.goal_blocks.specs.Faults.{IsTooHeavy, IsFirstTooHeavy}
+use Rattle.goal_values.specs.Kept.{Kept, values}
+use Rattle.goal_values.specs.Summed.{Summed, lent_values, IsLent}
+use Rattle.goal_certify.specs.declared.walk.action.Action.{Action}
 use Rattle.goal_certify.specs.declared.walk.parcel.Parcel.{Parcel}
+use Rattle.goal_certify.specs.declared.walk.parcel.Holdings.{Holdings}
+use Rattle.goal_certify.specs.Walked.{Walked, act_of}
+
+-- what is told of a parcel: the values that are under way, and how many contributions these are
+pub record Told : Type 0 where
+  pub payload : List Value
+  pub size : ℕ
+
+abbrev pub told_of : List Value → Parcel → Told
+told_of sums p = record { payload = lent_values sums p.lent; size = p.size }
+
+-- the same of each parcel that there is
+abbrev pub told_in : List Value → List (Option Parcel) → List (Option Told)
+told_in sums parcels = map (option_map (told_of sums)) parcels
+
+-- what it lends are sums that there are
+abbrev pub IsKnown : List Value → Option Parcel → Type 0
+IsKnown sums None = Unit {0}
+IsKnown sums (Some p) = IsLent sums p.lent
 
 -- how many contributions these values have
 abbrev pub size_of : List Value → ℕ
 size_of vs = sum_by (λ (v : Value). length v) vs
 
-abbrev pub parcel_size : Option Parcel → ℕ
+abbrev pub parcel_size : Option Told → ℕ
 parcel_size None = 0
 parcel_size (Some p) = p.size
 
 -- what a send that is under way has read
-abbrev pub parcel_of : List Value → Parcel
+abbrev pub parcel_of : List Value → Told
 parcel_of vs = record { payload = vs; size = size_of vs }
 
 -- what is kept of the send m: what it has read, while that is under way
-abbrev pub kept_of : List Plan → List Act → Held → OpId → Option Parcel
+abbrev pub kept_of : List Plan → List Act → Held → OpId → Option Told
 kept_of plans h held m = if is_under_way plans h m then Some (parcel_of (held.payload m)) else None
 
 -- There is a parcel for each send that is under way, in the order of all operations. Never were too many contributions
 -- held.
-pub record IsCarrying (plans : List Plan) (first : Store) (h : List Act) (s : Kept) (parcels : List (Option Parcel)) (count : ℕ) : Type 0 where
+pub record IsCarrying (plans : List Plan) (first : Store) (h : List Act) (s : Kept) (parcels : List (Option Told)) (count : ℕ) : Type 0 where
   pub values_are : values s ≡ (held_after plans no_send first h).store
   pub ranks : s.ranks ≡ length plans
   pub parcels_are : parcels ≡ map (kept_of plans h (held_after plans no_send first h)) (operations plans)
   pub counted : count ≡ carried plans h (held_after plans no_send first h)
   pub light : IsLight plans first h
 
+-- the same of values that are told as sums
+pub record IsHolding (plans : List Plan) (first : Store) (h : List Act) (s : Summed) (parcels : List (Option Parcel)) (count : ℕ) : Type 0 where
+  pub carrying : IsCarrying plans first h s.kept (told_in s.sums parcels) count
+  pub known : All (IsKnown s.sums) parcels
+
 -- memory ran out, or so many contributions are too many
 abbrev pub IsOver : (ℕ → Type 0) → CertFault → Type 0
 IsOver P fault = (fault ≡ NoMemory) ⊎ ((total : ℕ) × (fault ≡ Weight total) × P total)
+
+-- all that is held, after a list of actions
+abbrev pub Holds : List Plan → Store → List Act → Holdings → Type 0
+Holds plans first h held = IsHolding plans first h held.store held.parcels.items held.carried
+
+-- what was held before the last action is held after it, as that action changes it
+abbrev pub FollowsOn : Walked → Holdings → Holdings → Type 0
+FollowsOn w old new = (first : Store) → Holds w.plans first (drop 1 w.history) old → Holds w.plans first w.history new
+
+-- the last action makes it too much
+abbrev pub GrowsTooHeavy : Walked → Holdings → CertFault → Type 0
+GrowsTooHeavy w old fault =
+    (first : Store) → Holds w.plans first (drop 1 w.history) old → IsOver (λ total. IsFirstTooHeavy w.plans first w.history total) fault
+
+-- what is asked of an action that has just happened: the walk is that of a small schedule, the table that of its notes, and before it
+-- this was held
+pub record IsTaken (w : Walked) (table : List Plan) (a : Action) (old : Holdings) : Type 0 where
+  pub small : IsSmall w.plans
+  pub table_is : table ≡ w.plans
+  pub newest : w.history ≡ act_of a ∷ drop 1 w.history
+  pub held : (first : Store) × Holds w.plans first (drop 1 w.history) old
+
+-- what is asked of a schedule whose receives take as many values as were sent
+pub record HasEqualEnds (plans : List Plan) : Type 0 where
+  pub channels : HasNoWildcard plans
+  pub lengths : HasEqualLengths plans
 
 -- after the first of these notes after which it is too much so many contributions are held, others included
 abbrev pub AddsOver : ℕ → ℕ → List Adding → Store → ℕ → ℕ → Type 0

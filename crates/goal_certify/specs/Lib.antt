@@ -1,5 +1,6 @@
 -- What a reader must believe.
 pub mod Certifying
+pub mod Segments
 -- What only the code keeps.
 pub mod Stages
 pub mod Ends
@@ -16,3 +17,4 @@ pub use Rattle.goal_blocks.specs.Certification
 pub use Rattle.goal_blocks.specs.Certified
 pub use Rattle.goal_blocks.specs.Collectives
 pub use Rattle.goal_blocks.specs.Faults
+pub use Rattle.goal_blocks.specs.Segments as Blocks

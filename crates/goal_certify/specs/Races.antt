@@ -13,6 +13,10 @@ use Rattle.goal_certify.specs.Table.{meets}
 abbrev pub is_open : List ℕ → List ℕ → ℕ → ℕ → Bool
 is_open before shared x y = has shared x y && (not (has before y x) && not (has before x y))
 
+-- each of these rows has the number of each row that has its own
+abbrev pub IsMutual : List ℕ → Type 0
+IsMutual rows = (x y : ℕ) → x < 2048 → y < 2048 → has rows x y ≡ true → has rows y x ≡ true
+
 -- the least operation y above x, of the first `count`, with which x is open
 abbrev pub IsNextOpen : List ℕ → List ℕ → ℕ → ℕ → Option ℕ → Type 0
 IsNextOpen before shared x count None = (y : ℕ) → x < y → y < count → is_open before shared x y ≡ true → ⊥

@@ -1,11 +1,15 @@
 -- Certification looks for the faults in stages, each of which looks for some kinds of faults that follow one another in
 -- the order in which they are told.
-use Rattle.std.specs.Prelude.{ℕ, ◌≡◌, ◌<◌, ◌≤◌, ◌⊎◌, Bool, List}
+use Rattle.std.specs.Prelude.{ℕ, ◌≡◌, ◌<◌, ◌≤◌, ◌⊎◌, Bool, List, length}
 use Rattle.goal_graph.specs.Schedule.{Plan}
 use Rattle.goal_blocks.specs.declared.cert_fault.CertFault.{CertFault}
-use Rattle.goal_blocks.specs.declared.cert_fault.CertFault.TheVariants.{NoMemory}
+use Rattle.goal_blocks.specs.declared.cert_fault.CertFault.TheVariants.{Weight, Wrong, NoMemory}
+use Rattle.goal_blocks.specs.declared.collective.Collective.{Collective}
+use Rattle.goal_blocks.specs.declared.segment.Segment.{Segment}
 use Rattle.goal_blocks.specs.Values.{Value, Store}
-use Rattle.goal_blocks.specs.Faults.{HasFault, fault_place}
+use Rattle.goal_blocks.specs.Segments.{initial_in, wanted_in}
+use Rattle.goal_blocks.specs.Faults.{HasFault, fault_place, IsLeast, op_key, IsStalled}
+use Rattle.goal_graph.specs.declared.action.OpId.{OpId}
 
 -- the schedule has no fault of a kind whose place is at least `from` and below `end`
 abbrev pub HasNone : List Plan → Store → (ℕ → ℕ → Value → Bool) → ℕ → ℕ → Type 0
@@ -28,3 +32,22 @@ IsFree plans from end =
 abbrev pub IsStopped : List Plan → ℕ → ℕ → CertFault → Type 0
 IsStopped plans from end fault =
     (fault ≡ NoMemory) ⊎ ((first : Store) (wanted : ℕ → ℕ → Value → Bool) → IsFirstOf plans first wanted from end fault)
+
+-- The answers of a stage whose kinds of faults speak of the values of slots, where a collective is done in a segment: none of
+-- these kinds,
+abbrev pub IsFreeIn : Collective → Segment → List Plan → ℕ → ℕ → Type 0
+IsFreeIn what segment plans from end = HasNone plans (initial_in what segment.width segment.block (length plans)) (wanted_in what segment.width segment.block (length plans)) from end
+
+-- or the first fault, or want of memory.
+abbrev pub IsStoppedIn : Collective → Segment → List Plan → ℕ → ℕ → CertFault → Type 0
+IsStoppedIn what segment plans from end fault = (fault ≡ NoMemory) ⊎ IsFirstOf plans (initial_in what segment.width segment.block (length plans)) (wanted_in what segment.width segment.block (length plans)) from end fault
+
+-- Faults that tell of values: too many are held at a moment, or a slot holds the wrong one at the end.
+abbrev pub SpeaksOfValues : CertFault → Type 0
+SpeaksOfValues (Weight total) = Unit {0}
+SpeaksOfValues (Wrong rank slot) = Unit {0}
+SpeaksOfValues _ = ⊥
+
+-- no operation is without an end in the walk
+abbrev pub NoneStalls : List Plan → Type 0
+NoneStalls plans = (op : OpId) → IsLeast op_key (IsStalled plans) op → ⊥

@@ -11,7 +11,7 @@ pub use Rattle.goal_graph.specs.Concerned.{IsNamedIn, Waits, IsConcerned}
 use Rattle.goal_graph.specs.Allowed.{is_met, allowed}
 use Rattle.goal_blocks.specs.Walk.{no_send, TakesFirst}
 use Rattle.sim_order.specs.declared.order.Counted.{Counted}
-use Rattle.sim_queue.specs.Map.{key_at}
+use Rattle.sim_heaps.specs.Map.{key_at}
 
 -- the place of an operation as its key
 abbrev pub Place : Type 0

@@ -10,12 +10,12 @@ use crate::channels::check_channels;
 use crate::races::check_races;
 use crate::sizes::check_sizes;
 use crate::walk::check_walk;
-use goal_blocks::{CertFault, Collective, laws_of_certified_schedules, laws_of_faults};
+use goal_blocks::{CertFault, Collective, Segment, laws_of_certified_schedules, laws_of_faults};
 use goal_graph::Sched;
 use std::alloc::Global;
 
 // The first fault that lies in the plans of a schedule: in its sizes, channels and races.
-fn check_plans(alloc: Global, sched: &Sched) -> Result<(), CertFault>
+pub fn check_plans(alloc: Global, sched: &Sched) -> Result<(), CertFault>
     ensures free { OnOk result (IsFree sched.now 0 6) }
     ensures fault { IfErr result (IsStopped sched.now 0 6) }
 {
@@ -30,7 +30,7 @@ fn find_fault(alloc: Global, sched: &Sched, what: Collective) -> Result<(), Cert
     ensures fault { IfErr result (λ fault. fault ≡ CertFault.NoMemory ⊎ IsFirstOf sched.now (initial what (length sched.now)) (wanted what (length sched.now)) 0 9 fault) }
 {
     check_plans(alloc, sched)?;
-    check_walk(alloc, sched, what)
+    check_walk(alloc, sched, what, Segment::first())
 }
 
 /// Certifies a schedule for a collective.

@@ -5,6 +5,7 @@ mod certifier;
 mod channels;
 mod ends;
 mod races;
+mod segments;
 mod sizes;
 mod slot_counts;
 #[cfg(test)]
@@ -12,3 +13,4 @@ mod tests;
 mod walk;
 
 pub use certifier::certify;
+pub use segments::{SegmentFault, certify_segments};

@@ -1,8 +1,11 @@
 // Small schedules of two ranks, each with the fault that it has first.
+ghost use Rattle.std.specs.Prelude.{◌<◌};
+
 use crate::certifier::certify;
 use crate::channels::check_channels;
+use crate::segments::{SegmentFault, certify_segments};
 use crate::sizes::check_sizes;
-use goal_blocks::{CertFault, Collective};
+use goal_blocks::{CertFault, Collective, Segment};
 use goal_graph::{Kind, Note, Op, OpId, PlanFault, RankPlan, Sched};
 use std::alloc::Global;
 use std::test::Fail;
@@ -135,5 +138,86 @@ fn certifies_a_broadcast_of_two_from_its_root_alone(rt: HostRuntime) -> Result<(
     assert_eq!(rt; from_first, None);
     let from_second = verdict(rt.alloc(), Collective::Bcast { root: 1 })?;
     assert_eq!(rt; from_second, Some(CertFault::Wrong { rank: 0, slot: 0 }));
+    Ok(())
+}
+
+// Rank 0 sends each of its slots from `lo` up to `hi` on its own, and rank 1 takes them into the slots from `into` on.
+fn slot_by_slot(alloc: Global, lo: u32, hi: u32, into: u32) -> Result<Sched, PlanFault>
+    requires within { hi < 100 }
+    requires low { into < 100 }
+{
+    let mut first = plan(alloc, &[], &[])?;
+    let mut second = plan(alloc, &[], &[])?;
+    for slot in lo..hi + 1 {
+        let op = slot - lo;
+        let there = into + op;
+        first.ops.push(send(8, 1, slot))?;
+        first.notes.push(Note::Moves {
+            op,
+            lo: slot,
+            hi: slot,
+        })?;
+        second.ops.push(receive(Some(0), Some(slot)))?;
+        second.notes.push(Note::Moves {
+            op,
+            lo: there,
+            hi: there,
+        })?;
+    }
+    two(alloc, first, second)
+}
+
+// Four segments of a broadcast, of which the last is missing, or all but the first come one slot too late.
+#[test]
+fn certifies_segments_of_a_broadcast(rt: HostRuntime) -> Result<(), Fail> {
+    let what = Collective::Bcast { root: 0 };
+    let whole = slot_by_slot(rt.alloc(), 0, 3, 0)?;
+    assert_eq!(rt; certify_segments(rt.alloc(), &whole, what, 1, 4), Ok(()));
+    assert_eq!(rt; certify_segments(rt.alloc(), &whole, what, 1, 0), Ok(()));
+    let short = certify_segments(rt.alloc(), &whole, what, 1, 5);
+    let fault = CertFault::Wrong { rank: 1, slot: 4 };
+    assert_eq!(rt; short, Err(SegmentFault { block: 4, fault }));
+    let late = slot_by_slot(rt.alloc(), 0, 3, 1)?;
+    let found = certify_segments(rt.alloc(), &late, what, 1, 4);
+    let fault = CertFault::Wrong { rank: 1, slot: 0 };
+    assert_eq!(rt; found, Err(SegmentFault { block: 0, fault }));
+    Ok(())
+}
+
+// Two segments of two slots each: rank 0 has the slots 0 and 1 of a scatter, and gives rank 1 the second.
+#[test]
+fn certifies_blocks_of_slots(rt: HostRuntime) -> Result<(), Fail> {
+    let what = Collective::Scatter { root: 0 };
+    let sends = [send(8, 1, 0), send(8, 1, 1)];
+    let receives = [receive(Some(0), Some(0)), receive(Some(0), Some(1))];
+    let notes = [
+        moves(1, 1),
+        Note::Moves {
+            op: 1,
+            lo: 3,
+            hi: 3,
+        },
+    ];
+    let first = plan(rt.alloc(), &sends, &notes)?;
+    let second = plan(rt.alloc(), &receives, &notes)?;
+    let sched = two(rt.alloc(), first, second)?;
+    assert_eq!(rt; certify_segments(rt.alloc(), &sched, what, 2, 2), Ok(()));
+    let other = certify_segments(rt.alloc(), &sched, what, 3, 2);
+    let fault = CertFault::Wrong { rank: 1, slot: 4 };
+    assert_eq!(rt; other, Err(SegmentFault { block: 1, fault }));
+    Ok(())
+}
+
+// A schedule whose notes are exchanged is certified as the schedule is in the block.
+#[test]
+fn certifies_exchanged_notes(rt: HostRuntime) -> Result<(), Fail> {
+    let what = Collective::Bcast { root: 0 };
+    let segment = Segment { width: 1, block: 2 };
+    let notes = segment.exchanged_notes(rt.alloc(), &[moves(2, 2)]).ok();
+    let notes = notes.ok_or("memory")?;
+    let first = plan(rt.alloc(), &[send(8, 1, 7)], &notes)?;
+    let second = plan(rt.alloc(), &[receive(Some(0), Some(7))], &notes)?;
+    let sched = two(rt.alloc(), first, second)?;
+    assert_eq!(rt; certify(rt.alloc(), &sched, what), Ok(()));
     Ok(())
 }

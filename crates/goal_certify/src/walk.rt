@@ -31,7 +31,6 @@ pub use outcome::check_walk;
 use state::State;
 
 /// Walks through a schedule. Contracts see it as the plans of the schedule and what has happened so far, newest first.
-#[derive(Drop)]
 pub struct Walker<'a> {
     // what has happened, and what is known of each operation
     state: State<'a>,
@@ -39,6 +38,17 @@ pub struct Walker<'a> {
     queue: Queue,
     // how far the needs of each operation have been looked at
     cursors: Vec<usize>,
+}
+
+// It goes by a call, and not field by field: so those that let one go are shorter to prove.
+impl Drop for Walker<'_> {
+    fn drop(self) {
+        let Walker {
+            state: _state,
+            queue: _queue,
+            cursors: _cursors,
+        } = self;
+    }
 }
 
 impl<'a> Model for Walker<'a> {

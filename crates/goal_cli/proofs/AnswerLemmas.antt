@@ -1,14 +1,18 @@
 -- What follows from the table of causes.
-use Rattle.std.proofs.Common.{◌≡◌, ◌≢◌, ℕ, ◌+◌, ◌<◌, ◌⊎◌, true, false, List, [], length, Option, Some, None, IfSome, IsSomeAnd, inl, inr, refl, sym, ap, ◌∙◌, subst, arith}
+use Rattle.std.proofs.Common.{◌≡◌, ◌≢◌, ℕ, ◌+◌, ◌<◌, ◌≤◌, ◌⊎◌, true, false, List, [], length, Option, Some, None, IfSome, IsSomeAnd, inl, inr, refl, sym, ap, ◌∙◌, subst, arith}
 use Rattle.std.proofs.Math.Seq.{take-length}
 use Rattle.std.specs.FinMap.{get, insert}
 use Rattle.goal_base.specs.declared.limits.TheConstants.{MAX_INPUT}
-use Rattle.goal_base.specs.Device.{HostState, SinkState, Files, Later, KeepsFiles, KeepsReading, SameFiles, SameRest, ReadsAtMost, Holds, HoldsPart, Held, Grows, file_of, ReadFaulted, SameReadCounts}
+use Rattle.goal_base.specs.Device.{HostState, SinkState, Files, Later, KeepsFiles, KeepsReading, SameFiles, SameRest, ReadsAtMost, Holds, HoldsPart, Held, Grows, file_of, ReadFaulted, SameReadCounts, IsTooLong}
 use Rattle.goal_graph.specs.Schedule.{Plan}
-use Rattle.sim_params.specs.Costs.{Numbers, log_gops}
+use Rattle.sim_params.specs.Costs.{Numbers, CostModel, log_gops}
 use Rattle.sim_classes.specs.Machine.{Known, costs_of}
 use Rattle.goal_input.specs.Unread.{IfFile}
-use Rattle.goal_words.specs.Words.{Command, Sim, Waits, Knots, Nodes, Compile, Show, Gen, Certify, Probe}
+use Rattle.goal_words.specs.declared.sentence.View.{View}
+use Rattle.goal_words.specs.declared.sentence.View.TheVariants as view
+use Rattle.goal_words.specs.declared.sentence.RunView.{RunView}
+use Rattle.goal_words.specs.declared.sentence.RunView.TheVariants.{Printed}
+use Rattle.goal_words.specs.Words.{Command, Sim, Nodes}
 use Rattle.goal_cli.specs.declared.answer.Answer.{Answer}
 use Rattle.goal_cli.specs.declared.answer.Answer.TheVariants as answer
 use Rattle.goal_cli.specs.declared.answer.Ending.{Ending}
@@ -16,15 +20,17 @@ use Rattle.goal_cli.specs.declared.answer.Ending.TheVariants as ending
 use Rattle.goal_cli.specs.declared.answer.Refusal.{Refusal}
 use Rattle.goal_cli.specs.declared.output.Stop.{Stop}
 use Rattle.goal_cli.specs.declared.output.Stop.TheVariants.{Refused}
+use Rattle.goal_cli.specs.Stop.{IsStop}
 use Rattle.goal_cli.specs.declared.answer.Status.{Status}
 use Rattle.goal_cli.specs.declared.answer.Status.TheVariants as status
-use Rattle.goal_cli.specs.Output.{Input, input_with, input_of, machine_of, IsWorkOf, IsOutput, MayEnd, IsCertify, IsRefused, IsStop, HasRun, HasRunOn, HasOutput}
+use Rattle.goal_cli.specs.Output.{Input, input_with, input_of, machine_of, IsWorkOf, IsRunShown, IsShownAs, IsOutput, EndsAs, MayEnd, IsVerdict, IsCertify, IsRefused, HasRun, HasRunOn, HasOutput}
+use Rattle.goal_views.specs.Views.{IsPrintedRun}
 use Rattle.goal_cli.specs.Refusal.{refused_line}
-use Rattle.goal_cli.specs.Answer.{ForNamed, IfNamed, ForRead, IfRead, ForInput, IfInput, ReadsFaulted, GrowsByPart, ReadsHeld, Target, ToOut, ToFile, target_of, Gets, GetsPart, Elsewhere, WritesRose, WritesHeld, WritesSame, InputHeld, GetsOutput, GetsPartOfOutput, AnswersWhole, PrintsRun, IsUntouched, IsWritten, IsCutOff, IsCauseOf, IsCauseOfNone, IsCause, line_for, status_at, status_of, Answers, AnswersWith, IsSilent, line_at, input_in, machine_in, Says, IsCutShort, IsAnswered, IsTakenOf}
-use Rattle.goal_cli.specs.Unmade.{IsIdle, IsTakenFrom}
+use Rattle.goal_cli.specs.Answer.{ForNamed, IfNamed, ForRead, IfRead, ForInput, IfInput, ReadsFaulted, IsReadOut, GrowsByPart, ReadsHeld, Target, ToOut, ToFile, target_of, Gets, GetsPart, Elsewhere, WritesRose, WritesHeld, WritesSame, InputHeld, GetsOutput, GetsPartOfOutput, AnswersWhole, PrintsRun, IsUntouched, IsWritten, IsCutOff, IsCauseOf, IsCauseOfNone, IsCause, line_for, status_at, status_of, Answers, AnswersWith, IsSilent, line_at, input_in, machine_in, Says, IsCutShort, IsAnswered, IsTakenOf}
+use Rattle.goal_cli.specs.Unmade.{IsUnmade, IsIdle, IsGot, IsTakenFrom, IsToldOr}
 use Rattle.goal_cli.specs.World.{Devices, devices}
 use Rattle.goal_input.proofs.ForCallers.{same_schedule}
-use Rattle.goal_cli.proofs.RefusalLemmas.{same_refusal, no_refusal, output_had, one_machine}
+use Rattle.goal_cli.proofs.RefusalLemmas.{same_refusal, no_refusal, one_machine}
 
 -- all of a line is a prefix of it
 pub all_is_part : (old new : SinkState) (bytes : List ℕ) → Grows old new bytes → GrowsByPart old new bytes
@@ -34,23 +40,12 @@ all_is_part old new bytes all = (length bytes, rw (take-length bytes) all)
 pub says_whole : (old new : SinkState) (line : List ℕ) → Grows old new line → Says old new line
 says_whole old new line all = record { prefix = all_is_part old new line all; whole = λ _. all }
 
--- what was said, as it stands in `IsAnswered`
-pub answered : (old new : SinkState) (s t : Status) (line : List ℕ)
-    → ((s ≡ t) × Says old new line) ⊎ ((s ≡ status.NoMemory) × IsCutShort old new line)
-    → ((s ≡ t) × Says old new line)
-    ⊎ ((s ≡ status.NoMemory) × (IsCutShort old new line ⊎ GrowsByPart old new (line_for answer.NoMemory)))
-answered old new s t line (inl said) = inl said
-answered old new s t line (inr none) = inr (none.0, inl none.1)
-
 -- the same of a line that is another's equal
 pub said_as : (old new : SinkState) (s t : Status) (line wanted : List ℕ) → line ≡ wanted
     → ((s ≡ t) × Says old new line) ⊎ ((s ≡ status.NoMemory) × IsCutShort old new line)
-    → ((s ≡ t) × Says old new wanted)
-    ⊎ ((s ≡ status.NoMemory) × (IsCutShort old new wanted ⊎ GrowsByPart old new (line_for answer.NoMemory)))
+    → ((s ≡ t) × Says old new wanted) ⊎ ((s ≡ status.NoMemory) × IsCutShort old new wanted)
 said_as old new s t line wanted is said =
-    subst
-    (λ (l : List ℕ). ((s ≡ t) × Says old new l) ⊎ ((s ≡ status.NoMemory) × (IsCutShort old new l ⊎ GrowsByPart old new (line_for answer.NoMemory))))
-    is (answered old new s t line said)
+    subst (λ (l : List ℕ). ((s ≡ t) × Says old new l) ⊎ ((s ≡ status.NoMemory) × IsCutShort old new l)) is said
 
 -- a name has one file
 same_file : (host : HostState) (name input other : List ℕ) → file_of host name ≡ Some input → file_of host name ≡ Some other → other ≡ input
@@ -112,10 +107,43 @@ module _ (a b : HostState) (out : SinkState) (c : Command) (kept : KeepsFiles a 
   pub idle_cause : (answer : Answer) → IsIdle a b c answer → IsCauseOf (devices a out) (devices b out) c answer
   idle_cause (answer.Written e) is = absurd is
   idle_cause answer.BadLine is = absurd is
-  idle_cause (answer.Refused r) is = (is.0, is.1, still)
+  idle_cause (answer.Refused r) is = (is.0, is.1, still, is.2)
   idle_cause answer.ReadFault is = (is, still)
   idle_cause answer.WriteFault is = absurd is
   idle_cause answer.NoMemory is = inl still
+
+-- a file that was read to its end once its host's other was
+pub read_out_from : (a b d : HostState) (o : Option (List ℕ)) → Later a b → KeepsFiles a b → IsReadOut b d o → IsReadOut a d o
+read_out_from a b d None later kept out = tt
+read_out_from a b d (Some name) later kept out = λ tells. by tells (out (later.tells ∙ tells))
+  where
+    by : a.tells ≡ true → (d.rest ≡ []) ⊎ IsTooLong b name → (d.rest ≡ []) ⊎ IsTooLong a name
+    by tells (inl none) = inl none
+    by tells (inr long) = inr (record {
+      told = λ t.
+          let k = long.told (later.tells ∙ t) in
+          (k.0, ap (λ (f : Files). get f name) (sym (kept.files.files t)) ∙ k.1, k.2);
+    })
+
+-- what was got of a host whose files are those of another
+got_for : (a b : HostState) (text : List ℕ) (Q : List ℕ → Type 0) (o : Option (List ℕ)) → Later a b → KeepsFiles a b → IsGot b o text → Q text
+    → ForNamed a o Q
+got_for a b text Q None later kept got q = subst Q got q
+got_for a b text Q (Some name) later kept got q =
+    λ tells. (text, ap (λ (f : Files). get f name) (sym (kept.files.files tells)) ∙ got (later.tells ∙ tells), q)
+
+-- a schedule that is refused, once the machine was read
+pub idle_refused : (a b d : HostState) (c : Command) (r : Refusal) (text : List ℕ) → Later a b → KeepsFiles a b → IsUnmade a b c (answer.Refused r)
+    → IsGot b (machine_of c) text → length text ≤ MAX_INPUT → IsReadOut b d (machine_of c) → SameReadCounts b d → IsIdle a d c (answer.Refused r)
+idle_refused a b d c r text later kept unmade got short out same = (
+  for_turned a (λ s. (m : List ℕ) → length m ≤ MAX_INPUT → IsRefused c (input_with s m) r) (λ s. ForNamed a (machine_of c) (λ m. IsRefused c (input_with s m) r))
+      (λ s refused. got_for a b text (λ m. IsRefused c (input_with s m) r) (machine_of c) later kept got (refused text short)) (input_of c) unmade.0,
+  record {
+    read_count = same.read_count ∙ unmade.1.read_count;
+    absent_count = same.absent_count ∙ unmade.1.absent_count;
+  },
+  read_out_from a b d (machine_of c) later kept out,
+)
 
 -- what is taken of an input, where nothing more is asked of it later
 still_most : (a b d : HostState) (name : List ℕ) → Later a b → ReadsAtMost a b name (MAX_INPUT + 1) → SameRest b d
@@ -145,7 +173,9 @@ still_other a b d None later most kept = most
 still_other a b d (Some name) later most kept = still_most a b d name later most kept
 
 pub taken_still : (o m : Option (List ℕ)) (a b d : HostState) → Later a b → IsTakenOf o m a b → KeepsReading b d → IsTakenOf o m a d
-taken_still None m a b d later taken kept = still_kept a b d later taken kept
+taken_still None None a b d later taken kept = still_kept a b d later taken kept
+taken_still None (Some name) a b d later (inl same) kept = inl (still_rest a b d later same kept.rest)
+taken_still None (Some name) a b d later (inr most) kept = inr (still_most a b d name later most kept.rest)
 taken_still (Some name) m a b d later (inl same) kept = inl (still_rest a b d later same kept.rest)
 taken_still (Some name) m a b d later (inr (inl most)) kept = inr (inl (still_most a b d name later most kept.rest))
 taken_still (Some name) m a b d later (inr (inr most)) kept = inr (inr (still_other a b d m later most kept.rest))
@@ -159,33 +189,21 @@ moved_most a b d name later kept most = record {
   told = λ t. ap (λ (f : Files). get f name) (sym (kept.files.files t)) ∙ most.told (later.tells ∙ t);
 }
 
-pub taken_both : (c : Command) (a b d : HostState) → Later a b → KeepsFiles a b → IsTakenFrom a b (input_of c) → IsTakenFrom b d (machine_of c)
-    → IsTakenOf (input_of c) (machine_of c) a d
-taken_both c a b d later kept first second = by (input_of c) (machine_of c) (λ none. no_machine_there c none) first second
-  where
-    no_machine_there : (c : Command) → input_of c ≡ None → machine_of c ≡ None
-    no_machine_there (Sim name numbers) none = refl
-    no_machine_there (Waits name numbers) none = refl
-    no_machine_there (Knots name numbers) none = refl
-    no_machine_there (Nodes name machine) none = cc
-    no_machine_there (Compile name out) none = refl
-    no_machine_there (Show name) none = refl
-    no_machine_there (Gen what ranks bytes) none = refl
-    no_machine_there (Certify what name) none = refl
-    no_machine_there (Probe rounds seed numbers) none = refl
-
-    by : (o m : Option (List ℕ)) → (o ≡ None → m ≡ None) → IsTakenFrom a b o → IsTakenFrom b d m → IsTakenOf o m a d
-    by None None none p q = still_kept a b d later p q
-    by None (Some m) none p q = let e : Some m ≡ None = none refl in absurd cc
-    by (Some name) None none (inl same) q = inl (still_rest a b d later same q.rest)
-    by (Some name) None none (inr most) q = inr (inl (still_most a b d name later most q.rest))
-    by (Some name) (Some m) none (inl same) (inl q) = inl (still_rest a b d later same q)
-    by (Some name) (Some m) none (inr most) (inl q) = inr (inl (still_most a b d name later most q))
-    by (Some name) (Some m) none p (inr q) = inr (inr (moved_most a b d m later kept q))
+pub taken_both : (o m : Option (List ℕ)) (a b d : HostState) → Later a b → KeepsFiles a b → IsTakenFrom a b o → IsTakenFrom b d m
+    → IsTakenOf o m a d
+taken_both None None a b d later kept p q = still_kept a b d later p q
+taken_both None (Some m) a b d later kept p (inl q) = inl (still_rest a b d later p.rest q)
+taken_both None (Some m) a b d later kept p (inr q) = inr (moved_most a b d m later kept q)
+taken_both (Some name) None a b d later kept (inl same) q = inl (still_rest a b d later same q.rest)
+taken_both (Some name) None a b d later kept (inr most) q = inr (inl (still_most a b d name later most q.rest))
+taken_both (Some name) (Some m) a b d later kept (inl same) (inl q) = inl (still_rest a b d later same q)
+taken_both (Some name) (Some m) a b d later kept (inr most) (inl q) = inr (inl (still_most a b d name later most q))
+taken_both (Some name) (Some m) a b d later kept p (inr q) = inr (inr (moved_most a b d m later kept q))
 
 -- where only the input was read
 pub taken_first : (o m : Option (List ℕ)) (a b : HostState) → IsTakenFrom a b o → IsTakenOf o m a b
-taken_first None m a b first = first
+taken_first None None a b first = first
+taken_first None (Some m) a b first = inl first.rest
 taken_first (Some name) m a b (inl same) = inl same
 taken_first (Some name) m a b (inr most) = inr (inl most)
 
@@ -334,8 +352,7 @@ module _ (old new : Devices) where
   pub part_said : (command : Option Command) (err err' : SinkState) (a : Answer) (s : Status) → IsCause old new command a
       → IsAnswered err err' a s → s ≡ status.NoMemory
       → (b : Answer) × IsCause old new command b × GrowsByPart err err' (line_for b)
-  part_said command err err' a s cause (inr (e, inl part)) none = (a, cause, part.0)
-  part_said command err err' a s cause (inr (e, inr part)) none = (answer.NoMemory, any command a cause, part)
+  part_said command err err' a s cause (inr (e, part)) none = (a, cause, part.0)
   part_said command err err' (answer.Written ending.Done) s cause (inl (e, told)) none = cc
   part_said command err err' (answer.Written ending.Stuck) s cause (inl (e, told)) none = cc
   part_said command err err' (answer.Written ending.NotCertified) s cause (inl (e, told)) none = cc
@@ -343,13 +360,37 @@ module _ (old new : Devices) where
   part_said command err err' (answer.Refused r) s cause (inl (e, told)) none = cc
   part_said command err err' answer.ReadFault s cause (inl (e, told)) none = cc
   part_said command err err' answer.WriteFault s cause (inl (e, told)) none = cc
-  part_said command err err' answer.NoMemory s cause (inl (e, told)) none = (answer.NoMemory, cause, told)
+  part_said command err err' answer.NoMemory s cause (inl (e, told)) none = (answer.NoMemory, cause, told.prefix)
+
+  -- where the sink counted a fault, the status is that of an answer, and a part of its line was said
+  pub failed_said : (command : Option Command) (err err' : SinkState) (a : Answer) (s : Status) → IsCause old new command a
+      → IsAnswered err err' a s → err.count < err'.count
+      → (b : Answer) × IsCause old new command b × (s ≡ status_of b) × GrowsByPart err err' (line_for b)
+  failed_said command err err' a s cause (inr (e, part)) risen = let same = part.1 in absurd (omega arith)
+  failed_said command err err' (answer.Written e) s cause (inl (is, told)) risen =
+      let same = ap (λ (w : SinkState). w.count) told in absurd (omega arith)
+  failed_said command err err' answer.BadLine s cause (inl (is, told)) risen = (answer.BadLine, cause, is, told.prefix)
+  failed_said command err err' (answer.Refused r) s cause (inl (is, told)) risen = (answer.Refused r, cause, is, told.prefix)
+  failed_said command err err' answer.ReadFault s cause (inl (is, told)) risen = (answer.ReadFault, cause, is, told.prefix)
+  failed_said command err err' answer.WriteFault s cause (inl (is, told)) risen = (answer.WriteFault, cause, is, told.prefix)
+  failed_said command err err' answer.NoMemory s cause (inl (is, told)) risen = (answer.NoMemory, cause, is, told.prefix)
+
+  -- what was told is told of an answer whose cause holds
+  pub told_of : (command : Option Command) (err err' : SinkState) (a : Answer) (s : Status) → IsCause old new command a
+      → IsToldOr err err' a s → (b : Answer) × IsCause old new command b × IsAnswered err err' b s
+  told_of command err err' (answer.Refused r) s cause (inl told) = (answer.Refused r, cause, told)
+  told_of command err err' (answer.Refused r) s cause (inr told) = (answer.NoMemory, any command (answer.Refused r) cause, told)
+  told_of command err err' (answer.Written e) s cause told = (answer.Written e, cause, told)
+  told_of command err err' answer.BadLine s cause told = (answer.BadLine, cause, told)
+  told_of command err err' answer.ReadFault s cause told = (answer.ReadFault, cause, told)
+  told_of command err err' answer.WriteFault s cause told = (answer.WriteFault, cause, told)
+  told_of command err err' answer.NoMemory s cause told = (answer.NoMemory, cause, told)
 
   -- what was written, or a part of it, is not refused
   not_refused : (c : Command) (input : Input) (r : Refusal) → IsRefused c input r → GetsPartOfOutput old new c input → ⊥
   not_refused c input r refused got =
-      let had = output_had c input got.0 got.1.0 got.1.1 in
-      no_refusal c input had.0 r had.1 refused
+      let made = got.1.1 in
+      no_refusal c input made.sched r made.has refused
 
   held_reads : (name input : List ℕ) → old.host.tells ≡ true → file_of old.host name ≡ Some input → ReadsHeld old.host new.host → ReadFaulted old.host new.host name → ⊥
   held_reads name input told file held (inl rose) = omega arith
@@ -370,19 +411,15 @@ module _ (old new : Devices) where
       if_all old.host (λ s. IfNamed old.host (machine_of c) (λ m. P (input_with s m))) (input_of c)
       (λ s. file_faulted (λ m. P (input_with s m)) (machine_of c) faulted (λ m no. f (input_with s m) no))
 
-  -- only a command with an input has one
+  -- the count of faults of reading held, for the file of a name
+  held_named : (o : Option (List ℕ)) → IsSomeAnd o (ReadFaulted old.host new.host) → IfSome o (λ name. ReadsHeld old.host new.host)
+      → ReadsHeld old.host new.host
+  held_named None faulted held = absurd faulted
+  held_named (Some name) faulted held = held
+
   held_input : (c : Command) → ReadsFaulted old.host new.host c → InputHeld old new c → ReadsHeld old.host new.host
-  held_input (Sim name numbers) faulted held = held
-  held_input (Waits name numbers) faulted held = held
-  held_input (Knots name numbers) faulted held = held
-  held_input (Nodes name machine) faulted held = held
-  held_input (Compile name out) faulted held = held
-  held_input (Show name) faulted held = held
-  held_input (Certify what name) faulted held = held
-  held_input (Gen what ranks bytes) (inl faulted) held = absurd faulted
-  held_input (Gen what ranks bytes) (inr faulted) held = absurd faulted
-  held_input (Probe rounds seed numbers) (inl faulted) held = absurd faulted
-  held_input (Probe rounds seed numbers) (inr faulted) held = absurd faulted
+  held_input c (inl faulted) held = held_named (input_of c) faulted held.0
+  held_input c (inr faulted) held = held_named (machine_of c) faulted held.1
 
   held_writes : (t : Target) → WritesHeld old new t → WritesRose old new t → ⊥
   held_writes ToOut held rose = omega arith
@@ -454,12 +491,31 @@ module _ (old new : Devices) where
   written_whole None err err' a s cause told = tt
   written_whole (Some c) err err' a s cause told = written_by c err err' a s cause told
 
+  -- a run that is printed with these costs, of a schedule and costs that are no others
+  run_seen : (how : RunView) (costs : Option CostModel) (k : CostModel) (sched : List Plan) (output : List ℕ) (e : Ending) → costs ≡ Some k
+      → IsShownAs (view.Run how) costs sched output e → IsRunShown how k sched output e
+  run_seen how costs k sched output e is shown = subst (λ (o : Option CostModel). IsShownAs (view.Run how) o sched output e) is shown
+
+  prints : (k : CostModel) (sched other : List Plan) (output : List ℕ) (e : Ending) (s : Status) → other ≡ sched → s ≡ status_at e
+      → IsRunShown Printed k other output e → Grows old.out new.out output → PrintsRun s old.out new.out k sched
+  prints k sched other output e s same is shown got =
+      inl (
+        output,
+        (
+          shown.stuck,
+          subst (λ (ps : List Plan). IsPrintedRun k ps output shown.stuck) same shown.run,
+          is ∙ ap status_at shown.ends,
+        ),
+        got,
+      )
+
   -- the printed run of what the input says
   printed_run : (p : Numbers) (name : List ℕ) (input : Input) (sched : List Plan) (s : Status) → HasRun p input.schedule sched
       → AnswersWhole old new s (Sim name p) input → PrintsRun s old.out new.out (log_gops p) sched
   printed_run p name input sched s has (inr e) = inr e
-  printed_run p name input sched s has (inl (ends, e, (output, simulated, got))) =
-      inl (output, (simulated.stuck, rw (same_schedule input.schedule _ _ simulated.schedule.read has.read) at simulated.run, e ∙ ap status_at simulated.ends), got)
+  printed_run p name input sched s has (inl (ends, e, (output, made, got))) =
+      prints (log_gops p) sched made.sched output ends s (same_schedule input.schedule made.sched sched made.has.from has.read) e
+      (run_seen Printed made.has.costs (log_gops p) made.sched output ends made.has.costed made.shown) got
 
   pub run_printed : (command : Option Command) (err err' : SinkState) (a : Answer) (s : Status) → IsCause old new command a
       → IsAnswered err err' a s
@@ -469,23 +525,24 @@ module _ (old new : Devices) where
       → PrintsRun s old.out new.out (log_gops p) sched)
   run_printed command err err' a s cause told name p is =
       λ tells input file sched has reads writes.
+      let had : HasOutput (Sim name p) (input_with input []) sched = record {
+        from = has.read;
+        costs = Some (log_gops p);
+        costed = refl;
+        fits = has.fits;
+      } in
       printed_run p name (input_with input []) sched s has
-      (written_by (Sim name p) err err' a s (rw is at cause) told tells input file sched has reads writes)
+      (written_by (Sim name p) err err' a s (rw is at cause) told tells input file sched had (reads, tt) writes)
 
   -- the same on a machine
   printed_on : (name text : List ℕ) (m : Known) (input : Input) (sched : List Plan) (s : Status) → HasRunOn m input.schedule input.machine sched
       → AnswersWhole old new s (Nodes name text) input → PrintsRun s old.out new.out (costs_of m) sched
   printed_on name text m input sched s has (inr e) = inr e
-  printed_on name text m input sched s has (inl (ends, e, (output, simulated, got))) =
-      inl (
-        output,
-        (
-          simulated.stuck,
-          rw (same_schedule input.schedule _ _ simulated.runs.read.read has.read.read, one_machine input.machine _ _ simulated.runs.read.said has.read.said) at simulated.run,
-          e ∙ ap status_at simulated.ends,
-        ),
-        got,
-      )
+  printed_on name text m input sched s has (inl (ends, e, (output, made, got))) =
+      let costed = made.has.costed in
+      let costs = costed.2 ∙ ap (λ (k : Known). Some (costs_of k)) (one_machine input.machine costed.0 m costed.1.said has.1.said) in
+      prints (costs_of m) sched made.sched output ends s (same_schedule input.schedule made.sched sched made.has.from has.0.read) e
+      (run_seen Printed made.has.costs (costs_of m) made.sched output ends costs made.shown) got
 
   pub run_printed_on : (command : Option Command) (err err' : SinkState) (a : Answer) (s : Status) → IsCause old new command a
       → IsAnswered err err' a s
@@ -496,8 +553,14 @@ module _ (old new : Devices) where
       → Held old.out.stops old.out.count new.out.count → PrintsRun s old.out new.out (costs_of m) sched))
   run_printed_on command err err' a s cause told name machine is =
       λ tells schedule file tells_too text other sched m has reads writes.
+      let had : HasOutput (Nodes name machine) (input_with schedule text) sched = record {
+        from = has.0.read;
+        costs = Some (costs_of m);
+        costed = (m, has.1, refl);
+        fits = has.0.fits;
+      } in
       printed_on name machine m (input_with schedule text) sched s has
-      (written_by (Nodes name machine) err err' a s (rw is at cause) told tells schedule file tells_too text other sched (m, has) reads writes)
+      (written_by (Nodes name machine) err err' a s (rw is at cause) told tells schedule file tells_too text other sched had (reads, reads) writes)
 
   -- the counts of reading rose at a fault of reading alone, those of writing at a fault of writing, but for want of memory
   reads_kept_by : (c : Command) (a : Answer) → IsCauseOf old new c a
@@ -642,6 +705,20 @@ module _ (old new : Devices) where
   told_refusal command err err' answer.WriteFault s cause (inl (e, told)) is = cc
   told_refusal command err err' answer.NoMemory s cause (inl (e, told)) is = cc
 
+  -- by then a machine was read to its end
+  pub machine_read : (command : Option Command) (err err' : SinkState) (a : Answer) (s : Status) → IsCause old new command a
+      → IsAnswered err err' a s → s ≡ status.Refused → IsReadOut old.host new.host (machine_in command)
+  machine_read None err err' a s cause told is = tt
+  machine_read (Some c) err err' a s cause (inr (e, part)) is = cc
+  machine_read (Some c) err err' (answer.Written ending.Done) s cause (inl (e, told)) is = cc
+  machine_read (Some c) err err' (answer.Written ending.Stuck) s cause (inl (e, told)) is = cc
+  machine_read (Some c) err err' (answer.Written ending.NotCertified) s cause (inl (e, told)) is = cc
+  machine_read (Some c) err err' answer.BadLine s cause (inl (e, told)) is = cc
+  machine_read (Some c) err err' (answer.Refused r) s cause (inl (e, told)) is = cause.3
+  machine_read (Some c) err err' answer.ReadFault s cause (inl (e, told)) is = cc
+  machine_read (Some c) err err' answer.WriteFault s cause (inl (e, told)) is = cc
+  machine_read (Some c) err err' answer.NoMemory s cause (inl (e, told)) is = cc
+
   -- writing failed after a part of the output
   pub cut_off_told : (command : Option Command) (err err' : SinkState) (a : Answer) (s : Status) → IsCause old new command a
       → IsAnswered err err' a s → s ≡ status.WriteFault
@@ -773,26 +850,17 @@ module _ (old new : Devices) where
   not_certified command err err' answer.WriteFault s cause (inl (e, told)) is = cc
   not_certified command err err' answer.NoMemory s cause (inl (e, told)) is = cc
 
-  -- only `certify` ends so
-  ends_certify : (c : Command) → MayEnd c ending.NotCertified → IsCertify c
-  ends_certify (Sim name numbers) (true, is) = cc
-  ends_certify (Sim name numbers) (false, is) = cc
-  ends_certify (Waits name numbers) (true, is) = cc
-  ends_certify (Waits name numbers) (false, is) = cc
-  ends_certify (Knots name numbers) (true, is) = cc
-  ends_certify (Knots name numbers) (false, is) = cc
-  ends_certify (Nodes name machine) (true, is) = cc
-  ends_certify (Nodes name machine) (false, is) = cc
-  ends_certify (Compile name file) is = cc
-  ends_certify (Show name) is = cc
-  ends_certify (Gen what ranks bytes) is = cc
-  ends_certify (Certify what name) is = tt
-  ends_certify (Probe rounds seed numbers) (true, is) = cc
-  ends_certify (Probe rounds seed numbers) (false, is) = cc
+  -- only a verdict ends so
+  ends_verdict : (v : View) → EndsAs v ending.NotCertified → IsVerdict v
+  ends_verdict (view.Run how) (true, is) = cc
+  ends_verdict (view.Run how) (false, is) = cc
+  ends_verdict view.Text is = cc
+  ends_verdict (view.File name) is = cc
+  ends_verdict (view.Verdict what) is = tt
 
   only_written : (command : Option Command) → IsSomeAnd command (IsWritten old new ending.NotCertified) → IsSomeAnd command IsCertify
   only_written None w = w
-  only_written (Some c) w = ends_certify c w.ends
+  only_written (Some c) w = ends_verdict c.view w.ends
 
   pub only_certify : (command : Option Command) (err err' : SinkState) (a : Answer) (s : Status) → IsCause old new command a
       → IsAnswered err err' a s → s ≡ status.NotCertified

@@ -14,17 +14,20 @@ use Rattle.sim_params.specs.Run.{IsCompleteRun}
 use Rattle.sim_params.proofs.ForCallers.{complete_interleaving}
 use Rattle.goal_parser.specs.Reads as text
 use Rattle.goal_print.specs.Canonical.{canonical}
-use Rattle.goal_cli.specs.Output.{IsGenerated}
+use Rattle.goal_words.specs.Words.{Gen}
+use Rattle.goal_cli.specs.declared.answer.Ending.{Ending}
+use Rattle.goal_cli.specs.Output.{Input, IsOutput}
 
 pub runs_are_right : (what : Collective) (plans : List Plan) (costs : CostModel) (history : List Timed) → IsCertifiedFor what plans → IsCompleteRun plans costs history → IsRight plans (initial what (length plans)) (wanted what (length plans)) (is_eager plans costs) (plain history)
 runs_are_right what plans costs history certified complete =
     certified_right plans (initial what (length plans)) (wanted what (length plans)) certified (is_eager plans costs) (plain history) (complete_interleaving plans costs history complete)
 
-pub generated_certified : (what : Collective) (ranks bytes : ℕ) (output : List ℕ) → bytes ≤ MAX_BYTES → IsGenerated what ranks bytes output → (sched : List Plan) × (output ≡ canonical sched) × (text.reads output ≡ text.plans sched) × IsRightFor what sched × (IsCertifiedByProof what ranks → IsCertifiedFor what sched)
-generated_certified what ranks bytes output small is = (
-  is.sched,
-  is.shown,
-  is.read_back,
-  subst (λ (ps : List Plan). IsRightFor what ps) (sym is.is_made.made) (all_made_right what ranks bytes is.is_made.possible small),
-  λ proved. subst (λ (ps : List Plan). IsCertifiedFor what ps) (sym is.is_made.made) (made_certified what ranks bytes is.is_made.possible small proved),
-)
+pub generated_certified : (what : Collective) (ranks bytes : ℕ) (input : Input) (output : List ℕ) (e : Ending) → bytes ≤ MAX_BYTES → IsOutput (Gen what ranks bytes) input output e → (sched : List Plan) × (output ≡ canonical sched) × (text.reads output ≡ text.plans sched) × IsRightFor what sched × (IsCertifiedByProof what ranks → IsCertifiedFor what sched)
+generated_certified what ranks bytes input output e small is =
+    let from = is.has.from in (
+      is.sched,
+      is.shown.0.shown,
+      is.shown.0.read_back,
+      subst (λ (ps : List Plan). IsRightFor what ps) (sym from.made) (all_made_right what ranks bytes from.possible small),
+      λ proved. subst (λ (ps : List Plan). IsCertifiedFor what ps) (sym from.made) (made_certified what ranks bytes from.possible small proved),
+    )

@@ -1,6 +1,6 @@
 pub mod AnswerLemmas
-pub mod KnotLemmas
 pub mod OutputLemmas
 pub mod PageLemmas
 pub mod RefusalLemmas
+pub mod StopLemmas
 pub mod CertifiedRuns

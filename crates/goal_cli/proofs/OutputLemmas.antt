@@ -1,53 +1,32 @@
 -- What is written is a function of the schedule and the parameters.
-use Rattle.std.proofs.Common.{◌≡◌, ℕ, ◌<◌, ◌^◌, Bool, List, length, inl, inr, sym, ap, ◌∙◌, subst}
+use Rattle.std.proofs.Common.{◌≡◌, ℕ, ◌<◌, List, length, Option, Some, None, inl, inr, sym, ap, ◌∙◌, subst}
 use Rattle.std.specs.declared.result.Result.TheVariants.{Ok}
-use Rattle.goal_graph.specs.declared.action.Timed.{Timed}
 use Rattle.goal_graph.specs.Schedule.{Plan}
 use Rattle.sim_params.specs.Costs.{Numbers, CostModel, log_gops}
-use Rattle.sim_params.specs.Budget.{budget}
 use Rattle.sim_classes.specs.Machine.{Known, numbers_of, costs_of}
 use Rattle.sim_classes.specs.Form as form
 use Rattle.sim_classes.specs.Laws.{SaidIsWhole, AlikeIsLogGops}
-use Rattle.sim_params.specs.Stuck.{is_stuck}
-use Rattle.sim_waits.specs.WaitsText.{IsWaitsText}
-use Rattle.sim_waits.proofs.ForCallers.{one_report}
-use Rattle.goal_print.specs.Canonical.{canonical}
-use Rattle.goal_binary.specs.File.{file}
-use Rattle.goal_words.specs.Words.{Command, Sim, Waits, Knots, Nodes, Compile, Show, Gen, Certify, Probe}
 use Rattle.goal_blocks.specs.declared.collective.Collective.{Collective}
 use Rattle.goal_blocks.specs.Faults.{FaultExcludesCertified, OneFirstFault}
-use Rattle.goal_collectives.specs.Probe.{probed}
-use Rattle.goal_cli.specs.Probe.{probe_text}
+use Rattle.goal_words.specs.declared.sentence.View.{View}
+use Rattle.goal_words.specs.declared.sentence.View.TheVariants as view
+use Rattle.goal_words.specs.declared.sentence.RunView.{RunView}
+use Rattle.goal_words.specs.Words.{Command, Sim, Nodes, Compile, Pricing, ByNumbers, ByMachine, Unpriced}
+use Rattle.goal_views.proofs.ForCallers.{one_shown}
 use Rattle.goal_cli.specs.Verdict.{faulty_text, IsVerdictOn}
 use Rattle.goal_input.specs.Input.{IsReadAs}
 use Rattle.goal_cli.specs.declared.answer.Ending.{Ending}
-use Rattle.goal_cli.specs.Output.{Input, IsSameMachine, run_text, knots_shown, IsPrintedRun, IsReportedRun, IsKnotted, IsSummedUp, ending_if, IsOutput}
+use Rattle.goal_cli.specs.Output.{Input, IsSameMachine, SaysSame, IsCosted, IsRunShown, IsShownAs, ending_if, IsOutput}
 use Rattle.goal_input.proofs.ForCallers.{same_schedule}
-use Rattle.goal_cli.proofs.RefusalLemmas.{one_machine}
+use Rattle.goal_cli.proofs.RefusalLemmas.{one_machine, same_source}
 
-pub one_run : (costs : CostModel) (sched : List Plan) (one other : List ℕ) (stuck waits : Bool) → IsPrintedRun costs sched one stuck
-    → IsPrintedRun costs sched other waits → (one ≡ other) × (stuck ≡ waits)
-one_run costs sched one other stuck waits a b =
-    let same = b.only a.history a.complete in
-    (a.printed ∙ ap (run_text sched costs) same ∙ sym b.printed, a.stuck_is ∙ ap (is_stuck sched costs) same ∙ sym b.stuck_is)
-
-pub one_reported : (costs : CostModel) (sched : List Plan) (one other : List ℕ) (stuck waits : Bool) → IsReportedRun costs sched one stuck
-    → IsReportedRun costs sched other waits → (one ≡ other) × (stuck ≡ waits)
-one_reported costs sched one other stuck waits a b =
-    let same = b.only a.history a.complete in
-    (one_report sched costs b.history one other (subst (λ (h : List Timed). IsWaitsText sched costs h one) same a.reported) b.reported, a.stuck_is ∙ ap (is_stuck sched costs) same ∙ sym b.stuck_is)
-
-pub one_knotted : (costs : CostModel) (sched : List Plan) (one other : List ℕ) (stuck waits : Bool) → IsKnotted costs sched one stuck
-    → IsKnotted costs sched other waits → (one ≡ other) × (stuck ≡ waits)
-one_knotted costs sched one other stuck waits a b =
-    let same = b.only a.history a.complete in
-    (a.told ∙ ap (knots_shown sched costs) same ∙ sym b.told, a.stuck_is ∙ ap (is_stuck sched costs) same ∙ sym b.stuck_is)
-
-pub one_summed : (costs : CostModel) (sched : List Plan) (one other : List ℕ) (stuck waits : Bool) → IsSummedUp costs sched one stuck
-    → IsSummedUp costs sched other waits → (one ≡ other) × (stuck ≡ waits)
-one_summed costs sched one other stuck waits a b =
-    let same = b.only a.history a.complete in
-    (a.summed ∙ ap (probe_text sched costs) same ∙ sym b.summed, a.stuck_is ∙ ap (is_stuck sched costs) same ∙ sym b.stuck_is)
+-- the costs that two texts of one machine say
+same_costing : (p : Pricing) (text again : List ℕ) (sched : List Plan) (k j : Option CostModel) → SaysSame p text again
+    → IsCosted p text sched k → IsCosted p again sched j → k ≡ j
+same_costing (ByNumbers numbers) text again sched k j same a b = a ∙ sym b
+same_costing (ByMachine name) text again sched k j same a b =
+    a.2 ∙ ap (λ (m : Known). Some (costs_of m)) (one_machine text _ _ a.1.said (same ∙ b.1.said)) ∙ sym b.2
+same_costing Unpriced text again sched k j same a b = a ∙ sym b
 
 -- a schedule has one verdict
 module _ (excludes : FaultExcludesCertified) (single : OneFirstFault) where
@@ -60,55 +39,37 @@ module _ (excludes : FaultExcludesCertified) (single : OneFirstFault) where
       let same = single sched _ _ a.0 b.0 a.1 b.1 in
       (a.2 ∙ ap faulty_text same ∙ sym b.2, a.3 ∙ sym b.3)
 
+  one_run : (how : RunView) (costs : CostModel) (sched : List Plan) (one other : List ℕ) (e d : Ending) → IsRunShown how costs sched one e
+      → IsRunShown how costs sched other d → (one ≡ other) × (e ≡ d)
+  one_run how costs sched one other e d a b =
+      let same = one_shown how costs sched one other a.stuck b.stuck a.run b.run in
+      (same.0, a.ends ∙ ap ending_if same.1 ∙ sym b.ends)
+
+  -- a view shows one text
+  one_view : (v : View) (costs : Option CostModel) (sched : List Plan) (one other : List ℕ) (e d : Ending) → IsShownAs v costs sched one e
+      → IsShownAs v costs sched other d → (one ≡ other) × (e ≡ d)
+  one_view (view.Run how) None sched one other e d a b = absurd a
+  one_view (view.Run how) (Some k) sched one other e d a b = one_run how k sched one other e d a b
+  one_view view.Text costs sched one other e d a b = (a.0.shown ∙ sym b.0.shown, a.1 ∙ sym b.1)
+  one_view (view.File name) costs sched one other e d a b = (a.0.compiled ∙ sym b.0.compiled, a.1 ∙ sym b.1)
+  one_view (view.Verdict what) costs sched one other e d a b = one_verdict what sched one other e d a b
+
   pub same_output : (c : Command) (input again : Input) (sched : List Plan) (one other : List ℕ) (e d : Ending) → IsReadAs input.schedule sched
       → IsReadAs again.schedule sched → IsSameMachine c input again → IsOutput c input one e → IsOutput c again other d
       → (one ≡ other) × (e ≡ d)
-  same_output (Sim name numbers) input again sched one other e d r s same_machine a b =
-      let same =
-      one_run (log_gops numbers) sched one other a.stuck b.stuck
-      (rw (same_schedule input.schedule _ _ a.schedule.read r) at a.run)
-      (rw (same_schedule again.schedule _ _ b.schedule.read s) at b.run) in
-      (same.0, a.ends ∙ ap ending_if same.1 ∙ sym b.ends)
-  same_output (Waits name numbers) input again sched one other e d r s same_machine a b =
-      let same =
-      one_reported (log_gops numbers) sched one other a.stuck b.stuck
-      (rw (same_schedule input.schedule _ _ a.schedule.read r) at a.run)
-      (rw (same_schedule again.schedule _ _ b.schedule.read s) at b.run) in
-      (same.0, a.ends ∙ ap ending_if same.1 ∙ sym b.ends)
-  same_output (Knots name numbers) input again sched one other e d r s same_machine a b =
-      let same =
-      one_knotted (log_gops numbers) sched one other a.stuck b.stuck
-      (rw (same_schedule input.schedule _ _ a.schedule.read r) at a.run)
-      (rw (same_schedule again.schedule _ _ b.schedule.read s) at b.run) in
-      (same.0, a.ends ∙ ap ending_if same.1 ∙ sym b.ends)
-  same_output (Nodes name machine) input again sched one other e d r s same_machine a b =
-      let known = one_machine input.machine _ _ a.runs.read.said (same_machine ∙ b.runs.read.said) in
-      let same =
-      one_run (costs_of a.known) sched one other a.stuck b.stuck
-      (rw (same_schedule input.schedule _ _ a.runs.read.read r) at a.run)
-      (rw (same_schedule again.schedule _ _ b.runs.read.read s, sym known) at b.run) in
-      (same.0, a.ends ∙ ap ending_if same.1 ∙ sym b.ends)
-  same_output (Compile name out) input again sched one other e d r s same_machine a b =
-      (a.0.compiled ∙ ap file (same_schedule input.schedule _ _ a.0.read r ∙ sym (same_schedule again.schedule _ _ b.0.read s)) ∙ sym b.0.compiled, a.1 ∙ sym b.1)
-  same_output (Show name) input again sched one other e d r s same_machine a b =
-      (a.0.shown ∙ ap canonical (same_schedule input.schedule _ _ a.0.read r ∙ sym (same_schedule again.schedule _ _ b.0.read s)) ∙ sym b.0.shown, a.1 ∙ sym b.1)
-  same_output (Gen what ranks bytes) input again sched one other e d r s same_machine a b =
-      (a.0.shown ∙ ap canonical (a.0.is_made.made ∙ sym b.0.is_made.made) ∙ sym b.0.shown, a.1 ∙ sym b.1)
-  same_output (Probe rounds seed numbers) input again sched one other e d r s same_machine a b =
-      let same =
-      one_summed (log_gops numbers) (probed rounds seed) one other a.stuck b.stuck
-      (rw a.schedule.drawn at a.run)
-      (rw b.schedule.drawn at b.run) in
-      (same.0, a.ends ∙ ap ending_if same.1 ∙ sym b.ends)
-  same_output (Certify what name) input again sched one other e d r s same_machine a b =
-      one_verdict what sched one other e d
-      (rw (same_schedule input.schedule _ _ a.read r) at a.verdict)
-      (rw (same_schedule again.schedule _ _ b.read s) at b.verdict)
+  same_output c input again sched one other e d r s machine a b =
+      let plans = same_source c.source input.schedule again.schedule sched a.sched b.sched r s a.has.from b.has.from in
+      let costed = subst (λ (ps : List Plan). IsCosted c.costs input.machine ps a.has.costs) plans a.has.costed in
+      let costs = same_costing c.costs input.machine again.machine b.sched a.has.costs b.has.costs machine costed b.has.costed in
+      one_view c.view b.has.costs b.sched one other e d
+      (subst (λ (k : Option CostModel). IsShownAs c.view k b.sched one e) costs (subst (λ (ps : List Plan). IsShownAs c.view a.has.costs ps one e) plans a.shown))
+      b.shown
 
 -- what is written of a schedule as a compiled file says the schedule
 pub compiled_again : (name out : List ℕ) (input : Input) (output : List ℕ) (e : Ending) (sched : List Plan) → IsReadAs input.schedule sched
     → IsOutput (Compile name out) input output e → IsReadAs output sched
-compiled_again name out input output e sched read is = rw (same_schedule input.schedule _ _ is.0.read read) at is.0.again
+compiled_again name out input output e sched read is =
+    subst (λ (ps : List Plan). IsReadAs output ps) (same_schedule input.schedule is.sched sched is.has.from read) is.shown.0.again
 
 -- on a machine whose classes are alike what `sim` writes is written
 module _ (whole : SaidIsWhole) (alike : AlikeIsLogGops) where
@@ -121,14 +82,14 @@ module _ (whole : SaidIsWhole) (alike : AlikeIsLogGops) where
       → form.machine input.machine ≡ Ok m → ((class : ℕ) → class < length m.classes → numbers_of m class ≡ p)
       → IsOutput (Nodes name text) input output e → IsOutput (Sim name p) input output e
   as_sim name text input m p output e said same a =
-      let costs = alike_costs input.machine a.known m p a.runs.read.said said same in
+      let costs = alike_costs input.machine a.has.costed.0 m p a.has.costed.1.said said same in
       record {
         sched = a.sched;
-        schedule = record {
-          read = a.runs.read.read;
-          fits = subst (λ (k : CostModel). budget a.sched k < 2 ^ 63) costs a.runs.fits;
+        has = record {
+          from = a.has.from;
+          costs = a.has.costs;
+          costed = a.has.costed.2 ∙ ap (λ (k : CostModel). Some k) costs;
+          fits = a.has.fits;
         };
-        stuck = a.stuck;
-        run = subst (λ (k : CostModel). IsPrintedRun k a.sched output a.stuck) costs a.run;
-        ends = a.ends;
+        shown = a.shown;
       }

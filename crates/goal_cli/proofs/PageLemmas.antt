@@ -1,6 +1,7 @@
 -- Text that is written piece by piece.
-use Rattle.std.proofs.Common.{◌≡◌, ℕ, List, [], ◌∷◌, ◌++◌, length, take, drop, refl, sym, ap, ◌∙◌, subst, append_assoc, append-nil, take-append-drop, arith, Result, OnErr}
+use Rattle.std.proofs.Common.{◌≡◌, ℕ, false, eqb, List, [], ◌∷◌, ◌++◌, ◌+◌, ◌<◌, length, take, drop, refl, sym, ap, ◌∙◌, subst, append_assoc, append-nil, take-append-drop, length-append, arith, Result, OnErr}
 use Rattle.std.proofs.Math.Seq.{take-append_seam}
+use Rattle.std.proofs.lemmas.List.{drop-drop}
 use Rattle.std.specs.declared.result.Result.TheVariants.{Ok, Err}
 use Rattle.goal_base.specs.Device.{SinkState, Grows}
 use Rattle.goal_cli.specs.Answer.{GrowsByPart}
@@ -9,10 +10,22 @@ use Rattle.goal_cli.specs.Answer.{GrowsByPart}
 pub grows_none : (a : SinkState) → Grows a a []
 grows_none a = record { told = λ t. sym (append-nil a.bytes) }
 
--- what has no byte is empty
-pub empty_by_length : (xs : List ℕ) → length xs ≡ 0 → xs ≡ []
-empty_by_length [] none = refl
-empty_by_length (x ∷ xs) none = absurd (omega (arith, none))
+-- some bytes of what is made go to a page
+pub moved : (page xs rest : List ℕ) (done count : ℕ)
+    → page ++ (drop done xs ++ rest) ≡ (page ++ take count (drop done xs)) ++ (drop (done + count) xs ++ rest)
+moved page xs rest done count =
+    ap (λ (l : List ℕ). page ++ (l ++ rest))
+    (sym (take-append-drop count (drop done xs)) ∙ ap (λ (l : List ℕ). take count (drop done xs) ++ l) (drop-drop count done xs))
+    ∙ simp append_assoc
+
+-- a number that is not 0
+pub not_zero : (n : ℕ) → false ≡ eqb n 0 → n ≡ 0 → ⊥
+not_zero n test none = let h : false ≡ eqb 0 0 = rw none at test in cc
+
+-- what follows some bytes is shorter than both
+pub shorter : (all made rest : List ℕ) → all ≡ made ++ rest → (length made ≡ 0 → ⊥) → length rest < length all
+shorter all [] rest is some = absurd (some refl)
+shorter all (x ∷ made) rest is some = rw is (omega (arith, length-append (x ∷ made) rest))
 
 -- a text, and then another
 pub grows_then : (a b c : SinkState) (xs ys : List ℕ) → Grows a b xs → b.tells ≡ a.tells → Grows b c ys → Grows a c (xs ++ ys)

@@ -1,12 +1,14 @@
--- A command has at most one refusal for an input, and none where it makes something of it.
-use Rattle.std.proofs.Common.{◌≡◌, ◌≢◌, ℕ, ◌<◌, ◌≤◌, ◌⊎◌, List, length, Result, inl, inr, refl, sym, ap, ◌∙◌, arith}
+-- A command has at most one refusal for an input, and none where it makes something of it. What is so of a source, and of costs, is
+-- shown once for each.
+use Rattle.std.proofs.Common.{◌≡◌, ◌≢◌, ℕ, ◌<◌, ◌≤◌, ◌^◌, ◌⊎◌, true, List, length, Option, Some, is_some, IfSome, Result, inl, inr, refl, sym, ap, ◌∙◌, subst, arith}
 use Rattle.std.specs.declared.result.Result.TheVariants.{Ok, Err}
 use Rattle.goal_base.specs.declared.limits.TheConstants.{MAX_INPUT}
 use Rattle.goal_parser.specs.declared.faults.TextFault.{TextFault}
 use Rattle.goal_binary.specs.declared.fault.FileFault.{FileFault}
 use Rattle.goal_graph.specs.Schedule.{Plan}
-use Rattle.sim_params.specs.Costs.{Numbers}
-use Rattle.sim_classes.specs.Machine.{Known}
+use Rattle.sim_params.specs.Costs.{CostModel}
+use Rattle.sim_params.specs.Budget.{budget}
+use Rattle.sim_classes.specs.Machine.{Known, costs_of}
 use Rattle.sim_classes.specs.Form as form
 use Rattle.sim_classes.specs.declared.fault.MachineFault.{MachineFault}
 use Rattle.goal_blocks.specs.declared.collective.Collective.{Collective}
@@ -14,43 +16,14 @@ use Rattle.goal_blocks.specs.Generated.{most_ranks, IsPossible}
 use Rattle.goal_collectives.specs.declared.fault.GenFault.{GenFault}
 use Rattle.goal_collectives.specs.declared.fault.GenFault.TheVariants as gen
 use Rattle.goal_collectives.specs.GenFaults.{AreRanksWithin}
-use Rattle.goal_words.specs.Words.{Command, Sim, Waits, Knots, Nodes, Compile, Show, Gen, Certify, Probe}
-use Rattle.goal_cli.specs.declared.answer.Ending.{Ending}
+use Rattle.goal_words.specs.declared.sentence.Source.{Source}
+use Rattle.goal_words.specs.declared.sentence.Source.TheVariants as source
+use Rattle.goal_words.specs.Words.{Command, Pricing, ByNumbers, ByMachine, Unpriced}
 use Rattle.goal_cli.specs.declared.answer.Refusal.{Refusal}
 use Rattle.goal_cli.specs.declared.answer.Refusal.TheVariants.{TooLong, Text, File, Machine, MachineRanks, Generator, Budget}
 use Rattle.goal_input.specs.Input.{IsReadAs}
-use Rattle.goal_cli.specs.Output.{Input, HasInput, HasMachine, AreRead, HasRun, HasRunOn, HasOutput, IsOutput, IsProbe, IsProbeOverBudget, IsOverBudget, IsOverBudgetOn, IsRefusedBudget, IsNotMade, IsRefusedCollective, IsMachineFault, IsMisfit, IsTooLong, IsRefused}
+use Rattle.goal_cli.specs.Output.{Input, named_by, machine_named, HasInput, HasMachine, IsFrom, IsMachineFor, IsCosted, HasOutput, IsOverBudget, IsNotMade, IsNotFrom, IsMachineFault, IsMisfit, IsTooLong, IsRefused}
 use Rattle.goal_input.proofs.ForCallers.{same_schedule, same_text_fault, same_file_fault, not_both, no_text_fault, no_file_fault}
-
--- the input of a budget says a schedule
-budget_read : (c : Command) (input : Input) (s : ℕ) → IsRefusedBudget c input s → HasInput c → (sched : List Plan) × IsReadAs input.schedule sched
-budget_read (Sim name numbers) input s a has = (a.sched, a.read)
-budget_read (Waits name numbers) input s a has = (a.sched, a.read)
-budget_read (Knots name numbers) input s a has = (a.sched, a.read)
-budget_read (Nodes name machine) input s a has = (a.sched, a.read.read)
-budget_read (Compile name out) input s a has = absurd a
-budget_read (Show name) input s a has = absurd a
-budget_read (Certify what name) input s a has = absurd a
-budget_read (Gen what ranks bytes) input s a has = absurd a
-budget_read (Probe rounds seed numbers) input s a has = cc
-
--- and its machine is not too long
-budget_short : (c : Command) (input : Input) (s : ℕ) → IsRefusedBudget c input s → HasMachine c → length input.machine ≤ MAX_INPUT
-budget_short (Sim name numbers) input s a has = cc
-budget_short (Waits name numbers) input s a has = cc
-budget_short (Knots name numbers) input s a has = cc
-budget_short (Nodes name machine) input s a has = a.read.short
-budget_short (Compile name out) input s a has = cc
-budget_short (Show name) input s a has = cc
-budget_short (Certify what name) input s a has = cc
-budget_short (Gen what ranks bytes) input s a has = cc
-budget_short (Probe rounds seed numbers) input s a has = cc
-
-same_sum : (numbers : Numbers) (input : List ℕ) (s t : ℕ) → IsOverBudget numbers input s → IsOverBudget numbers input t → s ≡ t
-same_sum numbers input s t a b =
-    let left = rw (same_schedule input _ _ a.read b.read) at a.sum_is in
-    let right = b.sum_is in
-    cc
 
 -- a text says one machine
 pub one_machine : (text : List ℕ) (k m : Known) → form.machine text ≡ Ok k → form.machine text ≡ Ok m → k ≡ m
@@ -58,23 +31,6 @@ one_machine text k m a b = let e : ◌≡◌ {A = Result Known MachineFault} (Ok
 
 no_machine : (text : List ℕ) (m : Known) (f : MachineFault) → form.machine text ≡ Ok m → form.machine text ≡ Err f → ⊥
 no_machine text m f a b = let e : ◌≡◌ {A = Result Known MachineFault} (Ok m) (Err f) = sym a ∙ b in cc
-
-same_sum_on : (schedule text : List ℕ) (s t : ℕ) → IsOverBudgetOn schedule text s → IsOverBudgetOn schedule text t → s ≡ t
-same_sum_on schedule text s t a b =
-    let left = rw (same_schedule schedule _ _ a.read.read b.read.read, one_machine text _ _ a.read.said b.read.said) at a.sum_is in
-    let right = b.sum_is in
-    cc
-
-same_budget : (c : Command) (input : Input) (s t : ℕ) → IsRefusedBudget c input s → IsRefusedBudget c input t → s ≡ t
-same_budget (Sim name numbers) input s t a b = same_sum numbers input.schedule s t a b
-same_budget (Waits name numbers) input s t a b = same_sum numbers input.schedule s t a b
-same_budget (Knots name numbers) input s t a b = same_sum numbers input.schedule s t a b
-same_budget (Nodes name machine) input s t a b = same_sum_on input.schedule input.machine s t a b
-same_budget (Compile name out) input s t a b = absurd a
-same_budget (Show name) input s t a b = absurd a
-same_budget (Certify what name) input s t a b = absurd a
-same_budget (Gen what ranks bytes) input s t a b = absurd a
-same_budget (Probe rounds seed numbers) input s t a b = let left = a.sum_is in let right = b.sum_is in cc
 
 -- there are not both enough ranks and too many
 too_many : (what : Collective) (ranks : ℕ) → (ranks ≡ 0) ⊎ (most_ranks what < ranks) → AreRanksWithin what ranks → ⊥
@@ -95,50 +51,87 @@ same_reason what ranks gen.NotPowerOfTwo (gen.Ranks m) a b = absurd (too_many wh
 same_reason what ranks gen.NotPowerOfTwo gen.Root a b = absurd (b.first.1 a.first.1)
 same_reason what ranks gen.NotPowerOfTwo gen.NotPowerOfTwo a b = refl
 
-same_collective : (c : Command) (f g : GenFault) → IsRefusedCollective c f → IsRefusedCollective c g → f ≡ g
-same_collective (Sim name numbers) f g a b = absurd a
-same_collective (Waits name numbers) f g a b = absurd a
-same_collective (Knots name numbers) f g a b = absurd a
-same_collective (Nodes name machine) f g a b = absurd a
-same_collective (Compile name out) f g a b = absurd a
-same_collective (Show name) f g a b = absurd a
-same_collective (Certify what name) f g a b = absurd a
-same_collective (Gen what ranks bytes) f g a b = same_reason what ranks f g a b
-same_collective (Probe rounds seed numbers) f g a b = absurd a
+-- a collective that has a schedule has no reason for none
+no_reason : (what : Collective) (ranks : ℕ) (f : GenFault) → IsPossible what ranks → IsNotMade what ranks f → ⊥
+no_reason what ranks (gen.Ranks l) a b = too_many what ranks b.first.1 (record { some_rank = a.some_rank; few_ranks = a.few_ranks })
+no_reason what ranks gen.Root a b = b.first.1 a.root
+no_reason what ranks gen.NotPowerOfTwo a b = b.first.2 a.power
+no_reason what ranks gen.NoMemory a b = b.told refl
 
--- a command that makes a schedule has no files, and no run
-no_input : (c : Command) (f : GenFault) → IsRefusedCollective c f → HasInput c → ⊥
-no_input (Sim name numbers) f a has = a
-no_input (Waits name numbers) f a has = a
-no_input (Knots name numbers) f a has = a
-no_input (Nodes name machine) f a has = a
-no_input (Compile name out) f a has = a
-no_input (Show name) f a has = a
-no_input (Certify what name) f a has = a
-no_input (Gen what ranks bytes) f a has = cc
-no_input (Probe rounds seed numbers) f a has = a
+-- THE SOURCE: the schedule of a file is read from it
+source_read : (from : Source) (text : List ℕ) (sched : List Plan) → IsFrom from text sched → is_some (named_by from) ≡ true → IsReadAs text sched
+source_read (source.File name) text sched a has = a
+source_read (source.Made what ranks bytes) text sched a has = cc
+source_read (source.Drawn rounds seed) text sched a has = cc
 
-no_nodes : (c : Command) (f : GenFault) → IsRefusedCollective c f → HasMachine c → ⊥
-no_nodes (Sim name numbers) f a has = a
-no_nodes (Waits name numbers) f a has = a
-no_nodes (Knots name numbers) f a has = a
-no_nodes (Nodes name machine) f a has = a
-no_nodes (Compile name out) f a has = a
-no_nodes (Show name) f a has = a
-no_nodes (Certify what name) f a has = a
-no_nodes (Gen what ranks bytes) f a has = cc
-no_nodes (Probe rounds seed numbers) f a has = a
+-- it is one schedule
+one_schedule : (from : Source) (text : List ℕ) (sched other : List Plan) → IsFrom from text sched → IsFrom from text other → sched ≡ other
+one_schedule (source.File name) text sched other a b = same_schedule text sched other a b
+one_schedule (source.Made what ranks bytes) text sched other a b = a.made ∙ sym b.made
+one_schedule (source.Drawn rounds seed) text sched other a b = a ∙ sym b
 
-no_budget : (c : Command) (input : Input) (f : GenFault) (s : ℕ) → IsRefusedCollective c f → IsRefusedBudget c input s → ⊥
-no_budget (Sim name numbers) input f s a b = a
-no_budget (Waits name numbers) input f s a b = a
-no_budget (Knots name numbers) input f s a b = a
-no_budget (Nodes name machine) input f s a b = a
-no_budget (Compile name out) input f s a b = a
-no_budget (Show name) input f s a b = a
-no_budget (Certify what name) input f s a b = a
-no_budget (Gen what ranks bytes) input f s a b = b
-no_budget (Probe rounds seed numbers) input f s a b = a
+-- it is what two texts say that say one schedule
+pub same_source : (from : Source) (text again : List ℕ) (said sched other : List Plan) → IsReadAs text said → IsReadAs again said
+    → IsFrom from text sched → IsFrom from again other → sched ≡ other
+same_source (source.File name) text again said sched other r s a b = same_schedule text sched said a r ∙ sym (same_schedule again other said b s)
+same_source (source.Made what ranks bytes) text again said sched other r s a b = a.made ∙ sym b.made
+same_source (source.Drawn rounds seed) text again said sched other r s a b = a ∙ sym b
+
+-- a source that has no schedule has no file
+no_file : (from : Source) (f : GenFault) → IsNotFrom from f → is_some (named_by from) ≡ true → ⊥
+no_file (source.File name) f a has = a
+no_file (source.Made what ranks bytes) f a has = cc
+no_file (source.Drawn rounds seed) f a has = a
+
+no_source : (from : Source) (text : List ℕ) (sched : List Plan) (f : GenFault) → IsFrom from text sched → IsNotFrom from f → ⊥
+no_source (source.File name) text sched f a b = b
+no_source (source.Made what ranks bytes) text sched f a b = no_reason what ranks f a.possible b
+no_source (source.Drawn rounds seed) text sched f a b = b
+
+one_reason : (from : Source) (f g : GenFault) → IsNotFrom from f → IsNotFrom from g → f ≡ g
+one_reason (source.File name) f g a b = absurd a
+one_reason (source.Made what ranks bytes) f g a b = same_reason what ranks f g a b
+one_reason (source.Drawn rounds seed) f g a b = absurd a
+
+-- THE COSTS: a machine that is asked for fits the schedule
+costs_machine : (p : Pricing) (text : List ℕ) (sched : List Plan) (costs : Option CostModel) → IsCosted p text sched costs
+    → is_some (machine_named p) ≡ true → (m : Known) × IsMachineFor text sched m
+costs_machine (ByNumbers numbers) text sched costs a has = cc
+costs_machine (ByMachine name) text sched costs a has = (a.0, a.1)
+costs_machine Unpriced text sched costs a has = cc
+
+-- they are one
+one_costing : (p : Pricing) (text : List ℕ) (sched : List Plan) (k j : Option CostModel) → IsCosted p text sched k → IsCosted p text sched j → k ≡ j
+one_costing (ByNumbers numbers) text sched k j a b = a ∙ sym b
+one_costing (ByMachine name) text sched k j a b =
+    a.2 ∙ ap (λ (m : Known). Some (costs_of m)) (one_machine text _ _ a.1.said b.1.said) ∙ sym b.2
+one_costing Unpriced text sched k j a b = a ∙ sym b
+
+-- the costs of two commands over budget, or of one and of an output
+same_costs : (c : Command) (input : Input) (sched other : List Plan) (k j : Option CostModel) → IsFrom c.source input.schedule sched
+    → IsFrom c.source input.schedule other → IsCosted c.costs input.machine sched k → IsCosted c.costs input.machine other j → k ≡ j
+same_costs c input sched other k j a b p q =
+    one_costing c.costs input.machine sched k j p
+    (subst (λ (ps : List Plan). IsCosted c.costs input.machine ps j) (sym (one_schedule c.source input.schedule sched other a b)) q)
+
+same_budget : (c : Command) (input : Input) (s t : ℕ) → IsOverBudget c input s → IsOverBudget c input t → s ≡ t
+same_budget c input s t a b =
+    let plans = one_schedule c.source input.schedule a.sched b.sched a.from b.from in
+    let some : ◌≡◌ {A = Option CostModel} (Some a.costs) (Some b.costs) = same_costs c input a.sched b.sched (Some a.costs) (Some b.costs) a.from b.from a.costed b.costed in
+    let costs : a.costs ≡ b.costs = cc in
+    a.sum_is ∙ ap (λ (ps : List Plan). budget ps a.costs) plans ∙ ap (budget b.sched) costs ∙ sym b.sum_is
+
+-- an output has a budget that fits
+below : (sched : List Plan) (k : CostModel) (costs : Option CostModel) → costs ≡ Some k → IfSome costs (λ j. budget sched j < 2 ^ 63) → budget sched k < 2 ^ 63
+below sched k costs is fits = rw is at fits
+
+output_fits : (c : Command) (input : Input) (sched : List Plan) (s : ℕ) → HasOutput c input sched → IsOverBudget c input s → ⊥
+output_fits c input sched s a b =
+    let plans = one_schedule c.source input.schedule b.sched sched b.from a.from in
+    let small = below sched b.costs a.costs (same_costs c input sched b.sched a.costs (Some b.costs) a.from b.from a.costed b.costed) a.fits in
+    let sum = b.sum_is ∙ ap (λ (ps : List Plan). budget ps b.costs) plans in
+    let over = b.over in
+    omega arith
 
 -- files that are not too long
 short_files : (c : Command) (input : Input) → IsTooLong c input → (HasInput c → length input.schedule ≤ MAX_INPUT)
@@ -151,69 +144,71 @@ not_long : (c : Command) (input : Input) (r : Refusal) → (r ≢ TooLong) → I
 not_long c input TooLong other a long = other refl
 not_long c input (Text f) other a long = short_files c input long (λ _. a.2.short) (λ _. a.1)
 not_long c input (File f) other a long = short_files c input long (λ _. a.2.short) (λ _. a.1)
-not_long c input (Machine f) other a long = short_files c input long (λ _. a.1.read.short) (λ _. a.1.short)
-not_long c input (MachineRanks p) other a long = short_files c input long (λ _. a.1.read.short) (λ _. a.1.short)
-not_long c input (Generator f) other a long =
-    short_files c input long (λ has. absurd (no_input c f a has)) (λ has. absurd (no_nodes c f a has))
+not_long c input (Generator f) other a long = short_files c input long (λ has. absurd (no_file c.source f a.1 has)) (λ _. a.0)
+not_long c input (Machine f) other a long =
+    short_files c input long (λ has. (source_read c.source input.schedule a.1.sched a.1.from has).short) (λ _. a.1.short)
+not_long c input (MachineRanks p) other a long =
+    short_files c input long (λ has. (source_read c.source input.schedule a.1.sched a.1.from has).short) (λ _. a.1.short)
 not_long c input (Budget s) other a long =
-    short_files c input long (λ has. (budget_read c input s a has).1.short) (λ has. budget_short c input s a has)
+    short_files c input long (λ has. (source_read c.source input.schedule a.sched a.from has).short)
+    (λ has. (costs_machine c.costs input.machine a.sched (Some a.costs) a.costed has).1.short)
 
--- a reason that comes after the schedule is read
+-- a reason that comes after there is a schedule
 abbrev IsLater : Refusal → Type 0
 IsLater (Machine f) = Unit {0}
 IsLater (MachineRanks p) = Unit {0}
 IsLater (Budget s) = Unit {0}
-IsLater _ = ⊥
+IsLater TooLong = ⊥
+IsLater (Text f) = ⊥
+IsLater (File f) = ⊥
+IsLater (Generator f) = ⊥
 
-later_read : (c : Command) (input : Input) (r : Refusal) → IsLater r → IsRefused c input r → HasInput c
-    → (sched : List Plan) × IsReadAs input.schedule sched
-later_read c input (Machine f) later a has = (a.1.sched, a.1.read)
-later_read c input (MachineRanks p) later a has = (a.1.sched, a.1.read)
-later_read c input (Budget s) later a has = budget_read c input s a has
-later_read c input TooLong later a has = absurd later
-later_read c input (Text f) later a has = absurd later
-later_read c input (File f) later a has = absurd later
-later_read c input (Generator f) later a has = absurd later
+later_from : (c : Command) (input : Input) (r : Refusal) → IsLater r → IsRefused c input r → (sched : List Plan) × IsFrom c.source input.schedule sched
+later_from c input (Machine f) later a = (a.1.sched, a.1.from)
+later_from c input (MachineRanks p) later a = (a.1.sched, a.1.from)
+later_from c input (Budget s) later a = (a.sched, a.from)
+later_from c input TooLong later a = absurd later
+later_from c input (Text f) later a = absurd later
+later_from c input (File f) later a = absurd later
+later_from c input (Generator f) later a = absurd later
 
 text_later : (c : Command) (input : Input) (f : TextFault) (r : Refusal) → IsLater r → IsRefused c input (Text f) → IsRefused c input r → ⊥
-text_later c input f r later a b = no_text_fault input.schedule _ f a.2 (later_read c input r later b a.0).1
+text_later c input f r later a b =
+    let k = later_from c input r later b in
+    no_text_fault input.schedule k.0 f a.2 (source_read c.source input.schedule k.0 k.1 a.0)
 
 file_later : (c : Command) (input : Input) (f : FileFault) (r : Refusal) → IsLater r → IsRefused c input (File f) → IsRefused c input r → ⊥
-file_later c input f r later a b = no_file_fault input.schedule _ f a.2 (later_read c input r later b a.0).1
+file_later c input f r later a b =
+    let k = later_from c input r later b in
+    no_file_fault input.schedule k.0 f a.2 (source_read c.source input.schedule k.0 k.1 a.0)
+
+made_later : (c : Command) (input : Input) (f : GenFault) (r : Refusal) → IsLater r → IsRefused c input (Generator f) → IsRefused c input r → ⊥
+made_later c input f r later a b =
+    let k = later_from c input r later b in
+    no_source c.source input.schedule k.0 f k.1 a.1
 
 -- a budget on a machine has one that fits
-fits_machine : (c : Command) (input : Input) (s : ℕ) → IsRefusedBudget c input s → HasMachine c
-    → (sched : List Plan) × (m : Known) × AreRead input.schedule input.machine sched m
-fits_machine (Sim name numbers) input s a has = cc
-fits_machine (Waits name numbers) input s a has = cc
-fits_machine (Knots name numbers) input s a has = cc
-fits_machine (Nodes name machine) input s a has = (a.sched, a.known, a.read)
-fits_machine (Compile name out) input s a has = cc
-fits_machine (Show name) input s a has = cc
-fits_machine (Certify what name) input s a has = cc
-fits_machine (Gen what ranks bytes) input s a has = cc
-fits_machine (Probe rounds seed numbers) input s a has = cc
+misfit_read : (c : Command) (input : Input) (sched : List Plan) (m : Known) (p : ℕ) → IsFrom c.source input.schedule sched
+    → IsMachineFor input.machine sched m → IsMisfit c input p → ⊥
+misfit_read c input sched m p from a b =
+    b.other (b.ranks_are ∙ ap (λ (k : Known). length k.nodes) (one_machine input.machine _ _ b.said a.said) ∙ a.ranks ∙ ap length (one_schedule c.source input.schedule _ _ from b.from))
 
-misfit_read : (schedule text : List ℕ) (sched : List Plan) (m : Known) (p : ℕ) → AreRead schedule text sched m → IsMisfit schedule text p → ⊥
-misfit_read schedule text sched m p a b =
-    b.other (b.ranks_are ∙ ap (λ (k : Known). length k.nodes) (one_machine text _ _ b.said a.said) ∙ a.ranks ∙ ap length (same_schedule schedule _ _ a.read b.read))
-
-machine_budget : (c : Command) (input : Input) (f : MachineFault) (s : ℕ) → IsRefused c input (Machine f) → IsRefusedBudget c input s → ⊥
+machine_budget : (c : Command) (input : Input) (f : MachineFault) (s : ℕ) → IsRefused c input (Machine f) → IsOverBudget c input s → ⊥
 machine_budget c input f s a b =
-    let k = fits_machine c input s b a.0 in
-    no_machine input.machine k.1 f k.2.said a.1.first
+    let k = costs_machine c.costs input.machine b.sched (Some b.costs) b.costed a.0 in
+    no_machine input.machine k.0 f k.1.said a.1.first
 
-ranks_budget : (c : Command) (input : Input) (p s : ℕ) → IsRefused c input (MachineRanks p) → IsRefusedBudget c input s → ⊥
+ranks_budget : (c : Command) (input : Input) (p s : ℕ) → IsRefused c input (MachineRanks p) → IsOverBudget c input s → ⊥
 ranks_budget c input p s a b =
-    let k = fits_machine c input s b a.0 in
-    misfit_read input.schedule input.machine k.0 k.1 p k.2 a.1
+    let k = costs_machine c.costs input.machine b.sched (Some b.costs) b.costed a.0 in
+    misfit_read c input b.sched k.0 p b.from k.1 a.1
 
-same_fault : (schedule text : List ℕ) (f g : MachineFault) → IsMachineFault schedule text f → IsMachineFault schedule text g → f ≡ g
-same_fault schedule text f g a b = let e : ◌≡◌ {A = Result Known MachineFault} (Err f) (Err g) = sym a.first ∙ b.first in cc
+same_fault : (c : Command) (input : Input) (f g : MachineFault) → IsMachineFault c input f → IsMachineFault c input g → f ≡ g
+same_fault c input f g a b = let e : ◌≡◌ {A = Result Known MachineFault} (Err f) (Err g) = sym a.first ∙ b.first in cc
 
-same_ranks : (schedule text : List ℕ) (p q : ℕ) → IsMisfit schedule text p → IsMisfit schedule text q → p ≡ q
-same_ranks schedule text p q a b =
-    a.ranks_are ∙ ap (λ (k : Known). length k.nodes) (one_machine text _ _ a.said b.said) ∙ sym b.ranks_are
+same_ranks : (c : Command) (input : Input) (p q : ℕ) → IsMisfit c input p → IsMisfit c input q → p ≡ q
+same_ranks c input p q a b =
+    a.ranks_are ∙ ap (λ (k : Known). length k.nodes) (one_machine input.machine _ _ a.said b.said) ∙ sym b.ranks_are
 
 pub same_refusal : (c : Command) (input : Input) (r q : Refusal) → IsRefused c input r → IsRefused c input q → r ≡ q
 same_refusal c input TooLong TooLong a b = refl
@@ -228,143 +223,56 @@ same_refusal c input (Text f) (Text g) a b = let same = same_text_fault input.sc
 same_refusal c input (Text f) (File g) a b = absurd (not_both input.schedule f g a.2 b.2)
 same_refusal c input (Text f) (Machine g) a b = absurd (text_later c input f (Machine g) tt a b)
 same_refusal c input (Text f) (MachineRanks q) a b = absurd (text_later c input f (MachineRanks q) tt a b)
-same_refusal c input (Text f) (Generator g) a b = absurd (no_input c g b a.0)
+same_refusal c input (Text f) (Generator g) a b = absurd (no_file c.source g b.1 a.0)
 same_refusal c input (Text f) (Budget t) a b = absurd (text_later c input f (Budget t) tt a b)
 same_refusal c input (File f) TooLong a b = absurd (not_long c input (File f) (λ e. cc) a b)
 same_refusal c input (File f) (Text g) a b = absurd (not_both input.schedule g f b.2 a.2)
 same_refusal c input (File f) (File g) a b = let same = same_file_fault input.schedule f g a.2 b.2 in cc
 same_refusal c input (File f) (Machine g) a b = absurd (file_later c input f (Machine g) tt a b)
 same_refusal c input (File f) (MachineRanks q) a b = absurd (file_later c input f (MachineRanks q) tt a b)
-same_refusal c input (File f) (Generator g) a b = absurd (no_input c g b a.0)
+same_refusal c input (File f) (Generator g) a b = absurd (no_file c.source g b.1 a.0)
 same_refusal c input (File f) (Budget t) a b = absurd (file_later c input f (Budget t) tt a b)
 same_refusal c input (Machine f) TooLong a b = absurd (not_long c input (Machine f) (λ e. cc) a b)
 same_refusal c input (Machine f) (Text g) a b = absurd (text_later c input g (Machine f) tt b a)
 same_refusal c input (Machine f) (File g) a b = absurd (file_later c input g (Machine f) tt b a)
-same_refusal c input (Machine f) (Machine g) a b = let same = same_fault input.schedule input.machine f g a.1 b.1 in cc
+same_refusal c input (Machine f) (Machine g) a b = let same = same_fault c input f g a.1 b.1 in cc
 same_refusal c input (Machine f) (MachineRanks q) a b = absurd (no_machine input.machine _ f b.1.said a.1.first)
-same_refusal c input (Machine f) (Generator g) a b = absurd (no_nodes c g b a.0)
+same_refusal c input (Machine f) (Generator g) a b = absurd (made_later c input g (Machine f) tt b a)
 same_refusal c input (Machine f) (Budget t) a b = absurd (machine_budget c input f t a b)
 same_refusal c input (MachineRanks p) TooLong a b = absurd (not_long c input (MachineRanks p) (λ e. cc) a b)
 same_refusal c input (MachineRanks p) (Text g) a b = absurd (text_later c input g (MachineRanks p) tt b a)
 same_refusal c input (MachineRanks p) (File g) a b = absurd (file_later c input g (MachineRanks p) tt b a)
 same_refusal c input (MachineRanks p) (Machine g) a b = absurd (no_machine input.machine _ g a.1.said b.1.first)
-same_refusal c input (MachineRanks p) (MachineRanks q) a b = let same = same_ranks input.schedule input.machine p q a.1 b.1 in cc
-same_refusal c input (MachineRanks p) (Generator g) a b = absurd (no_nodes c g b a.0)
+same_refusal c input (MachineRanks p) (MachineRanks q) a b = let same = same_ranks c input p q a.1 b.1 in cc
+same_refusal c input (MachineRanks p) (Generator g) a b = absurd (made_later c input g (MachineRanks p) tt b a)
 same_refusal c input (MachineRanks p) (Budget t) a b = absurd (ranks_budget c input p t a b)
 same_refusal c input (Generator f) TooLong a b = absurd (not_long c input (Generator f) (λ e. cc) a b)
-same_refusal c input (Generator f) (Text g) a b = absurd (no_input c f a b.0)
-same_refusal c input (Generator f) (File g) a b = absurd (no_input c f a b.0)
-same_refusal c input (Generator f) (Machine g) a b = absurd (no_nodes c f a b.0)
-same_refusal c input (Generator f) (MachineRanks q) a b = absurd (no_nodes c f a b.0)
-same_refusal c input (Generator f) (Generator g) a b = let same = same_collective c f g a b in cc
-same_refusal c input (Generator f) (Budget t) a b = absurd (no_budget c input f t a b)
+same_refusal c input (Generator f) (Text g) a b = absurd (no_file c.source f a.1 b.0)
+same_refusal c input (Generator f) (File g) a b = absurd (no_file c.source f a.1 b.0)
+same_refusal c input (Generator f) (Machine g) a b = absurd (made_later c input f (Machine g) tt a b)
+same_refusal c input (Generator f) (MachineRanks q) a b = absurd (made_later c input f (MachineRanks q) tt a b)
+same_refusal c input (Generator f) (Generator g) a b = let same = one_reason c.source f g a.1 b.1 in cc
+same_refusal c input (Generator f) (Budget t) a b = absurd (made_later c input f (Budget t) tt a b)
 same_refusal c input (Budget s) TooLong a b = absurd (not_long c input (Budget s) (λ e. cc) a b)
 same_refusal c input (Budget s) (Text g) a b = absurd (text_later c input g (Budget s) tt b a)
 same_refusal c input (Budget s) (File g) a b = absurd (file_later c input g (Budget s) tt b a)
 same_refusal c input (Budget s) (Machine g) a b = absurd (machine_budget c input g s b a)
 same_refusal c input (Budget s) (MachineRanks q) a b = absurd (ranks_budget c input q s b a)
-same_refusal c input (Budget s) (Generator g) a b = absurd (no_budget c input g s b a)
+same_refusal c input (Budget s) (Generator g) a b = absurd (made_later c input g (Budget s) tt b a)
 same_refusal c input (Budget s) (Budget t) a b = let same = same_budget c input s t a b in cc
-
--- what there is of an input says a schedule
-output_read : (c : Command) (input : Input) (sched : List Plan) → HasOutput c input sched → HasInput c → IsReadAs input.schedule sched
-output_read (Sim name numbers) input sched a has = a.read
-output_read (Waits name numbers) input sched a has = a.read
-output_read (Knots name numbers) input sched a has = a.read
-output_read (Nodes name machine) input sched a has = a.1.read.read
-output_read (Compile name out) input sched a has = a
-output_read (Show name) input sched a has = a
-output_read (Certify what name) input sched a has = a
-output_read (Gen what ranks bytes) input sched a has = cc
-output_read (Probe rounds seed numbers) input sched a has = cc
-
--- and of a machine, one that fits it
-output_machine : (c : Command) (input : Input) (sched : List Plan) → HasOutput c input sched → HasMachine c
-    → (m : Known) × AreRead input.schedule input.machine sched m
-output_machine (Sim name numbers) input sched a has = cc
-output_machine (Waits name numbers) input sched a has = cc
-output_machine (Knots name numbers) input sched a has = cc
-output_machine (Nodes name machine) input sched a has = (a.0, a.1.read)
-output_machine (Compile name out) input sched a has = cc
-output_machine (Show name) input sched a has = cc
-output_machine (Certify what name) input sched a has = cc
-output_machine (Gen what ranks bytes) input sched a has = cc
-output_machine (Probe rounds seed numbers) input sched a has = cc
-
-fits : (numbers : Numbers) (input : List ℕ) (sched : List Plan) (s : ℕ) → HasRun numbers input sched → IsOverBudget numbers input s → ⊥
-fits numbers input sched s a b =
-    let total = rw (same_schedule input _ _ b.read a.read) at b.sum_is in
-    let over = b.over in
-    let below = a.fits in
-    omega arith
-
-probe_fits : (numbers : Numbers) (rounds seed : ℕ) (sched : List Plan) (s : ℕ) → IsProbe numbers rounds seed sched
-    → IsProbeOverBudget numbers rounds seed s → ⊥
-probe_fits numbers rounds seed sched s a b =
-    let total = rw (sym a.drawn) at b.sum_is in
-    let over = b.over in
-    let below = a.fits in
-    omega arith
-
-fits_on : (m : Known) (schedule text : List ℕ) (sched : List Plan) (s : ℕ) → HasRunOn m schedule text sched → IsOverBudgetOn schedule text s → ⊥
-fits_on m schedule text sched s a b =
-    let total = rw (same_schedule schedule _ _ b.read.read a.read.read, one_machine text _ _ b.read.said a.read.said) at b.sum_is in
-    let over = b.over in
-    let below = a.fits in
-    omega arith
-
-output_fits : (c : Command) (input : Input) (sched : List Plan) (s : ℕ) → HasOutput c input sched → IsRefusedBudget c input s → ⊥
-output_fits (Sim name numbers) input sched s a b = fits numbers input.schedule sched s a b
-output_fits (Waits name numbers) input sched s a b = fits numbers input.schedule sched s a b
-output_fits (Knots name numbers) input sched s a b = fits numbers input.schedule sched s a b
-output_fits (Nodes name machine) input sched s a b = fits_on a.0 input.schedule input.machine sched s a.1 b
-output_fits (Compile name out) input sched s a b = b
-output_fits (Show name) input sched s a b = b
-output_fits (Certify what name) input sched s a b = b
-output_fits (Gen what ranks bytes) input sched s a b = b
-output_fits (Probe rounds seed numbers) input sched s a b = probe_fits numbers rounds seed sched s a b
-
--- a collective that has a schedule has no reason for none
-no_reason : (what : Collective) (ranks : ℕ) (f : GenFault) → IsPossible what ranks → IsNotMade what ranks f → ⊥
-no_reason what ranks (gen.Ranks l) a b = too_many what ranks b.first.1 (record { some_rank = a.some_rank; few_ranks = a.few_ranks })
-no_reason what ranks gen.Root a b = b.first.1 a.root
-no_reason what ranks gen.NotPowerOfTwo a b = b.first.2 a.power
-no_reason what ranks gen.NoMemory a b = b.told refl
-
-output_possible : (c : Command) (input : Input) (sched : List Plan) (f : GenFault) → HasOutput c input sched → IsRefusedCollective c f → ⊥
-output_possible (Sim name numbers) input sched f a b = b
-output_possible (Waits name numbers) input sched f a b = b
-output_possible (Knots name numbers) input sched f a b = b
-output_possible (Nodes name machine) input sched f a b = b
-output_possible (Compile name out) input sched f a b = b
-output_possible (Show name) input sched f a b = b
-output_possible (Certify what name) input sched f a b = b
-output_possible (Gen what ranks bytes) input sched f a b = no_reason what ranks f a.possible b
-output_possible (Probe rounds seed numbers) input sched f a b = b
 
 -- an input of which the command makes something is not refused
 pub no_refusal : (c : Command) (input : Input) (sched : List Plan) (r : Refusal) → HasOutput c input sched → IsRefused c input r → ⊥
 no_refusal c input sched TooLong a b =
-    short_files c input b (λ has. (output_read c input sched a has).short) (λ has. (output_machine c input sched a has).1.short)
-no_refusal c input sched (Text f) a b = no_text_fault input.schedule sched f b.2 (output_read c input sched a b.0)
-no_refusal c input sched (File f) a b = no_file_fault input.schedule sched f b.2 (output_read c input sched a b.0)
+    short_files c input b (λ has. (source_read c.source input.schedule sched a.from has).short)
+    (λ has. (costs_machine c.costs input.machine sched a.costs a.costed has).1.short)
+no_refusal c input sched (Text f) a b = no_text_fault input.schedule sched f b.2 (source_read c.source input.schedule sched a.from b.0)
+no_refusal c input sched (File f) a b = no_file_fault input.schedule sched f b.2 (source_read c.source input.schedule sched a.from b.0)
+no_refusal c input sched (Generator f) a b = no_source c.source input.schedule sched f a.from b.1
 no_refusal c input sched (Machine f) a b =
-    let k = output_machine c input sched a b.0 in
+    let k = costs_machine c.costs input.machine sched a.costs a.costed b.0 in
     no_machine input.machine k.0 f k.1.said b.1.first
 no_refusal c input sched (MachineRanks p) a b =
-    let k = output_machine c input sched a b.0 in
-    misfit_read input.schedule input.machine sched k.0 p k.1 b.1
-no_refusal c input sched (Generator f) a b = output_possible c input sched f a b
+    let k = costs_machine c.costs input.machine sched a.costs a.costed b.0 in
+    misfit_read c input sched k.0 p a.from k.1 b.1
 no_refusal c input sched (Budget s) a b = output_fits c input sched s a b
-
--- nor one for which there is an output
-pub output_had : (c : Command) (input : Input) (output : List ℕ) (e : Ending) → IsOutput c input output e → (sched : List Plan) × HasOutput c input sched
-output_had (Sim name numbers) input output e a = (a.sched, a.schedule)
-output_had (Waits name numbers) input output e a = (a.sched, a.schedule)
-output_had (Knots name numbers) input output e a = (a.sched, a.schedule)
-output_had (Nodes name machine) input output e a = (a.sched, (a.known, a.runs))
-output_had (Compile name out) input output e a = (a.0.sched, a.0.read)
-output_had (Show name) input output e a = (a.0.sched, a.0.read)
-output_had (Certify what name) input output e a = (a.sched, a.read)
-output_had (Gen what ranks bytes) input output e a = (a.0.sched, a.0.is_made)
-output_had (Probe rounds seed numbers) input output e a = (a.sched, a.schedule)

@@ -1,19 +1,22 @@
 -- What each answer of `goal` says of the call, and what `err` gets.
-use Rattle.std.specs.Prelude.{ℕ, ◌+◌, ◌≡◌, ◌⊎◌, Bool, false, List, [], ◌++◌, take, Option, Some, None, IsSomeAnd, IfSome, codes}
+use Rattle.std.specs.Prelude.{ℕ, ◌+◌, ◌≡◌, ◌⊎◌, Bool, true, false, List, [], ◌++◌, take, Option, Some, None, IsSomeAnd, IfSome, codes}
 use Rattle.goal_base.specs.Text.{line_feed}
 use Rattle.goal_base.specs.declared.limits.TheConstants.{MAX_INPUT}
-use Rattle.goal_base.specs.Device.{HostState, SinkState, Rose, Held, KeepsFiles, KeepsReading, SameRest, ReadsAtMost, SameReadCounts, Holds, HoldsPart, Grows, ReadFaulted}
+use Rattle.goal_base.specs.Device.{HostState, SinkState, Rose, Held, KeepsFiles, KeepsReading, SameRest, ReadsAtMost, SameReadCounts, Holds, HoldsPart, Grows, ReadFaulted, IsTooLong}
 use Rattle.goal_graph.specs.Schedule.{Plan}
 use Rattle.sim_params.specs.Costs.{CostModel}
 use Rattle.goal_input.specs.Unread.{ForFile, IfFile}
-use Rattle.goal_words.specs.Words.{Command, Sim, Waits, Knots, Nodes, Compile, Show, Gen, Certify, Probe}
+use Rattle.goal_words.specs.declared.sentence.View.{View}
+use Rattle.goal_words.specs.declared.sentence.View.TheVariants as view
+use Rattle.goal_words.specs.Words.{Command}
+use Rattle.goal_views.specs.Views.{IsPrintedRun}
 use Rattle.goal_cli.specs.declared.answer.Answer.{Answer}
 use Rattle.goal_cli.specs.declared.answer.Answer.TheVariants as answer
 use Rattle.goal_cli.specs.declared.answer.Ending.{Ending}
 use Rattle.goal_cli.specs.declared.answer.Ending.TheVariants as ending
 use Rattle.goal_cli.specs.declared.answer.Status.{Status}
 use Rattle.goal_cli.specs.declared.answer.Status.TheVariants as status
-use Rattle.goal_cli.specs.Output.{input_of, machine_of, Input, input_with, IsPrintedRun, ending_if, IsOutput, MayEnd, IsRefused}
+use Rattle.goal_cli.specs.Output.{input_of, machine_of, Input, input_with, ending_if, IsOutput, MayEnd, IsRefused}
 use Rattle.goal_cli.specs.Refusal.{refused_line}
 use Rattle.goal_cli.specs.World.{Devices, World, but_err}
 
@@ -56,6 +59,12 @@ IfInput command host P = IfSome command (λ c. IfRead host c (P c))
 abbrev pub ReadsFaulted : HostState → HostState → Command → Type 0
 ReadsFaulted old new c = IsSomeAnd (input_of c) (ReadFaulted old new) ⊎ IsSomeAnd (machine_of c) (ReadFaulted old new)
 
+-- Where the host tells its files, that of this name was read to its end, or has more bytes than an input may have. Without a name
+-- nothing is asked.
+abbrev pub IsReadOut : HostState → HostState → Option (List ℕ) → Type 0
+IsReadOut old new None = Unit {0}
+IsReadOut old new (Some name) = old.tells ≡ true → (new.rest ≡ []) ⊎ IsTooLong old name
+
 -- the sink got a prefix of these bytes
 abbrev pub GrowsByPart : SinkState → SinkState → List ℕ → Type 0
 GrowsByPart old new bytes = (n : ℕ) × Grows old new (take n bytes)
@@ -75,16 +84,14 @@ pub data Target : Type 0 where
   ToOut : Target
   ToFile : List ℕ → Target
 
+abbrev pub goes_to : View → Target
+goes_to (view.Run how) = ToOut
+goes_to view.Text = ToOut
+goes_to (view.File name) = ToFile name
+goes_to (view.Verdict what) = ToOut
+
 abbrev pub target_of : Command → Target
-target_of (Sim name numbers) = ToOut
-target_of (Waits name numbers) = ToOut
-target_of (Knots name numbers) = ToOut
-target_of (Nodes name machine) = ToOut
-target_of (Compile name out) = ToFile out
-target_of (Show name) = ToOut
-target_of (Gen what ranks bytes) = ToOut
-target_of (Certify what name) = ToOut
-target_of (Probe rounds seed numbers) = ToOut
+target_of c = goes_to c.view
 
 -- The devices are given before and after the call.
 module _ (old new : Devices) where
@@ -117,9 +124,10 @@ module _ (old new : Devices) where
   WritesSame ToOut = new.out.count ≡ old.out.count
   WritesSame (ToFile name) = (new.host.write_count ≡ old.host.write_count) × (new.host.writing ≡ false)
 
-  -- where the command has an input, the count of faults of reading didn't rise
+  -- where the command reads a file, the count of faults of reading didn't rise
   abbrev pub InputHeld : Command → Type 0
-  InputHeld c = IfSome (input_of c) (λ name. ReadsHeld old.host new.host)
+  InputHeld c =
+      IfSome (input_of c) (λ name. ReadsHeld old.host new.host) × IfSome (machine_of c) (λ name. ReadsHeld old.host new.host)
 
   -- what the command makes of the input was written, whole or in part
   abbrev pub GetsOutput : Ending → Command → Input → Type 0
@@ -152,12 +160,14 @@ module _ (old new : Devices) where
     pub reads : SameReadCounts old.host new.host
     pub elsewhere : Elsewhere (target_of c)
 
-  -- The table of causes: what is so where a command leads to an answer.
+  -- The table of causes: what is so where a command leads to an answer. A command with a machine refuses nothing before that is read
+  -- to its end, also where its other file is too long.
   abbrev pub IsCauseOf : Command → Answer → Type 0
   IsCauseOf c (answer.Written e) = IsWritten e c
   IsCauseOf c answer.BadLine = ⊥
   IsCauseOf c (answer.Refused r) =
       ForRead old.host c (λ input. IsRefused c input r) × SameReadCounts old.host new.host × IsUntouched
+      × IsReadOut old.host new.host (machine_of c)
   IsCauseOf c answer.ReadFault = ReadsFaulted old.host new.host c × IsUntouched
   IsCauseOf c answer.WriteFault = IsCutOff c × WritesRose (target_of c)
   IsCauseOf c answer.NoMemory = IsUntouched ⊎ IsCutOff c
@@ -223,19 +233,16 @@ pub record Says (old new : SinkState) (line : List ℕ) : Type 0 where
 -- a sink got the line of an answer; nothing for an output that was written whole
 abbrev pub IsTold : SinkState → SinkState → Answer → Type 0
 IsTold old new (answer.Written e) = new ≡ old
-IsTold old new answer.NoMemory = GrowsByPart old new (line_for answer.NoMemory)
 IsTold old new a = Says old new (line_for a)
 
 -- want of memory cut the line off: the sink got a prefix of it, and counted no fault
 abbrev pub IsCutShort : SinkState → SinkState → List ℕ → Type 0
 IsCutShort old new line = GrowsByPart old new line × (new.count ≡ old.count)
 
--- The status is that of the answer, and the sink got its line. Or it is want of memory, which cut that line off, or came
--- before it, and then the sink got a prefix of the line of want of memory.
+-- The status is that of the answer, and the sink got its line: a fault that the sink counts cuts the line off, and never changes
+-- the status. Or it is the sink's own want of memory, which cut that line off, and then the sink counted no fault.
 abbrev pub IsAnswered : SinkState → SinkState → Answer → Status → Type 0
-IsAnswered old new a s =
-    ((s ≡ status_of a) × IsTold old new a)
-    ⊎ ((s ≡ status.NoMemory) × (IsCutShort old new (line_for a) ⊎ GrowsByPart old new (line_for answer.NoMemory)))
+IsAnswered old new a s = ((s ≡ status_of a) × IsTold old new a) ⊎ ((s ≡ status.NoMemory) × IsCutShort old new (line_for a))
 
 -- There is an answer whose cause holds, and the status and what `err` got are that answer's.
 pub record Answered (command : Option Command) (old new : World) (result : Status) : Type 0 where
@@ -244,10 +251,12 @@ pub record Answered (command : Option Command) (old new : World) (result : Statu
   pub told : IsAnswered old.err new.err answer result
 
 -- Of a file that a command reads at most a byte more than an input may have is taken. The host has one open input: it is as it
--- was, or what is left of the file that was opened last. Without an input nothing is asked of what can be read: the input that
--- was open is as it was, and nothing was counted.
+-- was, or what is left of the file that was opened last. So where a machine is open, this says nothing of what was taken of the
+-- schedule's file before; `read_schedule` says it of its own call. Without a file nothing is asked of what can be read: the input
+-- that was open is as it was, and nothing was counted.
 abbrev pub IsTakenOf : Option (List ℕ) → Option (List ℕ) → HostState → HostState → Type 0
-IsTakenOf None machine old new = KeepsReading old new
+IsTakenOf None None old new = KeepsReading old new
+IsTakenOf None (Some name) old new = SameRest old new ⊎ ReadsAtMost old new name (MAX_INPUT + 1)
 IsTakenOf (Some name) machine old new =
     SameRest old new ⊎ ReadsAtMost old new name (MAX_INPUT + 1) ⊎ IsSomeAnd machine (λ other. ReadsAtMost old new other (MAX_INPUT + 1))
 

@@ -1,12 +1,12 @@
 -- What a reader must believe.
 pub mod World
 pub mod Verdict
-pub mod Probe
 pub mod Output
 pub mod Refusal
 pub mod Answer
 -- What only the code keeps.
 pub mod Unmade
+pub mod Stop
 pub mod Pages
 -- Laws.
 pub mod CertifiedRuns
@@ -19,8 +19,8 @@ pub use Rattle.goal_graph.specs.Schedule
 pub use Rattle.goal_input.specs.Input
 pub use Rattle.goal_input.specs.Unread
 pub use Rattle.goal_print.specs.Canonical
+pub use Rattle.goal_views.specs.Views
 pub use Rattle.goal_words.specs.Words
-pub use Rattle.sim_events.specs.Engine
 pub use Rattle.sim_classes.specs.Form
 pub use Rattle.sim_classes.specs.Machine
 pub use Rattle.sim_params.specs.Budget

@@ -1,5 +1,5 @@
 -- What an output is that is made page by page.
-use Rattle.std.specs.Prelude.{ℕ, ◌≡◌, ◌++◌, List, []}
+use Rattle.std.specs.Prelude.{ℕ, ◌≡◌, ◌++◌, List, [], drop}
 use Rattle.goal_cli.specs.declared.pages.Output.{Output}
 use Rattle.goal_cli.specs.declared.pages.Pages.{Pages}
 use Rattle.goal_cli.specs.declared.pages.Pages.TheVariants as pages
@@ -12,11 +12,18 @@ left_of (pages.Run lines) = lines
 left_of (pages.RunOn lines) = lines
 left_of (pages.Blocks blocks) = blocks
 
--- the text of an output: its head, its pages and its tail
+-- what is made of an output and still to come; what is not made yet
+abbrev pub made_of : Output → List ℕ
+made_of o = drop o.done o.piece.items
+
+abbrev pub behind : Output → List ℕ
+behind o = left_of o.pages ++ o.tail.items
+
+-- the text of an output, as far as it is still to come
 abbrev pub text_of : Output → List ℕ
-text_of o = o.head.items ++ left_of o.pages ++ o.tail.items
+text_of o = made_of o ++ behind o
 
 -- what goes to a file is made whole
 abbrev pub Suits : Target → Output → Type 0
 Suits ToOut o = Unit {0}
-Suits (ToFile name) o = text_of o ≡ o.head.items
+Suits (ToFile name) o = text_of o ≡ made_of o

@@ -1,13 +1,14 @@
--- What is so where a command has nothing to work on, while its files are read.
+-- What is so where a command has nothing to work on, while its files are read; and while an answer is told.
 use Rattle.std.specs.Prelude.{ℕ, ◌+◌, ◌≡◌, ◌≤◌, ◌⊎◌, true, List, [], length, Option, Some, None, IsSomeAnd}
 use Rattle.goal_base.specs.declared.limits.TheConstants.{MAX_INPUT}
-use Rattle.goal_base.specs.Device.{HostState, SameReadCounts, KeepsReading, SameRest, ReadsAtMost, ReadFaulted, IsTooLong, file_of}
+use Rattle.goal_base.specs.Device.{HostState, SinkState, SameReadCounts, KeepsReading, SameRest, ReadsAtMost, ReadFaulted, IsTooLong, file_of}
 use Rattle.goal_words.specs.Words.{Command}
 use Rattle.goal_cli.specs.declared.answer.Answer.{Answer}
 use Rattle.goal_cli.specs.declared.answer.Answer.TheVariants as answer
 use Rattle.goal_cli.specs.declared.answer.Refusal.TheVariants as refusal
-use Rattle.goal_cli.specs.Output.{input_of, input_with, IsRefused}
-use Rattle.goal_cli.specs.Answer.{ForNamed, ForRead, ReadsFaulted}
+use Rattle.goal_cli.specs.Output.{input_of, machine_of, input_with, IsRefused}
+use Rattle.goal_cli.specs.declared.answer.Status.{Status}
+use Rattle.goal_cli.specs.Answer.{ForNamed, ForRead, ReadsFaulted, IsReadOut, IsAnswered}
 
 -- why there is no schedule, whatever the machine is, as long as that is not too long; want of memory is free
 abbrev pub IsUnmade : HostState → HostState → Command → Answer → Type 0
@@ -28,7 +29,7 @@ IsUntold old new o _ = ⊥
 -- why there is nothing to work on
 abbrev pub IsIdle : HostState → HostState → Command → Answer → Type 0
 IsIdle old new c answer.ReadFault = ReadsFaulted old new c
-IsIdle old new c (answer.Refused r) = ForRead old c (λ input. IsRefused c input r) × SameReadCounts old new
+IsIdle old new c (answer.Refused r) = ForRead old c (λ input. IsRefused c input r) × SameReadCounts old new × IsReadOut old new (machine_of c)
 IsIdle old new c answer.NoMemory = Unit {0}
 IsIdle old new c _ = ⊥
 
@@ -41,3 +42,8 @@ IsGot host (Some name) bytes = host.tells ≡ true → file_of host name ≡ Som
 abbrev pub IsTakenFrom : HostState → HostState → Option (List ℕ) → Type 0
 IsTakenFrom old new None = KeepsReading old new
 IsTakenFrom old new (Some name) = SameRest old new ⊎ ReadsAtMost old new name (MAX_INPUT + 1)
+
+-- the answer was told, or want of memory, where there was none for the words of a refusal
+abbrev pub IsToldOr : SinkState → SinkState → Answer → Status → Type 0
+IsToldOr old new (answer.Refused r) s = IsAnswered old new (answer.Refused r) s ⊎ IsAnswered old new answer.NoMemory s
+IsToldOr old new a s = IsAnswered old new a s

@@ -5,21 +5,23 @@ ghost use Rattle.goal_graph.specs.Schedule.{Plan};
 ghost use Rattle.sim_params.specs.Costs.{Numbers, log_gops};
 ghost use Rattle.goal_input.specs.Unread.{IfFile};
 ghost use Rattle.sim_classes.specs.Machine.{Known, costs_of};
-ghost use Rattle.goal_words.specs.Words.{Sim, Nodes, command, command_in, IsSized};
-ghost use Rattle.goal_cli.specs.Answer.{IfInput, GrowsByPart, ReadsHeld, InputHeld, target_of, Gets, GetsPart, Elsewhere, WritesRose, WritesHeld, WritesSame, AnswersWhole, PrintsRun, IsCauseOf, IsCause, AnswersWith, Says, IsCutShort, IsAnswered, Answered, IsTaken};
+ghost use Rattle.goal_words.specs.Words.{Sim, Nodes, command_in, said, IsSized, IsPriced};
+ghost use Rattle.goal_cli.specs.Answer.{IfInput, GrowsByPart, ReadsHeld, InputHeld, goes_to, target_of, Gets, GetsPart, Elsewhere, WritesRose, WritesHeld, WritesSame, AnswersWhole, PrintsRun, IsCauseOf, IsCause, AnswersWith, Says, IsCutShort, Answered, IsTaken};
 ghost use Rattle.goal_cli.specs.World.{devices, world, DevicesLater, WorldLater};
 ghost use Rattle.goal_cli.specs.Output.{HasOutput, HasRun, HasRunOn, IsRefused};
 ghost use Rattle.goal_cli.specs.Pages.{text_of, Suits};
+ghost use Rattle.goal_cli.specs.Unmade.{IsToldOr};
 ghost use Rattle.goal_cli.specs.Refusal.{refused_line};
 ghost use Rattle.goal_cli.specs.declared.answer.Refusal.{Refusal};
 
 use crate::answer::{Answer, Ending, Status};
 use crate::output::{Stop, output_of};
-use crate::pages::{Output, let_go, print_output};
+use crate::pages::Output;
+use crate::printing::{let_go, print_output};
 use crate::refusal::refused_line;
 use crate::source::gather;
 use goal_base::{Host, IoFault, NoMemory, Sink, write_all, write_file};
-use goal_words::{Line, LineFault, read_words};
+use goal_words::{LineFault, Sentence, View, read_words};
 use std::alloc::Global;
 
 const BAD_LINE: &[u8] = b"goal: the words are not a command line of goal\n";
@@ -107,32 +109,38 @@ fn carry_out<H: Host, W: Sink>(alloc: Global, words: &[String], host: &mut H, ou
         (devices (H.state host.new) (W.state out.new)) }
 {
     match read_words(alloc, words) {
-        Ok(line) => carry_out_line(alloc, &line, host, out),
+        Ok(line) => carry_out_sentence(alloc, &Sentence::of(line), host, out),
         Err(LineFault::Bad) => Answer::BadLine,
         Err(LineFault::NoMemory) => Answer::NoMemory,
     }
 }
 
-// The answer to a command line.
-fn carry_out_line<H: Host, W: Sink>(alloc: Global, line: &Line, host: &mut H, out: &mut W) -> Answer
-    requires { IsSized (command line.now) }
+// The answer to the sentence of a command line.
+fn carry_out_sentence<H: Host, W: Sink>(
+    alloc: Global,
+    sentence: &Sentence,
+    host: &mut H,
+    out: &mut W,
+) -> Answer
+    requires sized { IsSized (said sentence.now) }
+    requires priced { IsPriced (said sentence.now) }
     ensures cause { IsCauseOf (devices (H.state host.old) (W.state out.old))
-        (devices (H.state host.new) (W.state out.new)) (command line.now) result }
-    ensures taken { IsTaken (Some (command line.now)) (H.state host.old) (H.state host.new) }
+        (devices (H.state host.new) (W.state out.new)) (said sentence.now) result }
+    ensures taken { IsTaken (Some (said sentence.now)) (H.state host.old) (H.state host.new) }
     ensures later { DevicesLater (devices (H.state host.old) (W.state out.old))
         (devices (H.state host.new) (W.state out.new)) }
 {
-    let work = match gather(alloc, host, line) {
+    let work = match gather(alloc, host, sentence) {
         Ok(work) => work,
         Err(answer) => return answer,
     };
-    let mut output = match output_of(alloc, line, &work.sched, &work.machine) {
+    let mut output = match output_of(alloc, sentence, &work.sched, &work.machine) {
         Ok(output) => output,
         Err(Stop::Refused(refusal)) => return Answer::Refused(refusal),
         Err(Stop::NoMemory) => return Answer::NoMemory,
     };
     let ending = output.ending;
-    let written = put(alloc, line, host, out, &mut output);
+    let written = put(alloc, &sentence.view, host, out, &mut output);
     let_go(output);
     match written {
         Ok(()) => Answer::Written(ending),
@@ -144,35 +152,28 @@ fn carry_out_line<H: Host, W: Sink>(alloc: Global, line: &Line, host: &mut H, ou
 // Writes the output of a command, to where it goes.
 fn put<H: Host, W: Sink>(
     alloc: Global,
-    line: &Line,
+    view: &View,
     host: &mut H,
     out: &mut W,
     output: &mut Output<'_>,
 ) -> Result<(), IoFault>
-    requires suits { Suits (target_of (command line.now)) output.old }
+    requires suits { Suits (goes_to view.now) output.old }
     ensures whole { let old = devices (H.state host.old) (W.state out.old) in
         let new = devices (H.state host.new) (W.state out.new) in
-        OnOk result (Gets old new (target_of (command line.now)) (text_of output.old) × WritesSame old new (target_of (command line.now))) }
+        OnOk result (Gets old new (goes_to view.now) (text_of output.old) × WritesSame old new (goes_to view.now)) }
     ensures part { OnErr result (GetsPart (devices (H.state host.old) (W.state out.old))
-        (devices (H.state host.new) (W.state out.new)) (target_of (command line.now)) (text_of output.old)) }
+        (devices (H.state host.new) (W.state out.new)) (goes_to view.now) (text_of output.old)) }
     ensures rose { IsErrOf result IoFault.Failed → WritesRose (devices (H.state host.old) (W.state out.old))
-        (devices (H.state host.new) (W.state out.new)) (target_of (command line.now)) }
+        (devices (H.state host.new) (W.state out.new)) (goes_to view.now) }
     ensures elsewhere { Elsewhere (devices (H.state host.old) (W.state out.old))
-        (devices (H.state host.new) (W.state out.new)) (target_of (command line.now)) }
+        (devices (H.state host.new) (W.state out.new)) (goes_to view.now) }
     ensures kept { KeepsReading (H.state host.old) (H.state host.new) }
     ensures later { DevicesLater (devices (H.state host.old) (W.state out.old))
         (devices (H.state host.new) (W.state out.new)) }
 {
-    match line {
-        Line::Sim { .. } => print_output(alloc, out, output),
-        Line::Waits { .. } => print_output(alloc, out, output),
-        Line::Knots { .. } => print_output(alloc, out, output),
-        Line::Nodes { .. } => print_output(alloc, out, output),
-        Line::Compile { out: name, .. } => write_file(host, name.as_str(), &output.head),
-        Line::Show { .. } => print_output(alloc, out, output),
-        Line::Gen { .. } => print_output(alloc, out, output),
-        Line::Certify { .. } => print_output(alloc, out, output),
-        Line::Probe { .. } => print_output(alloc, out, output),
+    match view {
+        View::File(name) => write_file(host, name.as_str(), output.made()),
+        View::Run(_) | View::Text | View::Verdict(_) => print_output(alloc, out, output),
     }
 }
 
@@ -193,7 +194,7 @@ fn say<E: Sink>(err: &mut E, line: &[u8], status: Status) -> Status
 
 // Says an answer to `err`, and gives its status.
 fn tell<E: Sink>(alloc: Global, err: &mut E, answer: Answer) -> Status
-    ensures answered { IsAnswered (E.state err.old) (E.state err.new) answer result }
+    ensures answered { IsToldOr (E.state err.old) (E.state err.new) answer result }
     ensures later { SinkLater (E.state err.old) (E.state err.new) }
 {
     match answer {

@@ -7,10 +7,11 @@ ghost use Rattle.sim_classes.specs.Machine.{Known, numbers_of};
 ghost use Rattle.sim_classes.specs.Form.{machine};
 ghost use Rattle.goal_words.specs.Words.{Command, Sim, Nodes, Compile};
 ghost use Rattle.goal_input.specs.Input.{IsReadAs};
-ghost use Rattle.goal_cli.specs.Output.{Input, IsCertify, IsPrintedRun, IsSameMachine, IsOutput, IsRefused};
+ghost use Rattle.goal_cli.specs.Output.{Input, IsCertify, IsSameMachine, IsOutput, IsRefused};
+ghost use Rattle.goal_views.specs.Views.{IsPrintedRun};
 ghost use Rattle.goal_cli.specs.Refusal.{refused_line};
 ghost use Rattle.goal_cli.specs.World.{World, but_err};
-ghost use Rattle.goal_cli.specs.Answer.{input_in, machine_in, target_of, ForRead, ForInput, ReadsFaulted, GrowsByPart, Elsewhere, WritesRose, GetsPartOfOutput, IsUntouched, IsWritten, IsCause, line_for, Answers, IsSilent, line_at, Says, Answered};
+ghost use Rattle.goal_cli.specs.Answer.{input_in, machine_in, target_of, ForRead, ForInput, ReadsFaulted, IsReadOut, GrowsByPart, Elsewhere, WritesRose, GetsPartOfOutput, IsUntouched, IsWritten, IsCause, line_for, status_of, Answers, IsSilent, line_at, Says, Answered};
 ghost use Rattle.goal_cli.specs.declared.answer.Answer.{Answer};
 ghost use Rattle.goal_cli.specs.declared.answer.Ending.{Ending};
 ghost use Rattle.goal_cli.specs.declared.answer.Refusal.{Refusal};
@@ -49,13 +50,15 @@ pub fn laws_of_outputs()
 /// - `bad_line`, `bad_line_exact`: the words are no command line.
 /// - `read_fault`, `read_risen`, `absent_risen`, `absent_name`, `absent_machine`: the host failed, or has no file NAME, or for
 ///   `nodes` no file MACHINE. Only a command with an input comes to it.
-/// - `refused`: the command refuses its input or its words, and `err` gets the words of the refusal.
+/// - `refused`: the command refuses its input or its words, and `err` gets the words of the refusal. `machine_read`: by then a
+///   machine was read to its end.
 /// - `write_fault`, `write_risen`, `file_risen`: writing failed, after a part of the output.
 /// - `done`, `stuck`, `not_certified`: the output was written whole, `stuck` for a run with an operation that has no end,
 ///   `not_certified` for a fault of certification, and no output is left open. `only_certify`: only `certify` ends so.
 /// - `part`, `silent`, `elsewhere`: at most a part of the output is written, and nothing where there is none. Where the
 ///   command doesn't write, nothing changes: no command but `compile` changes a file, and it changes none but OUT.
-/// - `says`, `says_nothing`, `says_part`: `err` gets the line of the status.
+/// - `says`, `says_nothing`, `says_part`: `err` gets the line of the status. `says_failed`: where `err` counted a fault, the status
+///   is still that of an answer whose cause holds, and `err` got a part of its line.
 pub fn laws_of_answers()
     ensures bad_line { (command : Option Command) (old new : World) (result : Status) → Answered command old new result
         → result ≡ Status.BadLine → command ≡ None }
@@ -78,6 +81,8 @@ pub fn laws_of_answers()
         → result ≡ Status.Refused → (refusal : Refusal)
         × ForInput command old.host (λ c input. IsRefused c input refusal)
         × Says old.err new.err (refused_line refusal) }
+    ensures machine_read { (command : Option Command) (old new : World) (result : Status) → Answered command old new result
+        → result ≡ Status.Refused → IsReadOut old.host new.host (machine_in command) }
     ensures write_fault { (command : Option Command) (old new : World) (result : Status) → Answered command old new result
         → result ≡ Status.WriteFault → IsSomeAnd command (λ c. WritesRose (but_err old) (but_err new) (target_of c)
         × ForRead old.host c (GetsPartOfOutput (but_err old) (but_err new) c)) }
@@ -107,4 +112,7 @@ pub fn laws_of_answers()
     ensures says_part { (command : Option Command) (old new : World) (result : Status) → Answered command old new result
         → result ≡ Status.NoMemory → (answer : Answer)
         × IsCause (but_err old) (but_err new) command answer × GrowsByPart old.err new.err (line_for answer) }
+    ensures says_failed { (command : Option Command) (old new : World) (result : Status) → Answered command old new result
+        → old.err.count < new.err.count → (answer : Answer)
+        × IsCause (but_err old) (but_err new) command answer × (result ≡ status_of answer) × GrowsByPart old.err new.err (line_for answer) }
 {}

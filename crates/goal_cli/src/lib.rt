@@ -13,7 +13,7 @@ mod command;
 mod laws;
 mod output;
 mod pages;
-mod probe;
+mod printing;
 mod refusal;
 mod source;
 #[cfg(test)]

@@ -1,24 +1,27 @@
 // What a command writes, page by page: a page is made once the one before it is written, so that none of them stays in memory.
-ghost use Rattle.std.specs.Prelude.{◌≡◌, ◌++◌, [], IfOk, OnOk, OnErr, IsErrOf};
-ghost use Rattle.goal_base.specs.Device.{Rose, SinkLater, Grows};
-ghost use Rattle.goal_cli.specs.Answer.{GrowsByPart};
-ghost use Rattle.goal_cli.specs.Pages.{left_of, text_of};
+ghost use Rattle.std.specs.Prelude.{◌≡◌, ◌++◌, ◌<◌, ◌≤◌, [], length, unwrap_or, IfOk, OnOk};
 
 use crate::answer::Ending;
-use goal_base::{IoFault, NoMemory, Sink, write_all};
+use goal_base::NoMemory;
 use goal_print::Blocks;
 use sim_classes::Machine;
 use sim_params::LogGops;
 use sim_timeline::Lines;
 use std::alloc::Global;
 
-// What a command writes: a head, then pages, then a tail.
+// So many bytes go to a sink at once, and the rest of a text at its end: a text that is no longer goes at once.
+pub const PAGE: usize = 65_536;
+
+// What a command writes, as far as it is still to come: the rest of a piece that is made, then pages, then a tail.
 #[derive(Drop)]
 pub struct Output<'a> {
-    pub head: Vec<u8>,
-    pub pages: Pages<'a>,
-    pub tail: Vec<u8>,
+    piece: Vec<u8>,
+    // so many bytes of the piece have been handed out
+    done: usize,
+    pages: Pages<'a>,
+    tail: Vec<u8>,
     pub ending: Ending,
+    ghost within: { done ≤ length piece.items },
 }
 
 // The pages that are still to come.
@@ -42,22 +45,41 @@ pub struct Whole {
 }
 
 impl Whole {
-    // The same as a head alone.
+    ghost use Rattle.goal_cli.specs.Pages.{made_of, text_of};
+
+    // The same as an output.
     pub fn into_output<'a>(self, alloc: Global) -> Output<'a>
         ensures text { text_of result ≡ self.bytes.items }
-        ensures head { result.head.items ≡ self.bytes.items }
+        ensures made { made_of result ≡ self.bytes.items }
         ensures ending { result.ending ≡ self.ending }
     {
-        Output {
-            head: self.bytes,
-            pages: Pages::None,
-            tail: Vec::new(alloc),
-            ending: self.ending,
-        }
+        Output::new(self.bytes, Pages::None, Vec::new(alloc), self.ending)
     }
 }
 
 impl<'a> Pages<'a> {
+    ghost use Rattle.goal_cli.specs.Pages.{left_of};
+
+    // The lines of a run, where there are any.
+    pub fn of_run(lines: Option<Lines<'a, LogGops>>) -> Pages<'a>
+        ensures { left_of result ≡ unwrap_or lines.entry [] }
+    {
+        match lines {
+            Some(lines) => Pages::Run(lines),
+            None => Pages::None,
+        }
+    }
+
+    // The same of a run on a machine.
+    pub fn of_run_on(lines: Option<Lines<'a, Machine>>) -> Pages<'a>
+        ensures { left_of result ≡ unwrap_or lines.entry [] }
+    {
+        match lines {
+            Some(lines) => Pages::RunOn(lines),
+            None => Pages::None,
+        }
+    }
+
     // The next page, an empty one where nothing is left.
     fn next_page(&mut self, alloc: Global) -> Result<Vec<u8>, NoMemory>
         ensures page { IfOk result (λ page. left_of self.old ≡ page.items ++ left_of self.new) }
@@ -72,70 +94,66 @@ impl<'a> Pages<'a> {
     }
 }
 
-// Gives back the memory of an output. A function of its own keeps what goes here out of the proofs of its callers.
-pub fn let_go(output: Output<'_>) {
-    let _output = output;
-}
+impl<'a> Output<'a> {
+    ghost use Rattle.goal_cli.specs.Pages.{left_of, made_of, behind, text_of};
 
-// Writes bytes to a sink.
-fn print<W: Sink>(out: &mut W, bytes: &[u8]) -> Result<(), IoFault>
-    ensures whole { OnOk result (Grows (W.state out.old) (W.state out.new) bytes.now) }
-    ensures same { OnOk result ((W.state out.new).count ≡ (W.state out.old).count) }
-    ensures part { OnErr result (GrowsByPart (W.state out.old) (W.state out.new) bytes.now) }
-    ensures rose { IsErrOf result IoFault.Failed
-        → Rose (W.state out.old).stops (W.state out.old).count (W.state out.new).count }
-    ensures later { SinkLater (W.state out.old) (W.state out.new) }
-{
-    match write_all(out, bytes) {
-        Ok(()) => Ok(()),
-        Err(stop) => Err(stop.why),
+    // A head, then pages, then a tail.
+    pub fn new(head: Vec<u8>, pages: Pages<'a>, tail: Vec<u8>, ending: Ending) -> Output<'a>
+        ensures text { text_of result ≡ head.items ++ (left_of pages.entry ++ tail.items) }
+        ensures made { made_of result ≡ head.items }
+        ensures ending { result.ending ≡ ending }
+    {
+        Output {
+            piece: head,
+            done: 0,
+            pages,
+            tail,
+            ending,
+        }
     }
-}
 
-// Writes pages to a sink, each as it comes.
-fn print_pages<W: Sink>(alloc: Global, out: &mut W, pages: &mut Pages<'_>) -> Result<(), IoFault>
-    ensures whole { OnOk result (Grows (W.state out.old) (W.state out.new) (left_of pages.old)) }
-    ensures same { OnOk result ((W.state out.new).count ≡ (W.state out.old).count) }
-    ensures part { OnErr result (GrowsByPart (W.state out.old) (W.state out.new) (left_of pages.old)) }
-    ensures rose { IsErrOf result IoFault.Failed
-        → Rose (W.state out.old).stops (W.state out.old).count (W.state out.new).count }
-    ensures later { SinkLater (W.state out.old) (W.state out.new) }
-{
-    'pages: loop {
-        let page = match pages.next_page(alloc) {
-            Ok(page) => page,
-            Err(NoMemory) => return Err(IoFault::NoMemory),
-        };
+    // What is made of it and still to come.
+    pub fn made(&self) -> &[u8]
+        ensures { result.now ≡ made_of self.now }
+    {
+        &self.piece[self.done..]
+    }
+
+    // The next piece, an empty one where nothing is left. It is taken once nothing is left of the piece before.
+    fn next_piece(&mut self, alloc: Global) -> Result<(), NoMemory>
+        requires used { made_of self.old ≡ [] }
+        ensures text { OnOk result (text_of self.new ≡ text_of self.old) }
+        ensures behind { OnOk result (behind self.old ≡ made_of self.new ++ behind self.new) }
+        ensures end { OnOk result (made_of self.new ≡ [] → behind self.old ≡ []) }
+    {
+        let page = self.pages.next_page(alloc)?;
         if page.is_empty() {
-            return Ok(());
+            self.piece = std::mem::replace(&mut self.tail, Vec::new(alloc));
+        } else {
+            self.piece = page;
         }
-        match print(out, &page) {
-            Ok(()) => {}
-            Err(fault) => return Err(fault),
-        }
+        self.done = 0;
+        Ok(())
     }
-}
 
-// Writes an output to a sink. Its pages go.
-pub fn print_output<W: Sink>(
-    alloc: Global,
-    out: &mut W,
-    output: &mut Output<'_>,
-) -> Result<(), IoFault>
-    ensures whole { OnOk result (Grows (W.state out.old) (W.state out.new) (text_of output.old)) }
-    ensures same { OnOk result ((W.state out.new).count ≡ (W.state out.old).count) }
-    ensures part { OnErr result (GrowsByPart (W.state out.old) (W.state out.new) (text_of output.old)) }
-    ensures rose { IsErrOf result IoFault.Failed
-        → Rose (W.state out.old).stops (W.state out.old).count (W.state out.new).count }
-    ensures later { SinkLater (W.state out.old) (W.state out.new) }
-{
-    match print(out, &output.head) {
-        Ok(()) => {}
-        Err(fault) => return Err(fault),
+    // Makes a page of what is still to come: a full one, or the last.
+    pub fn fill(&mut self, alloc: Global, page: &mut Vec<u8>) -> Result<(), NoMemory>
+        ensures page { OnOk result (text_of self.old ≡ page.new.items ++ text_of self.new) }
+        ensures last { OnOk result (length page.new.items < PAGE → text_of self.new ≡ []) }
+    {
+        page.clear();
+        'pieces: loop {
+            let made = self.made();
+            let count = made.len().min(PAGE - page.len());
+            page.extend_from_slice(&made[..count])?;
+            self.done += count;
+            if page.len() == PAGE {
+                return Ok(());
+            }
+            self.next_piece(alloc)?;
+            if self.made().is_empty() {
+                return Ok(());
+            }
+        }
     }
-    match print_pages(alloc, out, &mut output.pages) {
-        Ok(()) => {}
-        Err(fault) => return Err(fault),
-    }
-    print(out, &output.tail)
 }

@@ -1,14 +1,15 @@
 // What a command works on: the schedule that its input says or that it makes, and the text of its machine.
-ghost use Rattle.std.specs.Prelude.{ℕ, ◌≡◌, ◌≤◌, true, false, List, length, None, Some, OnOk, IfOk, IfErr, MatchOption};
+ghost use Rattle.std.specs.Prelude.{◌≡◌, ◌≤◌, true, false, length, Some, OnOk, IfOk, IfErr};
 ghost use Rattle.goal_base.specs.declared.limits.TheConstants.{MAX_INPUT};
 ghost use Rattle.goal_base.specs.Device.{HostState, Later, KeepsFiles, SameReadCounts};
 ghost use Rattle.goal_input.specs.Input.{IsReadAs};
 ghost use Rattle.goal_input.specs.Unread.{ForFile};
 ghost use Rattle.goal_blocks.specs.Collectives.{is_first};
 ghost use Rattle.goal_collectives.specs.Probe.{probed};
-ghost use Rattle.goal_words.specs.Words.{Command, Gen, command, IsSized};
-ghost use Rattle.goal_cli.specs.Output.{input_of, machine_of, input_with, IsMade, IsScheduleOf, IsWorkOf};
-ghost use Rattle.goal_cli.specs.Answer.{ForNamed, ForRead, IsTaken};
+ghost use Rattle.goal_words.specs.declared.sentence.View.{View};
+ghost use Rattle.goal_words.specs.Words.{Command, Pricing, asks, said, IsSized};
+ghost use Rattle.goal_cli.specs.Output.{input_of, machine_of, IsMade, IsFrom, IsWorkOf};
+ghost use Rattle.goal_cli.specs.Answer.{ForNamed, ForRead, IsReadOut, IsTaken};
 ghost use Rattle.goal_cli.specs.Unmade.{IsUnmade, IsUntold, IsIdle, IsGot, IsTakenFrom};
 
 use crate::answer::{Answer, Refusal};
@@ -18,7 +19,7 @@ use goal_collectives::{GenFault, MAX_ROUNDS, generate, probe_plan};
 use goal_graph::Sched;
 use goal_input::{Unread, read_schedule};
 use goal_rooted::{RootedFault, generate_rooted};
-use goal_words::Line;
+use goal_words::{Costing, Sentence, Source};
 use std::alloc::Global;
 
 // The schedule of a broadcast, barrier, allgather, allreduce or alltoall.
@@ -26,7 +27,8 @@ fn make_first(alloc: Global, what: Collective, ranks: u32, bytes: u64) -> Result
     requires first { is_first what ≡ true }
     requires size { bytes ≤ MAX_BYTES }
     ensures made { IfOk result (λ sched. IsMade what ranks bytes sched) }
-    ensures unmade { IfErr result (λ answer. (host : HostState) → IsUnmade host host (Gen what ranks bytes) answer) }
+    ensures unmade { IfErr result (λ answer. (costs : Pricing) (view : View) (host : HostState)
+        → IsUnmade host host (asks (Source.Made what ranks bytes) costs view) answer) }
 {
     match generate(alloc, what, ranks, bytes) {
         Ok(sched) => Ok(sched),
@@ -40,7 +42,8 @@ fn make_rooted(alloc: Global, what: Collective, ranks: u32, bytes: u64) -> Resul
     requires second { is_first what ≡ false }
     requires size { bytes ≤ MAX_BYTES }
     ensures made { IfOk result (λ sched. IsMade what ranks bytes sched) }
-    ensures unmade { IfErr result (λ answer. (host : HostState) → IsUnmade host host (Gen what ranks bytes) answer) }
+    ensures unmade { IfErr result (λ answer. (costs : Pricing) (view : View) (host : HostState)
+        → IsUnmade host host (asks (Source.Made what ranks bytes) costs view) answer) }
 {
     match generate_rooted(alloc, what, ranks, bytes) {
         Ok(sched) => Ok(sched),
@@ -56,7 +59,8 @@ fn make_rooted(alloc: Global, what: Collective, ranks: u32, bytes: u64) -> Resul
 fn make_schedule(alloc: Global, what: Collective, ranks: u32, bytes: u64) -> Result<Sched, Answer>
     requires size { bytes ≤ MAX_BYTES }
     ensures made { IfOk result (λ sched. IsMade what ranks bytes sched) }
-    ensures unmade { IfErr result (λ answer. (host : HostState) → IsUnmade host host (Gen what ranks bytes) answer) }
+    ensures unmade { IfErr result (λ answer. (costs : Pricing) (view : View) (host : HostState)
+        → IsUnmade host host (asks (Source.Made what ranks bytes) costs view) answer) }
 {
     if what.is_first() {
         make_first(alloc, what, ranks, bytes)
@@ -99,58 +103,46 @@ fn read_input<H: Host>(alloc: Global, host: &mut H, name: &str) -> Result<Sched,
 
 // The schedule that a command works on: what its input says, or what it makes. Without an input the host is asked nothing.
 // Where there is none, this is the answer, as long as the machine is not too long.
-fn schedule_of<H: Host>(alloc: Global, host: &mut H, line: &Line) -> Result<Sched, Answer>
-    requires sized { IsSized (command line.now) }
-    ensures schedule { IfOk result (λ sched. ForNamed (H.state host.old) (input_of (command line.now))
-        (λ schedule. (machine : List ℕ) → IsScheduleOf (command line.now) (input_with schedule machine) sched)) }
-    ensures unmade { IfErr result (IsUnmade (H.state host.old) (H.state host.new) (command line.now)) }
+fn schedule_of<H: Host>(alloc: Global, host: &mut H, sentence: &Sentence) -> Result<Sched, Answer>
+    requires sized { IsSized (said sentence.now) }
+    ensures schedule { IfOk result (λ sched. ForNamed (H.state host.old) (input_of (said sentence.now))
+        (λ schedule. IsFrom sentence.now.source schedule sched)) }
+    ensures unmade { IfErr result (IsUnmade (H.state host.old) (H.state host.new) (said sentence.now)) }
     ensures counts { OnOk result (SameReadCounts (H.state host.old) (H.state host.new)) }
     ensures kept { KeepsFiles (H.state host.old) (H.state host.new) }
     ensures later { Later (H.state host.old) (H.state host.new) }
-    ensures taken { IsTakenFrom (H.state host.old) (H.state host.new) (input_of (command line.now)) }
+    ensures taken { IsTakenFrom (H.state host.old) (H.state host.new) (input_of (said sentence.now)) }
 {
-    match line {
-        Line::Sim { name, .. } => read_input(alloc, host, name.as_str()),
-        Line::Waits { name, .. } => read_input(alloc, host, name.as_str()),
-        Line::Knots { name, .. } => read_input(alloc, host, name.as_str()),
-        Line::Nodes { name, .. } => read_input(alloc, host, name.as_str()),
-        Line::Compile { name, .. } => read_input(alloc, host, name.as_str()),
-        Line::Show { name } => read_input(alloc, host, name.as_str()),
-        Line::Gen { what, ranks, bytes } => make_schedule(alloc, *what, *ranks, *bytes),
-        Line::Certify { name, .. } => read_input(alloc, host, name.as_str()),
-        Line::Probe { rounds, seed, .. } => draw(alloc, *rounds, *seed),
-    }
-}
-
-// The name of the machine of a command.
-fn machine_of(line: &Line) -> Option<&str>
-    ensures { MatchOption result (machine_of (command line.now) ≡ None) (λ name. machine_of (command line.now) ≡ Some name.now) }
-{
-    match line {
-        Line::Nodes { machine, .. } => Some(machine.as_str()),
-        Line::Sim { .. } | Line::Waits { .. } | Line::Knots { .. } | Line::Compile { .. } => None,
-        Line::Show { .. } | Line::Gen { .. } | Line::Certify { .. } | Line::Probe { .. } => None,
+    match &sentence.source {
+        Source::File(name) => read_input(alloc, host, name.as_str()),
+        Source::Made { what, ranks, bytes } => make_schedule(alloc, *what, *ranks, *bytes),
+        Source::Drawn { rounds, seed } => draw(alloc, *rounds, *seed),
     }
 }
 
 // The text of the machine of a command. Without one there is no text, and the host is asked nothing.
-fn take_machine<H: Host>(alloc: Global, host: &mut H, line: &Line) -> Result<Vec<u8>, Answer>
-    ensures got { IfOk result (λ text. IsGot (H.state host.old) (machine_of (command line.now)) text.items) }
+fn take_machine<H: Host>(
+    alloc: Global,
+    host: &mut H,
+    sentence: &Sentence,
+) -> Result<Vec<u8>, Answer>
+    ensures got { IfOk result (λ text. IsGot (H.state host.old) (machine_of (said sentence.now)) text.items) }
     ensures short { IfOk result (λ text. length text.items ≤ MAX_INPUT) }
-    ensures untold { IfErr result (IsUntold (H.state host.old) (H.state host.new) (machine_of (command line.now))) }
+    ensures untold { IfErr result (IsUntold (H.state host.old) (H.state host.new) (machine_of (said sentence.now))) }
+    ensures read_out { OnOk result (IsReadOut (H.state host.old) (H.state host.new) (machine_of (said sentence.now))) }
     ensures counts { OnOk result (SameReadCounts (H.state host.old) (H.state host.new)) }
     ensures kept { KeepsFiles (H.state host.old) (H.state host.new) }
     ensures later { Later (H.state host.old) (H.state host.new) }
-    ensures taken { IsTakenFrom (H.state host.old) (H.state host.new) (machine_of (command line.now)) }
+    ensures taken { IsTakenFrom (H.state host.old) (H.state host.new) (machine_of (said sentence.now)) }
 {
-    let Some(name) = machine_of(line) else {
-        return Ok(Vec::new(alloc));
-    };
-    match read_all(alloc, host, name) {
-        Ok(text) => Ok(text),
-        Err(ReadAll::Fault) => Err(Answer::ReadFault),
-        Err(ReadAll::TooLong) => Err(Answer::Refused(Refusal::TooLong)),
-        Err(ReadAll::NoMemory) => Err(Answer::NoMemory),
+    match &sentence.costs {
+        Costing::Params(_) | Costing::None => Ok(Vec::new(alloc)),
+        Costing::Machine(name) => match read_all(alloc, host, name.as_str()) {
+            Ok(text) => Ok(text),
+            Err(ReadAll::Fault) => Err(Answer::ReadFault),
+            Err(ReadAll::TooLong) => Err(Answer::Refused(Refusal::TooLong)),
+            Err(ReadAll::NoMemory) => Err(Answer::NoMemory),
+        },
     }
 }
 
@@ -164,24 +156,25 @@ pub struct Work {
 // What a command works on. Each of its files is read to its end before one is refused. Where there is nothing to work on, this
 // is the answer.
 #[tactic(auto, using(crate::proofs::AnswerLemmas::taken_both))]
-pub fn gather<H: Host>(alloc: Global, host: &mut H, line: &Line) -> Result<Work, Answer>
-    requires sized { IsSized (command line.now) }
-    ensures work { IfOk result (λ work. ForRead (H.state host.old) (command line.now)
-        (IsWorkOf (command line.now) work.sched work.machine.items)) }
+pub fn gather<H: Host>(alloc: Global, host: &mut H, sentence: &Sentence) -> Result<Work, Answer>
+    requires sized { IsSized (said sentence.now) }
+    ensures work { IfOk result (λ work. ForRead (H.state host.old) (said sentence.now)
+        (IsWorkOf (said sentence.now) work.sched work.machine.items)) }
     ensures short { IfOk result (λ work. length work.machine.items ≤ MAX_INPUT) }
-    ensures idle { IfErr result (IsIdle (H.state host.old) (H.state host.new) (command line.now)) }
+    ensures idle { IfErr result (IsIdle (H.state host.old) (H.state host.new) (said sentence.now)) }
+    ensures read_out { OnOk result (IsReadOut (H.state host.old) (H.state host.new) (machine_of (said sentence.now))) }
     ensures counts { OnOk result (SameReadCounts (H.state host.old) (H.state host.new)) }
     ensures kept { KeepsFiles (H.state host.old) (H.state host.new) }
     ensures later { Later (H.state host.old) (H.state host.new) }
-    ensures taken { IsTaken (Some (command line.now)) (H.state host.old) (H.state host.new) }
+    ensures taken { IsTaken (Some (said sentence.now)) (H.state host.old) (H.state host.new) }
 {
-    match schedule_of(alloc, host, line) {
-        Ok(sched) => match take_machine(alloc, host, line) {
+    match schedule_of(alloc, host, sentence) {
+        Ok(sched) => match take_machine(alloc, host, sentence) {
             Ok(machine) => Ok(Work { sched, machine }),
             Err(answer) => Err(answer),
         },
-        Err(Answer::Refused(refusal)) => match take_machine(alloc, host, line) {
-            Ok(_) => Err(Answer::Refused(refusal)),
+        Err(Answer::Refused(refusal)) => match take_machine(alloc, host, sentence) {
+            Ok(_text) => Err(Answer::Refused(refusal)),
             Err(answer) => Err(answer),
         },
         Err(answer) => Err(answer),

@@ -1,3 +1,4 @@
+-- What a reader must believe.
 pub mod GenFaults
 pub mod Probe
 -- What the clauses cite of lower crates.

@@ -58,7 +58,24 @@ fn read_rest<H: Host>(alloc: Global, host: &mut H) -> Result<Sched, Unread>
     ensures taken { (bytes : List ℕ) × (length bytes ≤ MAX_INPUT + 1)
         × Takes (H.state host.old) (H.state host.new) bytes }
 {
-    let mut buffer = [0u8; PIECE];
+    match vec![in alloc; 0u8; PIECE] {
+        Ok(mut buffer) => read_pieces(alloc, host, buffer.as_mut_slice()),
+        Err(_) => Err(Unread::NoMemory),
+    }
+}
+
+// The same, through a buffer for one piece.
+fn read_pieces<H: Host>(alloc: Global, host: &mut H, buffer: &mut [u8]) -> Result<Sched, Unread>
+    requires open { (H.state host.old).reading ≡ true }
+    requires piece { length buffer.old ≡ PIECE }
+
+    ensures read { IfOk result (λ sched. (H.state host.old).tells ≡ true → IsReadAs (H.state host.old).rest sched) }
+    ensures unread { IfErr result (λ unread. IsUnreadRest (H.state host.old) unread) }
+    ensures call { ReadsSchedule result (H.state host.old) (H.state host.new)
+        (Rose (H.state host.old).stops (H.state host.old).read_count (H.state host.new).read_count) }
+    ensures taken { (bytes : List ℕ) × (length bytes ≤ MAX_INPUT + 1)
+        × Takes (H.state host.old) (H.state host.new) bytes }
+{
     let mut intake = Intake::Nothing;
     let mut taken = 0;
     'pieces: while taken <= MAX_INPUT {

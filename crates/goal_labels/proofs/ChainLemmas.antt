@@ -127,6 +127,7 @@ apart old mid new hash same heads links few =
     let heads_now : new.heads.items ≡ old.heads.items = ap (λ v. v.items) heads ∙ ap (λ (m : Chains). m.heads.items) same in
     record {
       few = few;
+      heads = ap (λ (hs : List Head). length hs) heads_now;
       next = 0;
       links = links_now;
       kept = λ h number leads.
@@ -143,6 +144,7 @@ pub linked : (old new : Chains) (hash : ℕ) (head after : Head) → after.packe
     → length old.links.items + 1 < 2 ^ 32 → IsLinked old new hash true
 linked old new hash head after newest there heads links few = record {
   few = few;
+  heads = ap (λ (hs : List Head). length hs) heads ∙ length-set old.heads.items (bucket hash (length old.heads.items)) after;
   next = head.packed / 32;
   links = links;
   kept = λ h number leads.

@@ -21,6 +21,7 @@ pub data Leads (links : List Link) (number : ℕ) : ℕ → Type 0 where
 -- The next number was given to a hash. What was linked before still is, and the new number is where that is told.
 pub record IsLinked (old new : Chains) (hash : ℕ) (linked : Bool) : Type 0 where
   pub few : length old.links.items + 1 < 2 ^ 32
+  pub heads : length new.heads.items ≡ length old.heads.items
   pub next : ℕ
   pub links : new.links.items ≡ old.links.items ++ record { hash = hash; next = next } ∷ []
   pub kept : (h number : ℕ) → Leads old.links.items number (head_of old.heads.items h) → Leads new.links.items number (head_of new.heads.items h)

@@ -84,7 +84,8 @@ impl Chains {
 
     /// So many chains, and no numbers.
     pub fn reset(&mut self, count: usize) -> Result<(), AllocError>
-        ensures { self.new.links.items ≡ [] }
+        ensures none { self.new.links.items ≡ [] }
+        ensures count { OnOk result (length self.new.heads.items ≡ count) }
     {
         self.links.truncate(0);
         self.heads.truncate(0);

@@ -1,5 +1,5 @@
 //! A map from labels to slots, in the order in which the labels came.
-ghost use Rattle.std.specs.Prelude.{◌≡◌, ℕ, ◌+◌, ◌<◌, ◌≤◌, List, [], ◌∷◌, ◌++◌, Some, None, length, slice_get, bytes_eq, IfSome, IfNone, IfOk, OnOk, MatchOption};
+ghost use Rattle.std.specs.Prelude.{◌≡◌, ℕ, ◌+◌, ◌*◌, ◌^◌, ◌<◌, ◌≤◌, ◌⊎◌, List, [], ◌∷◌, ◌++◌, Some, None, length, slice_get, bytes_eq, IfSome, IfNone, IfOk, OnOk, MatchOption};
 ghost use Rattle.std.specs.Map.{lookup};
 ghost use Rattle.goal_labels.specs.declared.chains.Link.{Link};
 ghost use Rattle.goal_labels.specs.Chains.{Leads, head_of};
@@ -47,7 +47,6 @@ pub struct Entry {
 ///
 /// Labels mostly are numbered, and come in that order: as long as they do, each new one goes behind all, and a label is found
 /// by a search among them. Only once one comes out of order, or many are searched for, all are chained by their hashes.
-#[derive(Drop)]
 pub struct LabelMap {
     entries: Vec<Entry>,
     // The bytes of all labels, one label behind another: a short label takes little memory.
@@ -58,6 +57,20 @@ pub struct LabelMap {
     recent: [usize; 4],
     // How many searches were made among labels that ascend. It only saves time.
     searches: usize,
+}
+
+// It goes by a call, and not field by field: so those that let one go are shorter to prove.
+impl Drop for LabelMap {
+    fn drop(self) {
+        let LabelMap {
+            entries: _entries,
+            bytes: _bytes,
+            chains: _chains,
+            apart: _apart,
+            recent: _,
+            searches: _,
+        } = self;
+    }
 }
 
 impl Model for LabelMap {
@@ -278,8 +291,10 @@ fn place(
     requires some { 0 < length label.now }
     requires short { length label.now ≤ 64 }
     requires hash { hash ≡ label_hash label.now }
-    ensures { OnOk result ((entries : Entries) (n : ℕ) → IsIndexed entries n chains.old apart.old → AreUnique entries
+    ensures indexed { OnOk result ((entries : Entries) (n : ℕ) → IsIndexed entries n chains.old apart.old → AreUnique entries
         → IsAt entries label.now n → IsIndexed entries (n + 1) chains.new apart.new) }
+    ensures chains { OnOk result (length chains.new.heads.items ≡ length chains.old.heads.items) }
+    ensures few { OnOk result (length chains.old.links.items + 1 < 2 ^ 32) }
 {
     let number = chains.links.len();
     if !chains.push(hash)? {
@@ -298,7 +313,8 @@ fn place_all(
 ) -> Result<(), AllocError>
     requires held { AreHeld bytes.now entries.now }
     requires unique { AreUnique (entries_of bytes.now entries.now) }
-    ensures { OnOk result (IsIndexed (entries_of bytes.now entries.now) (length entries.now) chains.new apart.new) }
+    ensures indexed { OnOk result (IsIndexed (entries_of bytes.now entries.now) (length entries.now) chains.new apart.new) }
+    ensures chains { OnOk result (length chains.new.heads.items ≡ count) }
 {
     chains.reset(count)?;
     apart.clear();
@@ -309,8 +325,14 @@ fn place_all(
     Ok(())
 }
 
-// So many chains do for so many labels. Any number would be right: this one only saves time.
-fn chains_for(labels: usize) -> usize {
+// So many chains do for so many labels. Any number would be right: this one saves time and memory. There are more chains than
+// labels, so that each has few, and all are numbered anew only once there are as many labels as chains; they are few; and they
+// are a power of two, as a hash that is cut to a place asks for.
+fn chains_for(labels: usize) -> usize
+    ensures enough { labels < 2 ^ 40 → labels < result }
+    ensures few { (result ≡ 64) ⊎ (result ≤ 4 * labels) }
+    ensures power { (k : ℕ) × (result ≡ 2 ^ k) }
+{
     let mut count = FEWEST_CHAINS;
     while count <= labels && count < MANY_CHAINS {
         count *= 4;
@@ -344,7 +366,7 @@ fn hold(
     Ok(())
 }
 
-// Adds a label that has no entry, by its hash. There are as many chains as labels, or more.
+// Adds a label that has no entry, by its hash. There are then as many chains as labels, or more.
 fn append(
     entries: &mut Vec<Entry>,
     bytes: &mut Vec<u8>,
@@ -363,6 +385,7 @@ fn append(
     ensures entries { OnOk result (entries_of bytes.new.items entries.new.items ≡ entries_of bytes.old.items entries.old.items ++ (label.now, slot) ∷ []) }
     ensures held { OnOk result (AreHeld bytes.new.items entries.new.items) }
     ensures map { OnOk result (IsMap (entries_of bytes.new.items entries.new.items) chains.new apart.new) }
+    ensures chains { OnOk result (length entries.new.items ≤ length chains.new.heads.items) }
 {
     if chains.links.len() < entries.len() || entries.len() >= chains.heads.len() {
         place_all(entries, bytes, chains, apart, chains_for(entries.len()))?;

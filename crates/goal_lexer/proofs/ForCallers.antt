@@ -4,3 +4,4 @@ pub use Rattle.goal_lexer.proofs.AheadLaws.{ahead_on, ahead_within, goes_ahead}
 pub use Rattle.goal_lexer.proofs.FormLaws.{first_in_run}
 pub use Rattle.goal_lexer.proofs.OnlyLaws.{only_reading}
 pub use Rattle.goal_lexer.proofs.NothingLaws.{Each-push}
+pub use Rattle.goal_lexer.proofs.CutOffLaws.{cut_off}

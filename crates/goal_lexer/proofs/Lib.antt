@@ -17,4 +17,5 @@ pub mod WholeLaws
 pub mod GoesOnLaws
 pub mod TakenLaws
 pub mod TakenBackLaws
+pub mod CutOffLaws
 pub mod ForCallers

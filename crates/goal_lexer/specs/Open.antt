@@ -1,5 +1,5 @@
 -- What a lexer stands for, by the rules of pieces: whole pieces, and then what is open.
-use Rattle.std.specs.Prelude.{◌≡◌, ℕ, ◌≤◌, Bool, true, false, not, List, [], ◌∷◌, ◌++◌, length, ◌==◌}
+use Rattle.std.specs.Prelude.{◌≡◌, ℕ, ◌≤◌, ◌⊎◌, Bool, true, false, not, List, [], ◌∷◌, ◌++◌, length, ◌==◌}
 use Rattle.goal_lexer.specs.declared.mode.Form.{Form}
 use Rattle.goal_lexer.specs.declared.mode.Mode.{Mode}
 use Rattle.goal_lexer.specs.declared.mode.Mode.TheVariants.{Between, Run, Slash, LineComment, BlockComment, Failed}
@@ -39,3 +39,11 @@ pub record IsTaken (lexer : LexState) (text : List ℕ) : Type 0 where
   pub opened : IsOpen lexer.mode (length (spelled pieces)) bytes
   pub run_out : lexer.ends_run ≡ true → EndInRun pieces × (bytes ≡ [])
   pub place : length text ≡ lexer.place
+
+-- The text ends with a `/`, or with a block comment that has no `*/`, and this begins at the place.
+pub record IsCutOff (text : List ℕ) (at : ℕ) : Type 0 where
+  pub front : List ℕ
+  pub bytes : List ℕ
+  pub whole : text ≡ front ++ bytes
+  pub place : length front ≡ at
+  pub cut : (bytes ≡ slash ∷ []) ⊎ ((inside : List ℕ) × (bytes ≡ slash ∷ star ∷ inside) × (has_close inside ≡ false))

@@ -1,10 +1,10 @@
 //! Laws of the tokens of a text.
-ghost use Rattle.std.specs.Prelude.{◌≡◌, ℕ, true, false, List, ◌++◌, length, None};
+ghost use Rattle.std.specs.Prelude.{◌≡◌, ℕ, true, false, List, ◌++◌, length, Some, None};
 ghost use Rattle.goal_lexer.specs.Scan.{lexed};
 ghost use Rattle.goal_lexer.specs.declared.tokens.Token.{Token};
 ghost use Rattle.goal_lexer.specs.State.{LexState};
 ghost use Rattle.goal_lexer.specs.Stands.{Stands, handed, begins_run};
-ghost use Rattle.goal_lexer.specs.Open.{IsTaken};
+ghost use Rattle.goal_lexer.specs.Open.{IsTaken, IsCutOff};
 ghost use Rattle.goal_lexer.specs.Pieces.{IsReading, Piece, IsCutInto, NothingBegins, EndsWith, tokens_of, spelled};
 
 /// The tokens of a text and its fault, by the scan that the lexer's contracts speak of, are those of the text as
@@ -42,4 +42,7 @@ pub fn laws_of_lexers()
 
     // The tokens that it handed out are those of the pieces.
     ensures handed { (lexer : LexState) (text : List ℕ) (taken : IsTaken lexer text) → handed lexer text ≡ tokens_of 0 taken.pieces }
+
+    // If such a text ended here and had a fault, this would stand at a last `/`, or at a block comment that goes on.
+    ensures cut_off { (lexer : LexState) (text : List ℕ) (at : ℕ) → Stands lexer text → (lexed text).1 ≡ Some at → IsCutOff text at }
 {}

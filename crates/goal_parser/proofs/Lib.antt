@@ -5,10 +5,14 @@ pub mod ParserLaws
 pub mod KindLaws
 pub mod GroupLaws
 pub mod ReaderLaws
+pub mod PassLaws
 pub mod AheadLaws
 pub mod LimitLaws
 pub mod GrammarLaws
+pub mod Seen
+pub mod Passing
 pub mod OneReading
+pub mod ReadBack
 pub mod NoLimits
 pub mod EachFault
 pub mod ForCallers

@@ -1,9 +1,10 @@
 -- The sentences of a text as one writes them: their tokens, and what they mean.
-use Rattle.std.specs.Prelude.{◌≡◌, ℕ, ◌+◌, ◌<◌, ◌≤◌, ◌==◌, Bool, true, false, List, [], ◌∷◌, ◌++◌, Option, Some, None, length, map, unwrap_or, slice_index_or, bytes_eq, if◌then◌else◌, All, ⊤}
-use Rattle.std.specs.List.{flat_map, count_by}
+use Rattle.std.specs.Prelude.{◌≡◌, ℕ, ◌+◌, ◌<◌, ◌≤◌, ◌==◌, Bool, true, false, List, [], ◌∷◌, ◌++◌, Option, Some, None, length, map, unwrap_or, IsSome, slice_index_or, bytes_eq, if◌then◌else◌, All, ⊤, ◌^◌}
+use Rattle.std.specs.List.{flat_map, count_by, sum_by}
 use Rattle.goal_lexer.specs.declared.tokens.Token.{Token}
 use Rattle.goal_lexer.specs.declared.tokens.TokenKind.{TokenKind}
 use Rattle.goal_lexer.specs.declared.tokens.TokenKind.TheVariants as token
+use Rattle.goal_base.specs.declared.limits.TheConstants.{MAX_RANKS, MAX_OPS, MAX_DEPS, MAX_NOTES, MAX_BYTES, MAX_NANOS}
 use Rattle.goal_graph.specs.declared.plan.Op.{Op}
 use Rattle.goal_graph.specs.declared.plan.Kind.TheVariants as kind
 use Rattle.goal_graph.specs.declared.plan.Dep.{Dep}
@@ -209,6 +210,46 @@ pub record AreRight (w : Written) : Type 0 where
   pub ranks : All (λ (b : Block). b.rank < w.ranks) w.blocks
   pub once : (rank : ℕ) → count_by (λ (b : Block). rank == b.rank) w.blocks ≤ 1
   pub blocks : All KeepsRules w.blocks
+
+-- The limits that sentences keep.
+
+-- the number of an option; `any` is no number
+abbrev pub IsSettingWithin : Setting → Type 0
+IsSettingWithin (tag n) = unwrap_or n 0 < 2 ^ 32
+IsSettingWithin (cpu n) = n ≤ 255
+IsSettingWithin (nic n) = n ≤ 255
+
+-- the tag of a send is a number
+abbrev pub IsOfSend : Setting → Type 0
+IsOfSend (tag n) = IsSome n
+IsOfSend _ = ⊤
+
+abbrev pub IsItemWithin : Item → Type 0
+IsItemWithin (calc label nanos on) = (nanos ≤ MAX_NANOS) × (unwrap_or on 0 ≤ 255)
+IsItemWithin (send label size to settings) = (amount size ≤ MAX_BYTES) × (to < 2 ^ 32) × All IsSettingWithin settings × All IsOfSend settings
+IsItemWithin (recv label size from settings) = (amount size ≤ MAX_BYTES) × (unwrap_or from 0 < 2 ^ 32) × All IsSettingWithin settings
+IsItemWithin (moves label first last) = (first < 2 ^ 32) × (last < 2 ^ 32)
+IsItemWithin (adds label from to) = (from < 2 ^ 32) × (to < 2 ^ 32)
+IsItemWithin _ = ⊤
+
+-- how many operations, dependencies and notes blocks have together
+abbrev pub ops_in : List Block → ℕ
+ops_in bs = sum_by (λ (b : Block). length (plan_said b.items).ops) bs
+
+abbrev pub deps_in : List Block → ℕ
+deps_in bs = sum_by (λ (b : Block). length (plan_said b.items).deps) bs
+
+abbrev pub notes_in : List Block → ℕ
+notes_in bs = sum_by (λ (b : Block). length (plan_said b.items).notes) bs
+
+-- the ranks, operations, dependencies and notes are within their limits, and so is each number
+pub record AreWithin (w : Written) : Type 0 where
+  pub some_rank : 1 ≤ w.ranks
+  pub ranks : w.ranks ≤ MAX_RANKS
+  pub ops : ops_in w.blocks ≤ MAX_OPS
+  pub deps : deps_in w.blocks ≤ MAX_DEPS
+  pub notes : notes_in w.blocks ≤ MAX_NOTES
+  pub items : All (λ (b : Block). All IsItemWithin b.items) w.blocks
 
 -- the tokens are those of sentences that keep the rules, and the plans are what these say
 pub record IsWritten (tokens : List Token) (ps : List Plan) : Type 0 where

@@ -37,6 +37,6 @@ mod text;
 mod token_faults;
 
 pub use faults::TextFault;
-pub use laws::laws_of_texts;
+pub use laws::{laws_of_readers, laws_of_texts};
 pub use pieces::TextReader;
 pub use text::read_text;

@@ -16,7 +16,6 @@ use goal_lexer::{Label, TokenKind};
 use std::alloc::{AllocError, Global};
 
 /// The labels of a block, and its dependencies and notes with slots of labels in place of operations.
-#[derive(Drop)]
 pub struct Names {
     /// The labels.
     pub labels: Labels,
@@ -24,6 +23,17 @@ pub struct Names {
     pub deps: Vec<Dep>,
     /// The notes.
     pub notes: Vec<Note>,
+}
+
+// They go by a call, and not field by field: so those that let them go are shorter to prove.
+impl Drop for Names {
+    fn drop(self) {
+        let Names {
+            labels: _labels,
+            deps: _deps,
+            notes: _notes,
+        } = self;
+    }
 }
 
 /// Which moment of the earlier operation a dependency waits for.

@@ -1,4 +1,9 @@
 //! The parser: from tokens to plans.
+//!
+//! `take` takes any token. But most items of a text never come to it: where a definition, a dependency, a note, an action up to
+//! its options, or an option stands whole in a piece, `take_ahead` (ahead.rt) finds it by its bytes, and a function of groups.rt
+//! takes all of its tokens at once. This leaves the parser as `take` leaves it, token by token (`TakesAll`, specs/Taken.antt):
+//! so what an item means is said here, and whoever changes that changes groups.rt as well.
 ghost use Rattle.std.specs.Prelude.{◌≡◌, ◌≢◌, true, List, [], ◌∷◌, None, Some, OnOk, IfErr};
 ghost use Rattle.goal_parser.specs.Numbers.{number_within};
 ghost use Rattle.goal_lexer.specs.declared.tokens.Token.{Token};

@@ -12,7 +12,8 @@ use std::alloc::Global;
 
 /// Takes a text in pieces, cut at any places, and gives its schedule or its first fault. It keeps no byte of the text but
 /// those of a run that is open where it stands, so its contracts speak of each text that it *has read* (`HasRead`): those
-/// that the pieces so far make. After a fault it has read no text, and answers the same fault from then on.
+/// that the pieces so far make. After a fault it has read no text, and answers the same fault from then on. What it means for
+/// the tokens and bytes of a text that it was read is said by `laws_of_readers`.
 #[derive(Drop)]
 pub struct TextReader {
     alloc: Global,

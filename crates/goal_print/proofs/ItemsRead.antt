@@ -1,6 +1,5 @@
 -- The items of a block, read one by one.
-use Rattle.std.proofs.Common.{◌≡◌, ℕ, ◌+◌, ◌^◌, ◌<◌, ◌≤◌, true, false, List, [], ◌∷◌, ◌++◌, length, Option, Some, None, nat_le, refl, sym, subst, arith}
-use Rattle.std.proofs.lemmas.Bool.Decides.{nat_tests}
+use Rattle.std.proofs.Common.{◌≡◌, ℕ, ◌+◌, ◌^◌, ◌<◌, ◌≤◌, true, false, List, [], ◌∷◌, ◌++◌, length, Option, Some, None, nat_le, refl, sym, subst}
 use Rattle.goal_lexer.specs.declared.tokens.TokenKind.{TokenKind}
 use Rattle.goal_lexer.specs.declared.tokens.TokenKind.TheVariants as token
 use Rattle.goal_base.specs.declared.limits.TheConstants.{MAX_OPS, MAX_DEPS, MAX_NOTES, MAX_BYTES, MAX_NANOS}
@@ -21,16 +20,12 @@ use Rattle.goal_parser.specs.Actions.{begun}
 use Rattle.goal_parser.specs.Items.{is_defined}
 use Rattle.goal_print.proofs.Fits.{WildFits}
 use Rattle.goal_print.proofs.TextKinds.{wild_kind, verb_kind, action_kinds}
-use Rattle.goal_print.proofs.Seen.{Seen, ops_now, step, fault_in, Good, next, passes_upto, passes_u32, BeginsItem, label_read, passes}
+use Rattle.goal_print.proofs.Seen.{Seen, ops_now, step, fault_in, Good, next, passes_upto, passes_u32, BeginsItem, label_read, passes, room}
 
 -- the verb of a dependency
 abbrev pub verb_of : When → Verb
 verb_of AfterEnd = verb.Requires
 verb_of AfterStart = verb.Irequires
-
--- there is room for one more
-room : (limit n : ℕ) → n < limit → nat_le limit n ≡ false
-room limit n h = grind (arith, nat_tests)
 
 -- what is given behind an operation
 abbrev pub after_op : Seen → List ℕ → ℕ → State → Draft → Seen

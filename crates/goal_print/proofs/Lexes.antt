@@ -1,5 +1,5 @@
 -- The kinds of a text's tokens, from its end to its begin: one piece more in front.
-use Rattle.std.proofs.Common.{◌≡◌, ℕ, ◌+◌, ◌^◌, ◌<◌, ◌≤◌, Bool, true, false, List, [], ◌∷◌, ◌++◌, length, map, Option, Some, None, decimal, refl, sym, ap, subst, ◌∙◌, arith, append_assoc, length-append, nat_le, ◌&&◌}
+use Rattle.std.proofs.Common.{◌≡◌, ℕ, ◌+◌, ◌^◌, ◌<◌, ◌≤◌, Bool, true, false, List, [], ◌∷◌, ◌++◌, length, Option, Some, None, decimal, refl, sym, ap, subst, ◌∙◌, arith, append_assoc, length-append, nat_le, ◌&&◌}
 use Rattle.std.proofs.lemmas.List.{append-nil, map-append}
 use Rattle.std.proofs.lemmas.Bool.{and_parts}
 use Rattle.std.proofs.lemmas.Bool.Decides.{nat_tests}
@@ -13,12 +13,9 @@ use Rattle.goal_lexer.specs.Scan.{lexed}
 use Rattle.goal_lexer.specs.Stands.{begins_run}
 use Rattle.goal_lexer.specs.Pieces.{Piece, blank, run, sign, bytes_of, Each, AreWord, IsRight, spelled, AreRight, piece_tokens, tokens_of, EndsWith, NothingBegins}
 use Rattle.goal_lexer.proofs.ForCallers.{only_reading, first_in_run}
+use Rattle.goal_parser.proofs.ForCallers.{kinds_of}
 use Rattle.goal_print.specs.Canonical.{label}
 use Rattle.goal_print.proofs.Numerals.{decimal_digits, number_value-decimal, length-decimal, label_word, length-label, label_kind, size_kind}
-
--- the kinds of tokens
-abbrev pub kinds_of : List Token → List TokenKind
-kinds_of tokens = map (λ (t : Token). t.kind) tokens
 
 -- the text is pieces whose tokens have these kinds, wherever it begins
 pub record Lexes (text : List ℕ) (kinds : List TokenKind) : Type 0 where

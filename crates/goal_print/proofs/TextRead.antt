@@ -1,7 +1,6 @@
 -- The canonical text of plans, read block by block.
-use Rattle.std.proofs.Common.{◌≡◌, ℕ, suc, ◌+◌, ◌-◌, ◌^◌, ◌<◌, ◌≤◌, true, false, not, ◌&&◌, List, [], ◌∷◌, ◌++◌, length, map, replicate, None, nat_eq, nat_lt, nat_le, slice_set, refl, sym, ap, subst, ◌∙◌, arith, append_assoc, length-append}
+use Rattle.std.proofs.Common.{◌≡◌, ℕ, suc, ◌+◌, ◌^◌, ◌<◌, ◌≤◌, false, List, [], ◌∷◌, ◌++◌, length, map, replicate, nat_eq, slice_set, refl, sym, ap, subst, ◌∙◌, arith, append_assoc, length-append}
 use Rattle.std.specs.List.{AllByRecursion, list_any}
-use Rattle.std.specs.Option.{option_or}
 use Rattle.std.proofs.lemmas.List.Sums.{sum_by-cons}
 use Rattle.std.proofs.Math.Seq.{set-append_seam}
 use Rattle.std.proofs.lemmas.List.Folds.{list_any-append}
@@ -24,10 +23,9 @@ use Rattle.goal_parser.specs.Actions.{draft_of}
 use Rattle.goal_parser.specs.Counts.{counts_of}
 use Rattle.goal_parser.specs.Items.{head_of, ops_of, ends_action, defined_of, deps_of, notes_of, used_of, dep_by, note_by}
 use Rattle.goal_parser.specs.Plans.{empty_plan, plans_of}
-use Rattle.goal_parser.specs.Faults.{fault_if}
 use Rattle.goal_print.proofs.Fits.{PlanFits}
 use Rattle.goal_print.proofs.TextKinds.{ops_kinds, deps_kinds, notes_kinds, block_kinds, unless_no_ops, blocks_kinds, canonical_kinds}
-use Rattle.goal_print.proofs.Seen.{Seen, seen_of, step, fault_in, ends, next, ops_now, plan_now, Good, at_close, close_read, passes_number}
+use Rattle.goal_print.proofs.Seen.{Seen, seen_of, step, fault_in, ends, next, ops_now, plan_now, Good, at_close, close_read, passes_number, passes_rank}
 use Rattle.goal_print.proofs.LabelLaws.{Knows, knows_none}
 use Rattle.goal_print.proofs.BlocksRead.{Frame, IsRoom, ops_read, items_begin, deps_read, notes_read}
 
@@ -46,15 +44,6 @@ pub record InTop (s : Seen) (ranks rank : ℕ) (plans : List Plan) : Type 0 wher
 -- the state behind the begin of a block
 abbrev pub at_open : Seen → ℕ → Seen
 at_open s rank = record s { state = state.Item; blocks = s.blocks ++ rank ∷ []; rank = rank }
-
--- the rank's number passes its tests
-passes_rank : (n ranks : ℕ) (blocks : List ℕ) (at : ℕ) → n < ranks → n < 2 ^ 32 → list_any (nat_eq n) blocks ≡ false
-    → option_or (fault_if (not (nat_le 0 n && nat_le n (2 ^ 32 - 1))) (fault.Number at))
-    (option_or (option_or (fault_if (not (nat_lt n ranks)) (fault.Rank at)) (fault_if (list_any (nat_eq n) blocks) (fault.Repeat at))) None) ≡ None
-passes_rank n ranks blocks at below fits fresh =
-    let within : nat_le 0 n && nat_le n (2 ^ 32 - 1) ≡ true = grind (arith, nat_tests) in
-    let less : nat_lt n ranks ≡ true = grind (arith, nat_tests) in
-    rw (within, less, fresh)
 
 open_read : (s : Seen) (rank : ℕ) (kinds : List TokenKind) (plans : List Plan) → s.state ≡ state.Top → rank < s.ranks → rank < 2 ^ 32
     → list_any (nat_eq rank) s.blocks ≡ false → Good (at_open s rank) kinds plans

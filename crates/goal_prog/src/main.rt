@@ -1,21 +1,27 @@
 //! The program `goal`: the words and devices of the system, handed to the top call of goal_cli.
 #![tactic(auto)]
 
+mod exit;
 mod real;
 
+use exit::{exit_of, exit_without_words};
 use goal_base::write_all;
-use goal_cli::{Status, goal};
+use goal_cli::goal;
 use real::{RealHost, RealSink};
 use std::io::ErrorKind;
 use std::process::ExitCode;
 use std::rt::Files;
 use std::{env, fs, io};
 
-// The status of a program whose words the system does not hand over.
-const NO_WORDS: u8 = 8;
+// A folder that is always there: no byte is read from it or written to it.
+const HELD: &str = "/";
 
-// A file that is always there and holds nothing.
-const HELD: &str = "/dev/null";
+// The standard streams, by the names that the system has for what is open.
+const INPUT: &str = "/proc/self/fd/0";
+
+const OUTPUT: &str = "/proc/self/fd/1";
+
+const ERRORS: &str = "/proc/self/fd/2";
 
 // The line for words that the system does not hand over: one of them is no text.
 const NO_TEXT: &[u8] = b"goal: a word of the command line is not UTF-8\n";
@@ -25,31 +31,37 @@ fn command_words(rt: &HostRuntime) -> io::Result<Vec<String>> {
     Ok(env::args(rt)?.skip(1).collect(rt.alloc())?)
 }
 
-// Opens a file three times, so that no file of the command stands for a standard stream that is closed. Where it cannot be
-// opened, nothing is held.
-fn hold_streams<R: Files>(rt: &R) -> [io::Result<R::File>; 3] {
-    [fs::open(rt, HELD), fs::open(rt, HELD), fs::open(rt, HELD)]
+// Opens a folder where a standard stream is closed, so that no file of the command stands for it. Where the system does not
+// say what is open, it is opened as well. Where it cannot be opened, nothing is held.
+fn hold_stream<R: Files>(rt: &R, stream: &str) -> Option<io::Result<R::File>> {
+    match fs::symlink_metadata(rt, stream) {
+        Ok(_) => None,
+        Err(_) => Some(fs::open(rt, HELD)),
+    }
 }
 
 fn main(rt: HostRuntime) -> ExitCode {
-    let _held = hold_streams(&rt);
+    let _held = [
+        hold_stream(&rt, INPUT),
+        hold_stream(&rt, OUTPUT),
+        hold_stream(&rt, ERRORS),
+    ];
     let words = match command_words(&rt) {
         Ok(words) => words,
         Err(error) => {
-            return match error.kind() {
-                ErrorKind::OutOfMemory => ExitCode::from(Status::NoMemory as u8),
+            match error.kind() {
+                ErrorKind::OutOfMemory => {}
                 _ => {
                     // The exit status is the same whether or not the line can be written.
                     let _written = write_all(&mut RealSink::new(rt.stderr()), NO_TEXT);
-                    ExitCode::from(NO_WORDS)
                 }
-            };
+            }
+            return exit_without_words(&error);
         }
     };
     let alloc = rt.alloc();
     let mut out = RealSink::new(rt.stdout());
     let mut err = RealSink::new(rt.stderr());
     let mut host = RealHost::new(rt);
-    let status = goal(alloc, &words, &mut host, &mut out, &mut err);
-    ExitCode::from(status as u8)
+    exit_of(goal(alloc, &words, &mut host, &mut out, &mut err))
 }

@@ -1,6 +1,8 @@
 // The real outside: files and streams of the system. They tell nothing of what they hold.
 ghost use Rattle.std.specs.Prelude.{◌≡◌, ◌≤◌, ◌<◌, true, is_some, length, IfOk, OnOk, IsErrOf};
+ghost use Rattle.std.specs.IoError.{error_kind};
 ghost use Rattle.goal_base.specs.Device.{Rose};
+ghost use Rattle.goal_prog.specs.Exit.{fault_of, fault_of_open};
 
 use goal_base::{Host, IoFault, OpenFault, Sink};
 use std::fs::OpenFile;
@@ -35,6 +37,7 @@ impl<R: Files> RealHost<R> {
 
 // Counts an error; want of memory is counted nowhere.
 fn fault_of(count: &mut u64, error: io::Error) -> IoFault
+    ensures kind { result ≡ fault_of (error_kind error) }
     ensures failed { result ≡ IoFault.Failed → Rose true count.old count.new }
     ensures memory { result ≡ IoFault.NoMemory → count.new ≡ count.old }
     ensures later { count.old ≤ count.new }
@@ -45,6 +48,17 @@ fn fault_of(count: &mut u64, error: io::Error) -> IoFault
             *count = count.saturating_add(1);
             IoFault::Failed
         }
+    }
+}
+
+// As what an error of opening a file is told.
+fn fault_of_open(error: &io::Error) -> OpenFault
+    ensures { result ≡ fault_of_open (error_kind error.now) }
+{
+    match error.kind() {
+        ErrorKind::OutOfMemory => OpenFault::NoMemory,
+        ErrorKind::NotFound => OpenFault::Absent,
+        _ => OpenFault::Failed,
     }
 }
 
@@ -114,13 +128,13 @@ impl<R: Files + Drop> Host for RealHost<R> {
                 self.input = Some(file);
                 Ok(())
             }
-            Err(error) => match error.kind() {
-                ErrorKind::OutOfMemory => Err(OpenFault::NoMemory),
-                ErrorKind::NotFound => {
+            Err(error) => match fault_of_open(&error) {
+                OpenFault::NoMemory => Err(OpenFault::NoMemory),
+                OpenFault::Absent => {
                     self.absent = self.absent.saturating_add(1);
                     Err(OpenFault::Absent)
                 }
-                _ => {
+                OpenFault::Failed => {
                     self.reads = self.reads.saturating_add(1);
                     Err(OpenFault::Failed)
                 }

@@ -1,3 +1,4 @@
+-- What a reader must believe.
 pub mod RootedFaults
 -- What the clauses cite of lower crates.
 pub use Rattle.goal_blocks.specs.Collectives

@@ -11,34 +11,94 @@ use Rattle.sim_params.specs.Numbers.{numbers}
 use Rattle.goal_words.specs.declared.line.Line.{Line}
 use Rattle.goal_words.specs.declared.line.Line.TheVariants as line
 use Rattle.goal_words.specs.declared.kinds.TheConstants.{MAX_ROOT, MAX_ROUNDS}
+use Rattle.goal_words.specs.declared.sentence.Source.{Source}
+use Rattle.goal_words.specs.declared.sentence.Source.TheVariants as source
+use Rattle.goal_words.specs.declared.sentence.Costing.{Costing}
+use Rattle.goal_words.specs.declared.sentence.Costing.TheVariants as costing
+use Rattle.goal_words.specs.declared.sentence.RunView.TheVariants as run
+use Rattle.goal_words.specs.declared.sentence.View.{View}
+use Rattle.goal_words.specs.declared.sentence.View.TheVariants as view
+use Rattle.goal_words.specs.declared.sentence.Sentence.{Sentence}
 use Rattle.goal_words.specs.Options.{Place, run_options, root_option, value_of, places, plain_words, is_right, value_at, numbers_of, within_limits}
 
--- what a command line asks for
-pub data Command : Type 0 where
-  -- to run the schedule of the file of that name with these parameters
-  Sim : List ℕ → Numbers → Command
-  -- to run it in the same way, and to report how long its operations waited
-  Waits : List ℕ → Numbers → Command
-  -- to run it in the same way, and to write the knots of its stuck operations
-  Knots : List ℕ → Numbers → Command
-  -- to run it in the same way, with the costs of the machine that the file of the second name says
-  Nodes : List ℕ → List ℕ → Command
-  -- to write its compiled file to the file of the second name
-  Compile : List ℕ → List ℕ → Command
-  -- to write its canonical text
-  Show : List ℕ → Command
-  -- to write the canonical text of the schedule that is made for the collective, of so many ranks and bytes
-  Gen : Collective → ℕ → ℕ → Command
-  -- to say whether the schedule of the file of that name is right for the collective
-  Certify : Collective → List ℕ → Command
-  -- to run the probe of so many rounds that are drawn from a seed, with these parameters
-  Probe : ℕ → ℕ → Numbers → Command
+-- What the actions of a schedule cost.
+pub data Pricing : Type 0 where
+  -- by parameters of these numbers
+  ByNumbers : Numbers → Pricing
+  -- by the machine that the file of that name says
+  ByMachine : List ℕ → Pricing
+  -- nothing is asked of costs, since nothing is run
+  Unpriced : Pricing
 
--- the messages or the rounds that a command asks for are not too many
+-- What a command line asks for is one sentence: a schedule from a source, with what its actions cost, is shown.
+pub record Command : Type 0 where
+  pub source : Source
+  pub costs : Pricing
+  pub view : View
+
+abbrev pub asks : Source → Pricing → View → Command
+asks source costs view = record { source = source; costs = costs; view = view }
+
+-- to run the schedule of the file of that name with these parameters, and to print the run
+abbrev pub Sim : List ℕ → Numbers → Command
+Sim name numbers = asks (source.File name) (ByNumbers numbers) (view.Run run.Printed)
+
+-- to run it in the same way, and to report how long its operations waited
+abbrev pub Waits : List ℕ → Numbers → Command
+Waits name numbers = asks (source.File name) (ByNumbers numbers) (view.Run run.Waits)
+
+-- to run it in the same way, and to write the knots of its stuck operations
+abbrev pub Knots : List ℕ → Numbers → Command
+Knots name numbers = asks (source.File name) (ByNumbers numbers) (view.Run run.Knots)
+
+-- to run it with the costs of the machine that the file of the second name says, and to print the run
+abbrev pub Nodes : List ℕ → List ℕ → Command
+Nodes name machine = asks (source.File name) (ByMachine machine) (view.Run run.Printed)
+
+-- to write its compiled file to the file of the second name
+abbrev pub Compile : List ℕ → List ℕ → Command
+Compile name out = asks (source.File name) Unpriced (view.File out)
+
+-- to write its canonical text
+abbrev pub Show : List ℕ → Command
+Show name = asks (source.File name) Unpriced view.Text
+
+-- to write the canonical text of the schedule that is made for the collective, of so many ranks and bytes
+abbrev pub Gen : Collective → ℕ → ℕ → Command
+Gen what ranks bytes = asks (source.Made what ranks bytes) Unpriced view.Text
+
+-- to say whether the schedule of the file of that name is right for the collective
+abbrev pub Certify : Collective → List ℕ → Command
+Certify what name = asks (source.File name) Unpriced (view.Verdict what)
+
+-- to run the probe of so many rounds that are drawn from a seed, with these parameters, and to sum it up
+abbrev pub Probe : ℕ → ℕ → Numbers → Command
+Probe rounds seed numbers = asks (source.Drawn rounds seed) (ByNumbers numbers) (view.Run run.Sum)
+
+-- a view of a run
+abbrev pub IsRun : View → Type 0
+IsRun (view.Run how) = Unit {0}
+IsRun view.Text = ⊥
+IsRun (view.File name) = ⊥
+IsRun (view.Verdict what) = ⊥
+
+abbrev pub PricedFor : Pricing → View → Type 0
+PricedFor (ByNumbers numbers) v = IsRun v
+PricedFor (ByMachine name) v = IsRun v
+PricedFor Unpriced v = IsRun v → ⊥
+
+-- what is shown by its run has costs, and nothing else has
+abbrev pub IsPriced : Command → Type 0
+IsPriced c = PricedFor c.costs c.view
+
+-- the messages or the rounds of a source are not too many
+abbrev pub IsSizedSource : Source → Type 0
+IsSizedSource (source.File name) = Unit {0}
+IsSizedSource (source.Made what ranks bytes) = bytes ≤ MAX_BYTES
+IsSizedSource (source.Drawn rounds seed) = rounds ≤ MAX_ROUNDS
+
 abbrev pub IsSized : Command → Type 0
-IsSized (Gen what ranks bytes) = bytes ≤ MAX_BYTES
-IsSized (Probe rounds seed params) = rounds ≤ MAX_ROUNDS
-IsSized _ = Unit {0}
+IsSized c = IsSizedSource c.source
 
 -- the options that a command takes, by the first word
 abbrev pub options_of : List ℕ → List (List ℕ)
@@ -167,3 +227,12 @@ command (line.Show name) = Show name
 command (line.Gen what ranks bytes) = Gen what ranks bytes
 command (line.Certify what name) = Certify what name
 command (line.Probe rounds seed params) = Probe rounds seed (numbers params)
+
+-- the same of its parts
+abbrev pub pricing : Costing → Pricing
+pricing (costing.Params params) = ByNumbers (numbers params)
+pricing (costing.Machine name) = ByMachine name
+pricing costing.None = Unpriced
+
+abbrev pub said : Sentence → Command
+said s = asks s.source (pricing s.costs) s.view

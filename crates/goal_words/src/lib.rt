@@ -20,8 +20,10 @@ mod laws;
 mod line;
 mod options;
 mod rest;
+mod sentence;
 #[cfg(test)]
 mod tests;
 
 pub use laws::laws_of_lines;
 pub use line::{FileName, Line, LineFault, read_words};
+pub use sentence::{Costing, RunView, Sentence, Source, View};

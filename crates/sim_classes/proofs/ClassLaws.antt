@@ -44,3 +44,7 @@ own_by m None one e = rw e refl
 pub own_inside : (m : Known) (rank : ℕ) → class_of m rank rank ≡ m.inside
 unfolding class_of
 own_inside m rank = own_by m (slice_get m.nodes rank) (rank == rank) (eq-eqb rank rank refl)
+
+pub one_node_inside : (m : Known) (from to node : ℕ) → slice_get m.nodes from ≡ Some node → slice_get m.nodes to ≡ Some node → class_of m from to ≡ m.inside
+unfolding class_of
+one_node_inside m from to node a b = rw (a, b, eq-eqb node node refl) refl

@@ -1,26 +1,46 @@
 -- The keys of the map of pairs of nodes.
-use Rattle.std.proofs.Common.{ℕ, ◌≡◌, ◌==◌, ◌&&◌, ◌<◌, Bool, true, false, cond, Some, if◌then◌else◌, refl, sym, ap₂, ◌∙◌, subst}
+use Rattle.std.proofs.Common.{ℕ, ◌≡◌, ◌==◌, ◌&&◌, ◌<◌, ◌≤◌, nat_lt, Bool, true, false, cond, Some, None, if◌then◌else◌, refl, sym, ap, ◌∙◌, subst, arith, eq-eqb}
 use Rattle.std.specs.Ordering.{nat_cmp}
-use Rattle.std.specs.Cmp.{tied_then}
 use Rattle.std.specs.BTreeMap.{BTreeMap, get, is_at}
+use Rattle.std.proofs.lemmas.Bool.{and_parts, both_ways, eqb-true, false_from_ne_true, le-ltb, lt-ltb, ltb-true, ltb-false}
 use Rattle.goal_graph.proofs.ForCallers.{alike_numbers, eqb-swapped}
-use Rattle.sim_classes.specs.Parts.{pair_cmp, told_by}
+use Rattle.sim_classes.specs.Parts.{pair_key, told_by}
 use Rattle.sim_classes.specs.Form.{telling}
 
-same_pair : (a b x y : ℕ) → is_at (pair_cmp (a, b)) (x, y) ≡ ((x == a) && (y == b))
-same_pair a b x y =
-    sym (tied_then (nat_cmp a x) (nat_cmp b y)) ∙ ap₂ (λ (s t : Bool). s && t) (alike_numbers a x ∙ eqb-swapped a x) (alike_numbers b y ∙ eqb-swapped b y)
+same_key : (a b x y : ℕ) → b < 4294967296 → y < 4294967296 → is_at (nat_cmp (pair_key a b)) (pair_key x y) ≡ ((x == a) && (y == b))
+same_key a b x y small low = alike_numbers (pair_key a b) (pair_key x y) ∙ eqb-swapped (pair_key a b) (pair_key x y) ∙ go (x == a) (y == b) refl refl
+  where
+    go : (s t : Bool) → (x == a) ≡ s → (y == b) ≡ t → (pair_key x y == pair_key a b) ≡ (s && t)
+    go true true e f = eq-eqb (pair_key x y) (pair_key a b) (omega (arith, eqb-true x a e, eqb-true y b f))
+    go true false e f = false_from_ne_true (pair_key x y == pair_key a b) (λ k. both_ways (y == b) f (eq-eqb y b (omega (arith, eqb-true (pair_key x y) (pair_key a b) k, small, low))))
+    go false t e f = false_from_ne_true (pair_key x y == pair_key a b) (λ k. both_ways (x == a) e (eq-eqb x a (omega (arith, eqb-true (pair_key x y) (pair_key a b) k, small, low))))
+
+-- what a map tells is what stands at the key
+pub told_low : (m : BTreeMap ℕ ℕ) (x y : ℕ) → y < 4294967296 → told_by m x y ≡ get nat_cmp m (pair_key x y)
+told_low m x y low = rw (lt-ltb y 4294967296 low) refl
+
+told_high : (m : BTreeMap ℕ ℕ) (x y : ℕ) → 4294967296 ≤ y → told_by m x y ≡ None
+told_high m x y high = rw (le-ltb y 4294967296 high) refl
 
 -- what a map tells after a pair was put into it
-pub told_after : (m n : BTreeMap (ℕ × ℕ) ℕ) (a b class : ℕ) → ((q : ℕ × ℕ) → get pair_cmp n q ≡ cond (is_at (pair_cmp (a, b)) q) (Some class) (get pair_cmp m q)) → (x y : ℕ) → told_by n x y ≡ telling (told_by m) a b class x y
-told_after m n a b class updates x y = updates (x, y) ∙ go ((x == a) && (y == b)) (same_pair a b x y)
+pub told_after : (m n : BTreeMap ℕ ℕ) (a b key class : ℕ) → key ≡ pair_key a b → b < 4294967296 → ((q : ℕ) → get nat_cmp n q ≡ cond (is_at (nat_cmp key) q) (Some class) (get nat_cmp m q)) → (x y : ℕ) → told_by n x y ≡ telling (told_by m) a b class x y
+told_after m n a b key class is small updates x y = go (nat_lt y 4294967296) refl
   where
-    go : (t : Bool) → is_at (pair_cmp (a, b)) (x, y) ≡ t → cond (is_at (pair_cmp (a, b)) (x, y)) (Some class) (get pair_cmp m (x, y)) ≡ (if t then Some class else told_by m x y)
-    go true e = rw e refl
-    go false e = rw e refl
+    mid : y < 4294967296 → (t : Bool) → is_at (nat_cmp key) (pair_key x y) ≡ t → cond (is_at (nat_cmp key) (pair_key x y)) (Some class) (get nat_cmp m (pair_key x y)) ≡ (if t then Some class else told_by m x y)
+    mid low true e = rw e refl
+    mid low false e = rw e (sym (told_low m x y low))
+
+    far : nat_lt y 4294967296 ≡ false → (t : Bool) → ((x == a) && (y == b)) ≡ t → None ≡ (if t then Some class else told_by m x y)
+    far e true f = absurd (both_ways (nat_lt y 4294967296) e (lt-ltb y 4294967296 (let same = eqb-true y b (and_parts (x == a) (y == b) f).1 in omega (arith, same, small))))
+    far e false f = sym (told_high m x y (ltb-false y 4294967296 e))
+
+    go : (t : Bool) → nat_lt y 4294967296 ≡ t → told_by n x y ≡ telling (told_by m) a b class x y
+    go true e = let low = ltb-true y 4294967296 e in
+        told_low n x y low ∙ updates (pair_key x y) ∙ mid low ((x == a) && (y == b)) (ap (λ (k : ℕ). is_at (nat_cmp k) (pair_key x y)) is ∙ same_key a b x y small low)
+    go false e = told_high n x y (ltb-false y 4294967296 e) ∙ far e ((x == a) && (y == b)) refl
 
 -- each class that it tells is in range, where the new one is
-pub told_within : (m n : BTreeMap (ℕ × ℕ) ℕ) (a b class limit : ℕ) → ((x y : ℕ) → told_by n x y ≡ telling (told_by m) a b class x y) → class < limit → ((x y c : ℕ) → told_by m x y ≡ Some c → c < limit) → (x y c : ℕ) → told_by n x y ≡ Some c → c < limit
+pub told_within : (m n : BTreeMap ℕ ℕ) (a b class limit : ℕ) → ((x y : ℕ) → told_by n x y ≡ telling (told_by m) a b class x y) → class < limit → ((x y c : ℕ) → told_by m x y ≡ Some c → c < limit) → (x y c : ℕ) → told_by n x y ≡ Some c → c < limit
 told_within m n a b class limit after low before x y c is = go ((x == a) && (y == b)) (sym (after x y) ∙ is)
   where
     go : (t : Bool) → (if t then Some class else told_by m x y) ≡ Some c → c < limit

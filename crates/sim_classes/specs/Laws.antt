@@ -1,5 +1,5 @@
 -- The laws of machines. The function `laws_of_machines` ensures each.
-use Rattle.std.specs.Prelude.{ℕ, ◌≡◌, ◌<◌, List, length, Ok}
+use Rattle.std.specs.Prelude.{ℕ, ◌≡◌, ◌<◌, List, length, slice_get, Some, Ok}
 use Rattle.sim_params.specs.Costs.{Numbers, log_gops}
 use Rattle.sim_classes.specs.Machine.{Known, IsWhole, class_of, numbers_of, costs_of}
 use Rattle.sim_classes.specs.Form.{machine}
@@ -12,9 +12,13 @@ ClassesAreThere = (m : Known) (from to : ℕ) → IsWhole m → class_of m from 
 abbrev pub AlikeIsLogGops : Type 0
 AlikeIsLogGops = (m : Known) (n : Numbers) → IsWhole m → ((class : ℕ) → class < length m.classes → numbers_of m class ≡ n) → costs_of m ≡ log_gops n
 
--- A message from a rank to itself, and one between two ranks of one node, has the class inside a node.
+-- a message from a rank to itself has the class inside a node
 abbrev pub OwnIsInside : Type 0
 OwnIsInside = (m : Known) (rank : ℕ) → class_of m rank rank ≡ m.inside
+
+-- and so has a message between two ranks of one node
+abbrev pub OneNodeIsInside : Type 0
+OneNodeIsInside = (m : Known) (from to node : ℕ) → slice_get m.nodes from ≡ Some node → slice_get m.nodes to ≡ Some node → class_of m from to ≡ m.inside
 
 -- a machine that a text says is whole
 abbrev pub SaidIsWhole : Type 0

@@ -1,18 +1,18 @@
 -- What the parts of a machine of the code tell.
-use Rattle.std.specs.Prelude.{ℕ, List, map, Option}
-use Rattle.std.specs.Ordering.{nat_cmp, ordering_then}
+use Rattle.std.specs.Prelude.{ℕ, ◌+◌, ◌*◌, nat_lt, List, map, Option, None, if◌then◌else◌}
+use Rattle.std.specs.Ordering.{nat_cmp}
 use Rattle.std.specs.BTreeMap.{BTreeMap, get}
-use Rattle.std.specs.declared.cmp.Ordering.{Ordering}
 use Rattle.sim_params.specs.declared.params.Params.{Params}
 use Rattle.sim_params.specs.Numbers.{numbers}
 use Rattle.sim_classes.specs.Machine.{Known, machine_with}
 
-abbrev pub pair_cmp : ℕ × ℕ → ℕ × ℕ → Ordering
-pair_cmp a b = ordering_then (nat_cmp a.0 b.0) (nat_cmp a.1 b.1)
+-- the key of a pair of nodes
+abbrev pub pair_key : ℕ → ℕ → ℕ
+pair_key a b = 4294967296 * a + b
 
 -- the class that a map tells for two nodes
-abbrev pub told_by : BTreeMap (ℕ × ℕ) ℕ → ℕ → ℕ → Option ℕ
-told_by told a b = get pair_cmp told (a, b)
+abbrev pub told_by : BTreeMap ℕ ℕ → ℕ → ℕ → Option ℕ
+told_by told a b = if nat_lt b 4294967296 then get nat_cmp told (pair_key a b) else None
 
-abbrev pub known_of : List Params → ℕ → ℕ → List ℕ → BTreeMap (ℕ × ℕ) ℕ → Known
+abbrev pub known_of : List Params → ℕ → ℕ → List ℕ → BTreeMap ℕ ℕ → Known
 known_of classes inside usual nodes told = machine_with (map numbers classes) inside usual nodes (told_by told)

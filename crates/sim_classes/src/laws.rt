@@ -1,15 +1,17 @@
 //! The laws of machines. Their function does nothing: a proof cites a law by a call.
-ghost use Rattle.sim_classes.specs.Laws.{ClassesAreThere, AlikeIsLogGops, OwnIsInside, SaidIsWhole};
+ghost use Rattle.sim_classes.specs.Laws.{ClassesAreThere, AlikeIsLogGops, OwnIsInside, OneNodeIsInside, SaidIsWhole};
 
 /// What holds of each machine whose named classes are its own (`IsWhole`), as those of each `Machine` are:
 ///
 /// - `there`: each message has one of its classes.
 /// - `alike`: where all classes have the same parameters, the costs are those of LogGOPS with these.
 /// - `own`: a message from a rank to itself has the class inside a node.
+/// - `one_node`: so has a message between two ranks of one node.
 /// - `whole`: each machine that a text says is one of these.
 pub fn laws_of_machines()
     ensures there { ClassesAreThere }
     ensures alike { AlikeIsLogGops }
     ensures own { OwnIsInside }
+    ensures one_node { OneNodeIsInside }
     ensures whole { SaidIsWhole }
 {}

@@ -11,7 +11,7 @@ ghost use Rattle.sim_classes.specs.Known.{known};
 ghost use Rattle.sim_classes.specs.Form.{Form, Value, said, class_part, classes_part, places_part, nodes_part, triples_part, triples, new_target, machine};
 
 use crate::fault::MachineFault;
-use crate::machine::{MAX_CLASSES, MAX_NODE, MAX_PAIRS, Machine};
+use crate::machine::{MAX_CLASSES, MAX_NODE, MAX_PAIRS, Machine, pair_key};
 use crate::words::Words;
 use goal_base::{MAX_PARAM, MAX_PER_BYTE, MAX_RANKS};
 use sim_params::{MAX_PICOS, Params};
@@ -84,7 +84,7 @@ fn read_nodes(alloc: Global, words: &mut Words<'_>, count: u64) -> Result<Vec<u3
 // A node to which no class is told yet from node `from`.
 fn read_target(
     words: &mut Words<'_>,
-    told: &BTreeMap<(u32, u32), u32>,
+    told: &BTreeMap<u64, u32>,
     from: u32,
 ) -> Result<u32, MachineFault>
     ensures next { IfOk result (λ n. (m : Known) (rest : ℕ → Form) → m.told ≡ told_by told.now
@@ -99,7 +99,7 @@ fn read_target(
         return Err(MachineFault::Number { at });
     }
     let target = value as u32;
-    if told.contains_key(&(from, target)) {
+    if told.contains_key(&pair_key(from, target)) {
         return Err(MachineFault::Repeat { at });
     }
     Ok(target)
@@ -111,7 +111,7 @@ fn read_pairs(
     words: &mut Words<'_>,
     count: u64,
     classes: u64,
-) -> Result<BTreeMap<(u32, u32), u32>, MachineFault>
+) -> Result<BTreeMap<u64, u32>, MachineFault>
     requires { classes ≤ 16 }
     ensures next { IfOk result (λ told. (numbers : List Numbers) (inside usual : ℕ) (nodes : List ℕ) → length numbers ≡ classes
         → said (triples count (machine_with numbers inside usual nodes (λ a b. None))) words.old.place words.old.words
@@ -126,7 +126,7 @@ fn read_pairs(
         let from = words.number_from(0, MAX_NODE)? as u32;
         let to = read_target(words, &told, from)?;
         let class = words.class_number(classes)? as u32;
-        told.insert((from, to), class)?;
+        told.insert(pair_key(from, to), class)?;
     }
     words.end()?;
     Ok(told)

@@ -1,7 +1,8 @@
--- What a reader must believe, and the laws.
+-- What a reader must believe.
 pub mod Knots
 pub mod KnotsText
-pub mod Laws
--- What the search keeps.
+-- What only the code keeps.
 pub mod Places
 pub mod Walks
+-- Laws.
+pub mod Laws

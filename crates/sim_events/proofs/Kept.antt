@@ -1,8 +1,8 @@
 -- What operations wait for stays as it is once it is there. So the time of an allowed action rises only with that at which
 -- its station is free.
-use Rattle.std.proofs.Common.{◌≡◌, ◌≤◌, ◌+◌, ◌||◌, ◌&&◌, ℕ, max, Bool, true, false, not, List, [], ◌∷◌, Option, Some, None, if◌then◌else◌, refl, sym, ap, ap₂, ◌∙◌, arith}
+use Rattle.std.proofs.Common.{◌≡◌, ◌≤◌, ◌+◌, ◌||◌, ◌&&◌, ℕ, max, Bool, true, false, not, List, [], ◌∷◌, Option, Some, None, if◌then◌else◌, refl, ap, ap₂, ◌∙◌, arith}
 use Rattle.std.specs.List.{list_all}
-use Rattle.std.proofs.lemmas.Bool.{and_parts, both_ways, cond-true}
+use Rattle.std.proofs.lemmas.Bool.{and_parts, both_ways}
 use Rattle.goal_graph.specs.declared.action.OpId.{OpId}
 use Rattle.goal_graph.specs.declared.action.Timed.{Timed}
 use Rattle.goal_graph.specs.declared.action.Class.{Class}
@@ -22,23 +22,10 @@ use Rattle.sim_params.specs.Costs.{CostModel, flight, is_eager}
 use Rattle.sim_params.specs.Times.{since, mate, greatest, met_at, ready, cpu, tx, rx, paired_at, there_at, time_of, time}
 use Rattle.sim_params.specs.Run.{IsRun}
 use Rattle.sim_params.proofs.ForCallers.{run_each, start_kept, end_kept, paired_at_kept, mate_stays, since_kept}
-use Rattle.sim_queue.specs.Floors.{waits_for_room}
-use Rattle.sim_events.specs.Stations.{free, free_of}
-use Rattle.sim_events.specs.Cursors.{is_there}
-use Rattle.sim_events.specs.Queue.{IsEarly, told_time}
-use Rattle.sim_events.proofs.Ready.{there_at as moment_at}
-
--- the time that a key tells of an action that waits for room
-pub told_waiting : (plans : List Plan) (costs : CostModel) (h : List Timed) (e : Timed) → waits_for_room e.class ≡ true → told_time plans costs h e ≡ max e.time (free plans costs h e.op)
-told_waiting plans costs h e w = cond-true _ _ _ w
-
--- a key is not too late
-pub not_later : (plans : List Plan) (costs : CostModel) (h : List Timed) (x : OpId) (e : Timed) → IsEarly plans costs h x e → e.time ≤ time plans costs h e.class e.op
-not_later plans costs h x e b = omega (arith, b.told, within (waits_for_room e.class) e.time (free plans costs h e.op))
-  where
-    within : (w : Bool) (n f : ℕ) → n ≤ (if w then max n f else n)
-    within true n f = omega arith
-    within false n f = omega arith
+use Rattle.sim_stations.specs.Stations.{waits_for_room}
+use Rattle.sim_state.specs.Free.{free, free_of}
+use Rattle.sim_state.specs.Cursors.{is_there}
+use Rattle.sim_state.proofs.ForCallers.{there_at as moment_at}
 
 module _ (plans : List Plan) (costs : CostModel) (h : List Timed) where
   -- what waits is not possible before all is free
@@ -61,14 +48,6 @@ module _ (plans : List Plan) (costs : CostModel) (h : List Timed) where
   free_first class x w a =
       let both = and_parts (not (happened class x (plain h))) (may plans (is_eager plans costs) (plain h) class x (kind_at plans x)) a in
       not_before class x (kind_at plans x) w both.1
-
-  -- the time of an action, told by itself
-  pub told_itself : (e : Timed) → allowed plans (is_eager plans costs) (plain h) e.class e.op ≡ true → e.time ≡ time plans costs h e.class e.op → time plans costs h e.class e.op ≡ told_time plans costs h e
-  told_itself e p at = sym at ∙ go (waits_for_room e.class) (λ w. free_first e.class e.op w p)
-    where
-      go : (w : Bool) → (w ≡ true → free plans costs h e.op ≤ time plans costs h e.class e.op) → e.time ≡ (if w then max e.time (free plans costs h e.op) else e.time)
-      go true first = omega (arith, first refl, at)
-      go false first = refl
 
 module _ (plans : List Plan) (costs : CostModel) (a : Timed) (h : List Timed) where
   -- a station is not free sooner
@@ -128,14 +107,6 @@ module _ (plans : List Plan) (costs : CostModel) (a : Timed) (h : List Timed) wh
     after Serve x (Some (Recv room from tag)) is m = omega (arith, message_kept x m, free_of_grows x (Some (Recv room from tag)))
     after _ x _ is m = absurd (both_ways false refl m)
 
-    time_after : (class : Class) (x : OpId) → allowed plans (is_eager plans costs) (plain h) class x ≡ true → time plans costs (a ∷ h) class x ≡ (if waits_for_room class then max (time plans costs h class x) (free plans costs (a ∷ h) x) else time plans costs h class x)
+    pub time_after : (class : Class) (x : OpId) → allowed plans (is_eager plans costs) (plain h) class x ≡ true → time plans costs (a ∷ h) class x ≡ (if waits_for_room class then max (time plans costs h class x) (free plans costs (a ∷ h) x) else time plans costs h class x)
     unfolding time allowed
     time_after class x p = after class x (kind_at plans x) refl (and_parts (not (happened class x (plain h))) _ p).1
-
-    -- so what a key tells of the time of its action stays right
-    pub told_after : (e : Timed) → allowed plans (is_eager plans costs) (plain h) e.class e.op ≡ true → time plans costs h e.class e.op ≡ told_time plans costs h e → time plans costs (a ∷ h) e.class e.op ≡ told_time plans costs (a ∷ h) e
-    told_after e p told = time_after e.class e.op p ∙ go (waits_for_room e.class) _ _ _ _ (free_of_grows e.op (kind_at plans e.op)) told
-      where
-        go : (w : Bool) (t n f g : ℕ) → f ≤ g → t ≡ (if w then max n f else n) → (if w then max t g else t) ≡ (if w then max n g else n)
-        go true t n f g l e = omega (arith, l, e)
-        go false t n f g l e = e

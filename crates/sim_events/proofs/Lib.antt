@@ -1,29 +1,15 @@
-pub mod Places
-pub mod Ready
-mod Cursors
 pub mod Keys
 pub mod Kept
+mod Cursors
 pub mod Done
 pub mod Awaited
+pub mod FreeAfter
+pub mod Held
 pub mod Queue
+pub mod Settled
 pub mod Steps
-pub mod Empty
 pub mod Runs
-pub mod After
-pub mod Pairings
-pub mod FreeTimes
-pub mod PostsAndArrivals
-pub mod Fits
-pub mod HoldTimes
-pub mod Entries
-pub mod Performed
-pub mod Views
-pub mod EnabledLemmas
-pub mod Shapes
-pub mod Choice
+pub mod Placing
 pub mod Numbering
-pub mod Changes
 pub mod Costs
-pub mod Lifts
-pub mod Once
 pub mod ForCallers

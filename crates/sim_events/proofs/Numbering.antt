@@ -1,90 +1,193 @@
--- Stations are numbered one after the other.
-use Rattle.std.proofs.Common.{◌≡◌, ◌⊎◌, ◌==◌, ◌&&◌, ◌+◌, ◌<◌, ◌≤◌, ℕ, true, All, List, [], ◌∷◌, ◌++◌, length, Some, slice_get, refl, sym, ap, ◌∙◌, subst, arith, inl, inr}
-use Rattle.std.proofs.lemmas.Bool.{and_parts, eqb-true, cases_lt}
-use Rattle.std.proofs.lemmas.List.{length-append}
+-- Stations and their resources are numbered one after the other.
+use Rattle.std.proofs.Common.{◌≡◌, ◌≢◌, ◌⊎◌, ◌+◌, ◌<◌, ◌≤◌, ◌++◌, ℕ, All, List, [], ◌∷◌, length, get_or, append-nil, Option, Some, None, slice_get, slice_index, refl, sym, ap, ◌∙◌, subst, arith, inl, inr}
+use Rattle.std.proofs.lemmas.Bool.{cases_lt}
+use Rattle.std.proofs.lemmas.List.{length-append, get_or_append_left}
 use Rattle.std.proofs.lemmas.List.Elements.{All-push}
-use Rattle.std.proofs.lemmas.Option.{same_Some, slice_get_within}
+use Rattle.std.proofs.lemmas.Option.{same_Some, slice_get-get_or, slice_get_within, get_or_from_slice_get}
 use Rattle.goal_graph.specs.declared.action.OpId.{OpId}
+use Rattle.goal_graph.specs.declared.plan.Kind.{Kind}
+use Rattle.goal_graph.specs.declared.plan.Kind.TheVariants.{Calc, Send, Recv}
 use Rattle.goal_graph.specs.declared.plan.Op.{Op}
 use Rattle.goal_graph.specs.Schedule.{Plan, op_at, operations}
-use Rattle.sim_resources.proofs.ForCallers.{get_kept}
+use Rattle.goal_graph.specs.Order.{IsBefore}
+use Rattle.goal_graph.proofs.ForCallers.{get_last, operations_in_order}
+use Rattle.sim_resources.proofs.ForCallers.{get_kept, get_either}
+use Rattle.sim_stations.specs.declared.pair.Pair.{Pair}
+use Rattle.sim_stations.specs.Stations.{DoExist}
 use Rattle.sim_events.specs.declared.station.Station.{Station}
-use Rattle.sim_events.specs.Stations.{station_of, AreStationed, same_choice, same_station, HasNumber, HasStation}
-use Rattle.goal_graph.proofs.ForCallers.{same_choice_true, get_last}
+use Rattle.sim_events.specs.Stations.{station_by, station_of, cpu_alone, side_by, side_alone, IsNotAfter, AreOnce, HasNumber, HasPair, IsNumbering, AreStationed}
 
-pub same_station_true : (p q : Station) → same_station p q ≡ true → p ≡ q
-same_station_true p q e =
-    let outer = and_parts (p.rank == q.rank) ((p.cpu == q.cpu) && (same_choice p.sends q.sends && same_choice p.receives q.receives)) e in
-    let middle = and_parts (p.cpu == q.cpu) (same_choice p.sends q.sends && same_choice p.receives q.receives) outer.1 in
-    let inner = and_parts (same_choice p.sends q.sends) (same_choice p.receives q.receives) middle.1 in
-    let rank = eqb-true p.rank q.rank outer.0 in
-    let cpu = eqb-true p.cpu q.cpu middle.0 in
-    let sends = same_choice_true p.sends q.sends inner.0 in
-    let receives = same_choice_true p.receives q.receives inner.1 in
-    λ i. record { rank = rank i; cpu = cpu i; sends = sends i; receives = receives i }
+-- what stands behind a list
+get_first : {X : Type 0} (xs : List X) (t : X) (more : List X) → slice_get (xs ++ t ∷ more) (length xs) ≡ Some t
+get_first [] t more = refl
+get_first (y ∷ xs) t more = get_first xs t more
+
+-- what is after one more is what was or the one
+has_either : (before after : List Station) (station : Station) (number : ℕ) → HasNumber before after station number → (i : ℕ) (s : Station) → slice_get after i ≡ Some s → (slice_get before i ≡ Some s) ⊎ (s ≡ station)
+has_either before after station number has i s e = go has.more has.by_one (subst (λ (xs : List Station). slice_get xs i ≡ Some s) has.grown e) has.of_it
+  where
+    go : (more : List Station) → length more ≤ 1 → slice_get (before ++ more) i ≡ Some s → ((j : ℕ) (t : Station) → slice_get more j ≡ Some t → t ≡ station) → (slice_get before i ≡ Some s) ⊎ (s ≡ station)
+    go [] one f of_it = inl (subst (λ (xs : List Station). slice_get xs i ≡ Some s) (append-nil before) f)
+    go (t ∷ []) one f of_it = elim (get_either before t i s f) [ inl was ↦ inl was | inr new ↦ inr (new.1 ∙ of_it 0 t refl) ]
+    go (t ∷ u ∷ more) one f of_it = absurd (omega (arith, one))
+
+pub has_kept : (before after : List Station) (station : Station) (number : ℕ) → HasNumber before after station number → (i : ℕ) (s : Station) → slice_get before i ≡ Some s → slice_get after i ≡ Some s
+has_kept before after station number has i s e =
+    subst (λ (xs : List Station). slice_get xs i ≡ Some s) (sym has.grown) (get_kept before has.more i s e)
+
+has_longer : (before after : List Station) (station : Station) (number : ℕ) → HasNumber before after station number → (length after ≤ length before + 1) × (length before ≤ length after)
+has_longer before after station number has =
+    let size = ap length has.grown ∙ length-append before has.more in
+    (omega (arith, size, has.by_one), omega (arith, size))
+
+-- a station and its parts are of one rank
+side_rank : (s : Station) (a b : Option ℕ) → (side_by s a b).rank ≡ s.rank
+side_rank s None None = refl
+side_rank s (Some n) b = refl
+side_rank s None (Some n) = refl
+
+pub station_rank : (x : OpId) (o : Op) → (station_of x o).rank ≡ x.rank
+station_rank x o = go o.kind
+  where
+    go : (k : Kind) → (station_by x o k).rank ≡ x.rank
+    go (Calc n) = refl
+    go (Send n t u) = refl
+    go (Recv n t u) = refl
+
+not_after_more : (before after : List Station) (station : Station) (number rank : ℕ) → HasNumber before after station number → IsNotAfter before rank → station.rank ≤ rank → IsNotAfter after rank
+not_after_more before after station number rank has was l j s e =
+    elim (has_either before after station number has j s e) [ inl old ↦ was j s old | inr new ↦ omega (arith, l, ap (λ (t : Station). t.rank) new) ]
+
+module _ (stations resources : List Station) (pairs : List Pair) (is : IsNumbering stations resources pairs) (after : List Station) (station : Station) (number : ℕ) (has : HasNumber stations after station number) (once : AreOnce after) where
+  -- it is a new one
+  pub numbered_new : number ≡ length pairs → (more : List Station) (p : Pair) → HasPair resources more station p → AreOnce more → IsNumbering after more (pairs ++ p ∷ [])
+  numbered_new new more p pair more_once = record {
+    each = omega (arith, length-append pairs (p ∷ []), is.each, sizes.0, there, new);
+    few = omega (arith, is.few, (has_longer _ _ _ _ pair.cpu).0, (has_longer _ _ _ _ pair.side).0, is.each, there, new);
+    once = once;
+    resources_once = more_once;
+    cpus = λ n s q at there. elim (get_either pairs p n q there) [
+      | inl was ↦ has_kept _ _ _ _ pair.side q.cpu _ (has_kept _ _ _ _ pair.cpu q.cpu _ (is.cpus n s q (old n s q at was) was))
+      | inr one ↦ subst (λ (t : Pair). slice_get more t.cpu ≡ Some (cpu_alone s)) (sym one.1) (subst (λ (t : Station). slice_get more p.cpu ≡ Some (cpu_alone t)) (newest n s at one.0) (has_kept _ _ _ _ pair.side p.cpu _ pair.cpu.is))
+    ];
+    sides = λ n s q at there. elim (get_either pairs p n q there) [
+      | inl was ↦ has_kept _ _ _ _ pair.side q.side _ (has_kept _ _ _ _ pair.cpu q.side _ (is.sides n s q (old n s q at was) was))
+      | inr one ↦ subst (λ (t : Pair). slice_get more t.side ≡ Some (side_alone s)) (sym one.1) (subst (λ (t : Station). slice_get more p.side ≡ Some (side_alone t)) (newest n s at one.0) pair.side.is)
+    ];
+    of_stations = λ rank last.
+        let own : station.rank ≤ rank = last number station has.is in
+        let before : IsNotAfter resources rank = is.of_stations rank (λ j s e. last j s (has_kept _ _ _ _ has j s e)) in
+        let between : IsNotAfter pair.between rank = not_after_more _ _ _ _ rank pair.cpu before own in
+        not_after_more _ _ _ _ rank pair.side between (omega (arith, own, side_rank station station.sends station.receives));
+  }
+    where
+      sizes : (length after ≤ length stations + 1) × (length stations ≤ length after)
+      sizes = has_longer stations after station number has
+
+      there : number < length after
+      there = slice_get_within after number station has.is
+
+      old : (n : ℕ) (s : Station) (q : Pair) → slice_get after n ≡ Some s → slice_get pairs n ≡ Some q → slice_get stations n ≡ Some s
+      old n s q at was = elim (has_either stations after station number has n s at) [
+        | inl e ↦ e
+        | inr same ↦ (let one : n ≡ number = once n number station (at ∙ ap Some same) has.is in absurd (omega (arith, one, new, slice_get_within pairs n q was)))
+      ]
+
+      newest : (n : ℕ) (s : Station) → slice_get after n ≡ Some s → n ≡ length pairs → station ≡ s
+      newest n s at e = same_Some station s (sym has.is ∙ ap (slice_get after) (new ∙ sym e) ∙ at)
+
+  -- it was there
+  pub numbered_old : (number ≢ length pairs) → IsNumbering after resources pairs
+  numbered_old differ = go has.more has.grown has.of_it
+    where
+      go : (more : List Station) → after ≡ stations ++ more → ((i : ℕ) (s : Station) → slice_get more i ≡ Some s → s ≡ station) → IsNumbering after resources pairs
+      go [] grown of_it = subst (λ (xs : List Station). IsNumbering xs resources pairs) (sym (grown ∙ append-nil stations)) is
+      go (t ∷ more) grown of_it =
+          let first : slice_get (stations ++ t ∷ more) (length stations) ≡ Some t = get_first stations t more in
+          let at : slice_get after (length stations) ≡ Some station = ap (λ (xs : List Station). slice_get xs (length stations)) grown ∙ first ∙ ap Some (of_it 0 t refl) in
+          absurd (differ (once number (length stations) station has.is at ∙ sym is.each))
 
 module _ (plans : List Plan) where
-  -- the first operations have their numbers
-  pub record AreNumberedTo (n : ℕ) (keys : List Station) (numbers : List ℕ) : Type 0 where
+  -- the first operations have their stations
+  pub record AreNumberedTo (n : ℕ) (stations resources : List Station) (pairs : List Pair) (numbers : List ℕ) : Type 0 where
+    pub numbering : IsNumbering stations resources pairs
     pub count : length numbers ≡ n
-    pub each : (i : ℕ) (x : OpId) → i < n → slice_get (operations plans) i ≡ Some x → HasStation plans keys numbers i x
-    pub within : All (λ number. number < length keys) numbers
+    pub few : length stations ≤ n
+    pub each : (i : ℕ) (x : OpId) (o : Op) → i < n → slice_get (operations plans) i ≡ Some x → op_at plans x ≡ Some o → slice_get stations (slice_index numbers i) ≡ Some (station_of x o)
+    pub within : All (λ number. number < length stations) numbers
+    pub by_rank : (i : ℕ) (x : OpId) → n ≤ i → slice_get (operations plans) i ≡ Some x → IsNotAfter stations x.rank
 
-  pub numbered_none : AreNumberedTo 0 [] []
-  numbered_none = record { count = refl; each = λ i x l e. absurd (omega (arith, l)); within = λ k d l. absurd (omega (arith, l)) }
+  pub numbered_none : AreNumberedTo 0 [] [] [] []
+  numbered_none = record {
+    numbering = record {
+      each = refl;
+      few = omega arith;
+      once = λ i j s e f. absurd (nothing i s e);
+      resources_once = λ i j s e f. absurd (nothing i s e);
+      cpus = λ n s p e f. absurd (nothing n s e);
+      sides = λ n s p e f. absurd (nothing n s e);
+      of_stations = λ rank last j s e. absurd (nothing j s e);
+    };
+    count = refl;
+    few = omega arith;
+    each = λ i x o l e f. absurd (omega (arith, l));
+    within = λ k d l. absurd (omega (arith, l));
+    by_rank = λ i x l e j s f. absurd (nothing j s f);
+  }
+    where
+      nothing : (i : ℕ) (s : Station) → slice_get [] i ≡ Some s → ⊥
+      nothing i s e = omega (arith, slice_get_within [] i s e)
 
-  module _ (n : ℕ) (keys : List Station) (numbers : List ℕ) (so_far : AreNumberedTo n keys numbers) (x : OpId) (o : Op) (at : slice_get (operations plans) n ≡ Some x) (is : op_at plans x ≡ Some o) where
-    longer : (more : List Station) (number : ℕ) → number < length (keys ++ more) → slice_get (keys ++ more) number ≡ Some (station_of x o) → AreNumberedTo (n + 1) (keys ++ more) (numbers ++ number ∷ [])
-    longer more number l there = record {
-      count = length-append numbers (number ∷ []) ∙ omega (arith, so_far.count);
-      each = λ i y h e. each i y h e (cases_lt i n);
-      within = All-push (λ m. m < length (keys ++ more)) numbers number (λ k d h. omega (arith, so_far.within k d h, length-append keys more)) l;
+  -- operations come by rank
+  in_order : (m n : ℕ) (x y : OpId) → m < n → slice_get (operations plans) m ≡ Some x → slice_get (operations plans) n ≡ Some y → x.rank ≤ y.rank
+  in_order m n x y l e f = go (subst (λ (a : OpId). IsBefore a y) (get_or_from_slice_get (operations plans) m x x e) (subst (λ (b : OpId). IsBefore (get_or (operations plans) m x) b) (get_or_from_slice_get (operations plans) n y x f) (operations_in_order plans m n x l (slice_get_within (operations plans) n y f))))
+    where
+      go : IsBefore x y → x.rank ≤ y.rank
+      go (inl less) = omega (arith, less)
+      go (inr same) = omega (arith, same.0)
+
+  module _ (n : ℕ) (stations resources : List Station) (pairs : List Pair) (numbers : List ℕ) (so_far : AreNumberedTo n stations resources pairs numbers) (x : OpId) (o : Op) (at : slice_get (operations plans) n ≡ Some x) (is : op_at plans x ≡ Some o) where
+    -- one more operation has its number
+    pub numbered_more : (after more : List Station) (pairs_after : List Pair) (number : ℕ) → IsNumbering after more pairs_after → HasNumber stations after (station_of x o) number → AreNumberedTo (n + 1) after more pairs_after (numbers ++ number ∷ [])
+    numbered_more after more pairs_after number numbering has = record {
+      numbering = numbering;
+      count = omega (arith, length-append numbers (number ∷ []), so_far.count);
+      few = omega (arith, so_far.few, sizes.0);
+      each = λ i y p l e f. each i y p e f (cases_lt i n) l;
+      within = All-push (λ m. m < length after) numbers number (λ k d h. omega (arith, so_far.within k d h, sizes.1)) (slice_get_within after number (station_of x o) has.is);
+      by_rank = λ i y l e. not_after_more stations after (station_of x o) number y.rank has (so_far.by_rank i y (omega (arith, l)) e) (omega (arith, in_order n i x y (omega (arith, l)) at e, station_rank x o));
     }
       where
-        each : (i : ℕ) (y : OpId) → i < n + 1 → slice_get (operations plans) i ≡ Some y → (i < n) ⊎ (n ≤ i) → HasStation plans (keys ++ more) (numbers ++ number ∷ []) i y
-        each i y h e (inl less) =
-            let was = so_far.each i y less e in
-            record {
-              number = was.number;
-              op = was.op;
-              number_is = get_kept numbers (number ∷ []) i was.number was.number_is;
-              is_op = was.is_op;
-              station_is = get_kept keys more was.number (station_of y was.op) was.station_is;
-            }
-        each i y h e (inr no_less) =
-            let same : i ≡ n = omega (arith, h, no_less) in
-            let here : x ≡ y = same_Some x y (sym at ∙ ap (slice_get (operations plans)) (sym same) ∙ e) in
-            subst (λ (z : OpId). HasStation plans (keys ++ more) (numbers ++ number ∷ []) i z) here (record {
-              number = number;
-              op = o;
-              number_is = ap (slice_get (numbers ++ number ∷ [])) (same ∙ sym so_far.count) ∙ last;
-              is_op = is;
-              station_is = there;
-            })
-          where
-            last : slice_get (numbers ++ number ∷ []) (length numbers) ≡ Some number
-            last = get_last numbers number
+        sizes : (length after ≤ length stations + 1) × (length stations ≤ length after)
+        sizes = has_longer stations after (station_of x o) number has
 
-    pub numbered_more : (number : ℕ) (after : List Station) → HasNumber keys after (station_of x o) number → AreNumberedTo (n + 1) after (numbers ++ number ∷ [])
-    numbered_more number after has =
-        let is : slice_get (keys ++ has.more) number ≡ Some (station_of x o) = subst (λ (ks : List Station). slice_get ks number ≡ Some (station_of x o)) has.grown has.is in
-        subst (λ (ks : List Station). AreNumberedTo (n + 1) ks (numbers ++ number ∷ [])) (sym has.grown) (longer has.more number (slice_get_within (keys ++ has.more) number (station_of x o) is) is)
+        each : (i : ℕ) (y : OpId) (p : Op) → slice_get (operations plans) i ≡ Some y → op_at plans y ≡ Some p → (i < n) ⊎ (n ≤ i) → i < n + 1 → slice_get after (slice_index (numbers ++ number ∷ []) i) ≡ Some (station_of y p)
+        each i y p e f (inl less) l =
+            let same : slice_index (numbers ++ number ∷ []) i ≡ slice_index numbers i = get_or_append_left numbers (number ∷ []) 0 i (omega (arith, less, so_far.count)) in
+            ap (slice_get after) same ∙ has_kept stations after (station_of x o) number has (slice_index numbers i) (station_of y p) (so_far.each i y p less e f)
+        each i y p e f (inr no_less) l =
+            let here : i ≡ n = omega (arith, l, no_less) in
+            let same_op : x ≡ y = same_Some x y (sym at ∙ ap (slice_get (operations plans)) (sym here) ∙ e) in
+            let same_o : o ≡ p = same_Some o p (sym is ∙ ap (op_at plans) same_op ∙ f) in
+            let last : slice_index (numbers ++ number ∷ []) i ≡ number = ap (slice_index (numbers ++ number ∷ [])) (here ∙ sym so_far.count) ∙ get_or_from_slice_get (numbers ++ number ∷ []) (length numbers) number 0 (get_last numbers number) in
+            ap (slice_get after) last ∙ has.is ∙ (λ i. Some (station_of (same_op i) (same_o i)))
 
-  pub numbered_all : (n : ℕ) (keys : List Station) (numbers : List ℕ) → AreNumberedTo n keys numbers → length (operations plans) ≤ n → AreStationed plans numbers
-  numbered_all n keys numbers to all = record {
-    each =
-        λ i x e.
-        let one = to.each i x (omega (arith, all, slice_get_within (operations plans) i x e)) e in (one.number, one.number_is);
-    same =
-        λ i j x y e f s.
-        let one = to.each i x (omega (arith, all, slice_get_within (operations plans) i x e)) e in
-        let two = to.each j y (omega (arith, all, slice_get_within (operations plans) j y f)) f in
-        let number : one.number ≡ two.number = same_Some one.number two.number (sym one.number_is ∙ s ∙ two.number_is) in
-        record {
-          op = one.op;
-          other = two.op;
-          is_op = one.is_op;
-          is_other = two.is_op;
-          same = same_Some (station_of x one.op) (station_of y two.op) (sym one.station_is ∙ ap (slice_get keys) number ∙ two.station_is);
-        };
+  -- the resources of all stations exist
+  pub all_exist : (stations resources : List Station) (pairs : List Pair) → IsNumbering stations resources pairs → DoExist pairs (length resources)
+  all_exist stations resources pairs is s p at =
+      let few : s < length stations = omega (arith, slice_get_within pairs s p at, is.each) in
+      let station : Station = get_or stations s no_station in
+      let here : slice_get stations s ≡ Some (get_or stations s no_station) = slice_get-get_or stations s no_station few in
+      (slice_get_within resources p.cpu _ (is.cpus s (get_or stations s no_station) p here at), slice_get_within resources p.side _ (is.sides s (get_or stations s no_station) p here at))
+    where
+      no_station : Station
+      no_station = record { rank = 0; cpu = None; sends = None; receives = None }
+
+  pub numbered_all : (n : ℕ) (stations resources : List Station) (pairs : List Pair) (numbers : List ℕ) → AreNumberedTo n stations resources pairs numbers → n ≡ length (operations plans) → AreStationed plans numbers pairs
+  numbered_all n stations resources pairs numbers to all = record {
+    stations = stations;
+    resources = resources;
+    numbering = to.numbering;
+    each = to.count ∙ all;
+    are = λ i x o e f. to.each i x o (omega (arith, all, slice_get_within (operations plans) i x e)) e f;
   }

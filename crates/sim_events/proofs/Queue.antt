@@ -1,49 +1,64 @@
--- The queue of an engine: its bounds stay, are put anew, and lead to the action that is next.
-use Rattle.std.proofs.Common.{◌≡◌, ◌≢◌, ◌<◌, ◌≤◌, ◌⊎◌, ℕ, true, false, List, ◌∷◌, Contains, length, set, get_or, slice_get, slice_set, Option, Some, None, is_some, inl, inr, refl, sym, ap, ◌∙◌, subst, arith}
-use Rattle.std.proofs.lemmas.Bool.{cases_eq, cases_lt, both_ways}
-use Rattle.std.proofs.lemmas.List.{get_or-set_same, get_or-set_other, get_or_past, length-set, set-get_or}
-use Rattle.std.proofs.lemmas.Option.{slice_get-get_or, slice_get_within, same_Some}
+-- The queue of an engine over one action, and as operations get their keys.
+use Rattle.std.proofs.Common.{◌≡◌, ◌≢◌, ◌⊎◌, ◌<◌, ◌≤◌, ℕ, max, Bool, true, false, List, [], ◌∷◌, length, get_or, set, Option, Some, None, is_some, slice_get, slice_index, slice_set, if◌then◌else◌, Contains, replicate, refl, sym, ap, ap₂, ◌∙◌, subst, arith, inl, inr}
+use Rattle.std.specs.Option.{option_map}
+use Rattle.std.proofs.lemmas.Bool.{both_ways, cases_eq, cases_lt}
+use Rattle.std.proofs.lemmas.List.{length-set, get_or-set_same, get_or-set_other, set-get_or, get_or_past, get_or-replicate, length-replicate}
+use Rattle.std.proofs.lemmas.Option.{same_Some, slice_get-get_or, slice_get_within, get_or_from_slice_get}
 use Rattle.goal_graph.specs.declared.action.OpId.{OpId}
 use Rattle.goal_graph.specs.declared.action.Timed.{Timed}
 use Rattle.goal_graph.specs.declared.action.Class.{Class}
 use Rattle.goal_graph.specs.declared.action.Class.TheVariants.{Serve}
-use Rattle.goal_graph.specs.Schedule.{Plan, operations}
+use Rattle.goal_graph.specs.declared.plan.Kind.{Kind}
+use Rattle.goal_graph.specs.declared.plan.Kind.TheVariants.{Calc, Send, Recv}
+use Rattle.goal_graph.specs.declared.plan.Op.{Op}
+use Rattle.goal_graph.specs.Schedule.{Plan, operations, op_at, kind_at}
 use Rattle.goal_graph.specs.Action.{plain, plain_act}
 use Rattle.goal_graph.specs.Allowed.{allowed}
 use Rattle.goal_graph.specs.Fault.{IsOp}
 use Rattle.goal_graph.specs.Interleaving.{IsInterleaving}
-use Rattle.goal_graph.proofs.ForCallers.{cases_op, allowed_listed, one_allowed, allowed_stays, one_place, other_place, find_class, allowed_serve}
+use Rattle.goal_graph.proofs.ForCallers.{cases_op, allowed_listed, allowed_stays, one_allowed, other_place, find_class, allowed_serve, listed_op, kind_from_op}
 use Rattle.sim_params.specs.Costs.{CostModel, is_eager}
-use Rattle.sim_params.specs.Times.{time, Possible}
+use Rattle.sim_params.specs.Times.{time, cpu, tx, rx, Possible}
 use Rattle.sim_params.specs.Run.{IsNext, IsRun, IsFinished}
-use Rattle.sim_params.specs.Laws.{at_its_time, HasBound}
-use Rattle.sim_params.proofs.ForCallers.{run_interleaving, possible_at, least_is_next}
+use Rattle.sim_params.specs.Laws.{HasBound}
+use Rattle.sim_params.proofs.ForCallers.{run_interleaving, least_is_next}
 use Rattle.sim_order.specs.Events.{event_before}
-use Rattle.sim_queue.specs.Floors.{Floored, waits_at}
-use Rattle.sim_queue.specs.Map.{key_at, IsEmptyMap, IsLeast}
-use Rattle.sim_events.specs.Stations.{AreStationed, free}
-use Rattle.sim_events.specs.Queue.{IsIdle, IsEnabledActionOf, IsEarly, IsBoundOf, IsQueueBut, IsQueue, IsQueueWithout, HasEarlyKeys, IsRefreshed, IsDueAfter}
-use Rattle.sim_events.proofs.After.{other_op, happened_this}
+use Rattle.sim_heaps.specs.Map.{key_at, IsEmptyMap, IsLeast}
+use Rattle.sim_stations.specs.Stations.{Stationed, waits_for_room, pair_at, pair_of, held, when_free, both_free, at_time, DoExist, AreOfSlots}
+use Rattle.sim_stations.specs.declared.pair.Pair.{Pair}
+use Rattle.sim_stations.specs.declared.stand.Stand.TheVariants.{Nowhere}
+use Rattle.sim_state.specs.Enabled.{IsIdle, IsEnabledActionOf}
+use Rattle.sim_state.specs.Free.{free, side, side_of}
+use Rattle.sim_state.proofs.ForCallers.{other_op, happened_this, listed_exists}
+use Rattle.sim_events.specs.Stations.{AreStationed}
+use Rattle.sim_events.specs.Queue.{AreFree, IsOfSchedule, IsQueueBut, IsQueue, HasPossibleKeys, IsRefreshed, IsDueAfter}
 use Rattle.sim_events.proofs.Awaited.{IsConcerned, newly_allowed}
 use Rattle.sim_events.proofs.Done.{serve_or_not, served_is_done}
 use Rattle.sim_events.proofs.Keys.{before_event}
-use Rattle.sim_events.proofs.Kept.{not_later, told_itself, told_after, free_grows}
-use Rattle.sim_events.proofs.Places.{listed_exists, possible_exists}
+use Rattle.sim_events.proofs.Kept.{time_after, free_first}
+use Rattle.sim_events.proofs.FreeAfter.{both_are}
+use Rattle.sim_events.proofs.Held.{free_held, free_at_once}
 
 -- a slot that has no key
 pub no_key : (k : Option Timed) → is_some k ≡ false → k ≡ None
 no_key None e = refl
 no_key (Some k) e = absurd (both_ways true e refl)
 
-module _ (plans : List Plan) (costs : CostModel) where
-  -- the possible action is a bound of itself
-  pub enabled_bound : (h : List Timed) (x : OpId) (r : Option Timed) → IsEnabledActionOf plans costs h x r → IsBoundOf plans costs h x r
-  enabled_bound h x None t = t
-  enabled_bound h x (Some a) t = record { op = t.0; allowed = t.1.allowed; told = told_itself plans costs h a t.1.allowed t.1.time }
+-- the time of a key once room is free at f
+abbrev pub time_then : ℕ → Timed → ℕ
+time_then f k = if waits_for_room k.class then max k.time f else k.time
 
-  pub early_exists : (h : List Timed) (x : OpId) (e : Timed) → IsEarly plans costs h x e → IsOp plans e.op
-  early_exists h x e early =
-      possible_exists plans costs h (at_its_time plans costs h e.class e.op) (possible_at plans costs h e.class e.op early.allowed)
+module _ (plans : List Plan) (costs : CostModel) where
+  -- what is listed is an operation of some kind
+  pub listed_kind : (i : ℕ) (x : OpId) → slice_get (operations plans) i ≡ Some x → (o : Op) × (op_at plans x ≡ Some o)
+  listed_kind i x at =
+      let a = listed_op plans x (i, slice_get_within (operations plans) i x at, get_or_from_slice_get (operations plans) i x x at) in (a.op, a.is)
+
+  -- both resources of an operation are free, as a queue knows it
+  pub free_known : (h : List Timed) (queue : Stationed) → AreFree plans costs h queue → (i : ℕ) (x : OpId) → slice_get (operations plans) i ≡ Some x → both_free queue.free (pair_of queue i) ≡ free plans costs h x
+  free_known h queue known i x at =
+      let o = listed_kind i x at in
+      ap₂ max (known.cpus i x at) (known.sides i x at) ∙ sym (both_are plans costs h x (o.0.kind, kind_from_op plans x o.0 o.0.kind o.1 refl))
 
   -- one more action
   module _ (h : List Timed) (a : Timed) (run : IsRun plans costs h) (possible : Possible plans costs h a) where
@@ -71,14 +86,6 @@ module _ (plans : List Plan) (costs : CostModel) where
             let serves : allowed plans (is_eager plans costs) (plain h) Serve a.op ≡ true = subst (λ (d : Class). allowed plans (is_eager plans costs) (plain h) d a.op ≡ true) e possible.allowed in
             served_is_done plans (is_eager plans costs) (plain (a ∷ h)) a.op x interleaving (allowed_serve plans (is_eager plans costs) (plain h) a.op serves).0 (happened_this plans costs h a Serve e) p c t
 
-    -- a key of another operation stays early
-    early_stays : (x : OpId) (e : Timed) → ¬ (x ≡ a.op) → IsEarly plans costs h x e → IsEarly plans costs (a ∷ h) x e
-    early_stays x e d b = record {
-      op = b.op;
-      allowed = stays e.class e.op (λ s. d (sym b.op ∙ s)) b.allowed;
-      told = told_after plans costs a h run e b.allowed b.told;
-    }
-
     -- an idle operation stays so, or it is due
     idle_stays : (x : OpId) → IsIdle plans costs h x → IsIdle plans costs (a ∷ h) x ⊎ IsDueAfter plans costs (a ∷ h) a x
     idle_stays x idle = go (find_class (λ c. allowed plans (is_eager plans costs) (plain (a ∷ h)) c x))
@@ -87,154 +94,192 @@ module _ (plans : List Plan) (costs : CostModel) where
         go (inr none) = inl none
         go (inl (c, t)) = elim (newly c x t) [ inl was ↦ absurd (both_ways _ (idle c) was) | inr new ↦ inr (due c x t new) ]
 
+    -- the possible action of another operation, once it knows when room is free
+    possible_then : (x : OpId) (k : Timed) (f : ℕ) → ¬ (x ≡ a.op) → k.op ≡ x → Possible plans costs h k → f ≡ free plans costs (a ∷ h) x → Possible plans costs (a ∷ h) (at_time (time_then f k) k)
+    possible_then x k f d op p e = record {
+      allowed = stays k.class k.op (λ s. d (sym op ∙ s)) p.allowed;
+      time = ap₂ (λ (n m : ℕ). if waits_for_room k.class then max n m else n) p.time (e ∙ ap (free plans costs (a ∷ h)) (sym op)) ∙ sym (time_after plans costs a h run k.class k.op p.allowed);
+    }
+
+    -- The key of a slot is gone, and the others are those that they were, once they know when room is free.
+    pub record IsSettled (old new : Stationed) (slot : ℕ) : Type 0 where
+      pub of_it : IsOfSchedule plans costs (a ∷ h) new
+      pub gone : key_at new.keys slot ≡ None
+      pub others :
+          (i : ℕ) (x : OpId)
+          → i ≢ slot → slice_get (operations plans) i ≡ Some x
+          → key_at new.keys i ≡ option_map (λ (k : Timed). at_time (time_then (free plans costs (a ∷ h) x) k) k) (key_at old.keys i)
+
     -- so after an action, whose own key was taken out, those are due that it concerns
-    pub queue_after : (queue : Floored) → IsQueueWithout plans costs h a.op queue → IsQueueBut plans costs (a ∷ h) (IsDueAfter plans costs (a ∷ h) a) queue
-    queue_after queue q = record {
-      each = q.rest.each;
-      early = λ i x e at has. early_stays x e (taken i x e at has) (q.rest.early i x e at has);
-      idle = λ i x at none. elim (q.rest.idle i x at none) [ inl idle ↦ idle_stays x idle | inr own ↦ inr (inl own) ];
-      stationed = q.rest.stationed;
-      floored = λ i x e at w has.
-          let was = q.rest.floored i x e at w has in omega (arith, was, free_grows plans costs a h x);
+    pub queue_after : (old new : Stationed) (slot : ℕ) → IsQueue plans costs h old → slice_get (operations plans) slot ≡ Some a.op → IsSettled old new slot → IsQueueBut plans costs (a ∷ h) (IsDueAfter plans costs (a ∷ h) a) new
+    queue_after old new slot q here settled = record {
+      of_it = settled.of_it;
+      possible = λ i x e at has. is_possible i x e at has (cases_eq i slot);
+      idle = λ i x at none. is_idle i x at none (cases_eq i slot);
     }
       where
-        taken : (i : ℕ) (x : OpId) (e : Timed) → slice_get (operations plans) i ≡ Some x → key_at queue.keys i ≡ Some e → ¬ (x ≡ a.op)
-        taken i x e at has s = let none : key_at queue.keys i ≡ None = q.free i (at ∙ ap Some s) in absurd (cc)
+        raised : (i : ℕ) (x : OpId) (e : Timed) (was : Option Timed) → i ≢ slot → slice_get (operations plans) i ≡ Some x → key_at old.keys i ≡ was → option_map (λ (k : Timed). at_time (time_then (free plans costs (a ∷ h) x) k) k) was ≡ Some e → (e.op ≡ x) × Possible plans costs (a ∷ h) e
+        raised i x e None d at was is = absurd (cc)
+        raised i x e (Some k) d at was is =
+            let own = q.possible i x k at was in
+            let same : at_time (time_then (free plans costs (a ∷ h) x) k) k ≡ e = same_Some _ e is in
+            subst (λ (b : Timed). (b.op ≡ x) × Possible plans costs (a ∷ h) b) same (own.0, possible_then x k (free plans costs (a ∷ h) x) (other_place plans i slot x a.op at here d) own.0 own.1 refl)
+
+        is_possible : (i : ℕ) (x : OpId) (e : Timed) → slice_get (operations plans) i ≡ Some x → key_at new.keys i ≡ Some e → (i ≡ slot) ⊎ (i ≢ slot) → (e.op ≡ x) × Possible plans costs (a ∷ h) e
+        is_possible i x e at has (inl s) =
+            let none : key_at new.keys i ≡ None = ap (key_at new.keys) s ∙ settled.gone in absurd (cc)
+        is_possible i x e at has (inr d) = raised i x e (key_at old.keys i) d at refl (sym (settled.others i x d at) ∙ has)
+
+        idle_then : (i : ℕ) (x : OpId) (was : Option Timed) → slice_get (operations plans) i ≡ Some x → key_at old.keys i ≡ was → option_map (λ (k : Timed). at_time (time_then (free plans costs (a ∷ h) x) k) k) was ≡ None → IsIdle plans costs (a ∷ h) x ⊎ IsDueAfter plans costs (a ∷ h) a x
+        idle_then i x (Some k) at was is = absurd (cc)
+        idle_then i x None at was is = elim (q.idle i x at was) [ inl idle ↦ idle_stays x idle | inr never ↦ absurd never ]
+
+        is_idle : (i : ℕ) (x : OpId) → slice_get (operations plans) i ≡ Some x → key_at new.keys i ≡ None → (i ≡ slot) ⊎ (i ≢ slot) → IsIdle plans costs (a ∷ h) x ⊎ IsDueAfter plans costs (a ∷ h) a x
+        is_idle i x at none (inl s) = inr (inl (same_Some x a.op (sym at ∙ ap (slice_get (operations plans)) s ∙ here)))
+        is_idle i x at none (inr d) = idle_then i x (key_at old.keys i) at refl (sym (settled.others i x d at) ∙ none)
+
+    -- where it waited for nothing the others are as they were
+    pub settled_at_once : (old new : Stationed) (slot : ℕ) → IsQueue plans costs h old → slice_get (operations plans) slot ≡ Some a.op → waits_for_room a.class ≡ false → new.keys ≡ slice_set old.keys slot None → new.stations ≡ old.stations → new.pairs ≡ old.pairs → new.free ≡ old.free → IsSettled old new slot
+    settled_at_once old new slot q here w keys stations pairs same = record {
+      of_it = record {
+        each = ap length keys ∙ length-set old.keys slot None ∙ q.of_it.each;
+        stationed = numbered;
+        exist = subst (λ (n : ℕ). DoExist new.pairs n) (ap length (sym same)) (subst (λ (ps : List Pair). DoExist ps (length old.free)) (sym pairs) q.of_it.exist);
+        free = known;
+      };
+      gone = now slot ∙ get_or-set_same old.keys slot None None (omega (arith, q.of_it.each, slice_get_within (operations plans) slot a.op here));
+      others = λ i x d at. now i ∙ get_or-set_other old.keys slot i None None d ∙ kept i x at (key_at old.keys i) refl;
+    }
+      where
+        now : (i : ℕ) → key_at new.keys i ≡ key_at (set old.keys slot None) i
+        now i = ap (λ ks. key_at ks i) keys
+
+        numbered : AreStationed plans new.stations new.pairs
+        numbered = subst (λ (ps : List Pair). AreStationed plans new.stations ps) (sym pairs) (subst (λ (ns : List ℕ). AreStationed plans ns old.pairs) (sym stations) q.of_it.stationed)
+
+        known : AreFree plans costs (a ∷ h) new
+        known = free_at_once plans costs h a old new w q.of_it.free stations pairs same
+
+        unmoved : (i : ℕ) (x : OpId) → slice_get (operations plans) i ≡ Some x → free plans costs (a ∷ h) x ≡ free plans costs h x
+        unmoved i x at =
+            sym (free_known (a ∷ h) new known i x at) ∙ (λ j. both_free (same j) (pair_at (pairs j) (slice_index (stations j) i))) ∙ free_known h old q.of_it.free i x at
+
+        kept : (i : ℕ) (x : OpId) → slice_get (operations plans) i ≡ Some x → (was : Option Timed) → key_at old.keys i ≡ was → was ≡ option_map (λ (k : Timed). at_time (time_then (free plans costs (a ∷ h) x) k) k) was
+        kept i x at None was = refl
+        kept i x at (Some k) was =
+            let own = q.possible i x k at was in
+            ap Some (λ j. record { time = go (waits_for_room k.class) (λ w2. free_first plans costs h k.class k.op w2 own.1.allowed) own.1.time (unmoved i x at) (ap (free plans costs h) own.0) j; class = k.class; op = k.op })
+          where
+            go : (r : Bool) → (r ≡ true → free plans costs h k.op ≤ time plans costs h k.class k.op) → k.time ≡ time plans costs h k.class k.op → free plans costs (a ∷ h) x ≡ free plans costs h x → free plans costs h k.op ≡ free plans costs h x → k.time ≡ (if r then max k.time (free plans costs (a ∷ h) x) else k.time)
+            go true first at_time stays_free op = omega (arith, first refl, at_time, stays_free, op)
+            go false first at_time stays_free op = refl
+
+    -- where it held a cpu the others were raised
+    pub settled_held : (old new : Stationed) (slot : ℕ) (c s : ℕ) → IsQueue plans costs h old → slice_get (operations plans) slot ≡ Some a.op → c ≡ cpu plans costs (a ∷ h) a.op → s ≡ side plans costs (a ∷ h) a.op → length new.keys ≡ length old.keys → key_at new.keys slot ≡ None → ((other : ℕ) → other ≢ slot → key_at new.keys other ≡ option_map (when_free new.free (pair_of old other)) (key_at old.keys other)) → new.stations ≡ old.stations → new.pairs ≡ old.pairs → new.free ≡ held old.free (pair_of old slot) c s → IsSettled old new slot
+    settled_held old new slot c s q here ce se each gone raised stations pairs same = record {
+      of_it = record {
+        each = each ∙ q.of_it.each;
+        stationed = subst (λ (ps : List Pair). AreStationed plans new.stations ps) (sym pairs) (subst (λ (ns : List ℕ). AreStationed plans ns old.pairs) (sym stations) q.of_it.stationed);
+        exist = subst (λ (n : ℕ). DoExist new.pairs n) (sym longer) (subst (λ (ps : List Pair). DoExist ps (length old.free)) (sym pairs) q.of_it.exist);
+        free = known;
+      };
+      gone = gone;
+      others = λ i x d at. raised i d ∙ ap (λ (f : ℕ). option_map (λ (k : Timed). at_time (time_then f k) k) (key_at old.keys i)) (both i x at);
+    }
+      where
+        longer : length new.free ≡ length old.free
+        longer = ap length same ∙ length-set (slice_set old.free (pair_of old slot).cpu c) (pair_of old slot).side s ∙ length-set old.free (pair_of old slot).cpu c
+
+        o : (o : Op) × (op_at plans a.op ≡ Some o)
+        o = listed_kind slot a.op here
+
+        known : AreFree plans costs (a ∷ h) new
+        known = free_held plans costs h a possible old q.of_it slot here o.0 o.1 c s ce se new stations pairs same
+
+        both : (i : ℕ) (x : OpId) → slice_get (operations plans) i ≡ Some x → both_free new.free (pair_of old i) ≡ free plans costs (a ∷ h) x
+        both i x at =
+            (λ j. both_free new.free (pair_at (sym pairs j) (slice_index (sym stations j) i))) ∙ free_known (a ∷ h) new known i x at
 
   module _ (h : List Timed) where
     -- where an operation has got its key it is no longer due
-    pub refreshed : (Due Later : OpId → Type 0) (old new : Floored) (x : OpId) → IsQueueBut plans costs h Due old → IsRefreshed plans costs h x old new → ((y : OpId) → IsOp plans y → Due y → ¬ (y ≡ x) → Later y) → IsQueueBut plans costs h Later new
+    pub refreshed : (Due Later : OpId → Type 0) (old new : Stationed) (x : OpId) → IsQueueBut plans costs h Due old → IsRefreshed plans costs h x old new → ((y : OpId) → IsOp plans y → Due y → ¬ (y ≡ x) → Later y) → IsQueueBut plans costs h Later new
     refreshed Due Later old new x q r still = record {
-      each = ap length r.put ∙ length-set old.keys r.slot r.key ∙ q.each;
-      early = λ i y e at has. early i y e at (sym (now i) ∙ has) (cases_eq i r.slot);
+      of_it = record {
+        each = ap length r.put ∙ length-set old.keys r.slot r.key ∙ q.of_it.each;
+        stationed = subst (λ (ps : List Pair). AreStationed plans new.stations ps) (sym r.pairs) (subst (λ (ns : List ℕ). AreStationed plans ns old.pairs) (sym r.stations) q.of_it.stationed);
+        exist = subst (λ (n : ℕ). DoExist new.pairs n) (ap length (sym r.free)) (subst (λ (ps : List Pair). DoExist ps (length old.free)) (sym r.pairs) q.of_it.exist);
+        free = record {
+          cpus = λ i y at. (λ j. slice_index (r.free j) (pair_at (r.pairs j) (slice_index (r.stations j) i)).cpu) ∙ q.of_it.free.cpus i y at;
+          sides = λ i y at. (λ j. slice_index (r.free j) (pair_at (r.pairs j) (slice_index (r.stations j) i)).side) ∙ q.of_it.free.sides i y at;
+        };
+      };
+      possible = λ i y e at has. possible i y e at (sym (now i) ∙ has) (cases_eq i r.slot);
       idle = λ i y at none. idle i y at (sym (now i) ∙ none) (cases_eq i r.slot);
-      stationed = subst (AreStationed plans) (sym r.groups) q.stationed;
-      floored = λ i y e at w has. floored i y e at w (sym (now i) ∙ has) (cases_eq i r.slot);
     }
       where
         now : (i : ℕ) → key_at new.keys i ≡ key_at (set old.keys r.slot r.key) i
         now i = ap (λ ks. key_at ks i) r.put
 
         within : r.slot < length old.keys
-        within = omega (arith, q.each, slice_get_within (operations plans) r.slot x r.is_slot)
+        within = omega (arith, q.of_it.each, slice_get_within (operations plans) r.slot x r.is_slot)
 
-        here : (i : ℕ) (y : OpId) → slice_get (operations plans) i ≡ Some y → i ≡ r.slot → IsBoundOf plans costs h y (key_at (set old.keys r.slot r.key) i)
+        here : (i : ℕ) (y : OpId) → slice_get (operations plans) i ≡ Some y → i ≡ r.slot → IsEnabledActionOf plans costs h y (key_at (set old.keys r.slot r.key) i)
         here i y at s =
             let same : x ≡ y = same_Some x y (sym r.is_slot ∙ ap (slice_get (operations plans)) (sym s) ∙ at) in
             let is : key_at (set old.keys r.slot r.key) i ≡ r.key = ap (key_at (set old.keys r.slot r.key)) s ∙ get_or-set_same old.keys r.slot r.key None within in
-            subst (λ (k : Option Timed). IsBoundOf plans costs h y k) (sym is) (subst (λ (z : OpId). IsBoundOf plans costs h z r.key) same r.bound)
+            subst (λ (k : Option Timed). IsEnabledActionOf plans costs h y k) (sym is) (subst (λ (z : OpId). IsEnabledActionOf plans costs h z r.key) same r.enabled)
 
-        early : (i : ℕ) (y : OpId) (e : Timed) → slice_get (operations plans) i ≡ Some y → key_at (set old.keys r.slot r.key) i ≡ Some e → (i ≡ r.slot) ⊎ (i ≢ r.slot) → IsEarly plans costs h y e
-        early i y e at has (inl s) = subst (λ (k : Option Timed). IsBoundOf plans costs h y k) has (here i y at s)
-        early i y e at has (inr d) = q.early i y e at (sym (get_or-set_other old.keys r.slot i r.key None d) ∙ has)
-
-        floored : (i : ℕ) (y : OpId) (e : Timed) → slice_get (operations plans) i ≡ Some y → waits_at new i ≡ true → key_at (set old.keys r.slot r.key) i ≡ Some e → (i ≡ r.slot) ⊎ (i ≢ r.slot) → e.time ≤ free plans costs h y
-        floored i y e at w has (inl s) =
-            let same : x ≡ y = same_Some x y (sym r.is_slot ∙ ap (slice_get (operations plans)) (sym s) ∙ at) in
-            let is : key_at (set old.keys r.slot r.key) i ≡ r.key = ap (key_at (set old.keys r.slot r.key)) s ∙ get_or-set_same old.keys r.slot r.key None within in
-            let by = r.floored e (sym (ap (waits_at new) s) ∙ w) (sym is ∙ has) in
-            omega (arith, by, ap (free plans costs h) same)
-        floored i y e at w has (inr d) =
-            q.floored i y e at (sym (r.others i d) ∙ w) (sym (get_or-set_other old.keys r.slot i r.key None d) ∙ has)
+        possible : (i : ℕ) (y : OpId) (e : Timed) → slice_get (operations plans) i ≡ Some y → key_at (set old.keys r.slot r.key) i ≡ Some e → (i ≡ r.slot) ⊎ (i ≢ r.slot) → (e.op ≡ y) × Possible plans costs h e
+        possible i y e at has (inl s) = subst (λ (k : Option Timed). IsEnabledActionOf plans costs h y k) has (here i y at s)
+        possible i y e at has (inr d) = q.possible i y e at (sym (get_or-set_other old.keys r.slot i r.key None d) ∙ has)
 
         idle : (i : ℕ) (y : OpId) → slice_get (operations plans) i ≡ Some y → key_at (set old.keys r.slot r.key) i ≡ None → (i ≡ r.slot) ⊎ (i ≢ r.slot) → IsIdle plans costs h y ⊎ Later y
-        idle i y at none (inl s) = inl (subst (λ (k : Option Timed). IsBoundOf plans costs h y k) none (here i y at s))
+        idle i y at none (inl s) = inl (subst (λ (k : Option Timed). IsEnabledActionOf plans costs h y k) none (here i y at s))
         idle i y at none (inr d) =
             elim (q.idle i y at (sym (get_or-set_other old.keys r.slot i r.key None d) ∙ none)) [ inl is ↦ inl is | inr due ↦ inr (still y (listed_exists plans i y at) due (other_place plans i r.slot y x at r.is_slot d)) ]
 
     -- fewer are due
-    pub fewer_due : (Due Later : OpId → Type 0) (queue : Floored) → IsQueueBut plans costs h Due queue → ((y : OpId) → IsOp plans y → Due y → Later y) → IsQueueBut plans costs h Later queue
+    pub fewer_due : (Due Later : OpId → Type 0) (queue : Stationed) → IsQueueBut plans costs h Due queue → ((y : OpId) → IsOp plans y → Due y → Later y) → IsQueueBut plans costs h Later queue
     fewer_due Due Later queue q still = record {
-      each = q.each;
-      early = q.early;
+      of_it = q.of_it;
+      possible = q.possible;
       idle = λ i y at none. elim (q.idle i y at none) [ inl is ↦ inl is | inr due ↦ inr (still y (listed_exists plans i y at) due) ];
-      stationed = q.stationed;
-      floored = q.floored;
     }
 
-    -- all may be due: each key that there is is early
-    pub early_keys : (Due : OpId → Type 0) (queue : Floored) → IsQueueBut plans costs h Due queue → HasEarlyKeys plans costs h queue
-    early_keys Due queue q = fewer_due Due (λ y. Unit {0}) queue q (λ y is due. tt)
+    -- all may be due: each key that there is is possible
+    pub possible_keys : (Due : OpId → Type 0) (queue : Stationed) → IsQueueBut plans costs h Due queue → HasPossibleKeys plans costs h queue
+    possible_keys Due queue q = fewer_due Due (λ y. Unit {0}) queue q (λ y is due. tt)
 
     -- where all are due an empty queue will do
-    pub all_due : (Due : OpId → Type 0) (queue : Floored) → length queue.keys ≡ length (operations plans) → IsEmptyMap queue.keys → AreStationed plans queue.groups → ((y : OpId) → IsOp plans y → Due y) → IsQueueBut plans costs h Due queue
-    all_due Due queue e empty stationed every = record {
-      each = e;
-      early = λ i y k at has. no_key i k has;
+    pub all_due : (Due : OpId → Type 0) (queue : Stationed) → IsOfSchedule plans costs h queue → IsEmptyMap queue.keys → ((y : OpId) → IsOp plans y → Due y) → IsQueueBut plans costs h Due queue
+    all_due Due queue of_it empty every = record {
+      of_it = of_it;
+      possible = λ i y k at has. let none : key_at queue.keys i ≡ None = empty i in absurd (cc);
       idle = λ i y at none. inr (every y (listed_exists plans i y at));
-      stationed = stationed;
-      floored = λ i y k at w has. no_key i k has;
     }
-      where
-        no_key : {T : Type 0} (i : ℕ) (k : Timed) → key_at queue.keys i ≡ Some k → T
-        no_key i k has = let none : key_at queue.keys i ≡ None = empty i in absurd (cc)
 
-    -- where the key of an operation is taken out, the others stay
-    pub taken_out : (queue new : Floored) (slot : ℕ) (x : OpId) → IsQueue plans costs h queue → slice_get (operations plans) slot ≡ Some x → new ≡ record { keys = slice_set queue.keys slot None; groups = queue.groups; waits = slice_set queue.waits slot false } → IsQueueWithout plans costs h x new
-    taken_out queue new slot x q is put = record {
-      rest = record {
-        each = ap (λ (g : Floored). length g.keys) put ∙ length-set queue.keys slot None ∙ q.each;
-        early = λ i y e at has. early i y e at (sym (now i) ∙ has) (cases_eq i slot);
-        idle = λ i y at none. idle i y at (sym (now i) ∙ none) (cases_eq i slot);
-        stationed = subst (λ (g : Floored). AreStationed plans g.groups) (sym put) q.stationed;
-        floored = λ i y e at w has. floored i y e at w (sym (now i) ∙ has) (cases_eq i slot);
-      };
-      free = λ i at. now i ∙ ap (key_at (set queue.keys slot None)) (one_place plans i slot x at is) ∙ gone;
-    }
-      where
-        now : (i : ℕ) → key_at new.keys i ≡ key_at (set queue.keys slot None) i
-        now i = ap (λ (g : Floored). key_at g.keys i) put
-
-        gone : key_at (set queue.keys slot None) slot ≡ None
-        gone =
-            get_or-set_same queue.keys slot None None (omega (arith, q.each, slice_get_within (operations plans) slot x is))
-
-        early : (i : ℕ) (y : OpId) (e : Timed) → slice_get (operations plans) i ≡ Some y → key_at (set queue.keys slot None) i ≡ Some e → (i ≡ slot) ⊎ (i ≢ slot) → IsEarly plans costs h y e
-        early i y e at has (inl s) =
-            let none : key_at (set queue.keys slot None) i ≡ None = ap (key_at (set queue.keys slot None)) s ∙ gone in
-            absurd (cc)
-        early i y e at has (inr d) = q.early i y e at (sym (get_or-set_other queue.keys slot i None None d) ∙ has)
-
-        floored : (i : ℕ) (y : OpId) (e : Timed) → slice_get (operations plans) i ≡ Some y → waits_at new i ≡ true → key_at (set queue.keys slot None) i ≡ Some e → (i ≡ slot) ⊎ (i ≢ slot) → e.time ≤ free plans costs h y
-        floored i y e at w has (inl s) =
-            let none : key_at (set queue.keys slot None) i ≡ None = ap (key_at (set queue.keys slot None)) s ∙ gone in
-            absurd (cc)
-        floored i y e at w has (inr d) =
-            let waited = ap (λ (g : Floored). waits_at g i) put ∙ get_or-set_other queue.waits slot i false false d in
-            q.floored i y e at (sym waited ∙ w) (sym (get_or-set_other queue.keys slot i None None d) ∙ has)
-
-        idle : (i : ℕ) (y : OpId) → slice_get (operations plans) i ≡ Some y → key_at (set queue.keys slot None) i ≡ None → (i ≡ slot) ⊎ (i ≢ slot) → IsIdle plans costs h y ⊎ (y ≡ x)
-        idle i y at none (inl s) = inr (same_Some y x (sym at ∙ ap (slice_get (operations plans)) s ∙ is))
-        idle i y at none (inr d) =
-            elim (q.idle i y at (sym (get_or-set_other queue.keys slot i None None d) ∙ none)) [ inl is ↦ inl is | inr never ↦ absurd never ]
-
-    -- a key of the queue is early, and stands in the slot of its operation
+    -- a key of the queue is possible, and stands in the slot of its operation
     pub record IsFound (keys : List (Option Timed)) (slot : ℕ) (e : Timed) : Type 0 where
       pub within : slot < length keys
       pub is_slot : slice_get (operations plans) slot ≡ Some e.op
-      pub early : IsEarly plans costs h e.op e
+      pub possible : Possible plans costs h e
 
-    pub key_found : (queue : Floored) (slot : ℕ) (e : Timed) → IsQueue plans costs h queue → key_at queue.keys slot ≡ Some e → IsFound queue.keys slot e
-    key_found queue slot e q has = go (cases_lt slot (length queue.keys))
+    pub key_found : (Due : OpId → Type 0) (queue : Stationed) (slot : ℕ) (e : Timed) → IsQueueBut plans costs h Due queue → key_at queue.keys slot ≡ Some e → IsFound queue.keys slot e
+    key_found Due queue slot e q has = go (cases_lt slot (length queue.keys))
       where
-        found : slot < length queue.keys → (x : OpId) → slice_get (operations plans) slot ≡ Some x → IsEarly plans costs h x e → IsFound queue.keys slot e
-        found l x at early = record {
-          within = l;
-          is_slot = at ∙ ap Some (sym early.op);
-          early = record { op = refl; allowed = early.allowed; told = early.told };
-        }
-
         go : (slot < length queue.keys) ⊎ (length queue.keys ≤ slot) → IsFound queue.keys slot e
         go (inr l) = let none : key_at queue.keys slot ≡ None = get_or_past queue.keys slot None l in absurd (cc)
         go (inl l) =
-            let at : slice_get (operations plans) slot ≡ Some (get_or (operations plans) slot e.op) = slice_get-get_or (operations plans) slot e.op (omega (arith, l, q.each)) in
-            found l _ at (q.early slot _ e at has)
+            let x = get_or (operations plans) slot e.op in
+            let at : slice_get (operations plans) slot ≡ Some (get_or (operations plans) slot e.op) = slice_get-get_or (operations plans) slot e.op (omega (arith, l, q.of_it.each)) in
+            let own = q.possible slot (get_or (operations plans) slot e.op) e at has in
+            record { within = l; is_slot = at ∙ ap Some (sym own.0); possible = own.1 }
 
-    module _ (run : IsRun plans costs h) (queue : Floored) (q : IsQueue plans costs h queue) where
+    module _ (run : IsRun plans costs h) (queue : Stationed) (q : IsQueue plans costs h queue) where
       abbrev InQueue : Timed → Type 0
       InQueue e = (slot : ℕ) × (key_at queue.keys slot ≡ Some e)
 
-      -- each possible action has an early key
+      -- each possible action is in the queue
       each_bound : (b : Timed) → Possible plans costs h b → HasBound InQueue b
       each_bound b p = go (key_at queue.keys slot) refl
         where
@@ -251,15 +296,15 @@ module _ (plans : List Plan) (costs : CostModel) where
           go None none =
               elim (q.idle slot b.op at none) [ inl idle ↦ absurd (both_ways _ (idle b.class) p.allowed) | inr never ↦ absurd never ]
           go (Some e) has =
-              let early = q.early slot b.op e at has in
-              let class : e.class ≡ b.class = one_allowed plans (is_eager plans costs) (plain h) e.class b.class b.op (run_interleaving plans costs h run) (subst (λ (x : OpId). allowed plans (is_eager plans costs) (plain h) e.class x ≡ true) early.op early.allowed) p.allowed in
-              let times : time plans costs h e.class e.op ≡ time plans costs h b.class b.op = λ i. time plans costs h (class i) (early.op i) in
+              let own = q.possible slot b.op e at has in
+              let class : e.class ≡ b.class = one_allowed plans (is_eager plans costs) (plain h) e.class b.class b.op (run_interleaving plans costs h run) (subst (λ (x : OpId). allowed plans (is_eager plans costs) (plain h) e.class x ≡ true) own.0 own.1.allowed) p.allowed in
+              let times : time plans costs h e.class e.op ≡ time plans costs h b.class b.op = λ i. time plans costs h (class i) (own.0 i) in
               record {
                 entry = e;
                 queued = (slot, has);
                 class = class;
-                op = early.op;
-                time = omega (arith, not_later plans costs h b.op e early, times, p.time);
+                op = own.0;
+                time = omega (arith, own.1.time, times, p.time);
               }
 
       -- an empty queue: nothing is possible
@@ -270,63 +315,116 @@ module _ (plans : List Plan) (costs : CostModel) where
           let some : key_at queue.keys e.queued.0 ≡ Some e.entry = e.queued.1 in
           absurd (cc)
 
-      -- the least key at its right time is next
-      pub least_next : (slot : ℕ) (e : Timed) → IsLeast event_before queue.keys slot e → Possible plans costs h e → IsNext plans costs h e
-      least_next slot e least p =
-          least_is_next plans costs InQueue h e each_bound (λ k queued l. both_ways _ (least.least queued.0 k queued.1) (before_event k e l)) p
-
-      -- and so is the action of its class and operation at that time
-      pub found_next : (slot : ℕ) (e a : Timed) → IsLeast event_before queue.keys slot e → Possible plans costs h a → a.class ≡ e.class → a.op ≡ e.op → a.time ≡ e.time → IsNext plans costs h a
-      found_next slot e a least p c o t =
-          let same : e ≡ a = λ i. record { time = sym t i; class = sym c i; op = sym o i } in
-          least_next slot a (subst (IsLeast event_before queue.keys slot) same least) p
+      -- the least key is next
+      pub least_next : (slot : ℕ) (e : Timed) → IsLeast event_before queue.keys slot e → IsNext plans costs h e
+      least_next slot e least =
+          least_is_next plans costs InQueue h e each_bound (λ k queued l. both_ways _ (least.least queued.0 k queued.1) (before_event k e l)) (key_found (λ x. ⊥) queue slot e q least.has).possible
 
     -- where nothing is possible the queue is empty
-    pub empty_from : (queue : Floored) → IsQueue plans costs h queue → IsFinished plans costs h → IsEmptyMap queue.keys
+    pub empty_from : (queue : Stationed) → IsQueue plans costs h queue → IsFinished plans costs h → IsEmptyMap queue.keys
     empty_from queue q none slot = go (key_at queue.keys slot) refl
       where
         go : (k : Option Timed) → key_at queue.keys slot ≡ k → k ≡ None
         go None e = refl
-        go (Some k) e = absurd (none (at_its_time plans costs h k.class k.op) (possible_at plans costs h k.class k.op (key_found queue slot k q e).early.allowed))
+        go (Some k) e = absurd (none k (key_found (λ x. ⊥) queue slot k q e).possible)
 
-  -- an operation that had no key has got that of its possible action
-  pub put_enabled : (h : List Timed) (x : OpId) (known : List Plan) (slot : ℕ) (enabled : Option Timed) (a : Timed) (old new : Floored) → known ≡ plans → slice_get (operations known) slot ≡ Some x → IsEnabledActionOf plans costs h x enabled → enabled ≡ Some a → new.keys ≡ slice_set old.keys slot (Some a) → new.groups ≡ old.groups → ((other : ℕ) → other ≢ slot → waits_at new other ≡ waits_at old other) → (waits_at new slot ≡ true → a.time ≤ free plans costs h x) → IsRefreshed plans costs h x old new
-  put_enabled h x known slot enabled a old new same at is e keys groups others floored = record {
-    slot = slot;
-    is_slot = ap (λ (ps : List Plan). slice_get (operations ps) slot) (sym same) ∙ at;
-    key = Some a;
-    bound = subst (λ (k : Option Timed). IsBoundOf plans costs h x k) e (enabled_bound h x enabled is);
-    put = keys;
-    groups = groups;
-    others = others;
-    floored = λ k w has. omega (arith, floored w, ap (λ (t : Timed). t.time) (same_Some a k has));
-  }
+    -- each key is of the operation of its slot
+    pub of_slots : (Due : OpId → Type 0) (queue : Stationed) (known : List Plan) → IsQueueBut plans costs h Due queue → known ≡ plans → AreOfSlots (operations known) queue.keys
+    of_slots Due queue known q same slot k has =
+        ap (λ (ps : List Plan). slice_get (operations ps) slot) same ∙ (key_found Due queue slot k q has).is_slot
 
-  -- what has its bound stays as it is
-  bound_kept : (h : List Timed) (x : OpId) (known : List Plan) (slot : ℕ) (queue : Floored) → HasEarlyKeys plans costs h queue → known ≡ plans → slice_get (operations known) slot ≡ Some x → IsBoundOf plans costs h x (key_at queue.keys slot) → IsRefreshed plans costs h x queue queue
-  bound_kept h x known slot queue q same at bound =
-      let is_slot = ap (λ (ps : List Plan). slice_get (operations ps) slot) (sym same) ∙ at in
-      record {
-        slot = slot;
-        is_slot = is_slot;
-        key = key_at queue.keys slot;
-        bound = bound;
-        put = sym (set-get_or queue.keys slot None);
-        groups = refl;
-        others = λ other d. refl;
-        floored = λ e w has. q.floored slot x e is_slot w has;
-      }
+    -- where keys, stations and free times are the same it is the same queue
+    pub same_queue : (Due : OpId → Type 0) (old new : Stationed) → IsQueueBut plans costs h Due old → new.keys ≡ old.keys → new.stations ≡ old.stations → new.pairs ≡ old.pairs → new.free ≡ old.free → IsQueueBut plans costs h Due new
+    same_queue Due old new q keys stations pairs free = record {
+      of_it = record {
+        each = ap length keys ∙ q.of_it.each;
+        stationed = subst (λ (ps : List Pair). AreStationed plans new.stations ps) (sym pairs) (subst (λ (ns : List ℕ). AreStationed plans ns old.pairs) (sym stations) q.of_it.stationed);
+        exist = subst (λ (n : ℕ). DoExist new.pairs n) (ap length (sym free)) (subst (λ (ps : List Pair). DoExist ps (length old.free)) (sym pairs) q.of_it.exist);
+        free = record {
+          cpus = λ i y at. (λ j. slice_index (free j) (pair_at (pairs j) (slice_index (stations j) i)).cpu) ∙ q.of_it.free.cpus i y at;
+          sides = λ i y at. (λ j. slice_index (free j) (pair_at (pairs j) (slice_index (stations j) i)).side) ∙ q.of_it.free.sides i y at;
+        };
+      };
+      possible = λ i x e at has. q.possible i x e at (sym (ap (λ ks. key_at ks i) keys) ∙ has);
+      idle = λ i x at none. q.idle i x at (sym (ap (λ ks. key_at ks i) keys) ∙ none);
+    }
 
-  -- a key that is there is early
-  pub key_kept : (h : List Timed) (x : OpId) (known : List Plan) (slot : ℕ) (queue : Floored) → HasEarlyKeys plans costs h queue → known ≡ plans → slice_get (operations known) slot ≡ Some x → is_some (key_at queue.keys slot) ≡ true → IsRefreshed plans costs h x queue queue
-  key_kept h x known slot queue q same at some = go (key_at queue.keys slot) refl
+    -- an operation that had no key has got that of its possible action
+    pub put_enabled : (x : OpId) (known : List Plan) (slot : ℕ) (enabled : Option Timed) (a k : Timed) (old new : Stationed) → HasPossibleKeys plans costs h old → known ≡ plans → slice_get (operations known) slot ≡ Some x → IsEnabledActionOf plans costs h x enabled → enabled ≡ Some a → k ≡ a → new.keys ≡ slice_set old.keys slot (Some (when_free old.free (pair_of old slot) k)) → new.stations ≡ old.stations → new.pairs ≡ old.pairs → new.free ≡ old.free → IsRefreshed plans costs h x old new
+    put_enabled x known slot enabled a k old new q same at is e key put stations pairs free_same = record {
+      slot = slot;
+      is_slot = at_slot;
+      key = Some a;
+      enabled = own;
+      put = put ∙ ap (λ (b : Timed). slice_set old.keys slot (Some b)) ((λ i. when_free old.free (pair_of old slot) (key i)) ∙ exact);
+      stations = stations;
+      pairs = pairs;
+      free = free_same;
+    }
+      where
+        at_slot : slice_get (operations plans) slot ≡ Some x
+        at_slot = ap (λ (ps : List Plan). slice_get (operations ps) slot) (sym same) ∙ at
+
+        own : (a.op ≡ x) × Possible plans costs h a
+        own = subst (IsEnabledActionOf plans costs h x) e is
+
+        go : (r : Bool) (f : ℕ) → (r ≡ true → free plans costs h a.op ≤ time plans costs h a.class a.op) → f ≡ free plans costs h a.op → a.time ≡ time plans costs h a.class a.op → (if r then max a.time f else a.time) ≡ a.time
+        go true f first same_free at_time = omega (arith, first refl, same_free, at_time)
+        go false f first same_free at_time = refl
+
+        exact : when_free old.free (pair_of old slot) a ≡ a
+        exact =
+            let known_free : both_free old.free (pair_of old slot) ≡ free plans costs h a.op = free_known h old q.of_it.free slot x at_slot ∙ ap (free plans costs h) (sym own.0) in
+            λ j. record { time = go (waits_for_room a.class) _ (λ w. free_first plans costs h a.class a.op w own.1.allowed) known_free own.1.time j; class = a.class; op = a.op }
+
+    -- what has its key stays as it is
+    same_key : (x : OpId) (known : List Plan) (slot : ℕ) (queue : Stationed) → known ≡ plans → slice_get (operations known) slot ≡ Some x → IsEnabledActionOf plans costs h x (key_at queue.keys slot) → IsRefreshed plans costs h x queue queue
+    same_key x known slot queue same at enabled = record {
+      slot = slot;
+      is_slot = ap (λ (ps : List Plan). slice_get (operations ps) slot) (sym same) ∙ at;
+      key = key_at queue.keys slot;
+      enabled = enabled;
+      put = sym (set-get_or queue.keys slot None);
+      stations = refl;
+      pairs = refl;
+      free = refl;
+    }
+
+    pub key_kept : (x : OpId) (known : List Plan) (slot : ℕ) (queue : Stationed) → HasPossibleKeys plans costs h queue → known ≡ plans → slice_get (operations known) slot ≡ Some x → is_some (key_at queue.keys slot) ≡ true → IsRefreshed plans costs h x queue queue
+    key_kept x known slot queue q same at some = go (key_at queue.keys slot) refl
+      where
+        go : (k : Option Timed) → key_at queue.keys slot ≡ k → IsRefreshed plans costs h x queue queue
+        go None none = absurd (both_ways _ (ap is_some none) some)
+        go (Some e) has =
+            same_key x known slot queue same at (subst (IsEnabledActionOf plans costs h x) (sym has) (q.possible slot x e (ap (λ (ps : List Plan). slice_get (operations ps) slot) (sym same) ∙ at) has))
+
+    -- what is idle has none
+    pub idle_kept : (x : OpId) (known : List Plan) (slot : ℕ) (enabled : Option Timed) (queue : Stationed) → known ≡ plans → slice_get (operations known) slot ≡ Some x → IsEnabledActionOf plans costs h x enabled → enabled ≡ None → is_some (key_at queue.keys slot) ≡ false → IsRefreshed plans costs h x queue queue
+    idle_kept x known slot enabled queue same at is e none =
+        same_key x known slot queue same at (subst (IsEnabledActionOf plans costs h x) (e ∙ sym (no_key (key_at queue.keys slot) none)) is)
+
+  first_cpu : (x : OpId) → 0 ≡ cpu plans costs [] x
+  unfolding cpu
+  first_cpu x = refl
+
+  first_side : (x : OpId) (k : Option Kind) → 0 ≡ side_of plans costs [] x k
+  unfolding cpu tx rx
+  first_side x None = refl
+  first_side x (Some (Calc n)) = refl
+  first_side x (Some (Send n t u)) = refl
+  first_side x (Some (Recv n t u)) = refl
+
+  -- a new queue is one of its schedule, before anything has happened
+  pub new_queue : (numbers : List ℕ) (pairs : List Pair) (resources : ℕ) (queue : Stationed) → AreStationed plans numbers pairs → DoExist pairs resources → queue ≡ record { keys = replicate (length numbers) None; stations = numbers; stands = replicate (length numbers) Nowhere; pairs = pairs; turned = replicate (length pairs) false; free = replicate resources 0; found = None } → IsOfSchedule plans costs [] queue
+  new_queue numbers pairs resources queue stationed exist is = subst (IsOfSchedule plans costs []) (sym is) (record {
+    each = length-replicate (length numbers) None ∙ stationed.each;
+    stationed = stationed;
+    exist = subst (λ (n : ℕ). DoExist pairs n) (sym (length-replicate {A = ℕ} resources 0)) exist;
+    free = record {
+      cpus = λ slot x at. zero_at resources (pair_at pairs (slice_index numbers slot)).cpu ∙ first_cpu x;
+      sides = λ slot x at. zero_at resources (pair_at pairs (slice_index numbers slot)).side ∙ first_side x (kind_at plans x);
+    };
+  })
     where
-      go : (k : Option Timed) → key_at queue.keys slot ≡ k → IsRefreshed plans costs h x queue queue
-      go None none = absurd (both_ways _ (ap is_some none) some)
-      go (Some e) has =
-          bound_kept h x known slot queue q same at (subst (IsBoundOf plans costs h x) (sym has) (q.early slot x e (ap (λ (ps : List Plan). slice_get (operations ps) slot) (sym same) ∙ at) has))
-
-  -- what is idle has none
-  pub idle_kept : (h : List Timed) (x : OpId) (known : List Plan) (slot : ℕ) (enabled : Option Timed) (queue : Floored) → HasEarlyKeys plans costs h queue → known ≡ plans → slice_get (operations known) slot ≡ Some x → IsEnabledActionOf plans costs h x enabled → enabled ≡ None → is_some (key_at queue.keys slot) ≡ false → IsRefreshed plans costs h x queue queue
-  idle_kept h x known slot enabled queue q same at is e none =
-      bound_kept h x known slot queue q same at (subst (IsBoundOf plans costs h x) (sym (no_key (key_at queue.keys slot) none)) (subst (λ (k : Option Timed). IsBoundOf plans costs h x k) e (enabled_bound h x enabled is)))
+      zero_at : (n k : ℕ) → slice_index (replicate n 0) k ≡ 0
+      zero_at n k = elim (cases_lt k n) [ inl l ↦ get_or-replicate n k 0 0 l | inr l ↦ get_or_past (replicate n 0) k 0 (omega (arith, l, length-replicate {A = ℕ} n 0)) ]

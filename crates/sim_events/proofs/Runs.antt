@@ -1,12 +1,12 @@
 -- How far a run can go, and how it ends.
-use Rattle.std.proofs.Common.{◌≡◌, ◌*◌, ◌-◌, ◌+◌, ◌<◌, true, false, length, Option, Some, None, is_some, refl, sym, ap, subst, arith}
+use Rattle.std.proofs.Common.{◌≡◌, ◌*◌, ◌-◌, ◌+◌, ◌<◌, ◌≤◌, true, false, length, Option, Some, None, is_some, refl, sym, ap, subst, arith}
 use Rattle.goal_graph.specs.declared.action.Timed.{Timed}
 use Rattle.goal_graph.specs.Schedule.{operations}
 use Rattle.sim_params.specs.Costs.{CostModel}
 use Rattle.sim_params.specs.Run.{IsRun, IsFinished}
 use Rattle.sim_params.proofs.ForCallers.{run_length}
-use Rattle.sim_events.specs.Comparisons.{count_of}
-use Rattle.sim_events.specs.Engine.{View}
+use Rattle.sim_events.specs.Comparisons.{count_of, last_look}
+use Rattle.sim_state.specs.Engine.{View}
 use Rattle.sim_events.specs.Outlook.{IsStepped}
 
 module _ {C : Type 0} (model : C → CostModel) (old new : View C) where
@@ -41,3 +41,12 @@ module _ {C : Type 0} (model : C → CostModel) (old new : View C) where
 pub none_counted : (r : Option Timed) → is_some r ≡ false → count_of r ≡ 0
 none_counted None t = refl
 none_counted (Some a) t = absurd (cc)
+
+-- a look that finds an action costs no more, and one that finds none costs what it does
+pub some_look : (r : Option Timed) → is_some r ≡ true → last_look r ≡ 0
+some_look None t = absurd (cc)
+some_look (Some a) t = refl
+
+pub look_most : (r : Option Timed) → last_look r ≤ 3
+look_most None = omega arith
+look_most (Some a) = omega arith

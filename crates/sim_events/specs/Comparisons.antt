@@ -1,25 +1,29 @@
--- What a run costs in comparisons: what each of its keys costs, and each lift of a station.
-use Rattle.std.specs.Prelude.{ℕ, ◌+◌, ◌*◌, Bool, true, false, Option, Some, None, length}
+-- What a run costs in comparisons: what each of its keys costs, and each change of place of a station.
+use Rattle.std.specs.Prelude.{ℕ, ◌+◌, ◌*◌, Option, Some, None, length}
 use Rattle.std.specs.List.{sum_by, range_with_len}
 use Rattle.goal_graph.specs.declared.action.Timed.{Timed}
-use Rattle.sim_queue.specs.Map.{key_at}
-use Rattle.sim_queue.specs.Floors.{Floored, waits_at}
+use Rattle.sim_heaps.specs.Map.{key_at}
+use Rattle.sim_stations.specs.Stations.{Stationed}
 
--- what a key has cost among 2^k that is there: it was put and, where it waits, has begun to
-abbrev pub cost_of_key : ℕ → Bool → Option Timed → ℕ
-cost_of_key k waits None = 0
-cost_of_key k false (Some e) = 2 * k + 66
-cost_of_key k true (Some e) = 6 * k + 134
+-- what putting a key among 2^k that is there has cost
+abbrev pub cost_of_key : ℕ → Option Timed → ℕ
+cost_of_key k None = 0
+cost_of_key k (Some e) = 10 * k + 16
 
 -- what the keys have cost that are there
-abbrev pub spent : ℕ → Floored → ℕ
-spent k queue = sum_by (λ i. cost_of_key k (waits_at queue i) (key_at queue.keys i)) (range_with_len 0 (length queue.keys))
+abbrev pub spent : ℕ → Stationed → ℕ
+spent k queue = sum_by (λ i. cost_of_key k (key_at queue.keys i)) (range_with_len 0 (length queue.keys))
 
--- what so many actions cost whose steps lifted stations so often: a key is put, begins to wait and is taken out
+-- what so many actions cost, with so many changes of place: a key is put, found and taken out
 abbrev pub cost_of_actions : ℕ → ℕ → ℕ → ℕ
-cost_of_actions k actions lifts = actions * (8 * k + 201) + lifts * 66
+cost_of_actions k actions moves = actions * (18 * k + 29) + moves * (8 * k + 15)
 
 -- how many actions an answer is
 abbrev pub count_of : Option Timed → ℕ
 count_of None = 0
 count_of (Some a) = 1
+
+-- what a look costs that finds nothing more
+abbrev pub last_look : Option Timed → ℕ
+last_look None = 3
+last_look (Some a) = 0

@@ -1,29 +1,23 @@
--- What a reader must believe.
-pub mod Engine
 -- What only the code keeps.
 pub mod Queue
 pub mod Comparisons
-pub mod Moments
-pub mod Partners
-pub mod Tables
-pub mod Enabled
-pub mod Shapes
-pub mod Represents
 pub mod Stations
-pub mod Cursors
 pub mod Outlook
 -- What the clauses cite of lower crates.
 pub use Rattle.goal_graph.specs.Action
 pub use Rattle.goal_graph.specs.Fault
 pub use Rattle.goal_graph.specs.Interleaving
 pub use Rattle.goal_graph.specs.Schedule
-pub use Rattle.sim_eager.specs.Messages
 pub use Rattle.sim_order.specs.Events
 pub use Rattle.sim_params.specs.Budget
 pub use Rattle.sim_params.specs.Costs
 pub use Rattle.sim_params.specs.Run
 pub use Rattle.sim_params.specs.Times
-pub use Rattle.sim_queue.specs.Floors
-pub use Rattle.sim_queue.specs.Map
+pub use Rattle.sim_stations.specs.Stations as Stationing
+pub use Rattle.sim_heaps.specs.Map
+pub use Rattle.sim_state.specs.Cursors
+pub use Rattle.sim_state.specs.Enabled
+pub use Rattle.sim_state.specs.Engine
+pub use Rattle.sim_state.specs.Free
 pub use Rattle.goal_graph.specs.Laws as ScheduleLaws
 pub use Rattle.sim_params.specs.Laws as RunLaws

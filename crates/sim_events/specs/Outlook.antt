@@ -5,9 +5,9 @@ use Rattle.goal_graph.specs.Schedule.{Plan}
 use Rattle.sim_params.specs.Costs.{CostModel}
 use Rattle.sim_params.specs.Run.{IsNext, IsFinished}
 use Rattle.sim_events.specs.declared.outlook.Outlook.{Outlook}
-use Rattle.sim_events.specs.Engine.{View}
+use Rattle.sim_state.specs.Engine.{View}
 use Rattle.sim_events.specs.Queue.{IsQueue}
-use Rattle.sim_events.specs.Cursors.{AreCursors}
+use Rattle.sim_state.specs.Cursors.{AreCursors}
 
 -- its queue and its cursors, or none where nothing is possible
 abbrev pub IsOutlook : List Plan → CostModel → List Timed → Option Outlook → Type 0

@@ -1,54 +1,80 @@
 -- What an operation waits for before it works: its cpu and, where it sends or receives, that side of its interface.
-use Rattle.std.specs.Prelude.{ℕ, ◌≡◌, ◌≤◌, ◌&&◌, ◌==◌, ◌++◌, Bool, List, length, Option, Some, None, max, slice_get}
+use Rattle.std.specs.Prelude.{ℕ, ◌≡◌, ◌≤◌, ◌<◌, ◌+◌, ◌*◌, ◌&&◌, ◌==◌, ◌++◌, Bool, List, length, Option, Some, None, slice_get, slice_index}
 use Rattle.goal_graph.specs.declared.action.OpId.{OpId}
-use Rattle.goal_graph.specs.declared.action.Timed.{Timed}
 use Rattle.goal_graph.specs.declared.plan.Kind.{Kind}
 use Rattle.goal_graph.specs.declared.plan.Kind.TheVariants.{Calc, Send, Recv}
 use Rattle.goal_graph.specs.declared.plan.Op.{Op}
-use Rattle.goal_graph.specs.Schedule.{Plan, op_at, kind_at, operations}
-use Rattle.sim_params.specs.Costs.{CostModel}
-use Rattle.sim_params.specs.Times.{cpu, tx, rx}
+use Rattle.goal_graph.specs.Schedule.{Plan, op_at, operations}
+use Rattle.sim_stations.specs.declared.pair.Pair.{Pair}
 use Rattle.sim_events.specs.declared.station.Station.{Station}
 pub use Rattle.goal_graph.specs.Choices.{same_choice}
 
 abbrev pub station_by : OpId → Op → Kind → Station
-station_by x o (Calc nanos) = record { rank = x.rank; cpu = o.cpu; sends = None; receives = None }
-station_by x o (Send bytes to tag) = record { rank = x.rank; cpu = o.cpu; sends = Some o.nic; receives = None }
-station_by x o (Recv room from tag) = record { rank = x.rank; cpu = o.cpu; sends = None; receives = Some o.nic }
+station_by x o (Calc nanos) = record { rank = x.rank; cpu = Some o.cpu; sends = None; receives = None }
+station_by x o (Send bytes to tag) = record { rank = x.rank; cpu = Some o.cpu; sends = Some o.nic; receives = None }
+station_by x o (Recv room from tag) = record { rank = x.rank; cpu = Some o.cpu; sends = None; receives = Some o.nic }
 
 -- the station of the operation x
 abbrev pub station_of : OpId → Op → Station
 station_of x o = station_by x o o.kind
 
-module _ (plans : List Plan) where
-  -- two operations have one station
-  pub record HaveOneStation (x y : OpId) : Type 0 where
-    pub op : Op
-    pub other : Op
-    pub is_op : op_at plans x ≡ Some op
-    pub is_other : op_at plans y ≡ Some other
-    pub same : station_of x op ≡ station_of y other
+-- The two resources of a station: its cpu alone, and its side alone, or its cpu again where it needs no side.
+abbrev pub cpu_alone : Station → Station
+cpu_alone s = record { rank = s.rank; cpu = s.cpu; sends = None; receives = None }
 
-  -- each operation has a number, and where two have the same, they have one station
-  pub record AreStationed (numbers : List ℕ) : Type 0 where
-    pub each : (i : ℕ) (x : OpId) → slice_get (operations plans) i ≡ Some x → (n : ℕ) × (slice_get numbers i ≡ Some n)
-    pub same :
-        (i j : ℕ) (x y : OpId)
-        → slice_get (operations plans) i ≡ Some x → slice_get (operations plans) j ≡ Some y
-        → slice_get numbers i ≡ slice_get numbers j → HaveOneStation x y
+abbrev pub side_by : Station → Option ℕ → Option ℕ → Station
+side_by s None None = s
+side_by s (Some n) r = record { rank = s.rank; cpu = None; sends = Some n; receives = r }
+side_by s None (Some n) = record { rank = s.rank; cpu = None; sends = None; receives = Some n }
 
-  -- when all that x waits for is free
-  abbrev pub free_of : CostModel → List Timed → OpId → Option Kind → ℕ
-  free_of costs h x None = 0
-  free_of costs h x (Some (Calc nanos)) = cpu plans costs h x
-  free_of costs h x (Some (Send bytes to tag)) = max (cpu plans costs h x) (tx plans costs h x)
-  free_of costs h x (Some (Recv room from tag)) = max (cpu plans costs h x) (rx plans costs h x)
-
-  abbrev pub free : CostModel → List Timed → OpId → ℕ
-  free costs h x = free_of costs h x (kind_at plans x)
+abbrev pub side_alone : Station → Station
+side_alone s = side_by s s.sends s.receives
 
 abbrev pub same_station : Station → Station → Bool
-same_station p q = (p.rank == q.rank) && ((p.cpu == q.cpu) && (same_choice p.sends q.sends && same_choice p.receives q.receives))
+same_station p q =
+    (p.rank == q.rank) && (same_choice p.cpu q.cpu && (same_choice p.sends q.sends && same_choice p.receives q.receives))
+
+-- where a rank keeps the number of a station
+abbrev pub cpu_place : Option ℕ → ℕ
+cpu_place None = 0
+cpu_place (Some c) = 1 + c
+
+abbrev pub side_place : Option ℕ → Option ℕ → ℕ
+side_place None None = 0
+side_place (Some n) _ = 1 + n
+side_place None (Some n) = 257 + n
+
+abbrev pub place : Station → ℕ
+place s = 513 * cpu_place s.cpu + side_place s.sends s.receives
+
+-- at most one side, and bytes
+abbrev pub IsByte : Option ℕ → Type 0
+IsByte None = Unit {0}
+IsByte (Some n) = n < 256
+
+abbrev pub IsOneSide : Option ℕ → Option ℕ → Type 0
+IsOneSide None r = IsByte r
+IsOneSide (Some n) None = n < 256
+IsOneSide (Some m) (Some n) = ⊥
+
+pub record IsPlain (s : Station) : Type 0 where
+  pub cpu : IsByte s.cpu
+  pub side : IsOneSide s.sends s.receives
+
+-- no station is of a later rank
+abbrev pub IsNotAfter : List Station → ℕ → Type 0
+IsNotAfter seen rank = (j : ℕ) (s : Station) → slice_get seen j ≡ Some s → s.rank ≤ rank
+
+-- no station twice
+abbrev pub AreOnce : List Station → Type 0
+AreOnce seen = (i j : ℕ) (s : Station) → slice_get seen i ≡ Some s → slice_get seen j ≡ Some s → i ≡ j
+
+-- the stations of the last rank have their numbers at their places
+pub record ArePlaced (seen : List Station) (places : List ℕ) : Type 0 where
+  pub all : length places ≡ 131841
+  pub plain : (i : ℕ) (s : Station) → slice_get seen i ≡ Some s → IsPlain s
+  pub placed : (i : ℕ) (s : Station) → slice_get seen i ≡ Some s → IsNotAfter seen s.rank → slice_index places (place s) ≡ i
+  pub once : AreOnce seen
 
 -- the station has this number among those that are seen after it; those seen before keep theirs
 pub record HasNumber (before after : List Station) (station : Station) (number : ℕ) : Type 0 where
@@ -56,11 +82,28 @@ pub record HasNumber (before after : List Station) (station : Station) (number :
   pub grown : after ≡ before ++ more
   pub by_one : length more ≤ 1
   pub is : slice_get after number ≡ Some station
+  pub of_it : (i : ℕ) (s : Station) → slice_get more i ≡ Some s → s ≡ station
 
-module _ (plans : List Plan) (keys : List Station) (numbers : List ℕ) where
-  pub record HasStation (i : ℕ) (x : OpId) : Type 0 where
-    pub number : ℕ
-    pub op : Op
-    pub number_is : slice_get numbers i ≡ Some number
-    pub is_op : op_at plans x ≡ Some op
-    pub station_is : slice_get keys number ≡ Some (station_of x op)
+-- so have the resources of a station
+pub record HasPair (before after : List Station) (station : Station) (p : Pair) : Type 0 where
+  pub between : List Station
+  pub cpu : HasNumber before between (cpu_alone station) p.cpu
+  pub side : HasNumber between after (side_alone station) p.side
+
+-- Stations and resources, each once, and the numbers of the two resources of each station.
+pub record IsNumbering (stations resources : List Station) (pairs : List Pair) : Type 0 where
+  pub each : length pairs ≡ length stations
+  pub few : length resources ≤ 2 * length stations
+  pub once : AreOnce stations
+  pub resources_once : AreOnce resources
+  pub cpus : (n : ℕ) (s : Station) (p : Pair) → slice_get stations n ≡ Some s → slice_get pairs n ≡ Some p → slice_get resources p.cpu ≡ Some (cpu_alone s)
+  pub sides : (n : ℕ) (s : Station) (p : Pair) → slice_get stations n ≡ Some s → slice_get pairs n ≡ Some p → slice_get resources p.side ≡ Some (side_alone s)
+  pub of_stations : (rank : ℕ) → IsNotAfter stations rank → IsNotAfter resources rank
+
+-- Each operation has the number of its station, and each station one number.
+pub record AreStationed (plans : List Plan) (numbers : List ℕ) (pairs : List Pair) : Type 0 where
+  pub stations : List Station
+  pub resources : List Station
+  pub numbering : IsNumbering stations resources pairs
+  pub each : length numbers ≡ length (operations plans)
+  pub are : (i : ℕ) (x : OpId) (o : Op) → slice_get (operations plans) i ≡ Some x → op_at plans x ≡ Some o → slice_get stations (slice_index numbers i) ≡ Some (station_of x o)

@@ -5,68 +5,25 @@ ghost use Rattle.goal_graph.specs.declared.action.Timed.{Timed};
 ghost use Rattle.goal_graph.specs.Fault.{IsOp, IsAccepted};
 ghost use Rattle.goal_graph.specs.Action.{plain, same_op};
 ghost use Rattle.goal_graph.specs.Interleaving.{IsCompleteInterleaving};
-ghost use Rattle.sim_params.specs.Costs.{CostModel, is_eager};
+ghost use Rattle.sim_params.specs.Costs.{is_eager};
 ghost use Rattle.sim_params.specs.Budget.{budget};
 ghost use Rattle.sim_params.specs.Times.{mate};
 ghost use Rattle.sim_params.specs.Run.{IsNext, IsRun, IsFinished, IsCompleteRun};
 ghost use Rattle.sim_params.specs.Laws.{IsWithin};
-ghost use Rattle.sim_events.specs.Engine.{IsEngineFault, start_known, end_known};
-ghost use Rattle.sim_events.specs.Cursors.{AreCursors};
+ghost use Rattle.sim_state.specs.Engine.{IsEngineFault, start_known, end_known};
 
-use crate::cursor::Cursor;
-use crate::follow::{Queue, is_empty};
-use crate::outlook::{Outlook, fill_once, run_on, step_once};
-use crate::state::State;
-use crate::station::stations;
-use goal_base::NoMemory;
+use crate::follow::is_empty;
+use crate::outlook::{Outlook, at_the_start, run_on, step_once};
 use goal_graph::{OpId, Sched, Timed};
 use sim_order::CompactKey;
 use sim_params::Costs;
-use std::alloc::{AllocError, Global};
+use sim_state::{EngineFault, Record, State};
+use std::alloc::Global;
 use std::marker::{Brand, Model};
 use std::sync::ledger::Blank;
 
-/// Why an engine is not made.
-#[derive(Clone, Copy, Debug, PartialEq, Eq)]
-pub enum EngineFault {
-    /// The time budget is over 2^63-1 nanoseconds: it is `sum`.
-    Budget { sum: u128 },
-    /// Memory ran out.
-    NoMemory,
-}
-
-impl From<AllocError> for EngineFault {
-    ghost use Rattle.sim_events.specs.declared.engine.EngineFault.TheVariants.{NoMemory};
-
-    ghost from_gives = { λ _ fault. fault ≡ NoMemory };
-
-    fn from(_error: AllocError) -> EngineFault {
-        EngineFault::NoMemory
-    }
-}
-
-impl From<NoMemory> for EngineFault {
-    ghost use Rattle.sim_events.specs.declared.engine.EngineFault.TheVariants.{NoMemory};
-
-    ghost from_gives = { λ _ fault. fault ≡ NoMemory };
-
-    fn from(_error: NoMemory) -> EngineFault {
-        EngineFault::NoMemory
-    }
-}
-
-/// What is known of an operation: when it started and when it ends, in nanoseconds, and the operation that it is
-/// paired with. What is not known is `None`.
-#[derive(Clone, Copy, Debug, PartialEq, Eq)]
-pub struct Record {
-    pub start: Option<u64>,
-    pub end: Option<u64>,
-    pub partner: Option<OpId>,
-}
-
 /// Runs a schedule. Contracts see it as the plans of the schedule, the costs, and what has happened so far, newest
 /// first.
-#[derive(Drop)]
 pub struct Engine<'a, C: Costs> {
     // what has happened, and what is known of each operation
     state: State<'a, C>,
@@ -74,8 +31,18 @@ pub struct Engine<'a, C: Costs> {
     outlook: Option<Outlook>,
 }
 
+// It goes by a call, and not field by field: so those that let one go are shorter to prove.
+impl<C: Costs + Drop> Drop for Engine<'_, C> {
+    fn drop(self) {
+        let Engine {
+            state: _state,
+            outlook: _outlook,
+        } = self;
+    }
+}
+
 impl<'a, C: Costs> Model for Engine<'a, C> {
-    ghost use Rattle.sim_events.specs.Engine.{View};
+    ghost use Rattle.sim_state.specs.Engine.{View};
     ghost use Rattle.sim_events.specs.Outlook.{IsOutlook};
 
     ghost Value = { View C };
@@ -83,14 +50,6 @@ impl<'a, C: Costs> Model for Engine<'a, C> {
     ghost view = { λ e. e.state };
 
     ghost invariant = { λ e. IsOutlook e.state.plans (C.model e.state.costs) e.state.history e.outlook };
-}
-
-// The cursors of all operations, each before the first need.
-fn at_first(alloc: Global, sched: &Sched) -> Result<Vec<Cursor>, AllocError>
-    ensures { IfOk result (λ cursors. (costs : CostModel) → AreCursors sched.now costs [] cursors.items) }
-{
-    let cursors = vec![in alloc; Cursor::START; sched.count() as usize]?;
-    Ok(cursors)
 }
 
 impl<'a, C: Costs + Drop> Engine<'a, C> {
@@ -104,13 +63,10 @@ impl<'a, C: Costs + Drop> Engine<'a, C> {
         ensures fault { IfErr result (IsEngineFault (budget sched.now (C.model costs))) }
     {
         let state = State::new(alloc, sched, costs)?;
-        let stations = stations(alloc, sched)?;
-        let mut queue = Queue::new(alloc, &stations.numbers, stations.count)?;
-        let mut cursors = at_first(alloc, sched)?;
-        fill_once::<C, Brand>(Blank::new(1), &state, &mut queue, &mut cursors);
+        let outlook = at_the_start::<C, Brand>(alloc, Blank::new(1), &state)?;
         Ok(Engine {
             state,
-            outlook: Some(Outlook { queue, cursors }),
+            outlook: Some(outlook),
         })
     }
 }
@@ -129,7 +85,13 @@ impl<'a, C: Costs> Engine<'a, C> {
         let Some(outlook) = &mut self.outlook else {
             return None;
         };
-        step_once::<C, Brand, Brand>(&mut self.state, outlook, Blank::new(1), Blank::new(1))
+        step_once::<C, Brand, Brand, Brand>(
+            &mut self.state,
+            outlook,
+            Blank::new(1),
+            Blank::new(1),
+            Blank::new(1),
+        )
     }
 
     /// Lets all that is possible happen, until nothing is. Then it gives back the memory that steps need.
@@ -150,7 +112,13 @@ impl<'a, C: Costs> Engine<'a, C> {
     {
         self.known();
         if let Some(outlook) = &mut self.outlook {
-            run_on::<C, Brand, Brand>(&mut self.state, outlook, Blank::new(1), Blank::new(1));
+            run_on::<C, Brand, Brand, Brand>(
+                &mut self.state,
+                outlook,
+                Blank::new(1),
+                Blank::new(1),
+                Blank::new(1),
+            );
         }
         self.outlook = None;
     }

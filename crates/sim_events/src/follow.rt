@@ -1,28 +1,26 @@
 // The queue of an engine: what it holds, and how it follows what happens.
-ghost use Rattle.std.specs.Prelude.{◌≡◌, ◌≢◌, ℕ, ◌<◌, ◌≤◌, ◌+◌, ◌*◌, ◌^◌, ◌↔◌, ◌⊎◌, IsTrue, IfSome, IfNone, IsNone, Some, length};
+ghost use Rattle.std.specs.Prelude.{◌≡◌, ◌≢◌, ℕ, ◌<◌, ◌≤◌, ◌+◌, ◌*◌, ◌^◌, ◌↔◌, ◌⊎◌, IsTrue, IfSome, IsNone, Some, true, length, slice_get};
 ghost use Rattle.goal_graph.specs.declared.action.Class.TheVariants.{Serve};
 ghost use Rattle.goal_graph.specs.Schedule.{operations};
 ghost use Rattle.goal_graph.specs.Fault.{IsOp};
-ghost use Rattle.sim_params.specs.Times.{Possible, mate};
+ghost use Rattle.sim_params.specs.Times.{mate, cpu};
 ghost use Rattle.sim_params.specs.Run.{IsNext, IsFinished};
-ghost use Rattle.sim_order.specs.Events.{event_before};
-ghost use Rattle.sim_queue.specs.Map.{IsEmptyMap, IsLeast};
-ghost use Rattle.sim_events.specs.Stations.{AreStationed};
-ghost use Rattle.sim_events.specs.Cursors.{IsCursorOf, AreCursors};
-ghost use Rattle.sim_events.specs.Comparisons.{spent, cost_of_actions, count_of};
-ghost use Rattle.sim_events.specs.Queue.{IsEarly, IsQueue, IsQueueBut, IsQueueWithout, HasEarlyKeys, IsRefreshed, IsDueAfter, Awaits, gives, IsEnabledActionOf, IsEachRaisedOnce};
+ghost use Rattle.sim_heaps.specs.Map.{key_at, IsEmptyMap};
+ghost use Rattle.sim_stations.specs.Stations.{waits_for_room, pair_of, IsLater, cost_of_waiting, cost_of_moves};
+ghost use Rattle.sim_state.specs.Cursors.{AreCursors};
+ghost use Rattle.sim_state.specs.Free.{side};
+ghost use Rattle.sim_events.specs.Comparisons.{spent};
+ghost use Rattle.sim_events.specs.Queue.{IsOfSchedule, IsQueue, IsQueueBut, HasPossibleKeys, IsRefreshed, IsSettledBy, IsDueAfter, Awaits, gives};
 
-use crate::cursor::Cursor;
-use crate::key::compact;
-use crate::state::State;
 use goal_graph::{Class, OpId, Timed, When};
 use sim_order::Steps;
 use sim_params::Costs;
-use sim_queue::{FloorQueue, waits_for_room};
+use sim_state::{Cursor, State, choice_from, compact};
+use sim_stations::StationQueue;
 use std::sync::ledger::{Blank, Ledger};
 
-/// For each operation that has a possible action, the key of that action at a time that is never too late.
-pub type Queue = FloorQueue;
+/// For each operation that has a possible action, the key of that action.
+pub type Queue = StationQueue;
 
 /// Gives each operation its key, where none has one yet.
 pub fn fill<C: Costs, L: Ledger>(
@@ -31,82 +29,69 @@ pub fn fill<C: Costs, L: Ledger>(
     cursors: &mut [Cursor],
     steps: &mut Steps<L>,
 )
-    requires each { length queue.old.keys ≡ length (operations state.now.plans) }
+    requires of_it { IsOfSchedule state.now.plans (C.model state.now.costs) state.now.history queue.old }
     requires empty { IsEmptyMap queue.old.keys }
-    requires stationed { AreStationed state.now.plans queue.old.groups }
     requires cursors { AreCursors state.now.plans (C.model state.now.costs) state.now.history cursors.old }
     ensures queue { IsQueue state.now.plans (C.model state.now.costs) state.now.history queue.new }
     ensures cursors { AreCursors state.now.plans (C.model state.now.costs) state.now.history cursors.new }
-    ensures counted { (k : ℕ) → length queue.old.keys ≤ 2 ^ k → steps.new ≤ steps.old + spent k queue.new }
+    ensures counted { (k : ℕ) → length queue.old.keys ≤ 2 ^ k → steps.new + cost_of_waiting k queue.new.stands ≤ steps.old + cost_of_waiting k queue.old.stands + spent k queue.new }
 {
     for id in state.sched().operations() {
         refresh(state, queue, cursors, *id, steps);
     }
 }
 
-/// The action that happens next, none where nothing is possible. Its operation's key is taken out. Keys that are too
-/// early are raised on the way, to the moment at which their station is free: those that wait there together, and one that
-/// does not wait yet for itself, which waits from then on.
-///
-/// - `once`: each station is lifted at most once, and `lifts` counts it; each key begins to wait at most once.
-/// - `counted`: what it compares is the cost of the action, of the lifts, and of the keys that have begun to wait.
+/// The action that happens next, and its slot, none where nothing is possible.
 pub fn next<C: Costs, L: Ledger, R: Ledger>(
     state: &State<C>,
     queue: &mut Queue,
     steps: &mut Steps<L>,
-    lifts: &mut Steps<R>,
-) -> Option<Timed>
+    moves: &mut Steps<R>,
+) -> Option<(u32, Timed)>
     requires queue { IsQueue state.now.plans (C.model state.now.costs) state.now.history queue.old }
-    ensures without { IfSome result (λ a. IsQueueWithout state.now.plans (C.model state.now.costs) state.now.history a.op queue.new) }
-    ensures queue { IfNone result (IsQueue state.now.plans (C.model state.now.costs) state.now.history queue.new) }
-    ensures next { IfSome result (IsNext state.now.plans (C.model state.now.costs) state.now.history) }
-    ensures none { IfNone result (IsFinished state.now.plans (C.model state.now.costs) state.now.history) }
-    ensures once { IsEachRaisedOnce state.now.plans (C.model state.now.costs) state.now.history queue.old queue.new result lifts.old lifts.new steps.old steps.new }
+    ensures queue { IsQueue state.now.plans (C.model state.now.costs) state.now.history queue.new }
+    ensures next { IfSome result (λ r. IsNext state.now.plans (C.model state.now.costs) state.now.history r.1) }
+    ensures slot { IfSome result (λ r. slice_get (operations state.now.plans) r.0 ≡ Some r.1.op) }
+    ensures key { IfSome result (λ r. key_at queue.new.keys r.0 ≡ Some r.1) }
+    ensures found { IfSome result (λ r. queue.new.found ≡ Some r.0) }
+    ensures keys { queue.new.keys ≡ queue.old.keys }
+    ensures none { IsNone result → IsFinished state.now.plans (C.model state.now.costs) state.now.history }
     ensures counted { (k : ℕ) → length queue.old.keys ≤ 2 ^ k
-        → steps.new + spent k queue.old + cost_of_actions k 0 lifts.old ≤ steps.old + spent k queue.new + cost_of_actions k (count_of result) lifts.new }
+        → steps.new + cost_of_waiting k queue.new.stands + cost_of_moves k moves.old ≤ steps.old + cost_of_waiting k queue.old.stands + cost_of_moves k moves.new + 3 }
 {
     state.known();
-    'looks: while let Some(early) = least(queue, steps) {
-        let action = action_of(state, early);
-        let slot = state.sched().index(early.op);
-        if action.time == early.time {
-            queue.take(slot, steps);
-            return Some(action);
-        }
-        queue.lift(slot, action.time, steps, lifts);
-    }
-    None
-}
-
-// The least key of the queue.
-fn least<L: Ledger>(queue: &Queue, steps: &mut Steps<L>) -> Option<Timed>
-    ensures none { IsNone result ↔ IsEmptyMap queue.now.keys }
-    ensures least { IfSome result (λ e. (slot : ℕ) × IsLeast event_before queue.now.keys slot e) }
-    ensures counted { steps.new ≤ steps.old + 1 }
-    ensures none_compared { IsNone result → steps.new ≡ steps.old }
-    ensures onward { steps.old ≤ steps.new }
-{
-    let key = queue.least(steps)?;
-    Some(Timed {
+    let (slot, key) = queue.least(state.sched(), steps, moves)?;
+    let action = Timed {
         time: key.time(),
         class: key.class(),
         op: key.id(),
-    })
+    };
+    Some((slot, action))
 }
 
-// The possible action of which the queue has an early key: only its station can make it later.
-fn action_of<C: Costs>(state: &State<C>, early: Timed) -> Timed
-    requires { IsEarly state.now.plans (C.model state.now.costs) state.now.history early.op early }
-    ensures possible { Possible state.now.plans (C.model state.now.costs) state.now.history result }
-    ensures class { result.class ≡ early.class }
-    ensures op { result.op ≡ early.op }
+/// Takes out the key of an action that has happened. Where it holds a cpu the keys of all that wait for what it holds are
+/// raised.
+pub fn settle<C: Costs, L: Ledger>(
+    state: &State<C>,
+    queue: &mut Queue,
+    slot: u32,
+    action: Timed,
+    steps: &mut Steps<L>,
+)
+    requires key { key_at queue.old.keys slot ≡ Some action }
+    requires found { queue.old.found ≡ Some slot }
+    requires exists { IsOp state.now.plans action.op }
+    requires later { waits_for_room action.class ≡ true → IsLater queue.old.free (pair_of queue.old slot) (cpu state.now.plans (C.model state.now.costs) state.now.history action.op) (side state.now.plans (C.model state.now.costs) state.now.history action.op) }
+    ensures settled { IsSettledBy (cpu state.now.plans (C.model state.now.costs) state.now.history action.op) (side state.now.plans (C.model state.now.costs) state.now.history action.op) slot action queue.old queue.new }
+    ensures counted { (k : ℕ) → length queue.old.keys ≤ 2 ^ k
+        → steps.new + cost_of_waiting k queue.new.stands ≤ steps.old + cost_of_waiting k queue.old.stands + (8 * k + 10) }
 {
-    let time = if waits_for_room(early.class) {
-        early.time.max(state.free(early.op))
-    } else {
-        early.time
-    };
-    Timed { time, ..early }
+    match action.class {
+        Class::Arrive | Class::Post => queue.take(slot, steps),
+        Class::Begin | Class::Data | Class::Serve => {
+            queue.act(slot, state.cpu(action.op), state.side(action.op), steps);
+        }
+    }
 }
 
 /// Gives their keys to those whose next action may be possible only since an action: its operation, the partner, and
@@ -123,7 +108,7 @@ pub fn follow<C: Costs, L: Ledger>(
     requires cursors { AreCursors state.now.plans (C.model state.now.costs) state.now.history cursors.old }
     ensures queue { IsQueue state.now.plans (C.model state.now.costs) state.now.history queue.new }
     ensures cursors { AreCursors state.now.plans (C.model state.now.costs) state.now.history cursors.new }
-    ensures counted { (k : ℕ) → length queue.old.keys ≤ 2 ^ k → steps.new + spent k queue.old ≤ steps.old + spent k queue.new }
+    ensures counted { (k : ℕ) → length queue.old.keys ≤ 2 ^ k → steps.new + cost_of_waiting k queue.new.stands + spent k queue.old ≤ steps.old + cost_of_waiting k queue.old.stands + spent k queue.new }
 {
     refresh(state, queue, cursors, action.op, steps);
     follow_partner(state, queue, cursors, action, steps);
@@ -143,7 +128,7 @@ fn follow_partner<C: Costs, L: Ledger>(
     requires cursors { AreCursors state.now.plans (C.model state.now.costs) state.now.history cursors.old }
     ensures queue { IsQueueBut state.now.plans (C.model state.now.costs) state.now.history (Awaits state.now.plans action.class action.op) queue.new }
     ensures cursors { AreCursors state.now.plans (C.model state.now.costs) state.now.history cursors.new }
-    ensures counted { (k : ℕ) → length queue.old.keys ≤ 2 ^ k → steps.new + spent k queue.old ≤ steps.old + spent k queue.new }
+    ensures counted { (k : ℕ) → length queue.old.keys ≤ 2 ^ k → steps.new + cost_of_waiting k queue.new.stands + spent k queue.old ≤ steps.old + cost_of_waiting k queue.old.stands + spent k queue.new }
 {
     if let Class::Serve = action.class {
         return;
@@ -179,7 +164,7 @@ fn follow_waiting<C: Costs, L: Ledger>(
     requires cursors { AreCursors state.now.plans (C.model state.now.costs) state.now.history cursors.old }
     ensures queue { IsQueue state.now.plans (C.model state.now.costs) state.now.history queue.new }
     ensures cursors { AreCursors state.now.plans (C.model state.now.costs) state.now.history cursors.new }
-    ensures counted { (k : ℕ) → length queue.old.keys ≤ 2 ^ k → steps.new + spent k queue.old ≤ steps.old + spent k queue.new }
+    ensures counted { (k : ℕ) → length queue.old.keys ≤ 2 ^ k → steps.new + cost_of_waiting k queue.new.stands + spent k queue.old ≤ steps.old + cost_of_waiting k queue.old.stands + spent k queue.new }
 {
     if let Class::Arrive = action.class {
         return;
@@ -196,28 +181,6 @@ fn follow_waiting<C: Costs, L: Ledger>(
     }
 }
 
-// The cursor of an operation.
-fn cursor_of<C: Costs>(state: &State<C>, cursors: &[Cursor], id: OpId) -> Cursor
-    requires exists { IsOp state.now.plans id }
-    requires cursors { AreCursors state.now.plans (C.model state.now.costs) state.now.history cursors.now }
-    ensures { IsCursorOf state.now.plans (C.model state.now.costs) state.now.history id result }
-{
-    cursors[state.sched().index(id) as usize]
-}
-
-// The possible action of an operation, if it has one. Its needs are looked at from its cursor on.
-fn choice_from<C: Costs>(state: &State<C>, cursors: &mut [Cursor], id: OpId) -> Option<Timed>
-    requires exists { IsOp state.now.plans id }
-    requires cursors { AreCursors state.now.plans (C.model state.now.costs) state.now.history cursors.old }
-    ensures enabled { IsEnabledActionOf state.now.plans (C.model state.now.costs) state.now.history id result }
-    ensures cursors { AreCursors state.now.plans (C.model state.now.costs) state.now.history cursors.new }
-{
-    let mut cursor = cursor_of(state, cursors, id);
-    let action = state.choice(id, &mut cursor);
-    cursors[state.sched().index(id) as usize] = cursor;
-    action
-}
-
 // Gives an operation that has no key the one of its possible action, if it has one.
 fn refresh<C: Costs, L: Ledger>(
     state: &State<C>,
@@ -227,11 +190,11 @@ fn refresh<C: Costs, L: Ledger>(
     steps: &mut Steps<L>,
 )
     requires exists { IsOp state.now.plans id }
-    requires early { HasEarlyKeys state.now.plans (C.model state.now.costs) state.now.history queue.old }
+    requires possible { HasPossibleKeys state.now.plans (C.model state.now.costs) state.now.history queue.old }
     requires cursors { AreCursors state.now.plans (C.model state.now.costs) state.now.history cursors.old }
     ensures queue { IsRefreshed state.now.plans (C.model state.now.costs) state.now.history id queue.old queue.new }
     ensures cursors { AreCursors state.now.plans (C.model state.now.costs) state.now.history cursors.new }
-    ensures counted { (k : ℕ) → length queue.old.keys ≤ 2 ^ k → steps.new + spent k queue.old ≤ steps.old + spent k queue.new }
+    ensures counted { (k : ℕ) → length queue.old.keys ≤ 2 ^ k → steps.new + cost_of_waiting k queue.new.stands + spent k queue.old ≤ steps.old + cost_of_waiting k queue.old.stands + spent k queue.new }
 {
     let slot = state.sched().index(id);
     if queue.has(slot) {
@@ -250,5 +213,5 @@ pub fn is_empty<L: Ledger>(blank: Blank, queue: &Queue) -> bool
     ensures { IsTrue result ↔ IsEmptyMap queue.now.keys }
 {
     let mut steps = Steps::<L>::new(blank);
-    queue.least(&mut steps).is_none()
+    queue.is_empty(&mut steps)
 }

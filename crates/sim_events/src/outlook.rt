@@ -1,20 +1,23 @@
 // What may come, and how a run goes through it.
-ghost use Rattle.std.specs.Prelude.{◌≡◌, ℕ, ◌<◌, ◌≤◌, ◌+◌, ◌^◌, length};
+ghost use Rattle.std.specs.Prelude.{◌≡◌, ℕ, ◌<◌, ◌≤◌, ◌+◌, ◌*◌, ◌^◌, [], IfOk, length};
 ghost use Rattle.goal_graph.specs.Schedule.{operations};
+ghost use Rattle.sim_params.specs.Costs.{CostModel};
 ghost use Rattle.sim_params.specs.Run.{IsRun, IsCompleteRun};
-ghost use Rattle.sim_queue.specs.Map.{IsEmptyMap};
-ghost use Rattle.sim_events.specs.Stations.{AreStationed};
-ghost use Rattle.sim_events.specs.Cursors.{AreCursors};
-ghost use Rattle.sim_events.specs.Queue.{IsQueue};
-ghost use Rattle.sim_events.specs.Comparisons.{spent, cost_of_actions, count_of};
+ghost use Rattle.sim_heaps.specs.Map.{IsEmptyMap};
+ghost use Rattle.sim_stations.specs.Stations.{cost_of_waiting};
+ghost use Rattle.sim_state.specs.Cursors.{AreCursors};
+ghost use Rattle.sim_events.specs.Queue.{IsOfSchedule, IsQueue};
+ghost use Rattle.sim_events.specs.Comparisons.{spent, cost_of_actions, count_of, last_look};
 ghost use Rattle.sim_events.specs.Outlook.{IsOutlookOf, IsStepped};
 
-use crate::cursor::Cursor;
-use crate::follow::{Queue, fill, follow, next};
-use crate::state::State;
-use goal_graph::Timed;
+use crate::follow::{Queue, fill, follow, next, settle};
+use crate::station::number_stations;
+use goal_base::NoMemory;
+use goal_graph::{Sched, Timed};
 use sim_order::Steps;
 use sim_params::Costs;
+use sim_state::{Cursor, State, at_first};
+use std::alloc::Global;
 use std::sync::ledger::{Blank, Ledger};
 
 /// What may come.
@@ -26,23 +29,68 @@ pub struct Outlook {
     pub cursors: Vec<Cursor>,
 }
 
-// Lets the next action happen and answers it. What it compares is the cost of the action and of the lifts.
-fn step<C: Costs, L: Ledger, R: Ledger>(
+// The queue of a schedule, in which no operation has a key.
+fn queue_of(alloc: Global, sched: &Sched) -> Result<Queue, NoMemory>
+    ensures of_it { IfOk result (λ q. (costs : CostModel) → IsOfSchedule sched.now costs [] q) }
+    ensures empty { IfOk result (λ q. IsEmptyMap q.keys) }
+{
+    let stations = number_stations(alloc, sched)?;
+    Queue::new(
+        alloc,
+        &stations.numbers,
+        &stations.pairs,
+        stations.resources,
+    )
+}
+
+// What may come of a schedule, before anything is known to.
+fn blank(alloc: Global, sched: &Sched) -> Result<Outlook, NoMemory>
+    ensures of_it { IfOk result (λ o. (costs : CostModel) → IsOfSchedule sched.now costs [] o.queue) }
+    ensures empty { IfOk result (λ o. IsEmptyMap o.queue.keys) }
+    ensures cursors { IfOk result (λ o. (costs : CostModel) → AreCursors sched.now costs [] o.cursors.items) }
+{
+    let queue = queue_of(alloc, sched)?;
+    let cursors = at_first(alloc, sched)?;
+    Ok(Outlook { queue, cursors })
+}
+
+/// What may come before the first action.
+pub fn at_the_start<C: Costs, L: Ledger>(
+    alloc: Global,
+    counter: Blank,
+    state: &State<C>,
+) -> Result<Outlook, NoMemory>
+    requires name { counter.name ≡ L.name }
+    requires parts { counter.parts ≡ L.parts }
+    requires some { 0 < counter.parts }
+    requires empty { state.now.history ≡ [] }
+    ensures { IfOk result (IsOutlookOf C.model state.now) }
+{
+    let mut outlook = blank(alloc, state.sched())?;
+    fill_once::<C, L>(counter, state, &mut outlook.queue, &mut outlook.cursors);
+    Ok(outlook)
+}
+
+// Lets the next action happen and answers it. What it compares is the cost of the action and of the changes of place.
+fn step<C: Costs, L: Ledger, R: Ledger, M: Ledger>(
     state: &mut State<C>,
     outlook: &mut Outlook,
     steps: &mut Steps<L>,
-    lifts: &mut Steps<R>,
+    moves: &mut Steps<R>,
+    looks: &mut Steps<M>,
 ) -> Option<Timed>
     requires outlook { IsOutlookOf C.model state.old outlook.old }
     ensures outlook { IsOutlookOf C.model state.new outlook.new }
     ensures stepped { IsStepped C.model state.old state.new result }
     ensures run { IsRun state.new.plans (C.model state.new.costs) state.new.history }
     ensures counted { (k : ℕ) → length (operations state.old.plans) ≤ 2 ^ k
-        → steps.new + spent k outlook.old.queue + cost_of_actions k 0 lifts.old ≤ steps.old + spent k outlook.new.queue + cost_of_actions k (count_of result) lifts.new }
+        → steps.new + cost_of_waiting k outlook.new.queue.stands + spent k outlook.old.queue + cost_of_actions k 0 moves.old ≤ steps.old + cost_of_waiting k outlook.old.queue.stands + spent k outlook.new.queue + cost_of_actions k (count_of result) moves.new + last_look result }
+    ensures looked { looks.new ≤ looks.old + 8 * count_of result }
 {
     state.known();
-    let action = next(state, &mut outlook.queue, steps, lifts)?;
-    state.perform(action);
+    let (slot, action) = next(state, &mut outlook.queue, steps, moves)?;
+    state.perform(action, looks);
+    settle(state, &mut outlook.queue, slot, action, steps);
     follow(
         state,
         &mut outlook.queue,
@@ -53,26 +101,29 @@ fn step<C: Costs, L: Ledger, R: Ledger>(
     Some(action)
 }
 
-// Lets all that is possible happen. Among 2^k operations each action costs 8k + 201 comparisons at most, and each lift of
-// a station 66, what the keys have cost that are there before it included.
-fn run<C: Costs, L: Ledger, R: Ledger>(
+// Lets all that is possible happen. Among 2^k operations each action costs 18k + 29 comparisons at most, and each change of
+// place of a station 8k + 15, what the keys have cost that are there before it included. The matcher looks at eight
+// entries an action at most.
+fn run<C: Costs, L: Ledger, R: Ledger, M: Ledger>(
     state: &mut State<C>,
     outlook: &mut Outlook,
     steps: &mut Steps<L>,
-    lifts: &mut Steps<R>,
+    moves: &mut Steps<R>,
+    looks: &mut Steps<M>,
 )
     requires outlook { IsOutlookOf C.model state.old outlook.old }
     ensures plans { state.new.plans ≡ state.old.plans }
     ensures costs { state.new.costs ≡ state.old.costs }
     ensures complete { IsCompleteRun state.new.plans (C.model state.new.costs) state.new.history }
     ensures counted { (k : ℕ) → length (operations state.old.plans) ≤ 2 ^ k
-        → steps.new + spent k outlook.old.queue + cost_of_actions k (length state.old.history) lifts.old ≤ steps.old + cost_of_actions k (length state.new.history) lifts.new }
+        → steps.new + spent k outlook.old.queue + cost_of_actions k (length state.old.history) moves.old ≤ steps.old + cost_of_waiting k outlook.old.queue.stands + cost_of_actions k (length state.new.history) moves.new + 3 }
+    ensures looked { looks.new + 8 * length state.old.history ≤ looks.old + 8 * length state.new.history }
 {
-    'steps: while step(state, outlook, steps, lifts).is_some() {}
+    'steps: while step(state, outlook, steps, moves, looks).is_some() {}
 }
 
-/// Gives each operation its key, where none has one yet.
-pub fn fill_once<C: Costs, L: Ledger>(
+// Gives each operation its key, where none has one yet.
+fn fill_once<C: Costs, L: Ledger>(
     blank: Blank,
     state: &State<C>,
     queue: &mut Queue,
@@ -81,9 +132,8 @@ pub fn fill_once<C: Costs, L: Ledger>(
     requires name { blank.name ≡ L.name }
     requires parts { blank.parts ≡ L.parts }
     requires some { 0 < blank.parts }
-    requires each { length queue.old.keys ≡ length (operations state.now.plans) }
+    requires of_it { IsOfSchedule state.now.plans (C.model state.now.costs) state.now.history queue.old }
     requires empty { IsEmptyMap queue.old.keys }
-    requires stationed { AreStationed state.now.plans queue.old.groups }
     requires cursors { AreCursors state.now.plans (C.model state.now.costs) state.now.history cursors.old }
     ensures queue { IsQueue state.now.plans (C.model state.now.costs) state.now.history queue.new }
     ensures cursors { AreCursors state.now.plans (C.model state.now.costs) state.now.history cursors.new }
@@ -94,46 +144,56 @@ pub fn fill_once<C: Costs, L: Ledger>(
 
 /// Lets the next action happen and answers it: the possible one of the least key. Where nothing is possible it answers
 /// None, and nothing changes.
-pub fn step_once<C: Costs, L: Ledger, R: Ledger>(
+pub fn step_once<C: Costs, L: Ledger, R: Ledger, M: Ledger>(
     state: &mut State<C>,
     outlook: &mut Outlook,
     blank: Blank,
-    for_lifts: Blank,
+    for_moves: Blank,
+    for_looks: Blank,
 ) -> Option<Timed>
     requires name { blank.name ≡ L.name }
     requires parts { blank.parts ≡ L.parts }
     requires some { 0 < blank.parts }
-    requires lifts_name { for_lifts.name ≡ R.name }
-    requires lifts_parts { for_lifts.parts ≡ R.parts }
-    requires lifts_some { 0 < for_lifts.parts }
+    requires moves_name { for_moves.name ≡ R.name }
+    requires moves_parts { for_moves.parts ≡ R.parts }
+    requires moves_some { 0 < for_moves.parts }
+    requires looks_name { for_looks.name ≡ M.name }
+    requires looks_parts { for_looks.parts ≡ M.parts }
+    requires looks_some { 0 < for_looks.parts }
     requires outlook { IsOutlookOf C.model state.old outlook.old }
     ensures outlook { IsOutlookOf C.model state.new outlook.new }
     ensures stepped { IsStepped C.model state.old state.new result }
 {
     let mut steps = Steps::<L>::new(blank);
-    let mut lifts = Steps::<R>::new(for_lifts);
-    step(state, outlook, &mut steps, &mut lifts)
+    let mut moves = Steps::<R>::new(for_moves);
+    let mut looks = Steps::<M>::new(for_looks);
+    step(state, outlook, &mut steps, &mut moves, &mut looks)
 }
 
 /// Lets all that is possible happen, until nothing is.
-pub fn run_on<C: Costs, L: Ledger, R: Ledger>(
+pub fn run_on<C: Costs, L: Ledger, R: Ledger, M: Ledger>(
     state: &mut State<C>,
     outlook: &mut Outlook,
     blank: Blank,
-    for_lifts: Blank,
+    for_moves: Blank,
+    for_looks: Blank,
 )
     requires name { blank.name ≡ L.name }
     requires parts { blank.parts ≡ L.parts }
     requires some { 0 < blank.parts }
-    requires lifts_name { for_lifts.name ≡ R.name }
-    requires lifts_parts { for_lifts.parts ≡ R.parts }
-    requires lifts_some { 0 < for_lifts.parts }
+    requires moves_name { for_moves.name ≡ R.name }
+    requires moves_parts { for_moves.parts ≡ R.parts }
+    requires moves_some { 0 < for_moves.parts }
+    requires looks_name { for_looks.name ≡ M.name }
+    requires looks_parts { for_looks.parts ≡ M.parts }
+    requires looks_some { 0 < for_looks.parts }
     requires outlook { IsOutlookOf C.model state.old outlook.old }
     ensures plans { state.new.plans ≡ state.old.plans }
     ensures costs { state.new.costs ≡ state.old.costs }
     ensures complete { IsCompleteRun state.new.plans (C.model state.new.costs) state.new.history }
 {
     let mut steps = Steps::<L>::new(blank);
-    let mut lifts = Steps::<R>::new(for_lifts);
-    run(state, outlook, &mut steps, &mut lifts);
+    let mut moves = Steps::<R>::new(for_moves);
+    let mut looks = Steps::<M>::new(for_looks);
+    run(state, outlook, &mut steps, &mut moves, &mut looks);
 }

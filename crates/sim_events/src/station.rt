@@ -1,29 +1,34 @@
 // What operations wait for.
-ghost use Rattle.std.specs.Prelude.{◌≡◌, ◌<◌, ◌≤◌, ◌+◌, ◌^◌, All, IfOk, length};
+ghost use Rattle.std.specs.Prelude.{◌≡◌, ◌<◌, ◌≤◌, ◌+◌, ◌*◌, ◌^◌, ◌↔◌, [], All, IfOk, OnOk, IsTrue, Some, length, slice_get};
 ghost use Rattle.goal_base.specs.declared.limits.TheConstants.{MAX_OPS};
 ghost use Rattle.goal_graph.specs.Schedule.{operations};
-ghost use Rattle.sim_events.specs.Stations.{station_of, AreStationed, HasNumber};
+ghost use Rattle.sim_stations.specs.Stations.{DoExist};
+ghost use Rattle.sim_events.specs.Stations.{station_of, cpu_alone, side_alone, place, AreStationed, IsPlain, IsNotAfter, AreOnce, HasNumber, HasPair, IsNumbering};
 
 use goal_base::NoMemory;
 use goal_graph::{Kind, Op, OpId, Sched};
+use sim_stations::Pair;
 use std::alloc::Global;
+use std::marker::Model;
 
-// So many stations a rank has at most: each of 256 cpus, alone or with one side of one of 256 interfaces.
-const PLACES: usize = 131_328;
+// So many stations a rank has at most: each of 256 cpus or none, alone or with one side of one of 256 interfaces.
+const PLACES: usize = 131_841;
 
 /// What an operation waits for before it works: its cpu and, where it sends or receives, that side of its interface.
-#[derive(Clone, Copy, Debug, PartialEq, Eq)]
+/// A cpu alone and a side alone are stations too.
+#[derive(Clone, Copy, PartialEq, Eq)]
 pub struct Station {
     pub rank: u32,
-    pub cpu: u8,
+    pub cpu: Option<u8>,
     pub sends: Option<u8>,
     pub receives: Option<u8>,
 }
 
 impl Station {
     /// The station of an operation.
-    pub fn of(id: OpId, op: &Op) -> Station
-        ensures { result ≡ station_of id op.now }
+    pub fn of(id: OpId, op: Op) -> Station
+        ensures is { result ≡ station_of id op }
+        ensures plain { IsPlain result }
     {
         let (sends, receives) = match op.kind {
             Kind::Calc { .. } => (None, None),
@@ -32,70 +37,216 @@ impl Station {
         };
         Station {
             rank: id.rank,
-            cpu: op.cpu,
+            cpu: Some(op.cpu),
             sends,
             receives,
         }
     }
 
+    // Its cpu alone.
+    fn cpu_alone(self) -> Station
+        ensures { result ≡ cpu_alone self }
+    {
+        Station {
+            sends: None,
+            receives: None,
+            ..self
+        }
+    }
+
+    // Its side alone, or its cpu where it needs none.
+    fn side_alone(self) -> Station
+        ensures { result ≡ side_alone self }
+    {
+        match (self.sends, self.receives) {
+            (None, None) => self,
+            _ => Station { cpu: None, ..self },
+        }
+    }
+
     // Where a rank keeps the number of the station. Those of one rank have different places.
     fn place(self) -> usize
-        ensures { result < 131328 }
+        ensures is { result ≡ place self }
+        ensures below { result < 131841 }
     {
         let side = match (self.sends, self.receives) {
             (None, None) => 0,
             (Some(nic), _) => 1 + usize::from(nic),
             (None, Some(nic)) => 257 + usize::from(nic),
         };
-        513 * usize::from(self.cpu) + side
+        let cpu = match self.cpu {
+            None => 0,
+            Some(cpu) => 1 + usize::from(cpu),
+        };
+        513 * cpu + side
     }
 }
 
-/// The number of each operation's station, in the order of all operations. Numbers are below `count`.
+// Stations in the order in which they were first seen, each once. Contracts see it as the list of them.
+#[derive(Drop)]
+struct Stations {
+    seen: Vec<Station>,
+    // the number of the station of the last rank that has this place
+    places: Vec<u32>,
+}
+
+impl Model for Stations {
+    ghost use Rattle.std.specs.Prelude.{List};
+    ghost use Rattle.sim_events.specs.declared.station.Station.{Station};
+    ghost use Rattle.sim_events.specs.Stations.{ArePlaced};
+
+    ghost Value = { List Station };
+
+    ghost view = { λ s. s.seen.items };
+
+    ghost invariant = { λ s. ArePlaced s.seen.items s.places.items };
+}
+
+impl Stations {
+    // None.
+    fn new(alloc: Global) -> Result<Stations, NoMemory>
+        ensures { IfOk result (λ s. s ≡ []) }
+    {
+        let places = vec![in alloc; 0; PLACES]?;
+        let seen = Vec::new(alloc);
+        Ok(Stations { seen, places })
+    }
+
+    // Whether a station has this number.
+    fn has(&self, number: u32, station: Station) -> bool
+        ensures { IsTrue result ↔ (slice_get self.now number ≡ Some station) }
+    {
+        (number as usize) < self.seen.len() && self.seen[number as usize] == station
+    }
+
+    // The number of a station: that which it has, or the next one. Stations come by rank.
+    fn number(&mut self, station: Station) -> Result<u32, NoMemory>
+        requires by_rank { IsNotAfter self.old station.rank }
+        requires plain { IsPlain station }
+        requires few { length self.old + 1 < 2 ^ 32 }
+        ensures number { IfOk result (HasNumber self.old self.new station) }
+        ensures once { IfOk result (λ n. AreOnce self.new) }
+    {
+        let place = station.place();
+        let number = self.places[place];
+        if self.has(number, station) {
+            return Ok(number);
+        }
+        let next = self.seen.len() as u32;
+        self.seen.push(station)?;
+        self.places[place] = next;
+        Ok(next)
+    }
+}
+
+/// The stations of the operations so far, and the resources of each: the numbers of its cpu and of its side.
+#[derive(Drop)]
+struct Numbering {
+    stations: Stations,
+    resources: Stations,
+    pairs: Vec<Pair>,
+}
+
+// The resources of a station, by their numbers.
+fn pair_of(resources: &mut Stations, station: Station) -> Result<Pair, NoMemory>
+    requires by_rank { IsNotAfter resources.old station.rank }
+    requires plain { IsPlain station }
+    requires few { length resources.old + 2 < 2 ^ 32 }
+    ensures pair { IfOk result (HasPair resources.old resources.new station) }
+    ensures once { IfOk result (λ p. AreOnce resources.new) }
+{
+    let cpu = resources.number(station.cpu_alone())?;
+    let side = resources.number(station.side_alone())?;
+    Ok(Pair { cpu, side })
+}
+
+impl Numbering {
+    // Of no station.
+    fn new(alloc: Global) -> Result<Numbering, NoMemory>
+        ensures { IfOk result (λ n. (n.stations ≡ []) × (n.resources ≡ []) × (n.pairs.items ≡ [])) }
+    {
+        let stations = Stations::new(alloc)?;
+        let resources = Stations::new(alloc)?;
+        let pairs = Vec::new(alloc);
+        Ok(Numbering {
+            stations,
+            resources,
+            pairs,
+        })
+    }
+
+    // The number of a station, whose resources have theirs then.
+    fn number(&mut self, station: Station) -> Result<u32, NoMemory>
+        requires numbered { IsNumbering self.old.stations self.old.resources self.old.pairs.items }
+        requires by_rank { IsNotAfter self.old.stations station.rank }
+        requires plain { IsPlain station }
+        requires few { length self.old.stations < MAX_OPS }
+        ensures numbered { OnOk result (IsNumbering self.new.stations self.new.resources self.new.pairs.items) }
+        ensures number { IfOk result (HasNumber self.old.stations self.new.stations station) }
+    {
+        let number = self.stations.number(station)?;
+        if number as usize == self.pairs.len() {
+            let pair = pair_of(&mut self.resources, station)?;
+            self.pairs.push(pair)?;
+        }
+        Ok(number)
+    }
+}
+
+/// The number of each operation's station, in the order of all operations, and the resources of each station. Numbers of
+/// resources are below `resources`.
 #[derive(Drop)]
 pub struct StationNumbers {
     pub numbers: Vec<u32>,
-    pub count: u32,
+    pub pairs: Vec<Pair>,
+    pub resources: u32,
 }
 
-// The number of a station among those that were seen: that in its place, where it is there, else the next one. What
-// stands in the place may be of a rank before.
-fn number_of(
-    seen: &mut Vec<Station>,
-    places: &mut Vec<u32>,
-    station: Station,
-) -> Result<u32, NoMemory>
-    requires places { length places.old.items ≡ 131328 }
-    requires few { length seen.old.items + 1 < 2 ^ 32 }
-    ensures number { IfOk result (HasNumber seen.old.items seen.new.items station) }
-    ensures places { length places.new.items ≡ 131328 }
+// Numbers the stations of a schedule.
+fn number_all(
+    sched: &Sched,
+    numbering: &mut Numbering,
+    numbers: &mut Vec<u32>,
+) -> Result<(), NoMemory>
+    requires few { length (operations sched.now) ≤ MAX_OPS }
+    requires none { (numbering.old.stations ≡ []) × (numbering.old.resources ≡ []) × (numbering.old.pairs.items ≡ []) × (numbers.old.items ≡ []) }
+    ensures few { OnOk result (length numbers.new.items ≤ MAX_OPS) }
+    ensures few_stations { OnOk result (length numbering.new.pairs.items ≤ length numbers.new.items) }
+    ensures few_resources { OnOk result (length numbering.new.resources ≤ 2 * length numbers.new.items) }
+    ensures within { OnOk result (All (λ number. number < length numbering.new.pairs.items) numbers.new.items) }
+    ensures exist { OnOk result (DoExist numbering.new.pairs.items (length numbering.new.resources)) }
+    ensures stationed { OnOk result (AreStationed sched.now numbers.new.items numbering.new.pairs.items) }
 {
-    let place = station.place();
-    let number = places[place];
-    if (number as usize) < seen.len() && seen[number as usize] == station {
-        return Ok(number);
-    }
-    let next = seen.len() as u32;
-    seen.push(station)?;
-    places[place] = next;
-    Ok(next)
-}
-
-/// Numbers the stations of a schedule, in the order in which operations have them.
-pub fn stations(alloc: Global, sched: &Sched) -> Result<StationNumbers, NoMemory>
-    ensures each { IfOk result (λ s. length s.numbers.items ≡ length (operations sched.now)) }
-    ensures few { IfOk result (λ s. length s.numbers.items ≤ MAX_OPS) }
-    ensures within { IfOk result (λ s. All (λ number. number < s.count) s.numbers.items) }
-    ensures stationed { IfOk result (λ s. AreStationed sched.now s.numbers.items) }
-{
-    let mut seen = Vec::new(alloc);
-    let mut places = vec![in alloc; 0; PLACES]?;
-    let mut numbers = Vec::with_capacity(alloc, sched.count() as usize)?;
     for id in sched.operations() {
-        let station = Station::of(*id, sched.op(*id));
-        let number = number_of(&mut seen, &mut places, station)?;
+        let station = Station::of(*id, *sched.op(*id));
+        let number = numbering.number(station)?;
         numbers.push(number)?;
     }
-    let count = seen.len() as u32;
-    Ok(StationNumbers { numbers, count })
+    Ok(())
+}
+
+/// Numbers the stations of a schedule and their resources, in the order in which operations have them.
+pub fn number_stations(alloc: Global, sched: &Sched) -> Result<StationNumbers, NoMemory>
+    ensures each { IfOk result (λ s. length s.numbers.items ≡ length (operations sched.now)) }
+    ensures few { IfOk result (λ s. length s.numbers.items ≤ MAX_OPS) }
+    ensures few_stations { IfOk result (λ s. length s.pairs.items ≤ length s.numbers.items) }
+    ensures few_resources { IfOk result (λ s. s.resources ≤ 2 * length s.numbers.items) }
+    ensures within { IfOk result (λ s. All (λ number. number < length s.pairs.items) s.numbers.items) }
+    ensures exist { IfOk result (λ s. DoExist s.pairs.items s.resources) }
+    ensures stationed { IfOk result (λ s. AreStationed sched.now s.numbers.items s.pairs.items) }
+{
+    let mut numbering = Numbering::new(alloc)?;
+    let mut numbers = Vec::with_capacity(alloc, sched.count() as usize)?;
+    number_all(sched, &mut numbering, &mut numbers)?;
+    let Numbering {
+        resources,
+        pairs,
+        ..
+    } = numbering;
+    let resources = resources.seen.len() as u32;
+    Ok(StationNumbers {
+        numbers,
+        pairs,
+        resources,
+    })
 }

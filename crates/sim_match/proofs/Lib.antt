@@ -11,6 +11,7 @@ pub mod Marks
 pub mod Entries
 pub mod MatchListLemmas
 pub mod Kept
+pub mod Unseen
 pub mod CapacityLemmas
 pub mod Begun
 pub mod PostsAndArrivalsLemmas

@@ -1,11 +1,15 @@
+-- What a reader must believe.
 pub mod PostsAndArrivals
+-- What only the code keeps.
 pub mod Waiting
 pub mod Patterns
 pub mod ListNumbers
 pub mod MatchLists
+pub mod Looks
 pub mod Capacities
 pub mod Packed
 pub mod Matcher
+-- Laws.
 pub mod Laws
 -- What the clauses cite of lower crates.
 pub use Rattle.goal_graph.specs.Action

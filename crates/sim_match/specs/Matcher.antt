@@ -1,5 +1,5 @@
 -- What a matcher keeps of posts and arrivals.
-use Rattle.std.specs.Prelude.{ℕ, ◌≡◌, ◌<◌, ◌≤◌, ◌^◌, ◌&&◌, ◌||◌, not, Bool, true, false, List, [], ◌∷◌, ◌++◌, length, reverse, map, filter, find, take, Option, Some, None, All, slice_get, count_by, vec_capacity, if◌then◌else◌}
+use Rattle.std.specs.Prelude.{ℕ, ◌≡◌, ◌<◌, ◌≤◌, ◌+◌, ◌*◌, ◌^◌, ◌&&◌, ◌||◌, not, Bool, true, false, List, [], ◌∷◌, ◌++◌, length, reverse, map, filter, find, take, Option, Some, None, All, slice_get, count_by, vec_capacity, if◌then◌else◌}
 use Rattle.std.specs.Option.{MatchOption}
 use Rattle.std.specs.List.{list_any}
 use Rattle.goal_graph.specs.declared.action.OpId.{OpId}
@@ -20,6 +20,7 @@ use Rattle.sim_match.specs.Waiting.{is_message}
 use Rattle.sim_match.specs.Patterns.{same_number, list_of, in_list, for_list, AreListed}
 use Rattle.sim_match.specs.ListNumbers.{AreNumbered}
 use Rattle.sim_match.specs.MatchLists.{MatchList, is_marked, entries_of}
+use Rattle.sim_match.specs.Looks.{unseen}
 
 -- a send arrives, a receive is posted
 abbrev pub class_of_kind : Option Kind → Class
@@ -109,3 +110,6 @@ pub record IsKept (plans : List Plan) (table : MatchTable) : Type 0 where
   pub as_many : length table.receives ≡ length table.sends
   pub numbered : AreNumbered plans table.numbers
   pub mirrors : Mirrors plans numbered.keys (side_by_side table.receives table.sends) table.marks.items (actions_of plans table.events.items) (vec_capacity table.events)
+  -- for each entry that no look has passed a look is counted already, and no event counted more than eight
+  pub covered : unseen table.receives + unseen table.sends ≤ table.credit
+  pub bounded : table.credit ≤ 8 * length table.events.items

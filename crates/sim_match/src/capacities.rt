@@ -36,6 +36,7 @@ impl Side {
 }
 
 // Counts a send in each of these lists.
+#[inline(always)]
 fn count_send(capacities: &mut [Capacity], numbers: [Option<usize>; 4])
     requires once { AreOnce numbers }
     requires within { AreWithin numbers (length capacities.old) }

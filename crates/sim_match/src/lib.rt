@@ -2,6 +2,7 @@
 #![tactic(auto)]
 
 mod capacities;
+mod credit;
 mod laws;
 mod list_numbers;
 mod match_list;

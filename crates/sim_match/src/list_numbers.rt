@@ -45,25 +45,60 @@ fn decoded(kept: u32) -> Option<usize>
     }
 }
 
-// The numbers of all operations. The pattern of a send mostly stands next to that of the send before it, and that of a
-// receive next to that of the receive before it, so each is looked for there first.
+// Where the last receive's pattern stands, and how far behind the first of its target's patterns the last send's does. No
+// clause rests on these numbers: they say where to look first.
+#[derive(Clone, Copy, Debug)]
+struct Guesses {
+    receive: usize,
+    send: usize,
+}
+
+impl Guesses {
+    // Before the first operation.
+    const FIRST: Guesses = Guesses {
+        receive: 0,
+        send: 0,
+    };
+
+    // Where the pattern of an operation of that kind may stand.
+    fn place(self, patterns: &Patterns, kind: Kind) -> usize {
+        match kind {
+            Kind::Send { to, .. } => patterns.first_of(to).saturating_add(self.send),
+            Kind::Recv { .. } | Kind::Calc { .. } => self.receive,
+        }
+    }
+
+    // After an operation of that kind, whose pattern stands at that place.
+    fn after(self, patterns: &Patterns, kind: Kind, place: usize) -> Guesses {
+        match kind {
+            Kind::Send { to, .. } => Guesses {
+                receive: self.receive,
+                send: place.saturating_sub(patterns.first_of(to)),
+            },
+            Kind::Recv { .. } | Kind::Calc { .. } => Guesses {
+                receive: place,
+                send: self.send,
+            },
+        }
+    }
+}
+
+// The numbers of all operations. The pattern of a receive mostly stands next to that of the receive before it, and that of
+// a send next to where that of the send before it stands among the patterns of its target, so each is looked for there
+// first.
 fn own_numbers(alloc: Global, sched: &Sched, patterns: &Patterns) -> Result<Vec<u32>, AllocError>
     requires { length patterns.now ≤ length (operations sched.now) }
     ensures few { OnOk result (length patterns.now < 2 ^ 32 - 1) }
     ensures numbers { IfOk result (λ numbers. numbers.items ≡ map (λ x. coded (own_list sched.now patterns.now x)) (operations sched.now)) }
 {
     let mut numbers = Vec::with_capacity(alloc, sched.count() as usize)?;
-    let mut last_send = 0;
-    let mut last_receive = 0;
+    let mut guesses = Guesses::FIRST;
     for id in sched.operations() {
-        let is_send = matches!(sched.op(*id).kind, Kind::Send { .. });
-        let guess = if is_send { last_send } else { last_receive };
-        let number = own_list(patterns, sched, *id, guess);
+        let kind = sched.op(*id).kind;
+        let number = own_list(patterns, sched, *id, guesses.place(patterns, kind));
         numbers.push_reserved(coded(number));
-        if is_send {
-            last_send = number.unwrap_or(guess);
-        } else {
-            last_receive = number.unwrap_or(guess);
+        if let Some(place) = number {
+            guesses = guesses.after(patterns, kind, place);
         }
     }
     Ok(numbers)
@@ -116,6 +151,7 @@ impl ListNumbers {
 
     /// The numbers of the lists of a send. Only those of patterns that take any source or any tag are looked up, where
     /// the schedule has such patterns.
+    #[inline(always)]
     pub fn lists_of_send(&self, sched: &Sched, send: OpId) -> [Option<usize>; 4]
         requires send { IsSend sched.now send }
         requires numbered { AreNumbered sched.now self.now }

@@ -1,10 +1,11 @@
 // Match lists, one after another in one vector of entries.
-ghost use Rattle.std.specs.Prelude.{ℕ, ◌≡◌, ◌<◌, Some, length, map, slice_get, slice_set, IfOk};
+ghost use Rattle.std.specs.Prelude.{ℕ, ◌≡◌, ◌<◌, ◌≤◌, ◌+◌, Some, length, map, slice_get, slice_set, IfOk};
 ghost use Rattle.goal_graph.specs.Schedule.{operations};
 ghost use Rattle.sim_match.specs.MatchLists.{MatchList, is_marked, IsReady, IsFirst, pushed, skipped_to};
 ghost use Rattle.sim_match.specs.Capacities.{empty_list};
 
 use crate::capacities::{Capacity, Side};
+use crate::credit::Credit;
 use crate::match_list::{MatchEntry, first_that_waits};
 use goal_base::NoMemory;
 use goal_graph::{OpId, Sched};
@@ -83,18 +84,27 @@ impl MatchLists {
         };
     }
 
-    /// The first of a list that waits. Each entry is skipped once in all calls.
-    pub fn first(&mut self, list: usize, sched: &Sched, marks: &[bool]) -> Option<MatchEntry>
+    /// The first of a list that waits. Each entry is skipped once in all calls. What it skips, and one more, are looks.
+    pub fn first(
+        &mut self,
+        list: usize,
+        sched: &Sched,
+        marks: &[bool],
+        credit: &mut Credit,
+    ) -> Option<MatchEntry>
         requires within { list < length self.old }
         requires ready { (w : MatchList) → slice_get self.old list ≡ Some w → IsReady sched.now marks.now w }
-        ensures { (w : MatchList) → slice_get self.old list ≡ Some w
+        requires counted { (w : MatchList) → slice_get self.old list ≡ Some w → length w.entries ≤ w.head + credit.old }
+        ensures first { (w : MatchList) → slice_get self.old list ≡ Some w
             → (n : ℕ) × (self.new ≡ slice_set self.old list (skipped_to w n))
-            × IsFirst (is_marked (operations sched.now) marks.now) w (skipped_to w n) result }
+            × IsFirst (is_marked (operations sched.now) marks.now) w (skipped_to w n) result
+            × (credit.old + w.head ≤ credit.new + n + 1) }
+        ensures less { credit.new ≤ credit.old }
     {
         let span = self.spans[list];
         let start = span.start as usize;
         let entries = &self.entries[start..start + span.len as usize];
-        let (head, first) = first_that_waits(entries, span.head as usize, sched, marks);
+        let (head, first) = first_that_waits(entries, span.head as usize, sched, marks, credit);
         self.spans[list] = Span {
             start: span.start,
             len: span.len,

@@ -1,5 +1,5 @@
 // The table of a matcher: the posts and arrivals so far, by pattern.
-ghost use Rattle.std.specs.Prelude.{◌≡◌, ◌≤◌, ◌∷◌, [], ◌++◌, false, length, IfOk};
+ghost use Rattle.std.specs.Prelude.{◌≡◌, ◌≤◌, ◌+◌, ◌∷◌, [], ◌++◌, false, length, IfOk};
 ghost use Rattle.std.specs.Option.{option_map, IfSome};
 ghost use Rattle.goal_graph.specs.Schedule.{operations};
 ghost use Rattle.goal_graph.specs.Fault.{IsOp};
@@ -8,18 +8,23 @@ ghost use Rattle.goal_graph.specs.declared.action.Class.TheVariants.{Post, Arriv
 ghost use Rattle.goal_graph.specs.Action.{happened};
 ghost use Rattle.sim_match.specs.PostsAndArrivals.{send_for, receive_for};
 ghost use Rattle.sim_match.specs.Patterns.{lists_for};
+ghost use Rattle.sim_match.specs.Looks.{unseen};
 ghost use Rattle.sim_match.specs.Matcher.{actions_of, side_by_side, ArePaired, IsJoined, IsKept};
 
 use crate::capacities::{Side, capacities};
+use crate::credit::Credit;
 use crate::list_numbers::ListNumbers;
 use crate::match_list::{MatchEntry, earlier, mark};
 use crate::match_lists::MatchLists;
 use goal_base::NoMemory;
 use goal_graph::{OpId, Sched};
+use sim_order::Steps;
 use std::alloc::Global;
+use std::sync::ledger::Ledger;
 
 /// The receives that were posted and the sends that have arrived, in this order, and for each pattern of the schedule its
-/// lists: the receives of the pattern, and the sends that they fit. An operation is marked once it is paired.
+/// lists: the receives of the pattern, and the sends that they fit. An operation is marked once it is paired. For each
+/// entry that no look has passed a look is counted already.
 #[derive(Drop)]
 pub struct MatchTable {
     pub numbers: ListNumbers,
@@ -27,6 +32,7 @@ pub struct MatchTable {
     pub sends: MatchLists,
     pub marks: Vec<bool>,
     pub events: Vec<OpId>,
+    pub credit: Credit,
 }
 
 // Marks an operation and the one that it has met. Answers the latter.
@@ -67,17 +73,25 @@ impl MatchTable {
             sends,
             marks,
             events,
+            credit: Credit::none(),
         })
     }
 
-    /// A receive is posted. Answers the send that it takes.
-    pub fn post(&mut self, sched: &Sched, recv: OpId) -> Option<OpId>
+    /// A receive is posted. Answers the send that it takes. Two looks are counted: one at what it finds, and one for when
+    /// it is passed itself.
+    pub fn post<L: Ledger>(
+        &mut self,
+        sched: &Sched,
+        recv: OpId,
+        steps: &mut Steps<L>,
+    ) -> Option<OpId>
         requires kept { IsKept sched.now self.old }
         requires receive { IsReceive sched.now recv }
         requires fresh { happened Post recv (actions_of sched.now self.old.events.items) ≡ false }
         ensures kept { IsKept sched.now self.new }
         ensures events { self.new.events.items ≡ self.old.events.items ++ recv ∷ [] }
         ensures taken { result ≡ send_for sched.now (actions_of sched.now self.old.events.items) recv }
+        ensures counted { steps.new ≡ steps.old + 2 }
     {
         let entry = MatchEntry {
             op: recv,
@@ -85,13 +99,21 @@ impl MatchTable {
         };
         self.events.push_reserved(recv);
         let list = self.numbers.list_of_receive(sched, recv);
+        self.credit.count(steps);
+        self.credit.count(steps);
         self.receives.push(list, entry);
-        let met = self.sends.first(list, sched, &self.marks);
+        let met = self.sends.first(list, sched, &self.marks, &mut self.credit);
         pair(sched, &mut self.marks, recv, met)
     }
 
-    // A send joins its lists. Answers the receive among them that was posted first and waits.
-    fn join(&mut self, sched: &Sched, send: OpId) -> Option<MatchEntry>
+    // A send joins its lists. Answers the receive among them that was posted first and waits. Two looks are counted for
+    // each list.
+    fn join<L: Ledger>(
+        &mut self,
+        sched: &Sched,
+        send: OpId,
+        steps: &mut Steps<L>,
+    ) -> Option<MatchEntry>
         requires kept { IsKept sched.now self.old }
         requires send { IsSend sched.now send }
         requires fresh { happened Arrive send (actions_of sched.now self.old.events.items) ≡ false }
@@ -100,6 +122,9 @@ impl MatchTable {
         ensures as_many { length self.new.receives ≡ length self.new.sends }
         ensures marks { self.new.marks ≡ self.old.marks }
         ensures events { self.new.events ≡ self.old.events }
+        ensures covered { unseen self.new.receives + unseen self.new.sends ≤ self.new.credit }
+        ensures bounded { self.new.credit ≤ self.old.credit + 8 }
+        ensures counted { steps.new ≤ steps.old + 8 }
     {
         let entry = MatchEntry {
             op: send,
@@ -109,8 +134,12 @@ impl MatchTable {
         for number in self.numbers.lists_of_send(sched, send) {
             match number {
                 Some(list) => {
+                    self.credit.count(steps);
+                    self.credit.count(steps);
                     self.sends.push(list, entry);
-                    let first = self.receives.first(list, sched, &self.marks);
+                    let first = self
+                        .receives
+                        .first(list, sched, &self.marks, &mut self.credit);
                     met = earlier(met, first);
                 }
                 None => {}
@@ -119,16 +148,23 @@ impl MatchTable {
         met
     }
 
-    /// A send arrives. Answers the receive that takes it.
-    pub fn arrive(&mut self, sched: &Sched, send: OpId) -> Option<OpId>
+    /// A send arrives. Answers the receive that takes it. Two looks are counted for each of its lists, of which there are
+    /// four at most.
+    pub fn arrive<L: Ledger>(
+        &mut self,
+        sched: &Sched,
+        send: OpId,
+        steps: &mut Steps<L>,
+    ) -> Option<OpId>
         requires kept { IsKept sched.now self.old }
         requires send { IsSend sched.now send }
         requires fresh { happened Arrive send (actions_of sched.now self.old.events.items) ≡ false }
         ensures kept { IsKept sched.now self.new }
         ensures events { self.new.events.items ≡ self.old.events.items ++ send ∷ [] }
         ensures taken { result ≡ receive_for sched.now (actions_of sched.now self.old.events.items) send }
+        ensures counted { steps.new ≤ steps.old + 8 }
     {
-        let met = self.join(sched, send);
+        let met = self.join(sched, send, steps);
         self.events.push_reserved(send);
         pair(sched, &mut self.marks, send, met)
     }

@@ -1,5 +1,5 @@
 // The matcher: who is paired with whom, as receives are posted and messages arrive.
-ghost use Rattle.std.specs.Prelude.{◌≡◌, ◌↔◌, [], false, true, IfOk, IsNone};
+ghost use Rattle.std.specs.Prelude.{◌≡◌, ◌≤◌, ◌<◌, ◌+◌, ◌↔◌, [], false, true, IfOk, IsNone};
 ghost use Rattle.goal_graph.specs.declared.action.Class.TheVariants.{Post, Arrive};
 ghost use Rattle.goal_graph.specs.Action.{happened};
 ghost use Rattle.goal_graph.specs.Laws.{IsSend, IsReceive};
@@ -9,8 +9,10 @@ ghost use Rattle.sim_match.specs.PostsAndArrivals.{with_post, with_arrival, send
 use crate::match_table::MatchTable;
 use goal_base::NoMemory;
 use goal_graph::{OpId, Sched};
+use sim_order::Steps;
 use std::alloc::Global;
-use std::marker::Model;
+use std::marker::{Brand, Model};
+use std::sync::ledger::{Blank, Ledger};
 
 /// Pairs sends with receives, as receives are posted and messages arrive. Contracts see it as the plans of the schedule
 /// and the posts and arrivals so far, newest first.
@@ -58,7 +60,7 @@ impl<'a> Matcher<'a> {
         ensures partner { result ≡ partner (pairs self.new.plans self.new.actions) recv }
         ensures none { IsNone result ↔ NoSendFits self.old.plans self.old.actions recv }
     {
-        self.table.post(self.sched, recv)
+        self.post_once::<Brand>(recv, Blank::new(1))
     }
 
     /// A message arrives, or the request of a large one, which did not arrive before. Answers the receive that takes it:
@@ -71,6 +73,68 @@ impl<'a> Matcher<'a> {
         ensures partner { result ≡ partner (pairs self.new.plans self.new.actions) send }
         ensures none { IsNone result ↔ NoReceiveFits self.old.plans self.old.actions send }
     {
-        self.table.arrive(self.sched, send)
+        self.arrive_once::<Brand>(send, Blank::new(1))
+    }
+
+    /// `post`, whose looks at posts and arrivals are counted. It ticks twice: once for the look at the send that it takes,
+    /// and once for the look that will pass the receive. What it passes itself was counted when that arrived, and nothing
+    /// is looked at again that was passed.
+    pub fn post_counted<L: Ledger>(&mut self, recv: OpId, steps: &mut Steps<L>) -> Option<OpId>
+        requires receive { IsReceive self.old.plans recv }
+        requires fresh { happened Post recv self.old.actions ≡ false }
+        ensures actions { self.new ≡ with_post self.old recv }
+        ensures taken { result ≡ send_for self.old.plans self.old.actions recv }
+        ensures partner { result ≡ partner (pairs self.new.plans self.new.actions) recv }
+        ensures none { IsNone result ↔ NoSendFits self.old.plans self.old.actions recv }
+        ensures counted { steps.new ≡ steps.old + 2 }
+    {
+        self.table.post(self.sched, recv, steps)
+    }
+
+    /// `arrive`, whose looks at posts and arrivals are counted. It ticks at most twice for each of the lists of the send,
+    /// which are four at most: once for the look at the receive that stands first there, and once for the look that will
+    /// pass the send.
+    pub fn arrive_counted<L: Ledger>(&mut self, send: OpId, steps: &mut Steps<L>) -> Option<OpId>
+        requires send { IsSend self.old.plans send }
+        requires fresh { happened Arrive send self.old.actions ≡ false }
+        ensures actions { self.new ≡ with_arrival self.old send }
+        ensures taken { result ≡ receive_for self.old.plans self.old.actions send }
+        ensures partner { result ≡ partner (pairs self.new.plans self.new.actions) send }
+        ensures none { IsNone result ↔ NoReceiveFits self.old.plans self.old.actions send }
+        ensures counted { steps.new ≤ steps.old + 8 }
+    {
+        self.table.arrive(self.sched, send, steps)
+    }
+
+    // A receive is posted, and a counter of its own counts the looks.
+    fn post_once<L: Ledger>(&mut self, recv: OpId, blank: Blank) -> Option<OpId>
+        requires name { blank.name ≡ L.name }
+        requires parts { blank.parts ≡ L.parts }
+        requires some { 0 < blank.parts }
+        requires receive { IsReceive self.old.plans recv }
+        requires fresh { happened Post recv self.old.actions ≡ false }
+        ensures actions { self.new ≡ with_post self.old recv }
+        ensures taken { result ≡ send_for self.old.plans self.old.actions recv }
+        ensures partner { result ≡ partner (pairs self.new.plans self.new.actions) recv }
+        ensures none { IsNone result ↔ NoSendFits self.old.plans self.old.actions recv }
+    {
+        let mut steps = Steps::<L>::new(blank);
+        self.post_counted(recv, &mut steps)
+    }
+
+    // A message arrives, and a counter of its own counts the looks.
+    fn arrive_once<L: Ledger>(&mut self, send: OpId, blank: Blank) -> Option<OpId>
+        requires name { blank.name ≡ L.name }
+        requires parts { blank.parts ≡ L.parts }
+        requires some { 0 < blank.parts }
+        requires send { IsSend self.old.plans send }
+        requires fresh { happened Arrive send self.old.actions ≡ false }
+        ensures actions { self.new ≡ with_arrival self.old send }
+        ensures taken { result ≡ receive_for self.old.plans self.old.actions send }
+        ensures partner { result ≡ partner (pairs self.new.plans self.new.actions) send }
+        ensures none { IsNone result ↔ NoReceiveFits self.old.plans self.old.actions send }
+    {
+        let mut steps = Steps::<L>::new(blank);
+        self.arrive_counted(send, &mut steps)
     }
 }

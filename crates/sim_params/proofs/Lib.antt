@@ -1,4 +1,3 @@
-pub mod Examples
 pub mod Grow
 pub mod Interleavings
 pub mod Accepted

@@ -1,14 +1,15 @@
 // A heap of operations a rank, under a heap of ranks.
 ghost use Rattle.std.specs.Prelude.{◌≡◌, ◌+◌, ◌*◌, ◌^◌, ◌<◌, ◌≤◌, ◌↔◌, ℕ, All, IfOk, IfSome, IsNone, Some, None, length, map, replicate, slice_index, slice_set, sum, take};
 ghost use Rattle.goal_graph.specs.Schedule.{operations};
-ghost use Rattle.sim_queue.specs.Map.{IsEmptyMap, IsLeast};
+ghost use Rattle.sim_heaps.specs.Map.{IsEmptyMap, IsLeast, no_keys};
 ghost use Rattle.sim_queue.specs.Ranked.{size_of};
 ghost use Rattle.sim_queue.specs.Ranks.{home_of, IsTold};
-ghost use Rattle.sim_queue.specs.Groups.{heap_at, no_keys};
+ghost use Rattle.sim_groups.specs.Groups.{heap_at};
 
-use crate::{EventQueue, Home, SlotHeap};
 use goal_base::NoMemory;
 use goal_graph::Sched;
+use sim_groups::Home;
+use sim_heaps::{EventQueue, SlotHeap};
 use sim_order::{EventOrder, Steps};
 use std::alloc::Global;
 use std::marker::Model;

@@ -2,8 +2,8 @@
 ghost use Rattle.std.specs.Prelude.{◌≡◌, ◌+◌, ◌<◌, ◌≤◌, IfOk, length, slice_set};
 ghost use Rattle.sim_queue.specs.Row.{keyed, twelve_keys};
 
-use crate::{EventQueue, SlotHeap};
 use goal_base::NoMemory;
+use sim_heaps::{EventQueue, SlotHeap};
 use sim_order::{Counted, Steps};
 use std::alloc::Global;
 use std::sync::ledger::Ledger;
@@ -26,7 +26,7 @@ fn put_number<L: Ledger>(
 
 /// A heap of twelve slots, which are given the keys 1, 10, 2, 11, 12, 3, 21, 13, 14, 15, 16 and 5 in order. It compares
 /// at most 120 times.
-pub fn row_28<L: Ledger>(
+pub fn heap_of_twelve<L: Ledger>(
     alloc: Global,
     steps: &mut Steps<L>,
 ) -> Result<SlotHeap<Counted<u64>>, NoMemory>
@@ -47,4 +47,15 @@ pub fn row_28<L: Ledger>(
     put_number(&mut queue, 10, 16, steps);
     put_number(&mut queue, 11, 5, steps);
     Ok(queue)
+}
+
+/// The same, by the number of its row in a table of tests.
+pub fn row_28<L: Ledger>(
+    alloc: Global,
+    steps: &mut Steps<L>,
+) -> Result<SlotHeap<Counted<u64>>, NoMemory>
+    ensures keys { IfOk result (λ q. q ≡ twelve_keys) }
+    ensures counted { steps.new ≤ steps.old + 120 }
+{
+    heap_of_twelve(alloc, steps)
 }

@@ -1,3 +1,3 @@
 -- The lemmas of this crate that upper crates cite: they import this file alone.
-pub use Rattle.sim_resources.proofs.Lists.{get_kept}
+pub use Rattle.sim_resources.proofs.Lists.{get_either, get_kept}
 pub use Rattle.sim_resources.proofs.Worth.{holds_add_up}

@@ -5,4 +5,4 @@ mod lines;
 mod pages;
 
 pub use lines::first_line;
-pub use pages::Lines;
+pub use pages::{Lines, timeline};

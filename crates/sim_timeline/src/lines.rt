@@ -22,8 +22,21 @@ pub fn first_line<C: Costs>(
         text.items ≡ first_line sched.now (C.model engine.now.costs) engine.now.history) }
 {
     let mut out = TextOut::new(alloc);
-    put_summary(&mut out, sched, &sum_up(sched, engine))?;
+    put_first_line(&mut out, sched, engine)?;
     Ok(out.into_bytes())
+}
+
+/// Appends the first line.
+pub fn put_first_line<C: Costs>(
+    out: &mut TextOut,
+    sched: &Sched,
+    engine: &Engine<'_, C>,
+) -> Result<(), NoMemory>
+    requires same { engine.now.plans ≡ sched.now }
+    ensures { OnOk result (out.new
+        ≡ out.old ++ first_line sched.now (C.model engine.now.costs) engine.now.history) }
+{
+    put_summary(out, sched, &sum_up(sched, engine))
 }
 
 // What the first line tells of operations: how many have no end, how many are unread messages, the last end.
@@ -76,7 +89,7 @@ fn is_unread(op: &Op, times: Record) -> bool
     times.start.is_some() && times.partner.is_none() && matches!(op.kind, Kind::Send { .. })
 }
 
-// Appends the first line.
+// Appends the first line of a summary.
 fn put_summary(out: &mut TextOut, sched: &Sched, summary: &Summary) -> Result<(), NoMemory>
     ensures { OnOk result (out.new ≡ out.old ++ summary_line (length sched.now) (length (operations sched.now))
         summary.now.stuck summary.now.unread summary.now.finish) }

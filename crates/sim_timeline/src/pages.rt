@@ -1,13 +1,13 @@
-// The lines of the operations, page by page.
-ghost use Rattle.std.specs.Prelude.{◌≡◌, ◌++◌, [], All, IfOk, OnErr};
+// The timeline, whole or page by page.
+ghost use Rattle.std.specs.Prelude.{◌≡◌, ◌++◌, [], All, IfOk, OnOk, OnErr};
 ghost use Rattle.std.specs.List.{flat_map};
 ghost use Rattle.goal_graph.specs.Schedule.{operations};
 ghost use Rattle.goal_graph.specs.Fault.{IsOp};
-ghost use Rattle.sim_timeline.specs.Timeline.{line_of};
+ghost use Rattle.sim_timeline.specs.Timeline.{line_of, timeline};
 
-use crate::lines::put_operation;
+use crate::lines::{put_first_line, put_operation};
 use goal_base::{NoMemory, TextOut};
-use goal_graph::OpId;
+use goal_graph::{OpId, Sched};
 use sim_events::Engine;
 use sim_params::Costs;
 use std::alloc::Global;
@@ -78,9 +78,40 @@ fn page_of<C: Costs>(
         page.items ≡ flat_map (line_of engine.now.plans (C.model engine.now.costs) engine.now.history) ids.now) }
 {
     let mut out = TextOut::new(alloc);
+    put_lines(&mut out, engine, ids)?;
+    Ok(out.into_bytes())
+}
+
+// Appends the lines of these operations.
+fn put_lines<C: Costs>(
+    out: &mut TextOut,
+    engine: &Engine<'_, C>,
+    ids: &[OpId],
+) -> Result<(), NoMemory>
+    requires { All (IsOp engine.now.plans) ids.now }
+    ensures { OnOk result (out.new ≡ out.old
+        ++ flat_map (line_of engine.now.plans (C.model engine.now.costs) engine.now.history) ids.now) }
+{
     let sched = engine.sched();
     for id in ids {
-        put_operation(&mut out, *id, sched.op(*id).kind, engine.record(*id))?;
+        put_operation(out, *id, sched.op(*id).kind, engine.record(*id))?;
     }
+    Ok(())
+}
+
+/// The timeline of an engine whose run is over, whole: the first line, and then the lines of all operations, by rank and
+/// number. `Lines` gives what follows the first line page by page. `NoMemory` where memory ran out.
+pub fn timeline<C: Costs>(
+    alloc: Global,
+    sched: &Sched,
+    engine: &Engine<'_, C>,
+) -> Result<Vec<u8>, NoMemory>
+    requires same { engine.now.plans ≡ sched.now }
+    ensures { IfOk result (λ text.
+        text.items ≡ timeline sched.now (C.model engine.now.costs) engine.now.history) }
+{
+    let mut out = TextOut::new(alloc);
+    put_first_line(&mut out, sched, engine)?;
+    put_lines(&mut out, engine, sched.operations())?;
     Ok(out.into_bytes())
 }

@@ -1,8 +1,8 @@
 // The least pair of operations that race, and their least slot.
-ghost use Rattle.std.specs.Prelude.{ℕ, ◌≡◌, ◌+◌, ◌*◌, ◌<◌, ◌≤◌, true, false, length, All};
+ghost use Rattle.std.specs.Prelude.{ℕ, ◌≡◌, ◌+◌, ◌*◌, ◌/◌, ◌<◌, ◌≤◌, true, false, length, All};
 ghost use Rattle.goal_certify.specs.Rows.{has};
 ghost use Rattle.goal_certify.specs.Table.{meets, AreMarked};
-ghost use Rattle.goal_certify.specs.Races.{is_open, IsNextOpen, IsFirstOpen, IsLeastSlot, lesser, least_with};
+ghost use Rattle.goal_certify.specs.Races.{is_open, IsMutual, IsNextOpen, IsFirstOpen, IsLeastSlot, lesser, least_with};
 
 use crate::races::rows::{WORDS, is_in};
 use crate::races::touches::Touch;
@@ -19,14 +19,72 @@ pub(crate) fn first_open(before: &[u64], shared: &[u64], count: u32) -> Option<P
     requires few { count ≤ 2048 }
     requires before { length before.now ≡ 32 * count }
     requires shared { length shared.now ≡ 32 * count }
+    requires mutual { IsMutual shared.now }
     ensures { IsFirstOpen before.now shared.now count result }
 {
+    if !is_any_open(before, shared, count) {
+        return None;
+    }
     for first in 0..count {
         if let Some(second) = next_open(before, shared, first, count) {
             return Some(Pair { first, second });
         }
     }
     None
+}
+
+// Whether there is such a pair: most schedules have none, and of these it looks at 64 operations at once.
+fn is_any_open(before: &[u64], shared: &[u64], count: u32) -> bool
+    requires few { count ≤ 2048 }
+    requires before { length before.now ≡ 32 * count }
+    requires shared { length shared.now ≡ 32 * count }
+    requires mutual { IsMutual shared.now }
+    ensures none { result ≡ false → (x y : ℕ) → x < y → y < count → is_open before.now shared.now x y ≡ true → ⊥ }
+{
+    for second in 0..count {
+        if is_open_below(before, shared, second) {
+            return true;
+        }
+    }
+    false
+}
+
+// Whether an operation with a lesser number is open with this one.
+fn is_open_below(before: &[u64], shared: &[u64], second: u32) -> bool
+    requires few { second < 2048 }
+    requires before { 32 * second + 32 ≤ length before.now }
+    requires shared { 32 * second + 32 ≤ length shared.now }
+    requires mutual { IsMutual shared.now }
+    ensures none { result ≡ false → (x : ℕ) → x < second → is_open before.now shared.now x second ≡ true → ⊥ }
+{
+    for place in 0..second / 64 + 1 {
+        if is_open_in_word(before, shared, second, place) {
+            return true;
+        }
+    }
+    false
+}
+
+// The same of the operations whose bits stand in one word. Those that end before this one starts are passed together.
+fn is_open_in_word(before: &[u64], shared: &[u64], second: u32, place: u32) -> bool
+    requires few { second < 2048 }
+    requires place { place < 32 }
+    requires before { 32 * second + 32 ≤ length before.now }
+    requires shared { 32 * second + 32 ≤ length shared.now }
+    requires mutual { IsMutual shared.now }
+    ensures none { result ≡ false → (x : ℕ) → x < second → x / 64 ≡ place
+        → is_open before.now shared.now x second ≡ true → ⊥ }
+{
+    let at = WORDS * second as usize + place as usize;
+    if shared[at] & !before[at] == 0 {
+        return false;
+    }
+    for first in 64 * place..second.min(64 * place + 64) {
+        if is_open(before, shared, first, second) {
+            return true;
+        }
+    }
+    false
 }
 
 // The least second operation of such a pair, above the first one.

@@ -14,8 +14,8 @@ ghost use Rattle.goal_certify.specs.WalkQueue.{may_act, IsChoice, IsQueue, IsQue
 use super::action::Action;
 use super::state::State;
 use goal_graph::{Class, OpId};
+use sim_heaps::{EventQueue, SlotHeap};
 use sim_order::{Counted, Steps};
-use sim_queue::{EventQueue, SlotHeap};
 use std::sync::ledger::{Blank, Ledger};
 
 /// The places of the operations that may act.

@@ -23,7 +23,6 @@ use std::marker::Model;
 
 /// A schedule under way, none of whose sends is eager. Contracts see it as the plans of the schedule and what has
 /// happened so far, newest first.
-#[derive(Drop)]
 pub struct State<'a> {
     sched: &'a Sched,
     // what has happened, oldest first
@@ -32,6 +31,18 @@ pub struct State<'a> {
     entries: Vec<Entry>,
     // who is paired with whom
     matcher: Matcher<'a>,
+}
+
+// It goes by a call, as a walker does.
+impl Drop for State<'_> {
+    fn drop(self) {
+        let State {
+            sched: _,
+            history: _history,
+            entries: _entries,
+            matcher: _matcher,
+        } = self;
+    }
 }
 
 impl<'a> Model for State<'a> {

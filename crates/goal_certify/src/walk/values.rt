@@ -1,6 +1,6 @@
 // What an action changes of the values of slots and of what is under way. All is counted before it is made, so that no
 // more than 2^24 contributions are ever held.
-ghost use Rattle.std.specs.Prelude.{◌≡◌, ◌∷◌, ℕ, ◌+◌, ◌^◌, ◌≤◌, drop, length, map, OnOk, IfOk, IfErr};
+ghost use Rattle.std.specs.Prelude.{◌≡◌, ℕ, ◌+◌, ◌^◌, ◌<◌, ◌≤◌, Some, None, slice_index_or, slice_set, length, map, OnOk, IfOk, IfErr};
 ghost use Rattle.goal_graph.specs.Fault.{IsOp};
 ghost use Rattle.goal_blocks.specs.declared.cert_fault.CertFault.TheVariants.{NoMemory};
 ghost use Rattle.goal_blocks.specs.Slots.{slots, adds};
@@ -12,15 +12,18 @@ ghost use Rattle.goal_blocks.specs.Walk.{IsWalk};
 ghost use Rattle.goal_blocks.specs.Channels.{HasNoWildcard};
 ghost use Rattle.goal_blocks.specs.Certification.{IsSmall, HasEqualLengths};
 ghost use Rattle.goal_blocks.specs.Faults.{IsTooHeavy, IsFirstTooHeavy};
-ghost use Rattle.goal_blocks.specs.Stored.{values};
-ghost use Rattle.goal_certify.specs.Carried.{size_of, parcel_of, IsOver, AddsOver, AddsWithin, IsCarrying};
+ghost use Rattle.goal_values.specs.Kept.{values};
+ghost use Rattle.goal_values.specs.Sums.{HasGrown};
+ghost use Rattle.goal_values.specs.Summed.{lent_values, IsLent};
+ghost use Rattle.goal_certify.specs.Carried.{size_of, told_of, parcel_of, IsOver, AddsOver, AddsWithin, Holds, FollowsOn, GrowsTooHeavy, IsTaken, HasEqualEnds};
 ghost use Rattle.goal_certify.specs.Walked.{act_of};
 
 use super::Walker;
 use super::action::Action;
-use super::parcel::Parcel;
-use goal_blocks::{CertFault, SlotTable, Store};
+use super::parcel::{Holdings, Parcel};
+use goal_blocks::{CertFault, SlotTable};
 use goal_graph::{Class, Kind, OpId};
+use goal_values::SlotValues;
 
 /// The most contributions that may be held.
 pub const MOST_HELD: u64 = 1 << 24;
@@ -28,18 +31,19 @@ pub const MOST_HELD: u64 = 1 << 24;
 /// A calc adds by its notes, while so many other contributions are held.
 pub fn add_notes(
     table: &SlotTable,
-    store: &mut Store,
+    store: &mut SlotValues,
     calc: OpId,
     others: u64,
 ) -> Result<(), CertFault>
     requires small { IsSmall table.now }
     requires exists { IsOp table.now calc }
-    requires ranks { store.old.ranks ≡ length table.now }
-    requires light { stored store.old.ranks (values store.old) + others ≤ 2 ^ 24 }
-    ensures added { OnOk result (values store.new ≡ add_all calc.rank (adds table.now calc) (values store.old)) }
-    ensures within { OnOk result (AddsWithin store.old.ranks calc.rank (adds table.now calc) (values store.old) others) }
-    ensures over { IfErr result (IsOver (AddsOver store.old.ranks calc.rank (adds table.now calc) (values store.old) others)) }
-    ensures ranks { store.new.ranks ≡ store.old.ranks }
+    requires ranks { store.old.kept.ranks ≡ length table.now }
+    requires light { stored store.old.kept.ranks (values store.old.kept) + others ≤ 2 ^ 24 }
+    ensures added { OnOk result (values store.new.kept ≡ add_all calc.rank (adds table.now calc) (values store.old.kept)) }
+    ensures within { OnOk result (AddsWithin store.old.kept.ranks calc.rank (adds table.now calc) (values store.old.kept) others) }
+    ensures over { IfErr result (IsOver (AddsOver store.old.kept.ranks calc.rank (adds table.now calc) (values store.old.kept) others)) }
+    ensures ranks { store.new.kept.ranks ≡ store.old.kept.ranks }
+    ensures grown { HasGrown store.old.sums store.new.sums }
 {
     for adding in table.adds_of(calc) {
         let total = store.held() + others + store.size_at(calc.rank, adding.from);
@@ -56,74 +60,88 @@ pub fn add_notes(
 /// A send reads its slots, while so many other contributions are under way.
 pub fn hand_over(
     table: &SlotTable,
-    store: &Store,
+    store: &SlotValues,
     send: OpId,
     others: u64,
 ) -> Result<Parcel, CertFault>
     requires small { IsSmall table.now }
     requires exists { IsOp table.now send }
-    requires ranks { store.now.ranks ≡ length table.now }
-    requires light { stored store.now.ranks (values store.now) + others ≤ 2 ^ 24 }
-    ensures parcel { IfOk result (λ p. p ≡ parcel_of (map (values store.now send.rank) (slots table.now send))) }
-    ensures within { OnOk result (stored store.now.ranks (values store.now) + others + size_of (map (values store.now send.rank) (slots table.now send)) ≤ 2 ^ 24) }
-    ensures over { IfErr result (IsOver (λ total. (stored store.now.ranks (values store.now) + others + size_of (map (values store.now send.rank) (slots table.now send)) ≡ total) × IsTooHeavy total)) }
+    requires ranks { store.now.kept.ranks ≡ length table.now }
+    requires light { stored store.now.kept.ranks (values store.now.kept) + others ≤ 2 ^ 24 }
+    ensures parcel { IfOk result (λ p. told_of store.now.sums p ≡ parcel_of (map (values store.now.kept send.rank) (slots table.now send))) }
+    ensures lent { IfOk result (λ p. IsLent store.now.sums p.lent) }
+    ensures within { OnOk result (stored store.now.kept.ranks (values store.now.kept) + others + size_of (map (values store.now.kept send.rank) (slots table.now send)) ≤ 2 ^ 24) }
+    ensures over { IfErr result (IsOver (λ total. (stored store.now.kept.ranks (values store.now.kept) + others + size_of (map (values store.now.kept send.rank) (slots table.now send)) ≡ total) × IsTooHeavy total)) }
 {
     let slots = table.slots_of(send);
-    let size = store.payload_size(send.rank, slots);
+    let size = store.size_of(send.rank, slots);
     let total = store.held() + others + size;
     if total > MOST_HELD {
         return Err(CertFault::Weight { held: total });
     }
-    let Ok(payload) = store.read(send.rank, slots) else {
+    let Ok(lent) = store.lend(send.rank, slots) else {
         return Err(CertFault::NoMemory);
     };
-    Ok(Parcel { payload, size })
+    Ok(Parcel { lent, size })
 }
 
 /// A receive sets its slots to the values of a parcel, in order.
 pub fn take(
     table: &SlotTable,
-    store: &mut Store,
+    store: &mut SlotValues,
     recv: OpId,
     parcel: Parcel,
 ) -> Result<(), CertFault>
     requires small { IsSmall table.now }
     requires exists { IsOp table.now recv }
-    requires ranks { store.old.ranks ≡ length table.now }
-    requires lengths { length (slots table.now recv) ≡ length parcel.payload }
-    requires light { stored store.old.ranks (values store.old) + size_of parcel.payload ≤ 2 ^ 24 }
-    ensures written { OnOk result (values store.new ≡ write recv.rank (slots table.now recv) parcel.payload (values store.old)) }
+    requires ranks { store.old.kept.ranks ≡ length table.now }
+    requires lent { IsLent store.old.sums parcel.lent }
+    requires lengths { length (slots table.now recv) ≡ length parcel.lent.terms.items }
+    requires light { stored store.old.kept.ranks (values store.old.kept) + size_of (lent_values store.old.sums parcel.lent) ≤ 2 ^ 24 }
+    ensures written { OnOk result (values store.new.kept ≡ write recv.rank (slots table.now recv) (lent_values store.old.sums parcel.lent) (values store.old.kept)) }
     ensures fault { IfErr result (λ fault. fault ≡ NoMemory) }
-    ensures ranks { store.new.ranks ≡ store.old.ranks }
+    ensures ranks { store.new.kept.ranks ≡ store.old.kept.ranks }
+    ensures sums { store.new.sums ≡ store.old.sums }
 {
     let slots = table.slots_of(recv);
-    let Parcel { payload, size: _ } = parcel;
-    let Ok(()) = store.write(recv.rank, slots, payload) else {
+    let Ok(()) = store.write(recv.rank, slots, &parcel.lent) else {
         return Err(CertFault::NoMemory);
     };
     Ok(())
+}
+
+// The parcel at a place, which has none then.
+fn take_out(parcels: &mut Vec<Option<Parcel>>, place: usize) -> Option<Parcel>
+    requires { place < length parcels.old.items }
+    ensures taken { result ≡ slice_index_or parcels.old.items place None }
+    ensures after { parcels.new.items ≡ slice_set parcels.old.items place None }
+{
+    parcels[place].take()
+}
+
+// The place gets this parcel.
+fn put_in(parcels: &mut Vec<Option<Parcel>>, place: usize, parcel: Parcel)
+    requires { place < length parcels.old.items }
+    ensures { parcels.new.items ≡ slice_set parcels.old.items place (Some parcel) }
+{
+    parcels[place] = Some(parcel);
 }
 
 // A calc or a send begins: a calc adds, and a send changes nothing.
 fn begin(
     walker: &Walker,
     table: &SlotTable,
-    store: &mut Store,
-    parcels: &[Option<Parcel>],
-    carried: u64,
+    held: &mut Holdings,
     action: Action,
 ) -> Result<(), CertFault>
-    requires small { IsSmall walker.now.plans }
-    requires table { table.now ≡ walker.now.plans }
-    requires newest { walker.now.history ≡ act_of action ∷ drop 1 walker.now.history }
+    requires taken { IsTaken walker.now table.now action held.old }
     requires class { action.class ≡ Begin }
-    requires carrying { (first : ValueStore) × IsCarrying walker.now.plans first (drop 1 walker.now.history) store.old parcels.now carried }
-    ensures carrying { (first : ValueStore) → IsCarrying walker.now.plans first (drop 1 walker.now.history) store.old parcels.now carried → OnOk result (IsCarrying walker.now.plans first walker.now.history store.new parcels.now carried) }
-    ensures over { (first : ValueStore) → IsCarrying walker.now.plans first (drop 1 walker.now.history) store.old parcels.now carried → IfErr result (IsOver (λ total. IsFirstTooHeavy walker.now.plans first walker.now.history total)) }
+    ensures follows { OnOk result (FollowsOn walker.now held.old held.new) }
+    ensures over { IfErr result (GrowsTooHeavy walker.now held.old) }
 {
     walker.known();
     match walker.sched().op(action.op).kind {
-        Kind::Calc { .. } => add_notes(table, store, action.op, carried),
+        Kind::Calc { .. } => add_notes(table, &mut held.store, action.op, held.carried),
         Kind::Send { .. } => Ok(()),
         Kind::Recv { .. } => unreachable!(),
     }
@@ -133,19 +151,13 @@ fn begin(
 fn serve(
     walker: &Walker,
     table: &SlotTable,
-    store: &mut Store,
-    parcels: &mut [Option<Parcel>],
-    carried: u64,
+    held: &mut Holdings,
     action: Action,
-) -> Result<u64, CertFault>
-    requires small { IsSmall walker.now.plans }
-    requires channels { HasNoWildcard walker.now.plans }
-    requires lengths { HasEqualLengths walker.now.plans }
-    requires table { table.now ≡ walker.now.plans }
-    requires newest { walker.now.history ≡ act_of action ∷ drop 1 walker.now.history }
+) -> Result<(), CertFault>
+    requires taken { IsTaken walker.now table.now action held.old }
+    requires ends { HasEqualEnds walker.now.plans }
     requires class { action.class ≡ Serve }
-    requires carrying { (first : ValueStore) × IsCarrying walker.now.plans first (drop 1 walker.now.history) store.old parcels.old carried }
-    ensures carrying { (first : ValueStore) → IsCarrying walker.now.plans first (drop 1 walker.now.history) store.old parcels.old carried → IfOk result (λ left. IsCarrying walker.now.plans first walker.now.history store.new parcels.new left) }
+    ensures follows { OnOk result (FollowsOn walker.now held.old held.new) }
     ensures fault { IfErr result (λ fault. fault ≡ NoMemory) }
 {
     walker.known();
@@ -153,12 +165,12 @@ fn serve(
         unreachable!()
     };
     let place = walker.sched().index(send) as usize;
-    let Some(parcel) = parcels[place].take() else {
+    let Some(parcel) = take_out(&mut held.parcels, place) else {
         unreachable!()
     };
-    let left = carried - parcel.size;
-    match take(table, store, action.op, parcel) {
-        Ok(()) => Ok(left),
+    held.carried -= parcel.size;
+    match take(table, &mut held.store, action.op, parcel) {
+        Ok(()) => Ok(()),
         Err(fault) => Err(fault),
     }
 }
@@ -167,83 +179,67 @@ fn serve(
 fn send(
     walker: &Walker,
     table: &SlotTable,
-    store: &Store,
-    parcels: &mut [Option<Parcel>],
-    carried: u64,
+    held: &mut Holdings,
     action: Action,
-) -> Result<u64, CertFault>
-    requires small { IsSmall walker.now.plans }
-    requires table { table.now ≡ walker.now.plans }
-    requires newest { walker.now.history ≡ act_of action ∷ drop 1 walker.now.history }
+) -> Result<(), CertFault>
+    requires taken { IsTaken walker.now table.now action held.old }
     requires class { action.class ≡ Data }
-    requires carrying { (first : ValueStore) × IsCarrying walker.now.plans first (drop 1 walker.now.history) store.now parcels.old carried }
-    ensures carrying { (first : ValueStore) → IsCarrying walker.now.plans first (drop 1 walker.now.history) store.now parcels.old carried → IfOk result (λ more. IsCarrying walker.now.plans first walker.now.history store.now parcels.new more) }
-    ensures over { (first : ValueStore) → IsCarrying walker.now.plans first (drop 1 walker.now.history) store.now parcels.old carried → IfErr result (IsOver (λ total. IsFirstTooHeavy walker.now.plans first walker.now.history total)) }
+    ensures follows { OnOk result (FollowsOn walker.now held.old held.new) }
+    ensures over { IfErr result (GrowsTooHeavy walker.now held.old) }
 {
     walker.known();
-    match hand_over(table, store, action.op, carried) {
-        Ok(parcel) => {
-            let more = carried + parcel.size;
-            parcels[walker.sched().index(action.op) as usize] = Some(parcel);
-            Ok(more)
-        }
-        Err(fault) => Err(fault),
-    }
+    let parcel = match hand_over(table, &held.store, action.op, held.carried) {
+        Ok(parcel) => parcel,
+        Err(fault) => return Err(fault),
+    };
+    held.carried += parcel.size;
+    let place = walker.sched().index(action.op) as usize;
+    put_in(&mut held.parcels, place, parcel);
+    Ok(())
 }
 
-/// What an action that has just happened changes. Answers how many contributions are under way after it.
+/// What an action that has just happened changes of what is held.
 pub fn apply(
     walker: &Walker,
     table: &SlotTable,
-    store: &mut Store,
-    parcels: &mut [Option<Parcel>],
-    carried: u64,
+    held: &mut Holdings,
     action: Action,
-) -> Result<u64, CertFault>
-    requires small { IsSmall walker.now.plans }
-    requires channels { HasNoWildcard walker.now.plans }
-    requires lengths { HasEqualLengths walker.now.plans }
-    requires table { table.now ≡ walker.now.plans }
-    requires newest { walker.now.history ≡ act_of action ∷ drop 1 walker.now.history }
-    requires carrying { (first : ValueStore) × IsCarrying walker.now.plans first (drop 1 walker.now.history) store.old parcels.old carried }
-    ensures carrying { (first : ValueStore) → IsCarrying walker.now.plans first (drop 1 walker.now.history) store.old parcels.old carried → IfOk result (λ left. IsCarrying walker.now.plans first walker.now.history store.new parcels.new left) }
-    ensures over { (first : ValueStore) → IsCarrying walker.now.plans first (drop 1 walker.now.history) store.old parcels.old carried → IfErr result (IsOver (λ total. IsFirstTooHeavy walker.now.plans first walker.now.history total)) }
+) -> Result<(), CertFault>
+    requires taken { IsTaken walker.now table.now action held.old }
+    requires ends { HasEqualEnds walker.now.plans }
+    ensures follows { OnOk result (FollowsOn walker.now held.old held.new) }
+    ensures over { IfErr result (GrowsTooHeavy walker.now held.old) }
 {
     walker.known();
     match action.class {
-        Class::Begin => match begin(walker, table, store, parcels, carried, action) {
-            Ok(()) => Ok(carried),
+        Class::Begin => begin(walker, table, held, action),
+        Class::Data => send(walker, table, held, action),
+        Class::Serve => match serve(walker, table, held, action) {
+            Ok(()) => Ok(()),
             Err(fault) => Err(fault),
         },
-        Class::Data => send(walker, table, store, parcels, carried, action),
-        Class::Serve => serve(walker, table, store, parcels, carried, action),
-        Class::Arrive => Ok(carried),
-        Class::Post => Ok(carried),
+        Class::Arrive => Ok(()),
+        Class::Post => Ok(()),
     }
 }
 
-/// Walks to the end with the values of slots, or to the first moment at which too many contributions are held.
-pub fn carry(
-    walker: &mut Walker,
-    table: &SlotTable,
-    store: &mut Store,
-    parcels: &mut [Option<Parcel>],
-) -> Result<(), CertFault>
+/// Walks to the end with what is held, or to the first moment at which that is too much.
+pub fn carry(walker: &mut Walker, table: &SlotTable, held: &mut Holdings) -> Result<(), CertFault>
     requires small { IsSmall walker.old.plans }
-    requires channels { HasNoWildcard walker.old.plans }
-    requires lengths { HasEqualLengths walker.old.plans }
+    requires ends { HasEqualEnds walker.old.plans }
     requires table { table.now ≡ walker.old.plans }
-    requires carrying { (first : ValueStore) × IsCarrying walker.old.plans first walker.old.history store.old parcels.old 0 }
+    requires held { (first : ValueStore) × Holds walker.old.plans first walker.old.history held.old }
     ensures plans { walker.new.plans ≡ walker.old.plans }
     ensures walk { OnOk result (IsWalk walker.new.plans walker.new.history) }
-    ensures carrying { (first : ValueStore) → IsCarrying walker.old.plans first walker.old.history store.old parcels.old 0 → OnOk result ((count : ℕ) × IsCarrying walker.new.plans first walker.new.history store.new parcels.new count) }
-    ensures over { (first : ValueStore) → IsCarrying walker.old.plans first walker.old.history store.old parcels.old 0 → IfErr result (IsOver (λ total. IsFirstTooHeavy walker.new.plans first walker.new.history total)) }
+    ensures held { OnOk result ((first : ValueStore) → Holds walker.old.plans first walker.old.history held.old
+        → Holds walker.new.plans first walker.new.history held.new) }
+    ensures over { IfErr result (λ fault. (first : ValueStore) → Holds walker.old.plans first walker.old.history held.old
+        → IsOver (λ total. IsFirstTooHeavy walker.new.plans first walker.new.history total) fault) }
 {
-    let mut carried = 0;
     'steps: while let Some(action) = walker.next() {
-        match apply(walker, table, store, parcels, carried, action) {
-            Ok(left) => carried = left,
-            Err(fault) => return Err(fault),
+        match apply(walker, table, held, action) {
+            Ok(()) => {}
+            Err(stopped) => return Err(stopped),
         }
     }
     Ok(())

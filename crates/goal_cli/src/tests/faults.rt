@@ -159,7 +159,8 @@ fn each_call_of_the_host(rt: HostRuntime) -> Result<(), Fail> {
     check_calls(&rt, rt.alloc(), 10, &BY_10)
 }
 
-// The run has 43 bytes in its first line, which a sink that takes 10 a call takes by 5 calls, and 121 in all, by 13.
+// The run has 121 bytes, less than a page: a sink that takes 10 a call takes them by 13 calls, and holds 10 for each call before the
+// one that fails.
 #[test]
 fn each_write_of_the_run(rt: HostRuntime) -> Result<(), Fail> {
     let alloc = rt.alloc();
@@ -176,13 +177,33 @@ fn each_write_of_the_run(rt: HostRuntime) -> Result<(), Fail> {
             (Status::Done, "")
         };
         assert_eq!(&rt; status, wanted);
-        let written = if done < 5 {
-            10 * done
-        } else {
-            (10 * done - 7).min(121)
-        };
-        assert_eq!(&rt; Some(out.bytes()), MESSAGE_RUN.as_bytes().get(..written));
+        assert_eq!(&rt;
+            Some(out.bytes()),
+            MESSAGE_RUN.as_bytes().get(..(10 * done).min(121))
+        );
         assert_eq!(&rt; err.bytes(), line.as_bytes());
+    }
+    Ok(())
+}
+
+// A longer run comes in full pages of 64 KiB, each in one call of a sink that takes all.
+#[test]
+fn each_page_of_a_run(rt: HostRuntime) -> Result<(), Fail> {
+    let alloc = rt.alloc();
+    let words = strings(alloc, &["sim", "a"])?;
+    let mut text = String::from_str(alloc, "num_ranks 1 rank 0 {")?;
+    for _ in 0..5_000 {
+        text.push_str(" calc 1")?;
+    }
+    text.push_str(" }")?;
+    for done in 0..3 {
+        let mut host = MemHost::new(alloc, 1_000_000, &[])?;
+        host.add("a", text.as_bytes())?;
+        let mut out = MemSink::new(alloc, 1_000_000, &[done as u64 + 1])?;
+        let mut err = MemSink::new(alloc, 100, &[])?;
+        let status = goal(alloc, &words, &mut host, &mut out, &mut err);
+        assert_eq!(&rt; status, Status::WriteFault);
+        assert_eq!(&rt; out.bytes().len(), 65_536 * done);
     }
     Ok(())
 }

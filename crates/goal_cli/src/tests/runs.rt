@@ -1,6 +1,10 @@
 // Printed runs, with times worked by hand.
 use super::{MESSAGE, MESSAGE_RUN, Row, TWO_WORDS, TWO_WORDS_RUN, check_file};
 use crate::answer::Status;
+use goal_parser::read_text;
+use sim_events::Engine;
+use sim_params::{LogGops, Params};
+use sim_timeline::timeline;
 use std::test::Fail;
 
 // A text, the options of its run, and what is printed.
@@ -156,5 +160,22 @@ fn runs(rt: HostRuntime) -> Result<(), Fail> {
         };
         check_file(&rt, rt.alloc(), run.text.as_bytes(), row)?;
     }
+    Ok(())
+}
+
+// The timeline is the printed run where no operation is stuck.
+#[test]
+fn whole_timeline(rt: HostRuntime) -> Result<(), Fail> {
+    let alloc = rt.alloc();
+    let sched = read_text(alloc, MESSAGE.as_bytes()).ok().ok_or("no text")?;
+    let params = Params::new(2500, 1500, 1000, 6, 0, 65_535)
+        .ok()
+        .ok_or("no parameters")?;
+    let mut engine = Engine::new(alloc, &sched, LogGops { params })
+        .ok()
+        .ok_or("no engine")?;
+    engine.run();
+    let text = timeline(alloc, &sched, &engine).ok().ok_or("no memory")?;
+    assert_eq!(&rt; text.as_slice(), MESSAGE_RUN.as_bytes());
     Ok(())
 }

@@ -3,12 +3,16 @@ use Rattle.std.proofs.lemmas.List.Elements.{Contains-get_or}
 use Rattle.goal_certify.specs.Races.{IsFirstOpen}
 use Rattle.goal_certify.proofs.Before.{rows_same}
 use Rattle.goal_certify.proofs.Table.{shared_same}
-use Rattle.goal_certify.proofs.OpenPairs.{no_open_no_race, first_race}
+use Rattle.goal_certify.proofs.OpenPairs.{no_open_no_race, first_race, shared_mutual}
 use Rattle.goal_certify.proofs.races.find_race.Goals as goal
 
 pub shared_rows-requires-clause-ops : goal.shared_rows-requires-clause-ops
 shared_rows-requires-clause-ops c k d within =
     omega (arith, c.requires.touches.op_below _ (Contains-get_or c.args.touches.now k d within), c.op_count-count.ensures.count)
+
+pub first_open-requires-clause-mutual : goal.first_open-requires-clause-mutual
+first_open-requires-clause-mutual c =
+    shared_mutual c.args.sched.now c.args.rank c.args.touches.now c.args.touchers.now c.args.writers.now c.requires.touches c.requires.touchers c.requires.writers c.deref-2.result.now (shared_same c.args.touchers.now c.args.writers.now c.args.touches.now c.deref-2.result.now c.in_ok-shared.shared.items c.deref-2.ensures.value c.in_ok-shared.ensures.shared)
 
 pub returns-in_default : goal.returns-in_default
 returns-in_default c =

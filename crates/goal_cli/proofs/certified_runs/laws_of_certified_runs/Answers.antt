@@ -6,4 +6,4 @@ pub returns-clause-certified_runs_are_right : goal.returns-clause-certified_runs
 returns-clause-certified_runs_are_right c = λ what plans costs history certified complete. runs_are_right what plans costs history certified complete
 
 pub returns-clause-generated_are_certified : goal.returns-clause-generated_are_certified
-returns-clause-generated_are_certified c = λ what ranks bytes input output e small is. generated_certified what ranks bytes output small is.0
+returns-clause-generated_are_certified c = λ what ranks bytes input output e small is. generated_certified what ranks bytes input output e small is

@@ -4,7 +4,7 @@ use Rattle.goal_cli.specs.declared.answer.Status.{Status}
 use Rattle.goal_cli.specs.declared.answer.Status.TheVariants as status
 use Rattle.goal_cli.specs.World.{World, but_err}
 use Rattle.goal_cli.specs.Answer.{Answers, Answered}
-use Rattle.goal_cli.proofs.AnswerLemmas.{no_line, no_line_told, read_fault, reads_risen, absent_risen, absent_named, absent_machine, told_refusal, cut_off_told, writes_risen, files_risen, done, stuck, not_certified, only_certify, part_or_none, untouched, kept_elsewhere, line_said, nothing_at, part_said}
+use Rattle.goal_cli.proofs.AnswerLemmas.{no_line, no_line_told, read_fault, reads_risen, absent_risen, absent_named, absent_machine, told_refusal, cut_off_told, writes_risen, files_risen, done, stuck, not_certified, only_certify, part_or_none, untouched, kept_elsewhere, line_said, nothing_at, part_said, failed_said, machine_read}
 use Rattle.goal_cli.proofs.laws.laws_of_answers.Goals as goal
 
 line_missed : (command : Option Command) (old new : World) (result : Status) → Answered command old new result → command ≡ None
@@ -74,3 +74,9 @@ returns-clause-says_nothing c = λ command old new result w. nothing_at w.answer
 
 pub returns-clause-says_part : goal.returns-clause-says_part
 returns-clause-says_part c = λ command old new result w. part_said (but_err old) (but_err new) command old.err new.err w.answer result w.cause w.told
+
+pub returns-clause-says_failed : goal.returns-clause-says_failed
+returns-clause-says_failed c = λ command old new result w. failed_said (but_err old) (but_err new) command old.err new.err w.answer result w.cause w.told
+
+pub returns-clause-machine_read : goal.returns-clause-machine_read
+returns-clause-machine_read c = λ command old new result w. machine_read (but_err old) (but_err new) command old.err new.err w.answer result w.cause w.told

@@ -1,8 +1,10 @@
-use Rattle.goal_cli.proofs.OutputLemmas.{one_run, same_output, compiled_again, as_sim}
+use Rattle.goal_words.specs.declared.sentence.RunView.TheVariants.{Printed}
+use Rattle.goal_views.proofs.ForCallers.{one_shown}
+use Rattle.goal_cli.proofs.OutputLemmas.{same_output, compiled_again, as_sim}
 use Rattle.goal_cli.proofs.laws.laws_of_outputs.Goals as goal
 
 pub returns-clause-one_run : goal.returns-clause-one_run
-returns-clause-one_run c = one_run
+returns-clause-one_run c = one_shown Printed
 
 pub returns-clause-same_output : goal.returns-clause-same_output
 returns-clause-same_output c =

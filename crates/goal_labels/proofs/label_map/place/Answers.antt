@@ -8,8 +8,8 @@ use Rattle.goal_labels.specs.Entries.{IsAt}
 use Rattle.goal_labels.proofs.IndexLemmas.{IsIndexed-more, apart_here, apart_other}
 use Rattle.goal_labels.proofs.label_map.place.Goals as goal
 
-pub returns-in_ok-insert : goal.returns-in_ok-insert
-returns-in_ok-insert c = λ es n indexed unique there.
+pub returns-in_ok-insert-clause-indexed : goal.returns-in_ok-insert-clause-indexed
+returns-in_ok-insert-clause-indexed c = λ es n indexed unique there.
     let label = c.args.label.now in
     let push : IsLinked c.args.chains.now c.push.new.self (label_hash label) c.in_ok-push.field-0 = subst (λ h. IsLinked c.args.chains.now c.push.new.self h c.in_ok-push.field-0) c.requires.hash c.in_ok-push.ensures in
     let number : c.len-number.result ≡ n = omega (arith, c.len-number.ensures, indexed.count, c.args.chains.now.links.ok.0) in
@@ -22,8 +22,8 @@ returns-in_ok-insert c = λ es n indexed unique there.
     (λ same. absurd (omega (arith, below, unique i n label (subst (λ k. IsAt es k i) (sym same) at) there))))
     (inr (apart_here c.args.apart.now c.insert.new.self label n updates))
 
-pub returns-else-not-branch : goal.returns-else-not-branch
-returns-else-not-branch c = λ es n indexed unique there.
+pub returns-else-not-branch-clause-indexed : goal.returns-else-not-branch-clause-indexed
+returns-else-not-branch-clause-indexed c = λ es n indexed unique there.
     let label = c.args.label.now in
     let push : IsLinked c.args.chains.now c.push.new.self (label_hash label) c.in_ok-push.field-0 = subst (λ h. IsLinked c.args.chains.now c.push.new.self h c.in_ok-push.field-0) c.requires.hash c.in_ok-push.ensures in
     IsIndexed-more es n c.args.chains.now c.push.new.self c.args.apart.now c.args.apart.now label c.in_ok-push.field-0 indexed unique there push

@@ -1,4 +1,4 @@
-use Rattle.std.proofs.Common.{refl, ◌+◌}
+use Rattle.std.proofs.Common.{refl}
 use Rattle.goal_parser.proofs.ahead.option_ahead.Goals as goal
 
 pub returns-in-116-clause-tag : goal.returns-in-116-clause-tag

@@ -1,4 +1,4 @@
-use Rattle.std.proofs.Common.{refl, arith, ℕ, ◌+◌, ◌<◌, ◌≤◌, [], ◌∷◌, length}
+use Rattle.std.proofs.Common.{refl, arith, ◌+◌, ◌<◌, ◌≤◌, [], ◌∷◌, length}
 use Rattle.goal_lexer.specs.declared.tokens.Token.{Token}
 use Rattle.goal_lexer.specs.Words.{word_kind}
 use Rattle.goal_parser.specs.declared.ahead.Small.{Small}

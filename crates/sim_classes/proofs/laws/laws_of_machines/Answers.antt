@@ -1,5 +1,5 @@
 -- Each law is a lemma.
-use Rattle.sim_classes.proofs.ClassLaws.{classes_there, alike_costs, own_inside}
+use Rattle.sim_classes.proofs.ClassLaws.{classes_there, alike_costs, own_inside, one_node_inside}
 use Rattle.sim_classes.proofs.Whole.{machine_whole}
 use Rattle.sim_classes.proofs.laws.laws_of_machines.Goals as goal
 
@@ -11,6 +11,9 @@ returns-clause-alike c = alike_costs
 
 pub returns-clause-own : goal.returns-clause-own
 returns-clause-own c = own_inside
+
+pub returns-clause-one_node : goal.returns-clause-one_node
+returns-clause-one_node c = one_node_inside
 
 pub returns-clause-whole : goal.returns-clause-whole
 returns-clause-whole c = machine_whole

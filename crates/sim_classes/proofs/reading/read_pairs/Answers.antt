@@ -51,7 +51,7 @@ overflow_cast-class c = omega (arith, c.in_ok-class.ensures.within, c.requires)
 
 pub loop-preserved : goal.loop-preserved
 loop-preserved c =
-    let after = told_after c.loop.told c.insert.new.self c.in_ok-from.field-0 c.in_ok-to.to c.in_ok-class.field-0 c.in_ok-insert.ensures.updates.0 in (
+    let after = told_after c.loop.told c.insert.new.self c.in_ok-from.field-0 c.in_ok-to.to c.pair_key.result c.in_ok-class.field-0 c.pair_key.ensures (omega (arith, c.in_ok-to.ensures.within)) c.in_ok-insert.ensures.updates.0 in (
       λ numbers inside usual nodes few.
           c.loop.invariant.0 numbers inside usual nodes few
           ∙ ap (λ (f : Form). said f c.loop.words.place c.loop.words.words) (more_pairs c.args.count c.loop.counter (machine_with numbers inside usual nodes (told_by c.loop.told)) c.loop-test.true)

@@ -1,7 +1,7 @@
 use Rattle.std.proofs.Common.{Contains, drop}
 use Rattle.goal_graph.specs.Schedule.{operations}
 use Rattle.sim_events.specs.Queue.{IsQueueBut}
-use Rattle.sim_events.specs.Cursors.{AreCursors}
+use Rattle.sim_state.specs.Cursors.{AreCursors}
 use Rattle.sim_events.proofs.Costs.{IsPaid}
 use Rattle.sim_events.proofs.follow.fill.Given as goal
 

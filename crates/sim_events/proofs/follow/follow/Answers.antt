@@ -1,9 +1,9 @@
 use Rattle.std.proofs.Common.{inl, inr}
-use Rattle.sim_events.proofs.Queue.{early_keys, refreshed}
+use Rattle.sim_events.proofs.Queue.{possible_keys, refreshed}
 use Rattle.sim_events.proofs.follow.follow.Goals as goal
 
 pub refresh-requires : goal.refresh-requires
-refresh-requires g c = record { exists = c.requires.exists; early = early_keys _ _ _ _ _ c.requires.rest; cursors = c.requires.cursors }
+refresh-requires g c = record { exists = c.requires.exists; possible = possible_keys _ _ _ _ _ c.requires.rest; cursors = c.requires.cursors }
 
 pub follow_partner-requires : goal.follow_partner-requires
 follow_partner-requires g c = record {

@@ -1,7 +1,7 @@
 use Rattle.std.proofs.Common.{drop}
 use Rattle.goal_graph.specs.Schedule.{waiting_on}
 use Rattle.sim_events.specs.Queue.{IsAwaiting, IsQueueBut}
-use Rattle.sim_events.specs.Cursors.{AreCursors}
+use Rattle.sim_state.specs.Cursors.{AreCursors}
 use Rattle.sim_events.proofs.Costs.{IsPaid}
 use Rattle.sim_events.proofs.follow.follow_waiting.Given as goal
 

@@ -2,7 +2,7 @@ use Rattle.std.proofs.Common.{◌*◌, ◌+◌, length, sym, ap, ◌∙◌, arit
 use Rattle.goal_graph.specs.Schedule.{operations}
 use Rattle.sim_events.proofs.Costs.{spent_none}
 use Rattle.sim_events.proofs.Queue.{empty_from}
-use Rattle.sim_events.proofs.Runs.{stepped_plans, stepped_costs, stepped_length, stepped_last, fewer_left, none_counted}
+use Rattle.sim_events.proofs.Runs.{stepped_plans, stepped_costs, stepped_length, stepped_last, fewer_left, none_counted, some_look, look_most}
 use Rattle.sim_events.proofs.outlook.run.Goals as goal
 
 pub steps-preserved : goal.steps-preserved
@@ -15,7 +15,8 @@ steps-preserved g c =
       stepped_costs g.C.Costs.model _ _ c.step.result stepped ∙ c.steps.invariant.2,
       λ k few.
           let step = c.step.ensures.counted k (omega (arith, few, ap (λ ps. length (operations ps)) c.steps.invariant.1)) in
-          omega (arith, c.steps.invariant.3 k few, step, ap (λ n. n * (8 * k + 201)) more),
+          omega (arith, c.steps.invariant.3 k few, step, ap (λ n. n * (18 * k + 29)) more, some_look c.step.result (sym c.is_some.ensures ∙ c.steps-test.true)),
+      omega (arith, c.steps.invariant.4, c.step.ensures.looked, more),
     )
 
 pub steps-smaller : goal.steps-smaller
@@ -46,4 +47,9 @@ returns-clause-counted g c =
     let empty = empty_from _ _ _ c.step.new.outlook.queue c.step.ensures.outlook.0 finished in
     let step = c.step.ensures.counted k (omega (arith, few, ap (λ ps. length (operations ps)) c.steps.invariant.1)) in
     let more = stepped_length model _ _ c.step.result stepped in
-    omega (arith, c.steps.invariant.3 k few, step, ap (λ n. n * (8 * k + 201)) more, ap (λ n. n * (8 * k + 201)) (none_counted c.step.result none), spent_none k c.step.new.outlook.queue empty)
+    omega (arith, c.steps.invariant.3 k few, step, ap (λ n. n * (18 * k + 29)) more, ap (λ n. n * (18 * k + 29)) (none_counted c.step.result none), spent_none k c.step.new.outlook.queue empty, look_most c.step.result)
+
+pub returns-clause-looked : goal.returns-clause-looked
+returns-clause-looked g c =
+    let more = stepped_length g.C.Costs.model _ _ c.step.result c.step.ensures.stepped in
+    omega (arith, c.steps.invariant.4, c.step.ensures.looked, more)

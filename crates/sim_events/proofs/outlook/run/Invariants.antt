@@ -1,18 +1,20 @@
 use Rattle.std.proofs.Common.{◌≡◌, ◌+◌, ◌*◌, ◌-◌, ◌≤◌, ◌^◌, ℕ, length}
 use Rattle.goal_graph.specs.Schedule.{operations}
+use Rattle.sim_stations.specs.Stations.{cost_of_waiting}
 use Rattle.sim_events.specs.Comparisons.{spent, cost_of_actions}
 use Rattle.sim_events.specs.Outlook.{IsOutlookOf}
 use Rattle.sim_events.proofs.outlook.run.Given as goal
 
--- what has been compared is paid by the actions, the lifts, and the keys that are there
+-- what has been compared is paid by the actions, the changes of place, and the keys that are there
 abbrev pub invariant-steps : goal.invariant-steps
 invariant-steps g l =
     IsOutlookOf g.C.Costs.model l.state l.outlook
     × (l.state.plans ≡ l.fn.state.plans)
     × (l.state.costs ≡ l.fn.state.costs)
     × ((k : ℕ) → length (operations l.fn.state.plans) ≤ 2 ^ k
-    → l.steps + spent k l.fn.outlook.queue + cost_of_actions k (length l.fn.state.history) l.fn.lifts
-    ≤ l.fn.steps + spent k l.outlook.queue + cost_of_actions k (length l.state.history) l.lifts)
+    → l.steps + cost_of_waiting k l.outlook.queue.stands + spent k l.fn.outlook.queue + cost_of_actions k (length l.fn.state.history) l.fn.moves
+    ≤ l.fn.steps + cost_of_waiting k l.fn.outlook.queue.stands + spent k l.outlook.queue + cost_of_actions k (length l.state.history) l.moves)
+    × (l.looks + 8 * length l.fn.state.history ≤ l.fn.looks + 8 * length l.state.history)
 
 abbrev pub decreases-steps : goal.decreases-steps
 decreases-steps g l = 3 * length (operations l.state.plans) - length l.state.history

@@ -1,27 +1,52 @@
-use Rattle.std.proofs.Common.{refl, sym, subst}
-use Rattle.sim_events.specs.Cursors.{AreCursors}
+use Rattle.std.proofs.Common.{◌<◌, length, sym, ap, subst, arith}
+use Rattle.std.proofs.lemmas.Option.{slice_get_within}
+use Rattle.goal_graph.specs.Schedule.{operations}
+use Rattle.sim_state.specs.Cursors.{AreCursors}
+use Rattle.sim_events.specs.Comparisons.{count_of, last_look}
+use Rattle.sim_events.proofs.Costs.{spent_same}
 use Rattle.sim_events.proofs.Cursors.{cursors_after}
-use Rattle.sim_events.proofs.Steps.{next_of, without_of, op_after, due_after}
+use Rattle.sim_events.proofs.Settled.{spent_settled}
+use Rattle.sim_events.proofs.Steps.{op_after, due_after, later_after}
 use Rattle.sim_events.proofs.outlook.step.Goals as goal
+
+pub returns-in_err-slot-clause-counted : goal.returns-in_err-slot-clause-counted
+returns-in_err-slot-clause-counted g c =
+    λ k few.
+    let next = c.next.ensures.counted k (omega (arith, few, c.requires.outlook.0.of_it.each)) in
+    omega (arith, next, spent_same k c.args.outlook.now.queue c.next.new.queue c.next.ensures.keys, ap last_look c.from_residual.ensures, ap count_of c.from_residual.ensures)
+
+pub settle-requires-clause-exists : goal.settle-requires-clause-exists
+settle-requires-clause-exists g c =
+    op_after g.C.Costs.model c.args.state.now c.perform.new.self c.in_ok-slot.action c.perform.ensures.performed c.in_ok-slot.ensures.next
+
+pub settle-requires-clause-later : goal.settle-requires-clause-later
+settle-requires-clause-later g c =
+    λ waits. later_after g.C.Costs.model c.args.state.now c.perform.new.self c.in_ok-slot.action c.next.new.queue c.in_ok-slot.slot c.perform.ensures.performed c.in_ok-slot.ensures.next c.in_ok-slot.ensures.queue c.in_ok-slot.ensures.slot
 
 pub follow-requires-clause-exists : goal.follow-requires-clause-exists
 follow-requires-clause-exists g c =
-    let model = g.C.Costs.model in
-    let state = c.args.state.now in
-    let next = next_of model state state c.next.result c.in_ok-action.action refl c.in_ok-action.was c.next.ensures.next in
-    op_after model state c.perform.new.self c.in_ok-action.action c.perform.ensures next
+    op_after g.C.Costs.model c.args.state.now c.perform.new.self c.in_ok-slot.action c.perform.ensures.performed c.in_ok-slot.ensures.next
 
 pub follow-requires-clause-rest : goal.follow-requires-clause-rest
 follow-requires-clause-rest g c =
-    let model = g.C.Costs.model in
-    let state = c.args.state.now in
-    let next = next_of model state state c.next.result c.in_ok-action.action refl c.in_ok-action.was c.next.ensures.next in
-    let without = without_of model state c.next.result c.in_ok-action.action c.next.new.queue c.in_ok-action.was c.next.ensures.without in
-    due_after model state c.perform.new.self c.in_ok-action.action c.next.new.queue c.perform.ensures c.known.ensures.run next without
+    due_after g.C.Costs.model c.args.state.now c.perform.new.self c.in_ok-slot.action c.next.new.queue c.settle.new.queue c.in_ok-slot.slot c.perform.ensures.performed c.known.ensures.run c.in_ok-slot.ensures.next c.in_ok-slot.ensures.queue c.in_ok-slot.ensures.slot c.settle.ensures.settled
 
 pub follow-requires-clause-cursors : goal.follow-requires-clause-cursors
 follow-requires-clause-cursors g c =
     let model = g.C.Costs.model in
     let state = c.args.state.now in
     let after = c.perform.new.self in
-    subst (AreCursors after.plans (model after.costs) after.history) (sym c.deref_mut.ensures.value) (cursors_after model state after c.in_ok-action.action _ c.perform.ensures c.known.ensures.run c.requires.outlook.1)
+    subst (AreCursors after.plans (model after.costs) after.history) (sym c.deref_mut.ensures.value) (cursors_after model state after c.in_ok-slot.action _ c.perform.ensures.performed c.known.ensures.run c.requires.outlook.1)
+
+pub returns-clause-counted : goal.returns-clause-counted
+returns-clause-counted g c =
+    λ k few.
+    let each = c.requires.outlook.0.of_it.each in
+    let found = c.in_ok-slot.ensures.queue.of_it.each in
+    let within : c.in_ok-slot.slot < length c.next.new.queue.keys = omega (arith, found, slice_get_within (operations c.args.state.now.plans) c.in_ok-slot.slot c.in_ok-slot.action.op c.in_ok-slot.ensures.slot) in
+    let settled = c.settle.ensures.settled in
+    let next = c.next.ensures.counted k (omega (arith, few, each)) in
+    let settle = c.settle.ensures.counted k (omega (arith, few, found)) in
+    let follow = c.follow.ensures.counted k (omega (arith, few, found, settled.each)) in
+    let gone = spent_settled k _ _ c.in_ok-slot.slot c.in_ok-slot.action c.next.new.queue c.settle.new.queue settled c.in_ok-slot.ensures.key within in
+    omega (arith, next, settle, follow, gone, spent_same k c.args.outlook.now.queue c.next.new.queue c.next.ensures.keys)

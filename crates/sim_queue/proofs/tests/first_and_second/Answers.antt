@@ -3,7 +3,7 @@ use Rattle.std.proofs.lemmas.Option.{same_Some}
 use Rattle.goal_graph.specs.declared.action.Timed.{Timed}
 use Rattle.goal_graph.specs.declared.action.Class.TheVariants.{Begin}
 use Rattle.sim_order.specs.Events.{event_before}
-use Rattle.sim_queue.specs.Map.{key_at, IsSoleLeast}
+use Rattle.sim_heaps.specs.Map.{key_at, IsSoleLeast}
 use Rattle.sim_queue.proofs.tests.first_and_second.Goals as goal
 
 abbrev begin_at : ℕ → Timed

@@ -1,6 +1,6 @@
-use Rattle.std.proofs.Common.{ℕ, ◌<◌, ◌≤◌, List, length, ap, sym, ◌∙◌, arith, Vec, Global, get_or}
+use Rattle.std.proofs.Common.{◌<◌, List, length, ap, sym, ◌∙◌, arith, Vec, Global, get_or}
 use Rattle.std.specs.Vec.Iter.{into_iter_items}
-use Rattle.std.proofs.lemmas.List.Elements.{All-rest, All-get_or}
+use Rattle.std.proofs.lemmas.List.Elements.{All-rest}
 use Rattle.goal_blocks.specs.Values.{Contribution}
 use Rattle.goal_blocks.specs.Stored.{values, lists_of, IsSorted}
 use Rattle.goal_blocks.proofs.Writes.{write_next, write_none, light_next}
@@ -20,7 +20,7 @@ loop-value-preserved c =
       All-rest IsSorted c.in-Some.value.items (lists_of (into_iter_items c.next.new.self)) _ lists inv.4,
       c.in-Ok.ensures.ranks ∙ inv.5,
       (λ k some. c.in-Ok.ensures.still k (inv.6 k some)),
-      light_next c.loop-value.self.ranks c.put.new.self.ranks c.args.rank (get_or c.args.slots.now c.loop-value.next 0) c.in-Some.value.items (lists_of (into_iter_items c.next.new.self)) _ (values c.loop-value.self) (values c.put.new.self) lists c.in-Ok.ensures.set c.in-Ok.ensures.ranks (omega (arith, inv.5, c.requires.rank)) (All-get_or (λ (k : ℕ). k ≤ 65535) c.args.slots.now c.loop-value.next 0 short c.requires.low) inv.7,
+      light_next c.loop-value.self.ranks c.put.new.self.ranks c.args.rank (get_or c.args.slots.now c.loop-value.next 0) c.in-Some.value.items (lists_of (into_iter_items c.next.new.self)) _ (values c.loop-value.self) (values c.put.new.self) lists c.in-Ok.ensures.set c.in-Ok.ensures.ranks (omega (arith, inv.5, c.requires.rank)) (omega (arith, c.type_inv.slots c.loop-value.next)) inv.7,
       omega (arith, c.in-Some.ensures.steps.1, many, inv.8),
     )
 

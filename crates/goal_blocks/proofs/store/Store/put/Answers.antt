@@ -6,7 +6,7 @@ use Rattle.goal_blocks.proofs.store.Store.put.Goals as goal
 pub overflow_sub-self : goal.overflow_sub-self
 overflow_sub-self c =
     let all = held_there c.self.inside.what c.self.inside.ranks c.self.inside.written c.args.self.now c.self.view_is c.args.rank c.args.slot c.self.inside.held c.self.invariant in
-    let few = few_there c.self.inside.what c.self.inside.ranks c.self.inside.written c.args.self.now c.self.view_is c.args.rank c.args.slot c.self.inside.held c.self.invariant c.requires.rank c.requires.low in
+    let few = few_there c.self.inside.what c.self.inside.ranks c.self.inside.written c.args.self.now c.self.view_is c.args.rank c.args.slot c.self.inside.held c.self.invariant c.requires.rank (omega (arith, c.ranges.slot)) in
     let was = ap length (before_there c.self.inside.what c.self.inside.ranks c.self.inside.written c.args.self.now c.self.view_is c.args.rank c.args.slot c.in_ok-old.old c.first_at-first.result c.in_ok-old.ensures.old c.first_at-first.ensures) in
     omega (arith, all, few, was, c.size_before.ensures)
 
@@ -19,7 +19,7 @@ pub invariant_of-self-2 : goal.invariant_of-self-2
 invariant_of-self-2 c =
     let was = ap length (before_there c.self.inside.what c.self.inside.ranks c.self.inside.written c.args.self.now c.self.view_is c.args.rank c.args.slot c.in_ok-old.old c.first_at-first.result c.in_ok-old.ensures.old c.first_at-first.ensures) in
     let size : c.size_before.result ≡ length (values (kept c.self.inside.what c.self.inside.ranks c.self.inside.written) c.args.rank c.args.slot) = c.size_before.ensures ∙ was ∙ ap (λ (t : Kept). length (values t c.args.rank c.args.slot)) (sym c.self.view_is) in
-    sound_after c.self.inside.what c.self.inside.ranks c.self.inside.written c.insert.new.self c.args.rank c.args.slot c.args.value c.in_ok-old.ensures.updates.0 c.self.inside.held _ (subst (λ (t : Kept). c.args.rank < t.ranks) (sym c.self.view_is) c.requires.rank) c.requires.low c.requires.sorted c.self.invariant (omega (arith, size, c.len-size.ensures))
+    sound_after c.self.inside.what c.self.inside.ranks c.self.inside.written c.insert.new.self c.args.rank c.args.slot c.args.value c.in_ok-old.ensures.updates.0 c.self.inside.held _ (subst (λ (t : Kept). c.args.rank < t.ranks) (sym c.self.view_is) c.requires.rank) (omega (arith, c.ranges.slot)) c.requires.sorted c.self.invariant (omega (arith, size, c.len-size.ensures))
 
 pub returns-clause-set : goal.returns-clause-set
 returns-clause-set c =

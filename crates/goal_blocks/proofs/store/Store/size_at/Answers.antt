@@ -9,5 +9,5 @@ returns-clause-size c = ap length c.value_at.ensures.value
 pub returns-clause-part : goal.returns-clause-part
 returns-clause-part c =
     let size = ap length c.value_at.ensures.value in
-    let most = stored_most c.args.self.now.ranks c.args.rank c.args.slot (values c.args.self.now) c.requires.rank (omega (arith, c.requires.low)) in
+    let most = stored_most c.args.self.now.ranks c.args.rank c.args.slot (values c.args.self.now) c.requires.rank (omega (arith, c.ranges.slot)) in
     omega (arith, size, most)

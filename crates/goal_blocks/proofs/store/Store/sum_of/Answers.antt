@@ -1,6 +1,5 @@
-use Rattle.goal_blocks.specs.Stored.{IsSorted}
 use Rattle.goal_blocks.proofs.Sorted.{sorted_merge}
-use Rattle.goal_blocks.proofs.StoreFacts.{sorted_from, ok_sorted}
+use Rattle.goal_blocks.proofs.StoreFacts.{ok_sorted}
 use Rattle.goal_blocks.proofs.store.Store.sum_of.Goals as goal
 
 pub returns-clause-sorted : goal.returns-clause-sorted

@@ -1,12 +1,7 @@
-use Rattle.std.proofs.Common.{◌≡◌, Bool, true, false, List, Some, get_or, length, slice_get, sym, ap, ◌∙◌, subst, arith}
+use Rattle.std.proofs.Common.{◌≡◌, List, Some, get_or, length, slice_get, sym, ap, ◌∙◌, arith}
 use Rattle.std.proofs.lemmas.Option.{slice_get-get_or}
 use Rattle.goal_graph.specs.declared.action.OpId.{OpId}
 use Rattle.goal_graph.specs.Schedule.{Plan, operations}
-use Rattle.goal_graph.specs.Allowed.{has_ended}
-use Rattle.goal_blocks.specs.Walk.{no_send, IsWalk}
-use Rattle.goal_blocks.specs.declared.cert_fault.CertFault.TheVariants.{Stalls}
-use Rattle.goal_certify.specs.Stages.{IsFree, IsStopped}
-use Rattle.goal_certify.specs.Walked.{Walked}
 use Rattle.goal_certify.proofs.Stalls.{end_more, all_free, stalled}
 use Rattle.goal_certify.proofs.walk.stalls.check_ends.Goals as goal
 

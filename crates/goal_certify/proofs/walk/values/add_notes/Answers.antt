@@ -1,7 +1,8 @@
-use Rattle.std.proofs.Common.{◌+◌, ◌^◌, ◌<◌, ◌≤◌, ℕ, List, inr, length, get_or, refl, sym, ap, ◌∙◌, subst, arith}
+use Rattle.std.proofs.Common.{◌+◌, ◌^◌, ◌<◌, ◌≤◌, ℕ, List, inr, length, get_or, refl, ap, ◌∙◌, subst, arith}
 use Rattle.goal_blocks.specs.declared.slots.Adding.{Adding}
 use Rattle.goal_blocks.specs.Values.{merge, set_slot}
-use Rattle.goal_blocks.specs.Stored.{values}
+use Rattle.goal_values.specs.Kept.{values}
+use Rattle.goal_values.proofs.ForCallers.{grown_same, grown_more}
 use Rattle.goal_certify.proofs.Places.{rank_below}
 use Rattle.goal_certify.proofs.SlotFacts.{adds_low, none_added, added_next, added_over}
 use Rattle.goal_certify.proofs.walk.values.add_notes.Goals as goal
@@ -10,58 +11,43 @@ abbrev none : Adding
 none = record { from = 0; to = 0 }
 
 pub loop-adding-init : goal.loop-adding-init
-loop-adding-init c = none_added _ _ _ _ _ c.requires.light
+loop-adding-init c = record {
+  added = none_added _ _ _ _ _ c.requires.light;
+  grown = grown_same c.args.store.now.sums;
+}
 
-pub size_at-requires-clause-rank : goal.size_at-requires-clause-rank
-size_at-requires-clause-rank c =
-    omega (arith, rank_below c.args.table.now c.args.calc c.requires.exists, c.requires.ranks, c.loop-adding.invariant.same)
-
-pub size_at-requires-clause-low : goal.size_at-requires-clause-low
-size_at-requires-clause-low c =
-    let items = c.adds_of-adding-items.ensures in
-    let k = c.loop-adding.adding-index in
-    let inside = subst (λ (xs : List Adding). k < length xs) items c.loop-adding-test.true in
-    subst (λ (xs : List Adding). (get_or xs k none).from ≤ 65535) (sym items) (adds_low c.args.table.now c.requires.small c.args.calc c.requires.exists k none inside).0
+pub size_at-requires : goal.size_at-requires
+size_at-requires c =
+    omega (arith, rank_below c.args.table.now c.args.calc c.requires.exists, c.requires.ranks, c.loop-adding.invariant.added.same)
 
 pub returns-then-total-gt-MOST_HELD-clause-over : goal.returns-then-total-gt-MOST_HELD-clause-over
 returns-then-total-gt-MOST_HELD-clause-over c =
     let items = c.adds_of-adding-items.ensures in
     let k = c.loop-adding.adding-index in
     let rank = c.args.calc.rank in
-    let now = values c.loop-adding.store in
+    let now = values c.loop-adding.store.kept in
     let inside = subst (λ (xs : List Adding). k < length xs) items c.loop-adding-test.true in
-    let below : rank < c.args.store.now.ranks = omega (arith, rank_below c.args.table.now c.args.calc c.requires.exists, c.requires.ranks) in
+    let below : rank < c.args.store.now.kept.ranks = omega (arith, rank_below c.args.table.now c.args.calc c.requires.exists, c.requires.ranks) in
     let size = c.size_at.ensures.size ∙ ap (λ (xs : List Adding). length (now rank (get_or xs k none).from)) items in
     let heavy : 2 ^ 24 < c.held.result + c.args.others + c.size_at.result = omega (arith, c.if-total-gt-MOST_HELD.true) in
-    inr (c.held.result + c.args.others + c.size_at.result, refl, added_over _ _ _ _ now _ _ k c.loop-adding.invariant none inside below (adds_low c.args.table.now c.requires.small c.args.calc c.requires.exists) c.size_at.result _ size (ap (λ (n : ℕ). n + c.args.others + c.size_at.result) c.held.ensures) heavy)
+    inr (c.held.result + c.args.others + c.size_at.result, refl, added_over _ _ _ _ now _ _ k c.loop-adding.invariant.added none inside below (adds_low c.args.table.now c.requires.small c.args.calc c.requires.exists) c.size_at.result _ size (ap (λ (n : ℕ). n + c.args.others + c.size_at.result) c.held.ensures) heavy)
 
 pub add-requires-clause-rank : goal.add-requires-clause-rank
 add-requires-clause-rank c =
-    omega (arith, rank_below c.args.table.now c.args.calc c.requires.exists, c.requires.ranks, c.loop-adding.invariant.same)
-
-pub add-requires-clause-from : goal.add-requires-clause-from
-add-requires-clause-from c =
-    let items = c.adds_of-adding-items.ensures in
-    let k = c.loop-adding.adding-index in
-    let inside = subst (λ (xs : List Adding). k < length xs) items c.loop-adding-test.true in
-    subst (λ (xs : List Adding). (get_or xs k none).from ≤ 65535) (sym items) (adds_low c.args.table.now c.requires.small c.args.calc c.requires.exists k none inside).0
-
-pub add-requires-clause-to : goal.add-requires-clause-to
-add-requires-clause-to c =
-    let items = c.adds_of-adding-items.ensures in
-    let k = c.loop-adding.adding-index in
-    let inside = subst (λ (xs : List Adding). k < length xs) items c.loop-adding-test.true in
-    subst (λ (xs : List Adding). (get_or xs k none).to ≤ 65535) (sym items) (adds_low c.args.table.now c.requires.small c.args.calc c.requires.exists k none inside).1
+    omega (arith, rank_below c.args.table.now c.args.calc c.requires.exists, c.requires.ranks, c.loop-adding.invariant.added.same)
 
 pub loop-adding-preserved : goal.loop-adding-preserved
 loop-adding-preserved c =
     let items = c.adds_of-adding-items.ensures in
     let k = c.loop-adding.adding-index in
     let rank = c.args.calc.rank in
-    let now = values c.loop-adding.store in
+    let now = values c.loop-adding.store.kept in
     let inside = subst (λ (xs : List Adding). k < length xs) items c.loop-adding-test.true in
-    let below : rank < c.args.store.now.ranks = omega (arith, rank_below c.args.table.now c.args.calc c.requires.exists, c.requires.ranks) in
+    let below : rank < c.args.store.now.kept.ranks = omega (arith, rank_below c.args.table.now c.args.calc c.requires.exists, c.requires.ranks) in
     let size = c.size_at.ensures.size ∙ ap (λ (xs : List Adding). length (now rank (get_or xs k none).from)) items in
     let few : c.held.result + c.args.others + c.size_at.result ≤ 2 ^ 24 = omega (arith, c.if-total-gt-MOST_HELD.false) in
     let put = c.in-Ok.ensures.added ∙ ap (λ (xs : List Adding). set_slot rank (get_or xs k none).to (merge (now rank (get_or xs k none).to) (now rank (get_or xs k none).from)) now) items in
-    added_next _ _ _ _ now _ _ k c.loop-adding.invariant none inside below (adds_low c.args.table.now c.requires.small c.args.calc c.requires.exists) c.size_at.result _ size (ap (λ (n : ℕ). n + c.args.others + c.size_at.result) c.held.ensures) few (values c.add.new.self) c.add.new.self.ranks put c.add.ensures.ranks
+    record {
+      added = added_next _ _ _ _ now _ _ k c.loop-adding.invariant.added none inside below (adds_low c.args.table.now c.requires.small c.args.calc c.requires.exists) c.size_at.result _ size (ap (λ (n : ℕ). n + c.args.others + c.size_at.result) c.held.ensures) few (values c.add.new.self.kept) c.add.new.self.kept.ranks put c.add.ensures.ranks;
+      grown = grown_more c.args.store.now.sums c.loop-adding.store.sums c.add.new.self.sums c.loop-adding.invariant.grown c.add.ensures.grown;
+    }

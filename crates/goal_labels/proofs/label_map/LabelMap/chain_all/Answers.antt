@@ -27,7 +27,7 @@ invariant_of-self-else-is_err c =
         found =
             inl
             (IsIndexed-read bytes c.deref-2.result.now held c.deref.result.now placed.new.chains placed.new.apart
-            c.deref-2.ensures.value c.deref.ensures.value (on_success placed.result c.if-is_err.ensures.value placed.ensures));
+            c.deref-2.ensures.value c.deref.ensures.value (on_success placed.result c.if-is_err.ensures.value placed.ensures.indexed));
         unique = c.self.invariant.1.unique;
       },
     )

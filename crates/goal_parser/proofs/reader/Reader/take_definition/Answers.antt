@@ -1,4 +1,4 @@
-use Rattle.std.proofs.Common.{refl, ◌+◌, ◌<◌, arith, List, [], ◌∷◌}
+use Rattle.std.proofs.Common.{refl, ◌+◌, arith, [], ◌∷◌}
 use Rattle.goal_lexer.specs.declared.tokens.Token.{Token}
 use Rattle.goal_lexer.specs.declared.tokens.TokenKind.TheVariants.{Colon}
 use Rattle.goal_parser.specs.FaultInText.{fault_in_text}

@@ -3,7 +3,7 @@ use Rattle.goal_graph.specs.Fault.{IsAccepted}
 use Rattle.sim_params.specs.Budget.{budget}
 use Rattle.sim_params.specs.Laws.{IsWithin}
 use Rattle.sim_params.specs.Run.{IsRun}
-use Rattle.sim_events.specs.Engine.{View}
+use Rattle.sim_state.specs.Engine.{View}
 use Rattle.sim_events.proofs.engine.Engine.known.Goals as goal
 
 pub returns-clause-accepted : goal.returns-clause-accepted

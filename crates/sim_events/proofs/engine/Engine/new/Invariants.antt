@@ -1,4 +1,4 @@
 use Rattle.sim_events.proofs.engine.Engine.new.Given as goal
 
-abbrev pub ghosts-fill_once : goal.ghosts-fill_once
-ghosts-fill_once g a = record { name = a.blank.name; parts = a.blank.parts }
+abbrev pub ghosts-at_the_start : goal.ghosts-at_the_start
+ghosts-at_the_start g a = record { name = a.counter.name; parts = a.counter.parts }

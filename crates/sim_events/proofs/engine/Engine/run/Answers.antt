@@ -4,7 +4,7 @@ use Rattle.sim_params.specs.Costs.{is_eager}
 use Rattle.sim_params.specs.Run.{IsRun, IsCompleteRun}
 use Rattle.sim_params.proofs.ForCallers.{within_budget, run_each, run_interleaving, complete_interleaving, one_complete}
 use Rattle.sim_events.specs.declared.engine.Engine.TheInside.{Inside}
-use Rattle.sim_events.specs.Engine.{View}
+use Rattle.sim_state.specs.Engine.{View}
 use Rattle.sim_events.specs.Outlook.{IsOutlook}
 use Rattle.sim_events.proofs.engine.Engine.run.Given.{Over}
 use Rattle.sim_events.proofs.engine.Engine.run.Goals.{Joined-self-2, in-Some, in_default}

@@ -6,6 +6,7 @@ use Rattle.sim_match.specs.Waiting.{is_message}
 use Rattle.sim_match.specs.Capacities.{empty_list}
 use Rattle.goal_graph.specs.Schedule.{operations}
 use Rattle.sim_match.proofs.Begun.{begins}
+use Rattle.sim_match.proofs.Unseen.{unseen_empty}
 use Rattle.sim_match.proofs.match_table.MatchTable.new.Goals as goal
 
 pub returns-clause-kept : goal.returns-clause-kept
@@ -18,5 +19,7 @@ returns-clause-kept c =
       few = omega (arith, c.count.ensures.count, c.count.ensures.small);
       as_many = receives ∙ sym sends;
       numbered = c.in_ok-numbers.ensures;
+      covered = rw (c.in_ok-receives.ensures, c.in_ok-sends.ensures, c.deref.ensures.value, c.deref-2.ensures.value) (omega (arith, unseen_empty Receives c.in_ok-capacities.capacities.items, unseen_empty Sends c.in_ok-capacities.capacities.items));
+      bounded = omega arith;
       mirrors = rw (c.in_ok-events.ensures.items, c.in_ok-receives.ensures, c.in_ok-sends.ensures, c.deref.ensures.value, c.deref-2.ensures.value) kept;
     }

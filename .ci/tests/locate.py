@@ -1,0 +1,87 @@
+#!/usr/bin/env python3
+"""Tests of tools/locate: bytes of refusals, words of machines, and operations as they are written."""
+import os
+import re
+import subprocess
+import sys
+import unittest
+
+TOP = os.path.dirname(os.path.dirname(os.path.dirname(os.path.abspath(__file__))))
+sys.path.insert(0, os.path.join(TOP, "tools"))
+from common import program
+from common.places import line_and_column, operations
+
+GOAL = program.chosen()
+TEXT = b"""/* rank 7 { calc 1 */ num_ranks 3
+rank 2 {
+\ta: calc 5 cpu 1 // a send 1b to 0
+\ta requires b  b : send /* so large */ 8b to 0 tag
+ 4 nic 1 b moves 0 to 3
+}
+rank 0{recv 8b from 2 tag 4 calc 7}// \xc3\xa4
+rank 1 { }"""
+
+
+def located(*words, text=None):
+    return subprocess.run([os.path.join(TOP, "tools", "locate"), *words], input=text, capture_output=True, check=False)
+
+
+class Operations(unittest.TestCase):
+    def test_they_are_found_as_written(self):
+        said = [(one.rank, one.number, str(one), line_and_column(TEXT, one.byte)[:2]) for one in operations(TEXT)]
+        self.assertEqual(said, [(2, 0, "a: calc 5 cpu 1", (3, 2)), (2, 1, "b: send 8b to 0 tag 4 nic 1", (4, 16)),
+                                (0, 0, "recv 8b from 2 tag 4", (7, 8)), (0, 1, "calc 7", (7, 29))])
+
+    def test_they_are_those_that_the_program_reads(self):
+        """Of each example: as many for each rank, of the same kind and size."""
+        folder = os.path.join(TOP, "examples")
+        for name in sorted(os.listdir(folder)):
+            shown = program.call(GOAL, ["show", os.path.join(folder, name)])
+            if shown.status == program.DONE:
+                with open(os.path.join(folder, name), "rb") as file:
+                    ours = [(one.rank, str(one).split(": ")[-1]) for one in operations(file.read())]
+                theirs = [(one.rank, str(one).split(": ")[-1]) for one in operations(shown.out.encode())]
+                self.assertEqual(len(ours), len(re.findall(r"^l\d+: ", shown.out, re.MULTILINE)), name)
+                self.assertTrue(all(there[1].startswith(here[1].split(" tag")[0].split(" cpu")[0]) and here[0] == there[0]
+                                    for here, there in zip(ours, theirs)), name)
+
+
+class Words(unittest.TestCase):
+    def test_a_byte_is_shown(self):
+        text = b"num_ranks 2\nrank 0 {\n\tsend 8b too 1\n}\n"
+        said = program.call(GOAL, ["sim", "/dev/stdin"], text.decode()).err
+        self.assertEqual(said, "goal: refused: text: syntax at 30")
+        self.assertEqual(located("-", "30", text=text).stdout.decode(), "-:3:10\n\tsend 8b too 1\n\t        ^\n")
+
+    def test_the_end_is_a_place(self):
+        self.assertEqual(located("-", "2", text=b"a\n").stdout, b"-:2:1\n\n^\n")
+        self.assertEqual(located("-", "0", text=b"").stdout, b"-:1:1\n\n^\n")
+
+    def test_columns_are_characters_and_long_lines_are_cut(self):
+        self.assertEqual(located("-", "3", text=b"\xc3\xa4 b").stdout.decode(), "-:1:3\nä b\n  ^\n")
+        said = located("-", "200", text=b"x" * 400).stdout.decode().split("\n")
+        self.assertEqual((said[0], said[1], said[2]), ("-:1:201", "x" * 120, " " * 60 + "^"))
+
+    def test_operations_are_shown_in_the_order_asked(self):
+        said = located("-", "0", "1", "2", "0", text=TEXT).stdout.decode()
+        self.assertEqual(said, "-:7:29: 0 1 is calc 7\n-:3:2: 2 0 is a: calc 5 cpu 1\n")
+
+    def test_a_word_of_a_machine(self):
+        machine = "classes 1\nclass 1 2 3 4 5 6 7\ninside 0 default 0"
+        said = program.call(GOAL, ["nodes", os.path.join(TOP, "examples", "one_calc"), "/dev/stdin"], machine).err
+        self.assertEqual(said, "goal: refused: machine: syntax at 10")
+        self.assertEqual(located("--word", "-", "10", text=machine.encode()).stdout.decode(),
+                         "-:3:1\ninside 0 default 0\n^\n")
+
+    def test_what_is_wrong_is_told_in_one_line(self):
+        for words, text, why in ((["-", "9"], b"abc", "- has only 3 bytes"), (["-", "0", "1"], b"num_ranks 1", "-: rank 0 has no operation 1"),
+                                 (["-", "0", "1", "2"], b"", "give one number"), (["--word", "-", "0", "1"], b"", "give one number"),
+                                 (["--word", "-", "3"], b"a b", "- has only 2 words"), (["-", "0"], b"\x89GOAL", "- is a compiled file"),
+                                 (["/no/such/file", "0"], b"", "/no/such/file: No such file"), (["-"], b"", "the following arguments")):
+            ended = located(*words, text=text)
+            self.assertEqual((ended.returncode, ended.stdout, ended.stderr.count(b"\n")), (2, b"", 1), words)
+            self.assertTrue(ended.stderr.decode().startswith(f"locate: {why}"), ended.stderr)
+
+
+if __name__ == "__main__":
+    unittest.main(verbosity=0)

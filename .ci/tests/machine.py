@@ -1,0 +1,103 @@
+#!/usr/bin/env python3
+"""Tests of tools/machine: the program takes what it writes, each message has the class that the description says, and what a
+description lacks is told."""
+import os
+import subprocess
+import sys
+import tempfile
+import unittest
+
+TOP = os.path.dirname(os.path.dirname(os.path.dirname(os.path.abspath(__file__))))
+sys.path.insert(0, os.path.join(TOP, "tools"))
+from common import program
+
+GOAL = program.chosen()
+CLASSES = "class a L=100 o=0 g=0 G=0\nclass b L=1000 o=0 g=0 G=0\nclass c L=10000 o=0 g=0 G=0\n"
+BOUNDS = "inside a\nbetween b\n"
+
+
+def written(description):
+    return subprocess.run([os.path.join(TOP, "tools", "machine"), "-"], input=description, capture_output=True, text=True, check=False)
+
+
+def latencies(machine, ranks, pairs):
+    """How long an empty message is on its way between the ranks of each pair."""
+    found = []
+    for source, target in pairs:
+        text = f"num_ranks {ranks} rank {source} {{ send 0b to {target} }} rank {target} {{ recv 0b from {source} }}"
+        with tempfile.NamedTemporaryFile("w") as file:
+            file.write(machine)
+            file.flush()
+            answer = program.expect(program.call(GOAL, ["nodes", "/dev/stdin", file.name], text), program.DONE)
+        found.append(int(answer.out.splitlines()[0].split()[-1]))
+    return found
+
+
+class Machines(unittest.TestCase):
+    def machine(self, description):
+        ended = written(description)
+        self.assertEqual((ended.returncode, ended.stderr), (0, ""))
+        return ended.stdout
+
+    def test_the_example_of_the_documents(self):
+        with open(os.path.join(TOP, "examples", "two_nodes"), encoding="utf-8") as file:
+            wanted = file.read()
+        said = self.machine("class net L=1500 o=400 g=300 G=0.080\nclass memory L=300 o=200 g=100 G=0.1 O=0.1 # shared\n"
+                            "nodes 2 of 8\ninside memory\nbetween net\n")
+        self.assertEqual(said, wanted)
+
+    def test_classes_go_by_distance(self):
+        said = self.machine(CLASSES + BOUNDS + "across c\nnodes 4 of 2\ngroups 2 of 2\n")
+        self.assertEqual(latencies(said, 8, [(0, 1), (0, 2), (3, 0), (0, 4), (7, 1), (4, 6)]), [100, 1000, 1000, 10000, 10000, 1000])
+
+    def test_the_same_where_more_pairs_are_near_than_far(self):
+        said = self.machine(CLASSES + BOUNDS + "across c\nnodes 5 of 1\ngroup 0-1 3-4\ngroup 2\n")
+        self.assertIn("default 1\n", said)
+        self.assertEqual(latencies(said, 5, [(0, 1), (0, 2), (2, 0), (0, 4), (2, 3)]), [1000, 10000, 10000, 1000, 10000])
+
+    def test_nodes_by_their_ranks(self):
+        said = self.machine(CLASSES + BOUNDS + "node 0 2 4\nnode 1 3 5\n")
+        self.assertIn("ranks 6\n0 1 0\n1 0 1\n", said)
+        self.assertEqual(latencies(said, 6, [(0, 2), (0, 1), (5, 1)]), [100, 1000, 100])
+
+    def test_pairs_have_their_own(self):
+        said = self.machine(CLASSES + BOUNDS + "nodes 4 of 1\npair 0 1 c\noneway 2 3 a\n")
+        self.assertEqual(latencies(said, 4, [(0, 1), (1, 0), (2, 3), (3, 2)]), [10000, 10000, 100, 1000])
+
+    def test_usual_values_are_those_of_sim(self):
+        said = self.machine("class a\nnodes 1 of 1\ninside a\nbetween a\n")
+        self.assertIn("class 2500 1500 1000 6 0 0 0 65535\n", said)
+
+    def test_the_largest(self):
+        said = self.machine(CLASSES + BOUNDS + "nodes 65536 of 1\n")
+        one_calc = "num_ranks 65536 rank 65535 { calc 7 }"
+        with tempfile.NamedTemporaryFile("w") as file:
+            file.write(said)
+            file.flush()
+            self.assertEqual(program.call(GOAL, ["nodes", "/dev/stdin", file.name], one_calc).status, program.DONE)
+
+    def test_what_is_wrong_is_told_in_one_line(self):
+        for description, why in (
+                ("nods 2 of 2", "-:1: 'nods' begins no line"), (CLASSES + "nodes 2 by 2", "-:4: it is `nodes COUNT of SIZE`"),
+                ("nodes 0 of 2", "-:1: both numbers are above 0"), ("nodes 300 of 300", "-:1: more than 65536 ranks"),
+                ("class a L=3 L=4", "-:1: L is told twice"), ("class a G=0.0801", "-:1: G is 0.0801"), ("class a X=1", "-:1: 'X=1' is no"),
+                ("class a Gp=1000", "-:1: Gp is 1000, and at most 999"), ("class a G=0.1 Gp=3", "-:1: Gp is told twice"),
+                ("class L=3", "-:1: a class is `class NAME"), ("class a\nclass a", "-:2: the class a is told twice"),
+                ("inside a\ninside b", "-:2: `inside` is told twice"), ("node 0\nnode 1 0", "-:2: rank 0 is in two nodes"),
+                ("node 3-1", "-:1: '3-1' is no range"), ("node", "-:1: the node is empty"), ("pair 0 1", "-:1: it is `pair A B NAME`"),
+                ("oneway 0 1 a\npair 1 0 a", "-:2: the pair 0 1 is told twice"),
+                ("", "-: there is no `inside NAME`"), (BOUNDS, "-: 0 classes"), (CLASSES + BOUNDS, "-: there are no nodes"),
+                (CLASSES + BOUNDS + "across c\nnodes 1 of 1", "-: `across` is between groups"),
+                (CLASSES + BOUNDS + "nodes 2 of 1\ngroups 1 of 2", "-: there is no `across NAME`"),
+                (CLASSES + BOUNDS + "across c\nnodes 3 of 1\ngroups 1 of 2", "-: node 2 is in no group"),
+                (CLASSES + BOUNDS + "across c\nnodes 3 of 1\ngroups 2 of 2", "-: node 3 is in a group, and there are 3 nodes"),
+                (CLASSES + BOUNDS + "node 0 2", "-: rank 1 is in no node"), (CLASSES + "inside a\nbetween d\nnodes 1 of 1", "-: there is no class d"),
+                (CLASSES + BOUNDS + "nodes 2 of 1\npair 0 2 c", "-: the pair 0 2 is none of two nodes"),
+                (CLASSES + BOUNDS + "across c\nnodes 1024 of 1\ngroups 2 of 512", "523264 pairs of nodes")):
+            ended = written(description)
+            self.assertEqual((ended.returncode, ended.stdout, ended.stderr.count("\n")), (2, "", 1), description)
+            self.assertTrue(ended.stderr.startswith(f"machine: {why}"), (description, ended.stderr))
+
+
+if __name__ == "__main__":
+    unittest.main(verbosity=0)

@@ -1,0 +1,234 @@
+#!/usr/bin/env python3
+"""Tests of tools/schedule: each algorithm is certified over many ranks, roots, segments and sizes, and in each segment; it
+ends with large messages and small ones; it has the messages, bytes and sums that its table says; and what is spoilt in its
+slots, needs or tags is refused."""
+import os
+import random
+import re
+import subprocess
+import sys
+import unittest
+from unittest import mock
+
+TOP = os.path.dirname(os.path.dirname(os.path.dirname(os.path.abspath(__file__))))
+sys.path.insert(0, os.path.join(TOP, "tools"))
+import segmented
+from algorithms import plan
+from algorithms.collectives import Wish
+from algorithms.table import ALGORITHMS, printed
+from common import command, program
+
+GOAL = program.chosen()
+SEED = 20261129
+SIZES = (0, 1, 7, 1000, 65537)
+LARGER = (32, 33, 64)
+
+
+def allowed(algorithm, ranks):
+    if algorithm.limit == "even":
+        return ranks % 2 == 0
+    return algorithm.limit == "any" or ranks & (ranks - 1) == 0
+
+
+def wishes(algorithm):
+    """Ranks up to 20 and some more; all roots of few ranks; segments 1 to 8; nodes of several sizes; each size in turn."""
+    draw = random.Random(SEED)
+    for ranks in (*range(1, 21), *LARGER):
+        if not allowed(algorithm, ranks):
+            continue
+        roots = range(ranks) if ranks <= 6 else (0, 1, draw.randrange(ranks), ranks - 1)
+        pairs = [(root, 1 + (ranks + root) % 8) for root in roots] if "root" in algorithm.options else [
+            (0, segments) for segments in ((1, 2, 3, 8) if ranks <= 8 else (1, 2))]
+        if "segments" not in algorithm.options:
+            pairs = sorted({(root, 1) for root, _ in pairs})
+        for root, segments in pairs:
+            for node in ((1, 2, 3, 8) if "node" in algorithm.options else (1,)):
+                yield Wish(ranks, draw.choice(SIZES), root, segments, node, draw.choice((0, 250)))
+
+
+def words_of(algorithm, wish):
+    return ["--root", str(wish.root)] if algorithm.kind() in program.ROOTED else []
+
+
+def segments_of(algorithm, wish):
+    """How many slots the vector is cut into."""
+    return len(algorithm.make(wish).sizes) if algorithm.kind() in ("bcast", "allreduce") else 1
+
+
+def verdict(algorithm, wish, text):
+    words = ["certify", algorithm.kind(), "/dev/stdin", *words_of(algorithm, wish)]
+    return program.expect(program.call(GOAL, words, text), program.DONE, program.NOT_CERTIFIED).out.strip()
+
+
+def fault_in(algorithm, wish, text):
+    """The first verdict on a segment that is not certified, or None."""
+    count = segments_of(algorithm, wish)
+    checks = segmented.Segments(GOAL, algorithm.kind(), text, count, 1, wish.root)
+    return next((fault for fault in map(checks.fault, range(count)) if fault), None)
+
+
+class Certified(unittest.TestCase):
+    def test_each_is_certified_and_ends(self):
+        for algorithm in ALGORITHMS:
+            for wish in wishes(algorithm):
+                with self.subTest(f"{algorithm.name} {wish}"):
+                    text = "".join(algorithm.make(wish).text())
+                    self.assertEqual(verdict(algorithm, wish, text), f"certified {algorithm.kind()} ranks {wish.ranks}")
+                    for options in ([], ["--S", "0"]):
+                        ended = program.call(GOAL, ["sim", "/dev/stdin", *options], text)
+                        self.assertRegex(ended.out, r"^ranks \d+ ops \d+ stuck 0 unread 0 finish ")
+
+    def test_each_segment_is_certified(self):
+        for algorithm in ALGORITHMS:
+            if algorithm.kind() in ("bcast", "allreduce"):
+                for wish in wishes(algorithm):
+                    if wish.ranks <= 9 and wish.segments <= 4:
+                        with self.subTest(f"{algorithm.name} {wish}"):
+                            self.assertIsNone(fault_in(algorithm, wish, "".join(algorithm.make(wish).text())))
+
+    def test_of_512_ranks_some_are_certified(self):
+        for algorithm in ALGORITHMS:
+            if algorithm.name in ("bcast-binary", "allreduce-halving-doubling", "allgather-bruck", "alltoall-bruck", "gather-tree"):
+                wish = Wish(512, 1001)
+                text = "".join(algorithm.make(wish).text())
+                self.assertEqual(verdict(algorithm, wish, text), f"certified {algorithm.kind()} ranks 512", algorithm.name)
+
+    def test_the_text_is_canonical(self):
+        for algorithm in ALGORITHMS:
+            text = "".join(algorithm.make(Wish(8, 1001, sum_ps=333)).text())
+            self.assertEqual(program.call(GOAL, ["show", "/dev/stdin"], text).out, text, algorithm.name)
+
+
+def changed(text, line, new):
+    """The text with this line, by number, replaced, or left out where there is no new one."""
+    lines = text.split("\n")
+    return "\n".join(lines[:line] + ([] if new is None else [new]) + lines[line + 1:])
+
+
+def lines_with(text, form):
+    return [number for number, line in enumerate(text.split("\n")) if re.search(form, line)]
+
+
+class Spoilt(unittest.TestCase):
+    """Changes at places that are drawn, in schedules of six ranks and of eight."""
+
+    def cases(self):
+        draw = random.Random(SEED)
+        for algorithm in ALGORITHMS:
+            for ranks in (6, 8):
+                if allowed(algorithm, ranks):
+                    segments = 2 if "segments" in algorithm.options else 1
+                    wish = Wish(ranks, 1000, segments=segments, node=3 if "node" in algorithm.options else 1)
+                    yield draw, algorithm, wish, "".join(algorithm.make(wish).text())
+
+    def test_a_note_with_another_slot_is_refused(self):
+        """The next slot. In a broadcast a piece that a rank has already may go anywhere but into another piece."""
+        for draw, algorithm, wish, text in self.cases():
+            pieces = segments_of(algorithm, wish) if algorithm.kind() == "bcast" else 1 << 16
+            lines = [line for line in lines_with(text, "moves|adds") if int(text.split("\n")[line].split()[-1]) + 1 < pieces]
+            for line in draw.sample(lines, 4):
+                label, word, low, _, high = text.split("\n")[line].split()
+                other = f"{label} {word} {int(low) + 1} to {int(high) + (word == 'moves')}"
+                with self.subTest(f"{algorithm.name} {wish}: line {line + 1} is {other}"):
+                    self.assertIsNotNone(fault_in(algorithm, wish, changed(text, line, other)))
+
+    def test_each_need_but_those_of_steps_is_needed(self):
+        for draw, algorithm, wish, text in self.cases():
+            if algorithm.name != "alltoall-pairwise":
+                needs = lines_with(text, "requires")
+                for line in draw.sample(needs, min(6, len(needs))):
+                    with self.subTest(f"{algorithm.name} {wish}: without line {line + 1}"):
+                        self.assertRegex(verdict(algorithm, wish, changed(text, line, None)), "^not certified: race ")
+
+    def test_another_tag_is_refused(self):
+        for draw, algorithm, wish, text in self.cases():
+            for line in draw.sample(lines_with(text, "tag"), 3):
+                other = re.sub(r"tag (\d+)", lambda tag: f"tag {int(tag[1]) + 1}", text.split("\n")[line])
+                with self.subTest(f"{algorithm.name} {wish}: line {line + 1} is {other}"):
+                    self.assertRegex(verdict(algorithm, wish, changed(text, line, other)), "^not certified: (unpaired|double)")
+
+
+# of P = 8, K = 2, N = 4 and so M = 2, n = 8000 and b = 1000 where the table says a formula: the messages, and their bytes
+TOLD = {
+    "bcast-chain": (7 * 2, 7 * 8000),
+    "bcast-binary": (7 * 2, 7 * 8000),
+    "bcast-scatter-allgather": (7 * 9, 7 * 8000 + 8000 // 2 * 3),
+    "allreduce-ring": (2 * 8 * 7 * 2, 2 * 7 * 8000),
+    "allreduce-halving-doubling": (2 * 8 * 3, 2 * 7 * 8000),
+    "allreduce-reduce-bcast": (2 * 7 * 2, 2 * 7 * 8000),
+    "allreduce-two-level": (2 * 6 + 2 * 2, 2 * 7 * 8000),
+    "allgather-doubling": (8 * 3, 8 * 7 * 1000),
+    "allgather-bruck": (8 * 3, 8 * 7 * 1000),
+    "allgather-neighbour": (8 * 8 // 2, 8 * 7 * 1000),
+    "alltoall-bruck": (8 * 3, 8 * 8 // 2 * 3 * 1000),
+    "alltoall-pairwise": (8 * 7, 8 * 7 * 1000),
+    "barrier-tree": (2 * 7, 2 * 7 * 1000),
+    "gather-tree": (7, 8 // 2 * 3 * 1000),
+    "scatter-tree": (7, 8 // 2 * 3 * 1000),
+}
+
+
+class Table(unittest.TestCase):
+    def sends(self, name, wish):
+        algorithm = next(algorithm for algorithm in ALGORITHMS if algorithm.name == name)
+        return [int(size) for size in re.findall(r": send (\d+)b", "".join(algorithm.make(wish).text()))]
+
+    def test_messages_and_bytes_are_as_told(self):
+        self.assertEqual(set(TOLD), {algorithm.name for algorithm in ALGORITHMS})
+        for algorithm in ALGORITHMS:
+            wish = Wish(8, 8000 if algorithm.kind() in ("bcast", "allreduce") else 1000, node=4,
+                        segments=2 if "segments" in algorithm.options else 1)
+            sends = self.sends(algorithm.name, wish)
+            self.assertEqual((len(sends), sum(sends)), TOLD[algorithm.name], algorithm.name)
+
+    def test_six_ranks_of_which_four_take_part(self):
+        sends = self.sends("allreduce-halving-doubling", Wish(6, 4000))
+        self.assertEqual((len(sends), sum(sends)), (2 * 4 * 2 + 2 * 2, 2 * 5 * 4000))
+
+    def test_pieces_differ_by_a_byte(self):
+        self.assertEqual(self.sends("bcast-chain", Wish(2, 10, segments=4)), [2, 3, 2, 3])
+
+    def test_a_sum_is_rounded_up(self):
+        algorithm = next(algorithm for algorithm in ALGORITHMS if algorithm.name == "allreduce-reduce-bcast")
+        text = "".join(algorithm.make(Wish(2, 1001, sum_ps=333)).text())
+        self.assertEqual(re.findall(r": calc (\d+)", text), ["334"])
+
+    def test_more_than_a_schedule_may_have_is_a_fault(self):
+        for most, what in (("MOST_OPERATIONS", "operations"), ("MOST_NEEDS", "dependencies"), ("MOST_NOTES", "notes")):
+            with mock.patch.object(plan, most, 5), self.assertRaisesRegex(command.Fault, f"^more than 5 {what}: "):
+                ALGORITHMS[0].make(Wish(9, 8, segments=2))
+
+    def test_the_documents_have_it(self):
+        with open(os.path.join(TOP, "docs", "COLLECTIVES.md"), encoding="utf-8") as file:
+            self.assertIn(printed(), file.read())
+
+
+class Words(unittest.TestCase):
+    def ended(self, *words):
+        return subprocess.run([os.path.join(TOP, "tools", "schedule"), *words], capture_output=True, encoding="utf-8", check=False)
+
+    def test_the_list_is_the_table(self):
+        self.assertEqual(self.ended("--list").stdout.strip(), printed())
+
+    def test_what_is_wrong_is_told_in_one_line(self):
+        for words, why in (
+                ("bcast-chain 4 8 --root 4", "the root 4 is none of 4 ranks"),
+                ("bcast-chain 4 8 --node 2", "bcast-chain takes no --node"),
+                ("barrier-tree 4 8 --sum-ps 2", "barrier-tree takes no --sum-ps"),
+                ("allgather-doubling 6 8", "allgather-doubling needs a power of two of ranks"),
+                ("allgather-neighbour 7 8", "allgather-neighbour needs an even number of ranks"),
+                ("bcast-chain 2 1099511627775 --segments 1", None),
+                ("gather-tree 4 1099511627775", "a message of 2199023255550 bytes: it has at most 1099511627775"),
+                ("allreduce-reduce-bcast 2 1099511627775 --sum-ps 999999999", "a sum of"),
+                ("bcast-chain 0 8", "argument RANKS: '0' is no number from 1 up to 65536"),
+                ("bcast-line 4 8", "argument ALGORITHM: invalid choice")):
+            ended = self.ended(*words.split())
+            if why is None:
+                self.assertEqual((ended.returncode, ended.stderr), (0, ""), words)
+            else:
+                self.assertEqual((ended.returncode, ended.stdout, ended.stderr.count("\n")), (2, "", 1), words)
+                self.assertTrue(ended.stderr.startswith(f"schedule: {why}"), ended.stderr)
+
+
+if __name__ == "__main__":
+    unittest.main(verbosity=0)

@@ -1,0 +1,216 @@
+-- What is certified is certified on other ranks, where few enough contributions are held along its walk there.
+use Rattle.std.proofs.Common.{ℕ, zero, suc, ◌+◌, ◌^◌, ◌<◌, ◌≤◌, ◌≡◌, inl, inr, ⊎_elim, Bool, true, List, [], ◌∷◌, length, All, Contains, Option, Some, None, is_some, get_or, slice_get, unwrap_or, refl, sym, ap, ◌∙◌, subst, arith}
+use Rattle.std.specs.Option.{option_map}
+use Rattle.std.specs.List.{sum_by}
+use Rattle.std.proofs.lemmas.List.{length-map}
+use Rattle.std.proofs.lemmas.List.Sums.{sum_by-cons}
+use Rattle.std.proofs.lemmas.Option.{slice_get-get_or}
+use Rattle.goal_graph.specs.declared.action.OpId.{OpId}
+use Rattle.goal_graph.specs.declared.plan.Kind.{Kind}
+use Rattle.goal_graph.specs.declared.plan.Kind.TheVariants.{Calc, Send, Recv}
+use Rattle.goal_graph.specs.declared.plan.Need.{Need}
+use Rattle.goal_graph.specs.Schedule.{Plan, kind_at}
+use Rattle.goal_graph.specs.Action.{Act}
+use Rattle.goal_graph.specs.Laws.{IsSend, IsReceive}
+use Rattle.goal_blocks.specs.Channels.{Channel, channel, AreOfOneChannel}
+use Rattle.goal_blocks.specs.Slots.{slots, adds, written_in, touched_in, written, touched}
+use Rattle.goal_blocks.specs.Walk.{no_send, IsWalk}
+use Rattle.goal_blocks.specs.Matched.{IsMatched}
+use Rattle.goal_blocks.specs.Race.{Reaches, here, through, EndsBefore, Conflict, HasNoRace}
+use Rattle.goal_blocks.specs.Values.{Contribution, Value, Store}
+use Rattle.goal_blocks.specs.Weight.{sum_below}
+use Rattle.goal_blocks.specs.Certification.{NamesLowSlots, moved_count, IsSmall, HasEqualLengths, IsLight, IsCertified}
+use Rattle.goal_blocks.specs.Placed.{IsPermutation, IsPlaced, placed_op, placed_kind, placed_of, placed_plan, plan_at, placed, relabelled, AsksNoMore}
+use Rattle.goal_blocks.proofs.Matched.{ends_in_its_pairs}
+use Rattle.goal_blocks.proofs.SomeWalk.{some_walk}
+use Rattle.goal_blocks.proofs.Right.{certified_right}
+use Rattle.goal_blocks.proofs.SumPermuted.{sum_permuted}
+use Rattle.goal_blocks.proofs.SlotSums.{sum_same}
+use Rattle.goal_blocks.proofs.PlacedPlans.{turned, length_placed, plan_placed_at, placed_is, there_and_back, placed_back}
+use Rattle.goal_blocks.proofs.PlacedRight.{kinds, send_placed, receive_placed, placed_channel, channel_placed, joined_placed, before, complete_before, ends_placed, placed_right}
+
+-- sums over plans, by rank
+module _ (f : Plan → ℕ) where
+  sum_first : (n : ℕ) (g : ℕ → ℕ) → sum_below (suc n) g ≡ g 0 + sum_below n (λ k. g (suc k))
+  unfolding sum_below
+  sum_first zero g = omega arith
+  sum_first (suc n) g = let rest = sum_first n g in omega (arith, rest)
+
+  sum_nothing : (g : ℕ → ℕ) → 0 ≡ sum_below 0 g
+  unfolding sum_below
+  sum_nothing g = refl
+
+  sum_by_rank : (plans : List Plan) → sum_by f plans ≡ sum_below (length plans) (λ r. f (plan_at plans r))
+  sum_by_rank [] = sum_nothing (λ r. f (plan_at [] r))
+  sum_by_rank (p ∷ ps) =
+      sum_by-cons f p ps ∙ (ap (λ (n : ℕ). f p + n) (sum_by_rank ps) ∙ sym (sum_first (length ps) (λ r. f (plan_at (p ∷ ps) r))))
+
+  -- of the plans on other ranks
+  sum_placed : (to back : ℕ → ℕ) (plans : List Plan) → IsPermutation (length plans) to back → ((p : Plan) → f (placed_plan to p) ≡ f p) → sum_by f (placed to back plans) ≡ sum_by f plans
+  sum_placed to back plans perm same =
+      sum_by_rank (placed to back plans)
+      ∙ (ap (λ (n : ℕ). sum_below n (λ r. f (plan_at (placed to back plans) r))) (length_placed to back plans perm)
+      ∙ (sum_same (length plans) (λ r. f (plan_at (placed to back plans) r)) (λ r. f (plan_at plans (back r))) each
+      ∙ (sum_permuted (length plans) to back perm.back_to perm.to_back (turned (length plans) to back perm).within perm.within (λ r. f (plan_at plans r)) ∙ sym (sum_by_rank plans))))
+    where
+      each : (r : ℕ) → r < length plans → f (plan_at (placed to back plans) r) ≡ f (plan_at plans (back r))
+      each r low =
+          let size = length_placed to back plans perm in
+          let d : Plan = placed_plan to (plan_at plans (back r)) in
+          ap (λ (o : Option Plan). f (unwrap_or o (record { ops = []; deps = []; notes = [] }))) (slice_get-get_or (placed to back plans) r d (omega (arith, low, size)) ∙ ap (λ (p : Plan). Some p) (plan_placed_at to back plans perm r d low)) ∙ same (plan_at plans (back r))
+
+module _ (to back : ℕ → ℕ) (plans : List Plan) (perm : IsPermutation (length plans) to back) where
+  abbrev other : List Plan
+  other = placed to back plans
+
+  abbrev is : IsPlaced to plans other
+  is = placed_is to back plans perm
+
+  abbrev perm_back : IsPermutation (length plans) back to
+  perm_back = turned (length plans) to back perm
+
+  abbrev is_back : IsPlaced back other plans
+  is_back = placed_back (length plans) to back perm plans other is
+
+  -- what is true of each plan is true of each on other ranks
+  all_placed : (P : Plan → Type 0) → ((p : Plan) → P p → P (placed_plan to p)) → All P plans → All P other
+  all_placed P same all r d low =
+      let size = length_placed to back plans perm in
+      let inside : r < length plans = omega (arith, low, size) in
+      let there : back r < length plans = perm_back.within r inside in
+      subst P (sym (plan_placed_at to back plans perm r d inside)) (same (plan_at plans (back r)) (subst P (known (back r) there) (all (back r) (plan_at plans (back r)) there)))
+    where
+      known : (r : ℕ) → r < length plans → get_or plans r (plan_at plans r) ≡ plan_at plans r
+      known r low = go (slice_get plans r) (slice_get-get_or plans r (plan_at plans r) low)
+        where
+          go : (o : Option Plan) → o ≡ Some (get_or plans r (plan_at plans r)) → get_or plans r (plan_at plans r) ≡ unwrap_or o (record { ops = []; deps = []; notes = [] })
+          go None e = cc e
+          go (Some p) e = cc e
+
+  small_placed : IsSmall plans → IsSmall other
+  small_placed small = record {
+    operations = all_placed (λ (p : Plan). length p.ops ≤ 2048) (λ p few. subst (λ (n : ℕ). n ≤ 2048) (sym (length-map p.ops (placed_of to))) few) small.operations;
+    slots = all_placed (λ (p : Plan). All NamesLowSlots p.notes) (λ p low. low) small.slots;
+    moves = subst (λ (n : ℕ). n ≤ 2 ^ 24) (sym (sum_placed (λ (p : Plan). sum_by moved_count p.notes) to back plans perm (λ p. refl))) small.moves;
+  }
+
+  same_op_of : (x y : OpId) → placed_op back x ≡ placed_op back y → x ≡ y
+  same_op_of x y e =
+      sym (there_and_back (length plans) to back perm x) ∙ (ap (placed_op to) e ∙ there_and_back (length plans) to back perm y)
+
+  -- an operation, seen from the ranks as they were
+  send_back : (m : OpId) → IsSend other m → IsSend plans (placed_op back m)
+  send_back m s = send_placed (length plans) back to perm_back other plans is_back m s
+
+  receive_back : (x : OpId) → IsReceive other x → IsReceive plans (placed_op back x)
+  receive_back x r =
+      receive_placed (length plans) back to perm_back other plans is_back x r
+
+  channel_back : (x : OpId) (c : Channel) → channel other x ≡ Some c → channel plans (placed_op back x) ≡ Some (placed_channel (length plans) back to perm_back other plans is_back c)
+  channel_back x c e =
+      channel_placed (length plans) back to perm_back other plans is_back x ∙ ap (option_map (placed_channel (length plans) back to perm_back other plans is_back)) e
+
+  joined_to : (m x : OpId) → AreOfOneChannel plans (placed_op back m) x → AreOfOneChannel other m (placed_op to x)
+  joined_to m x one =
+      subst (λ (z : OpId). AreOfOneChannel other z (placed_op to x)) (there_and_back (length plans) to back perm m) (joined_placed (length plans) to back perm plans other is (placed_op back m) x one)
+
+  joined_from : (m x : OpId) → AreOfOneChannel plans m (placed_op back x) → AreOfOneChannel other (placed_op to m) x
+  joined_from m x one =
+      subst (λ (z : OpId). AreOfOneChannel other (placed_op to m) z) (there_and_back (length plans) to back perm x) (joined_placed (length plans) to back perm plans other is m (placed_op back x) one)
+
+  abbrev matched_placed : IsMatched plans → IsMatched other
+  matched_placed m = record {
+    no_wildcard = λ x room from tag e. wildcard from tag (m.no_wildcard (placed_op back x) room (option_map back from) tag (kinds (length plans) back to perm_back other plans is_back x ∙ ap (option_map (placed_kind back)) e));
+    no_double_channel = record {
+      sends = λ x y c is_x is_y of_x of_y. same_op_of x y (m.no_double_channel.sends (placed_op back x) (placed_op back y) (placed_channel (length plans) back to perm_back other plans is_back c) (send_back x is_x) (send_back y is_y) (channel_back x c of_x) (channel_back y c of_y));
+      receives = λ x y c is_x is_y of_x of_y. same_op_of x y (m.no_double_channel.receives (placed_op back x) (placed_op back y) (placed_channel (length plans) back to perm_back other plans is_back c) (receive_back x is_x) (receive_back y is_y) (channel_back x c of_x) (channel_back y c of_y));
+    };
+    no_unpaired = record {
+      sends = λ x s. let p = m.no_unpaired.sends (placed_op back x) (send_back x s) in (placed_op to p.0, joined_to x p.0 p.1);
+      receives = λ x r. let p = m.no_unpaired.receives (placed_op back x) (receive_back x r) in (placed_op to p.0, joined_from p.0 x p.1);
+    };
+    no_stall = let w = some_walk other in record {
+      walk = w.0;
+      is_walk = w.1;
+      all_end = (ends_placed (length plans) to back perm plans other is no_send w.0 (ends_in_its_pairs plans no_send (before (length plans) to back perm plans other is no_send w.0) m (complete_before (length plans) to back perm plans other is no_send w.0 w.1.complete))).all_end;
+    };
+  }
+    where
+      wildcard : (from tag : Option ℕ) → (is_some (option_map back from) ≡ true) × (is_some tag ≡ true) → (is_some from ≡ true) × (is_some tag ≡ true)
+      wildcard None tag p = p
+      wildcard (Some source) tag p = (refl, p.1)
+
+  lengths_placed : HasEqualLengths plans → HasEqualLengths other
+  lengths_placed same m x one =
+      ap length (sym (is_back.moves m)) ∙ (same (placed_op back m) (placed_op back x) (joined_placed (length plans) back to perm_back other plans is_back m x one) ∙ ap length (is_back.moves x))
+
+  touched_back : (x : OpId) → touched plans (placed_op back x) ≡ touched other x
+  unfolding touched
+  touched_back x =
+      (λ i. touched_in (kinds (length plans) back to perm_back other plans is_back x i) (is_back.moves x i) (is_back.adds x i)) ∙ go (kind_at other x)
+    where
+      go : (k : Option Kind) → touched_in (option_map (placed_kind back) k) (slots other x) (adds other x) ≡ touched_in k (slots other x) (adds other x)
+      go None = refl
+      go (Some (Calc nanos)) = refl
+      go (Some (Send bytes target tag)) = refl
+      go (Some (Recv room source tag)) = refl
+
+  written_back : (x : OpId) → written plans (placed_op back x) ≡ written other x
+  unfolding written
+  written_back x =
+      (λ i. written_in (kinds (length plans) back to perm_back other plans is_back x i) (is_back.moves x i) (is_back.adds x i)) ∙ go (kind_at other x)
+    where
+      go : (k : Option Kind) → written_in (option_map (placed_kind back) k) (slots other x) (adds other x) ≡ written_in k (slots other x) (adds other x)
+      go None = refl
+      go (Some (Calc nanos)) = refl
+      go (Some (Send bytes target tag)) = refl
+      go (Some (Recv room source tag)) = refl
+
+  reaches_placed : {y z : OpId} → Reaches plans y z → Reaches other (placed_op to y) (placed_op to z)
+  reaches_placed here = here
+  reaches_placed (through {y = y} d has more) =
+      through d (subst (λ (ns : List Need). Contains ns d) (sym (is.needs y)) has) (reaches_placed more)
+
+  before_placed : (x y : OpId) → EndsBefore plans x y → EndsBefore other (placed_op to x) (placed_op to y)
+  before_placed x y b = record {
+    by = placed_op to b.by;
+    reached = reaches_placed b.reached;
+    need = b.need;
+    is_need = subst (λ (ns : List Need). Contains ns b.need) (sym (is.needs b.by)) b.is_need;
+    at_end = b.at_end;
+    names = ap (placed_op to) b.names;
+  }
+
+  before_there : (x y : OpId) → EndsBefore plans (placed_op back x) (placed_op back y) → EndsBefore other x y
+  before_there x y b =
+      subst (λ (z : OpId). EndsBefore other z y) (there_and_back (length plans) to back perm x) (subst (λ (z : OpId). EndsBefore other (placed_op to (placed_op back x)) z) (there_and_back (length plans) to back perm y) (before_placed (placed_op back x) (placed_op back y) b))
+
+  conflict_back : (x y : OpId) → Conflict other x y → Conflict plans (placed_op back x) (placed_op back y)
+  conflict_back x y c = record {
+    one_rank = ap back c.one_rank;
+    two = λ e. c.two (same_op_of x y e);
+    slot = c.slot;
+    is_touched = subst (λ (ks : List ℕ). Contains ks c.slot) (sym (touched_back x)) c.is_touched;
+    is_written = subst (λ (ks : List ℕ). Contains ks c.slot) (sym (written_back y)) c.is_written;
+  }
+
+  no_race_placed : HasNoRace plans → HasNoRace other
+  no_race_placed none x y c =
+      ⊎_elim (λ b. inl (before_there x y b)) (λ b. inr (before_there y x b)) (none (placed_op back x) (placed_op back y) (conflict_back x y c))
+
+  pub placed_certified : (label : Contribution → Contribution) (first start : Store) (wanted wish : ℕ → ℕ → Value → Bool)
+      → ((rank slot : ℕ) → start (to rank) slot ≡ relabelled label (first rank slot))
+      → AsksNoMore to label (length plans) wanted wish
+      → ((w : List Act) → IsWalk other w → IsLight other start w)
+      → IsCertified plans first wanted
+      → IsCertified other start wish
+  placed_certified label first start wanted wish starts asks light c =
+      let w = some_walk other in
+      record {
+        small = small_placed c.small;
+        matched = matched_placed c.matched;
+        lengths = lengths_placed c.lengths;
+        no_race = no_race_placed c.no_race;
+        light = light w.0 w.1;
+        right = (placed_right to back plans other label first start wanted wish perm is starts asks (certified_right plans first wanted c) no_send w.0 w.1.complete).wanted_held;
+      }

@@ -1,0 +1,89 @@
+-- A schedule whose notes are renamed is no larger.
+use Rattle.std.proofs.Common.{ℕ, zero, suc, ◌+◌, ◌-◌, ◌^◌, ◌≤◌, ◌≡◌, List, [], ◌∷◌, length, map, flat_map, All, refl, sym, ap, ◌∙◌, subst, arith}
+use Rattle.std.specs.List.{sum_by}
+use Rattle.std.proofs.lemmas.List.Concat.{flat_map-cons}
+use Rattle.std.proofs.lemmas.List.Elements.{All-nil, All-cons, All-head, All-tail, All-append}
+use Rattle.std.proofs.lemmas.List.Sums.{sum_by-cons, sum_by-append}
+use Rattle.goal_graph.specs.declared.plan.Note.{Note}
+use Rattle.goal_graph.specs.declared.plan.Note.TheVariants.{Moves, Adds}
+use Rattle.goal_graph.specs.Schedule.{Plan}
+use Rattle.goal_blocks.specs.Slots.{slots_from}
+use Rattle.goal_blocks.specs.Certification.{NamesLowSlots, moved_count, IsSmall}
+use Rattle.goal_blocks.specs.Renamed.{renamed_note, renamed_plan, renamed_from, renamed, KeepsSlots}
+
+module _ (name : ℕ → ℕ) (low : (slot : ℕ) → slot ≤ 65535 → name slot ≤ 65535) where
+  abbrev one : ℕ → ℕ → Note
+  one op slot = Moves op (name slot) (name slot)
+
+  low_moves : (op lo n : ℕ) → lo + n ≤ 65536 → All NamesLowSlots (map (one op) (slots_from lo n))
+  unfolding slots_from
+  low_moves op lo zero h = All-nil NamesLowSlots
+  low_moves op lo (suc n) h =
+      let here = low lo (omega (arith, h)) in
+      All-cons NamesLowSlots (one op lo) (map (one op) (slots_from (lo + 1) n)) (here, here) (low_moves op (lo + 1) n (omega (arith, h)))
+
+  low_note : (n : Note) → NamesLowSlots n → All NamesLowSlots (renamed_note name n)
+  low_note (Moves op lo hi) h =
+      low_moves op lo (hi + 1 - lo) (let a = h.0 in let b = h.1 in omega (arith, a, b))
+  low_note (Adds op from to) h =
+      All-cons NamesLowSlots (Adds op (name from) (name to)) [] (low from h.0, low to h.1) (All-nil NamesLowSlots)
+
+  low_notes : (ns : List Note) → All NamesLowSlots ns → All NamesLowSlots (flat_map (renamed_note name) ns)
+  low_notes [] h = All-nil NamesLowSlots
+  low_notes (n ∷ ns) h =
+      subst (λ (ms : List Note). All NamesLowSlots ms) (sym (flat_map-cons (renamed_note name) n ns)) (All-append NamesLowSlots (renamed_note name n) (flat_map (renamed_note name) ns) (low_note n (All-head NamesLowSlots n ns h)) (low_notes ns (All-tail NamesLowSlots n ns h)))
+
+  count_moves : (op lo n : ℕ) → sum_by moved_count (map (one op) (slots_from lo n)) ≡ n
+  unfolding slots_from
+  count_moves op lo zero = refl
+  count_moves op lo (suc n) =
+      let here : name lo + 1 - name lo ≡ 1 = omega arith in
+      let rest = count_moves op (lo + 1) n in
+      sum_by-cons moved_count (one op lo) (map (one op) (slots_from (lo + 1) n)) ∙ omega (arith, here, rest)
+
+  count_note : (n : Note) → sum_by moved_count (renamed_note name n) ≡ moved_count n
+  count_note (Moves op lo hi) = count_moves op lo (hi + 1 - lo)
+  count_note (Adds op from to) = refl
+
+  count_notes : (ns : List Note) → sum_by moved_count (flat_map (renamed_note name) ns) ≡ sum_by moved_count ns
+  count_notes [] = refl
+  count_notes (n ∷ ns) =
+      ap (sum_by moved_count) (flat_map-cons (renamed_note name) n ns) ∙ sum_by-append moved_count (renamed_note name n) (flat_map (renamed_note name) ns)
+      ∙ (λ i. count_note n i + count_notes ns i) ∙ sym (sum_by-cons moved_count n ns)
+
+abbrev FewOps : Plan → Type 0
+FewOps p = length p.ops ≤ 2048
+
+abbrev LowNotes : Plan → Type 0
+LowNotes p = All NamesLowSlots p.notes
+
+abbrev moved : Plan → ℕ
+moved p = sum_by moved_count p.notes
+
+module _ (name : ℕ → ℕ → ℕ) where
+  few_ops : (rank : ℕ) (plans : List Plan) → All FewOps plans → All FewOps (renamed_from name rank plans)
+  unfolding renamed_from
+  few_ops rank [] h = All-nil FewOps
+  few_ops rank (p ∷ ps) h =
+      All-cons FewOps (renamed_plan (name rank) p) (renamed_from name (rank + 1) ps) (All-head FewOps p ps h) (few_ops (rank + 1) ps (All-tail FewOps p ps h))
+
+  low_slots : KeepsSlots name → (rank : ℕ) (plans : List Plan) → All LowNotes plans → All LowNotes (renamed_from name rank plans)
+  unfolding renamed_from
+  low_slots low rank [] h = All-nil LowNotes
+  low_slots low rank (p ∷ ps) h =
+      All-cons LowNotes (renamed_plan (name rank) p) (renamed_from name (rank + 1) ps) (low_notes (name rank) (low.low rank) p.notes (All-head LowNotes p ps h)) (low_slots low (rank + 1) ps (All-tail LowNotes p ps h))
+
+  same_moves : KeepsSlots name → (rank : ℕ) (plans : List Plan) → sum_by moved (renamed_from name rank plans) ≡ sum_by moved plans
+  unfolding renamed_from
+  same_moves low rank [] = refl
+  same_moves low rank (p ∷ ps) =
+      sum_by-cons moved (renamed_plan (name rank) p) (renamed_from name (rank + 1) ps)
+      ∙ (λ i. count_notes (name rank) (low.low rank) p.notes i + same_moves low (rank + 1) ps i)
+      ∙ sym (sum_by-cons moved p ps)
+
+  pub renamed_small : (plans : List Plan) → KeepsSlots name → IsSmall plans → IsSmall (renamed name plans)
+  renamed_small plans low small = record {
+    operations = few_ops 0 plans small.operations;
+    slots = low_slots low 0 plans small.slots;
+    moves = subst (λ (n : ℕ). n ≤ 2 ^ 24) (sym (same_moves low 0 plans)) small.moves;
+  }

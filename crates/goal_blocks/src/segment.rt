@@ -1,0 +1,94 @@
+// Segments of a collective, each in a block of slots of its own.
+ghost use Rattle.std.specs.Prelude.{◌≡◌, ◌+◌, ◌*◌, ◌^◌, ◌≤◌, ◌++◌, flat_map, IfOk, OnOk};
+ghost use Rattle.goal_graph.specs.declared.plan.Note.TheVariants.{Moves};
+ghost use Rattle.goal_blocks.specs.Renamed.{renamed_note};
+ghost use Rattle.goal_blocks.specs.Segments.{exchange};
+
+use goal_base::NoMemory;
+use goal_graph::Note;
+use std::alloc::{AllocError, Global};
+
+/// A segment of a collective: it is done in a block of slots as the collective is done in the first ones. The segment of
+/// that number has the slots `block` times `width` up to `width` - 1 more.
+#[derive(Clone, Copy, Debug, PartialEq, Eq)]
+pub struct Segment {
+    /// How many slots a block has, which are those that the collective names.
+    pub width: u32,
+    /// The number of the block, from 0.
+    pub block: u32,
+}
+
+impl Segment {
+    /// The first segment, in which a collective is done as it is.
+    #[must_use]
+    pub const fn first() -> Segment
+        ensures { result ≡ record { width = 0; block = 0 } }
+    {
+        Segment { width: 0, block: 0 }
+    }
+
+    /// The slot for which this one is exchanged: those of the first block and those of its own are, each for the one at
+    /// its place.
+    #[must_use]
+    pub fn exchanged(self, slot: u32) -> u32
+        requires { self.block * self.width + self.width ≤ 2 ^ 32 }
+        ensures { result ≡ exchange self.width self.block slot }
+    {
+        let from = self.block * self.width;
+        if slot < self.width {
+            from + slot
+        } else if slot >= from && slot - from < self.width {
+            slot - from
+        } else {
+            slot
+        }
+    }
+
+    /// The notes of a rank with the two blocks exchanged in them: a move of many slots becomes one of each of them.
+    /// `NoMemory` where memory ran out.
+    pub fn exchanged_notes(self, alloc: Global, notes: &[Note]) -> Result<Vec<Note>, NoMemory>
+        requires { self.block * self.width + self.width ≤ 2 ^ 32 }
+        ensures { IfOk result (λ v. v.items ≡ flat_map (renamed_note (exchange self.width self.block)) notes.now) }
+    {
+        let mut list = Vec::new(alloc);
+        for note in notes {
+            self.push_exchanged(&mut list, *note)?;
+        }
+        Ok(list)
+    }
+
+    // Appends a note with the two blocks exchanged in it.
+    fn push_exchanged(self, list: &mut Vec<Note>, note: Note) -> Result<(), AllocError>
+        requires { self.block * self.width + self.width ≤ 2 ^ 32 }
+        ensures { OnOk result (list.new.items ≡ list.old.items ++ renamed_note (exchange self.width self.block) note) }
+    {
+        match note {
+            Note::Moves { op, lo, hi } => self.push_moves(list, op, lo, hi),
+            Note::Adds { op, from, to } => {
+                list.push(Note::Adds {
+                    op,
+                    from: self.exchanged(from),
+                    to: self.exchanged(to),
+                })?;
+                Ok(())
+            }
+        }
+    }
+
+    // Appends a move of each of the slots from `lo` up to `hi`, exchanged.
+    fn push_moves(self, list: &mut Vec<Note>, op: u32, lo: u32, hi: u32) -> Result<(), AllocError>
+        requires { self.block * self.width + self.width ≤ 2 ^ 32 }
+        ensures { OnOk result (list.new.items
+            ≡ list.old.items ++ renamed_note (exchange self.width self.block) (Moves op lo hi)) }
+    {
+        for slot in lo as u64..hi as u64 + 1 {
+            let slot = self.exchanged(slot as u32);
+            list.push(Note::Moves {
+                op,
+                lo: slot,
+                hi: slot,
+            })?;
+        }
+        Ok(())
+    }
+}

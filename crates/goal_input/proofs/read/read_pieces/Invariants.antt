@@ -1,0 +1,21 @@
+use Rattle.std.proofs.Common.{◌≡◌, ◌+◌, ◌-◌, ◌^◌, ◌≤◌, true, length}
+use Rattle.goal_base.specs.Device.{Later, SameReadCounts, KeepsFiles}
+use Rattle.goal_input.specs.Intake.{HasTaken}
+use Rattle.goal_input.proofs.read.read_pieces.Given as goal
+
+abbrev pub invariant-pieces : goal.invariant-pieces
+invariant-pieces g l =
+    let old = g.H.Host.state l.initial.host in
+    let now = g.H.Host.state l.host in
+    record {
+      within : l.taken ≤ 2 ^ 27 + 1;
+      buffer : length l.buffer ≡ 65536;
+      has : HasTaken old now l.intake l.taken;
+      counts : SameReadCounts old now;
+      reading : now.reading ≡ true;
+      kept : KeepsFiles old now;
+      later : Later old now;
+    }
+
+abbrev pub decreases-pieces : goal.decreases-pieces
+decreases-pieces g l = 2 ^ 27 + 1 - l.taken

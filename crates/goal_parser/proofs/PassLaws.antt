@@ -1,0 +1,123 @@
+-- What is true of a text that a reader has read: its tokens pass but for a run that is open at its end.
+use Rattle.std.proofs.Common.{◌≡◌, ℕ, inl, inr, ◌⊎◌, ⊎_elim, List, [], ◌∷◌, ◌++◌, reverse, Option, Some, None, Bool, true, false, bytes_eq, refl, sym, ap, subst, ◌∙◌, arith}
+use Rattle.std.specs.Option.{option_or}
+use Rattle.std.proofs.lemmas.List.{append-nil}
+use Rattle.goal_lexer.specs.declared.tokens.Token.{Token}
+use Rattle.goal_lexer.specs.declared.tokens.TokenKind.{TokenKind}
+use Rattle.goal_lexer.specs.declared.mode.Form.{Form}
+use Rattle.goal_lexer.specs.declared.mode.Form.TheVariants.{Word, Digits, Sized}
+use Rattle.goal_lexer.specs.Words.{kind_among, reserved_words}
+use Rattle.goal_lexer.specs.Runs.{run_kind}
+use Rattle.std.specs.Prelude.{⊤, if◌then◌else◌}
+use Rattle.goal_lexer.specs.declared.mode.Mode.{Mode}
+use Rattle.goal_lexer.specs.declared.mode.Mode.TheVariants.{Between, Run, Slash, LineComment, BlockComment, Failed}
+use Rattle.goal_lexer.specs.Scan.{closing}
+use Rattle.goal_lexer.specs.State.{LexState}
+use Rattle.goal_lexer.specs.Stands.{Stands, handed}
+use Rattle.goal_lexer.proofs.ForCallers.{finishes, cut_off}
+use Rattle.goal_parser.specs.declared.faults.TextFault.{TextFault}
+use Rattle.goal_parser.specs.declared.pieces.TextReader.{TextReader}
+use Rattle.goal_parser.specs.Faults.{token_fault}
+use Rattle.goal_parser.specs.Reads.{first_fault}
+use Rattle.goal_parser.specs.TextRead.{HasRead}
+use Rattle.goal_parser.specs.Laws.{IsSign, PassesSoFar}
+use Rattle.goal_parser.proofs.ReaderLaws.{first_fault-append}
+
+-- a token stands among these
+abbrev Stood : List Token → Token → Type 0
+Stood cs t = (xs : List Token) × (ys : List Token) × (cs ≡ xs ++ t ∷ ys)
+
+-- a token of two lists, one behind the other, stands in the first behind the same tokens, or in the second
+in_front : (before later hs cs : List Token) (t : Token) → before ++ t ∷ later ≡ hs ++ cs → ((more : List Token) × (hs ≡ before ++ t ∷ more)) ⊎ Stood cs t
+in_front [] later [] cs t e = inr ([], later, sym e)
+in_front [] later (h ∷ hs) cs t e =
+    let same : t ≡ h = cc in
+    inl (hs, ap (λ (x : Token). x ∷ hs) (sym same))
+in_front (b ∷ bs) later [] cs t e = inr (b ∷ bs, later, sym e)
+in_front (b ∷ bs) later (h ∷ hs) cs t e =
+    let same : b ≡ h = cc in
+    let rest : bs ++ t ∷ later ≡ hs ++ cs = cc in
+    ⊎_elim (λ found. inl (found.0, ap (λ (x : Token). x ∷ hs) (sym same) ∙ ap (λ (l : List Token). b ∷ l) found.1)) (λ stood. inr stood) (in_front bs later hs cs t rest)
+
+none_of : (a b : Option TextFault) → option_or a b ≡ None → a ≡ None
+none_of None b e = refl
+none_of (Some f) b e = e
+
+none_behind : (a b : Option TextFault) → option_or a b ≡ None → b ≡ None
+none_behind None b e = e
+none_behind (Some f) b e = cc
+
+-- a token among tokens that pass
+passes : (before more : List Token) (t : Token) → first_fault [] (before ++ t ∷ more) ≡ None → token_fault (reverse before) t ≡ None
+unfolding first_fault
+passes before more t passed =
+    let behind = none_behind (first_fault [] before) _ (sym (first_fault-append [] before (t ∷ more)) ∙ passed) in
+    ap (λ (l : List Token). token_fault l t) (sym (append-nil (reverse before))) ∙ none_of (token_fault (reverse before ++ []) t) _ behind
+
+-- nothing stands among no tokens
+nowhere : {A : Type 0} (xs ys : List Token) (t : Token) → [] ≡ xs ++ t ∷ ys → A
+nowhere [] ys t e = cc
+nowhere (x ∷ xs) ys t e = cc
+
+-- what a text's end closes ends there
+ends_there : (place : ℕ) (mode : Mode) (t : Token) → Stood (closing place mode) t → t.end ≡ place
+ends_there place (Run start bytes form) t ([], ys, e) = cc
+ends_there place (Run start bytes form) t (x ∷ xs, ys, e) =
+    let rest : [] ≡ xs ++ t ∷ ys = cc in
+    nowhere xs ys t rest
+ends_there place Between t (xs, ys, e) = nowhere xs ys t e
+ends_there place (Slash start) t (xs, ys, e) = nowhere xs ys t e
+ends_there place (LineComment start) t (xs, ys, e) = nowhere xs ys t e
+ends_there place (BlockComment start closes) t (xs, ys, e) = nowhere xs ys t e
+ends_there place (Failed at) t (xs, ys, e) = nowhere xs ys t e
+
+-- no word of this table is a sign
+abbrev NoSigns : List (List ℕ × TokenKind) → Type 0
+NoSigns [] = ⊤
+NoSigns (e ∷ es) = (IsSign e.1 → ⊥) × NoSigns es
+
+either : (b : Bool) (x y : TokenKind) → (IsSign x → ⊥) → (IsSign y → ⊥) → IsSign (if b then x else y) → ⊥
+either true x y f g h = f h
+either false x y f g h = g h
+
+no_sign_among : (entries : List (List ℕ × TokenKind)) (word : List ℕ) → NoSigns entries → IsSign (kind_among entries word) → ⊥
+no_sign_among [] word none h = h
+no_sign_among (e ∷ es) word none h = either (bytes_eq word e.0) e.1 (kind_among es word) none.0 (no_sign_among es word none.1) h
+
+no_reserved_sign : NoSigns reserved_words
+no_reserved_sign =
+    (λ h. h, (λ h. h, (λ h. h, (λ h. h, (λ h. h, (λ h. h, (λ h. h, (λ h. h, (λ h. h, (λ h. h, (λ h. h, (λ h. h, (λ h. h, (λ h. h, (λ h. h, tt)))))))))))))))
+
+-- no run is a sign
+no_run_sign : (form : Form) (bytes : List ℕ) → IsSign (run_kind form bytes) → ⊥
+no_run_sign Word bytes h = no_sign_among reserved_words bytes no_reserved_sign h
+no_run_sign Digits bytes h = h
+no_run_sign Sized bytes h = h
+
+no_sign_there : (place : ℕ) (mode : Mode) (t : Token) → Stood (closing place mode) t → IsSign t.kind → ⊥
+no_sign_there place (Run start bytes form) t ([], ys, e) h =
+    let same : run_kind form bytes ≡ t.kind = cc in
+    no_run_sign form bytes (subst IsSign (sym same) h)
+no_sign_there place (Run start bytes form) t (x ∷ xs, ys, e) h =
+    let rest : [] ≡ xs ++ t ∷ ys = cc in
+    nowhere xs ys t rest
+no_sign_there place Between t (xs, ys, e) h = nowhere xs ys t e
+no_sign_there place (Slash start) t (xs, ys, e) h = nowhere xs ys t e
+no_sign_there place (LineComment start) t (xs, ys, e) h = nowhere xs ys t e
+no_sign_there place (BlockComment start closes) t (xs, ys, e) h = nowhere xs ys t e
+no_sign_there place (Failed at) t (xs, ys, e) h = nowhere xs ys t e
+
+pub passes_so_far : (r : TextReader) (text : List ℕ) → HasRead r text → PassesSoFar text
+passes_so_far r text read = record {
+  tokens = λ before later t e inside.
+      ⊎_elim (λ found. passes before found.0 t (sym (ap (first_fault []) found.1) ∙ read.stands.passed))
+      (λ stood. absurd (⊎_elim (λ early. let last = ends_there lexer.place lexer.mode t stood in let long = stands.place in omega (arith, last, long, early)) (λ sign. no_sign_there lexer.place lexer.mode t stood sign) inside))
+      (in_front before later (handed lexer text) (closing lexer.place lexer.mode) t (sym e ∙ ap (λ (p : List Token × Option ℕ). p.0) (finishes lexer.mode lexer.place lexer.ends_run text stands)));
+  bytes = λ at e. cut_off lexer text at stands e;
+}
+  where
+    lexer : LexState
+    lexer = r.reader.lexer
+
+    stands : Stands lexer text
+    stands = read.stands.lexer

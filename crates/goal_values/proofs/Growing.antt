@@ -1,0 +1,26 @@
+-- What was lent stays as it is where more sums are made.
+use Rattle.std.proofs.Common.{ℕ, ◌≡◌, ◌+◌, ◌≤◌, List, [], ◌∷◌, ◌++◌, length, map, All, refl, sym, ap, ap₂, ◌∙◌, subst, arith, append-nil, append_assoc, length-append}
+use Rattle.std.proofs.lemmas.List.Elements.{All-head, All-tail}
+use Rattle.goal_blocks.specs.Values.{Value}
+use Rattle.goal_values.specs.declared.sums.Term.{Term}
+use Rattle.goal_values.specs.declared.values.Lent.{Lent}
+use Rattle.goal_values.specs.Sums.{meaning, IsBelow, HasGrown}
+use Rattle.goal_values.specs.Summed.{lent_values, IsLent}
+use Rattle.goal_values.proofs.Told.{meaning_stays, below_more}
+
+pub grown_same : (sums : List Value) → HasGrown sums sums
+grown_same sums = ([], sym (append-nil sums))
+
+pub grown_more : (old now new : List Value) → HasGrown old now → HasGrown now new → HasGrown old new
+grown_more old now new a b =
+    (a.0 ++ b.0, b.1 ∙ ap (λ (vs : List Value). vs ++ b.0) a.1 ∙ append_assoc old a.0 b.0)
+
+meanings_stay : (sums more : List Value) (ts : List Term) → All (IsBelow (length sums)) ts → map (meaning (sums ++ more)) ts ≡ map (meaning sums) ts
+meanings_stay sums more [] below = refl
+meanings_stay sums more (t ∷ ts) below =
+    ap₂ (λ (v : Value) (vs : List Value). v ∷ vs) (meaning_stays sums more t (All-head (IsBelow (length sums)) t ts below)) (meanings_stay sums more ts (All-tail (IsBelow (length sums)) t ts below))
+
+-- what was lent says the same, and is there
+pub lent_stays : (old new : List Value) → HasGrown old new → (l : Lent) → IsLent old l → (lent_values new l ≡ lent_values old l) × IsLent new l
+lent_stays old new grown l lent =
+    (ap (λ (vs : List Value). map (meaning vs) l.terms.items) grown.1 ∙ meanings_stay old grown.0 l.terms.items lent, λ k d inside. below_more (length old) (length new) _ (omega (arith, ap length grown.1, length-append old grown.0)) (lent k d inside))

@@ -1,0 +1,156 @@
+-- What the sums made so far say, and what one more says.
+use Rattle.std.proofs.Common.{ℕ, zero, suc, ◌≡◌, ◌-◌, ◌+◌, ◌<◌, ◌≤◌, List, [], ◌∷◌, ◌++◌, length, get_or, Some, slice_get, refl, sym, ap, ap₂, ◌∙◌, subst, inl, inr, arith, length-append}
+use Rattle.std.proofs.lemmas.Bool.{cases_lt}
+use Rattle.std.proofs.lemmas.Option.{slice_get_within, slice_get_read, get_or_from_slice_get}
+use Rattle.std.proofs.Math.ListN.{get_or-append}
+use Rattle.std.proofs.Math.Seq.{get_or-append_seam, get_or-append_right}
+use Rattle.std.proofs.lemmas.List.{get_or_past}
+use Rattle.goal_blocks.specs.Values.{Value, merge}
+use Rattle.goal_blocks.specs.Stored.{IsSorted}
+use Rattle.goal_blocks.proofs.ForCallers.{length_merge, sorted_merge}
+use Rattle.goal_values.specs.declared.sums.Term.{Term}
+use Rattle.goal_values.specs.declared.sums.Term.TheVariants.{Nothing, One, Made}
+use Rattle.goal_values.specs.declared.sums.Sum.{Sum}
+use Rattle.goal_values.specs.Sums.{meaning, IsBelow}
+use Rattle.goal_values.specs.Parts.{told, IsSum, AreSums}
+
+-- both parts of a sum together
+abbrev pub sum_in : List Value → Sum → Value
+sum_in known s = merge (meaning known s.left) (meaning known s.right)
+
+-- one sum more says one value more
+pub told_more : (known : List Value) (sums : List Sum) (s : Sum) → told known (sums ++ s ∷ []) ≡ told known sums ++ sum_in (told known sums) s ∷ []
+unfolding told
+told_more known [] s = refl
+told_more known (t ∷ sums) s = told_more (known ++ sum_in known t ∷ []) sums s
+
+-- values that come later change nothing of what a term says that names an earlier one
+pub meaning_stays : (known more : List Value) (t : Term) → IsBelow (length known) t → meaning (known ++ more) t ≡ meaning known t
+meaning_stays known more Nothing below = refl
+meaning_stays known more (One c) below = refl
+meaning_stays known more (Made i) below = get_or-append known more [] i below
+
+pub below_more : (n m : ℕ) (t : Term) → n ≤ m → IsBelow n t → IsBelow m t
+below_more n m Nothing few below = tt
+below_more n m (One c) few below = tt
+below_more n m (Made i) few below = omega (arith, below)
+
+pub meaning_sorted : (sums : List Value) (t : Term) → ((i : ℕ) → IsSorted (get_or sums i [])) → IsSorted (meaning sums t)
+meaning_sorted sums Nothing sorted = tt
+meaning_sorted sums (One c) sorted = (tt, tt)
+meaning_sorted sums (Made i) sorted = sorted i
+
+pub no_sums : AreSums []
+unfolding told
+no_sums = record {
+  each = λ i s at. absurd (omega (arith, slice_get_within {A = Sum} [] i s at));
+  sorted = λ i. subst IsSorted (sym (get_or_past [] i [] (omega arith))) tt;
+  many = refl;
+}
+
+module _ (sums : List Sum) (are : AreSums sums) (s : Sum) where
+  abbrev values : List Value
+  values = told [] sums
+
+  abbrev after : List Value
+  after = values ++ sum_in values s ∷ []
+
+  -- a sum that was there is as it was
+  kept : (i : ℕ) (t : Sum) → slice_get sums i ≡ Some t → IsSum after i t
+  kept i t at =
+      let is = are.each i t at in
+      let inside : i < length values = omega (arith, slice_get_within sums i t at, are.many) in
+      let left : meaning after t.left ≡ meaning values t.left = meaning_stays values _ t.left (below_more i (length values) t.left (omega arith) is.left) in
+      let right : meaning after t.right ≡ meaning values t.right = meaning_stays values _ t.right (below_more i (length values) t.right (omega arith) is.right) in
+      let here : get_or after i [] ≡ get_or values i [] = get_or-append values (sum_in values s ∷ []) [] i inside in
+      record {
+        left = is.left;
+        right = is.right;
+        value = here ∙ is.value ∙ ap₂ merge (sym left) (sym right);
+        some_left = omega (arith, is.some_left, ap length left);
+        some_right = omega (arith, is.some_right, ap length right);
+        size = is.size ∙ sym (ap length here);
+      }
+
+  module _ (left : IsBelow (length values) s.left) (right : IsBelow (length values) s.right) (some_left : 0 < length (meaning values s.left)) (some_right : 0 < length (meaning values s.right)) (size : s.size ≡ length (meaning values s.left) + length (meaning values s.right)) where
+    new : IsSum after (length values) s
+    new =
+        let here : get_or after (length values) [] ≡ sum_in values s = get_or-append_seam values (sum_in values s) [] [] in
+        let e : meaning after s.left ≡ meaning values s.left = meaning_stays values _ s.left left in
+        let f : meaning after s.right ≡ meaning values s.right = meaning_stays values _ s.right right in
+        record {
+          left = left;
+          right = right;
+          value = here ∙ ap₂ merge (sym e) (sym f);
+          some_left = omega (arith, some_left, ap length e);
+          some_right = omega (arith, some_right, ap length f);
+          size = omega (arith, size, ap length here, length_merge (meaning values s.left) (meaning values s.right));
+        }
+
+    each_after : (i : ℕ) (t : Sum) → slice_get (sums ++ s ∷ []) i ≡ Some t → IsSum after i t
+    each_after i t at =
+        let inside : i < length (sums ++ s ∷ []) = slice_get_within (sums ++ s ∷ []) i t at in
+        let here : get_or (sums ++ s ∷ []) i t ≡ t = get_or_from_slice_get (sums ++ s ∷ []) i t t at in
+        elim (cases_lt i (length sums)) [
+          | inl before ↦
+              kept i t (slice_get_read sums (length sums) i t refl before (sym here ∙ get_or-append sums (s ∷ []) t i before))
+          | inr past ↦
+              let last : i ≡ length sums = omega (arith, inside, past, length-append sums (s ∷ [])) in
+              let same : s ≡ t = sym (get_or-append_seam sums s [] t) ∙ ap (λ (k : ℕ). get_or (sums ++ s ∷ []) k t) (sym last) ∙ here in
+              let place : length values ≡ i = omega (arith, last, are.many) in
+              subst (λ (u : Sum). IsSum after i u) same (subst (λ (k : ℕ). IsSum after k s) place new)
+        ]
+
+    sorted_after : (i : ℕ) → IsSorted (get_or after i [])
+    sorted_after i =
+        elim (cases_lt i (length values)) [
+          | inl inside ↦ subst IsSorted (sym (get_or-append values (sum_in values s ∷ []) [] i inside)) (are.sorted i)
+          | inr past ↦ subst IsSorted (sym (get_or-append_right values (sum_in values s ∷ []) i [] past)) (one (i - length values))
+        ]
+      where
+        one : (j : ℕ) → IsSorted (get_or (sum_in values s ∷ []) j [])
+        one zero = sorted_merge (meaning values s.left) (meaning values s.right) (meaning_sorted values s.right are.sorted)
+        one (suc j) = subst IsSorted (sym (get_or_past [] j [] (omega arith))) tt
+
+    pub sums_more : AreSums (sums ++ s ∷ [])
+    sums_more = record {
+      each = λ i t at. subst (λ (vs : List Value). IsSum vs i t) (sym (told_more [] sums s)) (each_after i t at);
+      sorted = λ i. subst (λ (vs : List Value). IsSorted (get_or vs i [])) (sym (told_more [] sums s)) (sorted_after i);
+      many = omega (arith, ap length (told_more [] sums s), length-append values (sum_in values s ∷ []), length-append sums (s ∷ []), are.many);
+    }
+
+-- a sum that is read tells how long its value is
+pub size_told : (sums : List Sum) → AreSums sums → (values : List Value) → told [] sums ≡ values → (i : ℕ) (s : Sum) → s ≡ get_or sums i s → i < length values → s.size ≡ length (get_or values i [])
+size_told sums are values is i s read inside =
+    let few : i < length sums = omega (arith, inside, are.many, ap length is) in
+    (are.each i s (slice_get_read sums (length sums) i s refl few read)).size ∙ ap (λ (vs : List Value). length (get_or vs i [])) is
+
+pub none_of_length : (v : Value) → length v ≡ 0 → v ≡ []
+none_of_length [] e = refl
+none_of_length (c ∷ v) e = absurd (omega (arith, e))
+
+-- a sum is added to those of some values
+module _ (sums : List Sum) (are : AreSums sums) (known : List Value) (is : told [] sums ≡ known) (s : Sum) (more : List Sum) (put : more ≡ sums ++ s ∷ []) where
+  pub sums_put : IsBelow (length known) s.left → IsBelow (length known) s.right → 0 < length (meaning known s.left) → 0 < length (meaning known s.right) → s.size ≡ length (meaning known s.left) + length (meaning known s.right) → AreSums more
+  sums_put left right some_left some_right size =
+      let P : List Value → Type 0 = λ vs. IsBelow (length vs) s.left × IsBelow (length vs) s.right × (0 < length (meaning vs s.left)) × (0 < length (meaning vs s.right)) × (s.size ≡ length (meaning vs s.left) + length (meaning vs s.right)) in
+      let all : P (told [] sums) = subst P (sym is) (left, right, some_left, some_right, size) in
+      subst AreSums (sym put) (sums_more sums are s all.0 all.1 all.2 all.3 all.4)
+
+  pub put_told : told [] more ≡ known ++ sum_in known s ∷ []
+  put_told =
+      ap (told []) put ∙ told_more [] sums s ∙ ap (λ (vs : List Value). vs ++ sum_in vs s ∷ []) is
+
+  pub put_value : (i : ℕ) → i ≡ length sums → (get_or (told [] more) i [] ≡ sum_in known s) × (i < length (told [] more))
+  put_value i last =
+      let place : i ≡ length known = omega (arith, last, are.many, ap length is) in
+      (ap₂ (λ (vs : List Value) (k : ℕ). get_or vs k []) put_told place ∙ get_or-append_seam known (sum_in known s) [] [], omega (arith, place, ap length put_told, length-append known (sum_in known s ∷ [])))
+
+pub sorted_as : (sums : List Sum) → AreSums sums → (known : List Value) → told [] sums ≡ known → (i : ℕ) → IsSorted (get_or known i [])
+sorted_as sums are known is i = subst (λ (vs : List Value). IsSorted (get_or vs i [])) is (are.sorted i)
+
+-- what is true of a sum that is read
+pub sum_there : (sums : List Sum) → AreSums sums → (known : List Value) → told [] sums ≡ known → (i : ℕ) (s : Sum) → s ≡ get_or sums i s → i < length known → IsSum known i s
+sum_there sums are known is i s read inside =
+    let few : i < length sums = omega (arith, inside, are.many, ap length is) in
+    subst (λ (vs : List Value). IsSum vs i s) is (are.each i s (slice_get_read sums (length sums) i s refl few read))

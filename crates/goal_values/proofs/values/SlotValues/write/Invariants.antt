@@ -1,0 +1,17 @@
+use Rattle.std.proofs.Common.{ℕ, ◌≡◌, ◌≢◌, ◌+◌, ◌^◌, ◌≤◌, length, map, drop}
+use Rattle.std.specs.List.{sum_by}
+use Rattle.goal_blocks.specs.Values.{Value, write}
+use Rattle.goal_blocks.specs.Weight.{stored}
+use Rattle.goal_values.specs.Kept.{values}
+use Rattle.goal_values.specs.Sums.{meaning}
+use Rattle.goal_values.proofs.values.SlotValues.write.Given as goal
+
+-- writing what is left completes it
+abbrev pub invariant-loop-at : goal.invariant-loop-at
+invariant-loop-at l = record {
+  sums : l.self.sums ≡ l.initial.self.sums;
+  ranks : l.self.kept.ranks ≡ l.initial.self.kept.ranks;
+  left : write l.rank (drop l.at l.places) (drop l.at (map (meaning l.initial.self.sums) l.terms)) (values l.self.kept) ≡ write l.rank l.places (map (meaning l.initial.self.sums) l.terms) (values l.initial.self.kept);
+  light : stored l.self.kept.ranks (values l.self.kept) + sum_by (λ (v : Value). length v) (drop l.at (map (meaning l.initial.self.sums) l.terms)) ≤ 2 ^ 24;
+  others : (r k : ℕ) → r ≢ l.rank → values l.self.kept r k ≡ values l.initial.self.kept r k;
+}

@@ -1,0 +1,32 @@
+-- What sums are made of, and what is true of each list of them.
+use Rattle.std.specs.Prelude.{ℕ, ◌≡◌, ◌<◌, List, [], ◌∷◌, ◌++◌, length, Some, slice_get, slice_index_or}
+use Rattle.std.specs.List.{sum_by}
+use Rattle.goal_blocks.specs.declared.collective.Contribution.{Contribution}
+use Rattle.goal_blocks.specs.Values.{Value, merge}
+use Rattle.goal_blocks.specs.Stored.{IsSorted}
+use Rattle.goal_values.specs.Sums.{meaning, IsBelow}
+use Rattle.goal_values.specs.declared.sums.Sum.{Sum}
+
+-- the values of sums, behind those that are known: each is made of values before it
+unfoldable pub told : List Value → List Sum → List Value
+told known [] = known
+told known (s ∷ more) = told (known ++ (merge (meaning known s.left) (meaning known s.right) ∷ [])) more
+
+-- what is true of the sum number i, where the sums have these values
+pub record IsSum (values : List Value) (i : ℕ) (s : Sum) : Type 0 where
+  pub left : IsBelow i s.left
+  pub right : IsBelow i s.right
+  pub value : slice_index_or values i [] ≡ merge (meaning values s.left) (meaning values s.right)
+  pub some_left : 0 < length (meaning values s.left)
+  pub some_right : 0 < length (meaning values s.right)
+  pub size : s.size ≡ length (slice_index_or values i [])
+
+-- what is true of all sums
+pub record AreSums (sums : List Sum) : Type 0 where
+  pub each : (i : ℕ) (s : Sum) → slice_get sums i ≡ Some s → IsSum (told [] sums) i s
+  pub sorted : (i : ℕ) → IsSorted (slice_index_or (told [] sums) i [])
+  pub many : length (told [] sums) ≡ length sums
+
+-- two lists have each contribution as often
+abbrev pub HasSame : Value → Value → Type 0
+HasSame v w = (f : Contribution → ℕ) → sum_by f v ≡ sum_by f w

@@ -1,0 +1,128 @@
+// Values that are told by what they were made of.
+ghost use Rattle.std.specs.Prelude.{ℕ, ◌≡◌, ◌+◌, ◌^◌, ◌<◌, [], length, IfOk};
+ghost use Rattle.goal_blocks.specs.Values.{merge};
+ghost use Rattle.goal_blocks.specs.Stored.{IsSorted};
+ghost use Rattle.goal_values.specs.Sums.{meaning, IsBelow, HasGrown};
+ghost use Rattle.goal_values.specs.Parts.{HasSame};
+
+use goal_base::NoMemory;
+use goal_blocks::Contribution;
+use std::alloc::{AllocError, Global};
+use std::marker::Model;
+
+/// A value, by what it was made of. It tells its contributions beside the sums that it was made in.
+#[derive(Clone, Copy, Debug)]
+pub enum Term {
+    /// No contribution.
+    Nothing,
+    /// This contribution alone.
+    One(Contribution),
+    /// The sum of that number.
+    Made(usize),
+}
+
+/// Two values together, and how many contributions they have. Neither is empty.
+#[derive(Clone, Copy, Debug)]
+struct Sum {
+    left: Term,
+    right: Term,
+    size: u64,
+}
+
+/// Sums of values, each made of values that were there before. Contracts see the list of their values.
+#[derive(Drop)]
+pub struct Sums {
+    list: Vec<Sum>,
+}
+
+impl Model for Sums {
+    ghost use Rattle.std.specs.Prelude.{List, []};
+    ghost use Rattle.goal_blocks.specs.declared.collective.Contribution.{Contribution};
+    ghost use Rattle.goal_values.specs.Parts.{told, AreSums};
+
+    ghost Value = { List (List Contribution) };
+
+    ghost view = { λ s. told [] s.list.items };
+
+    ghost invariant = { λ s. AreSums s.list.items };
+}
+
+impl Sums {
+    /// No sums.
+    pub fn new(alloc: Global) -> Sums
+        ensures { result ≡ [] }
+    {
+        Sums {
+            list: Vec::new(alloc),
+        }
+    }
+
+    /// How many contributions a value has.
+    pub fn size(&self, term: Term) -> u64
+        requires { IsBelow (length self.now) term }
+        ensures { result ≡ length (meaning self.now term) }
+    {
+        match term {
+            Term::Nothing => 0,
+            Term::One(_) => 1,
+            Term::Made(number) => self.list[number].size,
+        }
+    }
+
+    /// Two values together. Neither is looked at: it takes the same time whatever they hold. All values so far stay.
+    pub fn add(&mut self, left: Term, right: Term) -> Result<Term, NoMemory>
+        requires left { IsBelow (length self.old) left }
+        requires right { IsBelow (length self.old) right }
+        requires room { length (meaning self.old left) + length (meaning self.old right) < 2 ^ 64 }
+        ensures sum { IfOk result (λ t. meaning self.new t ≡ merge (meaning self.old left) (meaning self.old right)) }
+        ensures below { IfOk result (λ t. IsBelow (length self.new) t) }
+        ensures grown { HasGrown self.old self.new }
+    {
+        let number = self.list.len();
+        let left_size = self.size(left);
+        let right_size = self.size(right);
+        if left_size == 0 {
+            return Ok(right);
+        }
+        if right_size == 0 {
+            return Ok(left);
+        }
+        let size = left_size + right_size;
+        self.list.push(Sum { left, right, size })?;
+        Ok(Term::Made(number))
+    }
+
+    /// The contributions of a value, in order.
+    pub fn list(&self, alloc: Global, term: Term) -> Result<Vec<Contribution>, NoMemory>
+        requires { IsBelow (length self.now) term }
+        ensures list { IfOk result (λ v. v.items ≡ meaning self.now term) }
+        ensures sorted { IfOk result (λ v. IsSorted v.items) }
+    {
+        let _sums = &self.list;
+        let mut list = self.gathered(alloc, term)?;
+        list.sort_unstable();
+        Ok(list)
+    }
+
+    // The contributions of a value, in any order.
+    fn gathered(&self, alloc: Global, term: Term) -> Result<Vec<Contribution>, AllocError>
+        requires { IsBelow (length self.now) term }
+        ensures { IfOk result (λ v. HasSame v.items (meaning self.now term)) }
+    {
+        let mut list = Vec::new(alloc);
+        let mut open = Vec::new(alloc);
+        open.push(term)?;
+        'parts: while let Some(part) = open.pop() {
+            match part {
+                Term::Nothing => {}
+                Term::One(contribution) => list.push(contribution)?,
+                Term::Made(number) => {
+                    let Sum { left, right, .. } = self.list[number];
+                    open.push(left)?;
+                    open.push(right)?;
+                }
+            }
+        }
+        Ok(list)
+    }
+}

@@ -1,0 +1,300 @@
+// The values of the slots of all ranks.
+ghost use Rattle.std.specs.Prelude.{◌≡◌, ◌≢◌, ℕ, List, ◌+◌, ◌*◌, ◌^◌, ◌<◌, ◌≤◌, false, true, length, map, take, All, IfOk, OnOk, OnErr, IfErr, IfSome, IfNone, MatchOption};
+ghost use Rattle.std.specs.List.{sum_by};
+ghost use Rattle.goal_blocks.specs.Values.{Value, merge, set_slot, write};
+ghost use Rattle.goal_blocks.specs.Weight.{stored};
+ghost use Rattle.goal_blocks.specs.Collectives.{initial};
+ghost use Rattle.goal_blocks.specs.Segments.{initial_in, wanted_in};
+ghost use Rattle.goal_blocks.specs.Faults.{SlotAt, IsLeast, slot_key};
+ghost use Rattle.goal_blocks.specs.Stored.{one_or_none};
+ghost use Rattle.goal_values.specs.Kept.{values, first_values};
+ghost use Rattle.goal_values.specs.Sums.{meaning, IsBelow, HasGrown};
+ghost use Rattle.goal_values.specs.Summed.{Summed, lent_values, IsLent, lesser};
+
+use crate::sums::{Sums, Term};
+use goal_base::NoMemory;
+use goal_blocks::{
+    Collective, Contribution, Segment, Slots, asked, first_of, initial_size, is_wanted,
+};
+use std::alloc::{AllocError, Global};
+use std::collections::BTreeMap;
+use std::marker::Model;
+
+/// The values of some slots, none of which was copied. They are told beside the values that they were lent from.
+#[derive(Drop)]
+pub struct Lent {
+    pub terms: Vec<Term>,
+}
+
+/// The values of the slots of all ranks, where a collective is done in a segment. Contracts see what it keeps and the sums
+/// that it has made.
+#[derive(Drop)]
+pub struct SlotValues {
+    alloc: Global,
+    what: Collective,
+    ranks: u32,
+    segment: Segment,
+    written: BTreeMap<(u32, u32), Term>,
+    sums: Sums,
+    held: u64,
+}
+
+impl Model for SlotValues {
+    ghost use Rattle.goal_values.specs.Summed.{Summed, kept_in, IsSound};
+
+    ghost Value = { Summed };
+
+    ghost view = { λ s. record { kept = kept_in s.what s.ranks s.segment s.sums s.written.entries; sums = s.sums } };
+
+    ghost invariant = { λ s. IsSound (record { kept = kept_in s.what s.ranks s.segment s.sums s.written.entries; sums = s.sums }) s.written.entries s.held };
+}
+
+// A contribution, or none, as a term.
+fn term_of(first: Option<Contribution>) -> Term
+    ensures value { (sums : List Value) → meaning sums result ≡ one_or_none first }
+    ensures below { (n : ℕ) → IsBelow n result }
+{
+    match first {
+        Some(contribution) => Term::One(contribution),
+        None => Term::Nothing,
+    }
+}
+
+impl SlotValues {
+    /// The values of `ranks` ranks at the start of a segment.
+    pub fn new(alloc: Global, ranks: u32, what: Collective, segment: Segment) -> SlotValues
+        requires some { 1 ≤ ranks }
+        requires few { ranks ≤ 65536 }
+        requires fits { segment.block * segment.width + segment.width ≤ 2 ^ 32 }
+        ensures values { values result.kept ≡ initial_in what segment.width segment.block ranks }
+        ensures ranks { result.kept.ranks ≡ ranks }
+    {
+        SlotValues {
+            alloc,
+            what,
+            ranks,
+            segment,
+            written: BTreeMap::new(alloc),
+            sums: Sums::new(alloc),
+            held: initial_size(ranks, what),
+        }
+    }
+
+    /// How many contributions all slots together have.
+    pub fn held(&self) -> u64
+        ensures { result ≡ stored self.now.kept.ranks (values self.now.kept) }
+    {
+        self.held
+    }
+
+    /// How many contributions the slot of the rank has.
+    pub fn size_at(&self, rank: u32, slot: u32) -> u64
+        requires { rank < self.now.kept.ranks }
+        ensures size { result ≡ length (values self.now.kept rank slot) }
+        ensures part { result ≤ stored self.now.kept.ranks (values self.now.kept) }
+    {
+        self.sums.size(self.term_at(rank, slot))
+    }
+
+    /// How many contributions the slots of the rank have together.
+    pub fn size_of(&self, rank: u32, slots: &Slots) -> u64
+        requires rank { rank < self.now.kept.ranks }
+        requires few { length slots.now ≤ 2 ^ 24 }
+        requires light { stored self.now.kept.ranks (values self.now.kept) ≤ 2 ^ 24 }
+        ensures { result ≡ sum_by (λ k. length (values self.now.kept rank k)) slots.now }
+    {
+        let mut size = 0;
+        for slot in slots.as_slice() {
+            size += self.size_at(rank, *slot);
+        }
+        size
+    }
+
+    /// The values of these slots of the rank. `NoMemory` where memory ran out.
+    pub fn lend(&self, rank: u32, slots: &Slots) -> Result<Lent, NoMemory>
+        requires { rank < self.now.kept.ranks }
+        ensures values { IfOk result (λ l. lent_values self.now.sums l ≡ map (values self.now.kept rank) slots.now) }
+        ensures lent { IfOk result (λ l. IsLent self.now.sums l) }
+    {
+        let mut terms = Vec::new(self.alloc);
+        for slot in slots.as_slice() {
+            terms.push(self.term_at(rank, *slot))?;
+        }
+        Ok(Lent { terms })
+    }
+
+    /// Sets these slots of the rank to the values, in order: where a slot stands twice, the later value stays.
+    /// `NoMemory` where memory ran out; some of the slots are set then.
+    pub fn write(&mut self, rank: u32, slots: &Slots, lent: &Lent) -> Result<(), NoMemory>
+        requires rank { rank < self.old.kept.ranks }
+        requires lent { IsLent self.old.sums lent.now }
+        requires lengths { length slots.now ≡ length lent.now.terms.items }
+        requires light { stored self.old.kept.ranks (values self.old.kept)
+            + sum_by (λ v. length v) (lent_values self.old.sums lent.now) ≤ 2 ^ 24 }
+        ensures written { OnOk result (values self.new.kept
+            ≡ write rank slots.now (lent_values self.old.sums lent.now) (values self.old.kept)) }
+        ensures others { (r k : ℕ) → r ≢ rank → values self.new.kept r k ≡ values self.old.kept r k }
+        ensures ranks { self.new.kept.ranks ≡ self.old.kept.ranks }
+        ensures sums { self.new.sums ≡ self.old.sums }
+    {
+        let places = slots.as_slice();
+        let terms = lent.terms.as_slice();
+        for at in 0..terms.len() {
+            self.put(rank, places[at], terms[at])?;
+        }
+        Ok(())
+    }
+
+    /// Adds the value of the slot `from` of the rank to that of its slot `to`. `NoMemory` where memory ran out; all
+    /// values are then as they were.
+    pub fn add(&mut self, rank: u32, from: u32, to: u32) -> Result<(), NoMemory>
+        requires rank { rank < self.old.kept.ranks }
+        requires light { stored self.old.kept.ranks (values self.old.kept) ≤ 2 ^ 24 }
+        ensures added { OnOk result (values self.new.kept
+            ≡ set_slot rank to (merge (values self.old.kept rank to) (values self.old.kept rank from)) (values self.old.kept)) }
+        ensures unchanged { OnErr result (values self.new.kept ≡ values self.old.kept) }
+        ensures ranks { self.new.kept.ranks ≡ self.old.kept.ranks }
+        ensures grown { HasGrown self.old.sums self.new.sums }
+    {
+        let own = self.term_at(rank, to);
+        let other = self.term_at(rank, from);
+        let sum = self.sum_of(own, other)?;
+        self.put(rank, to, sum)?;
+        Ok(())
+    }
+
+    // Two values together. What the slots hold stays.
+    fn sum_of(&mut self, left: Term, right: Term) -> Result<Term, NoMemory>
+        requires left { IsBelow (length self.old.sums) left }
+        requires right { IsBelow (length self.old.sums) right }
+        requires room { length (meaning self.old.sums left) + length (meaning self.old.sums right) < 2 ^ 64 }
+        ensures sum { IfOk result (λ t. meaning self.new.sums t
+            ≡ merge (meaning self.old.sums left) (meaning self.old.sums right)) }
+        ensures below { IfOk result (λ t. IsBelow (length self.new.sums) t) }
+        ensures values { values self.new.kept ≡ values self.old.kept }
+        ensures ranks { self.new.kept.ranks ≡ self.old.kept.ranks }
+        ensures grown { HasGrown self.old.sums self.new.sums }
+    {
+        self.sums.add(left, right)
+    }
+
+    // What a slot holds.
+    fn term_at(&self, rank: u32, slot: u32) -> Term
+        ensures value { meaning self.now.sums result ≡ values self.now.kept rank slot }
+        ensures below { IsBelow (length self.now.sums) result }
+    {
+        match self.written.get(&(rank, slot)) {
+            Some(term) => *term,
+            None => self.first_at(rank, slot),
+        }
+    }
+
+    // What it holds at the start.
+    fn first_at(&self, rank: u32, slot: u32) -> Term
+        ensures value { (sums : List Value) → meaning sums result ≡ first_values self.now.kept rank slot }
+        ensures below { (n : ℕ) → IsBelow n result }
+    {
+        term_of(first_of(self.what, self.ranks, rank, self.segment.exchanged(slot)))
+    }
+
+    // Sets a slot. `Err` where memory ran out.
+    fn put(&mut self, rank: u32, slot: u32, term: Term) -> Result<(), AllocError>
+        requires rank { rank < self.old.kept.ranks }
+        requires below { IsBelow (length self.old.sums) term }
+        requires room { stored self.old.kept.ranks (values self.old.kept) + length (meaning self.old.sums term) < 2 ^ 64 }
+        ensures set { OnOk result (values self.new.kept ≡ set_slot rank slot (meaning self.old.sums term) (values self.old.kept)) }
+        ensures unchanged { OnErr result (values self.new.kept ≡ values self.old.kept) }
+        ensures ranks { self.new.kept.ranks ≡ self.old.kept.ranks }
+        ensures sums { self.new.sums ≡ self.old.sums }
+    {
+        let size = self.sums.size(term);
+        let before = self.size_at(rank, slot);
+        self.written.insert((rank, slot), term)?;
+        self.held = self.held - before + size;
+        Ok(())
+    }
+
+    /// The least rank and slot that does not hold what the collective wants of it in the segment, None where each slot does.
+    /// `NoMemory` where memory ran out.
+    pub fn first_wrong(
+        &self,
+        what: Collective,
+        segment: Segment,
+    ) -> Result<Option<(u32, u32)>, NoMemory>
+        requires { segment.block * segment.width + segment.width ≤ 2 ^ 32 }
+        ensures { IfOk result (λ found. MatchOption found
+            ((rank slot : ℕ) → wanted_in what segment.width segment.block self.now.kept.ranks rank slot
+            (values self.now.kept rank slot) ≡ true)
+            (λ p. IsLeast slot_key (λ (a : SlotAt). wanted_in what segment.width segment.block self.now.kept.ranks a.rank a.slot
+            (values self.now.kept a.rank a.slot) ≡ false) (record { rank = p.0; slot = p.1 }))) }
+    {
+        for rank in 0..self.ranks {
+            if let Some(slot) = self.first_wrong_of(what, segment, rank)? {
+                return Ok(Some((rank, slot)));
+            }
+        }
+        Ok(None)
+    }
+
+    // The least slot of the rank that does not hold what is wanted of it.
+    fn first_wrong_of(
+        &self,
+        what: Collective,
+        segment: Segment,
+        rank: u32,
+    ) -> Result<Option<u32>, NoMemory>
+        requires fits { segment.block * segment.width + segment.width ≤ 2 ^ 32 }
+        requires rank { rank < self.now.kept.ranks }
+        ensures wrong { IfOk result (λ found. IfSome found (λ slot. wanted_in what segment.width segment.block
+            self.now.kept.ranks rank slot (values self.now.kept rank slot) ≡ false)) }
+        ensures first { IfOk result (λ found. IfSome found (λ slot. (k : ℕ) → k < slot
+            → wanted_in what segment.width segment.block self.now.kept.ranks rank k (values self.now.kept rank k) ≡ true)) }
+        ensures right { IfOk result (λ found. IfNone found ((k : ℕ)
+            → wanted_in what segment.width segment.block self.now.kept.ranks rank k (values self.now.kept rank k) ≡ true)) }
+    {
+        let (from, to) = asked(what, self.ranks, rank);
+        let mut least = None;
+        for place in from..to {
+            let slot = segment.exchanged(place);
+            if !self.is_right(what, segment, rank, slot)? {
+                least = Some(lesser(least, slot));
+            }
+        }
+        Ok(least)
+    }
+
+    // Whether the slot holds what is wanted of it.
+    fn is_right(
+        &self,
+        what: Collective,
+        segment: Segment,
+        rank: u32,
+        slot: u32,
+    ) -> Result<bool, NoMemory>
+        requires fits { segment.block * segment.width + segment.width ≤ 2 ^ 32 }
+        requires rank { rank < self.now.kept.ranks }
+        ensures { IfOk result (λ b. b ≡ wanted_in what segment.width segment.block self.now.kept.ranks rank slot
+            (values self.now.kept rank slot)) }
+    {
+        let place = segment.exchanged(slot);
+        let term = self.term_at(rank, slot);
+        match term {
+            Term::Nothing => Ok(is_wanted(what, self.ranks, rank, place, &[])),
+            Term::One(one) => Ok(is_wanted(what, self.ranks, rank, place, &[one])),
+            Term::Made(_) => {
+                let value = self.sums.list(self.alloc, term)?;
+                Ok(is_wanted(what, self.ranks, rank, place, &value))
+            }
+        }
+    }
+}
+
+// The lesser one of two slots, of which the first may be missing.
+fn lesser(least: Option<u32>, slot: u32) -> u32
+    ensures { result ≡ lesser least slot }
+{
+    match least {
+        Some(other) if other < slot => other,
+        _ => slot,
+    }
+}

@@ -1,0 +1,26 @@
+-- What callers may use: a view shows one text of the run of a schedule with given costs.
+use Rattle.std.proofs.Common.{◌≡◌, Bool, List, ℕ, sym, ap, ◌∙◌, subst}
+use Rattle.goal_graph.specs.declared.action.Timed.{Timed}
+use Rattle.goal_graph.specs.Schedule.{Plan}
+use Rattle.sim_params.specs.Costs.{CostModel}
+use Rattle.sim_params.specs.Stuck.{is_stuck}
+use Rattle.sim_waits.proofs.ForCallers.{one_report}
+use Rattle.goal_words.specs.declared.sentence.RunView.{RunView}
+use Rattle.goal_words.specs.declared.sentence.RunView.TheVariants as view
+use Rattle.goal_views.specs.Views.{Shows, IsShownRun}
+
+-- of one run
+one_text : (how : RunView) (sched : List Plan) (costs : CostModel) (h : List Timed) (one other : List ℕ) → Shows how sched costs h one
+    → Shows how sched costs h other → one ≡ other
+one_text view.Printed sched costs h one other a b = a ∙ sym b
+one_text view.Waits sched costs h one other a b = one_report sched costs h one other a b
+one_text view.Knots sched costs h one other a b = a ∙ sym b
+one_text view.Sum sched costs h one other a b = a ∙ sym b
+
+pub one_shown : (how : RunView) (costs : CostModel) (sched : List Plan) (one other : List ℕ) (stuck waits : Bool)
+    → IsShownRun how costs sched one stuck → IsShownRun how costs sched other waits → (one ≡ other) × (stuck ≡ waits)
+one_shown how costs sched one other stuck waits a b =
+    let same = b.only a.history a.complete in (
+      one_text how sched costs b.history one other (subst (λ (h : List Timed). Shows how sched costs h one) same a.shown) b.shown,
+      a.stuck_is ∙ ap (is_stuck sched costs) same ∙ sym b.stuck_is,
+    )

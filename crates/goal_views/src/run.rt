@@ -1,0 +1,135 @@
+// From a schedule and its costs to what a view shows of its run.
+ghost use Rattle.std.specs.Prelude.{◌≡◌, ◌≢◌, ◌++◌, ◌<◌, ◌^◌, [], unwrap_or, OnOk, IfOk, IfErr};
+ghost use Rattle.sim_params.specs.Budget.{budget};
+ghost use Rattle.sim_params.specs.Run.{IsFinished};
+ghost use Rattle.sim_params.specs.Stuck.{is_stuck};
+ghost use Rattle.sim_events.specs.Engine.{IsEngineFault};
+ghost use Rattle.goal_views.specs.Views.{Shows, IsShownRun};
+ghost use Rattle.goal_views.specs.Runs.{IsRunOf};
+
+use crate::knots::show_knots;
+use crate::printed::print_run;
+use crate::shown::Shown;
+use crate::sum::sum_up;
+use goal_base::NoMemory;
+use goal_graph::Sched;
+use goal_words::RunView;
+use sim_events::{Engine, EngineFault};
+use sim_params::Costs;
+use sim_stuck::is_stuck;
+use sim_waits::waits;
+use std::alloc::Global;
+
+// The run of a schedule with these costs, to its end.
+fn run<C: Costs + Drop>(
+    alloc: Global,
+    sched: &Sched,
+    costs: C,
+) -> Result<Engine<'_, C>, EngineFault>
+    ensures fits { OnOk result (budget sched.now (C.model costs) < 2 ^ 63) }
+    ensures run { IfOk result (λ engine. IsRunOf (C.model costs) sched.now engine) }
+    ensures costs { IfOk result (λ engine. C.model engine.costs ≡ C.model costs) }
+    ensures fault { IfErr result (IsEngineFault (budget sched.now (C.model costs))) }
+{
+    match Engine::new(alloc, sched, costs) {
+        Ok(engine) => {
+            let mut engine = engine;
+            engine.run();
+            Ok(engine)
+        }
+        Err(fault) => Err(fault),
+    }
+}
+
+// What a view other than the printed run shows of an engine whose run is over, a row for each.
+fn text_of<C: Costs>(
+    alloc: Global,
+    sched: &Sched,
+    engine: &Engine<'_, C>,
+    view: RunView,
+) -> Result<Vec<u8>, NoMemory>
+    requires whole { view ≢ RunView.Printed }
+    requires same { engine.now.plans ≡ sched.now }
+    requires done { IsFinished engine.now.plans (C.model engine.now.costs) engine.now.history }
+    ensures { IfOk result (λ text.
+        Shows view sched.now (C.model engine.now.costs) engine.now.history text.items) }
+{
+    match view {
+        RunView::Printed => unreachable!(),
+        RunView::Waits => waits(alloc, sched, engine),
+        RunView::Knots => show_knots(alloc, sched, engine),
+        RunView::Sum => sum_up(alloc, sched, engine),
+    }
+}
+
+// Gives back the memory of an engine. A function of its own keeps what goes here out of the proofs of its callers.
+fn let_go<C: Costs + Drop>(engine: Engine<'_, C>) {
+    let _engine = engine;
+}
+
+// What such a view shows, made whole.
+fn show_whole<'a, C: Costs + Drop>(
+    alloc: Global,
+    sched: &'a Sched,
+    engine: Engine<'a, C>,
+    view: RunView,
+) -> Result<Shown<'a, C>, NoMemory>
+    requires whole { view ≢ RunView.Printed }
+    requires same { engine.plans ≡ sched.now }
+    requires done { IsFinished engine.plans (C.model engine.costs) engine.history }
+    ensures shown { IfOk result (λ run. Shows view sched.now (C.model engine.entry.costs) engine.entry.history
+        (run.head.items ++ (unwrap_or run.lines [] ++ run.tail.items))) }
+    ensures stuck { IfOk result (λ run.
+        run.stuck ≡ is_stuck sched.now (C.model engine.entry.costs) engine.entry.history) }
+{
+    let stuck = is_stuck(&engine);
+    let text = text_of(alloc, sched, &engine, view);
+    let_go(engine);
+    Ok(Shown::whole(alloc, text?, stuck))
+}
+
+// What a view shows of an engine whose run is over.
+fn show<'a, C: Costs + Drop>(
+    alloc: Global,
+    sched: &'a Sched,
+    engine: Engine<'a, C>,
+    view: RunView,
+) -> Result<Shown<'a, C>, NoMemory>
+    requires same { engine.plans ≡ sched.now }
+    requires done { IsFinished engine.plans (C.model engine.costs) engine.history }
+    ensures shown { IfOk result (λ run. Shows view sched.now (C.model engine.entry.costs) engine.entry.history
+        (run.head.items ++ (unwrap_or run.lines [] ++ run.tail.items))) }
+    ensures stuck { IfOk result (λ run.
+        run.stuck ≡ is_stuck sched.now (C.model engine.entry.costs) engine.entry.history) }
+{
+    match view {
+        RunView::Printed => print_run(alloc, sched, engine),
+        RunView::Waits | RunView::Knots | RunView::Sum => show_whole(alloc, sched, engine, view),
+    }
+}
+
+/// Runs a schedule with these costs, and gives what a view shows of its run.
+///
+/// # Errors
+///
+/// `Budget` where the time budget, this sum in nanoseconds, exceeds 2^63-1. And want of memory.
+pub fn show_run<C: Costs + Drop>(
+    alloc: Global,
+    sched: &Sched,
+    costs: C,
+    view: RunView,
+) -> Result<Shown<'_, C>, EngineFault>
+    ensures fits { OnOk result (budget sched.now (C.model costs) < 2 ^ 63) }
+    ensures shown { IfOk result (λ run. IsShownRun view (C.model costs) sched.now
+        (run.head.items ++ (unwrap_or run.lines [] ++ run.tail.items)) run.stuck) }
+    ensures fault { IfErr result (IsEngineFault (budget sched.now (C.model costs))) }
+{
+    let engine = match run(alloc, sched, costs) {
+        Ok(engine) => engine,
+        Err(fault) => return Err(fault),
+    };
+    match show(alloc, sched, engine, view) {
+        Ok(run) => Ok(run),
+        Err(NoMemory) => Err(EngineFault::NoMemory),
+    }
+}

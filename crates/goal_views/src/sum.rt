@@ -1,0 +1,41 @@
+// The sum of a run.
+ghost use Rattle.std.specs.Prelude.{◌≡◌, IfOk};
+ghost use Rattle.goal_views.specs.Views.{sum_of_ends, probe_text};
+
+use goal_base::{NoMemory, TextOut};
+use goal_graph::Sched;
+use sim_events::Engine;
+use sim_params::Costs;
+use sim_timeline::first_line;
+use std::alloc::Global;
+
+// The first line of the timeline, and the sum of all ends.
+pub fn sum_up<C: Costs>(
+    alloc: Global,
+    sched: &Sched,
+    engine: &Engine<'_, C>,
+) -> Result<Vec<u8>, NoMemory>
+    requires same { engine.now.plans ≡ sched.now }
+    ensures { IfOk result (λ text.
+        text.items ≡ probe_text sched.now (C.model engine.now.costs) engine.now.history) }
+{
+    let mut text = first_line(alloc, sched, engine)?;
+    let mut out = TextOut::new(alloc);
+    out.word("ends ")?;
+    out.number(sum_of_ends(sched, engine))?;
+    out.word("\n")?;
+    text.extend_from_slice(&out.into_bytes())?;
+    Ok(text)
+}
+
+// The sum of the ends of all operations that have one: of at most 2^20 numbers below 2^64.
+fn sum_of_ends<C: Costs>(sched: &Sched, engine: &Engine<'_, C>) -> u128
+    requires same { engine.now.plans ≡ sched.now }
+    ensures { result ≡ sum_of_ends sched.now (C.model engine.now.costs) engine.now.history }
+{
+    let mut sum: u128 = 0;
+    for id in sched.operations() {
+        sum += u128::from(engine.record(*id).end.unwrap_or(0));
+    }
+    sum
+}

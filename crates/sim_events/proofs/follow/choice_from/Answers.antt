@@ -1,6 +1,0 @@
-use Rattle.sim_events.proofs.Cursors.{cursors_set}
-use Rattle.sim_events.proofs.follow.choice_from.Goals as goal
-
-pub returns-clause-cursors : goal.returns-clause-cursors
-returns-clause-cursors g c =
-    cursors_set _ _ _ c.args.id c.sched.result.now c.args.cursors.now c.index.result _ c.requires.cursors c.sched.ensures c.index.ensures.index c.choice-action.ensures.cursor

@@ -1,0 +1,21 @@
+use Rattle.std.proofs.Common.{◌≡◌, ℕ, List, Result, Ok, Err, IfOk, None, replicate, false, length, [], sym, subst}
+use Rattle.sim_params.specs.Costs.{CostModel}
+use Rattle.sim_stations.specs.declared.pair.Pair.{Pair}
+use Rattle.sim_stations.specs.declared.stand.Stand.TheVariants.{Nowhere}
+use Rattle.sim_stations.specs.Stations.{DoExist}
+use Rattle.sim_events.specs.Stations.{AreStationed}
+use Rattle.sim_events.specs.Queue.{IsOfSchedule}
+use Rattle.sim_events.proofs.Queue.{new_queue}
+use Rattle.sim_events.proofs.outlook.queue_of.Goals as goal
+
+-- what holds of a value that was made for another reason
+if_ok : {T E : Type 0} (P Q : T → Type 0) (r : Result T E) → IfOk r P → ((q : T) → P q → Q q) → IfOk r Q
+if_ok P Q (Ok q) p to = to q p
+if_ok P Q (Err e) p to = p
+
+pub returns-clause-of_it : goal.returns-clause-of_it
+returns-clause-of_it c =
+    let stations = c.in_ok-stations.stations in
+    let stationed = subst (λ (ps : List Pair). AreStationed c.args.sched.now c.deref.result.now ps) (sym c.deref-2.ensures.value) (subst (λ (ns : List ℕ). AreStationed c.args.sched.now ns stations.pairs.items) (sym c.deref.ensures.value) c.in_ok-stations.ensures.stationed) in
+    let exist = subst (λ (ps : List Pair). DoExist ps stations.resources) (sym c.deref-2.ensures.value) c.in_ok-stations.ensures.exist in
+    if_ok (λ q. q ≡ record { keys = replicate (length c.deref.result.now) None; stations = c.deref.result.now; stands = replicate (length c.deref.result.now) Nowhere; pairs = c.deref-2.result.now; turned = replicate (length c.deref-2.result.now) false; free = replicate stations.resources 0; found = None }) (λ q. (costs : CostModel) → IsOfSchedule c.args.sched.now costs [] q) c.new.result c.new.ensures.queue (λ q is costs. new_queue c.args.sched.now costs c.deref.result.now c.deref-2.result.now stations.resources q stationed exist is)

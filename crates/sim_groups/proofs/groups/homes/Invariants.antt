@@ -1,0 +1,9 @@
+use Rattle.std.proofs.Common.{◌≤◌, ℕ, take, slice_index}
+use Rattle.sim_groups.specs.Groups.{AreHomes}
+use Rattle.sim_groups.proofs.groups.homes.Given as goal
+
+abbrev pub invariant-slots : goal.invariant-slots
+invariant-slots l = record {
+  given : AreHomes (take l.number-index l.numbers) l.homes.items l.counts;
+  few : (group : ℕ) → slice_index l.counts group ≤ l.number-index;
+}

@@ -1,0 +1,128 @@
+// Slots in groups.
+ghost use Rattle.std.specs.Prelude.{◌≡◌, ◌+◌, ◌*◌, ◌^◌, ◌<◌, ◌≤◌, ℕ, All, IfOk, IfSome, IsNone, OnOk, Some, None, length, map, replicate, slice_get, slice_set};
+ghost use Rattle.goal_base.specs.declared.limits.TheConstants.{MAX_OPS};
+ghost use Rattle.sim_order.specs.Events.{event_before};
+ghost use Rattle.sim_heaps.specs.Map.{key_at, no_keys};
+ghost use Rattle.sim_groups.specs.Groups.{IsEmptyGroup, IsLeastOf, IsSoleLeastOf, AreHomes};
+
+use goal_base::NoMemory;
+use sim_heaps::{Arrivals, TopHeap};
+use sim_order::{CompactKey, Steps};
+use std::alloc::Global;
+use std::marker::Model;
+use std::sync::ledger::Ledger;
+
+/// Where a slot has its key: in the heap of its group, at a place there.
+#[derive(Clone, Copy, Debug, PartialEq, Eq)]
+pub struct Home {
+    pub group: u32,
+    pub place: u32,
+}
+
+/// A finite map from slots to keys, whose slots are in groups. The least key of a group is asked for. With at most 2^k
+/// slots a put or a take compares 2k + 1 times at most, and asking for the least compares nothing.
+#[derive(Drop)]
+pub struct Groups {
+    homes: Vec<Home>,
+    heaps: Vec<TopHeap>,
+}
+
+impl Model for Groups {
+    ghost use Rattle.goal_graph.specs.declared.action.Timed.{Timed};
+    ghost use Rattle.sim_groups.specs.Groups.{Grouped, IsHoused, grouped};
+
+    ghost Value = { Grouped Timed };
+
+    ghost view = { λ q. grouped q.homes.items q.heaps.items };
+
+    ghost invariant = { λ q. IsHoused q.homes.items q.heaps.items };
+}
+
+/// Homes for slots whose groups have these numbers: the slots of a group get its places in their order. Counts the slots
+/// of each group.
+pub fn homes(alloc: Global, numbers: &[u32], counts: &mut [u32]) -> Result<Vec<Home>, NoMemory>
+    requires within { All (λ group. group < length counts.old) numbers.now }
+    requires zero { All (λ count. count ≡ 0) counts.old }
+    requires few { length numbers.now < 2 ^ 32 }
+    ensures homes { IfOk result (λ homes. AreHomes numbers.now homes.items counts.new) }
+    ensures few { OnOk result (All (λ count. count ≤ length numbers.now) counts.new) }
+{
+    let mut homes = Vec::with_capacity(alloc, numbers.len())?;
+    'slots: for number in numbers {
+        let group = *number;
+        let place = counts[group as usize];
+        homes.push(Home { group, place })?;
+        counts[group as usize] = place + 1;
+    }
+    Ok(homes)
+}
+
+// Heaps with so many slots each, none of which has a key.
+fn heaps(alloc: Global, counts: &[u32]) -> Result<Vec<TopHeap>, NoMemory>
+    requires { All (λ count. count ≤ MAX_OPS) counts.now }
+    ensures { IfOk result (λ heaps. heaps.items ≡ map no_keys counts.now) }
+{
+    let mut heaps = Vec::with_capacity(alloc, counts.len())?;
+    'groups: for count in counts {
+        heaps.push(TopHeap::new(alloc, *count)?)?;
+    }
+    Ok(heaps)
+}
+
+impl Groups {
+    /// The slots whose groups have these numbers, the numbers below `groups`. None of them has a key. It takes all its
+    /// memory here.
+    pub fn new(alloc: Global, numbers: &[u32], groups: u32) -> Result<Groups, NoMemory>
+        requires within { All (λ group. group < groups) numbers.now }
+        requires few { length numbers.now ≤ MAX_OPS }
+        ensures { IfOk result (λ q. q ≡ record { keys = replicate (length numbers.now) None; groups = numbers.now }) }
+    {
+        let mut counts = vec![in alloc; 0; groups as usize]?;
+        let homes = homes(alloc, numbers, &mut counts)?;
+        let heaps = heaps(alloc, &counts)?;
+        Ok(Groups { homes, heaps })
+    }
+
+    /// The group of a slot.
+    pub fn group(&self, slot: u32) -> u32
+        requires { slot < length self.now.groups }
+        ensures { slice_get self.now.groups slot ≡ Some result }
+    {
+        self.homes[slot as usize].group
+    }
+
+    /// Gives a slot that has no key a key.
+    pub fn put<L: Ledger>(&mut self, slot: u32, key: CompactKey, steps: &mut Steps<L>)
+        requires slot_in { slot < length self.old.keys }
+        requires free { key_at self.old.keys slot ≡ None }
+        ensures put { self.new ≡ record self.old { keys = slice_set self.old.keys slot (Some key) } }
+        ensures counted { (k : ℕ) → length self.old.keys ≤ 2 ^ k → steps.new ≤ steps.old + (2 * k + 1) }
+        ensures onward { steps.old ≤ steps.new }
+    {
+        let home = self.homes[slot as usize];
+        self.heaps[home.group as usize].put(home.place, key, steps);
+    }
+
+    /// Takes out the key of a slot that is before that of each other slot of its group.
+    pub fn take<L: Ledger>(&mut self, slot: u32, steps: &mut Steps<L>)
+        requires { IsSoleLeastOf event_before self.old slot }
+        ensures taken { self.new ≡ record self.old { keys = slice_set self.old.keys slot None } }
+        ensures counted { (k : ℕ) → length self.old.keys ≤ 2 ^ k → steps.new ≤ steps.old + (2 * k + 1) }
+        ensures onward { steps.old ≤ steps.new }
+    {
+        let home = self.homes[slot as usize];
+        self.heaps[home.group as usize].take(home.place, Arrivals::InOrder, steps);
+    }
+
+    /// The least key of a group. None where no slot of the group has a key, or there is no such group.
+    pub fn least_of(&self, group: u32) -> Option<CompactKey>
+        ensures none { IsNone result → IsEmptyGroup self.now group }
+        ensures least { IfSome result (IsLeastOf event_before self.now group) }
+    {
+        if group as usize >= self.heaps.len() {
+            return None;
+        }
+        let (_, key) = self.heaps[group as usize].least()?;
+        Some(key)
+    }
+}

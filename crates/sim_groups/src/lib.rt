@@ -1,0 +1,8 @@
+//! Slots in groups: each slot has a key or none, and the least key of a group is asked for.
+#![tactic(auto)]
+
+mod groups;
+mod slot_groups;
+
+pub use groups::{Groups, Home};
+pub use slot_groups::SlotGroups;

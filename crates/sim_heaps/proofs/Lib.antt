@@ -1,0 +1,15 @@
+pub mod Weak
+pub mod Maps
+pub mod Swapping
+pub mod Children
+pub mod Places
+pub mod Placed
+pub mod Shifting
+pub mod Stepping
+pub mod Top
+pub mod Changing
+pub mod Bounds
+pub mod Items
+pub mod ItemSteps
+pub mod ItemChanges
+pub mod ForCallers

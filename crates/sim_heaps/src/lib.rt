@@ -1,0 +1,12 @@
+//! Heaps of events: each slot has a key or none, and the least key is asked for.
+#![tactic(auto)]
+
+mod heap_item;
+mod queue;
+mod sift;
+mod slot_heap;
+mod top_heap;
+
+pub use queue::EventQueue;
+pub use slot_heap::SlotHeap;
+pub use top_heap::{Arrivals, TopHeap};

@@ -1,0 +1,139 @@
+-- What one more action changes of what is known of an operation.
+use Rattle.std.proofs.Common.{◌≡◌, ◌==◌, ◌&&◌, ◌+◌, ℕ, Bool, true, false, not, List, ◌∷◌, Option, Some, None, if◌then◌else◌, is_some, refl, sym, ap, ap₂, ◌∙◌, subst}
+use Rattle.std.specs.Option.{option_map}
+use Rattle.std.proofs.lemmas.Bool.{cond-true, cond-false, and_left, and_right, and_parts, both_ways, false_from_ne_true}
+use Rattle.goal_graph.specs.declared.action.OpId.{OpId}
+use Rattle.goal_graph.specs.declared.action.Timed.{Timed}
+use Rattle.goal_graph.specs.declared.action.Class.{Class}
+use Rattle.goal_graph.specs.declared.action.Class.TheVariants.{Arrive, Data, Begin}
+use Rattle.goal_graph.specs.declared.plan.Kind.{Kind}
+use Rattle.goal_graph.specs.declared.plan.Kind.TheVariants.{Calc, Send, Recv}
+use Rattle.goal_graph.specs.Schedule.{Plan, kind_at}
+use Rattle.goal_graph.specs.Action.{place, same_op, is_act, happened, plain, plain_act}
+use Rattle.goal_graph.specs.Matching.{pairs, is_paired}
+use Rattle.goal_graph.specs.Allowed.{first_class, last_class, may, allowed}
+use Rattle.goal_graph.specs.Laws.{IsCalc, IsSend}
+use Rattle.goal_graph.proofs.ForCallers.{happened_other, happened_new, is_act_from, arrived_begun, is_some_from, allowed_fresh, started_send}
+use Rattle.sim_params.specs.Costs.{CostModel, flight, flight_one, is_eager}
+use Rattle.sim_params.specs.Times.{mate, cpu_hold, start, paired_at, time_of, time, Possible}
+use Rattle.sim_params.specs.Run.{IsRun}
+use Rattle.sim_params.proofs.ForCallers.{start_kept, start_now, end_kept, end_last, paired_at_kept, since_kept, since_new, run_each, run_interleaving}
+use Rattle.sim_state.specs.Engine.{start_known, end_known}
+use Rattle.sim_state.specs.Enabled.{time_known}
+use Rattle.sim_state.specs.Represents.{paired_known, there_known}
+
+-- a number that is known alike
+known_alike : (b c : Bool) (m n : ℕ) → c ≡ b → (b ≡ true → n ≡ m) → (if c then Some n else None) ≡ (if b then Some m else None)
+known_alike true c m n e same = subst (λ c. (if c then Some n else None) ≡ Some m) (sym e) (ap Some (same refl))
+known_alike false c m n e same = subst (λ c. (if c then Some n else None) ≡ None) (sym e) refl
+
+module _ (plans : List Plan) (costs : CostModel) (h : List Timed) (a : Timed) where
+  -- the newest action is another one: of another operation, of another class
+  pub other_op : (c : Class) (x : OpId) → same_op a.op x ≡ false → is_act c x (plain_act a) ≡ false
+  other_op c x e = and_right (place a.class == place c) (same_op a.op x) e
+
+  pub other_class : (c : Class) (x : OpId) → (place a.class == place c) ≡ false → is_act c x (plain_act a) ≡ false
+  other_class c x e = and_left (place a.class == place c) (same_op a.op x) e
+
+  pub happened_same : (c : Class) (x : OpId) → is_act c x (plain_act a) ≡ false → happened c x (plain (a ∷ h)) ≡ happened c x (plain h)
+  unfolding plain
+  happened_same c x e = happened_other c x (plain_act a) (plain h) e
+
+  pub happened_this : (c : Class) → a.class ≡ c → happened c a.op (plain (a ∷ h)) ≡ true
+  unfolding plain
+  happened_this c e =
+      happened_new c a.op (plain_act a) (plain h) (is_act_from c a.op (plain_act a) e refl)
+
+  -- it had not happened before
+  pub fresh : (c : Class) → Possible plans costs h a → a.class ≡ c → happened c a.op (plain h) ≡ false
+  fresh c p e =
+      subst (λ (d : Class). happened d a.op (plain h) ≡ false) e (allowed_fresh plans (is_eager plans costs) (plain h) a.class a.op p.allowed)
+
+  -- the start
+  pub start_same : (x : OpId) → is_act (first_class (kind_at plans x)) x (plain_act a) ≡ false → start_known plans costs (a ∷ h) x ≡ start_known plans costs h x
+  start_same x e =
+      known_alike _ _ _ _ (happened_same (first_class (kind_at plans x)) x e) (start_kept plans costs a h x)
+
+  pub start_new : Possible plans costs h a → a.class ≡ first_class (kind_at plans a.op) → start_known plans costs (a ∷ h) a.op ≡ Some a.time
+  start_new p e =
+      cond-true _ _ _ (happened_this (first_class (kind_at plans a.op)) e) ∙ ap Some (start_now plans costs a h p e)
+
+  -- the end
+  pub end_same : IsRun plans costs h → (x : OpId) → is_act (last_class (is_eager plans costs x) (kind_at plans x)) x (plain_act a) ≡ false → end_known plans costs (a ∷ h) x ≡ end_known plans costs h x
+  end_same run x e =
+      known_alike _ _ _ _ (happened_same (last_class (is_eager plans costs x) (kind_at plans x)) x e) (end_kept plans costs a h x (run_each plans costs h run))
+
+  pub end_new : Possible plans costs h a → a.class ≡ last_class (is_eager plans costs a.op) (kind_at plans a.op) → end_known plans costs (a ∷ h) a.op ≡ Some (a.time + cpu_hold plans costs h a.class a.op (kind_at plans a.op))
+  end_new p e =
+      cond-true _ _ _ (happened_this (last_class (is_eager plans costs a.op) (kind_at plans a.op)) e) ∙ ap Some (end_last plans costs a h p e)
+
+  -- the arrival that is under way
+  abbrev arriving_of : List Timed → OpId → Option Kind → Option ℕ
+  arriving_of l x k =
+      if not (happened Arrive x (plain l)) && may plans (is_eager plans costs) (plain l) Arrive x k then Some (time_of plans costs l Arrive x k) else None
+
+  arriving_is : (l : List Timed) (x : OpId) (k : Option Kind) → kind_at plans x ≡ k → time_known plans costs l Arrive x ≡ arriving_of l x k
+  unfolding allowed time
+  arriving_is l x k e = ap (arriving_of l x) e
+
+  never : (b : Bool) (n : ℕ) → (if b && false then Some n else None) ≡ None
+  never b n = cond-false _ _ _ (and_right b false refl)
+
+  abbrev travel : OpId → ℕ
+  travel x = if is_eager plans costs x then flight plans costs x else flight_one plans costs x
+
+  pub arriving_same : (x : OpId) → is_act Arrive x (plain_act a) ≡ false → is_act Begin x (plain_act a) ≡ false → time_known plans costs (a ∷ h) Arrive x ≡ time_known plans costs h Arrive x
+  arriving_same x e f = go (kind_at plans x) refl
+    where
+      go : (k : Option Kind) → kind_at plans x ≡ k → time_known plans costs (a ∷ h) Arrive x ≡ time_known plans costs h Arrive x
+      go (Some (Send bytes to tag)) k =
+          let send : IsSend plans x = record { bytes = bytes; to = to; tag = tag; kind = k } in
+          let same : arriving_of (a ∷ h) x (Some (Send bytes to tag)) ≡ arriving_of h x (Some (Send bytes to tag)) = known_alike (not (happened Arrive x (plain h)) && happened Begin x (plain h)) (not (happened Arrive x (plain (a ∷ h))) && happened Begin x (plain (a ∷ h))) (start plans costs h x + travel x) (start plans costs (a ∷ h) x + travel x) (ap₂ (λ (b c : Bool). not b && c) (happened_same Arrive x e) (happened_same Begin x f)) (λ t. ap (λ (n : ℕ). n + travel x) (start_kept plans costs a h x (started_send plans (plain h) x send ∙ (and_parts (not (happened Arrive x (plain h))) (happened Begin x (plain h)) t).1))) in
+          arriving_is (a ∷ h) x _ k ∙ same ∙ sym (arriving_is h x _ k)
+      go (Some (Calc nanos)) k = arriving_is (a ∷ h) x _ k ∙ never _ _ ∙ sym (never _ _) ∙ sym (arriving_is h x _ k)
+      go (Some (Recv room from tag)) k = arriving_is (a ∷ h) x _ k ∙ never _ _ ∙ sym (never _ _) ∙ sym (arriving_is h x _ k)
+      go None k = arriving_is (a ∷ h) x _ k ∙ never _ _ ∙ sym (never _ _) ∙ sym (arriving_is h x _ k)
+
+  -- a calc never arrives
+  pub arriving_calc : (x : OpId) → IsCalc plans x → time_known plans costs (a ∷ h) Arrive x ≡ time_known plans costs h Arrive x
+  arriving_calc x k = arriving_is (a ∷ h) x _ k.kind ∙ never _ _ ∙ sym (never _ _) ∙ sym (arriving_is h x _ k.kind)
+
+  -- a send that begins is under way
+  pub arriving_begun : IsRun plans costs h → Possible plans costs h a → a.class ≡ Begin → IsSend plans a.op → time_known plans costs (a ∷ h) Arrive a.op ≡ Some (a.time + (if is_eager plans costs a.op then flight plans costs a.op else flight_one plans costs a.op))
+  arriving_begun run p e s =
+      let not_begun = fresh Begin p e in
+      let not_arrived : happened Arrive a.op (plain h) ≡ false = false_from_ne_true _ (λ t. both_ways _ not_begun (arrived_begun plans (is_eager plans costs) (plain h) a.op (run_interleaving plans costs h run) t)) in
+      let other : is_act Arrive a.op (plain_act a) ≡ false = other_class Arrive a.op (ap (λ (c : Class). place c == 0) e) in
+      let under_way : (not (happened Arrive a.op (plain (a ∷ h))) && happened Begin a.op (plain (a ∷ h))) ≡ true = ap₂ (λ (b c : Bool). not b && c) (happened_same Arrive a.op other ∙ not_arrived) (happened_this Begin e) in
+      let first : a.class ≡ first_class (kind_at plans a.op) = e ∙ sym (ap first_class s.kind) in
+      arriving_is (a ∷ h) a.op _ s.kind ∙ cond-true _ _ _ under_way ∙ ap (λ (n : ℕ). Some (n + travel a.op)) (start_now plans costs a h p first)
+
+  -- what has arrived is not
+  pub arriving_arrived : a.class ≡ Arrive → time_known plans costs (a ∷ h) Arrive a.op ≡ None
+  arriving_arrived e =
+      arriving_is (a ∷ h) a.op (kind_at plans a.op) refl ∙ cond-false _ _ _ (and_left _ _ (ap not (happened_this Arrive e)))
+
+  -- the bytes that are handed over
+  pub there_same : (x : OpId) → is_act Data x (plain_act a) ≡ false → there_known plans costs (a ∷ h) x ≡ there_known plans costs h x
+  there_same x e =
+      known_alike _ _ _ _ (happened_same Data x e) (λ t. ap (λ (n : ℕ). n + flight plans costs x) (since_kept (happened Data x) a h t))
+
+  pub there_new : Possible plans costs h a → a.class ≡ Data → there_known plans costs (a ∷ h) a.op ≡ Some (a.time + flight plans costs a.op)
+  there_new p e =
+      cond-true _ _ _ (happened_this Data e) ∙ ap (λ (n : ℕ). Some (n + flight plans costs a.op)) (since_new (happened Data a.op) a h (fresh Data p e) (happened_this Data e))
+
+  -- the partner
+  pub paired_same : (x : OpId) → mate plans costs (a ∷ h) x ≡ mate plans costs h x → paired_known plans costs (a ∷ h) x ≡ paired_known plans costs h x
+  paired_same x e = go (mate plans costs h x) refl
+    where
+      go : (o : Option OpId) → mate plans costs h x ≡ o → paired_known plans costs (a ∷ h) x ≡ paired_known plans costs h x
+      go None s =
+          ap (option_map (λ (y : OpId). record { with = y; at = paired_at plans costs (a ∷ h) x })) (e ∙ s) ∙ sym (ap (option_map (λ (y : OpId). record { with = y; at = paired_at plans costs h x })) s)
+      go (Some m) s =
+          ap₂ (λ (n : ℕ) (o : Option OpId). option_map (λ (y : OpId). record { with = y; at = n }) o) (paired_at_kept plans costs a h x (is_some_from _ m s)) e
+
+  pub paired_new : (x y : OpId) → mate plans costs h x ≡ None → mate plans costs (a ∷ h) x ≡ Some y → paired_known plans costs (a ∷ h) x ≡ Some (record { with = y; at = a.time })
+  paired_new x y e f =
+      let before : is_paired (pairs plans (plain h)) x ≡ false = ap is_some e in
+      let now : is_paired (pairs plans (plain (a ∷ h))) x ≡ true = ap is_some f in
+      ap₂ (λ (n : ℕ) (o : Option OpId). option_map (λ (y : OpId). record { with = y; at = n }) o) (since_new (λ l. is_paired (pairs plans l) x) a h before now) f

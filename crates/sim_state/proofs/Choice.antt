@@ -1,0 +1,94 @@
+-- The possible action of one operation, class by class.
+use Rattle.std.proofs.Common.{◌≡◌, ◌⊎◌, true, false, List, Option, Some, None, is_some, inl, inr, refl, sym, ap, ◌∙◌, subst}
+use Rattle.std.specs.Option.{option_or}
+use Rattle.std.proofs.lemmas.Bool.{cond-true, cond-false, cases_Bool, both_ways, false_from_ne_true}
+use Rattle.goal_graph.specs.declared.action.OpId.{OpId}
+use Rattle.goal_graph.specs.declared.action.Timed.{Timed}
+use Rattle.goal_graph.specs.declared.action.Class.{Class}
+use Rattle.goal_graph.specs.declared.action.Class.TheVariants.{Arrive, Serve, Data, Post, Begin}
+use Rattle.goal_graph.specs.Schedule.{Plan}
+use Rattle.goal_graph.specs.Action.{plain}
+use Rattle.goal_graph.specs.Allowed.{allowed}
+use Rattle.goal_graph.specs.Laws.{IsCalc, IsSend, IsReceive}
+use Rattle.goal_graph.proofs.ForCallers.{not_send_receive, not_receive_calc, not_send_calc, allowed_arrive, allowed_data, allowed_serve, allowed_post, allowed_begin}
+use Rattle.sim_params.specs.Costs.{CostModel, is_eager}
+use Rattle.sim_params.specs.Laws.{at_its_time}
+use Rattle.sim_params.proofs.ForCallers.{possible_at}
+use Rattle.sim_state.specs.Enabled.{enabled_action, IsEnabledActionOf}
+
+-- the first of two that is there
+pub or_first : (a b : Option Timed) → is_some a ≡ true → a ≡ option_or a b
+or_first None b e = absurd (both_ways false refl e)
+or_first (Some x) b e = refl
+
+pub or_last : (a b : Option Timed) → is_some a ≡ false → b ≡ option_or a b
+or_last None b e = refl
+or_last (Some x) b e = absurd (both_ways true e refl)
+
+module _ (plans : List Plan) (costs : CostModel) (h : List Timed) (x : OpId) where
+  abbrev pub Can : Class → Type 0
+  Can c = allowed plans (is_eager plans costs) (plain h) c x ≡ true
+
+  abbrev pub IsEnabledAction : Option Timed → Type 0
+  IsEnabledAction r = IsEnabledActionOf plans costs h x r
+
+  -- where no other class is allowed, the enabled action of that class is the one of x
+  enabled_of_class : (c : Class) → ((d : Class) → Can d → d ≡ c) → IsEnabledAction (enabled_action plans costs h c x)
+  enabled_of_class c only = go (cases_Bool (allowed plans (is_eager plans costs) (plain h) c x))
+    where
+      go : (Can c) ⊎ (allowed plans (is_eager plans costs) (plain h) c x ≡ false) → IsEnabledAction (enabled_action plans costs h c x)
+      go (inl t) =
+          subst IsEnabledAction (sym (cond-true _ (Some (at_its_time plans costs h c x)) None t)) (refl, possible_at plans costs h c x t)
+      go (inr f) =
+          subst IsEnabledAction (sym (cond-false _ (Some (at_its_time plans costs h c x)) None f)) (λ d. false_from_ne_true _ (λ t. both_ways _ f (subst Can (only d t) t)))
+
+  -- where that class is allowed, its enabled action is the one of x
+  first_of : (c : Class) (rest : Option Timed) → ((Can c → ⊥) → IsEnabledAction rest) → IsEnabledAction (option_or (enabled_action plans costs h c x) rest)
+  first_of c rest other = go (cases_Bool (allowed plans (is_eager plans costs) (plain h) c x))
+    where
+      go : (Can c) ⊎ (allowed plans (is_eager plans costs) (plain h) c x ≡ false) → IsEnabledAction (option_or (enabled_action plans costs h c x) rest)
+      go (inl t) =
+          subst (λ (o : Option Timed). IsEnabledAction (option_or o rest)) (sym (cond-true _ (Some (at_its_time plans costs h c x)) None t)) (refl, possible_at plans costs h c x t)
+      go (inr f) =
+          subst (λ (o : Option Timed). IsEnabledAction (option_or o rest)) (sym (cond-false _ (Some (at_its_time plans costs h c x)) None f)) (other (λ t. both_ways _ f t))
+
+  -- the classes of each kind
+  calc_class : IsCalc plans x → (c : Class) → Can c → c ≡ Begin
+  calc_class k Begin e = refl
+  calc_class k Arrive e = absurd (not_send_calc plans x (allowed_arrive plans (is_eager plans costs) (plain h) x e).0 k)
+  calc_class k Data e = absurd (not_send_calc plans x (allowed_data plans (is_eager plans costs) (plain h) x e).0 k)
+  calc_class k Post e = absurd (not_receive_calc plans x (allowed_post plans (is_eager plans costs) (plain h) x e).0 k)
+  calc_class k Serve e = absurd (not_receive_calc plans x (allowed_serve plans (is_eager plans costs) (plain h) x e).0 k)
+
+  send_class : IsSend plans x → (Can Begin → ⊥) → (Can Arrive → ⊥) → (c : Class) → Can c → c ≡ Data
+  send_class k b a Begin e = absurd (b e)
+  send_class k b a Arrive e = absurd (a e)
+  send_class k b a Data e = refl
+  send_class k b a Post e = absurd (not_send_receive plans x k (allowed_post plans (is_eager plans costs) (plain h) x e).0)
+  send_class k b a Serve e = absurd (not_send_receive plans x k (allowed_serve plans (is_eager plans costs) (plain h) x e).0)
+
+  receive_class : IsReceive plans x → (Can Post → ⊥) → (c : Class) → Can c → c ≡ Serve
+  receive_class k p Begin e = absurd (elim (allowed_begin plans (is_eager plans costs) (plain h) x e).0 [ inl calc ↦ not_receive_calc plans x k calc | inr send ↦ not_send_receive plans x send k ])
+  receive_class k p Arrive e = absurd (not_send_receive plans x (allowed_arrive plans (is_eager plans costs) (plain h) x e).0 k)
+  receive_class k p Data e = absurd (not_send_receive plans x (allowed_data plans (is_eager plans costs) (plain h) x e).0 k)
+  receive_class k p Post e = absurd (p e)
+  receive_class k p Serve e = refl
+
+  pub calc_choice : IsCalc plans x → (r : Option Timed) → r ≡ enabled_action plans costs h Begin x → IsEnabledAction r
+  calc_choice k r e = subst IsEnabledAction (sym e) (enabled_of_class Begin (calc_class k))
+
+  or_assoc : (a b c : Option Timed) → option_or (option_or a b) c ≡ option_or a (option_or b c)
+  or_assoc None b c = refl
+  or_assoc (Some a) b c = refl
+
+  pub send_choice : IsSend plans x → (a b d r s : Option Timed) → a ≡ enabled_action plans costs h Begin x → b ≡ enabled_action plans costs h Arrive x → d ≡ enabled_action plans costs h Data x → s ≡ option_or a b → r ≡ option_or s d → IsEnabledAction r
+  send_choice k a b d r s ae be de se re =
+      let enabled = first_of Begin (option_or (enabled_action plans costs h Arrive x) (enabled_action plans costs h Data x)) (λ nb. first_of Arrive (enabled_action plans costs h Data x) (λ na. enabled_of_class Data (send_class k nb na))) in
+      let parts : r ≡ option_or (enabled_action plans costs h Begin x) (option_or (enabled_action plans costs h Arrive x) (enabled_action plans costs h Data x)) = re ∙ ap (λ (o : Option Timed). option_or o d) se ∙ or_assoc a b d ∙ (λ i. option_or (ae i) (option_or (be i) (de i))) in
+      subst IsEnabledAction (sym parts) enabled
+
+  pub receive_choice : IsReceive plans x → (a b r : Option Timed) → a ≡ enabled_action plans costs h Post x → b ≡ enabled_action plans costs h Serve x → r ≡ option_or a b → IsEnabledAction r
+  receive_choice k a b r ae be re =
+      let enabled = first_of Post (enabled_action plans costs h Serve x) (λ np. enabled_of_class Serve (receive_class k np)) in
+      let parts : r ≡ option_or (enabled_action plans costs h Post x) (enabled_action plans costs h Serve x) = re ∙ (λ i. option_or (ae i) (be i)) in
+      subst IsEnabledAction (sym parts) enabled

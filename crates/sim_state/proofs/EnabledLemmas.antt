@@ -1,0 +1,234 @@
+-- What may happen next of one operation, class by class.
+use Rattle.std.proofs.Common.{◌≡◌, ◌+◌, ◌≤◌, ℕ, max, Bool, true, false, not, ◌||◌, List, Option, Some, None, is_some, if◌then◌else◌, refl, sym, ap, ◌∙◌, arith}
+use Rattle.std.specs.Option.{option_map}
+use Rattle.std.proofs.lemmas.Bool.{cond-true, cond-false, both_ways, false_from_ne_true, and_from, not_from_false}
+use Rattle.std.proofs.lemmas.Option.{same_Some}
+use Rattle.goal_graph.specs.declared.action.OpId.{OpId}
+use Rattle.goal_graph.specs.declared.action.Timed.{Timed}
+use Rattle.goal_graph.specs.declared.action.Class.{Class}
+use Rattle.goal_graph.specs.declared.action.Class.TheVariants.{Serve, Data, Post, Begin}
+use Rattle.goal_graph.specs.declared.plan.Kind.TheVariants.{Send}
+use Rattle.goal_graph.specs.Schedule.{Plan, kind_at}
+use Rattle.goal_graph.specs.Action.{happened, plain}
+use Rattle.goal_graph.specs.Matching.{pairs, is_paired}
+use Rattle.goal_graph.specs.Allowed.{first_class, has_started, has_ended, is_ready, is_served, may, allowed}
+use Rattle.goal_graph.specs.Laws.{IsCalc, IsSend, IsReceive}
+use Rattle.goal_graph.proofs.ForCallers.{partner_is_send, allowed_fresh, allowed_may, allowed_from, allowed_data, allowed_serve, first_of_calc, first_of_send, first_of_receive, ended_receive}
+use Rattle.sim_params.specs.Costs.{CostModel, is_eager, eager_of, latency, flight}
+use Rattle.sim_params.specs.Times.{since, mate, ready, cpu, tx, rx, paired_at, there_at, time_of, time}
+use Rattle.sim_params.specs.Run.{IsRun}
+use Rattle.sim_params.specs.Laws.{at_its_time}
+use Rattle.sim_params.specs.Budget.{budget}
+use Rattle.sim_params.proofs.ForCallers.{possible_budget, possible_at, run_each}
+use Rattle.sim_state.specs.declared.entry.Entry.{Entry}
+use Rattle.sim_state.specs.declared.pairing.Pairing.{Pairing}
+use Rattle.sim_state.specs.Represents.{message_known, entry_known}
+use Rattle.sim_state.specs.Enabled.{ready_known, enabled_action}
+
+-- a number that is known, or not
+pub known_some : (b : Bool) (n m : ℕ) → (if b then Some n else None) ≡ Some m → (b ≡ true) × (n ≡ m)
+known_some true n m e = (refl, same_Some n m e)
+known_some false n m e = absurd (cc)
+
+pub is_known : (b : Bool) (n : ℕ) → is_some (if b then Some n else None) ≡ b
+is_known true n = refl
+is_known false n = refl
+
+module _ (plans : List Plan) (costs : CostModel) (h : List Timed) (x : OpId) where
+  -- an action that may happen and has not
+  pub comes_enabled : (c : Class) (t : ℕ) → happened c x (plain h) ≡ false → may plans (is_eager plans costs) (plain h) c x (kind_at plans x) ≡ true → t ≡ time plans costs h c x → Some (record { time = t; class = c; op = x }) ≡ enabled_action plans costs h c x
+  comes_enabled c t fresh can at =
+      ap (λ (n : ℕ). Some (at_time n)) at ∙ sym (cond-true _ _ None (allowed_from plans (is_eager plans costs) (plain h) c x fresh can))
+    where
+      at_time : ℕ → Timed
+      at_time n = record { time = n; class = c; op = x }
+
+  -- one that is not allowed
+  pub not_enabled : (c : Class) → (allowed plans (is_eager plans costs) (plain h) c x ≡ true → ⊥) → None ≡ enabled_action plans costs h c x
+  not_enabled c not = sym (cond-false _ _ None (false_from_ne_true _ not))
+
+  pub past_not_enabled : (c : Class) → happened c x (plain h) ≡ true → None ≡ enabled_action plans costs h c x
+  past_not_enabled c e =
+      not_enabled c (λ p. both_ways _ (allowed_fresh plans (is_eager plans costs) (plain h) c x p) e)
+
+  pub barred_not_enabled : (c : Class) → may plans (is_eager plans costs) (plain h) c x (kind_at plans x) ≡ false → None ≡ enabled_action plans costs h c x
+  barred_not_enabled c e =
+      not_enabled c (λ p. both_ways _ e (allowed_may plans (is_eager plans costs) (plain h) c x p))
+
+  -- x begins by an action of that class, once it is ready
+  pub record BeginsBy (c : Class) : Type 0 where
+    pub first : first_class (kind_at plans x) ≡ c
+    pub once_ready : may plans (is_eager plans costs) (plain h) c x (kind_at plans x) ≡ is_ready plans (is_eager plans costs) (plain h) x
+
+  pub calc_begins : IsCalc plans x → BeginsBy Begin
+  calc_begins k = record {
+    first = first_of_calc plans x k;
+    once_ready = ap (may plans (is_eager plans costs) (plain h) Begin x) k.kind;
+  }
+
+  pub send_begins : IsSend plans x → BeginsBy Begin
+  send_begins k = record {
+    first = first_of_send plans x k;
+    once_ready = ap (may plans (is_eager plans costs) (plain h) Begin x) k.kind;
+  }
+
+  pub receive_begins : IsReceive plans x → BeginsBy Post
+  receive_begins k = record {
+    first = first_of_receive plans x k;
+    once_ready = ap (may plans (is_eager plans costs) (plain h) Post x) k.kind;
+  }
+
+  first_happened : (c : Class) → BeginsBy c → (e : Entry) → e ≡ entry_known plans costs h x → happened c x (plain h) ≡ is_some e.start
+  first_happened c b e told =
+      ap (λ (d : Class). happened d x (plain h)) (sym b.first) ∙ sym (is_known (has_started plans x (plain h)) _) ∙ sym (ap (λ (e : Entry). is_some e.start) told)
+
+  -- nothing more of that class once it has started, nor while something that it needs is not there
+  pub begun_not_enabled : (c : Class) → BeginsBy c → (e : Entry) → e ≡ entry_known plans costs h x → is_some e.start ≡ true → None ≡ enabled_action plans costs h c x
+  begun_not_enabled c b e told s = past_not_enabled c (first_happened c b e told ∙ s)
+
+  pub unready_not_enabled : (c : Class) → BeginsBy c → (r : Option ℕ) → r ≡ ready_known plans costs h x → r ≡ None → None ≡ enabled_action plans costs h c x
+  unready_not_enabled c b r told n =
+      barred_not_enabled c (b.once_ready ∙ sym (is_known (is_ready plans (is_eager plans costs) (plain h) x) _) ∙ ap is_some (sym told ∙ n))
+
+  -- else its action is enabled
+  pub ready_enabled : (c : Class) → BeginsBy c → (e : Entry) → e ≡ entry_known plans costs h x → is_some e.start ≡ false → (r : Option ℕ) (n t : ℕ) → r ≡ ready_known plans costs h x → r ≡ Some n → (ready plans costs h x ≡ n → t ≡ time plans costs h c x) → Some (record { time = t; class = c; op = x }) ≡ enabled_action plans costs h c x
+  ready_enabled c b e told s r n t r_known r_is at =
+      let q = known_some (is_ready plans (is_eager plans costs) (plain h) x) (ready plans costs h x) n (sym r_known ∙ r_is) in
+      comes_enabled c t (first_happened c b e told ∙ s) (b.once_ready ∙ q.0) (at q.1)
+
+  -- the times of each class
+  pub calc_time : IsCalc plans x → time plans costs h Begin x ≡ max (ready plans costs h x) (cpu plans costs h x)
+  unfolding time
+  calc_time k = ap (time_of plans costs h Begin x) k.kind
+
+  pub send_time : IsSend plans x → time plans costs h Begin x ≡ max (ready plans costs h x) (max (cpu plans costs h x) (tx plans costs h x))
+  unfolding time
+  send_time k = ap (time_of plans costs h Begin x) k.kind
+
+  pub post_time : IsReceive plans x → time plans costs h Post x ≡ ready plans costs h x
+  unfolding time
+  post_time k = ap (time_of plans costs h Post x) k.kind
+
+  pub data_time : IsSend plans x → time plans costs h Data x ≡ max (paired_at plans costs h x + latency plans costs x) (max (cpu plans costs h x) (tx plans costs h x))
+  unfolding time
+  data_time k = ap (time_of plans costs h Data x) k.kind
+
+  pub serve_time : IsReceive plans x → time plans costs h Serve x ≡ max (there_at plans costs h x (mate plans costs h x)) (max (cpu plans costs h x) (rx plans costs h x))
+  unfolding time
+  serve_time k = ap (time_of plans costs h Serve x) k.kind
+
+  -- the partner, as the entry tells it
+  pub record IsPairing (p : Pairing) : Type 0 where
+    pub mate_is : mate plans costs h x ≡ Some p.with
+    pub at_is : paired_at plans costs h x ≡ p.at
+
+  pub paired_some : (e : Entry) (p : Pairing) → e ≡ entry_known plans costs h x → e.paired ≡ Some p → IsPairing p
+  paired_some e p told is =
+      go (mate plans costs h x) refl (sym (ap (λ (e : Entry). e.paired) told) ∙ is)
+    where
+      pairing : OpId → Pairing
+      pairing y = record { with = y; at = paired_at plans costs h x }
+
+      go : (o : Option OpId) → mate plans costs h x ≡ o → option_map (λ (y : OpId). pairing y) o ≡ Some p → IsPairing p
+      go None m f = absurd (cc)
+      go (Some y) m f =
+          let same : pairing y ≡ p = same_Some (pairing y) p f in
+          record { mate_is = m ∙ ap (λ (q : Pairing). Some q.with) same; at_is = ap (λ (q : Pairing). q.at) same }
+
+  pub paired_none : (e : Entry) → e ≡ entry_known plans costs h x → e.paired ≡ None → mate plans costs h x ≡ None
+  paired_none e told is =
+      go (mate plans costs h x) refl (sym (ap (λ (e : Entry). e.paired) told) ∙ is)
+    where
+      pairing : OpId → Pairing
+      pairing y = record { with = y; at = paired_at plans costs h x }
+
+      go : (o : Option OpId) → mate plans costs h x ≡ o → option_map (λ (y : OpId). pairing y) o ≡ None → mate plans costs h x ≡ None
+      go None m f = m
+      go (Some y) m f = absurd (cc)
+
+  -- no Data of an eager send, of one that has handed over its bytes, or of one that is not paired
+  pub eager_data : is_eager plans costs x ≡ true → None ≡ enabled_action plans costs h Data x
+  eager_data e =
+      not_enabled Data (λ p. both_ways _ (allowed_data plans (is_eager plans costs) (plain h) x p).1 e)
+
+  handed : (e : Entry) → e ≡ entry_known plans costs h x → happened Data x (plain h) ≡ is_some e.there
+  handed e told =
+      sym (is_known (happened Data x (plain h)) _) ∙ sym (ap (λ (e : Entry). is_some e.there) told)
+
+  pub handed_data : (e : Entry) → e ≡ entry_known plans costs h x → is_some e.there ≡ true → None ≡ enabled_action plans costs h Data x
+  handed_data e told s = past_not_enabled Data (handed e told ∙ s)
+
+  pub unpaired_data : (e : Entry) → e ≡ entry_known plans costs h x → e.paired ≡ None → None ≡ enabled_action plans costs h Data x
+  unpaired_data e told n =
+      not_enabled Data (λ p. both_ways _ (ap is_some (paired_none e told n)) (allowed_data plans (is_eager plans costs) (plain h) x p).2)
+
+  may_data : IsSend plans x → is_eager plans costs x ≡ false → (p : Pairing) → IsPairing p → may plans (is_eager plans costs) (plain h) Data x (kind_at plans x) ≡ true
+  may_data k large p is =
+      ap (may plans (is_eager plans costs) (plain h) Data x) k.kind ∙ and_from (not (is_eager plans costs x)) (is_paired (pairs plans (plain h)) x) (not_from_false _ large) (ap is_some is.mate_is)
+
+  pub data_enabled : IsSend plans x → is_eager plans costs x ≡ false → (e : Entry) → e ≡ entry_known plans costs h x → is_some e.there ≡ false → (p : Pairing) → IsPairing p → (t : ℕ) → t ≡ time plans costs h Data x → Some (record { time = t; class = Data; op = x }) ≡ enabled_action plans costs h Data x
+  data_enabled k large e told s p is t at = comes_enabled Data t (handed e told ∙ s) (may_data k large p is) at
+
+  -- its clearance is back within the budget
+  pub clears : IsRun plans costs h → IsSend plans x → is_eager plans costs x ≡ false → (e : Entry) → e ≡ entry_known plans costs h x → is_some e.there ≡ false → (p : Pairing) → IsPairing p → p.at + latency plans costs x ≤ budget plans costs
+  clears run k large e told s p is =
+      let can = allowed_from plans (is_eager plans costs) (plain h) Data x (handed e told ∙ s) (may_data k large p is) in
+      omega (arith, possible_budget plans costs h (at_its_time plans costs h Data x) (run_each plans costs h run) (possible_at plans costs h Data x can), data_time k, is.at_is)
+
+  -- no Serve of a receive that has ended, that is not paired, or whose message is not there
+  ended : IsReceive plans x → (e : Entry) → e ≡ entry_known plans costs h x → happened Serve x (plain h) ≡ is_some e.end
+  ended k e told =
+      sym (ended_receive plans (is_eager plans costs) (plain h) x k) ∙ sym (is_known (has_ended plans (is_eager plans costs) x (plain h)) _) ∙ sym (ap (λ (e : Entry). is_some e.end) told)
+
+  pub ended_serve : IsReceive plans x → (e : Entry) → e ≡ entry_known plans costs h x → is_some e.end ≡ true → None ≡ enabled_action plans costs h Serve x
+  ended_serve k e told s = past_not_enabled Serve (ended k e told ∙ s)
+
+  unserved : is_served plans (is_eager plans costs) (plain h) (mate plans costs h x) ≡ false → None ≡ enabled_action plans costs h Serve x
+  unserved n =
+      not_enabled Serve (λ p. both_ways _ n (allowed_serve plans (is_eager plans costs) (plain h) x p).1)
+
+  pub unpaired_serve : (e : Entry) → e ≡ entry_known plans costs h x → e.paired ≡ None → None ≡ enabled_action plans costs h Serve x
+  unpaired_serve e told n =
+      unserved (ap (is_served plans (is_eager plans costs) (plain h)) (paired_none e told n))
+
+  pub pairing_send : IsReceive plans x → (p : Pairing) → IsPairing p → IsSend plans p.with
+  pairing_send k p is = partner_is_send plans (plain h) x p.with k is.mate_is
+
+  pub absent_serve : (p : Pairing) → IsPairing p → (r : Option ℕ) → r ≡ message_known plans costs h p → r ≡ None → None ≡ enabled_action plans costs h Serve x
+  absent_serve p is r told n =
+      unserved (ap (is_served plans (is_eager plans costs) (plain h)) is.mate_is ∙ go (is_eager plans costs p.with) (happened Data p.with (plain h)) (sym told ∙ n))
+    where
+      go : (b d : Bool) → (if b then Some p.at else (if d then Some (since (happened Data p.with) h + flight plans costs p.with) else None)) ≡ None → (b || d) ≡ false
+      go true d f = absurd (cc)
+      go false true f = absurd (cc)
+      go false false f = refl
+
+  -- the message is there
+  pub record IsThere (n : ℕ) : Type 0 where
+    pub served : is_served plans (is_eager plans costs) (plain h) (mate plans costs h x) ≡ true
+    pub when : there_at plans costs h x (mate plans costs h x) ≡ n
+
+  pub message_is : (p : Pairing) → IsPairing p → (r : Option ℕ) (n : ℕ) → r ≡ message_known plans costs h p → r ≡ Some n → IsThere n
+  message_is p is r n told some =
+      let q = go (is_eager plans costs p.with) (happened Data p.with (plain h)) (sym told ∙ some) in
+      record {
+        served = ap (is_served plans (is_eager plans costs) (plain h)) is.mate_is ∙ q.0;
+        when = ap (there_at plans costs h x) is.mate_is ∙ ap (λ (k : ℕ). if is_eager plans costs p.with then k else later) is.at_is ∙ q.1;
+      }
+    where
+      later : ℕ
+      later = since (happened Data p.with) h + flight plans costs p.with
+
+      go : (b d : Bool) → (if b then Some p.at else (if d then Some later else None)) ≡ Some n → ((b || d) ≡ true) × ((if b then p.at else later) ≡ n)
+      go true d f = (refl, same_Some p.at n f)
+      go false true f = (refl, same_Some later n f)
+      go false false f = absurd (cc)
+
+  pub serve_enabled : IsReceive plans x → (e : Entry) → e ≡ entry_known plans costs h x → is_some e.end ≡ false → (n t : ℕ) → IsThere n → t ≡ time plans costs h Serve x → Some (record { time = t; class = Serve; op = x }) ≡ enabled_action plans costs h Serve x
+  serve_enabled k e told s n t there at =
+      comes_enabled Serve t (ended k e told ∙ s) (ap (may plans (is_eager plans costs) (plain h) Serve x) k.kind ∙ there.served) at
+
+-- whether a send is eager, as it is read
+pub eager_read : (plans : List Plan) (costs : CostModel) (m : OpId) (bytes to tag : ℕ) → kind_at plans m ≡ Some (Send bytes to tag) → costs.eager m.rank to bytes ≡ is_eager plans costs m
+unfolding is_eager
+eager_read plans costs m bytes to tag k = sym (ap (eager_of costs.eager m.rank) k)

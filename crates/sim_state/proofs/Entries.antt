@@ -1,0 +1,219 @@
+-- What is known of each operation after one more action, class by class.
+use Rattle.std.proofs.Common.{◌≡◌, ◌==◌, ◌+◌, ℕ, Bool, true, false, List, ◌∷◌, map, Option, Some, None, IfSome, filter, if◌then◌else◌, inl, inr, refl, sym, ap, ◌∙◌, subst}
+use Rattle.std.proofs.lemmas.Bool.{cases_Bool, false_from_ne_true}
+use Rattle.goal_graph.specs.declared.action.OpId.{OpId}
+use Rattle.goal_graph.specs.declared.action.Timed.{Timed}
+use Rattle.goal_graph.specs.declared.action.Class.{Class}
+use Rattle.goal_graph.specs.declared.action.Class.TheVariants.{Arrive, Serve, Data, Post, Begin}
+use Rattle.goal_graph.specs.Schedule.{Plan, kind_at, operations}
+use Rattle.goal_graph.specs.Fault.{IsOp}
+use Rattle.goal_graph.specs.Action.{place, same_op, is_act, plain, plain_act}
+use Rattle.goal_graph.specs.Allowed.{first_class, last_class}
+use Rattle.goal_graph.specs.Laws.{IsCalc, IsSend, IsReceive}
+use Rattle.goal_graph.proofs.ForCallers.{cases_op, is_act_class, same_op_true, not_send_receive, first_of_calc, first_of_send, first_of_receive, last_of_calc, last_of_eager, last_of_large, last_of_receive, same_tables, at_entry, off_entry, entry_written, same_op_swapped, send_is_op, receive_is_op}
+use Rattle.sim_params.specs.Costs.{CostModel, flight, flight_one, is_eager}
+use Rattle.sim_params.specs.Times.{mate, cpu_hold, Possible}
+use Rattle.sim_params.specs.Run.{IsRun}
+use Rattle.sim_match.specs.PostsAndArrivals.{is_post_or_arrival, is_post_or_arrival_class, send_for, receive_for}
+use Rattle.sim_state.specs.declared.entry.Entry.{Entry}
+use Rattle.sim_state.specs.declared.pairing.Pairing.{Pairing}
+use Rattle.sim_state.specs.Engine.{start_known, end_known}
+use Rattle.sim_state.specs.Enabled.{time_known}
+use Rattle.sim_state.specs.Tables.{with_entry, with_pairing, with_partner}
+use Rattle.sim_state.specs.Represents.{entry_known, paired_known, there_known}
+use Rattle.sim_state.proofs.After.{other_op, other_class, start_same, start_new, end_same, end_new, arriving_same, arriving_calc, arriving_begun, arriving_arrived, there_same, there_new, paired_same, paired_new}
+use Rattle.sim_state.proofs.Pairings.{none_made, other_makes_none, post_none, post_some, arrive_none, arrive_some}
+
+same_entry : (d e : Entry) → d.start ≡ e.start → d.end ≡ e.end → d.arriving ≡ e.arriving → d.paired ≡ e.paired → d.there ≡ e.there → d ≡ e
+same_entry d e s n a p t =
+    λ i. record { start = s i; end = n i; arriving = a i; paired = p i; there = t i }
+
+-- an entry is written, and two entries get their partners
+pair_written : (y m : OpId) (at : ℕ) (e : Entry) (f g : OpId → Entry) → same_op y m ≡ false → g y ≡ record e { paired = Some (record { with = m; at = at }) } → g m ≡ record (f m) { paired = Some (record { with = y; at = at }) } → ((x : OpId) → same_op y x ≡ false → same_op m x ≡ false → g x ≡ f x) → (x : OpId) → with_pairing m y at (with_pairing y m at (with_entry y e f)) x ≡ g x
+pair_written y m at e f g differ here there others = entry_written m _ first g second rest
+  where
+    base : OpId → Entry
+    base = with_entry y e f
+
+    first : OpId → Entry
+    first = with_pairing y m at base
+
+    second : g m ≡ record (first m) { paired = Some (record { with = y; at = at }) }
+    second =
+        there ∙ ap (λ (d : Entry). record d { paired = Some (record { with = y; at = at }) }) (sym (off_entry y _ base m (same_op_swapped y m differ) ∙ off_entry y e f m (same_op_swapped y m differ)))
+
+    rest : (x : OpId) → same_op m x ≡ false → g x ≡ first x
+    rest x d =
+        elim (cases_op x y) [ inl s ↦ ap g s ∙ here ∙ ap (λ (d : Entry). record d { paired = Some (record { with = m; at = at }) }) (sym (at_entry y e f y refl)) ∙ sym (at_entry y _ base x s) | inr o ↦ others x (same_op_swapped x y o) d ∙ sym (off_entry y _ base x o ∙ off_entry y e f x o) ]
+
+module _ (plans : List Plan) (costs : CostModel) (h : List Timed) (a : Timed) (run : IsRun plans costs h) (possible : Possible plans costs h a) where
+  abbrev before : OpId → Entry
+  before = entry_known plans costs h
+
+  abbrev after : OpId → Entry
+  after = entry_known plans costs (a ∷ h)
+
+  -- an operation that has the partner that it had, and that another action was of
+  other_same : (x : OpId) → mate plans costs (a ∷ h) x ≡ mate plans costs h x → same_op a.op x ≡ false → after x ≡ before x
+  other_same x m d =
+      same_entry _ _ (start_same plans costs h a x (other_op plans costs h a (first_class (kind_at plans x)) x d)) (end_same plans costs h a run x (other_op plans costs h a (last_class (is_eager plans costs x) (kind_at plans x)) x d)) (arriving_same plans costs h a x (other_op plans costs h a Arrive x d) (other_op plans costs h a Begin x d)) (paired_same plans costs h a x m) (there_same plans costs h a x (other_op plans costs h a Data x d))
+
+  -- the newest action is of another class
+  another : (c d : Class) (x : OpId) → a.class ≡ c → (c ≡ d → ⊥) → is_act d x (plain_act a) ≡ false
+  another c d x e other =
+      false_from_ne_true _ (λ t. other (sym e ∙ is_act_class d x (plain_act a) t))
+
+  not_class : (c d : Class) (x : OpId) → a.class ≡ c → (place c == place d) ≡ false → is_act d x (plain_act a) ≡ false
+  not_class c d x e f = other_class plans costs h a d x (ap (λ (c : Class). place c == place d) e ∙ f)
+
+  module _ (e : Entry) (was : e ≡ before a.op) where
+    start_was : (c : Class) → a.class ≡ c → (c ≡ first_class (kind_at plans a.op) → ⊥) → start_known plans costs (a ∷ h) a.op ≡ e.start
+    start_was c same other =
+        start_same plans costs h a a.op (another c (first_class (kind_at plans a.op)) a.op same other) ∙ ap (λ (d : Entry). d.start) (sym was)
+
+    end_was : (c : Class) → a.class ≡ c → (c ≡ last_class (is_eager plans costs a.op) (kind_at plans a.op) → ⊥) → end_known plans costs (a ∷ h) a.op ≡ e.end
+    end_was c same other =
+        end_same plans costs h a run a.op (another c (last_class (is_eager plans costs a.op) (kind_at plans a.op)) a.op same other) ∙ ap (λ (d : Entry). d.end) (sym was)
+
+    arriving_was : (c : Class) → a.class ≡ c → (place c == 0) ≡ false → (place c == 4) ≡ false → time_known plans costs (a ∷ h) Arrive a.op ≡ e.arriving
+    arriving_was c same f g =
+        arriving_same plans costs h a a.op (not_class c Arrive a.op same f) (not_class c Begin a.op same g) ∙ ap (λ (d : Entry). d.arriving) (sym was)
+
+    paired_was : mate plans costs (a ∷ h) a.op ≡ mate plans costs h a.op → paired_known plans costs (a ∷ h) a.op ≡ e.paired
+    paired_was m = paired_same plans costs h a a.op m ∙ ap (λ (d : Entry). d.paired) (sym was)
+
+    there_was : (c : Class) → a.class ≡ c → (place c == 2) ≡ false → there_known plans costs (a ∷ h) a.op ≡ e.there
+    there_was c same f =
+        there_same plans costs h a a.op (not_class c Data a.op same f) ∙ ap (λ (d : Entry). d.there) (sym was)
+
+    -- the table after an action that pairs no one
+    abbrev Becomes : Entry → Type 0
+    Becomes n = map (with_entry a.op n before) (operations plans) ≡ map after (operations plans)
+
+    one_written : (n : Entry) → ((x : OpId) → mate plans costs (a ∷ h) x ≡ mate plans costs h x) → after a.op ≡ n → Becomes n
+    one_written n mates now =
+        same_tables _ _ (operations plans) (λ i x s. entry_written a.op n before after now (λ x d. other_same x (mates x) d) x)
+
+    unpaired : (c : Class) → a.class ≡ c → is_post_or_arrival_class c ≡ false → (x : OpId) → mate plans costs (a ∷ h) x ≡ mate plans costs h x
+    unpaired c same f = none_made plans costs h a (other_makes_none plans costs h a (ap is_post_or_arrival_class same ∙ f))
+
+    module _ (until : ℕ) (ends : until ≡ a.time + cpu_hold plans costs h a.class a.op (kind_at plans a.op)) where
+      end_now : a.class ≡ last_class (is_eager plans costs a.op) (kind_at plans a.op) → end_known plans costs (a ∷ h) a.op ≡ Some until
+      end_now last = end_new plans costs h a possible last ∙ ap Some (sym ends)
+
+      -- a calc begins
+      pub calc_begun : a.class ≡ Begin → IsCalc plans a.op → Becomes (record e { start = Some a.time; end = Some until })
+      calc_begun c k =
+          let mates = unpaired Begin c refl in
+          one_written _ mates (same_entry _ _ (start_new plans costs h a possible (c ∙ sym (first_of_calc plans a.op k))) (end_now (c ∙ sym (last_of_calc plans (is_eager plans costs) a.op k))) (arriving_calc plans costs h a a.op k ∙ ap (λ (d : Entry). d.arriving) (sym was)) (paired_was (mates a.op)) (there_was Begin c refl))
+
+      -- an eager send begins
+      pub eager_begun : (arrive : ℕ) → a.class ≡ Begin → IsSend plans a.op → is_eager plans costs a.op ≡ true → arrive ≡ a.time + flight plans costs a.op → Becomes (record e { start = Some a.time; end = Some until; arriving = Some arrive })
+      eager_begun arrive c k eager at =
+          let mates = unpaired Begin c refl in
+          one_written _ mates (same_entry _ _ (start_new plans costs h a possible (c ∙ sym (first_of_send plans a.op k))) (end_now (c ∙ sym (last_of_eager plans (is_eager plans costs) a.op k eager))) (arriving_begun plans costs h a run possible c k ∙ ap (λ (b : Bool). Some (a.time + (if b then flight plans costs a.op else flight_one plans costs a.op))) eager ∙ ap Some (sym at)) (paired_was (mates a.op)) (there_was Begin c refl))
+
+      -- a large send hands over its bytes
+      pub data_sent : (there : ℕ) → a.class ≡ Data → IsSend plans a.op → is_eager plans costs a.op ≡ false → there ≡ a.time + flight plans costs a.op → Becomes (record e { end = Some until; there = Some there })
+      data_sent there c k large at =
+          let mates = unpaired Data c refl in
+          one_written _ mates (same_entry _ _ (start_was Data c (λ f. let g = f ∙ first_of_send plans a.op k in differ g)) (end_now (c ∙ sym (last_of_large plans (is_eager plans costs) a.op k large))) (arriving_was Data c refl refl) (paired_was (mates a.op)) (there_new plans costs h a possible c ∙ ap Some (sym at)))
+        where
+          differ : Data ≡ Begin → ⊥
+          differ f = cc
+
+      -- a receive takes its message
+      pub message_taken : a.class ≡ Serve → IsReceive plans a.op → Becomes (record e { end = Some until })
+      message_taken c k =
+          let mates = unpaired Serve c refl in
+          one_written _ mates (same_entry _ _ (start_was Serve c (λ f. differ (f ∙ first_of_receive plans a.op k))) (end_now (c ∙ sym (last_of_receive plans (is_eager plans costs) a.op k))) (arriving_was Serve c refl refl) (paired_was (mates a.op)) (there_was Serve c refl))
+        where
+          differ : Serve ≡ Post → ⊥
+          differ f = cc
+
+    -- a large send begins
+    pub request_begun : (arrive : ℕ) → a.class ≡ Begin → IsSend plans a.op → is_eager plans costs a.op ≡ false → arrive ≡ a.time + flight_one plans costs a.op → Becomes (record e { start = Some a.time; arriving = Some arrive })
+    request_begun arrive c k large at =
+        let mates = unpaired Begin c refl in
+        one_written _ mates (same_entry _ _ (start_new plans costs h a possible (c ∙ sym (first_of_send plans a.op k))) (end_was Begin c (λ f. differ (f ∙ last_of_large plans (is_eager plans costs) a.op k large))) (arriving_begun plans costs h a run possible c k ∙ ap (λ (b : Bool). Some (a.time + (if b then flight plans costs a.op else flight_one plans costs a.op))) large ∙ ap Some (sym at)) (paired_was (mates a.op)) (there_was Begin c refl))
+      where
+        differ : Begin ≡ Data → ⊥
+        differ f = cc
+
+    -- a receive is posted: what is known of it but its partner
+    posted_entry : (p : Option Pairing) → a.class ≡ Post → IsReceive plans a.op → paired_known plans costs (a ∷ h) a.op ≡ p → after a.op ≡ record e { start = Some a.time; paired = p }
+    posted_entry p c k pair =
+        same_entry _ _ (start_new plans costs h a possible (c ∙ sym (first_of_receive plans a.op k))) (end_was Post c (λ f. differ (f ∙ last_of_receive plans (is_eager plans costs) a.op k))) (arriving_was Post c refl refl) pair (there_was Post c refl)
+      where
+        differ : Post ≡ Serve → ⊥
+        differ f = cc
+
+    -- a message or a request arrives: what is known of its send but its partner
+    arrived_entry : (p : Option Pairing) → a.class ≡ Arrive → IsSend plans a.op → paired_known plans costs (a ∷ h) a.op ≡ p → after a.op ≡ record e { arriving = None; paired = p }
+    arrived_entry p c k pair =
+        same_entry _ _ (start_was Arrive c (λ f. differ (f ∙ first_of_send plans a.op k))) (end_was Arrive c last) (arriving_arrived plans costs h a c) pair (there_was Arrive c refl)
+      where
+        differ : Arrive ≡ Begin → ⊥
+        differ f = cc
+
+        differ_too : Arrive ≡ Data → ⊥
+        differ_too f = cc
+
+        last : Arrive ≡ last_class (is_eager plans costs a.op) (kind_at plans a.op) → ⊥
+        last f =
+            elim (cases_Bool (is_eager plans costs a.op)) [ inl t ↦ differ (f ∙ last_of_eager plans (is_eager plans costs) a.op k t) | inr t ↦ differ_too (f ∙ last_of_large plans (is_eager plans costs) a.op k t) ]
+
+    -- where no one is paired
+    posted_alone : a.class ≡ Post → IsReceive plans a.op → send_for plans (filter is_post_or_arrival (plain h)) a.op ≡ None → Becomes (record e { start = Some a.time })
+    posted_alone c k none =
+        let mates = post_none plans costs h a run possible c none in
+        one_written _ mates (posted_entry e.paired c k (paired_was (mates a.op)))
+
+    arrived_alone : a.class ≡ Arrive → IsSend plans a.op → receive_for plans (filter is_post_or_arrival (plain h)) a.op ≡ None → Becomes (record e { arriving = None })
+    arrived_alone c k none =
+        let mates = arrive_none plans costs h a run possible c none in
+        one_written _ mates (arrived_entry e.paired c k (paired_was (mates a.op)))
+
+    -- the operation that is paired with that of the action
+    abbrev BecomePaired : OpId → Entry → Type 0
+    BecomePaired m n = map (with_pairing m a.op a.time (with_pairing a.op m a.time (with_entry a.op n before))) (operations plans) ≡ map after (operations plans)
+
+    partner_entry : (m : OpId) → same_op a.op m ≡ false → mate plans costs h m ≡ None → mate plans costs (a ∷ h) m ≡ Some a.op → after m ≡ record (before m) { paired = Some (record { with = a.op; at = a.time }) }
+    partner_entry m d free taken =
+        same_entry _ _ (start_same plans costs h a m (other_op plans costs h a (first_class (kind_at plans m)) m d)) (end_same plans costs h a run m (other_op plans costs h a (last_class (is_eager plans costs m) (kind_at plans m)) m d)) (arriving_same plans costs h a m (other_op plans costs h a Arrive m d) (other_op plans costs h a Begin m d)) (paired_new plans costs h a m a.op free taken) (there_same plans costs h a m (other_op plans costs h a Data m d))
+
+    apart : (m x : OpId) → IsSend plans m → IsReceive plans x → same_op m x ≡ false
+    apart m x s r =
+        false_from_ne_true _ (λ t. not_send_receive plans x (subst (λ (y : OpId). IsSend plans y) (same_op_true m x t) s) r)
+
+    posted_pair : (m : OpId) → a.class ≡ Post → send_for plans (filter is_post_or_arrival (plain h)) a.op ≡ Some m → BecomePaired m (record e { start = Some a.time })
+    posted_pair m c some =
+        let p = post_some plans costs h a run possible c m some in
+        let differ = same_op_swapped m a.op (apart m a.op p.send p.receive) in
+        let here = posted_entry (Some (record { with = m; at = a.time })) c p.receive (paired_new plans costs h a a.op m p.free_receive p.receive_taken) in
+        same_tables _ _ (operations plans) (λ i x s. pair_written a.op m a.time _ before after differ here (partner_entry m differ p.free_send p.send_taken) (λ x d f. other_same x (p.others x f d) d) x)
+
+    arrived_pair : (x : OpId) → a.class ≡ Arrive → receive_for plans (filter is_post_or_arrival (plain h)) a.op ≡ Some x → BecomePaired x (record e { arriving = None })
+    arrived_pair x c some =
+        let p = arrive_some plans costs h a run possible c x some in
+        let differ = apart a.op x p.send p.receive in
+        let here = arrived_entry (Some (record { with = x; at = a.time })) c p.send (paired_new plans costs h a a.op x p.free_send p.send_taken) in
+        same_tables _ _ (operations plans) (λ i y s. pair_written a.op x a.time _ before after differ here (partner_entry x differ p.free_receive p.receive_taken) (λ y d f. other_same y (p.others y d f) d) y)
+
+    -- whether someone is paired or not
+    pub posted : (partner : Option OpId) → a.class ≡ Post → IsReceive plans a.op → partner ≡ send_for plans (filter is_post_or_arrival (plain h)) a.op → map (with_partner a.op partner a.time (with_entry a.op (record e { start = Some a.time }) before)) (operations plans) ≡ map after (operations plans)
+    posted None c k is = posted_alone c k (sym is)
+    posted (Some m) c k is = posted_pair m c (sym is)
+
+    pub arrived : (partner : Option OpId) → a.class ≡ Arrive → IsSend plans a.op → partner ≡ receive_for plans (filter is_post_or_arrival (plain h)) a.op → map (with_partner a.op partner a.time (with_entry a.op (record e { arriving = None }) before)) (operations plans) ≡ map after (operations plans)
+    arrived None c k is = arrived_alone c k (sym is)
+    arrived (Some m) c k is = arrived_pair m c (sym is)
+
+  -- the partner is an operation
+  pub sender_exists : (partner : Option OpId) → a.class ≡ Post → partner ≡ send_for plans (filter is_post_or_arrival (plain h)) a.op → IfSome partner (IsOp plans)
+  sender_exists None c is = tt
+  sender_exists (Some m) c is = send_is_op plans m (post_some plans costs h a run possible c m (sym is)).send
+
+  pub receiver_exists : (partner : Option OpId) → a.class ≡ Arrive → partner ≡ receive_for plans (filter is_post_or_arrival (plain h)) a.op → IfSome partner (IsOp plans)
+  receiver_exists None c is = tt
+  receiver_exists (Some x) c is = receive_is_op plans x (arrive_some plans costs h a run possible c x (sym is)).receive

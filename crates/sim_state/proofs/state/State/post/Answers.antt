@@ -1,0 +1,101 @@
+use Rattle.std.proofs.Common.{◌≡◌, ◌∙◌, ◌<◌, List, length, reverse, vec_capacity, refl, sym, ap, subst, arith, filter, map}
+use Rattle.goal_graph.specs.declared.action.Class.{Class}
+use Rattle.goal_graph.specs.declared.action.Class.TheVariants.{Post}
+use Rattle.goal_graph.specs.Schedule.{Plan, kind_at, operations}
+use Rattle.goal_graph.specs.Action.{plain}
+use Rattle.goal_graph.specs.Laws.{IsReceive}
+use Rattle.sim_params.specs.Times.{holds_cpu, holds_tx, holds_rx}
+use Rattle.sim_match.specs.PostsAndArrivals.{is_post_or_arrival, send_for}
+use Rattle.sim_state.specs.Tables.{with_entry, with_partner}
+use Rattle.sim_state.specs.Represents.{entry_known}
+use Rattle.sim_state.proofs.Entries.{posted, sender_exists}
+use Rattle.sim_state.proofs.Fits.{posts}
+use Rattle.sim_state.proofs.FreeTimes.{free_same}
+use Rattle.sim_state.proofs.PostsAndArrivals.{post_known, not_before}
+use Rattle.sim_state.proofs.Places.{possible_exists}
+use Rattle.sim_state.proofs.Performed.{next_at, entry_is, each_entry, room_left, performed, Parts, is_op, time_fits}
+use Rattle.sim_state.proofs.state.State.post.Goals as goal
+
+pub entry-entry-requires : goal.entry-entry-requires
+entry-entry-requires g c =
+    possible_exists _ _ _ c.args.action c.requires.next.possible
+
+pub at-requires : goal.at-requires
+at-requires g c =
+    let next = next_at g.C.Costs.model _ _ c.args.action c.self.view_is c.requires.next in
+    time_fits _ _ _ _ _ _ _ _ c.self.invariant c.args.action next
+
+pub post_counted-partner-requires : goal.post_counted-partner-requires
+post_counted-partner-requires g c =
+    let plans = c.self.inside.sched.now in
+    let costs = g.C.Costs.model c.self.inside.costs in
+    let h = reverse c.self.inside.history.items in
+    let a = c.args.action in
+    let m = c.self.invariant in
+    let next = next_at g.C.Costs.model _ _ a c.self.view_is c.requires.next in
+    record {
+      receive = subst (λ (ps : List Plan). IsReceive ps a.op) (sym m.posts_and_arrivals.same_plans) (posts plans costs h a m.run next.possible c.requires.class);
+      fresh = not_before plans costs h a c.self.inside.matcher m.posts_and_arrivals Post next.possible c.requires.class refl;
+    }
+
+pub write_met-requires : goal.write_met-requires
+write_met-requires g c =
+    let plans = c.self.inside.sched.now in
+    let costs = g.C.Costs.model c.self.inside.costs in
+    let h = reverse c.self.inside.history.items in
+    let a = c.args.action in
+    let m = c.self.invariant in
+    let next = next_at g.C.Costs.model _ _ a c.self.view_is c.requires.next in
+    let taken : c.post_counted-partner.result ≡ send_for plans (filter is_post_or_arrival (plain h)) a.op = c.post_counted-partner.ensures.taken ∙ (λ i. send_for (m.posts_and_arrivals.same_plans i) (m.posts_and_arrivals.events i) a.op) in
+    record {
+      exists = is_op _ _ _ _ _ _ _ _ m a next;
+      other = sender_exists plans costs h a m.run next.possible c.post_counted-partner.result c.requires.class taken;
+      fits = time_fits _ _ _ _ _ _ _ _ m a next;
+      each = each_entry _ _ _ _ _ _ _ _ m _ c.deref_mut.ensures.value;
+    }
+
+pub compact-requires : goal.compact-requires
+compact-requires g c =
+    let next = next_at g.C.Costs.model _ _ c.args.action c.self.view_is c.requires.next in
+    is_op _ _ _ _ _ _ _ _ c.self.invariant c.args.action next
+
+pub push_reserved-requires : goal.push_reserved-requires
+push_reserved-requires g c =
+    let next = next_at g.C.Costs.model _ _ c.args.action c.self.view_is c.requires.next in
+    let room : length c.self.inside.history.items < vec_capacity c.self.inside.history = room_left _ _ (record { items = c.self.inside.history.items; entries = c.self.inside.entries.items; works = c.self.inside.works.items; matcher = c.self.inside.matcher; res = c.self.inside.resources; room = vec_capacity c.self.inside.history }) c.self.invariant c.args.action next in
+    omega (arith, c.self.inside.history.ok.0, room)
+
+pub invariant_of-self : goal.invariant_of-self
+invariant_of-self g c =
+    let plans = c.self.inside.sched.now in
+    let costs = g.C.Costs.model c.self.inside.costs in
+    let h = reverse c.self.inside.history.items in
+    let a = c.args.action in
+    let m = c.self.invariant in
+    let next = next_at g.C.Costs.model _ _ a c.self.view_is c.requires.next in
+    let was = entry_is g.C.Costs.model _ _ a.op c.entry-entry.result.now c.self.view_is c.entry-entry.ensures in
+    let kind = posts plans costs h a m.run next.possible c.requires.class in
+    let taken : c.post_counted-partner.result ≡ send_for plans (filter is_post_or_arrival (plain h)) a.op = c.post_counted-partner.ensures.taken ∙ (λ i. send_for (m.posts_and_arrivals.same_plans i) (m.posts_and_arrivals.events i) a.op) in
+    let told = c.write_met.ensures (entry_known plans costs h) (c.deref_mut.ensures.value ∙ m.known) ∙ (λ i. map (with_partner a.op c.post_counted-partner.result a.time (with_entry a.op (record c.entry-entry.result.now { start = c.at.ensures i }) (entry_known plans costs h))) (operations plans)) ∙ posted plans costs h a m.run next.possible c.entry-entry.result.now was c.post_counted-partner.result c.requires.class kind taken in
+    let posts_and_arrivals = post_known plans costs h a c.self.inside.matcher m.posts_and_arrivals c.post_counted-partner.new.self c.requires.class c.post_counted-partner.ensures.actions in
+    let free = free_same plans costs h a c.self.inside.resources m.free (ap holds_cpu c.requires.class) (ap (λ (k : Class). holds_tx k (kind_at plans a.op)) c.requires.class) (ap holds_rx c.requires.class) in
+    let parts : Parts = record { items = c.self.inside.history.items; entries = c.self.inside.entries.items; works = c.self.inside.works.items; matcher = c.self.inside.matcher; res = c.self.inside.resources; room = vec_capacity c.self.inside.history } in
+    performed plans costs parts m a next (record {
+      items = c.push_reserved.new.self.items;
+      lent = c.deref_mut.result.now;
+      written = c.write_met.new.entries;
+      count = c.self.inside.entries.len;
+      matcher = c.post_counted-partner.new.self;
+      res = c.self.inside.resources;
+      room = vec_capacity c.push_reserved.new.self;
+      key = c.compact.result;
+      pushed = c.push_reserved.ensures.items;
+      same_action = c.compact.ensures;
+      same_room = c.push_reserved.ensures.capacity;
+      whole = c.self.inside.entries.ok.0;
+      same_table = c.deref_mut.ensures.value;
+      kept = c.write_met.auto.entries;
+      told = told;
+      posts_and_arrivals = posts_and_arrivals;
+      free = free;
+    })

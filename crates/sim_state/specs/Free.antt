@@ -1,0 +1,29 @@
+-- When all that an operation waits for is free: its cpu and, where it sends or receives, that side of its interface.
+use Rattle.std.specs.Prelude.{ℕ, List, Option, Some, None, max}
+use Rattle.goal_graph.specs.declared.action.OpId.{OpId}
+use Rattle.goal_graph.specs.declared.action.Timed.{Timed}
+use Rattle.goal_graph.specs.declared.plan.Kind.{Kind}
+use Rattle.goal_graph.specs.declared.plan.Kind.TheVariants.{Calc, Send, Recv}
+use Rattle.goal_graph.specs.Schedule.{Plan, kind_at}
+use Rattle.sim_params.specs.Costs.{CostModel}
+use Rattle.sim_params.specs.Times.{cpu, tx, rx}
+
+module _ (plans : List Plan) where
+  abbrev pub free_of : CostModel → List Timed → OpId → Option Kind → ℕ
+  free_of costs h x None = 0
+  free_of costs h x (Some (Calc nanos)) = cpu plans costs h x
+  free_of costs h x (Some (Send bytes to tag)) = max (cpu plans costs h x) (tx plans costs h x)
+  free_of costs h x (Some (Recv room from tag)) = max (cpu plans costs h x) (rx plans costs h x)
+
+  abbrev pub free : CostModel → List Timed → OpId → ℕ
+  free costs h x = free_of costs h x (kind_at plans x)
+
+  -- when that side of its interface is free, or the cpu of what needs no more
+  abbrev pub side_of : CostModel → List Timed → OpId → Option Kind → ℕ
+  side_of costs h x None = 0
+  side_of costs h x (Some (Calc nanos)) = cpu plans costs h x
+  side_of costs h x (Some (Send bytes to tag)) = tx plans costs h x
+  side_of costs h x (Some (Recv room from tag)) = rx plans costs h x
+
+  abbrev pub side : CostModel → List Timed → OpId → ℕ
+  side costs h x = side_of costs h x (kind_at plans x)

@@ -1,0 +1,23 @@
+-- What a reader must believe.
+pub mod Engine
+-- What only the code keeps.
+pub mod Moments
+pub mod Partners
+pub mod Tables
+pub mod Enabled
+pub mod Shapes
+pub mod Represents
+pub mod Free
+pub mod Cursors
+-- What the clauses cite of lower crates.
+pub use Rattle.goal_graph.specs.Action
+pub use Rattle.goal_graph.specs.Fault
+pub use Rattle.goal_graph.specs.Interleaving
+pub use Rattle.goal_graph.specs.Schedule
+pub use Rattle.sim_eager.specs.Messages
+pub use Rattle.sim_params.specs.Budget
+pub use Rattle.sim_params.specs.Costs
+pub use Rattle.sim_params.specs.Run
+pub use Rattle.sim_params.specs.Times
+pub use Rattle.goal_graph.specs.Laws as ScheduleLaws
+pub use Rattle.sim_params.specs.Laws as RunLaws

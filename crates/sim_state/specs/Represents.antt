@@ -1,0 +1,67 @@
+-- What an engine keeps of its history.
+use Rattle.std.specs.Prelude.{ℕ, ◌+◌, ◌≡◌, ◌≤◌, ◌<◌, ◌*◌, ◌^◌, List, filter, map, length, Option, Some, None, if◌then◌else◌}
+use Rattle.std.specs.Option.{option_map}
+use Rattle.goal_graph.specs.declared.action.OpId.{OpId}
+use Rattle.goal_graph.specs.declared.action.Timed.{Timed}
+use Rattle.goal_graph.specs.declared.action.Class.TheVariants.{Arrive, Data}
+use Rattle.goal_graph.specs.Schedule.{Plan, operations}
+use Rattle.goal_graph.specs.Action.{happened, plain}
+use Rattle.goal_graph.specs.Fault.{IsAccepted}
+use Rattle.sim_params.specs.Costs.{CostModel, flight, is_eager}
+use Rattle.sim_params.specs.Times.{since, mate, paired_at, cpu, tx, rx}
+use Rattle.sim_params.specs.Run.{IsRun}
+use Rattle.sim_params.specs.Budget.{budget}
+use Rattle.sim_match.specs.PostsAndArrivals.{PostsAndArrivals, is_post_or_arrival}
+use Rattle.sim_resources.specs.FreeTimes.{Holds, cpu_free, tx_free, rx_free}
+use Rattle.sim_state.specs.declared.entry.Entry.{Entry}
+use Rattle.sim_state.specs.declared.pairing.Pairing.{Pairing}
+use Rattle.sim_state.specs.declared.work.Work.{Work}
+use Rattle.sim_state.specs.Engine.{start_known, end_known}
+use Rattle.sim_state.specs.Enabled.{time_known}
+use Rattle.sim_state.specs.Shapes.{work_of}
+
+module _ (plans : List Plan) (costs : CostModel) (h : List Timed) where
+  -- the operation that x is paired with, and since when, once it is
+  abbrev pub paired_known : OpId → Option Pairing
+  paired_known x = option_map (λ (y : OpId). record { with = y; at = paired_at plans costs h x }) (mate plans costs h x)
+
+  -- when the bytes that x hands over are at its receive, once it has handed them over
+  abbrev pub there_known : OpId → Option ℕ
+  there_known x = if happened Data x (plain h) then Some (since (happened Data x) h + flight plans costs x) else None
+
+  -- when the message of its partner is there for a receive, once it is
+  abbrev pub message_known : Pairing → Option ℕ
+  message_known p = if is_eager plans costs p.with then Some p.at else there_known p.with
+
+  -- what is kept of x
+  abbrev pub entry_known : OpId → Entry
+  entry_known x = record {
+    start = start_known plans costs h x;
+    end = end_known plans costs h x;
+    arriving = time_known plans costs h Arrive x;
+    paired = paired_known x;
+    there = there_known x;
+  }
+
+  -- the cpus and interfaces of the schedule are free when the history says so
+  pub record AreFreeTimes (res : Holds) : Type 0 where
+    pub same_plans : res.plans ≡ plans
+    pub cpus : (x : OpId) → cpu_free res x ≡ cpu plans costs h x
+    pub senders : (x : OpId) → tx_free res x ≡ tx plans costs h x
+    pub receivers : (x : OpId) → rx_free res x ≡ rx plans costs h x
+
+  -- the matcher knows the posts and arrivals of the history
+  pub record KnowsPostsAndArrivals (matcher : PostsAndArrivals) : Type 0 where
+    pub same_plans : matcher.plans ≡ plans
+    pub events : matcher.actions ≡ filter is_post_or_arrival (plain h)
+
+  -- There is an entry and a work for each operation, in their order, and room for every action of a run.
+  pub record Represents (entries : List Entry) (works : List Work) (matcher : PostsAndArrivals) (res : Holds) (room : ℕ) : Type 0 where
+    pub accepted : IsAccepted plans
+    pub within : budget plans costs < 2 ^ 63
+    pub run : IsRun plans costs h
+    pub known : entries ≡ map entry_known (operations plans)
+    pub tabled : works ≡ map (work_of plans costs) (operations plans)
+    pub posts_and_arrivals : KnowsPostsAndArrivals matcher
+    pub free : AreFreeTimes res
+    pub roomy : 3 * length (operations plans) ≤ room

@@ -1,0 +1,14 @@
+-- The entries of two operations, after they are paired.
+use Rattle.std.specs.Prelude.{ℕ, Option, Some, None}
+use Rattle.goal_graph.specs.declared.action.OpId.{OpId}
+pub use Rattle.goal_graph.specs.Entries.{with_entry}
+use Rattle.sim_state.specs.declared.entry.Entry.{Entry}
+
+-- the entry of y says that it is paired with m since that time, and the others are those of f
+abbrev pub with_pairing : OpId → OpId → ℕ → (OpId → Entry) → OpId → Entry
+with_pairing y m at f = with_entry y (record (f y) { paired = Some (record { with = m; at = at }) }) f
+
+-- where y has a partner, the entries of the two say that they are paired since that time
+abbrev pub with_partner : OpId → Option OpId → ℕ → (OpId → Entry) → OpId → Entry
+with_partner y None at f = f
+with_partner y (Some m) at f = with_pairing m y at (with_pairing y m at f)

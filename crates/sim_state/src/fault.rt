@@ -1,0 +1,34 @@
+// Why a schedule can't be run.
+ghost use Rattle.std.specs.Prelude.{◌≡◌};
+
+use goal_base::NoMemory;
+use std::alloc::AllocError;
+
+/// Why an engine is not made.
+#[derive(Clone, Copy, Debug, PartialEq, Eq)]
+pub enum EngineFault {
+    /// The time budget is over 2^63-1 nanoseconds: it is `sum`.
+    Budget { sum: u128 },
+    /// Memory ran out.
+    NoMemory,
+}
+
+impl From<AllocError> for EngineFault {
+    ghost use Rattle.sim_state.specs.declared.fault.EngineFault.TheVariants.{NoMemory};
+
+    ghost from_gives = { λ _ fault. fault ≡ NoMemory };
+
+    fn from(_error: AllocError) -> EngineFault {
+        EngineFault::NoMemory
+    }
+}
+
+impl From<NoMemory> for EngineFault {
+    ghost use Rattle.sim_state.specs.declared.fault.EngineFault.TheVariants.{NoMemory};
+
+    ghost from_gives = { λ _ fault. fault ≡ NoMemory };
+
+    fn from(_error: NoMemory) -> EngineFault {
+        EngineFault::NoMemory
+    }
+}

@@ -1,0 +1,21 @@
+//! A schedule under way: what has happened, what is known of each operation, what may happen next and what it changes.
+#![tactic(auto)]
+
+mod cursor;
+mod cursors;
+mod entry;
+mod fault;
+mod key;
+mod moment;
+mod pairing;
+mod record;
+mod shape;
+mod state;
+mod work;
+
+pub use cursor::Cursor;
+pub use cursors::{at_first, choice_from};
+pub use fault::EngineFault;
+pub use key::compact;
+pub use record::Record;
+pub use state::State;

@@ -1,0 +1,47 @@
+// A time that may not be there, in eight bytes.
+ghost use Rattle.std.specs.Prelude.{◌≡◌, ◌<◌, ◌^◌, Some, None};
+
+use std::marker::Model;
+
+/// A time in nanoseconds that may not be there. Contracts see it as the option of that time.
+#[derive(Clone, Copy)]
+pub struct Moment {
+    // the greatest number where the time is not there
+    nanos: u64,
+}
+
+impl Model for Moment {
+    ghost use Rattle.std.specs.Prelude.{ℕ, Option};
+    ghost use Rattle.sim_state.specs.Moments.{time_of, nanos_of, nanos_again};
+
+    ghost Value = { Option ℕ };
+
+    ghost view = { λ m. time_of m.nanos };
+
+    ghost inverse = { λ time. record { nanos = nanos_of time } };
+
+    ghost inverse_ok = { λ m h i. record { nanos = nanos_again m.nanos i } };
+}
+
+impl Moment {
+    /// No time.
+    pub const NONE: Moment = Moment { nanos: u64::MAX };
+
+    /// This time.
+    pub fn at(nanos: u64) -> Moment
+        requires { nanos < 2 ^ 63 }
+        ensures { result ≡ Some nanos }
+    {
+        Moment { nanos }
+    }
+
+    /// The time, if it is there.
+    pub fn get(self) -> Option<u64>
+        ensures { result ≡ self }
+    {
+        if self.nanos == u64::MAX {
+            return None;
+        }
+        Some(self.nanos)
+    }
+}

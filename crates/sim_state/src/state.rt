@@ -1,0 +1,227 @@
+// What has happened so far, and what is known of each operation.
+ghost use Rattle.std.specs.Prelude.{◌≡◌, ◌+◌, ◌<◌, ◌≤◌, ◌^◌, ◌↔◌, List, [], ◌∷◌, IsTrue, IfSome, IfNone, IfOk, IfErr, OnOk, count_by, length, reverse};
+ghost use Rattle.goal_graph.specs.declared.action.OpId.{OpId};
+ghost use Rattle.goal_graph.specs.declared.action.Timed.{Timed};
+ghost use Rattle.goal_graph.specs.Fault.{IsOp, IsAccepted};
+ghost use Rattle.goal_graph.specs.Action.{plain, same_op};
+ghost use Rattle.goal_graph.specs.Interleaving.{IsCompleteInterleaving};
+ghost use Rattle.sim_params.specs.Costs.{is_eager};
+ghost use Rattle.sim_params.specs.Budget.{budget};
+ghost use Rattle.sim_params.specs.Times.{mate, cpu};
+ghost use Rattle.sim_params.specs.Run.{IsNext, IsRun, IsFinished, IsCompleteRun};
+ghost use Rattle.sim_params.specs.Laws.{IsWithin};
+ghost use Rattle.sim_state.specs.Engine.{IsEngineFault, start_known, end_known};
+ghost use Rattle.sim_state.specs.Represents.{entry_known};
+ghost use Rattle.sim_state.specs.Shapes.{shape_of, work_of};
+ghost use Rattle.sim_state.specs.Free.{free, side};
+
+use crate::entry::{Entry, read};
+use crate::fault::EngineFault;
+use crate::record::Record;
+use crate::shape::Shape;
+use crate::work::{Work, works};
+use goal_base::MAX_BUDGET;
+use goal_graph::{OpId, Sched};
+use sim_match::Matcher;
+use sim_order::CompactKey;
+use sim_params::{Costs, budget};
+use sim_resources::Resources;
+use std::alloc::Global;
+use std::marker::Model;
+
+mod enabled;
+mod perform;
+
+/// A schedule under way. Contracts see it as the plans of the schedule, the costs, and what has happened so far, newest
+/// first.
+pub struct State<'a, C: Costs> {
+    sched: &'a Sched,
+    costs: C,
+    // what has happened, oldest first
+    history: Vec<CompactKey>,
+    // what is known of each operation, in the order of all
+    entries: Vec<Entry>,
+    // what each operation does, in the same order
+    works: Vec<Work>,
+    // who is paired with whom
+    matcher: Matcher<'a>,
+    // when cpus and interfaces are free
+    resources: Resources<'a>,
+}
+
+// It goes by a call, and not field by field: so those that let one go are shorter to prove.
+impl<C: Costs + Drop> Drop for State<'_, C> {
+    fn drop(self) {
+        let State {
+            sched: _,
+            costs: _costs,
+            history: _history,
+            entries: _entries,
+            works: _works,
+            matcher: _matcher,
+            resources: _resources,
+        } = self;
+    }
+}
+
+impl<'a, C: Costs> Model for State<'a, C> {
+    ghost use Rattle.std.specs.Prelude.{reverse, vec_capacity};
+    ghost use Rattle.sim_state.specs.Engine.{View};
+    ghost use Rattle.sim_state.specs.Represents.{Represents};
+
+    ghost Value = { View C };
+
+    ghost view = { λ e. record { plans = e.sched.now; costs = e.costs; history = reverse e.history.items } };
+
+    ghost invariant = { λ e. Represents e.sched.now (C.model e.costs) (reverse e.history.items) e.entries.items e.works.items e.matcher e.resources (vec_capacity e.history) };
+}
+
+impl<'a, C: Costs + Drop> State<'a, C> {
+    /// A schedule before its first action. It takes all memory of the run; no later call takes any. Where the time budget
+    /// is over 2^63-1 the fault carries it, whether memory is there or not.
+    pub fn new(alloc: Global, sched: &'a Sched, costs: C) -> Result<State<'a, C>, EngineFault>
+        ensures plans { IfOk result (λ e. e.plans ≡ sched.now) }
+        ensures costs { IfOk result (λ e. e.costs ≡ costs) }
+        ensures empty { IfOk result (λ e. e.history ≡ []) }
+        ensures fits { OnOk result (budget sched.now (C.model costs) < 2 ^ 63) }
+        ensures fault { IfErr result (IsEngineFault (budget sched.now (C.model costs))) }
+    {
+        let sum = budget(sched, &costs);
+        let most = u128::from(MAX_BUDGET);
+        if sum > most {
+            return Err(EngineFault::Budget { sum });
+        }
+        let _plans = sched.plans();
+        let count = sched.count() as usize;
+        let history = Vec::with_capacity(alloc, 3 * count)?;
+        let entries = vec![in alloc; Entry::BLANK; count]?;
+        let works = works(alloc, sched, &costs)?;
+        let matcher = Matcher::new(alloc, sched)?;
+        let resources = Resources::new(alloc, sched)?;
+        Ok(State {
+            sched,
+            costs,
+            history,
+            entries,
+            works,
+            matcher,
+            resources,
+        })
+    }
+}
+
+impl<'a, C: Costs> State<'a, C> {
+    /// What has happened, oldest first.
+    pub fn trace(&self) -> &[CompactKey]
+        ensures { result.now ≡ reverse self.now.history }
+    {
+        self.history.as_slice()
+    }
+
+    /// What is known of an operation.
+    pub fn record(&self, id: OpId) -> Record
+        requires { IsOp self.now.plans id }
+        ensures start { result.start ≡ start_known self.now.plans (C.model self.now.costs) self.now.history id }
+        ensures end { result.end ≡ end_known self.now.plans (C.model self.now.costs) self.now.history id }
+        ensures partner { result.partner ≡ mate self.now.plans (C.model self.now.costs) self.now.history id }
+    {
+        let entry = self.entry(id);
+        Record {
+            start: entry.start.get(),
+            end: entry.end.get(),
+            partner: self.partner(id),
+        }
+    }
+
+    /// The operation that another is paired with, once it is.
+    pub fn partner(&self, id: OpId) -> Option<OpId>
+        requires { IsOp self.now.plans id }
+        ensures { result ≡ mate self.now.plans (C.model self.now.costs) self.now.history id }
+    {
+        match self.entry(id).paired.get() {
+            Some(pairing) => Some(pairing.with),
+            None => None,
+        }
+    }
+
+    /// When all that an operation waits for is free: its cpu and, where it sends or receives, that side of its interface.
+    pub fn free(&self, id: OpId) -> u64
+        requires { IsOp self.now.plans id }
+        ensures { result ≡ free self.now.plans (C.model self.now.costs) self.now.history id }
+    {
+        match self.shape(id) {
+            Shape::Calc => self.resources.cpu(id),
+            Shape::Eager | Shape::Large => self.resources.cpu(id).max(self.resources.tx(id)),
+            Shape::Receive => self.resources.cpu(id).max(self.resources.rx(id)),
+        }
+    }
+
+    /// When the cpu of an operation is free.
+    pub fn cpu(&self, id: OpId) -> u64
+        requires { IsOp self.now.plans id }
+        ensures { result ≡ cpu self.now.plans (C.model self.now.costs) self.now.history id }
+    {
+        self.resources.cpu(id)
+    }
+
+    /// When the side of an interface that an operation needs is free: its cpu, where it needs none.
+    pub fn side(&self, id: OpId) -> u64
+        requires { IsOp self.now.plans id }
+        ensures { result ≡ side self.now.plans (C.model self.now.costs) self.now.history id }
+    {
+        match self.shape(id) {
+            Shape::Calc => self.resources.cpu(id),
+            Shape::Eager | Shape::Large => self.resources.tx(id),
+            Shape::Receive => self.resources.rx(id),
+        }
+    }
+
+    /// The schedule that runs.
+    pub fn sched(&self) -> &'a Sched
+        ensures { result.now ≡ self.now.plans }
+    {
+        self.sched
+    }
+
+    /// The costs of its messages.
+    pub fn costs(&self) -> &C
+        ensures { result.now ≡ self.now.costs }
+    {
+        &self.costs
+    }
+
+    /// What holds of every engine: its schedule is accepted, its time budget is at most 2^63-1, what
+    /// has happened is the run so far, and no time of it is later than the budget.
+    pub fn known(&self)
+        ensures accepted { IsAccepted self.now.plans }
+        ensures fits { budget self.now.plans (C.model self.now.costs) < 2 ^ 63 }
+        ensures run { IsRun self.now.plans (C.model self.now.costs) self.now.history }
+        ensures times { IsWithin self.now.plans (C.model self.now.costs) self.now.history (budget self.now.plans (C.model self.now.costs)) }
+    {
+        let _sched = &self.sched;
+    }
+
+    // What is known of an operation.
+    fn entry(&self, id: OpId) -> &Entry
+        requires { IsOp self.now.plans id }
+        ensures { result.now ≡ entry_known self.now.plans (C.model self.now.costs) self.now.history id }
+    {
+        read(self.sched, &self.entries, id)
+    }
+
+    // What an operation is, and whether a send goes out whole.
+    fn shape(&self, id: OpId) -> Shape
+        requires { IsOp self.now.plans id }
+        ensures { result ≡ shape_of self.now.plans (C.model self.now.costs) id }
+    {
+        self.work(id).shape
+    }
+
+    // What an operation does.
+    fn work(&self, id: OpId) -> Work
+        requires { IsOp self.now.plans id }
+        ensures { result ≡ work_of self.now.plans (C.model self.now.costs) id }
+    {
+        self.works[self.sched.index(id) as usize]
+    }
+}

@@ -1,0 +1,247 @@
+// What may happen next of one operation, and when.
+ghost use Rattle.std.specs.Prelude.{◌≡◌, true, None};
+ghost use Rattle.goal_graph.specs.declared.action.Class.TheVariants.{Arrive, Serve, Data, Post, Begin};
+ghost use Rattle.goal_graph.specs.Fault.{IsOp};
+ghost use Rattle.goal_graph.specs.Laws.{IsCalc, IsSend, IsReceive};
+ghost use Rattle.sim_params.specs.Costs.{is_eager};
+ghost use Rattle.sim_state.specs.Represents.{message_known};
+ghost use Rattle.sim_state.specs.Cursors.{IsCursorOf};
+ghost use Rattle.sim_state.specs.Enabled.{moment_known, ready_known, enabled_action, IsEnabledActionOf};
+
+use super::State;
+use crate::cursor::Cursor;
+use crate::pairing::Pairing;
+use crate::shape::Shape;
+use goal_graph::{Class, OpId, Timed, When};
+use sim_eager::{begin_at, serve_at};
+use sim_params::Costs;
+use sim_rendezvous::{clear, data_at};
+
+impl<'a, C: Costs> State<'a, C> {
+    /// The possible action of an operation, if it has one. While it has not started its cursor goes on to the first need
+    /// that is not met, or past all: the next call looks from there on.
+    pub(crate) fn choice(&self, id: OpId, cursor: &mut Cursor) -> Option<Timed>
+        requires op { IsOp self.now.plans id }
+        requires cursor { IsCursorOf self.now.plans (C.model self.now.costs) self.now.history id cursor.old }
+        ensures enabled { IsEnabledActionOf self.now.plans (C.model self.now.costs) self.now.history id result }
+        ensures cursor { IsCursorOf self.now.plans (C.model self.now.costs) self.now.history id cursor.new }
+    {
+        match self.shape(id) {
+            Shape::Calc => self.begin_of_calc(id, cursor),
+            Shape::Eager | Shape::Large => self.choice_of_send(id, cursor),
+            Shape::Receive => self.choice_of_receive(id, cursor),
+        }
+    }
+
+    // The possible action of a send, if it has one.
+    fn choice_of_send(&self, send: OpId, cursor: &mut Cursor) -> Option<Timed>
+        requires op { IsSend self.now.plans send }
+        requires cursor { IsCursorOf self.now.plans (C.model self.now.costs) self.now.history send cursor.old }
+        ensures enabled { IsEnabledActionOf self.now.plans (C.model self.now.costs) self.now.history send result }
+        ensures cursor { IsCursorOf self.now.plans (C.model self.now.costs) self.now.history send cursor.new }
+    {
+        let begin = self.begin_of_send(send, cursor);
+        if begin.is_some() {
+            return begin;
+        }
+        let arrival = self.arrival(send);
+        if arrival.is_some() {
+            return arrival;
+        }
+        self.hand_over_of(send)
+    }
+
+    // The possible action of a receive, if it has one.
+    fn choice_of_receive(&self, recv: OpId, cursor: &mut Cursor) -> Option<Timed>
+        requires op { IsReceive self.now.plans recv }
+        requires cursor { IsCursorOf self.now.plans (C.model self.now.costs) self.now.history recv cursor.old }
+        ensures enabled { IsEnabledActionOf self.now.plans (C.model self.now.costs) self.now.history recv result }
+        ensures cursor { IsCursorOf self.now.plans (C.model self.now.costs) self.now.history recv cursor.new }
+    {
+        let post = self.post_of(recv, cursor);
+        if post.is_some() {
+            return post;
+        }
+        self.serve_of(recv)
+    }
+
+    // The Begin of a calc: once it is ready and its cpu is free.
+    fn begin_of_calc(&self, calc: OpId, cursor: &mut Cursor) -> Option<Timed>
+        requires op { IsCalc self.now.plans calc }
+        requires cursor { IsCursorOf self.now.plans (C.model self.now.costs) self.now.history calc cursor.old }
+        ensures enabled { result ≡ enabled_action self.now.plans (C.model self.now.costs) self.now.history Begin calc }
+        ensures cursor { IsCursorOf self.now.plans (C.model self.now.costs) self.now.history calc cursor.new }
+    {
+        if self.entry(calc).start.get().is_some() {
+            return None;
+        }
+        let ready = self.ready(calc, cursor)?;
+        Some(Timed {
+            time: ready.max(self.resources.cpu(calc)),
+            class: Class::Begin,
+            op: calc,
+        })
+    }
+
+    // The Begin of a send: once it is ready, and its cpu and its interface are free.
+    fn begin_of_send(&self, send: OpId, cursor: &mut Cursor) -> Option<Timed>
+        requires op { IsSend self.now.plans send }
+        requires cursor { IsCursorOf self.now.plans (C.model self.now.costs) self.now.history send cursor.old }
+        ensures enabled { result ≡ enabled_action self.now.plans (C.model self.now.costs) self.now.history Begin send }
+        ensures cursor { IsCursorOf self.now.plans (C.model self.now.costs) self.now.history send cursor.new }
+    {
+        if self.entry(send).start.get().is_some() {
+            return None;
+        }
+        let ready = self.ready(send, cursor)?;
+        Some(Timed {
+            time: begin_at(&self.resources, send, ready),
+            class: Class::Begin,
+            op: send,
+        })
+    }
+
+    // The Arrive of a send that is under way.
+    fn arrival(&self, send: OpId) -> Option<Timed>
+        requires { IsOp self.now.plans send }
+        ensures { result ≡ enabled_action self.now.plans (C.model self.now.costs) self.now.history Arrive send }
+    {
+        let time = self.entry(send).arriving.get()?;
+        Some(Timed {
+            time,
+            class: Class::Arrive,
+            op: send,
+        })
+    }
+
+    // The Data of a large send: once its clearance is back, and its cpu and its interface are free.
+    fn hand_over_of(&self, send: OpId) -> Option<Timed>
+        requires { IsSend self.now.plans send }
+        ensures { result ≡ enabled_action self.now.plans (C.model self.now.costs) self.now.history Data send }
+    {
+        let entry = self.entry(send);
+        if self.is_eager(send) || entry.there.get().is_some() {
+            return None;
+        }
+        let Pairing { at, .. } = entry.paired.get()?;
+        let cleared = clear(self.sched, &self.costs, send, self.work(send).to, at);
+        Some(Timed {
+            time: data_at(&self.resources, send, cleared),
+            class: Class::Data,
+            op: send,
+        })
+    }
+
+    // The Post of a receive: once it is ready.
+    fn post_of(&self, recv: OpId, cursor: &mut Cursor) -> Option<Timed>
+        requires op { IsReceive self.now.plans recv }
+        requires cursor { IsCursorOf self.now.plans (C.model self.now.costs) self.now.history recv cursor.old }
+        ensures enabled { result ≡ enabled_action self.now.plans (C.model self.now.costs) self.now.history Post recv }
+        ensures cursor { IsCursorOf self.now.plans (C.model self.now.costs) self.now.history recv cursor.new }
+    {
+        if self.entry(recv).start.get().is_some() {
+            return None;
+        }
+        let time = self.ready(recv, cursor)?;
+        Some(Timed {
+            time,
+            class: Class::Post,
+            op: recv,
+        })
+    }
+
+    // The Serve of a receive: once its message is there, and its cpu and its interface are free.
+    fn serve_of(&self, recv: OpId) -> Option<Timed>
+        requires { IsReceive self.now.plans recv }
+        ensures { result ≡ enabled_action self.now.plans (C.model self.now.costs) self.now.history Serve recv }
+    {
+        let entry = self.entry(recv);
+        if entry.end.get().is_some() {
+            return None;
+        }
+        let pairing = entry.paired.get()?;
+        let there = self.message_there(pairing)?;
+        Some(Timed {
+            time: serve_at(&self.resources, recv, there),
+            class: Class::Serve,
+            op: recv,
+        })
+    }
+
+    // When the message of its partner is there for a receive, once it is.
+    fn message_there(&self, pairing: Pairing) -> Option<u64>
+        requires { IsSend self.now.plans pairing.with }
+        ensures { result ≡ message_known self.now.plans (C.model self.now.costs) self.now.history pairing }
+    {
+        if self.is_eager(pairing.with) {
+            return Some(pairing.at);
+        }
+        self.entry(pairing.with).there.get()
+    }
+
+    // Whether a send goes out whole, with no request before it.
+    pub(super) fn is_eager(&self, send: OpId) -> bool
+        requires { IsSend self.now.plans send }
+        ensures { result ≡ is_eager self.now.plans (C.model self.now.costs) send }
+    {
+        self.shape(send) == Shape::Eager
+    }
+
+    // When all that an operation needs is there, once it is. Its cursor goes on as far as needs are met.
+    fn ready(&self, id: OpId, cursor: &mut Cursor) -> Option<u64>
+        requires op { IsOp self.now.plans id }
+        requires cursor { IsCursorOf self.now.plans (C.model self.now.costs) self.now.history id cursor.old }
+        ensures ready { result ≡ ready_known self.now.plans (C.model self.now.costs) self.now.history id }
+        ensures cursor { IsCursorOf self.now.plans (C.model self.now.costs) self.now.history id cursor.new }
+    {
+        // a schedule has so few dependencies that a place among them fits 32 bits
+        let _plans = self.sched.plans();
+        let needs = self.sched.needs(id);
+        for at in cursor.at as usize..needs.len() {
+            let need = needs[at];
+            let needed = OpId {
+                rank: id.rank,
+                op: need.op,
+            };
+            if self.moment(need.when, needed).is_none() {
+                *cursor = Cursor { at: at as u32 };
+                return None;
+            }
+        }
+        *cursor = Cursor {
+            at: needs.len() as u32,
+        };
+        self.last_moment(id)
+    }
+
+    // The last of the moments that an operation needs, once all are there.
+    fn last_moment(&self, id: OpId) -> Option<u64>
+        requires { IsOp self.now.plans id }
+        ensures { result ≡ ready_known self.now.plans (C.model self.now.costs) self.now.history id }
+    {
+        let mut last: u64 = 0;
+        for need in self.sched.needs(id) {
+            let needed = OpId {
+                rank: id.rank,
+                op: need.op,
+            };
+            match self.moment(need.when, needed) {
+                Some(moment) => last = last.max(moment),
+                None => return None,
+            }
+        }
+        Some(last)
+    }
+
+    // The moment of an operation that a dependency waits for, once it is there.
+    fn moment(&self, when: When, id: OpId) -> Option<u64>
+        requires { IsOp self.now.plans id }
+        ensures { result ≡ moment_known self.now.plans (C.model self.now.costs) self.now.history when id }
+    {
+        let entry = self.entry(id);
+        match when {
+            When::AfterEnd => entry.end.get(),
+            When::AfterStart => entry.start.get(),
+        }
+    }
+}

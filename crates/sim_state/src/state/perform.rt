@@ -1,0 +1,225 @@
+// What each action changes.
+ghost use Rattle.std.specs.Prelude.{◌≡◌, ◌≤◌, ◌+◌, ◌∷◌, Some, true, false};
+ghost use Rattle.goal_graph.specs.declared.action.Class.TheVariants.{Arrive, Serve, Data, Post, Begin};
+ghost use Rattle.goal_graph.specs.declared.plan.Kind.TheVariants.{Calc};
+ghost use Rattle.goal_graph.specs.Schedule.{kind_at};
+ghost use Rattle.sim_params.specs.Costs.{is_eager};
+ghost use Rattle.sim_params.specs.Run.{IsNext};
+ghost use Rattle.sim_eager.specs.Messages.{IsMessage};
+
+use super::State;
+use crate::entry::{Entry, write, write_met};
+use crate::key::compact;
+use crate::moment::Moment;
+use crate::shape::Shape;
+use crate::work::Work;
+use goal_graph::{Class, Timed};
+use sim_eager::{eager_begin, serve};
+use sim_order::Steps;
+use sim_params::Costs;
+use sim_rendezvous::{data, request};
+use std::sync::ledger::Ledger;
+
+impl<'a, C: Costs> State<'a, C> {
+    /// Lets the next action happen. For it the matcher looks at eight entries of match lists at most, those that are passed
+    /// counted when they came (`Matcher::post_counted`).
+    pub fn perform<M: Ledger>(&mut self, action: Timed, looks: &mut Steps<M>)
+        requires { IsNext self.old.plans (C.model self.old.costs) self.old.history action }
+        ensures performed { self.new ≡ record self.old { history = action ∷ self.old.history } }
+        ensures looked { looks.new ≤ looks.old + 8 }
+    {
+        match action.class {
+            Class::Begin => self.begin(action),
+            Class::Post => self.post(action, looks),
+            Class::Arrive => self.arrive(action, looks),
+            Class::Data => self.hand_over(action),
+            Class::Serve => self.serve(action),
+        }
+    }
+
+    // A calc or a send begins.
+    fn begin(&mut self, action: Timed)
+        requires next { IsNext self.old.plans (C.model self.old.costs) self.old.history action }
+        requires class { action.class ≡ Begin }
+        ensures { self.new ≡ record self.old { history = action ∷ self.old.history } }
+    {
+        let work = self.work(action.op);
+        match work.shape {
+            Shape::Calc => self.begin_calc(action, work.amount),
+            Shape::Eager => self.begin_eager(action, work),
+            Shape::Large => self.begin_large(action, work),
+            Shape::Receive => unreachable!(),
+        }
+    }
+
+    // A calc begins.
+    fn begin_calc(&mut self, action: Timed, nanos: u64)
+        requires next { IsNext self.old.plans (C.model self.old.costs) self.old.history action }
+        requires class { action.class ≡ Begin }
+        requires calc { kind_at self.old.plans action.op ≡ Some (Calc nanos) }
+        ensures { self.new ≡ record self.old { history = action ∷ self.old.history } }
+    {
+        let sched = self.sched;
+        let entry = *self.entry(action.op);
+        let end = action.time + nanos;
+        self.resources.hold_cpu(action.op, end);
+        let begun = Entry {
+            start: Moment::at(action.time),
+            end: Moment::at(end),
+            ..entry
+        };
+        write(sched, &mut self.entries, action.op, begun);
+        self.history.push_reserved(compact(sched, action));
+    }
+
+    // An eager send begins.
+    fn begin_eager(&mut self, action: Timed, work: Work)
+        requires next { IsNext self.old.plans (C.model self.old.costs) self.old.history action }
+        requires class { action.class ≡ Begin }
+        requires message { IsMessage self.old.plans action.op work.to work.amount }
+        requires eager { is_eager self.old.plans (C.model self.old.costs) action.op ≡ true }
+        ensures { self.new ≡ record self.old { history = action ∷ self.old.history } }
+    {
+        let sched = self.sched;
+        let entry = *self.entry(action.op);
+        let begun = eager_begin(
+            sched,
+            &self.costs,
+            &mut self.resources,
+            action.op,
+            work.to,
+            work.amount,
+            action.time,
+        );
+        let entry = Entry {
+            start: Moment::at(action.time),
+            end: Moment::at(begun.end),
+            arriving: Moment::at(begun.arrive),
+            ..entry
+        };
+        write(sched, &mut self.entries, action.op, entry);
+        self.history.push_reserved(compact(sched, action));
+    }
+
+    // A large send begins: its request goes out.
+    fn begin_large(&mut self, action: Timed, work: Work)
+        requires next { IsNext self.old.plans (C.model self.old.costs) self.old.history action }
+        requires class { action.class ≡ Begin }
+        requires message { IsMessage self.old.plans action.op work.to work.amount }
+        requires large { is_eager self.old.plans (C.model self.old.costs) action.op ≡ false }
+        ensures { self.new ≡ record self.old { history = action ∷ self.old.history } }
+    {
+        let sched = self.sched;
+        let entry = *self.entry(action.op);
+        let arrive = request(
+            sched,
+            &self.costs,
+            &mut self.resources,
+            action.op,
+            work.to,
+            action.time,
+        );
+        let entry = Entry {
+            start: Moment::at(action.time),
+            arriving: Moment::at(arrive),
+            ..entry
+        };
+        write(sched, &mut self.entries, action.op, entry);
+        self.history.push_reserved(compact(sched, action));
+    }
+
+    // A receive is posted, and takes the first message that it fits.
+    fn post<M: Ledger>(&mut self, action: Timed, looks: &mut Steps<M>)
+        requires next { IsNext self.old.plans (C.model self.old.costs) self.old.history action }
+        requires class { action.class ≡ Post }
+        ensures performed { self.new ≡ record self.old { history = action ∷ self.old.history } }
+        ensures looked { looks.new ≤ looks.old + 8 }
+    {
+        let sched = self.sched;
+        let entry = *self.entry(action.op);
+        let posted = Entry {
+            start: Moment::at(action.time),
+            ..entry
+        };
+        let partner = self.matcher.post_counted(action.op, looks);
+        let entries = &mut self.entries;
+        write_met(sched, entries, action.op, posted, partner, action.time);
+        self.history.push_reserved(compact(sched, action));
+    }
+
+    // A message or a request arrives, and is taken by the first receive that fits it.
+    fn arrive<M: Ledger>(&mut self, action: Timed, looks: &mut Steps<M>)
+        requires next { IsNext self.old.plans (C.model self.old.costs) self.old.history action }
+        requires class { action.class ≡ Arrive }
+        ensures performed { self.new ≡ record self.old { history = action ∷ self.old.history } }
+        ensures looked { looks.new ≤ looks.old + 8 }
+    {
+        let sched = self.sched;
+        let entry = *self.entry(action.op);
+        let arrived = Entry {
+            arriving: Moment::NONE,
+            ..entry
+        };
+        let partner = self.matcher.arrive_counted(action.op, looks);
+        let entries = &mut self.entries;
+        write_met(sched, entries, action.op, arrived, partner, action.time);
+        self.history.push_reserved(compact(sched, action));
+    }
+
+    // A large send hands over its bytes.
+    fn hand_over(&mut self, action: Timed)
+        requires next { IsNext self.old.plans (C.model self.old.costs) self.old.history action }
+        requires class { action.class ≡ Data }
+        ensures { self.new ≡ record self.old { history = action ∷ self.old.history } }
+    {
+        let sched = self.sched;
+        let entry = *self.entry(action.op);
+        let work = self.work(action.op);
+        let sent = data(
+            sched,
+            &self.costs,
+            &mut self.resources,
+            action.op,
+            work.to,
+            work.amount,
+            action.time,
+        );
+        let entry = Entry {
+            end: Moment::at(sent.end),
+            there: Moment::at(sent.arrive),
+            ..entry
+        };
+        write(sched, &mut self.entries, action.op, entry);
+        self.history.push_reserved(compact(sched, action));
+    }
+
+    // A receive takes the message of its partner.
+    fn serve(&mut self, action: Timed)
+        requires next { IsNext self.old.plans (C.model self.old.costs) self.old.history action }
+        requires class { action.class ≡ Serve }
+        ensures { self.new ≡ record self.old { history = action ∷ self.old.history } }
+    {
+        let sched = self.sched;
+        let entry = *self.entry(action.op);
+        let Some(pairing) = entry.paired.get() else {
+            unreachable!()
+        };
+        let work = self.work(pairing.with);
+        let end = serve(
+            sched,
+            &self.costs,
+            &mut self.resources,
+            action.op,
+            pairing.with,
+            work.to,
+            work.amount,
+            action.time,
+        );
+        let entry = Entry {
+            end: Moment::at(end),
+            ..entry
+        };
+        write(sched, &mut self.entries, action.op, entry);
+        self.history.push_reserved(compact(sched, action));
+    }
+}

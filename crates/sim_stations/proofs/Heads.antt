@@ -1,0 +1,34 @@
+-- The least of a group, where slots of other groups are changed.
+use Rattle.std.proofs.Common.{◌≡◌, ℕ, false, Option, Some, None, slice_get, nat_lt, refl, sym, ap, ◌∙◌, arith, le-ltb}
+use Rattle.goal_graph.specs.declared.action.Timed.{Timed}
+use Rattle.sim_order.specs.Events.{event_before}
+use Rattle.sim_heaps.specs.Map.{key_at}
+use Rattle.sim_groups.specs.Groups.{Grouped, IsLeastOf}
+use Rattle.sim_stations.specs.Stations.{at_time}
+use Rattle.sim_stations.specs.Rows.{IsHead}
+
+pub no_key : (k : Timed) → None ≡ Some k → ⊥
+no_key k e = absurd (cc)
+
+-- at one time events stand as at another
+pub at_one_time : (time : ℕ) (x y : Timed) → event_before (at_time time x) (at_time time y) ≡ event_before (at_time 0 x) (at_time 0 y)
+at_one_time time x y = let same : nat_lt time time ≡ false = le-ltb time time (omega arith) in rw same refl
+
+pub at_own : (k : Timed) (time : ℕ) → k.time ≡ time → at_time time k ≡ k
+at_own k time e i = record { time = sym e i; class = k.class; op = k.op }
+
+module _ (waiting new : Grouped Timed) (groups : new.groups ≡ waiting.groups) (group : ℕ) (same : (slot : ℕ) → slice_get waiting.groups slot ≡ Some group → key_at new.keys slot ≡ key_at waiting.keys slot) where
+  was_member : (slot : ℕ) → slice_get new.groups slot ≡ Some group → slice_get waiting.groups slot ≡ Some group
+  was_member slot e = ap (λ gs. slice_get gs slot) (sym groups) ∙ e
+
+  least_stays : (key : Timed) → IsLeastOf event_before waiting group key → IsLeastOf event_before new group key
+  least_stays key least = record {
+    slot = least.slot;
+    member = ap (λ gs. slice_get gs least.slot) groups ∙ least.member;
+    has = same least.slot least.member ∙ least.has;
+    least = λ one k e has. least.least one k (was_member one e) (sym (same one (was_member one e)) ∙ has);
+  }
+
+  pub head_stays : (time : ℕ) (head : Option Timed) → IsHead waiting group time head → IsHead new group time head
+  head_stays time None empty = λ slot e. same slot (was_member slot e) ∙ empty slot (was_member slot e)
+  head_stays time (Some k) h = (least_stays (at_time 0 k) h.0, h.1)

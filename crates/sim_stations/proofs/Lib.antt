@@ -1,0 +1,16 @@
+pub mod Sides
+pub mod Seen
+pub mod Heads
+pub mod InRows
+pub mod RowsLeast
+pub mod RowsNew
+pub mod Times
+pub mod Slots
+pub mod Shown
+pub mod Least
+pub mod Moves
+pub mod Joined
+pub mod Settling
+pub mod Listed
+pub mod Changed
+pub mod QueueNew

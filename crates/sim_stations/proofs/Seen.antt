@@ -1,0 +1,96 @@
+-- The keys of stations, of what stands at their places in the rows.
+use Rattle.std.proofs.Common.{◌≡◌, ◌≢◌, ◌⊎◌, ◌*◌, ◌<◌, ℕ, zero, suc, Bool, true, false, not, List, [], ◌∷◌, length, set, Option, None, refl, sym, ap, ◌∙◌, arith, inl, inr}
+use Rattle.std.proofs.lemmas.Bool.{cases_eq}
+use Rattle.std.proofs.lemmas.List.{get_or-set_same, get_or-set_other, length-set}
+use Rattle.goal_graph.specs.declared.action.Timed.{Timed}
+use Rattle.sim_heaps.specs.Map.{key_at}
+use Rattle.sim_heaps.proofs.ForCallers.{same_maps}
+use Rattle.sim_stations.specs.Rows.{place_in, seen, turned_at}
+use Rattle.sim_stations.proofs.Sides.{place_station, place_within}
+
+next_place : (s : ℕ) (b : Bool) → suc (suc (place_in s b)) ≡ place_in (suc s) b
+next_place s b = omega arith
+
+pub seen_at : (turned : List Bool) (keys : List (Option Timed)) → length keys ≡ 2 * length turned → (s : ℕ) → key_at (seen turned keys) s ≡ key_at keys (place_in s (turned_at turned s))
+unfolding seen
+seen_at [] [] l s = refl
+seen_at (false ∷ turned) (a ∷ b ∷ keys) l zero = refl
+seen_at (true ∷ turned) (a ∷ b ∷ keys) l zero = refl
+seen_at (false ∷ turned) (a ∷ b ∷ keys) l (suc s) =
+    seen_at turned keys (omega (arith, l)) s ∙ ap (key_at (a ∷ b ∷ keys)) (next_place s (turned_at turned s))
+seen_at (true ∷ turned) (a ∷ b ∷ keys) l (suc s) =
+    seen_at turned keys (omega (arith, l)) s ∙ ap (key_at (a ∷ b ∷ keys)) (next_place s (turned_at turned s))
+seen_at [] (a ∷ keys) l s = absurd (omega (arith, l))
+seen_at (t ∷ turned) [] l s = absurd (omega (arith, l))
+seen_at (t ∷ turned) (a ∷ []) l s = absurd (omega (arith, l))
+
+pub seen_length : (turned : List Bool) (keys : List (Option Timed)) → length keys ≡ 2 * length turned → length (seen turned keys) ≡ length turned
+unfolding seen
+seen_length [] [] l = refl
+seen_length (false ∷ turned) (a ∷ b ∷ keys) l = ap suc (seen_length turned keys (omega (arith, l)))
+seen_length (true ∷ turned) (a ∷ b ∷ keys) l = ap suc (seen_length turned keys (omega (arith, l)))
+seen_length [] (a ∷ keys) l = absurd (omega (arith, l))
+seen_length (t ∷ turned) [] l = absurd (omega (arith, l))
+seen_length (t ∷ turned) (a ∷ []) l = absurd (omega (arith, l))
+
+module _ (turned : List Bool) (keys : List (Option Timed)) (long : length keys ≡ 2 * length turned) (s : ℕ) (within : s < length turned) where
+  abbrev here : ℕ
+  here = place_in s (turned_at turned s)
+
+  pub here_in : here < length keys
+  here_in = omega (arith, long, place_within s (length turned) (turned_at turned s) within)
+
+  -- the key of a station is changed where it stands
+  pub seen_written : (value : Option Timed) → seen turned (set keys here value) ≡ set (seen turned keys) s value
+  seen_written value = same_maps (seen turned (set keys here value)) (set (seen turned keys) s value) (seen_length turned (set keys here value) (length-set keys here value ∙ long) ∙ sym (seen_length turned keys long) ∙ sym (length-set (seen turned keys) s value)) (λ i l. each i (cases_eq i s))
+    where
+      now : (i : ℕ) → key_at (seen turned (set keys here value)) i ≡ key_at (set keys here value) (place_in i (turned_at turned i))
+      now i = seen_at turned (set keys here value) (length-set keys here value ∙ long) i
+
+      each : (i : ℕ) → (i ≡ s) ⊎ (i ≢ s) → key_at (seen turned (set keys here value)) i ≡ key_at (set (seen turned keys) s value) i
+      each i (inl e) =
+          let left : key_at (seen turned (set keys here value)) s ≡ value = now s ∙ get_or-set_same keys here value None here_in in
+          let right : key_at (set (seen turned keys) s value) s ≡ value = get_or-set_same (seen turned keys) s value None (omega (arith, within, seen_length turned keys long)) in
+          ap (key_at (seen turned (set keys here value))) e ∙ left ∙ sym right ∙ ap (key_at (set (seen turned keys) s value)) (sym e)
+      each i (inr n) =
+          now i ∙ get_or-set_other keys here (place_in i (turned_at turned i)) value None (λ e. n (place_station i s (turned_at turned i) (turned_at turned s) e)) ∙ sym (seen_at turned keys long i) ∙ sym (get_or-set_other (seen turned keys) s i value None n)
+
+  abbrev there : ℕ
+  there = place_in s (not (turned_at turned s))
+
+  abbrev over : List Bool
+  over = set turned s (not (turned_at turned s))
+
+  abbrev moved : Option Timed → List (Option Timed)
+  moved value = set (set keys here None) there value
+
+  abbrev value : Option Timed
+  value = key_at (seen turned keys) s
+
+  -- a station goes over, and its key with it
+  pub seen_turned : seen over (moved (key_at (seen turned keys) s)) ≡ seen turned keys
+  seen_turned = same_maps (seen over (moved value)) (seen turned keys) (seen_length over (moved value) long_now ∙ length-set turned s (not (turned_at turned s)) ∙ sym (seen_length turned keys long)) (λ i l. each i (cases_eq i s))
+    where
+      length_moved : length (moved value) ≡ length keys
+      length_moved = length-set (set keys here None) there value ∙ length-set keys here None
+
+      long_now : length (moved value) ≡ 2 * length over
+      long_now = omega (arith, length_moved, long, length-set turned s (not (turned_at turned s)))
+
+      now : (i : ℕ) → key_at (seen over (moved value)) i ≡ key_at (moved value) (place_in i (turned_at over i))
+      now i = seen_at over (moved value) long_now i
+
+      turned_here : turned_at over s ≡ not (turned_at turned s)
+      turned_here = get_or-set_same turned s (not (turned_at turned s)) false within
+
+      there_in : there < length (set keys here None)
+      there_in =
+          omega (arith, long, length-set keys here None, place_within s (length turned) (not (turned_at turned s)) within)
+
+      each : (i : ℕ) → (i ≡ s) ⊎ (i ≢ s) → key_at (seen over (moved value)) i ≡ key_at (seen turned keys) i
+      each i (inl e) =
+          let left : key_at (seen over (moved value)) s ≡ value = now s ∙ ap (λ b. key_at (moved value) (place_in s b)) turned_here ∙ get_or-set_same (set keys here None) there value None there_in in
+          ap (key_at (seen over (moved value))) e ∙ left ∙ ap (key_at (seen turned keys)) (sym e)
+      each i (inr n) =
+          let stays : turned_at over i ≡ turned_at turned i = get_or-set_other turned s i (not (turned_at turned s)) false n in
+          now i ∙ ap (λ b. key_at (moved value) (place_in i b)) stays ∙ get_or-set_other (set keys here None) there (place_in i (turned_at turned i)) value None (λ e. n (place_station i s (turned_at turned i) (not (turned_at turned s)) e)) ∙ get_or-set_other keys here (place_in i (turned_at turned i)) None None (λ e. n (place_station i s (turned_at turned i) (turned_at turned s) e)) ∙ sym (seen_at turned keys long i)

@@ -1,0 +1,38 @@
+use Rattle.std.proofs.Common.{◌≡◌, ◌<◌, Some, length, set, slice_get, ap, ◌∙◌, subst, arith}
+use Rattle.sim_stations.specs.Rows.{Rowed, place_in, side_of, turned_at, IsTold}
+use Rattle.sim_stations.proofs.InRows.{with_key, if_some, pair_read, turned_read, written_inside, written_heads, written_seen}
+use Rattle.sim_stations.proofs.rows.Rows.tell.Given.{Over}
+use Rattle.sim_stations.proofs.rows.Rows.tell.Goals.{After-tell}
+use Rattle.sim_stations.proofs.rows.Rows.tell.Goals as goal
+
+module _ (g : Over) (c : After-tell g) where
+  within : c.args.station < length c.self.inside.pairs.items
+  within = omega (arith, c.requires.exists, ap (λ (q : Rowed). length q.pairs) c.self.view_is)
+
+  at : slice_get c.self.inside.pairs.items c.args.station ≡ Some c.index-pair.result.now
+  at = pair_read c.self.inside.pairs.items c.args.station c.index-pair.result.now within c.index-pair.ensures
+
+  turned : c.index-turned.result.now ≡ turned_at c.self.inside.turned.items c.args.station
+  turned =
+      turned_read c.self.inside.turned.items c.args.station c.index-turned.result.now (omega (arith, within, c.self.invariant.0.both)) c.index-turned.ensures
+
+  is_new : c.write.new.rows ≡ with_key c.self.inside.rows (place_in c.args.station (turned_at c.self.inside.turned.items c.args.station)) c.args.key
+  is_new =
+      c.write.ensures.written ∙ ap (λ i. with_key c.self.inside.rows i c.args.key) (c.place_in.ensures ∙ ap (place_in c.args.station) turned)
+
+  told : IsTold c.write.new.rows c.self.inside.free.items c.self.inside.heads c.tell.new.heads (side_of c.index-pair.result.now (turned_at c.self.inside.turned.items c.args.station))
+  told =
+      subst (IsTold c.write.new.rows c.self.inside.free.items c.self.inside.heads c.tell.new.heads) (c.side_of-resource.ensures ∙ ap (side_of c.index-pair.result.now) turned) (subst (λ f. IsTold c.write.new.rows f c.self.inside.heads c.tell.new.heads c.side_of-resource.result) c.deref.ensures.value c.tell.ensures.told)
+
+pub invariant_of-self : goal.invariant_of-self
+invariant_of-self g c =
+    let q = c.self.inside in
+    let zero = if_some c.args.key c.requires.at_zero in
+    (written_inside q.rows q.heads q.pairs.items q.turned.items q.free.items c.self.invariant.0 c.self.invariant.1 c.args.station c.index-pair.result.now (at g c) c.args.key zero c.write.new.rows (is_new g c) q.free.items (omega arith), written_heads q.rows q.heads q.pairs.items q.turned.items q.free.items c.self.invariant.0 c.self.invariant.1 c.args.station c.index-pair.result.now (at g c) c.args.key zero c.write.new.rows (is_new g c) c.tell.new.heads (told g c))
+
+pub returns-clause-told : goal.returns-clause-told
+returns-clause-told g c =
+    let q = c.self.inside in
+    let zero = if_some c.args.key c.requires.at_zero in
+    let keys = written_seen q.rows q.heads q.pairs.items q.turned.items q.free.items c.self.invariant.0 c.self.invariant.1 c.args.station c.index-pair.result.now (at g c) c.args.key zero c.write.new.rows (is_new g c) in
+    (λ i. record { keys = keys i; pairs = q.pairs.items; turned = q.turned.items; free = q.free.items }) ∙ ap (λ (r : Rowed). record { keys = set r.keys c.args.station c.args.key; pairs = r.pairs; turned = r.turned; free = r.free }) c.self.view_is

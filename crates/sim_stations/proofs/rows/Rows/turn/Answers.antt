@@ -1,0 +1,76 @@
+use Rattle.std.proofs.Common.{◌≡◌, ◌<◌, Some, None, not, length, set, slice_get, sym, ap, ◌∙◌, subst, arith}
+use Rattle.sim_heaps.specs.Map.{key_at}
+use Rattle.sim_stations.specs.Rows.{Rowed, place_in, turned_at, seen, AreBothTold, IsInRows}
+use Rattle.sim_stations.proofs.InRows.{with_key, pair_read, turned_read, turned_zero, turned_inside, turned_heads, turned_seen}
+use Rattle.sim_stations.proofs.rows.Rows.turn.Given.{Over}
+use Rattle.sim_stations.proofs.rows.Rows.turn.Goals.{After-tell_both-arg-3-1, After-tell_both}
+use Rattle.sim_stations.proofs.rows.Rows.turn.Goals as goal
+
+-- before the heads are told
+module _ (g : Over) (c : After-tell_both-arg-3-1 g) where
+  within_before : c.args.station < length c.self.inside.pairs.items
+  within_before = omega (arith, c.requires.exists, ap (λ (q : Rowed). length q.pairs) c.self.view_is)
+
+  at_before : slice_get c.self.inside.pairs.items c.args.station ≡ Some c.index-pair.result.now
+  at_before = pair_read c.self.inside.pairs.items c.args.station c.index-pair.result.now within_before c.index-pair.ensures
+
+  turned_before : c.index-turned.result.now ≡ turned_at c.self.inside.turned.items c.args.station
+  turned_before =
+      turned_read c.self.inside.turned.items c.args.station c.index-turned.result.now (omega (arith, within_before, c.self.invariant.0.both)) c.index-turned.ensures
+
+  mid_before : c.drop_slot.new.self ≡ with_key c.self.inside.rows (place_in c.args.station (turned_at c.self.inside.turned.items c.args.station)) None
+  mid_before =
+      c.drop_slot.ensures.dropped ∙ ap (λ i. with_key c.self.inside.rows i None) (c.place_in.ensures ∙ ap (place_in c.args.station) turned_before)
+
+  new_before : c.put.new.self ≡ with_key c.drop_slot.new.self (place_in c.args.station (not (turned_at c.self.inside.turned.items c.args.station))) (Some c.args.key)
+  new_before =
+      c.put.ensures.put ∙ ap (λ i. with_key c.drop_slot.new.self i (Some c.args.key)) (c.place_in-2.ensures ∙ ap (λ b. place_in c.args.station (not b)) turned_before)
+
+  has_before : key_at (seen c.self.inside.turned.items c.self.inside.rows.keys) c.args.station ≡ Some c.args.key
+  has_before = ap (λ (q : Rowed). key_at q.keys c.args.station) c.self.view_is ∙ c.requires.has
+
+-- and after it
+module _ (g : Over) (c : After-tell_both g) where
+  within : c.args.station < length c.self.inside.pairs.items
+  within = omega (arith, c.requires.exists, ap (λ (q : Rowed). length q.pairs) c.self.view_is)
+
+  at : slice_get c.self.inside.pairs.items c.args.station ≡ Some c.index-pair.result.now
+  at = pair_read c.self.inside.pairs.items c.args.station c.index-pair.result.now within c.index-pair.ensures
+
+  turned : c.index-turned.result.now ≡ turned_at c.self.inside.turned.items c.args.station
+  turned =
+      turned_read c.self.inside.turned.items c.args.station c.index-turned.result.now (omega (arith, within, c.self.invariant.0.both)) c.index-turned.ensures
+
+  mid : c.drop_slot.new.self ≡ with_key c.self.inside.rows (place_in c.args.station (turned_at c.self.inside.turned.items c.args.station)) None
+  mid =
+      c.drop_slot.ensures.dropped ∙ ap (λ i. with_key c.self.inside.rows i None) (c.place_in.ensures ∙ ap (place_in c.args.station) turned)
+
+  new : c.put.new.self ≡ with_key c.drop_slot.new.self (place_in c.args.station (not (turned_at c.self.inside.turned.items c.args.station))) (Some c.args.key)
+  new =
+      c.put.ensures.put ∙ ap (λ i. with_key c.drop_slot.new.self i (Some c.args.key)) (c.place_in-2.ensures ∙ ap (λ b. place_in c.args.station (not b)) turned)
+
+  has : key_at (seen c.self.inside.turned.items c.self.inside.rows.keys) c.args.station ≡ Some c.args.key
+  has = ap (λ (q : Rowed). key_at q.keys c.args.station) c.self.view_is ∙ c.requires.has
+
+  told : AreBothTold c.put.new.self c.self.inside.free.items c.self.inside.heads c.tell_both.new.heads c.index-pair.result.now
+  told = subst (λ f. AreBothTold c.put.new.self f c.self.inside.heads c.tell_both.new.heads c.index-pair.result.now) c.deref.ensures.value c.tell_both.ensures.told
+
+  over : set c.self.inside.turned.items c.args.station (not c.index-turned.result.now) ≡ set c.self.inside.turned.items c.args.station (not (turned_at c.self.inside.turned.items c.args.station))
+  over = ap (λ b. set c.self.inside.turned.items c.args.station (not b)) turned
+
+pub tell_both-requires-clause-at_zero : goal.tell_both-requires-clause-at_zero
+tell_both-requires-clause-at_zero g c =
+    let q = c.self.inside in
+    turned_zero q.rows q.heads q.pairs.items q.turned.items q.free.items c.self.invariant.0 c.self.invariant.1 c.args.station c.index-pair.result.now (at_before g c) c.args.key (has_before g c) c.drop_slot.new.self c.put.new.self (mid_before g c) (new_before g c)
+
+pub invariant_of-self : goal.invariant_of-self
+invariant_of-self g c =
+    let q = c.self.inside in
+    let inside = turned_inside q.rows q.heads q.pairs.items q.turned.items q.free.items c.self.invariant.0 c.self.invariant.1 c.args.station c.index-pair.result.now (at g c) c.args.key (has g c) c.drop_slot.new.self c.put.new.self (mid g c) (new g c) in
+    (subst (λ bs. IsInRows c.put.new.self q.pairs.items bs q.free.items) (sym (over g c)) inside, turned_heads q.rows q.heads q.pairs.items q.turned.items q.free.items c.self.invariant.0 c.self.invariant.1 c.args.station c.index-pair.result.now (at g c) c.args.key (has g c) c.drop_slot.new.self c.put.new.self (mid g c) (new g c) c.tell_both.new.heads (told g c))
+
+pub returns-clause-turned : goal.returns-clause-turned
+returns-clause-turned g c =
+    let q = c.self.inside in
+    let keys = ap (λ bs. seen bs c.put.new.self.keys) (over g c) ∙ turned_seen q.rows q.heads q.pairs.items q.turned.items q.free.items c.self.invariant.0 c.self.invariant.1 c.args.station c.index-pair.result.now (at g c) c.args.key (has g c) c.drop_slot.new.self c.put.new.self (mid g c) (new g c) in
+    (λ i. record { keys = keys i; pairs = q.pairs.items; turned = over g c i; free = q.free.items }) ∙ ap (λ (r : Rowed). record { keys = r.keys; pairs = r.pairs; turned = set r.turned c.args.station (not (turned_at r.turned c.args.station)); free = r.free }) c.self.view_is

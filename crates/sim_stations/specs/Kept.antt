@@ -1,0 +1,122 @@
+-- What the code keeps: keys that stand for themselves, `ahead`; keys that wait, `waiting`, whose own times are 0; and the least
+-- of the latter for each station, in the row where it waits.
+use Rattle.std.specs.Prelude.{◌≡◌, ◌≢◌, ◌⊎◌, ◌<◌, ◌≤◌, ◌+◌, ◌*◌, ℕ, Bool, true, false, not, List, [], ◌∷◌, Option, Some, None, length, nat_lt, slice_get, slice_index, slice_index_or, slice_set}
+use Rattle.std.specs.Option.{option_map}
+use Rattle.goal_graph.specs.declared.action.Timed.{Timed}
+use Rattle.sim_order.specs.Events.{event_before}
+use Rattle.sim_heaps.specs.Map.{key_at, IsSoleLeast}
+use Rattle.sim_groups.specs.Groups.{Grouped, IsLeastOf, IsSoleLeastOf}
+use Rattle.sim_stations.specs.declared.pair.Pair.{Pair}
+use Rattle.sim_stations.specs.declared.stand.Stand.{Stand}
+use Rattle.sim_stations.specs.declared.stand.Stand.TheVariants.{Nowhere, Ahead, Waiting}
+use Rattle.sim_stations.specs.Stations.{waits_for_room, when_free, pair_at, held}
+use Rattle.sim_stations.specs.Moves.{one_if}
+use Rattle.sim_stations.specs.Rows.{Rowed, IsHead, side_of, shown}
+
+-- what a slot has in one of two maps
+abbrev pub either : Option Timed → Option Timed → Option Timed
+either (Some k) waiting = Some k
+either None waiting = waiting
+
+-- the keys of the slots, at the earliest times that their stations allow
+unfoldable pub seen_keys : List ℕ → List Pair → List (Option Timed) → List (Option Timed) → List ℕ → List (Option Timed)
+seen_keys free pairs (a ∷ ahead) (w ∷ waiting) (s ∷ stations) =
+    option_map (when_free free (pair_at pairs s)) (either a w) ∷ seen_keys free pairs ahead waiting stations
+seen_keys free pairs _ _ _ = []
+
+-- slots have keys in one of two maps, and belong to these stations
+pub record AreMapped (ahead : List (Option Timed)) (waiting : Grouped Timed) (pairs : List Pair) : Type 0 where
+  pub each : length ahead ≡ length waiting.keys
+  pub grouped : length waiting.groups ≡ length waiting.keys
+  pub within : (slot station : ℕ) → slice_get waiting.groups slot ≡ Some station → station < length pairs
+  pub apart : (slot : ℕ) (k : Timed) → key_at ahead slot ≡ Some k → key_at waiting.keys slot ≡ None
+  pub waits : (slot : ℕ) (k : Timed) → key_at waiting.keys slot ≡ Some k → (k.time ≡ 0) × (waits_for_room k.class ≡ true)
+
+-- each station has the least key of its slots that wait
+abbrev pub AreShown : Grouped Timed → List (Option Timed) → ℕ → Type 0
+AreShown waiting keys stations = (station : ℕ) → station < stations → IsHead waiting station 0 (key_at keys station)
+
+-- a key is before each of a station, or one of the station is before it or the same
+abbrev pub IsBeforeAll : Grouped Timed → ℕ → Timed → Type 0
+IsBeforeAll waiting station key =
+    (slot : ℕ) (k : Timed) → slice_get waiting.groups slot ≡ Some station → key_at waiting.keys slot ≡ Some k → event_before k key ≡ false
+
+pub record HasOneBefore (waiting : Grouped Timed) (station : ℕ) (key : Timed) : Type 0 where
+  pub first : Timed
+  pub least : IsLeastOf event_before waiting station first
+  pub before : event_before key first ≡ false
+
+-- where a slot has its key, by what it has ahead and what it has waiting
+abbrev pub stand_of : Option Timed → Option Timed → Stand
+stand_of (Some _) waiting = Ahead
+stand_of None (Some _) = Waiting
+stand_of None None = Nowhere
+
+-- a slot that stands there has a key
+abbrev pub has_key : Stand → Bool
+has_key Nowhere = false
+has_key Ahead = true
+has_key Waiting = true
+
+-- a slot that stands there waits
+abbrev pub is_waiting : Stand → Bool
+is_waiting Nowhere = false
+is_waiting Ahead = false
+is_waiting Waiting = true
+
+-- it is known where each slot has its key
+pub record AreStands (stands : List Stand) (ahead : List (Option Timed)) (waiting : Grouped Timed) : Type 0 where
+  pub each : length stands ≡ length waiting.keys
+  pub tells : (slot : ℕ) → slice_index_or stands slot Nowhere ≡ stand_of (key_at ahead slot) (key_at waiting.keys slot)
+
+-- all of it: the stations' least keys, and the resources, are not many
+pub record IsKept (ahead : List (Option Timed)) (waiting : Grouped Timed) (rows : Rowed) (stands : List Stand) : Type 0 where
+  pub mapped : AreMapped ahead waiting rows.pairs
+  pub shown : AreShown waiting rows.keys (length rows.pairs)
+  pub stood : AreStands stands ahead waiting
+  pub keyed : length rows.keys ≡ length rows.pairs
+  pub placed : length rows.turned ≡ length rows.pairs
+  pub few_stations : length rows.pairs ≤ length waiting.keys
+  pub few_resources : length rows.free ≤ 2 * length waiting.keys
+
+-- the keys of the slots, as they are seen
+abbrev pub seen_of : List (Option Timed) → Grouped Timed → Rowed → List (Option Timed)
+seen_of ahead waiting rows = seen_keys rows.free rows.pairs ahead waiting.keys waiting.groups
+
+-- the slot that was found is the first of those that are ahead, or of those that wait with its station
+abbrev pub IsFound : List (Option Timed) → Grouped Timed → Option ℕ → Type 0
+IsFound ahead waiting None = Unit {0}
+IsFound ahead waiting (Some slot) = IsSoleLeast event_before ahead slot ⊎ IsSoleLeastOf event_before waiting slot
+
+-- a slot has left, whose station's resources are free at these times from now on
+pub record IsDeparted (ahead : List (Option Timed)) (waiting : Grouped Timed) (rows : Rowed) (stands : List Stand) (slot cpu side : ℕ) (new_ahead : List (Option Timed)) (new_waiting : Grouped Timed) (new_rows : Rowed) : Type 0 where
+  pub kept : IsKept new_ahead new_waiting new_rows (slice_set stands slot Nowhere)
+  pub each : length (seen_of new_ahead new_waiting new_rows) ≡ length (seen_of ahead waiting rows)
+  pub gone : key_at (seen_of new_ahead new_waiting new_rows) slot ≡ None
+  pub raised :
+      (one : ℕ) → one ≢ slot
+      → key_at (seen_of new_ahead new_waiting new_rows) one
+      ≡ option_map (when_free new_rows.free (pair_at rows.pairs (slice_index waiting.groups one))) (key_at (seen_of ahead waiting rows) one)
+  pub groups : new_waiting.groups ≡ waiting.groups
+  pub pairs : new_rows.pairs ≡ rows.pairs
+  pub turned : new_rows.turned ≡ rows.turned
+  pub free : new_rows.free ≡ held rows.free (pair_at rows.pairs (slice_index waiting.groups slot)) cpu side
+
+-- a key that some slot has ahead, or that some station shows
+abbrev pub IsSeenFirst : List (Option Timed) → Rowed → Timed → Bool → Type 0
+IsSeenFirst ahead rows key true = (slot : ℕ) × (key_at ahead slot ≡ Some key)
+IsSeenFirst ahead rows key false = (station : ℕ) × (shown rows station ≡ Some key)
+
+-- no key that a slot has ahead is before it, and none that a station shows
+pub record IsFirstOfAll (ahead : List (Option Timed)) (rows : Rowed) (key : Timed) (is_ahead : Bool) : Type 0 where
+  pub seen : IsSeenFirst ahead rows key is_ahead
+  pub least_ahead : (slot : ℕ) (k : Timed) → key_at ahead slot ≡ Some k → event_before k key ≡ false
+  pub least_shown : (station : ℕ) (k : Timed) → shown rows station ≡ Some k → event_before k key ≡ false
+
+-- how many stations wait at a resource that is free before their other one
+abbrev pub is_late : List ℕ → Pair → Bool → Bool
+is_late free p turned = nat_lt (slice_index free (side_of p turned)) (slice_index free (side_of p (not turned)))
+
+abbrev pub count_late : List ℕ → List Pair → List Bool → ℕ
+count_late free (p ∷ pairs) (b ∷ turned) = one_if (is_late free p b) + count_late free pairs turned
+count_late free _ _ = 0

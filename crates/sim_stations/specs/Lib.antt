@@ -1,0 +1,10 @@
+-- What a reader must believe.
+pub mod Stations
+pub mod Moves
+-- What only the code keeps.
+pub mod Rows
+pub mod Kept
+-- What the clauses cite of lower crates.
+pub use Rattle.goal_graph.specs.Schedule
+pub use Rattle.sim_order.specs.Events
+pub use Rattle.sim_heaps.specs.Map

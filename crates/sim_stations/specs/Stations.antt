@@ -1,0 +1,86 @@
+-- A queue whose slots wait with their stations. The slots of a station need the same two resources, and no event of theirs is
+-- before the moments at which these are free.
+use Rattle.std.specs.Prelude.{◌≡◌, ◌<◌, ◌≤◌, ◌+◌, ◌*◌, ℕ, Bool, true, false, List, Option, Some, max, slice_get, slice_index, slice_index_or, slice_set, if◌then◌else◌}
+use Rattle.std.specs.List.{sum_by}
+use Rattle.goal_graph.specs.declared.action.OpId.{OpId}
+use Rattle.goal_graph.specs.declared.action.Timed.{Timed}
+use Rattle.goal_graph.specs.declared.action.Class.{Class}
+use Rattle.goal_graph.specs.declared.action.Class.TheVariants.{Arrive, Serve, Data, Post, Begin}
+use Rattle.sim_heaps.specs.Map.{key_at}
+use Rattle.sim_stations.specs.declared.pair.Pair.{Pair}
+use Rattle.sim_stations.specs.declared.stand.Stand.{Stand}
+use Rattle.sim_stations.specs.declared.stand.Stand.TheVariants.{Nowhere, Ahead, Waiting}
+
+-- What each slot has, a key or none, its station, and where its key stands; the two resources of each station, and whether
+-- what waits there waits at the second; when each resource is free; and the slot that was found to have the least key.
+pub record Stationed : Type 0 where
+  pub keys : List (Option Timed)
+  pub stations : List ℕ
+  pub stands : List Stand
+  pub pairs : List Pair
+  pub turned : List Bool
+  pub free : List ℕ
+  pub found : Option ℕ
+
+-- actions of this class wait for a cpu or an interface
+abbrev pub waits_for_room : Class → Bool
+waits_for_room Arrive = false
+waits_for_room Serve = true
+waits_for_room Data = true
+waits_for_room Post = false
+waits_for_room Begin = true
+
+-- the event at another time
+abbrev pub at_time : ℕ → Timed → Timed
+at_time time k = record { time = time; class = k.class; op = k.op }
+
+-- when both resources are free
+abbrev pub both_free : List ℕ → Pair → ℕ
+both_free free p = max (slice_index free p.cpu) (slice_index free p.side)
+
+-- when the event can happen at the earliest, which needs these resources where it waits for room
+abbrev pub earliest : List ℕ → Pair → Timed → ℕ
+earliest free p k = if waits_for_room k.class then max k.time (both_free free p) else k.time
+
+abbrev pub when_free : List ℕ → Pair → Timed → Timed
+when_free free p k = at_time (earliest free p k) k
+
+-- the resources of the pairs are some of so many
+abbrev pub DoExist : List Pair → ℕ → Type 0
+DoExist pairs resources = (station : ℕ) (p : Pair) → slice_get pairs station ≡ Some p → (p.cpu < resources) × (p.side < resources)
+
+-- the resources of a station, and those of a slot
+abbrev pub pair_at : List Pair → ℕ → Pair
+pair_at pairs station = slice_index_or pairs station (record { cpu = 0; side = 0 })
+
+abbrev pub pair_of : Stationed → ℕ → Pair
+pair_of q slot = pair_at q.pairs (slice_index q.stations slot)
+
+-- the resources of a pair are free at these times
+abbrev pub held : List ℕ → Pair → ℕ → ℕ → List ℕ
+held free p cpu side = slice_set (slice_set free p.cpu cpu) p.side side
+
+-- that is not earlier than they were
+pub record IsLater (free : List ℕ) (p : Pair) (cpu side : ℕ) : Type 0 where
+  pub cpu_later : slice_index free p.cpu ≤ cpu
+  pub side_later : slice_index (slice_set free p.cpu cpu) p.side ≤ side
+
+-- each key is that of the operation of its slot
+abbrev pub AreOfSlots : List OpId → List (Option Timed) → Type 0
+AreOfSlots operations keys = (slot : ℕ) (k : Timed) → key_at keys slot ≡ Some k → slice_get operations slot ≡ Some k.op
+
+-- how many keys stand for themselves
+abbrev pub one_ahead : Stand → ℕ
+one_ahead Nowhere = 0
+one_ahead Ahead = 1
+one_ahead Waiting = 0
+
+abbrev pub count_ahead : List Stand → ℕ
+count_ahead stands = sum_by one_ahead stands
+
+-- what it costs at most, among 2^k slots, that these keys begin to wait, and that stations change their places so often
+abbrev pub cost_of_waiting : ℕ → List Stand → ℕ
+cost_of_waiting k stands = count_ahead stands * (8 * k + 12)
+
+abbrev pub cost_of_moves : ℕ → ℕ → ℕ
+cost_of_moves k moves = moves * (8 * k + 15)

@@ -1,0 +1,228 @@
+// Which stations wait at which resource.
+ghost use Rattle.std.specs.Prelude.{◌≡◌, ◌+◌, ◌*◌, ◌^◌, ◌<◌, ◌≤◌, ◌↔◌, ℕ, All, IfOk, IfSome, IsNone, Some, None, false, not, length, max, replicate, slice_get, slice_index, slice_set};
+ghost use Rattle.goal_graph.specs.declared.action.Timed.{Timed};
+ghost use Rattle.sim_heaps.specs.Map.{key_at, IsEmptyMap};
+ghost use Rattle.sim_stations.specs.Stations.{both_free, pair_at, held, DoExist};
+ghost use Rattle.sim_stations.specs.Rows.{sides, place_in, side_of, turned_at, IsFirst, IsTold, AreBothTold};
+
+use crate::Pair;
+use goal_base::NoMemory;
+use sim_groups::SlotGroups;
+use sim_heaps::{EventQueue, SlotHeap};
+use sim_order::{CompactKey, Steps};
+use std::alloc::Global;
+use std::marker::Model;
+use std::sync::ledger::Ledger;
+
+/// Stations with the least of their keys, at time 0, where they have any. Each waits at one of its two resources, and its key
+/// is not before the moment at which this is free: so the keys of all stations of a resource are raised together.
+#[derive(Drop)]
+pub struct Rows {
+    // what waits at each resource: the station s has the slots 2s and 2s+1, for its cpu and for its side
+    rows: SlotGroups,
+    // the least of each row, at the time at which the resource is free
+    heads: SlotHeap<CompactKey>,
+    pairs: Vec<Pair>,
+    // whether each station waits at its side
+    turned: Vec<bool>,
+    free: Vec<u64>,
+}
+
+impl Model for Rows {
+    ghost use Rattle.sim_stations.specs.Rows.{Rowed, seen, IsInRows, AreHeads};
+
+    ghost Value = { Rowed };
+
+    ghost view = { λ q. record { keys = seen q.turned.items q.rows.keys; pairs = q.pairs.items; turned = q.turned.items; free = q.free.items } };
+
+    ghost invariant = { λ q. IsInRows q.rows q.pairs.items q.turned.items q.free.items × AreHeads q.rows q.heads q.free.items };
+}
+
+// The resources of the slots of the rows.
+fn sides(alloc: Global, pairs: &[Pair]) -> Result<Vec<u32>, NoMemory>
+    requires { 2 * length pairs.now < 2 ^ 32 }
+    ensures { IfOk result (λ v. v.items ≡ sides pairs.now) }
+{
+    let mut numbers = Vec::with_capacity(alloc, 2 * pairs.len())?;
+    'stations: for pair in pairs {
+        numbers.push(pair.cpu)?;
+        numbers.push(pair.side)?;
+    }
+    Ok(numbers)
+}
+
+// Where a station stands in the rows.
+fn place_in(station: u32, turned: bool) -> u32
+    requires { 2 * station + 1 < 2 ^ 32 }
+    ensures { result ≡ place_in station turned }
+{
+    2 * station + u32::from(turned)
+}
+
+// The resource at which a station of this pair waits.
+fn side_of(pair: Pair, turned: bool) -> u32
+    ensures { result ≡ side_of pair turned }
+{
+    if turned { pair.side } else { pair.cpu }
+}
+
+// Tells the head of a resource anew.
+fn tell<L: Ledger>(
+    rows: &SlotGroups,
+    heads: &mut SlotHeap<CompactKey>,
+    free: &[u64],
+    resource: u32,
+    steps: &mut Steps<L>,
+)
+    requires exists { resource < length heads.old }
+    requires each { length heads.old ≡ length free.now }
+    requires at_zero { (slot : ℕ) (k : Timed) → key_at rows.now.keys slot ≡ Some k → k.time ≡ 0 }
+    ensures told { IsTold rows.now free.now heads.old heads.new resource }
+    ensures counted { (k : ℕ) → length heads.old ≤ 2 ^ k → steps.new ≤ steps.old + (2 * k + 1) }
+    ensures onward { steps.old ≤ steps.new }
+{
+    match rows.least_of(resource, steps) {
+        Some(key) => heads.put(resource, key.at(free[resource as usize]), steps),
+        None => heads.drop_slot(resource, steps),
+    }
+}
+
+// Tells the heads of the resources of a pair anew.
+fn tell_both<L: Ledger>(
+    rows: &SlotGroups,
+    heads: &mut SlotHeap<CompactKey>,
+    free: &[u64],
+    pair: Pair,
+    steps: &mut Steps<L>,
+)
+    requires cpu { pair.cpu < length heads.old }
+    requires side { pair.side < length heads.old }
+    requires each { length heads.old ≡ length free.now }
+    requires at_zero { (slot : ℕ) (k : Timed) → key_at rows.now.keys slot ≡ Some k → k.time ≡ 0 }
+    ensures told { AreBothTold rows.now free.now heads.old heads.new pair }
+    ensures counted { (k : ℕ) → length heads.old ≤ 2 ^ k → steps.new ≤ steps.old + (4 * k + 2) }
+    ensures onward { steps.old ≤ steps.new }
+{
+    tell(rows, heads, free, pair.cpu, steps);
+    tell(rows, heads, free, pair.side, steps);
+}
+
+// Gives a slot of the rows a key, or none.
+fn write<L: Ledger>(rows: &mut SlotGroups, slot: u32, key: Option<CompactKey>, steps: &mut Steps<L>)
+    requires { slot < length rows.old.keys }
+    ensures written { rows.new ≡ record rows.old { keys = slice_set rows.old.keys slot key } }
+    ensures counted { (k : ℕ) → length rows.old.keys ≤ 2 ^ k → steps.new ≤ steps.old + (2 * k + 1) }
+    ensures onward { steps.old ≤ steps.new }
+{
+    match key {
+        Some(key) => rows.put(slot, key, steps),
+        None => rows.drop_slot(slot, steps),
+    }
+}
+
+impl Rows {
+    /// Stations of these pairs of the resources below a number, which are free at 0. None of them has a key. It takes all its
+    /// memory here.
+    pub fn new(alloc: Global, pairs: &[Pair], resources: u32) -> Result<Rows, NoMemory>
+        requires exist { DoExist pairs.now resources }
+        requires few { 2 * length pairs.now < 2 ^ 32 }
+        ensures { IfOk result (λ q. q ≡ record { keys = replicate (length pairs.now) None; pairs = pairs.now; turned = replicate (length pairs.now) false; free = replicate resources 0 }) }
+    {
+        let numbers = sides(alloc, pairs)?;
+        Ok(Rows {
+            rows: SlotGroups::new(alloc, &numbers, resources)?,
+            heads: SlotHeap::new(alloc, resources)?,
+            pairs: Vec::from_slice(alloc, pairs)?,
+            turned: vec![in alloc; false; pairs.len()]?,
+            free: vec![in alloc; 0; resources as usize]?,
+        })
+    }
+
+    /// When both resources of a station are free.
+    pub fn free<L: Ledger>(&self, station: u32, steps: &mut Steps<L>) -> u64
+        requires { station < length self.now.pairs }
+        ensures free { result ≡ both_free self.now.free (pair_at self.now.pairs station) }
+        ensures counted { steps.new ≡ steps.old + 1 }
+    {
+        let pair = self.pairs[station as usize];
+        steps.tick();
+        self.free[pair.cpu as usize].max(self.free[pair.side as usize])
+    }
+
+    /// The least key of the stations, each at the time at which the resource is free where it waits.
+    pub fn least<L: Ledger>(&self, steps: &mut Steps<L>) -> Option<CompactKey>
+        ensures none { IsNone result ↔ IsEmptyMap self.now.keys }
+        ensures least { IfSome result (IsFirst self.now) }
+        ensures counted { steps.new ≡ steps.old }
+    {
+        let (_, key) = self.heads.least(steps)?;
+        Some(key)
+    }
+
+    /// Gives a station another key, at time 0, or none.
+    pub fn tell<L: Ledger>(&mut self, station: u32, key: Option<CompactKey>, steps: &mut Steps<L>)
+        requires exists { station < length self.old.pairs }
+        requires at_zero { IfSome key (λ k. k.time ≡ 0) }
+        ensures told { self.new ≡ record self.old { keys = slice_set self.old.keys station key } }
+        ensures counted { (k : ℕ) → 2 * length self.old.pairs ≤ 2 ^ k → length self.old.free ≤ 2 ^ k → steps.new ≤ steps.old + (4 * k + 2) }
+        ensures onward { steps.old ≤ steps.new }
+    {
+        let pair = self.pairs[station as usize];
+        let turned = self.turned[station as usize];
+        write(&mut self.rows, place_in(station, turned), key, steps);
+        let resource = side_of(pair, turned);
+        tell(&self.rows, &mut self.heads, &self.free, resource, steps);
+    }
+
+    /// Lets a station that has a key go over to its other resource.
+    pub fn turn<L: Ledger>(&mut self, station: u32, key: CompactKey, steps: &mut Steps<L>)
+        requires exists { station < length self.old.pairs }
+        requires has { key_at self.old.keys station ≡ Some key }
+        ensures turned { self.new ≡ record self.old { turned = slice_set self.old.turned station (not (turned_at self.old.turned station)) } }
+        ensures counted { (k : ℕ) → 2 * length self.old.pairs ≤ 2 ^ k → length self.old.free ≤ 2 ^ k → steps.new ≤ steps.old + (8 * k + 4) }
+        ensures onward { steps.old ≤ steps.new }
+    {
+        let pair = self.pairs[station as usize];
+        let turned = self.turned[station as usize];
+        self.rows.drop_slot(place_in(station, turned), steps);
+        self.rows.put(place_in(station, !turned), key, steps);
+        self.turned[station as usize] = !turned;
+        tell_both(&self.rows, &mut self.heads, &self.free, pair, steps);
+    }
+
+    /// The resources of a station are free at these times from now on.
+    pub fn hold<L: Ledger>(&mut self, station: u32, cpu: u64, side: u64, steps: &mut Steps<L>)
+        requires { station < length self.old.pairs }
+        ensures held { self.new ≡ record self.old { free = held self.old.free (pair_at self.old.pairs station) cpu side } }
+        ensures counted { (k : ℕ) → length self.old.free ≤ 2 ^ k → steps.new ≤ steps.old + (4 * k + 2) }
+        ensures onward { steps.old ≤ steps.new }
+    {
+        let pair = self.pairs[station as usize];
+        self.free[pair.cpu as usize] = cpu;
+        self.free[pair.side as usize] = side;
+        tell_both(&self.rows, &mut self.heads, &self.free, pair, steps);
+    }
+
+    /// The same, where it has another key from now on, at time 0, or none.
+    pub fn leave<L: Ledger>(
+        &mut self,
+        station: u32,
+        key: Option<CompactKey>,
+        cpu: u64,
+        side: u64,
+        steps: &mut Steps<L>,
+    )
+        requires exists { station < length self.old.pairs }
+        requires at_zero { IfSome key (λ k. k.time ≡ 0) }
+        ensures held { self.new ≡ record { keys = slice_set self.old.keys station key; pairs = self.old.pairs; turned = self.old.turned; free = held self.old.free (pair_at self.old.pairs station) cpu side } }
+        ensures counted { (k : ℕ) → 2 * length self.old.pairs ≤ 2 ^ k → length self.old.free ≤ 2 ^ k → steps.new ≤ steps.old + (6 * k + 3) }
+        ensures onward { steps.old ≤ steps.new }
+    {
+        let pair = self.pairs[station as usize];
+        let turned = self.turned[station as usize];
+        write(&mut self.rows, place_in(station, turned), key, steps);
+        self.free[pair.cpu as usize] = cpu;
+        self.free[pair.side as usize] = side;
+        tell_both(&self.rows, &mut self.heads, &self.free, pair, steps);
+    }
+}

@@ -1,0 +1,491 @@
+// A queue whose slots wait with their stations.
+ghost use Rattle.std.specs.Prelude.{◌≡◌, ◌≢◌, ◌⊎◌, ◌+◌, ◌*◌, ◌^◌, ◌<◌, ◌≤◌, ◌↔◌, ℕ, All, IfOk, IfSome, IsNone, IsTrue, List, Some, None, false, true, is_some, length, max, replicate, slice_get, slice_index, slice_set};
+ghost use Rattle.std.specs.Option.{option_map};
+ghost use Rattle.goal_base.specs.declared.limits.TheConstants.{MAX_OPS};
+ghost use Rattle.goal_graph.specs.Schedule.{operations};
+ghost use Rattle.sim_order.specs.Events.{event_before};
+ghost use Rattle.sim_heaps.specs.Map.{key_at, IsEmptyMap, IsLeast, IsSoleLeast};
+ghost use Rattle.goal_graph.specs.declared.action.Timed.{Timed};
+ghost use Rattle.sim_stations.specs.declared.stand.Stand.TheVariants.{Nowhere};
+ghost use Rattle.sim_stations.specs.Stations.{waits_for_room, at_time, both_free, earliest, when_free, pair_at, pair_of, held, DoExist, IsLater, AreOfSlots, count_ahead, cost_of_waiting, cost_of_moves};
+ghost use Rattle.sim_stations.specs.Moves.{HaveReturned, HaveMoved, held_once_more};
+ghost use Rattle.sim_stations.specs.Rows.{IsFirst};
+ghost use Rattle.sim_stations.specs.Kept.{has_key, is_waiting, seen_of, AreShown, IsKept, IsFound, IsFirstOfAll, IsDeparted, IsBeforeAll, HasOneBefore};
+
+use crate::rows::Rows;
+use crate::{Pair, Stand};
+use goal_base::NoMemory;
+use goal_graph::{Class, Sched};
+use sim_groups::Groups;
+use sim_heaps::{Arrivals, TopHeap};
+use sim_order::{CompactKey, EventOrder, Steps};
+use std::alloc::Global;
+use std::marker::Model;
+use std::sync::ledger::Ledger;
+
+/// Whether actions of a class wait for a cpu or an interface.
+pub fn waits_for_room(class: Class) -> bool
+    ensures { result ≡ waits_for_room class }
+{
+    match class {
+        Class::Begin | Class::Data | Class::Serve => true,
+        Class::Arrive | Class::Post => false,
+    }
+}
+
+// Whether a slot that stands there has a key.
+fn has_key(stand: Stand) -> bool
+    ensures { result ≡ has_key stand }
+{
+    match stand {
+        Stand::Nowhere => false,
+        Stand::Ahead | Stand::Waiting => true,
+    }
+}
+
+// Whether a slot that stands there waits.
+fn is_waiting(stand: Stand) -> bool
+    ensures { result ≡ is_waiting stand }
+{
+    match stand {
+        Stand::Waiting => true,
+        Stand::Nowhere | Stand::Ahead => false,
+    }
+}
+
+// The slot of an answer.
+fn slot_of(least: &Option<(u32, CompactKey)>) -> Option<u32>
+    ensures { result ≡ option_map (λ (r : ℕ × Timed). r.0) least.now }
+{
+    match least {
+        Some((slot, _)) => Some(*slot),
+        None => None,
+    }
+}
+
+// The least key of those that are ahead.
+fn first_ahead(ahead: &TopHeap) -> Option<CompactKey>
+    ensures none { IsNone result ↔ IsEmptyMap ahead.now }
+    ensures least { IfSome result (λ key. (slot : ℕ) × IsLeast event_before ahead.now slot key) }
+{
+    let (_, key) = ahead.least()?;
+    Some(key)
+}
+
+// The key that is looked at first.
+#[derive(Clone, Copy, Debug)]
+struct Look {
+    key: CompactKey,
+    // whether it is ahead
+    is_ahead: bool,
+}
+
+// The key that is looked at first: that of a slot that is ahead, or one that a station shows.
+fn first<L: Ledger>(ahead: &TopHeap, rows: &Rows, steps: &mut Steps<L>) -> Option<Look>
+    ensures none { IsNone result ↔ (IsEmptyMap ahead.now × IsEmptyMap rows.now.keys) }
+    ensures first { IfSome result (λ r. IsFirstOfAll ahead.now rows.now r.key r.is_ahead) }
+    ensures counted { steps.new ≤ steps.old + 1 }
+    ensures onward { steps.old ≤ steps.new }
+{
+    let Some(key) = first_ahead(ahead) else {
+        let key = rows.least(steps)?;
+        return Some(Look {
+            key,
+            is_ahead: false,
+        });
+    };
+    let Some(head) = rows.least(steps) else {
+        return Some(Look {
+            key,
+            is_ahead: true,
+        });
+    };
+    if head.before(&key, steps) {
+        Some(Look {
+            key: head,
+            is_ahead: false,
+        })
+    } else {
+        Some(Look {
+            key,
+            is_ahead: true,
+        })
+    }
+}
+
+// Whether a key's action can happen later only, since it waits for the resources of its station.
+fn is_held_up<L: Ledger>(rows: &Rows, station: u32, key: CompactKey, steps: &mut Steps<L>) -> bool
+    requires { station < length rows.now.pairs }
+    ensures held_up { result ≡ true → (waits_for_room key.class ≡ true) × (key.time < both_free rows.now.free (pair_at rows.now.pairs station)) }
+    ensures due { result ≡ false → when_free rows.now.free (pair_at rows.now.pairs station) key ≡ key }
+    ensures counted { steps.new ≤ steps.old + 2 }
+    ensures onward { steps.old ≤ steps.new }
+{
+    if !waits_for_room(key.class()) {
+        return false;
+    }
+    let free = rows.free(station, steps);
+    steps.tick();
+    key.time() < free
+}
+
+// Whether a new key is to wait with its station: where it could happen later only, or others of the station wait already at its
+// time, or the time is 0.
+fn may_wait<L: Ledger>(
+    waiting: &Groups,
+    rows: &Rows,
+    station: u32,
+    key: CompactKey,
+    steps: &mut Steps<L>,
+) -> bool
+    requires { station < length rows.now.pairs }
+    ensures waits { result ≡ true → waits_for_room key.class ≡ true }
+    ensures late { result ≡ true → key.time ≤ both_free rows.now.free (pair_at rows.now.pairs station) }
+    ensures counted { steps.new ≤ steps.old + 3 }
+    ensures onward { steps.old ≤ steps.new }
+{
+    if !waits_for_room(key.class()) {
+        return false;
+    }
+    let free = rows.free(station, steps);
+    steps.tick();
+    if key.time() < free {
+        return true;
+    }
+    steps.tick();
+    key.time() == free && (free == 0 || waiting.least_of(station).is_some())
+}
+
+// Whether a key is before each that waits with a station.
+fn is_first<L: Ledger>(
+    waiting: &Groups,
+    station: u32,
+    key: CompactKey,
+    steps: &mut Steps<L>,
+) -> bool
+    ensures first { result ≡ true → IsBeforeAll waiting.now station key }
+    ensures not_first { result ≡ false → HasOneBefore waiting.now station key }
+    ensures counted { steps.new ≤ steps.old + 1 }
+    ensures onward { steps.old ≤ steps.new }
+{
+    match waiting.least_of(station) {
+        Some(least) => key.before(&least, steps),
+        None => true,
+    }
+}
+
+// Lets a slot that has no key wait with its station.
+fn join<L: Ledger>(
+    waiting: &mut Groups,
+    rows: &mut Rows,
+    slot: u32,
+    key: CompactKey,
+    steps: &mut Steps<L>,
+)
+    requires slot_in { slot < length waiting.old.keys }
+    requires grouped { length waiting.old.groups ≡ length waiting.old.keys }
+    requires within { (station : ℕ) → slice_get waiting.old.groups slot ≡ Some station → station < length rows.old.pairs }
+    requires free { key_at waiting.old.keys slot ≡ None }
+    requires shown { AreShown waiting.old rows.old.keys (length rows.old.pairs) }
+    requires keyed { length rows.old.keys ≡ length rows.old.pairs }
+    ensures put { waiting.new ≡ record waiting.old { keys = slice_set waiting.old.keys slot (Some (at_time 0 key)) } }
+    ensures shown { AreShown waiting.new rows.new.keys (length rows.new.pairs) }
+    ensures keyed { length rows.new.keys ≡ length rows.new.pairs }
+    ensures pairs { rows.new.pairs ≡ rows.old.pairs }
+    ensures turned { rows.new.turned ≡ rows.old.turned }
+    ensures free { rows.new.free ≡ rows.old.free }
+    ensures counted { (k : ℕ) → length waiting.old.keys ≤ 2 ^ k → length rows.old.pairs ≤ 2 ^ k → length rows.old.free ≤ 2 ^ (k + 1)
+        → steps.new ≤ steps.old + (6 * k + 8) }
+    ensures onward { steps.old ≤ steps.new }
+{
+    let station = waiting.group(slot);
+    let key = key.at(0);
+    if is_first(waiting, station, key, steps) {
+        waiting.put(slot, key, steps);
+        rows.tell(station, Some(key), steps);
+    } else {
+        waiting.put(slot, key, steps);
+    }
+}
+
+// Lets a slot whose key is before each other that is ahead wait with its station, where its action could happen later only.
+fn begin_to_wait<L: Ledger>(
+    ahead: &mut TopHeap,
+    waiting: &mut Groups,
+    rows: &mut Rows,
+    stands: &mut [Stand],
+    slot: u32,
+    key: CompactKey,
+    steps: &mut Steps<L>,
+)
+    requires kept { IsKept ahead.old waiting.old rows.old stands.old }
+    requires sole { IsSoleLeast event_before ahead.old slot }
+    requires key { key_at ahead.old slot ≡ Some key }
+    requires waits { waits_for_room key.class ≡ true }
+    requires late { (station : ℕ) → slice_get waiting.old.groups slot ≡ Some station → key.time ≤ both_free rows.old.free (pair_at rows.old.pairs station) }
+    ensures kept { IsKept ahead.new waiting.new rows.new stands.new }
+    ensures seen { seen_of ahead.new waiting.new rows.new ≡ seen_of ahead.old waiting.old rows.old }
+    ensures groups { waiting.new.groups ≡ waiting.old.groups }
+    ensures pairs { rows.new.pairs ≡ rows.old.pairs }
+    ensures turned { rows.new.turned ≡ rows.old.turned }
+    ensures free { rows.new.free ≡ rows.old.free }
+    ensures fewer { count_ahead stands.new + 1 ≡ count_ahead stands.old }
+    ensures counted { (k : ℕ) → length waiting.old.keys ≤ 2 ^ k → steps.new ≤ steps.old + (8 * k + 9) }
+    ensures onward { steps.old ≤ steps.new }
+{
+    ahead.take(slot, Arrivals::Mixed, steps);
+    join(waiting, rows, slot, key, steps);
+    stands[slot as usize] = Stand::Waiting;
+}
+
+// Lets slots wait and stations go over until the key that is looked at first is at the earliest time at which its action can
+// happen. That is the least key, and is answered with its slot.
+fn settle<L: Ledger, R: Ledger>(
+    ahead: &mut TopHeap,
+    waiting: &mut Groups,
+    rows: &mut Rows,
+    stands: &mut [Stand],
+    sched: &Sched,
+    steps: &mut Steps<L>,
+    moves: &mut Steps<R>,
+) -> Option<(u32, CompactKey)>
+    requires kept { IsKept ahead.old waiting.old rows.old stands.old }
+    requires of_slots { AreOfSlots (operations sched.now) (seen_of ahead.old waiting.old rows.old) }
+    ensures kept { IsKept ahead.new waiting.new rows.new stands.new }
+    ensures seen { seen_of ahead.new waiting.new rows.new ≡ seen_of ahead.old waiting.old rows.old }
+    ensures groups { waiting.new.groups ≡ waiting.old.groups }
+    ensures pairs { rows.new.pairs ≡ rows.old.pairs }
+    ensures free { rows.new.free ≡ rows.old.free }
+    ensures none { IsNone result ↔ IsEmptyMap (seen_of ahead.old waiting.old rows.old) }
+    ensures least { IfSome result (λ r. IsLeast event_before (seen_of ahead.old waiting.old rows.old) r.0 r.1) }
+    ensures found { IfSome result (λ r. IsFound ahead.new waiting.new (Some r.0)) }
+    ensures counted { (k : ℕ) → length waiting.old.keys ≤ 2 ^ k
+        → steps.new + cost_of_waiting k stands.new + cost_of_moves k moves.old ≤ steps.old + cost_of_waiting k stands.old + cost_of_moves k moves.new + 3 }
+    ensures moved { (holds returns : List ℕ) → HaveReturned rows.old.pairs rows.old.turned rows.old.free holds returns
+        → HaveMoved rows.old.pairs rows.old.free holds rows.old.turned rows.new.turned returns moves.old moves.new }
+{
+    'looks: while let Some(look) = first(ahead, rows, steps) {
+        let Look { key, is_ahead } = look;
+        let slot = sched.index(key.id());
+        let station = waiting.group(slot);
+        if !is_held_up(rows, station, key, steps) {
+            return Some((slot, key));
+        }
+        if is_ahead {
+            begin_to_wait(ahead, waiting, rows, stands, slot, key, steps);
+        } else {
+            rows.turn(station, key.at(0), steps);
+            moves.tick();
+        }
+    }
+    None
+}
+
+// Takes out the key of the slot that was found; the resources of its station are free at these times from now on.
+fn depart<L: Ledger>(
+    ahead: &mut TopHeap,
+    waiting: &mut Groups,
+    rows: &mut Rows,
+    stands: &[Stand],
+    slot: u32,
+    cpu: u64,
+    side: u64,
+    steps: &mut Steps<L>,
+)
+    requires kept { IsKept ahead.old waiting.old rows.old stands.now }
+    requires found { IsFound ahead.old waiting.old (Some slot) }
+    requires slot_in { slot < length waiting.old.keys }
+    requires later { IsLater rows.old.free (pair_at rows.old.pairs (slice_index waiting.old.groups slot)) cpu side }
+    ensures departed { IsDeparted ahead.old waiting.old rows.old stands.now slot cpu side ahead.new waiting.new rows.new }
+    ensures counted { (k : ℕ) → length waiting.old.keys ≤ 2 ^ k → steps.new ≤ steps.old + (8 * k + 10) }
+    ensures onward { steps.old ≤ steps.new }
+{
+    let station = waiting.group(slot);
+    if is_waiting(stands[slot as usize]) {
+        waiting.take(slot, steps);
+        let least = waiting.least_of(station);
+        rows.leave(station, least, cpu, side, steps);
+    } else {
+        ahead.take(slot, Arrivals::Mixed, steps);
+        rows.hold(station, cpu, side, steps);
+    }
+}
+
+/// A map from slots to the keys of events, whose slots are in stations. Each station needs two resources, whose free times the
+/// map knows: the key of an action that waits for room is at the earliest time at which it can happen, not before the moments
+/// at which both are free. Where these are free later, the keys of all that wait for them are raised together: a change of
+/// free times compares a few keys of heaps, however many slots wait.
+///
+/// A slot that waits does so with its station, and a station at that of its two resources which is free later, as far as it
+/// is known. `turned` says where; a station goes over only when its key comes to the head. So nothing that waits is moved
+/// when its other resource is held.
+#[derive(Drop)]
+pub struct StationQueue {
+    // keys that stand for themselves, at their own moments
+    ahead: TopHeap,
+    // keys that wait, at time 0
+    waiting: Groups,
+    // the least key of each station, where it waits
+    rows: Rows,
+    // where each slot has its key
+    stands: Vec<Stand>,
+    // the slot of the least key, where it is known
+    found: Option<u32>,
+}
+
+impl Model for StationQueue {
+    ghost use Rattle.sim_stations.specs.Stations.{Stationed};
+    ghost use Rattle.sim_stations.specs.Kept.{seen_of, IsKept, IsFound};
+
+    ghost Value = { Stationed };
+
+    ghost view = { λ q. record { keys = seen_of q.ahead q.waiting q.rows; stations = q.waiting.groups; stands = q.stands.items; pairs = q.rows.pairs; turned = q.rows.turned; free = q.rows.free; found = q.found } };
+
+    ghost invariant = { λ q. IsKept q.ahead q.waiting q.rows q.stands.items × IsFound q.ahead q.waiting q.found };
+}
+
+impl StationQueue {
+    /// The slots of the stations with these numbers. A station has the resources of its pair, by their numbers, which are below
+    /// `resources`. No slot has a key, and all resources are free at 0. It takes all its memory here.
+    pub fn new(
+        alloc: Global,
+        numbers: &[u32],
+        pairs: &[Pair],
+        resources: u32,
+    ) -> Result<StationQueue, NoMemory>
+        requires few { length numbers.now ≤ MAX_OPS }
+        requires few_stations { length pairs.now ≤ length numbers.now }
+        requires few_resources { resources ≤ 2 * length numbers.now }
+        requires within { All (λ station. station < length pairs.now) numbers.now }
+        requires exist { DoExist pairs.now resources }
+        ensures queue { IfOk result (λ q. q ≡ record { keys = replicate (length numbers.now) None; stations = numbers.now; stands = replicate (length numbers.now) Nowhere; pairs = pairs.now; turned = replicate (length pairs.now) false; free = replicate resources 0; found = None }) }
+        ensures returned { IfOk result (λ q. HaveReturned q.pairs q.turned q.free (replicate resources 0) (replicate (length pairs.now) 0)) }
+    {
+        Ok(StationQueue {
+            ahead: TopHeap::new(alloc, numbers.len() as u32)?,
+            waiting: Groups::new(alloc, numbers, pairs.len() as u32)?,
+            rows: Rows::new(alloc, pairs, resources)?,
+            stands: vec![in alloc; Stand::Nowhere; numbers.len()]?,
+            found: None,
+        })
+    }
+
+    /// Whether a slot has a key.
+    pub fn has(&self, slot: u32) -> bool
+        requires { slot < length self.now.keys }
+        ensures { result ≡ is_some (key_at self.now.keys slot) }
+    {
+        has_key(self.stands[slot as usize])
+    }
+
+    /// Whether no slot has a key.
+    pub fn is_empty<L: Ledger>(&self, steps: &mut Steps<L>) -> bool
+        ensures empty { IsTrue result ↔ IsEmptyMap self.now.keys }
+        ensures counted { steps.new ≤ steps.old + 1 }
+    {
+        first(&self.ahead, &self.rows, steps).is_none()
+    }
+
+    /// Gives a slot that has no key one, at the earliest time at which its action can happen.
+    pub fn put<L: Ledger>(&mut self, slot: u32, key: CompactKey, steps: &mut Steps<L>)
+        requires slot_in { slot < length self.old.keys }
+        requires free { key_at self.old.keys slot ≡ None }
+        ensures put { self.new.keys ≡ slice_set self.old.keys slot (Some (when_free self.old.free (pair_of self.old slot) key)) }
+        ensures stations { self.new.stations ≡ self.old.stations }
+        ensures pairs { self.new.pairs ≡ self.old.pairs }
+        ensures turned { self.new.turned ≡ self.old.turned }
+        ensures free { self.new.free ≡ self.old.free }
+        ensures counted { (k : ℕ) → length self.old.keys ≤ 2 ^ k → steps.new + cost_of_waiting k self.new.stands ≤ steps.old + cost_of_waiting k self.old.stands + (10 * k + 16) }
+    {
+        self.found = None;
+        let station = self.waiting.group(slot);
+        if may_wait(&self.waiting, &self.rows, station, key, steps) {
+            join(&mut self.waiting, &mut self.rows, slot, key, steps);
+            self.stands[slot as usize] = Stand::Waiting;
+        } else {
+            self.ahead.put(slot, key, steps);
+            self.stands[slot as usize] = Stand::Ahead;
+        }
+    }
+
+    /// The least key with its slot: no key of the map is before it. None where no slot has a key. No key is changed; on the way
+    /// slots may begin to wait, and stations may go over to their other resource, which `moves` counts.
+    ///
+    /// - `counted`: what it compares is the cost of the slots that begin to wait and of the stations that go over.
+    /// - `moved`: how often stations have gone over is bounded by how often their resources were held.
+    pub fn least<L: Ledger, R: Ledger>(
+        &mut self,
+        sched: &Sched,
+        steps: &mut Steps<L>,
+        moves: &mut Steps<R>,
+    ) -> Option<(u32, CompactKey)>
+        requires of_slots { AreOfSlots (operations sched.now) self.old.keys }
+        ensures none { IsNone result ↔ IsEmptyMap self.old.keys }
+        ensures least { IfSome result (λ r. IsLeast event_before self.old.keys r.0 r.1) }
+        ensures found { IfSome result (λ r. self.new.found ≡ Some r.0) }
+        ensures keys { self.new.keys ≡ self.old.keys }
+        ensures stations { self.new.stations ≡ self.old.stations }
+        ensures pairs { self.new.pairs ≡ self.old.pairs }
+        ensures free { self.new.free ≡ self.old.free }
+        ensures counted { (k : ℕ) → length self.old.keys ≤ 2 ^ k
+            → steps.new + cost_of_waiting k self.new.stands + cost_of_moves k moves.old ≤ steps.old + cost_of_waiting k self.old.stands + cost_of_moves k moves.new + 3 }
+        ensures moved { (holds returns : List ℕ) → HaveReturned self.old.pairs self.old.turned self.old.free holds returns → HaveMoved self.old.pairs self.old.free holds self.old.turned self.new.turned returns moves.old moves.new }
+    {
+        let least = settle(
+            &mut self.ahead,
+            &mut self.waiting,
+            &mut self.rows,
+            &mut self.stands,
+            sched,
+            steps,
+            moves,
+        );
+        self.found = slot_of(&least);
+        least
+    }
+
+    /// Takes out the key that was found to be the least, whose action waits for nothing.
+    pub fn take<L: Ledger>(&mut self, slot: u32, steps: &mut Steps<L>)
+        requires found { self.old.found ≡ Some slot }
+        requires at_once { IfSome (key_at self.old.keys slot) (λ k. waits_for_room k.class ≡ false) }
+        ensures keys { self.new.keys ≡ slice_set self.old.keys slot None }
+        ensures stations { self.new.stations ≡ self.old.stations }
+        ensures pairs { self.new.pairs ≡ self.old.pairs }
+        ensures turned { self.new.turned ≡ self.old.turned }
+        ensures free { self.new.free ≡ self.old.free }
+        ensures counted { (k : ℕ) → length self.old.keys ≤ 2 ^ k → steps.new + cost_of_waiting k self.new.stands ≤ steps.old + cost_of_waiting k self.old.stands + (2 * k + 1) }
+    {
+        self.found = None;
+        self.ahead.take(slot, Arrivals::Mixed, steps);
+        self.stands[slot as usize] = Stand::Nowhere;
+    }
+
+    /// Takes out the key that was found to be the least, whose action holds the resources of its slot: they are free at these
+    /// times from now on, which are not earlier than they were. Keys that wait for them are raised.
+    pub fn act<L: Ledger>(&mut self, slot: u32, cpu: u64, side: u64, steps: &mut Steps<L>)
+        requires found { self.old.found ≡ Some slot }
+        requires later { IsLater self.old.free (pair_of self.old slot) cpu side }
+        ensures each { length self.new.keys ≡ length self.old.keys }
+        ensures gone { key_at self.new.keys slot ≡ None }
+        ensures raised { (other : ℕ) → other ≢ slot → key_at self.new.keys other ≡ option_map (when_free self.new.free (pair_of self.old other)) (key_at self.old.keys other) }
+        ensures stations { self.new.stations ≡ self.old.stations }
+        ensures pairs { self.new.pairs ≡ self.old.pairs }
+        ensures turned { self.new.turned ≡ self.old.turned }
+        ensures free { self.new.free ≡ held self.old.free (pair_of self.old slot) cpu side }
+        ensures counted { (k : ℕ) → length self.old.keys ≤ 2 ^ k → steps.new + cost_of_waiting k self.new.stands ≤ steps.old + cost_of_waiting k self.old.stands + (8 * k + 10) }
+        ensures returned { (holds returns : List ℕ) → HaveReturned self.old.pairs self.old.turned self.old.free holds returns → HaveReturned self.new.pairs self.new.turned self.new.free (held_once_more holds (pair_of self.old slot)) returns }
+    {
+        self.found = None;
+        depart(
+            &mut self.ahead,
+            &mut self.waiting,
+            &mut self.rows,
+            &self.stands,
+            slot,
+            cpu,
+            side,
+            steps,
+        );
+        self.stands[slot as usize] = Stand::Nowhere;
+    }
+}

@@ -1,0 +1,215 @@
+"""prove.py LOCK: proves the program with every crate that it uses, and builds it. `answer.py` starts it in the background.
+
+The libraries come alone, without their tests: first those with the longest way to the program, as many side by side as there are
+cores and memory, and one that finds cores idle gets them. They are built by rt's own function, since two commands `rt lib`
+would wait for one another. Then `rt run` builds the program. LOCK is the number of an open file, which holds the lock
+of this checkout. Standard output is the log, and tells how far the proof is."""
+import glob
+import importlib.machinery
+import importlib.util
+import os
+import shutil
+import signal
+import subprocess
+import sys
+import tempfile
+import threading
+import time
+from concurrent.futures import FIRST_COMPLETED, ThreadPoolExecutor, wait
+
+TOP = os.path.dirname(os.path.dirname(os.path.abspath(__file__)))
+PROGRAM = f"{TOP}/crates/goal_prog/out/goal_prog"
+PROOF = f"{TOP}/.proof"
+LOCK, LOG = f"{PROOF}/lock", f"{PROOF}/log"
+# Written as a proof begins, with how many folders of sources there are; so named once all is proved.
+BEGUN, PROVED = f"{PROOF}/begun", f"{PROOF}/proved"
+# Why the proof of the sources as they were then failed.
+FAILED = f"{PROOF}/failed"
+# A check with more jobs than this seldom ends sooner.
+MOST_JOBS = 4
+# What a check with one job takes of the memory that rt plans for it, and what each further job takes of that: as measured.
+MEMORY_OF_A_CHECK, MEMORY_OF_A_JOB = 0.6, 0.5
+
+
+def folders():
+    """The folders of sources: what is proved stands in these and in crates.txt."""
+    return [it for part in ("src", "specs", "proofs") for it in glob.glob(f"{glob.escape(TOP)}/crates/*/{part}")]
+
+
+def are_sources_as_at(path):
+    """Whether no source was touched since this file was."""
+    try:
+        since = os.stat(path).st_mtime_ns
+        if os.stat(f"{TOP}/crates").st_mtime_ns > since or os.stat(f"{TOP}/crates.txt").st_ctime_ns > since:
+            return False
+        for folder in folders():
+            for at, _, names in os.walk(folder):
+                if any(os.lstat(it).st_ctime_ns > since for it in [at, *(f"{at}/{name}" for name in names)]):
+                    return False
+        return path not in (BEGUN, PROVED) or text_of(path) == f"{len(folders())}"
+    except OSError:
+        return False
+
+
+def is_current():
+    """Whether the program was built from the sources as they stand: by this proof, or by the gate."""
+    for path in (PROVED, f"{TOP}/.git/rt-ci.lock"):
+        try:
+            is_newer = os.stat(PROGRAM).st_mtime_ns > os.stat(path).st_mtime_ns
+        except OSError:
+            continue
+        if is_newer and os.access(PROGRAM, os.X_OK) and are_sources_as_at(path):
+            return True
+    return False
+
+
+def text_of(path):
+    """What a small file holds, without the blanks around it; nothing where it cannot be read."""
+    try:
+        with open(path, encoding="utf-8", errors="replace") as file:
+            return file.read().strip()
+    except OSError:
+        return ""
+
+
+def seconds(crates):
+    """By name, about how many seconds of one core the proof of a crate takes: a fit to thirty crates that were measured."""
+    lines = {it.name: it.count(rb"\n") for it in crates}
+    return {it.name: 5 + lines[it.name] / 16 + sum(lines[dep.name] for dep in it.below()) / 500 for it in crates}
+
+
+def ways(crates):
+    """By name, how long the proof of a crate takes with the longest chain of others that wait for it."""
+    found = seconds(crates)
+    for crate in sorted(crates, key=lambda it: -len(it.below())):
+        above = [it for it in crates if crate in it.deps]
+        found[crate.name] += max((found[it.name] for it in above), default=0)
+    return found
+
+
+def in_turn(crates, prove, cores, memory, need):
+    """Calls prove(crate, jobs) for each crate, once those that it uses are proved, side by side; whether each call says that it is.
+
+    The longest way is taken first. The idle cores are shared among the crates that could start, and no more run than fit the memory."""
+    way, running, proved, is_well = ways(crates), {}, set(), True
+    left = sorted(crates, key=lambda it: -way[it.name])
+    needs = {it.name: MEMORY_OF_A_CHECK * need(it) for it in crates}
+    with ThreadPoolExecutor(cores) as pool:
+        while True:
+            ready = [it for it in left if is_well and all(dep.name in proved for dep in it.deps)]
+            for at, crate in enumerate(ready):
+                idle = cores - sum(jobs for _, jobs, _ in running.values())
+                room, one = memory - sum(taken for _, _, taken in running.values()), needs[crate.name]
+                if idle < 1 or running and one > room:
+                    break
+                fitting = 1 + int((room / one - 1) / MEMORY_OF_A_JOB)
+                jobs = max(1, min(MOST_JOBS, idle // (len(ready) - at), fitting))
+                running[pool.submit(prove, crate, jobs)] = crate, jobs, one * (1 + MEMORY_OF_A_JOB * (jobs - 1))
+                left.remove(crate)
+            if not running:
+                return is_well
+            for done in wait(running, return_when=FIRST_COMPLETED).done:
+                crate, _, _ = running.pop(done)
+                proved.add(crate.name)
+                is_well = done.result() and is_well
+
+
+def kit():
+    """The kit's command rt, as a module."""
+    path = os.path.realpath(shutil.which("rt"))
+    loader = importlib.machinery.SourceFileLoader("rt", path)
+    found = importlib.util.module_from_spec(importlib.util.spec_from_loader("rt", loader))
+    loader.exec_module(found)
+    return found
+
+
+class Log:
+    """What is said of the proof, a crate at a time."""
+
+    def __init__(self, count):
+        self.count, self.proved, self.start, self.alone = count, 0, time.time(), threading.Lock()
+        print(f"goal: {count} crates to prove", flush=True)
+
+    def add(self, name, said, is_proved):
+        """Adds what was said of a crate, and how far the proof is then."""
+        with self.alone:
+            self.proved += is_proved
+            taken = int(time.time() - self.start)
+            print(said, end="" if said.endswith("\n") or not said else "\n")
+            what = f"{self.proved} of {self.count} crates proved after {taken // 60} min {taken % 60} s"
+            print(f"goal: {what}: {name}" if is_proved else f"goal: {name} is not proved", flush=True)
+
+
+def fail(why):
+    """Notes why there is no proof, for this call and the next."""
+    new = f"{FAILED}.{threading.get_ident()}"
+    with open(new, "w", encoding="utf-8") as file:
+        file.write(why)
+    os.replace(new, FAILED)
+
+
+def prove_libraries(rt, log, crates):
+    """Proves and builds the libraries; whether all are proved."""
+    rt.rtlib.guarded()
+    rt.share_work(True)
+    locks = rt.rtlib.lock(crates)
+
+    def prove(crate, jobs):
+        status = 1
+        with tempfile.TemporaryFile("w+", errors="replace") as crate.out:
+            try:
+                status = crate.build_rlib(["--jobs", str(jobs)], anew=False)
+            except SystemExit:
+                pass
+            crate.out.seek(0)
+            log.add(crate.name, f"== {crate.name} (--jobs {jobs})\n{crate.out.read()}", status == 0)
+        if status:
+            fail(f"{crate.name} (rt says {status})")
+        return status == 0
+
+    libraries = [it for it in crates if not it.is_program]
+    is_well = in_turn(libraries, prove, rt.processors(), 0.85 * rt.free(), rt.need)
+    for it in locks:
+        os.close(it)
+    return is_well
+
+
+def build_program(rt, log, crates):
+    """Proves, builds and runs the program; whether its run is well. What it starts ends with this process."""
+    name = next(it.name for it in crates if it.is_program)
+    print(f"== {name}", flush=True)
+    words = [*rt.rtlib.guarded(), "rt", "run", "--jobs", str(MOST_JOBS), "--", "sim", "data/a"]
+    how = {"stdin": subprocess.DEVNULL, "stderr": subprocess.STDOUT, "cwd": os.path.dirname(os.path.dirname(PROGRAM))}
+    status = subprocess.run(words, **how).returncode
+    if status == 0 and os.access(PROGRAM, os.X_OK):
+        log.add(name, "", True)
+        # (also where rt found it built: it is of the sources as they were)
+        os.utime(PROGRAM)
+        os.replace(BEGUN, PROVED)
+        return True
+    fail(f"{name} (rt run ended with {status})")
+    return False
+
+
+def main(lock):
+    os.set_inheritable(lock, False)
+    # an answer from the sources comes first
+    os.nice(5)
+    signal.signal(signal.SIGHUP, signal.SIG_IGN)
+    try:
+        rt = kit()
+        # (what the program does not use, as crates of laws alone, is left to the gate)
+        program = next(it for it in rt.rtlib.crates_below(TOP) if it.is_program)
+        crates = [*program.below(), program]
+        log = Log(len(crates))
+        return 0 if prove_libraries(rt, log, crates) and build_program(rt, log, crates) else 1
+    except SystemExit:
+        fail("rt stopped")
+    except Exception as error:
+        fail(f"{type(error).__name__}: {error}")
+        raise
+    return 1
+
+
+if __name__ == "__main__":
+    sys.exit(main(int(sys.argv[1])))

@@ -1,0 +1,210 @@
+"""The algorithms: each makes the plan of its schedule from the wishes of the user. Nothing of it is proved."""
+from dataclasses import dataclass
+
+from algorithms import rings, trees
+from algorithms.plan import Message, Plan, cut
+from common.command import Fault
+
+
+@dataclass(frozen=True)
+class Wish:
+    """What the user asks for. `size` is in bytes: of a broadcast and an allreduce that of the whole vector, of the others
+    that of the item of one rank, or of one rank for another."""
+
+    ranks: int
+    size: int
+    root: int = 0
+    segments: int = 1
+    node: int = 1
+    sum_ps: int = 0
+
+    def cut_plan(self, count):
+        """A plan whose own slots are the pieces of the vector, `count` of them."""
+        return Plan(self.ranks, cut(self.size, count), self.sum_ps)
+
+    def item_plan(self, count):
+        """A plan with `count` own slots, each an item."""
+        return Plan(self.ranks, [self.size] * count)
+
+    def from_root(self):
+        """All ranks, from the root on."""
+        return trees.rotated(self.ranks, self.root)
+
+
+def one_by_one(count):
+    """The slots 0 up to count - 1, each for itself."""
+    return [[slot] for slot in range(count)]
+
+
+def bcast_chain(wish):
+    plan = wish.cut_plan(wish.segments)
+    trees.broadcast(plan, wish.from_root(), trees.chain(wish.ranks), one_by_one(wish.segments))
+    return plan
+
+
+def bcast_binary(wish):
+    plan = wish.cut_plan(wish.segments)
+    trees.broadcast(plan, wish.from_root(), trees.binary(wish.ranks), one_by_one(wish.segments))
+    return plan
+
+
+def bcast_scatter_allgather(wish):
+    plan = wish.cut_plan(wish.ranks)
+    trees.scatter(plan, wish.from_root(), lambda place: place)
+    rings.allgather(plan, wish.from_root(), one_by_one(wish.ranks))
+    return plan
+
+
+def allreduce_ring(wish):
+    plan = wish.cut_plan(wish.ranks * wish.segments)
+    ring_allreduce(plan, range(wish.ranks), wish.segments)
+    return plan
+
+
+def ring_allreduce(plan, members, segments):
+    """An allreduce around a ring, each block of the vector in so many segments."""
+    blocks = [range(place * segments, (place + 1) * segments) for place in range(len(members))]
+    rings.reduce_scatter(plan, members, blocks)
+    rings.allgather(plan, members, blocks, shift=1)
+
+
+def allreduce_halving_doubling(wish):
+    """As many ranks as the greatest power of two take part; of the others, each hands its vector to its neighbour first, and
+    gets the sum from it last."""
+    count = 1 << (wish.ranks.bit_length() - 1)
+    plan = wish.cut_plan(count)
+    outside = range(0, 2 * (wish.ranks - count), 2)
+    members = [rank for rank in range(wish.ranks) if rank not in outside]
+    plan.combine([Message(rank, rank + 1, range(count)) for rank in outside])
+    for distance in reversed(trees.powers(count)):
+        plan.combine([Message(members[place], members[place ^ distance], aligned(place ^ distance, distance))
+                      for place in range(count)])
+    for distance in trees.powers(count):
+        plan.exchange([Message(members[place], members[place ^ distance], aligned(place, distance)) for place in range(count)])
+    plan.exchange([Message(rank + 1, rank, range(count)) for rank in outside])
+    return plan
+
+
+def aligned(place, length):
+    """The stretch of so many slots that has this place, where slots are cut into such stretches from 0 on."""
+    first = place - place % length
+    return range(first, first + length)
+
+
+def allreduce_reduce_bcast(wish):
+    plan = wish.cut_plan(wish.segments)
+    tree = trees.binomial(wish.ranks)
+    trees.reduce(plan, wish.from_root(), tree, one_by_one(wish.segments))
+    trees.broadcast(plan, wish.from_root(), tree, one_by_one(wish.segments))
+    return plan
+
+
+def allreduce_two_level(wish):
+    """Each node sums up at its first rank, these sum up around a ring, and each node broadcasts."""
+    nodes = [range(first, min(first + wish.node, wish.ranks)) for first in range(0, wish.ranks, wish.node)]
+    plan = wish.cut_plan(len(nodes))
+    vector = [range(len(nodes))]
+    for node in nodes:
+        trees.reduce(plan, node, trees.binomial(len(node)), vector)
+    ring_allreduce(plan, [node[0] for node in nodes], 1)
+    for node in nodes:
+        trees.broadcast(plan, node, trees.binomial(len(node)), vector)
+    return plan
+
+
+def allgather_doubling(wish):
+    if wish.ranks & (wish.ranks - 1):
+        raise Fault("allgather-doubling needs a power of two of ranks")
+    plan = wish.item_plan(wish.ranks)
+    for distance in trees.powers(wish.ranks):
+        plan.exchange([Message(rank, rank ^ distance, aligned(rank, distance)) for rank in range(wish.ranks)])
+    return plan
+
+
+def allgather_bruck(wish):
+    """In each round a rank sends what it has, or what is left to send, as far back as it has items."""
+    plan = wish.item_plan(wish.ranks)
+    for distance in trees.powers(wish.ranks):
+        count = min(distance, wish.ranks - distance)
+        plan.exchange([Message(rank, (rank - distance) % wish.ranks, [(rank + ahead) % wish.ranks for ahead in range(count)])
+                       for rank in range(wish.ranks)])
+    return plan
+
+
+def allgather_neighbour(wish):
+    """Two neighbours exchange their items; then each rank hands on, to its left and right in turn, the two that came last."""
+    if wish.ranks % 2:
+        raise Fault("allgather-neighbour needs an even number of ranks")
+    plan = wish.item_plan(wish.ranks)
+    sides = [1 if rank % 2 == 0 else -1 for rank in range(wish.ranks)]
+    held = [[rank] for rank in range(wish.ranks)]
+    for step in range(wish.ranks // 2):
+        partners = [(rank + (side if step % 2 == 0 else -side)) % wish.ranks for rank, side in enumerate(sides)]
+        plan.exchange([Message(rank, partners[rank], held[rank]) for rank in range(wish.ranks)])
+        held = [sorted(held[rank] + held[partners[rank]]) if step == 0 else held[partners[rank]] for rank in range(wish.ranks)]
+    return plan
+
+
+def alltoall_bruck(wish):
+    """An item for the rank that is d ahead goes by the binary digits of d, with all others that have the same digit."""
+    ranks = wish.ranks
+    plan = alltoall_plan(wish)
+    where = [[(rank + ahead) % ranks for ahead in range(ranks)] for rank in range(ranks)]
+    for distance in trees.powers(ranks):
+        moved = [ahead for ahead in range(ranks) if ahead & distance]
+        messages = []
+        for rank in range(ranks):
+            target = (rank + distance) % ranks
+            into = [ranks + (target - ahead) % ranks if ahead < 2 * distance else plan.spare(target, 1)[0] for ahead in moved]
+            messages.append(Message(rank, target, [where[rank][ahead] for ahead in moved], into, len(moved) * wish.size))
+        plan.exchange(messages)
+        for message in messages:
+            for ahead, slot in zip(moved, message.into):
+                where[message.target][ahead] = slot
+    return plan
+
+
+def alltoall_pairwise(wish):
+    """In each step a rank exchanges with one other: with the rank xor the step where the ranks are a power of two, else to the
+    one so far ahead from the one so far behind. A step begins when the one before has ended."""
+    plan = alltoall_plan(wish)
+    ranks = wish.ranks
+    pairs = ranks & (ranks - 1) == 0
+    for step in range(1, ranks):
+        messages = []
+        for rank in range(ranks):
+            target = rank ^ step if pairs else (rank + step) % ranks
+            messages.append(Message(rank, target, [target], [ranks + rank]))
+        plan.exchange(messages)
+        plan.end_step()
+    return plan
+
+
+def alltoall_plan(wish):
+    """A plan where each rank has copied the item for itself."""
+    plan = wish.item_plan(2 * wish.ranks)
+    for rank in range(wish.ranks):
+        plan.add(rank, [(rank, wish.ranks + rank)])
+    return plan
+
+
+def barrier_tree(wish):
+    plan = wish.item_plan(1)
+    members, tree = range(wish.ranks), trees.binomial(wish.ranks)
+    trees.reduce(plan, members, tree, [[0]])
+    trees.broadcast(plan, members, tree, [[0]])
+    return plan
+
+
+def gather_tree(wish):
+    plan = wish.item_plan(wish.ranks)
+    members = wish.from_root()
+    trees.gather(plan, members, lambda place: members[place])
+    return plan
+
+
+def scatter_tree(wish):
+    plan = wish.item_plan(wish.ranks)
+    members = wish.from_root()
+    trees.scatter(plan, members, lambda place: members[place])
+    return plan

@@ -1,0 +1,24 @@
+"""Rings among some ranks. Nothing of it is proved.
+
+The vector is cut into as many blocks as there are members, each a list of slots; each slot of a block is a message."""
+from algorithms.plan import Message
+
+
+def reduce_scatter(plan, members, blocks):
+    """Block after block goes around and is added up: at the end, place p has the sum of block p + 1."""
+    for step in range(len(members) - 1):
+        _send_on(plan.combine, members, blocks, -step)
+
+
+def allgather(plan, members, blocks, shift=0):
+    """Place p begins with block p + shift; block after block goes around until all have all."""
+    for step in range(len(members) - 1):
+        _send_on(plan.exchange, members, blocks, shift - step)
+
+
+def _send_on(send, members, blocks, shift):
+    """Each place p sends block p + shift to the next."""
+    count = len(members)
+    for segment in range(len(blocks[0])):
+        send([Message(members[place], members[(place + 1) % count], [blocks[(place + shift) % count][segment]])
+              for place in range(count)])

@@ -1,0 +1,51 @@
+"""Reads the canonical text of a schedule, which `goal show` prints. Nothing of it is proved."""
+from dataclasses import dataclass
+
+
+@dataclass
+class Op:
+    """An operation: `size` in nanoseconds of a calc, in bytes else; `peer` and `tag` are text, maybe `any`."""
+
+    kind: str
+    size: int
+    cpu: int
+    peer: str = ""
+    tag: str = ""
+    needs: list = None  # of pairs: the number of an operation, and whether its end is waited for (else its start)
+
+
+@dataclass
+class Schedule:
+    """The number of ranks, operations by (rank, number), and the bytes of every send."""
+
+    ranks: int
+    ops: dict
+    sizes: dict
+
+
+def read_canonical(lines, wanted=None):
+    """The schedule of a canonical text; with `wanted`, it has the operations of these ranks alone."""
+    lines = iter(lines)
+    schedule = Schedule(int(next(lines).split()[1]), {}, {})
+    rank = None
+    for line in lines:
+        words = line.split()
+        if words[0] == "rank":
+            rank = int(words[1])
+        elif words[0] != "}":
+            key = rank, int(words[0].strip("l:")) - 1
+            if words[1] == "send":
+                schedule.sizes[key] = int(words[2][:-1])
+            if wanted is None or rank in wanted:
+                take_item(schedule.ops, key, words)
+    return schedule
+
+
+def take_item(ops, key, words):
+    """Takes an operation or a dependency; a note tells nothing of times."""
+    if words[1] == "calc":
+        ops[key] = Op("calc", int(words[2]), int(words[4]), needs=[])
+    elif words[1] in ("send", "recv"):
+        ops[key] = Op(words[1], int(words[2][:-1]), int(words[8]), words[4], words[6], needs=[])
+    elif words[1] in ("requires", "irequires"):
+        ops[key].needs.append((int(words[2][1:]) - 1, words[1] == "requires"))

@@ -1,0 +1,136 @@
+"""Curves over an axis, as an SVG. Nothing of it is proved."""
+from dataclasses import dataclass, field
+
+from common.scales import SIZE_UNITS, TIME_UNITS, Scale, in_unit, log_ends, plain, unit_for
+from common.svg import Drawing, text_width
+
+COLOURS = ("#2f6fc4", "#e07b24", "#2f9461", "#c8324b", "#7a55b5", "#8a6540", "#d262a8", "#5d6b7a", "#a6a12c", "#2aa6b8")
+MOST_CURVES = 2 * len(COLOURS)
+WIDTH, HEIGHT, TOP, LEFT, BELOW, TEXT = 900, 480, 52, 84, 58, 12
+GRID, FRAME, STUCK = "#e4e7ec", "#9aa3af", "#cc2233"
+
+
+@dataclass
+class Curve:
+    """Its points in order, each a value of the axis and of what is measured, or none where the run is stuck."""
+
+    name: str
+    points: list = field(default_factory=list)
+
+
+@dataclass
+class Axis:
+    """A name, whether the scale is geometric, the unit of its values, and ticks that are given.
+
+    A time in ns (`time`) and a number of bytes (`size`) are written in the unit that fits, all else as it is.
+    """
+
+    name: str
+    is_log: bool = False
+    unit: str = ""
+    given: list = field(default_factory=list)
+
+    def ticks(self, scale, count):
+        """The ticks that are given, every second, third .. of them where there are many; else rounded ones."""
+        return self.given[:: -(-len(self.given) // count)] if self.given else scale.ticks(count)
+
+    def ends(self, values, from_zero):
+        if self.is_log:
+            return log_ends(min(values), max(values)) if from_zero else (min(values), max(values))
+        if not from_zero:
+            return min(values), max(values)
+        return 0, rounded_up(max(values))
+
+    def labels(self, ticks):
+        """What stands at the ticks, and what the axis is called."""
+        units = {"size": SIZE_UNITS, "time": TIME_UNITS}.get(self.unit)
+        if units and (self.is_log or self.unit == "size"):
+            return [in_unit(tick, units) for tick in ticks], self.name
+        if units:
+            factor, name = unit_for(max(ticks), units)
+            return [plain(tick / factor) for tick in ticks], f"{self.name} ({name})"
+        return [plain(tick) for tick in ticks], f"{self.name} ({self.unit})" if self.unit else self.name
+
+
+def rounded_up(value):
+    """The end of a scale from 0 that has this value: the tick at it or the next one."""
+    step = Scale(0, max(value, 1), 0, 1).ticks(6)[1]
+    return step * -(-max(value, 1) // step)
+
+
+def chart(title, curves, x_axis, y_axis):
+    """The picture of the curves, with a legend in the order of their last values."""
+    values = [y for curve in curves for _, y in curve.points if y is not None]
+    xs = [x for curve in curves for x, _ in curve.points]
+    room = 60 + max(text_width(curve.name, TEXT) for curve in curves)
+    right, bottom = WIDTH - room, HEIGHT - BELOW
+    x_scale = Scale(*x_axis.ends(xs, False), LEFT, right, x_axis.is_log)
+    y_scale = Scale(*y_axis.ends(values or [1], True), bottom, TOP, y_axis.is_log)
+    drawing = Drawing(WIDTH, HEIGHT, title)
+    drawing.text(LEFT, 26, title, size=15, font_weight="bold")
+    draw_x_axis(drawing, x_axis, x_scale, bottom)
+    draw_y_axis(drawing, y_axis, y_scale, right)
+    drawing.rect(LEFT, TOP, right - LEFT, bottom - TOP, fill="none", stroke=FRAME)
+    for number, curve in enumerate(curves):
+        draw_curve(drawing, curve, x_scale, y_scale, style_of(number))
+    draw_legend(drawing, curves, right + 18)
+    return drawing.written()
+
+
+def style_of(number):
+    """A colour for each curve, and after these the colours with dashes."""
+    style = {"stroke": COLOURS[number % len(COLOURS)]}
+    return style if number < len(COLOURS) else {**style, "stroke_dasharray": "5 3"}
+
+
+def draw_x_axis(drawing, axis, scale, bottom):
+    ticks = axis.ticks(scale, 9)
+    labels, name = axis.labels(ticks)
+    for tick, label in zip(ticks, labels):
+        x = scale(tick)
+        drawing.line(x, TOP, x, bottom, GRID)
+        drawing.text(x, bottom + 18, label, size=TEXT - 1, text_anchor="middle")
+    drawing.text((scale.start + scale.end) / 2, bottom + 42, name, size=TEXT, text_anchor="middle")
+
+
+def draw_y_axis(drawing, axis, scale, right):
+    ticks = axis.ticks(scale, 8)
+    labels, name = axis.labels(ticks)
+    for tick, label in zip(ticks, labels):
+        y = scale(tick)
+        drawing.line(LEFT, y, right, y, GRID)
+        drawing.text(LEFT - 8, y + 4, label, size=TEXT - 1, text_anchor="end")
+    middle = (TOP + scale.start) / 2
+    drawing.text(18, middle, name, size=TEXT, text_anchor="middle", transform=f"rotate(-90 18 {middle:.0f})")
+
+
+def draw_curve(drawing, curve, x_scale, y_scale, style):
+    """A line through the points, with a gap and a red cross below where a run is stuck."""
+    stretch = []
+    for x, y in curve.points + [(None, None)]:
+        if y is not None:
+            stretch.append((x_scale(x), y_scale(y)))
+            continue
+        if len(stretch) > 1:
+            drawing.path(stretch, stroke_width=2, stroke_linejoin="round", **style)
+        stretch = []
+        if x is not None:
+            drawing.text(x_scale(x), y_scale.start - 4, "✕", fill=STUCK, text_anchor="middle", note=f"{curve.name}: stuck at {plain(x)}")
+    for x, y in curve.points:
+        if y is not None:
+            note = f"{curve.name}: {plain(x)}, {plain(y)}"
+            drawing.shape("circle", note=note, cx=x_scale(x), cy=y_scale(y), r=3, fill="#ffffff", stroke=style["stroke"], stroke_width=2)
+
+
+def draw_legend(drawing, curves, x):
+    """The names, the curve that is highest at the end first."""
+
+    def last(numbered):
+        values = [y for _, y in numbered[1].points if y is not None]
+        return -(values[-1] if values else 0)
+
+    for place, (number, curve) in enumerate(sorted(enumerate(curves), key=last)):
+        y = TOP + 8 + 20 * place
+        drawing.line(x, y, x + 22, y, stroke_width=2, **style_of(number))
+        drawing.shape("circle", cx=x + 11, cy=y, r=3, fill="#ffffff", stroke=style_of(number)["stroke"], stroke_width=2)
+        drawing.text(x + 30, y + 4, curve.name, size=TEXT)

@@ -1,0 +1,152 @@
+"""The run of a schedule with its stories, as `timeline` and `trace` are asked for it. Nothing of it is proved."""
+import re
+import sys
+from dataclasses import dataclass
+
+from common import command, program
+from common.canonical import read_canonical
+from common.command import Fault
+from common.parameters import Alike, add_options, given_options, machine_of, parameters_of, words_of
+from common.phases import Window, stories_of
+from common.printed_run import Run, first_line, read_run
+
+MOST_TIME = 2**63 - 1
+STANDARD_INPUT = "/dev/stdin"
+
+
+@dataclass
+class Loaded:
+    """What is drawn: the run, its stories by key, and the window that they lie in."""
+
+    name: str
+    run: Run
+    stories: dict
+    window: Window
+
+    def by_rank(self):
+        """The stories of each rank of the window."""
+        ranks = {rank: [] for rank in self.window.ranks}
+        for story in self.stories.values():
+            ranks[story.key[0]].append(story)
+        return ranks
+
+    def messages(self):
+        """The sends whose receives are in it too, each with its receive."""
+        sends = (story for story in self.stories.values() if story.op.kind == "send" and story.timed.partner in self.stories)
+        pairs = ((story, self.stories[story.timed.partner]) for story in sends)
+        return [(story, taken) for story, taken in pairs if story.stuck_from is None and taken.busy]
+
+    def is_stuck(self):
+        """Whether something in it is stuck."""
+        return any(story.never or story.stuck_from is not None for story in self.stories.values())
+
+    def last_moment(self):
+        """The last end; where something is stuck, a while after the last that happens, so that it shows."""
+        if not self.is_stuck():
+            return self.run.finish
+        return max((span[1] for it in self.stories.values() for span in it.busy), default=0) * 5 // 4
+
+
+def add_run_words(parser, limit):
+    """The words that say which run, and what of it."""
+    number = command.number(0, MOST_TIME)
+    parser.add_argument("name", metavar="NAME", help="the schedule, a text or a compiled file (- is a text on standard input)")
+    parser.add_argument("--run", metavar="FILE", help="a run of it that is printed already (- is standard input), in place of a new one")
+    parser.add_argument("--machine", metavar="MACHINE", help="run it on this machine, as `goal nodes` does")
+    parser.add_argument("-o", "--out", metavar="FILE", help="write to FILE, not to standard output")
+    window = parser.add_argument_group("a part of the run")
+    window.add_argument("--ranks", metavar="A-B", help="these ranks alone, as 0-7 or 0,4-5,9")
+    window.add_argument("--from", metavar="T", dest="since", type=number, default=0, help="from this time on, in ns")
+    window.add_argument("--to", metavar="T", dest="until", type=number, help="up to this time")
+    window.add_argument("--limit", metavar="N", type=number, default=limit, help="at most so many operations (%(default)s)")
+    add_options(parser)
+    program.add_option(parser)
+
+
+def ranks_of(text, count):
+    """The ranks that a list such as 0-7 or 0,4-5,9 names, in order, as the keys of a dictionary; all without a list."""
+    if text is None:
+        return dict.fromkeys(range(count))
+    ranks = set()
+    for part in text.split(","):
+        found = re.fullmatch(r"(\d+)(?:-(\d+))?", part)
+        if not found:
+            raise Fault(f"--ranks is a list such as 0-7 or 0,4-5,9, not {text}")
+        first, last = int(found[1]), int(found[2] or found[1])
+        if not first <= last < count:
+            raise Fault(f"--ranks {part}: the schedule has the ranks 0 to {count - 1}")
+        ranks.update(range(first, last + 1))
+    return dict.fromkeys(sorted(ranks))
+
+
+def load(arguments):
+    """The run that the words ask for."""
+    try:
+        options = given_options(arguments)
+        name, text = source_of(arguments)
+        lines = run_lines(arguments, options, name, text)
+        window = window_of(arguments, first_line(lines[0] if lines else "").ranks)
+        run = read_run(lines, window.ranks)
+        schedule = read_canonical(output_of(arguments, text, "show", name), window.ranks)
+        stories = stories_of(schedule, run, costs_of(arguments, options), window)
+    except ValueError as why:
+        raise Fault(str(why)) from None
+    seen = sum(window.sees(story) for story in stories.values())
+    if seen > arguments.limit:
+        raise Fault(f"{seen} operations, and the limit is {arguments.limit}: choose some by --ranks, --from and --to, or raise --limit")
+    return Loaded(arguments.name, run, stories, window)
+
+
+def window_of(arguments, ranks):
+    if arguments.until is not None and arguments.until <= arguments.since:
+        raise Fault("--to is not after --from")
+    return Window(ranks_of(arguments.ranks, ranks), arguments.since, arguments.until)
+
+
+def source_of(arguments):
+    """The name of the schedule for the program, and the text that is to be its standard input, if any."""
+    if arguments.name not in ("-", STANDARD_INPUT):
+        return arguments.name, None
+    if arguments.run == "-":
+        raise Fault("the schedule and its run can not both be standard input")
+    return STANDARD_INPUT, text_of("-")
+
+
+def text_of(name):
+    return command.read_file(name).decode("utf-8", "replace")
+
+
+def output_of(arguments, text, *words):
+    """The lines that the program prints."""
+    answer = program.call(program.chosen(arguments.goal), words, text)
+    return program.expect(answer, program.DONE, program.STUCK).out.splitlines()
+
+
+def run_lines(arguments, options, name, text):
+    """The printed run: the one that is given, or a new one."""
+    if arguments.run is not None:
+        return text_of(arguments.run).splitlines()
+    if arguments.machine is not None:
+        return output_of(arguments, text, "nodes", name, arguments.machine)
+    return output_of(arguments, text, "sim", name, *words_of(options))
+
+
+def costs_of(arguments, options):
+    """What messages cost in the run."""
+    if arguments.machine is None:
+        return Alike(parameters_of(options))
+    if options:
+        raise Fault("a machine has its own parameters: give no others")
+    return machine_of(text_of(arguments.machine))
+
+
+def write_out(text, path):
+    """Writes a tool's text to a file, or to standard output."""
+    if path is None:
+        sys.stdout.write(text)
+        return
+    try:
+        with open(path, "w", encoding="utf-8") as file:
+            file.write(text)
+    except OSError as why:
+        raise Fault(f"{path}: {why.strerror}") from None

@@ -1,0 +1,134 @@
+"""The parameters of a run, as the options of goal, and what a message costs with them. Nothing of it is proved.
+
+A rate, G or O, may be one number of nanoseconds a byte with up to three decimals, 0.080 for 80 ps: goal takes it in two
+options, G and Gp.
+"""
+import re
+from dataclasses import dataclass
+
+DEFAULTS = {"L": 2500, "o": 1500, "g": 1000, "G": 6, "Gp": 0, "O": 0, "Op": 0, "S": 65535}
+# The greatest value of each: goal takes no greater one.
+LIMITS = {"L": 2**40 - 1, "o": 2**40 - 1, "g": 2**40 - 1, "G": 2**20 - 1, "Gp": 999, "O": 2**20 - 1, "Op": 999, "S": 2**40 - 1}
+MEANINGS = {
+    "L": "latency, ns",
+    "o": "overhead a message, ns",
+    "g": "gap a message, ns",
+    "G": "gap a byte, ns, as 6 or 0.080",
+    "Gp": "picoseconds besides G",
+    "O": "overhead a byte, ns, as 0 or 0.100",
+    "Op": "picoseconds besides O",
+    "S": "greatest eager size, bytes",
+}
+# The parameters that goal splits into nanoseconds and picoseconds, and the name of the second part.
+RATES = {"G": "Gp", "O": "Op"}
+
+
+def options_of(name, text):
+    """The options of goal that give a parameter this value, by name."""
+    if name in RATES and re.fullmatch(r"\d+\.\d{1,3}", text):
+        whole, part = text.split(".")
+        return {name: int(whole), RATES[name]: int(part.ljust(3, "0"))}
+    if re.fullmatch(r"\d{1,20}", text):
+        return {name: int(text)}
+    wanted = "a number, with up to three decimals" if name in RATES else "a number without a sign"
+    raise ValueError(f"{name} is {text}, not {wanted}")
+
+
+def words_of(options):
+    """Options by name as the words of a command line."""
+    return [word for name, value in options.items() for word in (f"--{name}", str(value))]
+
+
+def add_options(parser):
+    """The eight options of goal for a run."""
+    group = parser.add_argument_group("parameters, as those of `goal sim`")
+    for name, meaning in MEANINGS.items():
+        group.add_argument(f"--{name}", metavar="N", dest=f"parameter_{name}", help=f"{meaning} ({DEFAULTS[name]})")
+
+
+def given_options(arguments):
+    """The options that the words of a command line give, by name."""
+    options = {}
+    for name in DEFAULTS:
+        text = getattr(arguments, f"parameter_{name}")
+        if text is not None:
+            told = options_of(name, text)
+            if options.keys() & told.keys():
+                raise ValueError(f"{name} is told twice: --{name} and the decimals of its nanoseconds")
+            options.update(told)
+    return options
+
+
+def up(nanos, picos, size):
+    """What the bytes of a message cost: for each but the first, the sum rounded up."""
+    rest = max(size - 1, 0)
+    return nanos * rest + -(-picos * rest // 1000)
+
+
+@dataclass(frozen=True)
+class Parameters:
+    L: int
+    o: int
+    g: int
+    G: int
+    Gp: int
+    O: int
+    Op: int
+    S: int
+
+    def over(self, size):
+        """How long a cpu is busy with a message."""
+        return self.o + up(self.O, self.Op, size)
+
+    def is_eager(self, size):
+        return size <= self.S
+
+
+def parameters_of(options):
+    return Parameters(**{**DEFAULTS, **options})
+
+
+@dataclass
+class Machine:
+    """The parameters of each message by the nodes of its ranks, from the text that `goal nodes` reads as MACHINE."""
+
+    classes: list
+    inside: int
+    default: int
+    nodes: list
+    pairs: dict
+
+    def between(self, source, target):
+        one, other = self.nodes[source], self.nodes[target]
+        return self.classes[self.inside if one == other else self.pairs.get((one, other), self.default)]
+
+
+def machine_of(text):
+    """The machine of a text that `goal nodes` has taken."""
+    words = iter(text.split())
+
+    def after(name):
+        if next(words, "") != name:
+            raise ValueError(f"no machine: no `{name}` where it must stand")
+        return int(next(words, ""))
+
+    classes = []
+    for _ in range(after("classes")):
+        classes.append(Parameters(after("class"), *(int(next(words)) for _ in range(7))))
+    inside, default = after("inside"), after("default")
+    nodes = [int(next(words)) for _ in range(after("ranks"))]
+    pairs = {}
+    for _ in range(after("pairs")):
+        one, other = int(next(words)), int(next(words))
+        pairs[one, other] = int(next(words))
+    return Machine(classes, inside, default, nodes, pairs)
+
+
+@dataclass
+class Alike:
+    """The same parameters for all messages."""
+
+    parameters: Parameters
+
+    def between(self, source, target):
+        return self.parameters

@@ -1,0 +1,156 @@
+"""What each operation of a run does when: it waits, it keeps a cpu busy, it is stuck. Nothing of it is proved.
+
+A printed run has the start and the end of an operation. Its ready time follows from what it needs, and how long a message
+keeps a cpu from the parameters: so the rest of its time is waiting.
+"""
+from dataclasses import dataclass, field
+from heapq import heappop, heappush
+
+
+class Misfit(ValueError):
+    """The run is not that of the schedule with these parameters."""
+
+
+@dataclass
+class Story:
+    """An operation with its times: spans are pairs of a begin and an end, in nanoseconds; a span without an end lasts.
+
+    `busy` is when it keeps its cpu, of a large send first for the request and then for the bytes. `stuck_from` is since when
+    it is stuck, where it has begun; `never` says that it never begins. `bytes` are those of the message.
+    """
+
+    key: tuple
+    op: object
+    timed: object
+    bytes: int
+    ready: int
+    waits: list = field(default_factory=list)
+    busy: list = field(default_factory=list)
+    stuck_from: int = None
+    never: bool = False
+    reason: str = ""
+
+    @property
+    def begin(self):
+        """The first moment that is told of it, or none."""
+        spans = self.waits + self.busy
+        return min((span[0] for span in spans), default=self.stuck_from)
+
+    @property
+    def wait(self):
+        """How long it waits, as `goal waits` says: from its ready time to its last action, 0 where it has no end."""
+        return 0 if self.timed.end is None else self.busy[-1][0] - self.ready
+
+    @property
+    def leaves(self):
+        """When its message goes: the end of what its cpu does for it last."""
+        return self.busy[-1][1]
+
+    @property
+    def is_unread(self):
+        """Whether its message is sent and no receive takes it."""
+        return self.op.kind == "send" and self.timed.end is not None and self.timed.partner is None
+
+
+def ready_time(key, ops, timed):
+    """When all that it needs has come, or none."""
+    moments = [
+        timed[key[0], number].end if by_end else timed[key[0], number].start for number, by_end in ops[key].needs
+    ]
+    return None if None in moments else max(moments, default=0)
+
+
+def story_of(key, schedule, run, costs):
+    """The story of an operation; `costs.between` gives the parameters of a message."""
+    op, timed = schedule.ops[key], run.timed[key]
+    ready = ready_time(key, schedule.ops, run.timed)
+    story = Story(key, op, timed, op.size, ready, reason=run.reasons.get(key, ""))
+    if timed.start is None:
+        story.never = True
+    elif op.kind == "calc":
+        add_wait(story, ready, timed.start)
+        story.busy.append((timed.start, timed.end))
+    elif op.kind == "send":
+        tell_send(story, ready, costs.between(key[0], int(op.peer)))
+    else:
+        tell_receive(story, schedule.sizes, costs)
+    return story
+
+
+def add_wait(story, begin, end):
+    if end < begin:
+        raise Misfit(f"the run is not of these parameters: see operation {story.key[1]} of rank {story.key[0]}")
+    if begin < end:
+        story.waits.append((begin, end))
+
+
+def tell_send(story, ready, parameters):
+    start, end = story.timed.start, story.timed.end
+    add_wait(story, ready, start)
+    if parameters.is_eager(story.bytes):
+        story.busy.append((start, end))
+        return
+    asked = start + parameters.over(1)
+    story.busy.append((start, asked))
+    if end is None:
+        story.stuck_from = asked
+    else:
+        handed = end - parameters.over(story.bytes)
+        add_wait(story, asked, handed)
+        story.busy.append((handed, end))
+
+
+def tell_receive(story, sizes, costs):
+    start, end, partner = story.timed.start, story.timed.end, story.timed.partner
+    if end is None:
+        story.stuck_from = start
+        return
+    if partner not in sizes:
+        raise Misfit(f"the run is not of this schedule: operation {story.key[1]} of rank {story.key[0]} has another partner")
+    story.bytes = sizes[partner]
+    taken = end - costs.between(partner[0], story.key[0]).over(story.bytes)
+    add_wait(story, start, taken)
+    story.busy.append((taken, end))
+
+
+@dataclass
+class Window:
+    """The ranks, in order, and the times that are looked at; `until` is none where there is no end."""
+
+    ranks: dict
+    since: int = 0
+    until: int = None
+
+    def has(self, story):
+        """Whether something of the operation lies in the window, a wait or what never begins included."""
+        if story.never:
+            return self.until is None
+        return self.meets(story.begin, story.timed.end)
+
+    def sees(self, story):
+        """Whether the operation does something in the window, or is stuck there: it does not only wait."""
+        stuck = story.stuck_from is not None and self.meets(story.stuck_from, None)
+        return stuck or any(self.meets(begin, end) for begin, end in story.busy)
+
+    def meets(self, begin, end):
+        return (end is None or end >= self.since) and (self.until is None or begin <= self.until)
+
+
+def rows_of(spans):
+    """The first row that is free for each span of time, where these come in the order of their begins."""
+    taken, free, count = [], [], 0
+    for begin, end in spans:
+        while taken and taken[0][0] <= begin:
+            heappush(free, heappop(taken)[1])
+        row = heappop(free) if free else count
+        count = max(count, row + 1)
+        heappush(taken, (end, row))
+        yield row
+
+
+def stories_of(schedule, run, costs, window):
+    """The stories of the operations in a window, by key. Both have the operations of its ranks alone."""
+    for key in schedule.ops.keys() ^ run.timed.keys():
+        raise Misfit(f"the run is not of this schedule: see operation {key[1]} of rank {key[0]}")
+    stories = (story_of(key, schedule, run, costs) for key in schedule.ops)
+    return {story.key: story for story in stories if window.has(story)}

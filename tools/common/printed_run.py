@@ -1,0 +1,67 @@
+"""Reads the run that `goal sim` or `goal nodes` has printed. Nothing of it is proved."""
+from dataclasses import dataclass, field
+
+
+@dataclass(frozen=True)
+class Timed:
+    """An operation of a run: its times in nanoseconds and its partner, each None where the run has none."""
+
+    start: int
+    end: int
+    partner: tuple
+
+
+@dataclass
+class Run:
+    """The first line of a run, and its operations and reasons by (rank, number)."""
+
+    ranks: int
+    ops: int
+    stuck: int
+    unread: int
+    finish: int
+    timed: dict = field(default_factory=dict)
+    reasons: dict = field(default_factory=dict)
+
+
+class NoRun(ValueError):
+    """What was read is no printed run."""
+
+
+def first_line(line):
+    """The run that a first line tells, without its operations."""
+    words = line.split()
+    if words[::2] != ["ranks", "ops", "stuck", "unread", "finish"] or len(words) != 10:
+        raise NoRun("no first line `ranks P ops N stuck K unread U finish T`")
+    return Run(*(int(word) for word in words[1::2]))
+
+
+def moment(word):
+    return None if word == "-" else int(word)
+
+
+def read_run(lines, ranks=None):
+    """The run that the lines tell; with `ranks`, the operations of these alone."""
+    lines = iter(lines)
+    run = first_line(next(lines, ""))
+    for at, line in enumerate(lines, 2):
+        words = line.split()
+        try:
+            kind, key = words[0], (int(words[1]), int(words[2]))
+            if ranks is not None and key[0] not in ranks:
+                continue
+            if kind == "op":
+                run.timed[key] = timed_of(words)
+            elif kind == "stuck":
+                run.reasons[key] = " ".join(words[3:])
+            else:
+                raise ValueError
+        except (ValueError, IndexError):
+            raise NoRun(f"line {at} is none of a printed run: {line.strip()}") from None
+    return run
+
+
+def timed_of(words):
+    """From `op R I KIND start A end B [match Q J]`."""
+    partner = tuple(int(word) for word in words[9:11]) if len(words) == 11 else None
+    return Timed(moment(words[5]), moment(words[7]), partner)

@@ -1,0 +1,77 @@
+"""Scales of axes, with ticks at rounded values, and units for times and sizes. Nothing of it is proved."""
+import math
+from dataclasses import dataclass
+
+TIME_UNITS = ((1, "ns"), (1_000, "µs"), (1_000_000, "ms"), (1_000_000_000, "s"))
+SIZE_UNITS = ((1, "B"), (1 << 10, "KiB"), (1 << 20, "MiB"), (1 << 30, "GiB"))
+
+
+def plain(value):
+    """A number without zeros at its end, its thousands apart."""
+    text = f"{value:,.6f}".rstrip("0").rstrip(".")
+    return text or "0"
+
+
+def unit_for(greatest, units=TIME_UNITS):
+    """The unit in which the greatest of some numbers is written: a factor and a name."""
+    fitting = [unit for unit in units if greatest >= 2 * unit[0]]
+    return (fitting or [units[0]])[-1]
+
+
+def in_unit(value, units):
+    """A number in the greatest unit that it reaches, as `16 KiB`."""
+    factor, name = [unit for unit in units if value >= unit[0]][-1] if value >= 1 else units[0]
+    return f"{plain(round(value / factor, 3))} {name}"
+
+
+def rounded_step(span, count):
+    """The least of 1, 2 and 5 times a power of ten that divides a span into at most `count` parts."""
+    least = span / count
+    power = 10 ** math.floor(math.log10(least))
+    return next(factor * power for factor in (1, 2, 5, 10) if factor * power >= least * (1 - 1e-9))
+
+
+@dataclass
+class Scale:
+    """From values to pixels: `low` is at pixel `start`, `high` at pixel `end`."""
+
+    low: float
+    high: float
+    start: float
+    end: float
+    is_log: bool = False
+
+    def __call__(self, value):
+        low, high, at = (map(math.log, (self.low, self.high, value)) if self.is_log else (self.low, self.high, value))
+        share = (at - low) / (high - low) if high > low else 0.5
+        return self.start + share * (self.end - self.start)
+
+    def ticks(self, count):
+        """At most about `count` rounded values of the scale."""
+        if self.is_log:
+            return log_ticks(self.low, self.high, count)
+        if self.high <= self.low:
+            return [self.low]
+        step = rounded_step(self.high - self.low, count)
+        whole = float(step).is_integer()
+        ticks = [k * step for k in range(math.ceil(self.low / step - 1e-9), math.floor(self.high / step + 1e-9) + 1)]
+        return [int(round(tick)) for tick in ticks] if whole else [round(tick, 9) for tick in ticks]
+
+
+def log_ticks(low, high, count):
+    """Powers of ten from low to high, or every second, third .. of them; where there is room, 2 and 5 between."""
+    first, last = math.ceil(math.log10(low) - 1e-9), math.floor(math.log10(high) + 1e-9)
+    if 3 * (last - first + 1) <= count:
+        between = [factor * 10.0**k for k in range(first - 1, last + 1) for factor in (1, 2, 5)]
+        return [tick for tick in between if low * (1 - 1e-9) <= tick <= high * (1 + 1e-9)]
+    every = max(1, math.ceil((last - first + 1) / count))
+    return [10.0**k for k in range(first, last + 1, every)]
+
+
+def log_ends(low, high):
+    """The ends of a log scale that has these values: powers of ten times 1, 2 or 5."""
+    below, above = 10 ** math.floor(math.log10(low) + 1e-9), 10 ** math.floor(math.log10(high) + 1e-9)
+    return (
+        max(factor * below for factor in (1, 2, 5) if factor * below <= low * (1 + 1e-9)),
+        min(factor * above for factor in (1, 2, 5, 10) if factor * above >= high * (1 - 1e-9)),
+    )
