@@ -1,8 +1,10 @@
 // From a schedule and its costs to what a view shows of its run.
-ghost use Rattle.std.specs.Prelude.{◌≡◌, ◌≢◌, ◌++◌, ◌<◌, ◌^◌, [], unwrap_or, OnOk, IfOk, IfErr};
+ghost use Rattle.std.specs.Prelude.{ℕ, ◌≡◌, ◌≢◌, ◌+◌, ◌*◌, ◌++◌, ◌<◌, ◌≤◌, ◌^◌, [], length, unwrap_or, OnOk, IfOk, IfErr};
+ghost use Rattle.goal_graph.specs.Schedule.{operations};
 ghost use Rattle.sim_params.specs.Budget.{budget};
 ghost use Rattle.sim_params.specs.Run.{IsFinished};
 ghost use Rattle.sim_params.specs.Stuck.{is_stuck};
+ghost use Rattle.sim_events.specs.Comparisons.{cost_of_start, cost_of_run};
 ghost use Rattle.sim_events.specs.Engine.{IsEngineFault};
 ghost use Rattle.goal_views.specs.Views.{Shows, IsShownRun};
 ghost use Rattle.goal_views.specs.Runs.{IsRunOf};
@@ -15,30 +17,63 @@ use goal_base::NoMemory;
 use goal_graph::Sched;
 use goal_words::RunView;
 use sim_events::{Engine, EngineFault};
+use sim_order::Steps;
 use sim_params::Costs;
 use sim_stuck::is_stuck;
 use sim_waits::waits;
 use std::alloc::Global;
+use std::marker::Brand;
+use std::sync::ledger::{Blank, Ledger};
 
-// The run of a schedule with these costs, to its end.
-fn run<C: Costs + Drop>(
+// The run of a schedule with these costs, to its end. Counters tell how often its queue compares keys, and at how many entries
+// its matcher looks.
+fn run_counted<'a, C: Costs + Drop, L: Ledger, M: Ledger>(
     alloc: Global,
-    sched: &Sched,
+    sched: &'a Sched,
     costs: C,
-) -> Result<Engine<'_, C>, EngineFault>
+    steps: &mut Steps<L>,
+    looks: &mut Steps<M>,
+) -> Result<Engine<'a, C>, EngineFault>
+    ensures fits { OnOk result (budget sched.now (C.model costs) < 2 ^ 63) }
+    ensures run { IfOk result (λ engine. IsRunOf (C.model costs) sched.now engine) }
+    ensures costs { IfOk result (λ engine. C.model engine.costs ≡ C.model costs) }
+    ensures fault { IfErr result (IsEngineFault (budget sched.now (C.model costs))) }
+    ensures counted { IfOk result (λ engine. (k : ℕ) → length (operations sched.now) ≤ 2 ^ k
+        → steps.new ≤ steps.old + (cost_of_start k sched.now + cost_of_run k sched.now engine.history)) }
+    ensures looked { IfOk result (λ engine. looks.new ≤ looks.old + 8 * length engine.history) }
+{
+    match Engine::new_counted(alloc, sched, costs, steps) {
+        Ok(engine) => {
+            let mut engine = engine;
+            engine.run_counted(steps, looks);
+            Ok(engine)
+        }
+        Err(fault) => Err(fault),
+    }
+}
+
+// The same, with counters of its own.
+fn run<'a, C: Costs + Drop, L: Ledger, M: Ledger>(
+    alloc: Global,
+    blank: Blank,
+    for_looks: Blank,
+    sched: &'a Sched,
+    costs: C,
+) -> Result<Engine<'a, C>, EngineFault>
+    requires name { blank.name ≡ L.name }
+    requires parts { blank.parts ≡ L.parts }
+    requires some { 0 < blank.parts }
+    requires looks_name { for_looks.name ≡ M.name }
+    requires looks_parts { for_looks.parts ≡ M.parts }
+    requires looks_some { 0 < for_looks.parts }
     ensures fits { OnOk result (budget sched.now (C.model costs) < 2 ^ 63) }
     ensures run { IfOk result (λ engine. IsRunOf (C.model costs) sched.now engine) }
     ensures costs { IfOk result (λ engine. C.model engine.costs ≡ C.model costs) }
     ensures fault { IfErr result (IsEngineFault (budget sched.now (C.model costs))) }
 {
-    match Engine::new(alloc, sched, costs) {
-        Ok(engine) => {
-            let mut engine = engine;
-            engine.run();
-            Ok(engine)
-        }
-        Err(fault) => Err(fault),
-    }
+    let mut steps = Steps::<L>::new(blank);
+    let mut looks = Steps::<M>::new(for_looks);
+    run_counted(alloc, sched, costs, &mut steps, &mut looks)
 }
 
 // What a view other than the printed run shows of an engine whose run is over, a row for each.
@@ -124,7 +159,8 @@ pub fn show_run<C: Costs + Drop>(
         (run.head.items ++ (unwrap_or run.lines [] ++ run.tail.items)) run.stuck) }
     ensures fault { IfErr result (IsEngineFault (budget sched.now (C.model costs))) }
 {
-    let engine = match run(alloc, sched, costs) {
+    let ran = run::<C, Brand, Brand>(alloc, Blank::new(1), Blank::new(1), sched, costs);
+    let engine = match ran {
         Ok(engine) => engine,
         Err(fault) => return Err(fault),
     };

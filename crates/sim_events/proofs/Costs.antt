@@ -1,12 +1,13 @@
 -- What keys have cost, as they are put and taken out.
-use Rattle.std.proofs.Common.{◌≡◌, ◌≢◌, ◌⊎◌, ℕ, ◌+◌, ◌*◌, ◌^◌, ◌<◌, ◌≤◌, zero, suc, length, Option, Some, None, is_some, slice_set, refl, sym, ap, ◌∙◌, subst, inl, inr, arith}
-use Rattle.std.specs.List.{sum_by, range_with_len}
+use Rattle.std.proofs.Common.{◌≡◌, ◌≢◌, ◌⊎◌, ℕ, ◌+◌, ◌*◌, ◌^◌, ◌<◌, ◌≤◌, zero, suc, cond, List, [], ◌∷◌, length, Option, Some, None, is_some, slice_set, refl, sym, ap, ◌∙◌, subst, inl, inr, arith}
+use Rattle.std.specs.List.{sum_by, count_by, range_with_len}
+use Rattle.std.proofs.Math.Nat.{mul-le-mul_right}
 use Rattle.std.proofs.lemmas.Bool.{cases_eq}
 use Rattle.std.proofs.lemmas.List.{get_or-set_same, get_or-set_other}
-use Rattle.std.proofs.lemmas.List.Sums.{sum_by-cons}
+use Rattle.std.proofs.lemmas.List.Sums.{sum_by-cons, count_by-le-length}
 use Rattle.goal_graph.specs.declared.action.Timed.{Timed}
 use Rattle.sim_heaps.specs.Map.{key_at, IsEmptyMap}
-use Rattle.sim_stations.specs.Stations.{Stationed, cost_of_waiting}
+use Rattle.sim_stations.specs.Stations.{Stationed, count_ahead, cost_of_waiting}
 use Rattle.sim_events.specs.Comparisons.{cost_of_key, spent}
 
 -- a sum does not fall where no term does
@@ -81,3 +82,38 @@ module _ (k : ℕ) (old new : Stationed) (slot : ℕ) (each : length new.keys �
 pub spent_same : (k : ℕ) (old new : Stationed) → new.keys ≡ old.keys → spent k new ≡ spent k old
 spent_same k old new e =
     ap (λ ks. sum_by (λ i. cost_of_key k (key_at ks i)) (range_with_len 0 (length ks))) e
+
+-- what the keys have cost is told by how many there are
+one_spent : (k : ℕ) (a : Option Timed) → cost_of_key k a ≡ cond (is_some a) 1 0 * (10 * k + 16)
+one_spent k None = omega arith
+one_spent k (Some e) = omega arith
+
+all_spent : (k : ℕ) (keys : List (Option Timed)) (paid : ℕ → ℕ) (a : ℕ) → ((i : ℕ) → paid (a + i) ≡ cost_of_key k (key_at keys i)) → sum_by paid (range_with_len a (length keys)) ≡ count_by is_some keys * (10 * k + 16)
+all_spent k [] paid a each = omega arith
+all_spent k (x ∷ keys) paid a each =
+    let rest = all_spent k keys paid (a + 1) (λ i. ap paid (shift i) ∙ each (suc i)) in
+    let more = sum_by-cons (λ (y : Option Timed). cond (is_some y) 1 0) x keys in
+    omega (arith, rest, sum_by-cons paid a (range_with_len (a + 1) (length keys)), ap paid first, each 0, one_spent k x, ap (λ n. n * (10 * k + 16)) more)
+  where
+    shift : (i : ℕ) → a + 1 + i ≡ a + suc i
+    shift i = omega arith
+
+    first : a + 0 ≡ a
+    first = omega arith
+
+pub spent_is : (k : ℕ) (queue : Stationed) → spent k queue ≡ count_by is_some queue.keys * (10 * k + 16)
+spent_is k queue = all_spent k queue.keys (cost k queue) 0 (λ i. ap (cost k queue) (zero_more i))
+  where
+    zero_more : (i : ℕ) → 0 + i ≡ i
+    zero_more i = omega arith
+
+-- all keys together
+pub spent_most : (k : ℕ) (queue : Stationed) → spent k queue ≤ length queue.keys * (10 * k + 16)
+spent_most k queue =
+    omega (arith, spent_is k queue, mul-le-mul_right {m = count_by is_some queue.keys} {n = length queue.keys} (10 * k + 16) (count_by-le-length is_some queue.keys))
+
+-- keys that have not begun to wait have cost more than it will cost that they do
+pub waiting_paid : (k : ℕ) (queue : Stationed) → count_ahead queue.stands ≤ count_by is_some queue.keys → cost_of_waiting k queue.stands ≤ spent k queue
+waiting_paid k queue few =
+    let wait = mul-le-mul_right {m = count_ahead queue.stands} {n = count_by is_some queue.keys} (8 * k + 12) few in
+    omega (arith, wait, spent_is k queue)

@@ -12,4 +12,5 @@ pub mod Runs
 pub mod Placing
 pub mod Numbering
 pub mod Costs
+pub mod Changes
 pub mod ForCallers

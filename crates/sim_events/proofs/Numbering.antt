@@ -1,7 +1,10 @@
 -- Stations and their resources are numbered one after the other.
-use Rattle.std.proofs.Common.{◌≡◌, ◌≢◌, ◌⊎◌, ◌+◌, ◌<◌, ◌≤◌, ◌++◌, ℕ, All, List, [], ◌∷◌, length, get_or, append-nil, Option, Some, None, slice_get, slice_index, refl, sym, ap, ◌∙◌, subst, arith, inl, inr}
-use Rattle.std.proofs.lemmas.Bool.{cases_lt}
-use Rattle.std.proofs.lemmas.List.{length-append, get_or_append_left}
+use Rattle.std.proofs.Common.{◌≡◌, ◌≢◌, ◌⊎◌, ◌+◌, ◌<◌, ◌≤◌, ◌++◌, ℕ, suc, Bool, true, false, All, List, [], ◌∷◌, length, get_or, take, append-nil, if◌then◌else◌, Option, Some, None, slice_get, slice_index, refl, sym, ap, ap₂, ◌∙◌, subst, arith, inl, inr}
+use Rattle.std.specs.List.{list_any}
+use Rattle.std.proofs.lemmas.Bool.{both_ways, cases_lt, or_cases}
+use Rattle.std.proofs.lemmas.List.{length-append, get_or_append_left, take_all}
+use Rattle.std.proofs.lemmas.List.Folds.{list_any_at}
+use Rattle.std.proofs.lemmas.List.Sums.{fold_more}
 use Rattle.std.proofs.lemmas.List.Elements.{All-push}
 use Rattle.std.proofs.lemmas.Option.{same_Some, slice_get-get_or, slice_get_within, get_or_from_slice_get}
 use Rattle.goal_graph.specs.declared.action.OpId.{OpId}
@@ -15,7 +18,8 @@ use Rattle.sim_resources.proofs.ForCallers.{get_kept, get_either}
 use Rattle.sim_stations.specs.declared.pair.Pair.{Pair}
 use Rattle.sim_stations.specs.Stations.{DoExist}
 use Rattle.sim_events.specs.declared.station.Station.{Station}
-use Rattle.sim_events.specs.Stations.{station_by, station_of, cpu_alone, side_by, side_alone, IsNotAfter, AreOnce, HasNumber, HasPair, IsNumbering, AreStationed}
+use Rattle.sim_events.specs.Stations.{station_by, station_of, station_as, same_station, with_station, stations_among, cpu_alone, side_by, side_alone, IsNotAfter, AreOnce, HasNumber, HasPair, IsNumbering, AreStationed}
+use Rattle.sim_events.proofs.Placing.{same_station_true, same_station_from}
 
 -- what stands behind a list
 get_first : {X : Type 0} (xs : List X) (t : X) (more : List X) → slice_get (xs ++ t ∷ more) (length xs) ≡ Some t
@@ -107,10 +111,45 @@ module _ (stations resources : List Station) (pairs : List Pair) (is : IsNumberi
           let at : slice_get after (length stations) ≡ Some station = ap (λ (xs : List Station). slice_get xs (length stations)) grown ∙ first ∙ ap Some (of_it 0 t refl) in
           absurd (differ (once number (length stations) station has.is at ∙ sym is.each))
 
+-- what passes a test in a list
+any_found : (test : Station → Bool) (xs : List Station) → list_any test xs ≡ true → (i : ℕ) × (x : Station) × (slice_get xs i ≡ Some x) × (test x ≡ true)
+any_found test [] e = absurd (both_ways false refl e)
+any_found test (x ∷ xs) e = elim (or_cases (test x) (list_any test xs) e) [
+  | inl own ↦ (0, x, refl, own)
+  | inr later ↦ (let rest = any_found test xs later in (suc rest.0, rest.1, rest.2, rest.3))
+]
+
+any_there : (test : Station → Bool) (xs : List Station) (i : ℕ) (x : Station) → slice_get xs i ≡ Some x → test x ≡ true → list_any test xs ≡ true
+any_there test xs i x at e =
+    list_any_at test xs i x (slice_get_within xs i x at) (ap test (get_or_from_slice_get xs i x x at) ∙ e)
+
+-- the stations after one more has its number are those with it
+listed_more : (before after : List Station) (station : Station) (number : ℕ) → HasNumber before after station number → AreOnce after → after ≡ with_station before station
+listed_more before after station number has once = go has.more has.by_one has.grown has.of_it (list_any (same_station station) before) refl
+  where
+    -- with it or without it
+    either : Bool → List Station
+    either b = if b then before else before ++ station ∷ []
+
+    go : (more : List Station) → length more ≤ 1 → after ≡ before ++ more → ((j : ℕ) (t : Station) → slice_get more j ≡ Some t → t ≡ station) → (b : Bool) → list_any (same_station station) before ≡ b → after ≡ either (list_any (same_station station) before)
+    go [] one grown of_it true e = grown ∙ append-nil before ∙ sym (ap either e)
+    go [] one grown of_it false e =
+        let there : slice_get before number ≡ Some station = subst (λ (xs : List Station). slice_get xs number ≡ Some station) (grown ∙ append-nil before) has.is in
+        absurd (both_ways _ e (any_there (same_station station) before number station there (same_station_from station station refl)))
+    go (t ∷ []) one grown of_it false e = grown ∙ ap (λ (u : Station). before ++ u ∷ []) (of_it 0 t refl) ∙ sym (ap either e)
+    go (t ∷ []) one grown of_it true e =
+        let found = any_found (same_station station) before e in
+        let same : station ≡ found.1 = same_station_true station found.1 found.3 in
+        let old : slice_get after found.0 ≡ Some station = ap (λ (xs : List Station). slice_get xs found.0) grown ∙ get_kept before (t ∷ []) found.0 found.1 found.2 ∙ ap Some (sym same) in
+        let new : slice_get after (length before) ≡ Some station = ap (λ (xs : List Station). slice_get xs (length before)) grown ∙ get_first before t [] ∙ ap Some (of_it 0 t refl) in
+        absurd (omega (arith, once found.0 (length before) station old new, slice_get_within before found.0 found.1 found.2))
+    go (t ∷ u ∷ more) one grown of_it b e = absurd (omega (arith, one))
+
 module _ (plans : List Plan) where
   -- the first operations have their stations
   pub record AreNumberedTo (n : ℕ) (stations resources : List Station) (pairs : List Pair) (numbers : List ℕ) : Type 0 where
     pub numbering : IsNumbering stations resources pairs
+    pub listed : stations ≡ stations_among plans (take n (operations plans))
     pub count : length numbers ≡ n
     pub few : length stations ≤ n
     pub each : (i : ℕ) (x : OpId) (o : Op) → i < n → slice_get (operations plans) i ≡ Some x → op_at plans x ≡ Some o → slice_get stations (slice_index numbers i) ≡ Some (station_of x o)
@@ -128,6 +167,7 @@ module _ (plans : List Plan) where
       sides = λ n s p e f. absurd (nothing n s e);
       of_stations = λ rank last j s e. absurd (nothing j s e);
     };
+    listed = refl;
     count = refl;
     few = omega arith;
     each = λ i x o l e f. absurd (omega (arith, l));
@@ -151,6 +191,7 @@ module _ (plans : List Plan) where
     pub numbered_more : (after more : List Station) (pairs_after : List Pair) (number : ℕ) → IsNumbering after more pairs_after → HasNumber stations after (station_of x o) number → AreNumberedTo (n + 1) after more pairs_after (numbers ++ number ∷ [])
     numbered_more after more pairs_after number numbering has = record {
       numbering = numbering;
+      listed = listed;
       count = omega (arith, length-append numbers (number ∷ []), so_far.count);
       few = omega (arith, so_far.few, sizes.0);
       each = λ i y p l e f. each i y p e f (cases_lt i n) l;
@@ -160,6 +201,17 @@ module _ (plans : List Plan) where
       where
         sizes : (length after ≤ length stations + 1) × (length stations ≤ length after)
         sizes = has_longer stations after (station_of x o) number has
+
+        -- with the station of one more operation
+        with_one : List Station → OpId → List Station
+        with_one before y = with_station before (station_as y (op_at plans y))
+
+        listed : after ≡ stations_among plans (take (n + 1) (operations plans))
+        listed =
+            listed_more stations after (station_of x o) number has numbering.once
+            ∙ ap₂ with_station so_far.listed (sym (ap (station_as x) is))
+            ∙ ap (with_one (stations_among plans (take n (operations plans)))) (sym (get_or_from_slice_get (operations plans) n x x at))
+            ∙ sym (fold_more with_one [] (operations plans) n x (slice_get_within (operations plans) n x at))
 
         each : (i : ℕ) (y : OpId) (p : Op) → slice_get (operations plans) i ≡ Some y → op_at plans y ≡ Some p → (i < n) ⊎ (n ≤ i) → i < n + 1 → slice_get after (slice_index (numbers ++ number ∷ []) i) ≡ Some (station_of y p)
         each i y p e f (inl less) l =
@@ -188,6 +240,7 @@ module _ (plans : List Plan) where
     stations = stations;
     resources = resources;
     numbering = to.numbering;
+    listed = to.listed ∙ ap (stations_among plans) (take_all n (operations plans) (omega (arith, all)));
     each = to.count ∙ all;
     are = λ i x o e f. to.each i x o (omega (arith, all, slice_get_within (operations plans) i x e)) e f;
   }

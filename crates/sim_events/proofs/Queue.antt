@@ -350,8 +350,8 @@ module _ (plans : List Plan) (costs : CostModel) where
     }
 
     -- an operation that had no key has got that of its possible action
-    pub put_enabled : (x : OpId) (known : List Plan) (slot : ℕ) (enabled : Option Timed) (a k : Timed) (old new : Stationed) → HasPossibleKeys plans costs h old → known ≡ plans → slice_get (operations known) slot ≡ Some x → IsEnabledActionOf plans costs h x enabled → enabled ≡ Some a → k ≡ a → new.keys ≡ slice_set old.keys slot (Some (when_free old.free (pair_of old slot) k)) → new.stations ≡ old.stations → new.pairs ≡ old.pairs → new.free ≡ old.free → IsRefreshed plans costs h x old new
-    put_enabled x known slot enabled a k old new q same at is e key put stations pairs free_same = record {
+    pub put_enabled : (x : OpId) (known : List Plan) (slot : ℕ) (enabled : Option Timed) (a k : Timed) (old new : Stationed) → HasPossibleKeys plans costs h old → known ≡ plans → slice_get (operations known) slot ≡ Some x → IsEnabledActionOf plans costs h x enabled → enabled ≡ Some a → k ≡ a → new.keys ≡ slice_set old.keys slot (Some (when_free old.free (pair_of old slot) k)) → new.stations ≡ old.stations → new.pairs ≡ old.pairs → new.turned ≡ old.turned → new.free ≡ old.free → IsRefreshed plans costs h x old new
+    put_enabled x known slot enabled a k old new q same at is e key put stations pairs turned free_same = record {
       slot = slot;
       is_slot = at_slot;
       key = Some a;
@@ -359,6 +359,7 @@ module _ (plans : List Plan) (costs : CostModel) where
       put = put ∙ ap (λ (b : Timed). slice_set old.keys slot (Some b)) ((λ i. when_free old.free (pair_of old slot) (key i)) ∙ exact);
       stations = stations;
       pairs = pairs;
+      turned = turned;
       free = free_same;
     }
       where
@@ -387,6 +388,7 @@ module _ (plans : List Plan) (costs : CostModel) where
       put = sym (set-get_or queue.keys slot None);
       stations = refl;
       pairs = refl;
+      turned = refl;
       free = refl;
     }
 

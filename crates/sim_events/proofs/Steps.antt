@@ -14,6 +14,8 @@ use Rattle.sim_events.specs.Queue.{IsQueue, IsQueueBut, IsSettledBy, IsDueAfter}
 use Rattle.sim_state.proofs.ForCallers.{possible_exists}
 use Rattle.sim_events.proofs.Held.{later}
 use Rattle.sim_events.proofs.Queue.{listed_kind, finished, empty_from}
+use Rattle.sim_events.specs.Changes.{HaveChanged}
+use Rattle.sim_events.proofs.Changes.{changed_settled}
 use Rattle.sim_events.proofs.Settled.{after_settled}
 
 module _ {C : Type 0} (model : C → CostModel) where
@@ -38,6 +40,11 @@ module _ {C : Type 0} (model : C → CostModel) where
   later_after old new a queued slot e next q here =
       let o = listed_kind old.plans (model old.costs) slot a.op here in
       subst (λ (v : View C). IsLater queued.free (pair_of queued slot) (cpu v.plans (model v.costs) v.history a.op) (side v.plans (model v.costs) v.history a.op)) (sym e) (later old.plans (model old.costs) old.history a next.possible queued q.of_it slot here o.0 o.1 _ _ refl refl)
+
+  -- how often stations have changed their places stays
+  pub changed_after : (old new : View C) (a : Timed) (queued settled : Stationed) (slot : ℕ) → new ≡ record { plans = old.plans; costs = old.costs; history = a ∷ old.history } → QueueAt old queued → slice_get (operations old.plans) slot ≡ Some a.op → IsSettledBy (cpu new.plans (model new.costs) new.history a.op) (side new.plans (model new.costs) new.history a.op) slot a queued settled → (all : ℕ) → HaveChanged old.plans old.history queued all → HaveChanged new.plans new.history settled all
+  changed_after old new a queued settled slot e q here by all changed =
+      subst (λ (v : View C). HaveChanged v.plans v.history settled all) (sym e) (changed_settled old.plans (model old.costs) old.history a queued q.of_it slot here _ _ settled by all changed)
 
   pub op_after : (old new : View C) (a : Timed) → new ≡ record { plans = old.plans; costs = old.costs; history = a ∷ old.history } → NextAt old a → IsOp new.plans a.op
   op_after old new a e next =

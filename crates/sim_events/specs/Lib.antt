@@ -1,7 +1,10 @@
+-- What a reader must believe.
+pub mod Stations
+pub mod Moves
+pub mod Comparisons
 -- What only the code keeps.
 pub mod Queue
-pub mod Comparisons
-pub mod Stations
+pub mod Changes
 pub mod Outlook
 -- What the clauses cite of lower crates.
 pub use Rattle.goal_graph.specs.Action

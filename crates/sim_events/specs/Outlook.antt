@@ -1,5 +1,5 @@
 -- What may come, as far as an engine knows it.
-use Rattle.std.specs.Prelude.{◌≡◌, List, ◌∷◌, Option, Some, None}
+use Rattle.std.specs.Prelude.{ℕ, ◌≡◌, List, ◌∷◌, Option, Some, None}
 use Rattle.goal_graph.specs.declared.action.Timed.{Timed}
 use Rattle.goal_graph.specs.Schedule.{Plan}
 use Rattle.sim_params.specs.Costs.{CostModel}
@@ -8,10 +8,12 @@ use Rattle.sim_events.specs.declared.outlook.Outlook.{Outlook}
 use Rattle.sim_state.specs.Engine.{View}
 use Rattle.sim_events.specs.Queue.{IsQueue}
 use Rattle.sim_state.specs.Cursors.{AreCursors}
+use Rattle.sim_events.specs.Changes.{HaveChanged}
 
--- its queue and its cursors, or none where nothing is possible
+-- its queue, of which it is known how often stations have changed their places, and its cursors; or none where nothing is possible
 abbrev pub IsOutlook : List Plan → CostModel → List Timed → Option Outlook → Type 0
-IsOutlook plans costs h (Some o) = IsQueue plans costs h o.queue × AreCursors plans costs h o.cursors.items
+IsOutlook plans costs h (Some o) =
+    IsQueue plans costs h o.queue × AreCursors plans costs h o.cursors.items × ((all : ℕ) × HaveChanged plans h o.queue all)
 IsOutlook plans costs h None = IsFinished plans costs h
 
 module _ {C : Type 0} (model : C → CostModel) where

@@ -13,21 +13,27 @@ use Rattle.sim_params.specs.Costs.{CostModel}
 use Rattle.sim_params.specs.Times.{mate, cpu, Possible}
 use Rattle.sim_heaps.specs.Map.{key_at}
 use Rattle.sim_stations.specs.Stations.{Stationed, waits_for_room, when_free, held, pair_of, DoExist}
+use Rattle.sim_stations.specs.Moves.{HaveReturned, held_once_more}
 use Rattle.sim_state.specs.Enabled.{IsIdle, IsEnabledActionOf}
 use Rattle.sim_state.specs.Free.{side}
 use Rattle.sim_events.specs.Stations.{AreStationed}
 
 -- A queue after the action in a slot, which has left its resources free at c and s: its key is gone and, where the action
--- waited for room, all that waits for these is raised.
+-- waited for room, all that waits for these is raised, and they were held once more.
 pub record IsSettledBy (c s slot : ℕ) (a : Timed) (old new : Stationed) : Type 0 where
   pub each : length new.keys ≡ length old.keys
   pub gone : key_at new.keys slot ≡ None
   pub stations : new.stations ≡ old.stations
   pub pairs : new.pairs ≡ old.pairs
+  pub turned : new.turned ≡ old.turned
   pub raised : waits_for_room a.class ≡ true → (other : ℕ) → other ≢ slot → key_at new.keys other ≡ option_map (when_free new.free (pair_of old other)) (key_at old.keys other)
   pub free : waits_for_room a.class ≡ true → new.free ≡ held old.free (pair_of old slot) c s
   pub same : waits_for_room a.class ≡ false → new.keys ≡ slice_set old.keys slot None
   pub same_free : waits_for_room a.class ≡ false → new.free ≡ old.free
+  pub returned :
+      waits_for_room a.class ≡ true → (holds returns : List ℕ)
+      → HaveReturned old.pairs old.turned old.free holds returns
+      → HaveReturned new.pairs new.turned new.free (held_once_more holds (pair_of old slot)) returns
 
 -- an action of that class may give its operation the moment: a Begin its start and its end, a Post its start, a Data and a
 -- Serve its end
@@ -90,6 +96,7 @@ module _ (plans : List Plan) where
       pub put : new.keys ≡ slice_set old.keys slot key
       pub stations : new.stations ≡ old.stations
       pub pairs : new.pairs ≡ old.pairs
+      pub turned : new.turned ≡ old.turned
       pub free : new.free ≡ old.free
 
     -- after an action y is due where it is its operation, or its partner, but after a Serve, or needs the moment that it gives

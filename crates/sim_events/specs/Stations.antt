@@ -1,5 +1,6 @@
 -- What an operation waits for before it works: its cpu and, where it sends or receives, that side of its interface.
-use Rattle.std.specs.Prelude.{ℕ, ◌≡◌, ◌≤◌, ◌<◌, ◌+◌, ◌*◌, ◌&&◌, ◌==◌, ◌++◌, Bool, List, length, Option, Some, None, slice_get, slice_index}
+use Rattle.std.specs.Prelude.{ℕ, ◌≡◌, ◌≤◌, ◌<◌, ◌+◌, ◌*◌, ◌&&◌, ◌==◌, ◌++◌, Bool, List, [], ◌∷◌, length, Option, Some, None, slice_get, slice_index, if◌then◌else◌}
+use Rattle.std.specs.List.{fold, list_any}
 use Rattle.goal_graph.specs.declared.action.OpId.{OpId}
 use Rattle.goal_graph.specs.declared.plan.Kind.{Kind}
 use Rattle.goal_graph.specs.declared.plan.Kind.TheVariants.{Calc, Send, Recv}
@@ -100,10 +101,24 @@ pub record IsNumbering (stations resources : List Station) (pairs : List Pair) :
   pub sides : (n : ℕ) (s : Station) (p : Pair) → slice_get stations n ≡ Some s → slice_get pairs n ≡ Some p → slice_get resources p.side ≡ Some (side_alone s)
   pub of_stations : (rank : ℕ) → IsNotAfter stations rank → IsNotAfter resources rank
 
+-- the station of an operation
+abbrev pub station_as : OpId → Option Op → Station
+station_as x None = record { rank = x.rank; cpu = None; sends = None; receives = None }
+station_as x (Some o) = station_of x o
+
+-- one more station, unless it is there
+abbrev pub with_station : List Station → Station → List Station
+with_station stations s = if list_any (same_station s) stations then stations else stations ++ s ∷ []
+
+-- the stations of these operations, each once
+abbrev pub stations_among : List Plan → List OpId → List Station
+stations_among plans ops = fold (λ stations x. with_station stations (station_as x (op_at plans x))) [] ops
+
 -- Each operation has the number of its station, and each station one number.
 pub record AreStationed (plans : List Plan) (numbers : List ℕ) (pairs : List Pair) : Type 0 where
   pub stations : List Station
   pub resources : List Station
   pub numbering : IsNumbering stations resources pairs
+  pub listed : stations ≡ stations_among plans (operations plans)
   pub each : length numbers ≡ length (operations plans)
   pub are : (i : ℕ) (x : OpId) (o : Op) → slice_get (operations plans) i ≡ Some x → op_at plans x ≡ Some o → slice_get stations (slice_index numbers i) ≡ Some (station_of x o)

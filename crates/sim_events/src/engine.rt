@@ -1,9 +1,10 @@
 // The engine: what has happened so far, and what happens next.
-ghost use Rattle.std.specs.Prelude.{◌≡◌, ◌<◌, ◌≤◌, ◌^◌, ◌↔◌, List, [], ◌∷◌, IsTrue, IfSome, IfNone, IfOk, IfErr, OnOk, count_by, reverse};
+ghost use Rattle.std.specs.Prelude.{◌≡◌, ℕ, ◌<◌, ◌≤◌, ◌+◌, ◌*◌, ◌^◌, ◌↔◌, List, [], ◌∷◌, IsTrue, IfSome, IfNone, IfOk, IfErr, OnOk, count_by, length, reverse};
 ghost use Rattle.goal_graph.specs.declared.action.OpId.{OpId};
 ghost use Rattle.goal_graph.specs.declared.action.Timed.{Timed};
 ghost use Rattle.goal_graph.specs.Fault.{IsOp, IsAccepted};
 ghost use Rattle.goal_graph.specs.Action.{plain, same_op};
+ghost use Rattle.goal_graph.specs.Schedule.{operations};
 ghost use Rattle.goal_graph.specs.Interleaving.{IsCompleteInterleaving};
 ghost use Rattle.sim_params.specs.Costs.{is_eager};
 ghost use Rattle.sim_params.specs.Budget.{budget};
@@ -11,16 +12,17 @@ ghost use Rattle.sim_params.specs.Times.{mate};
 ghost use Rattle.sim_params.specs.Run.{IsNext, IsRun, IsFinished, IsCompleteRun};
 ghost use Rattle.sim_params.specs.Laws.{IsWithin};
 ghost use Rattle.sim_state.specs.Engine.{IsEngineFault, start_known, end_known};
+ghost use Rattle.sim_events.specs.Comparisons.{cost_of_start, cost_of_run};
 
 use crate::follow::is_empty;
 use crate::outlook::{Outlook, at_the_start, run_on, step_once};
 use goal_graph::{OpId, Sched, Timed};
-use sim_order::CompactKey;
+use sim_order::{CompactKey, Steps};
 use sim_params::Costs;
 use sim_state::{EngineFault, Record, State};
 use std::alloc::Global;
 use std::marker::{Brand, Model};
-use std::sync::ledger::Blank;
+use std::sync::ledger::{Blank, Ledger};
 
 /// Runs a schedule. Contracts see it as the plans of the schedule, the costs, and what has happened so far, newest
 /// first.
@@ -62,13 +64,52 @@ impl<'a, C: Costs + Drop> Engine<'a, C> {
         ensures fits { OnOk result (budget sched.now (C.model costs) < 2 ^ 63) }
         ensures fault { IfErr result (IsEngineFault (budget sched.now (C.model costs))) }
     {
+        new_by::<C, Brand>(alloc, Blank::new(1), sched, costs)
+    }
+
+    /// The same, with a counter of the comparisons of keys.
+    ///
+    /// - `counted`: among 2^k operations it compares 10k + 16 times at most for each.
+    pub fn new_counted<L: Ledger>(
+        alloc: Global,
+        sched: &'a Sched,
+        costs: C,
+        steps: &mut Steps<L>,
+    ) -> Result<Engine<'a, C>, EngineFault>
+        ensures plans { IfOk result (λ e. e.plans ≡ sched.now) }
+        ensures costs { IfOk result (λ e. e.costs ≡ costs) }
+        ensures empty { IfOk result (λ e. e.history ≡ []) }
+        ensures fits { OnOk result (budget sched.now (C.model costs) < 2 ^ 63) }
+        ensures fault { IfErr result (IsEngineFault (budget sched.now (C.model costs))) }
+        ensures counted { (k : ℕ) → length (operations sched.now) ≤ 2 ^ k → steps.new ≤ steps.old + cost_of_start k sched.now }
+    {
         let state = State::new(alloc, sched, costs)?;
-        let outlook = at_the_start::<C, Brand>(alloc, Blank::new(1), &state)?;
+        let outlook = at_the_start(alloc, &state, steps)?;
         Ok(Engine {
             state,
             outlook: Some(outlook),
         })
     }
+}
+
+// An engine before its first step, with a counter of its own.
+fn new_by<'a, C: Costs + Drop, L: Ledger>(
+    alloc: Global,
+    blank: Blank,
+    sched: &'a Sched,
+    costs: C,
+) -> Result<Engine<'a, C>, EngineFault>
+    requires name { blank.name ≡ L.name }
+    requires parts { blank.parts ≡ L.parts }
+    requires some { 0 < blank.parts }
+    ensures plans { IfOk result (λ e. e.plans ≡ sched.now) }
+    ensures costs { IfOk result (λ e. e.costs ≡ costs) }
+    ensures empty { IfOk result (λ e. e.history ≡ []) }
+    ensures fits { OnOk result (budget sched.now (C.model costs) < 2 ^ 63) }
+    ensures fault { IfErr result (IsEngineFault (budget sched.now (C.model costs))) }
+{
+    let mut steps = Steps::<L>::new(blank);
+    Engine::new_counted(alloc, sched, costs, &mut steps)
 }
 
 impl<'a, C: Costs> Engine<'a, C> {
@@ -110,17 +151,45 @@ impl<'a, C: Costs> Engine<'a, C> {
         ensures times { IsWithin self.new.plans (C.model self.new.costs) self.new.history (budget self.new.plans (C.model self.new.costs)) }
         ensures interleaving { IsCompleteInterleaving self.new.plans (is_eager self.new.plans (C.model self.new.costs)) (plain self.new.history) }
     {
+        self.run_by::<Brand, Brand>(Blank::new(1), Blank::new(1));
+    }
+
+    /// The same, with a counter of the comparisons of keys and one of the entries at which the matcher looks. What `run` says
+    /// besides follows from `complete`.
+    ///
+    /// - `counted`: among 2^k operations it compares 18k + 29 times at most for each action that has happened then, and 8k + 15
+    ///   times for each change of place of a station, of which there are at most `most_moves`.
+    /// - `looked`: the matcher looks at eight entries at most for each action.
+    pub fn run_counted<L: Ledger, M: Ledger>(&mut self, steps: &mut Steps<L>, looks: &mut Steps<M>)
+        ensures plans { self.new.plans ≡ self.old.plans }
+        ensures costs { self.new.costs ≡ self.old.costs }
+        ensures complete { IsCompleteRun self.new.plans (C.model self.new.costs) self.new.history }
+        ensures only { (h : List Timed) → IsCompleteRun self.new.plans (C.model self.new.costs) h → h ≡ self.new.history }
+        ensures counted { (k : ℕ) → length (operations self.old.plans) ≤ 2 ^ k → steps.new ≤ steps.old + cost_of_run k self.new.plans self.new.history }
+        ensures looked { looks.new ≤ looks.old + 8 * length self.new.history }
+    {
         self.known();
         if let Some(outlook) = &mut self.outlook {
-            run_on::<C, Brand, Brand, Brand>(
-                &mut self.state,
-                outlook,
-                Blank::new(1),
-                Blank::new(1),
-                Blank::new(1),
-            );
+            run_on::<C, L, Brand, M>(&mut self.state, outlook, Blank::new(1), steps, looks);
         }
         self.outlook = None;
+    }
+
+    // Lets all that is possible happen, with counters of its own.
+    fn run_by<L: Ledger, M: Ledger>(&mut self, blank: Blank, for_looks: Blank)
+        requires name { blank.name ≡ L.name }
+        requires parts { blank.parts ≡ L.parts }
+        requires some { 0 < blank.parts }
+        requires looks_name { for_looks.name ≡ M.name }
+        requires looks_parts { for_looks.parts ≡ M.parts }
+        requires looks_some { 0 < for_looks.parts }
+        ensures plans { self.new.plans ≡ self.old.plans }
+        ensures costs { self.new.costs ≡ self.old.costs }
+        ensures complete { IsCompleteRun self.new.plans (C.model self.new.costs) self.new.history }
+    {
+        let mut steps = Steps::<L>::new(blank);
+        let mut looks = Steps::<M>::new(for_looks);
+        self.run_counted(&mut steps, &mut looks);
     }
 
     /// Whether nothing is possible.

@@ -10,6 +10,7 @@ ghost use Rattle.sim_stations.specs.Stations.{waits_for_room, pair_of, IsLater, 
 ghost use Rattle.sim_state.specs.Cursors.{AreCursors};
 ghost use Rattle.sim_state.specs.Free.{side};
 ghost use Rattle.sim_events.specs.Comparisons.{spent};
+ghost use Rattle.sim_events.specs.Changes.{AreAtPlaces, HaveChanged, HaveChangedOn};
 ghost use Rattle.sim_events.specs.Queue.{IsOfSchedule, IsQueue, IsQueueBut, HasPossibleKeys, IsRefreshed, IsSettledBy, IsDueAfter, Awaits, gives};
 
 use goal_graph::{Class, OpId, Timed, When};
@@ -34,6 +35,7 @@ pub fn fill<C: Costs, L: Ledger>(
     requires cursors { AreCursors state.now.plans (C.model state.now.costs) state.now.history cursors.old }
     ensures queue { IsQueue state.now.plans (C.model state.now.costs) state.now.history queue.new }
     ensures cursors { AreCursors state.now.plans (C.model state.now.costs) state.now.history cursors.new }
+    ensures placed { AreAtPlaces queue.old queue.new }
     ensures counted { (k : ℕ) → length queue.old.keys ≤ 2 ^ k → steps.new + cost_of_waiting k queue.new.stands ≤ steps.old + cost_of_waiting k queue.old.stands + spent k queue.new }
 {
     for id in state.sched().operations() {
@@ -58,6 +60,7 @@ pub fn next<C: Costs, L: Ledger, R: Ledger>(
     ensures none { IsNone result → IsFinished state.now.plans (C.model state.now.costs) state.now.history }
     ensures counted { (k : ℕ) → length queue.old.keys ≤ 2 ^ k
         → steps.new + cost_of_waiting k queue.new.stands + cost_of_moves k moves.old ≤ steps.old + cost_of_waiting k queue.old.stands + cost_of_moves k moves.new + 3 }
+    ensures moved { (all : ℕ) → HaveChanged state.now.plans state.now.history queue.old all → HaveChangedOn state.now.plans state.now.history queue.new all moves.old moves.new }
 {
     state.known();
     let (slot, key) = queue.least(state.sched(), steps, moves)?;
@@ -108,6 +111,7 @@ pub fn follow<C: Costs, L: Ledger>(
     requires cursors { AreCursors state.now.plans (C.model state.now.costs) state.now.history cursors.old }
     ensures queue { IsQueue state.now.plans (C.model state.now.costs) state.now.history queue.new }
     ensures cursors { AreCursors state.now.plans (C.model state.now.costs) state.now.history cursors.new }
+    ensures placed { AreAtPlaces queue.old queue.new }
     ensures counted { (k : ℕ) → length queue.old.keys ≤ 2 ^ k → steps.new + cost_of_waiting k queue.new.stands + spent k queue.old ≤ steps.old + cost_of_waiting k queue.old.stands + spent k queue.new }
 {
     refresh(state, queue, cursors, action.op, steps);
@@ -128,6 +132,7 @@ fn follow_partner<C: Costs, L: Ledger>(
     requires cursors { AreCursors state.now.plans (C.model state.now.costs) state.now.history cursors.old }
     ensures queue { IsQueueBut state.now.plans (C.model state.now.costs) state.now.history (Awaits state.now.plans action.class action.op) queue.new }
     ensures cursors { AreCursors state.now.plans (C.model state.now.costs) state.now.history cursors.new }
+    ensures placed { AreAtPlaces queue.old queue.new }
     ensures counted { (k : ℕ) → length queue.old.keys ≤ 2 ^ k → steps.new + cost_of_waiting k queue.new.stands + spent k queue.old ≤ steps.old + cost_of_waiting k queue.old.stands + spent k queue.new }
 {
     if let Class::Serve = action.class {
@@ -164,6 +169,7 @@ fn follow_waiting<C: Costs, L: Ledger>(
     requires cursors { AreCursors state.now.plans (C.model state.now.costs) state.now.history cursors.old }
     ensures queue { IsQueue state.now.plans (C.model state.now.costs) state.now.history queue.new }
     ensures cursors { AreCursors state.now.plans (C.model state.now.costs) state.now.history cursors.new }
+    ensures placed { AreAtPlaces queue.old queue.new }
     ensures counted { (k : ℕ) → length queue.old.keys ≤ 2 ^ k → steps.new + cost_of_waiting k queue.new.stands + spent k queue.old ≤ steps.old + cost_of_waiting k queue.old.stands + spent k queue.new }
 {
     if let Class::Arrive = action.class {
@@ -194,6 +200,7 @@ fn refresh<C: Costs, L: Ledger>(
     requires cursors { AreCursors state.now.plans (C.model state.now.costs) state.now.history cursors.old }
     ensures queue { IsRefreshed state.now.plans (C.model state.now.costs) state.now.history id queue.old queue.new }
     ensures cursors { AreCursors state.now.plans (C.model state.now.costs) state.now.history cursors.new }
+    ensures placed { AreAtPlaces queue.old queue.new }
     ensures counted { (k : ℕ) → length queue.old.keys ≤ 2 ^ k → steps.new + cost_of_waiting k queue.new.stands + spent k queue.old ≤ steps.old + cost_of_waiting k queue.old.stands + spent k queue.new }
 {
     let slot = state.sched().index(id);

@@ -6,8 +6,10 @@ ghost use Rattle.sim_params.specs.Run.{IsRun, IsCompleteRun};
 ghost use Rattle.sim_heaps.specs.Map.{IsEmptyMap};
 ghost use Rattle.sim_stations.specs.Stations.{cost_of_waiting};
 ghost use Rattle.sim_state.specs.Cursors.{AreCursors};
-ghost use Rattle.sim_events.specs.Queue.{IsOfSchedule, IsQueue};
-ghost use Rattle.sim_events.specs.Comparisons.{spent, cost_of_actions, count_of, last_look};
+ghost use Rattle.sim_events.specs.Queue.{IsOfSchedule};
+ghost use Rattle.sim_events.specs.Comparisons.{spent, cost_of_actions, cost_of_start, cost_of_run, count_of, last_look};
+ghost use Rattle.sim_events.specs.Moves.{most_moves};
+ghost use Rattle.sim_events.specs.Changes.{HaveChanged, HaveChangedOn};
 ghost use Rattle.sim_events.specs.Outlook.{IsOutlookOf, IsStepped};
 
 use crate::follow::{Queue, fill, follow, next, settle};
@@ -33,6 +35,7 @@ pub struct Outlook {
 fn queue_of(alloc: Global, sched: &Sched) -> Result<Queue, NoMemory>
     ensures of_it { IfOk result (λ q. (costs : CostModel) → IsOfSchedule sched.now costs [] q) }
     ensures empty { IfOk result (λ q. IsEmptyMap q.keys) }
+    ensures changed { IfOk result (λ q. (all : ℕ) × HaveChanged sched.now [] q all) }
 {
     let stations = number_stations(alloc, sched)?;
     Queue::new(
@@ -47,6 +50,7 @@ fn queue_of(alloc: Global, sched: &Sched) -> Result<Queue, NoMemory>
 fn blank(alloc: Global, sched: &Sched) -> Result<Outlook, NoMemory>
     ensures of_it { IfOk result (λ o. (costs : CostModel) → IsOfSchedule sched.now costs [] o.queue) }
     ensures empty { IfOk result (λ o. IsEmptyMap o.queue.keys) }
+    ensures changed { IfOk result (λ o. (all : ℕ) × HaveChanged sched.now [] o.queue all) }
     ensures cursors { IfOk result (λ o. (costs : CostModel) → AreCursors sched.now costs [] o.cursors.items) }
 {
     let queue = queue_of(alloc, sched)?;
@@ -54,20 +58,19 @@ fn blank(alloc: Global, sched: &Sched) -> Result<Outlook, NoMemory>
     Ok(Outlook { queue, cursors })
 }
 
-/// What may come before the first action.
+/// What may come before the first action. Among 2^k operations it compares 10k + 16 times at most for each.
 pub fn at_the_start<C: Costs, L: Ledger>(
     alloc: Global,
-    counter: Blank,
     state: &State<C>,
+    steps: &mut Steps<L>,
 ) -> Result<Outlook, NoMemory>
-    requires name { counter.name ≡ L.name }
-    requires parts { counter.parts ≡ L.parts }
-    requires some { 0 < counter.parts }
     requires empty { state.now.history ≡ [] }
-    ensures { IfOk result (IsOutlookOf C.model state.now) }
+    ensures outlook { IfOk result (IsOutlookOf C.model state.now) }
+    ensures counted { (k : ℕ) → length (operations state.now.plans) ≤ 2 ^ k → steps.new ≤ steps.old + cost_of_start k state.now.plans }
 {
     let mut outlook = blank(alloc, state.sched())?;
-    fill_once::<C, L>(counter, state, &mut outlook.queue, &mut outlook.cursors);
+    outlook.queue.known();
+    fill(state, &mut outlook.queue, &mut outlook.cursors, steps);
     Ok(outlook)
 }
 
@@ -85,6 +88,7 @@ fn step<C: Costs, L: Ledger, R: Ledger, M: Ledger>(
     ensures run { IsRun state.new.plans (C.model state.new.costs) state.new.history }
     ensures counted { (k : ℕ) → length (operations state.old.plans) ≤ 2 ^ k
         → steps.new + cost_of_waiting k outlook.new.queue.stands + spent k outlook.old.queue + cost_of_actions k 0 moves.old ≤ steps.old + cost_of_waiting k outlook.old.queue.stands + spent k outlook.new.queue + cost_of_actions k (count_of result) moves.new + last_look result }
+    ensures moved { (all : ℕ) → HaveChanged state.old.plans state.old.history outlook.old.queue all → HaveChangedOn state.new.plans state.new.history outlook.new.queue all moves.old moves.new }
     ensures looked { looks.new ≤ looks.old + 8 * count_of result }
 {
     state.known();
@@ -117,29 +121,10 @@ fn run<C: Costs, L: Ledger, R: Ledger, M: Ledger>(
     ensures complete { IsCompleteRun state.new.plans (C.model state.new.costs) state.new.history }
     ensures counted { (k : ℕ) → length (operations state.old.plans) ≤ 2 ^ k
         → steps.new + spent k outlook.old.queue + cost_of_actions k (length state.old.history) moves.old ≤ steps.old + cost_of_waiting k outlook.old.queue.stands + cost_of_actions k (length state.new.history) moves.new + 3 }
+    ensures moved { moves.new ≤ moves.old + most_moves state.new.plans state.new.history }
     ensures looked { looks.new + 8 * length state.old.history ≤ looks.old + 8 * length state.new.history }
 {
     'steps: while step(state, outlook, steps, moves, looks).is_some() {}
-}
-
-// Gives each operation its key, where none has one yet.
-fn fill_once<C: Costs, L: Ledger>(
-    blank: Blank,
-    state: &State<C>,
-    queue: &mut Queue,
-    cursors: &mut [Cursor],
-)
-    requires name { blank.name ≡ L.name }
-    requires parts { blank.parts ≡ L.parts }
-    requires some { 0 < blank.parts }
-    requires of_it { IsOfSchedule state.now.plans (C.model state.now.costs) state.now.history queue.old }
-    requires empty { IsEmptyMap queue.old.keys }
-    requires cursors { AreCursors state.now.plans (C.model state.now.costs) state.now.history cursors.old }
-    ensures queue { IsQueue state.now.plans (C.model state.now.costs) state.now.history queue.new }
-    ensures cursors { AreCursors state.now.plans (C.model state.now.costs) state.now.history cursors.new }
-{
-    let mut steps = Steps::<L>::new(blank);
-    fill(state, queue, cursors, &mut steps);
 }
 
 /// Lets the next action happen and answers it: the possible one of the least key. Where nothing is possible it answers
@@ -170,30 +155,26 @@ pub fn step_once<C: Costs, L: Ledger, R: Ledger, M: Ledger>(
     step(state, outlook, &mut steps, &mut moves, &mut looks)
 }
 
-/// Lets all that is possible happen, until nothing is.
+/// Lets all that is possible happen, until nothing is. What it compares, and what the matcher looks at, is bounded by what has
+/// happened then.
 pub fn run_on<C: Costs, L: Ledger, R: Ledger, M: Ledger>(
     state: &mut State<C>,
     outlook: &mut Outlook,
-    blank: Blank,
     for_moves: Blank,
-    for_looks: Blank,
+    steps: &mut Steps<L>,
+    looks: &mut Steps<M>,
 )
-    requires name { blank.name ≡ L.name }
-    requires parts { blank.parts ≡ L.parts }
-    requires some { 0 < blank.parts }
     requires moves_name { for_moves.name ≡ R.name }
     requires moves_parts { for_moves.parts ≡ R.parts }
     requires moves_some { 0 < for_moves.parts }
-    requires looks_name { for_looks.name ≡ M.name }
-    requires looks_parts { for_looks.parts ≡ M.parts }
-    requires looks_some { 0 < for_looks.parts }
     requires outlook { IsOutlookOf C.model state.old outlook.old }
     ensures plans { state.new.plans ≡ state.old.plans }
     ensures costs { state.new.costs ≡ state.old.costs }
     ensures complete { IsCompleteRun state.new.plans (C.model state.new.costs) state.new.history }
+    ensures counted { (k : ℕ) → length (operations state.old.plans) ≤ 2 ^ k → steps.new ≤ steps.old + cost_of_run k state.new.plans state.new.history }
+    ensures looked { looks.new ≤ looks.old + 8 * length state.new.history }
 {
-    let mut steps = Steps::<L>::new(blank);
+    outlook.queue.known();
     let mut moves = Steps::<R>::new(for_moves);
-    let mut looks = Steps::<M>::new(for_looks);
-    run(state, outlook, &mut steps, &mut moves, &mut looks);
+    run(state, outlook, steps, &mut moves, looks);
 }

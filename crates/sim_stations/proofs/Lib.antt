@@ -14,3 +14,4 @@ pub mod Settling
 pub mod Listed
 pub mod Changed
 pub mod QueueNew
+pub mod ForCallers

@@ -1,5 +1,5 @@
 // A queue whose slots wait with their stations.
-ghost use Rattle.std.specs.Prelude.{◌≡◌, ◌≢◌, ◌⊎◌, ◌+◌, ◌*◌, ◌^◌, ◌<◌, ◌≤◌, ◌↔◌, ℕ, All, IfOk, IfSome, IsNone, IsTrue, List, Some, None, false, true, is_some, length, max, replicate, slice_get, slice_index, slice_set};
+ghost use Rattle.std.specs.Prelude.{◌≡◌, ◌≢◌, ◌⊎◌, ◌+◌, ◌*◌, ◌^◌, ◌<◌, ◌≤◌, ◌↔◌, ℕ, All, IfOk, IfSome, IsNone, IsTrue, List, Some, None, count_by, false, true, is_some, length, max, replicate, slice_get, slice_index, slice_set};
 ghost use Rattle.std.specs.Option.{option_map};
 ghost use Rattle.goal_base.specs.declared.limits.TheConstants.{MAX_OPS};
 ghost use Rattle.goal_graph.specs.Schedule.{operations};
@@ -368,6 +368,13 @@ impl StationQueue {
             stands: vec![in alloc; Stand::Nowhere; numbers.len()]?,
             found: None,
         })
+    }
+
+    /// What holds of every queue: no more keys stand for themselves than there are.
+    pub fn known(&self)
+        ensures { count_ahead self.now.stands ≤ count_by is_some self.now.keys }
+    {
+        let _found = &self.found;
     }
 
     /// Whether a slot has a key.

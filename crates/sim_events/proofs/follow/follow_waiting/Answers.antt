@@ -7,6 +7,7 @@ use Rattle.goal_graph.specs.Schedule.{Plan, needed, waiting_on}
 use Rattle.goal_graph.specs.Fault.{IsOp}
 use Rattle.sim_events.specs.Queue.{gives}
 use Rattle.sim_events.proofs.Awaited.{await_rest, await_skipped, await_none}
+use Rattle.sim_events.proofs.Changes.{placed_again}
 use Rattle.sim_events.proofs.Queue.{possible_keys, refreshed, fewer_due}
 use Rattle.sim_events.proofs.follow.follow_waiting.Goals as goal
 
@@ -29,7 +30,7 @@ loop-need-preserved g c =
     let items = c.waiting_on-need-items.ensures.waiting_on ∙ ap (λ (ps : List Plan). waiting_on ps id) c.sched.ensures in
     let k = c.loop-need.need-index in
     let within = subst (λ (ds : List Need). k < length ds) items c.loop-need-test.true in
-    (refreshed plans _ _ _ _ _ _ _ c.loop-need.invariant.0 c.refresh.ensures.queue (λ y is n differ. await_rest (waiting_on plans id) k none c.args.action.class id y within n (λ e. differ (e ∙ ap (λ (ds : List Need). needed id (get_or ds k none)) (sym items)))), c.refresh.ensures.cursors, λ k few. let same = c.loop-need.invariant.0.of_it.each in let first = c.requires.rest.of_it.each in omega (arith, c.loop-need.invariant.2 k few, c.refresh.ensures.counted k (omega (arith, few, same, first))))
+    (refreshed plans _ _ _ _ _ _ _ c.loop-need.invariant.0 c.refresh.ensures.queue (λ y is n differ. await_rest (waiting_on plans id) k none c.args.action.class id y within n (λ e. differ (e ∙ ap (λ (ds : List Need). needed id (get_or ds k none)) (sym items)))), c.refresh.ensures.cursors, λ k few. let same = c.loop-need.invariant.0.of_it.each in let first = c.requires.rest.of_it.each in omega (arith, c.loop-need.invariant.2 k few, c.refresh.ensures.counted k (omega (arith, few, same, first))), placed_again c.args.queue.now _ _ c.loop-need.invariant.3 c.refresh.ensures.placed)
 
 pub loop-need-preserved-then-not-gives : goal.loop-need-preserved-then-not-gives
 loop-need-preserved-then-not-gives g c =
@@ -39,7 +40,7 @@ loop-need-preserved-then-not-gives g c =
     let k = c.loop-need.need-index in
     let within = subst (λ (ds : List Need). k < length ds) items c.loop-need-test.true in
     let other = ap (λ (ds : List Need). gives c.args.action.class (get_or ds k none).when) (sym items) ∙ sym c.gives.ensures ∙ c.if-not-gives.true in
-    (fewer_due plans _ _ _ _ _ c.loop-need.invariant.0 (λ y is n. await_skipped (waiting_on plans id) k none c.args.action.class id y within other n), c.loop-need.invariant.1, c.loop-need.invariant.2)
+    (fewer_due plans _ _ _ _ _ c.loop-need.invariant.0 (λ y is n. await_skipped (waiting_on plans id) k none c.args.action.class id y within other n), c.loop-need.invariant.1, c.loop-need.invariant.2, c.loop-need.invariant.3)
 
 -- an Arrive gives nothing
 pub returns-in-Arrive-clause-queue : goal.returns-in-Arrive-clause-queue

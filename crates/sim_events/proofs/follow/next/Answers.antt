@@ -2,6 +2,7 @@ use Rattle.std.proofs.Common.{Some, is_some, sym, ap, ◌∙◌, subst}
 use Rattle.goal_graph.specs.declared.action.Timed.{Timed}
 use Rattle.sim_heaps.specs.Map.{key_at, IsLeast}
 use Rattle.sim_order.specs.Events.{event_before}
+use Rattle.sim_events.proofs.Changes.{changed_moved}
 use Rattle.sim_events.proofs.Queue.{of_slots, same_queue, finished, least_next, key_found}
 use Rattle.sim_events.proofs.follow.next.Goals as goal
 
@@ -31,3 +32,11 @@ returns-clause-slot g c =
 pub returns-clause-key : goal.returns-clause-key
 returns-clause-key g c =
     ap (λ ks. key_at ks c.in_ok-slot.slot) c.least.ensures.keys ∙ c.in_ok-slot.ensures.least.has ∙ ap Some (λ i. record { time = sym c.time.ensures i; class = sym c.class.ensures i; op = sym c.id.ensures i })
+
+pub returns-in_err-slot-clause-moved : goal.returns-in_err-slot-clause-moved
+returns-in_err-slot-clause-moved g c =
+    λ all changed. changed_moved _ _ c.args.queue.now c.least.new.self all changed _ _ c.least.ensures.stations c.least.ensures.pairs c.least.ensures.free c.least.ensures.moved
+
+pub returns-clause-moved : goal.returns-clause-moved
+returns-clause-moved g c =
+    λ all changed. changed_moved _ _ c.args.queue.now c.least.new.self all changed _ _ c.least.ensures.stations c.least.ensures.pairs c.least.ensures.free c.least.ensures.moved

@@ -30,7 +30,7 @@ returns-then-has-clause-queue g c =
 
 pub returns-in-Some-clause-queue : goal.returns-in-Some-clause-queue
 returns-in-Some-clause-queue g c =
-    put_enabled _ _ _ c.args.id _ c.index-slot.result _ c.in-Some.action _ c.args.queue.now _ c.requires.possible c.sched.ensures c.index-slot.ensures.index c.choice_from.ensures.enabled c.in-Some.is c.compact.ensures c.put.ensures.put c.put.ensures.stations c.put.ensures.pairs c.put.ensures.free
+    put_enabled _ _ _ c.args.id _ c.index-slot.result _ c.in-Some.action _ c.args.queue.now _ c.requires.possible c.sched.ensures c.index-slot.ensures.index c.choice_from.ensures.enabled c.in-Some.is c.compact.ensures c.put.ensures.put c.put.ensures.stations c.put.ensures.pairs c.put.ensures.turned c.put.ensures.free
 
 pub returns-in_default-clause-queue : goal.returns-in_default-clause-queue
 returns-in_default-clause-queue g c =

@@ -1,5 +1,6 @@
 use Rattle.std.proofs.Common.{◌*◌, ◌+◌, length, sym, ap, ◌∙◌, arith}
 use Rattle.goal_graph.specs.Schedule.{operations}
+use Rattle.sim_events.proofs.Changes.{changed_most}
 use Rattle.sim_events.proofs.Costs.{spent_none}
 use Rattle.sim_events.proofs.Queue.{empty_from}
 use Rattle.sim_events.proofs.Runs.{stepped_plans, stepped_costs, stepped_length, stepped_last, fewer_left, none_counted, some_look, look_most}
@@ -16,7 +17,11 @@ steps-preserved g c =
       λ k few.
           let step = c.step.ensures.counted k (omega (arith, few, ap (λ ps. length (operations ps)) c.steps.invariant.1)) in
           omega (arith, c.steps.invariant.3 k few, step, ap (λ n. n * (18 * k + 29)) more, some_look c.step.result (sym c.is_some.ensures ∙ c.steps-test.true)),
-      omega (arith, c.steps.invariant.4, c.step.ensures.looked, more),
+      λ all changed.
+          let so_far = c.steps.invariant.4 all changed in
+          let now = c.step.ensures.moved so_far.now so_far.changed in
+          record { now = now.now; changed = now.changed; counted = omega (arith, so_far.counted, now.counted) },
+      omega (arith, c.steps.invariant.5, c.step.ensures.looked, more),
     )
 
 pub steps-smaller : goal.steps-smaller
@@ -52,4 +57,12 @@ returns-clause-counted g c =
 pub returns-clause-looked : goal.returns-clause-looked
 returns-clause-looked g c =
     let more = stepped_length g.C.Costs.model _ _ c.step.result c.step.ensures.stepped in
-    omega (arith, c.steps.invariant.4, c.step.ensures.looked, more)
+    omega (arith, c.steps.invariant.5, c.step.ensures.looked, more)
+
+pub returns-clause-moved : goal.returns-clause-moved
+returns-clause-moved g c =
+    let first = c.requires.outlook.2 in
+    let so_far = c.steps.invariant.4 first.0 first.1 in
+    let now = c.step.ensures.moved so_far.now so_far.changed in
+    let most = changed_most c.step.new.state.plans (g.C.Costs.model c.step.new.state.costs) c.step.new.state.history c.step.new.outlook.queue c.step.ensures.outlook.0.of_it.stationed now.now now.changed in
+    omega (arith, so_far.counted, now.counted, most)

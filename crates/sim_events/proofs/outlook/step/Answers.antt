@@ -1,12 +1,14 @@
-use Rattle.std.proofs.Common.{◌<◌, length, sym, ap, subst, arith}
+use Rattle.std.proofs.Common.{◌<◌, ◌∙◌, length, sym, ap, subst, arith}
 use Rattle.std.proofs.lemmas.Option.{slice_get_within}
 use Rattle.goal_graph.specs.Schedule.{operations}
 use Rattle.sim_state.specs.Cursors.{AreCursors}
 use Rattle.sim_events.specs.Comparisons.{count_of, last_look}
 use Rattle.sim_events.proofs.Costs.{spent_same}
+use Rattle.goal_graph.proofs.ForCallers.{whole_back}
 use Rattle.sim_events.proofs.Cursors.{cursors_after}
 use Rattle.sim_events.proofs.Settled.{spent_settled}
-use Rattle.sim_events.proofs.Steps.{op_after, due_after, later_after}
+use Rattle.sim_events.proofs.Changes.{changed_placed}
+use Rattle.sim_events.proofs.Steps.{op_after, due_after, later_after, changed_after}
 use Rattle.sim_events.proofs.outlook.step.Goals as goal
 
 pub returns-in_err-slot-clause-counted : goal.returns-in_err-slot-clause-counted
@@ -50,3 +52,26 @@ returns-clause-counted g c =
     let follow = c.follow.ensures.counted k (omega (arith, few, found, settled.each)) in
     let gone = spent_settled k _ _ c.in_ok-slot.slot c.in_ok-slot.action c.next.new.queue c.settle.new.queue settled c.in_ok-slot.ensures.key within in
     omega (arith, next, settle, follow, gone, spent_same k c.args.outlook.now.queue c.next.new.queue c.next.ensures.keys)
+
+pub returns-clause-outlook : goal.returns-clause-outlook
+returns-clause-outlook g c =
+    let first = c.requires.outlook.2 in
+    let found = c.next.ensures.moved first.0 first.1 in
+    let settled = changed_after g.C.Costs.model c.args.state.now c.perform.new.self c.in_ok-slot.action c.next.new.queue c.settle.new.queue c.in_ok-slot.slot c.perform.ensures.performed c.in_ok-slot.ensures.queue c.in_ok-slot.ensures.slot c.settle.ensures.settled found.now found.changed in
+    let state = c.perform.new.self in
+    let cursors = c.args.outlook.now.cursors in
+    let whole = whole_back cursors.len c.follow.new.cursors cursors.items (c.follow.auto.cursors ∙ ap length c.deref_mut.ensures.value) cursors.ok.0 in
+    (c.follow.ensures.queue, subst (AreCursors state.plans (g.C.Costs.model state.costs) state.history) (sym whole) c.follow.ensures.cursors, (found.now, changed_placed _ _ _ c.follow.new.queue found.now settled c.follow.ensures.placed))
+
+pub returns-clause-moved : goal.returns-clause-moved
+returns-clause-moved g c =
+    λ all changed.
+    let found = c.next.ensures.moved all changed in
+    let settled = changed_after g.C.Costs.model c.args.state.now c.perform.new.self c.in_ok-slot.action c.next.new.queue c.settle.new.queue c.in_ok-slot.slot c.perform.ensures.performed c.in_ok-slot.ensures.queue c.in_ok-slot.ensures.slot c.settle.ensures.settled found.now found.changed in
+    record { now = found.now; changed = changed_placed _ _ _ c.follow.new.queue found.now settled c.follow.ensures.placed; counted = found.counted }
+
+pub returns-in_err-slot-clause-outlook : goal.returns-in_err-slot-clause-outlook
+returns-in_err-slot-clause-outlook g c =
+    let first = c.requires.outlook.2 in
+    let found = c.next.ensures.moved first.0 first.1 in
+    (c.next.ensures.queue, c.requires.outlook.1, (found.now, found.changed))

@@ -1,39 +1,18 @@
-use Rattle.std.proofs.Common.{sym, ap, subst}
 use Rattle.goal_graph.proofs.ForCallers.{at_most_three}
 use Rattle.sim_params.specs.Costs.{is_eager}
-use Rattle.sim_params.specs.Run.{IsRun, IsCompleteRun}
 use Rattle.sim_params.proofs.ForCallers.{within_budget, run_each, run_interleaving, complete_interleaving, one_complete}
-use Rattle.sim_events.specs.declared.engine.Engine.TheInside.{Inside}
-use Rattle.sim_state.specs.Engine.{View}
-use Rattle.sim_events.specs.Outlook.{IsOutlook}
-use Rattle.sim_events.proofs.engine.Engine.run.Given.{Over}
-use Rattle.sim_events.proofs.engine.Engine.run.Goals.{Joined-self-2, in-Some, in_default}
 use Rattle.sim_events.proofs.engine.Engine.run.Goals as goal
 
--- without its outlook the engine has the run that it had with it
-complete : (g : Over) (c : Joined-self-2 g) → IsCompleteRun c.match-self.self-inside.state.plans (g.C.Costs.model c.match-self.self-inside.state.costs) c.match-self.self-inside.state.history
-complete g c =
-    let model = g.C.Costs.model in
-    elim c.match-self.branch [
-      | in-Some w ↦ subst (λ (v : View _). IsCompleteRun v.plans (model v.costs) v.history) (sym (ap (λ (e : Inside _). e.state) w.self-inside-is)) w.run_on.ensures.complete
-      | in_default w ↦
-          let state = c.self.inside.state in
-          subst (λ (v : View _). IsCompleteRun v.plans (model v.costs) v.history) (sym (ap (λ (e : Inside _). e.state) w.self-inside-is)) (record {
-            run = subst (λ (v : View _). IsRun v.plans (model v.costs) v.history) (sym c.self.view_is) c.known.ensures.run;
-            finished = subst (IsOutlook state.plans (model state.costs) state.history) w.in_default.is c.self.invariant;
-          })
-    ]
-
 pub returns-clause-only : goal.returns-clause-only
-returns-clause-only g c = λ h other. one_complete _ _ h _ other (complete g c)
+returns-clause-only g c = λ h other. one_complete _ _ h _ other c.run_by.ensures.complete
 
 pub returns-clause-three_each : goal.returns-clause-three_each
 returns-clause-three_each g c =
-    let state = c.match-self.self-inside.state in
-    λ x. at_most_three _ (is_eager state.plans (g.C.Costs.model state.costs)) _ x (run_interleaving _ _ _ (complete g c).run)
+    let now = c.run_by.new.self in
+    λ x. at_most_three _ (is_eager now.plans (g.C.Costs.model now.costs)) _ x (run_interleaving _ _ _ c.run_by.ensures.complete.run)
 
 pub returns-clause-times : goal.returns-clause-times
-returns-clause-times g c = within_budget _ _ _ (run_each _ _ _ (complete g c).run)
+returns-clause-times g c = within_budget _ _ _ (run_each _ _ _ c.run_by.ensures.complete.run)
 
 pub returns-clause-interleaving : goal.returns-clause-interleaving
-returns-clause-interleaving g c = complete_interleaving _ _ _ (complete g c)
+returns-clause-interleaving g c = complete_interleaving _ _ _ c.run_by.ensures.complete
