@@ -13,4 +13,5 @@ pub mod Placing
 pub mod Numbering
 pub mod Costs
 pub mod Changes
+pub mod Shared
 pub mod ForCallers

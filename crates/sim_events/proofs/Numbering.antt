@@ -119,7 +119,7 @@ any_found test (x ∷ xs) e = elim (or_cases (test x) (list_any test xs) e) [
   | inr later ↦ (let rest = any_found test xs later in (suc rest.0, rest.1, rest.2, rest.3))
 ]
 
-any_there : (test : Station → Bool) (xs : List Station) (i : ℕ) (x : Station) → slice_get xs i ≡ Some x → test x ≡ true → list_any test xs ≡ true
+pub any_there : (test : Station → Bool) (xs : List Station) (i : ℕ) (x : Station) → slice_get xs i ≡ Some x → test x ≡ true → list_any test xs ≡ true
 any_there test xs i x at e =
     list_any_at test xs i x (slice_get_within xs i x at) (ap test (get_or_from_slice_get xs i x x at) ∙ e)
 

@@ -6,6 +6,8 @@ pub mod Comparisons
 pub mod Queue
 pub mod Changes
 pub mod Outlook
+-- Laws.
+pub mod Laws
 -- What the clauses cite of lower crates.
 pub use Rattle.goal_graph.specs.Action
 pub use Rattle.goal_graph.specs.Fault

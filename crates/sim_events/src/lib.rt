@@ -3,10 +3,12 @@
 
 mod engine;
 mod follow;
+mod laws;
 mod outlook;
 mod station;
 
 pub use engine::Engine;
+pub use laws::laws_of_costs;
 pub use sim_state::{EngineFault, Record};
 
 #[cfg(test)]

@@ -1,0 +1,30 @@
+-- How much a run costs where what it shares is of one kind.
+use Rattle.std.specs.Prelude.{ℕ, ◌≡◌, ◌⊎◌, ◌≤◌, ◌+◌, ◌*◌, List, Some, length}
+use Rattle.goal_graph.specs.declared.action.OpId.{OpId}
+use Rattle.goal_graph.specs.declared.action.Timed.{Timed}
+use Rattle.goal_graph.specs.declared.plan.Op.{Op}
+use Rattle.goal_graph.specs.Schedule.{Plan, op_at, operations}
+use Rattle.sim_params.specs.Costs.{CostModel}
+use Rattle.sim_params.specs.Run.{IsRun}
+use Rattle.sim_events.specs.Moves.{most_moves}
+use Rattle.sim_events.specs.Comparisons.{cost_of_start, cost_of_run}
+
+-- all operations of a rank have one number of this kind
+abbrev pub HasOne : (Op → ℕ) → List Plan → ℕ → Type 0
+HasOne number plans rank =
+    (x y : OpId) (o p : Op) → x.rank ≡ rank → y.rank ≡ rank → op_at plans x ≡ Some o → op_at plans y ≡ Some p → number o ≡ number p
+
+-- all operations of each rank use one cpu, or all of them one interface
+abbrev pub IsOneWide : List Plan → Type 0
+IsOneWide plans = (rank : ℕ) → HasOne (λ o. o.cpu) plans rank ⊎ HasOne (λ o. o.nic) plans rank
+
+-- then stations change their places at most once an operation, and six times an action
+abbrev pub MovesAreFew : Type 0
+MovesAreFew = (plans : List Plan) (h : List Timed) → IsOneWide plans → most_moves plans h ≤ length (operations plans) + 6 * length h
+
+-- and a run of n operations, among 2^k, compares keys at most n (216k + 388) + 3 times
+abbrev pub RunsAreCheap : Type 0
+RunsAreCheap =
+    (plans : List Plan) (costs : CostModel) (h : List Timed) (k : ℕ)
+    → IsOneWide plans → IsRun plans costs h
+    → cost_of_start k plans + cost_of_run k plans h ≤ length (operations plans) * (216 * k + 388) + 3
