@@ -175,7 +175,7 @@ fn follow_waiting<C: Costs, L: Ledger>(
     if let Class::Arrive = action.class {
         return;
     }
-    for need in state.sched().waiting_on(action.op) {
+    for need in state.waiting_on(action.op) {
         if !gives(action.class, need.when) {
             continue;
         }

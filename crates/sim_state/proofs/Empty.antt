@@ -1,5 +1,5 @@
 -- Before the first action.
-use Rattle.std.proofs.Common.{◌≡◌, ◌&&◌, not, if◌then◌else◌, List, [], Option, Some, None, refl, ap, ◌∙◌}
+use Rattle.std.proofs.Common.{◌≡◌, ◌&&◌, not, if◌then◌else◌, List, [], Option, Some, None, refl, sym, ap, ◌∙◌}
 use Rattle.goal_graph.specs.declared.action.OpId.{OpId}
 use Rattle.goal_graph.specs.declared.action.Class.TheVariants.{Arrive}
 use Rattle.goal_graph.specs.declared.plan.Kind.{Kind}
@@ -12,13 +12,11 @@ use Rattle.sim_params.specs.Costs.{CostModel, is_eager}
 use Rattle.sim_params.specs.Times.{cpu, tx, rx, time}
 use Rattle.sim_match.specs.PostsAndArrivals.{PostsAndArrivals}
 use Rattle.sim_resources.specs.FreeTimes.{Holds, free_at, cpu_free, tx_free, rx_free, unheld, SameFreeTimes}
-use Rattle.sim_state.specs.declared.entry.Entry.{Entry}
 use Rattle.sim_state.specs.Engine.{start_known, end_known}
 use Rattle.sim_state.specs.Enabled.{time_known}
+use Rattle.sim_state.specs.Shapes.{work_of}
+use Rattle.sim_state.specs.Tables.{fresh_entry}
 use Rattle.sim_state.specs.Represents.{paired_known, there_known, entry_known, AreFreeTimes, KnowsPostsAndArrivals}
-
-abbrev pub blank : Entry
-blank = record { start = None; end = None; arriving = None; paired = None; there = None }
 
 module _ (plans : List Plan) (costs : CostModel) where
   module _ (x : OpId) where
@@ -48,10 +46,10 @@ module _ (plans : List Plan) (costs : CostModel) where
     unfolding plain happened
     no_bytes = refl
 
-    -- nothing is known of any operation
-    pub nothing_known : entry_known plans costs [] x ≡ blank
+    -- nothing is known of any operation but what it does
+    pub nothing_known : fresh_entry (work_of plans costs x) ≡ entry_known plans costs [] x
     nothing_known =
-        λ i. record { start = no_start i; end = no_end i; arriving = no_arrival i; paired = no_partner i; there = no_bytes i }
+        sym (λ i. record { work = work_of plans costs x; start = no_start i; end = no_end i; arriving = no_arrival i; paired = no_partner i; there = no_bytes i })
 
     cpu_first : cpu_free (unheld plans) x ≡ cpu plans costs [] x
     unfolding free_at cpu

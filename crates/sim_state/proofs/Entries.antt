@@ -19,14 +19,15 @@ use Rattle.sim_state.specs.declared.entry.Entry.{Entry}
 use Rattle.sim_state.specs.declared.pairing.Pairing.{Pairing}
 use Rattle.sim_state.specs.Engine.{start_known, end_known}
 use Rattle.sim_state.specs.Enabled.{time_known}
+use Rattle.sim_state.specs.Shapes.{work_of}
 use Rattle.sim_state.specs.Tables.{with_entry, with_pairing, with_partner}
 use Rattle.sim_state.specs.Represents.{entry_known, paired_known, there_known}
 use Rattle.sim_state.proofs.After.{other_op, other_class, start_same, start_new, end_same, end_new, arriving_same, arriving_calc, arriving_begun, arriving_arrived, there_same, there_new, paired_same, paired_new}
 use Rattle.sim_state.proofs.Pairings.{none_made, other_makes_none, post_none, post_some, arrive_none, arrive_some}
 
-same_entry : (d e : Entry) → d.start ≡ e.start → d.end ≡ e.end → d.arriving ≡ e.arriving → d.paired ≡ e.paired → d.there ≡ e.there → d ≡ e
-same_entry d e s n a p t =
-    λ i. record { start = s i; end = n i; arriving = a i; paired = p i; there = t i }
+same_entry : (d e : Entry) → d.work ≡ e.work → d.start ≡ e.start → d.end ≡ e.end → d.arriving ≡ e.arriving → d.paired ≡ e.paired → d.there ≡ e.there → d ≡ e
+same_entry d e w s n a p t =
+    λ i. record { work = w i; start = s i; end = n i; arriving = a i; paired = p i; there = t i }
 
 -- an entry is written, and two entries get their partners
 pair_written : (y m : OpId) (at : ℕ) (e : Entry) (f g : OpId → Entry) → same_op y m ≡ false → g y ≡ record e { paired = Some (record { with = m; at = at }) } → g m ≡ record (f m) { paired = Some (record { with = y; at = at }) } → ((x : OpId) → same_op y x ≡ false → same_op m x ≡ false → g x ≡ f x) → (x : OpId) → with_pairing m y at (with_pairing y m at (with_entry y e f)) x ≡ g x
@@ -56,7 +57,7 @@ module _ (plans : List Plan) (costs : CostModel) (h : List Timed) (a : Timed) (r
   -- an operation that has the partner that it had, and that another action was of
   other_same : (x : OpId) → mate plans costs (a ∷ h) x ≡ mate plans costs h x → same_op a.op x ≡ false → after x ≡ before x
   other_same x m d =
-      same_entry _ _ (start_same plans costs h a x (other_op plans costs h a (first_class (kind_at plans x)) x d)) (end_same plans costs h a run x (other_op plans costs h a (last_class (is_eager plans costs x) (kind_at plans x)) x d)) (arriving_same plans costs h a x (other_op plans costs h a Arrive x d) (other_op plans costs h a Begin x d)) (paired_same plans costs h a x m) (there_same plans costs h a x (other_op plans costs h a Data x d))
+      same_entry _ _ refl (start_same plans costs h a x (other_op plans costs h a (first_class (kind_at plans x)) x d)) (end_same plans costs h a run x (other_op plans costs h a (last_class (is_eager plans costs x) (kind_at plans x)) x d)) (arriving_same plans costs h a x (other_op plans costs h a Arrive x d) (other_op plans costs h a Begin x d)) (paired_same plans costs h a x m) (there_same plans costs h a x (other_op plans costs h a Data x d))
 
   -- the newest action is of another class
   another : (c d : Class) (x : OpId) → a.class ≡ c → (c ≡ d → ⊥) → is_act d x (plain_act a) ≡ false
@@ -67,6 +68,9 @@ module _ (plans : List Plan) (costs : CostModel) (h : List Timed) (a : Timed) (r
   not_class c d x e f = other_class plans costs h a d x (ap (λ (c : Class). place c == place d) e ∙ f)
 
   module _ (e : Entry) (was : e ≡ before a.op) where
+    work_was : work_of plans costs a.op ≡ e.work
+    work_was = ap (λ (d : Entry). d.work) (sym was)
+
     start_was : (c : Class) → a.class ≡ c → (c ≡ first_class (kind_at plans a.op) → ⊥) → start_known plans costs (a ∷ h) a.op ≡ e.start
     start_was c same other =
         start_same plans costs h a a.op (another c (first_class (kind_at plans a.op)) a.op same other) ∙ ap (λ (d : Entry). d.start) (sym was)
@@ -105,19 +109,19 @@ module _ (plans : List Plan) (costs : CostModel) (h : List Timed) (a : Timed) (r
       pub calc_begun : a.class ≡ Begin → IsCalc plans a.op → Becomes (record e { start = Some a.time; end = Some until })
       calc_begun c k =
           let mates = unpaired Begin c refl in
-          one_written _ mates (same_entry _ _ (start_new plans costs h a possible (c ∙ sym (first_of_calc plans a.op k))) (end_now (c ∙ sym (last_of_calc plans (is_eager plans costs) a.op k))) (arriving_calc plans costs h a a.op k ∙ ap (λ (d : Entry). d.arriving) (sym was)) (paired_was (mates a.op)) (there_was Begin c refl))
+          one_written _ mates (same_entry _ _ work_was (start_new plans costs h a possible (c ∙ sym (first_of_calc plans a.op k))) (end_now (c ∙ sym (last_of_calc plans (is_eager plans costs) a.op k))) (arriving_calc plans costs h a a.op k ∙ ap (λ (d : Entry). d.arriving) (sym was)) (paired_was (mates a.op)) (there_was Begin c refl))
 
       -- an eager send begins
       pub eager_begun : (arrive : ℕ) → a.class ≡ Begin → IsSend plans a.op → is_eager plans costs a.op ≡ true → arrive ≡ a.time + flight plans costs a.op → Becomes (record e { start = Some a.time; end = Some until; arriving = Some arrive })
       eager_begun arrive c k eager at =
           let mates = unpaired Begin c refl in
-          one_written _ mates (same_entry _ _ (start_new plans costs h a possible (c ∙ sym (first_of_send plans a.op k))) (end_now (c ∙ sym (last_of_eager plans (is_eager plans costs) a.op k eager))) (arriving_begun plans costs h a run possible c k ∙ ap (λ (b : Bool). Some (a.time + (if b then flight plans costs a.op else flight_one plans costs a.op))) eager ∙ ap Some (sym at)) (paired_was (mates a.op)) (there_was Begin c refl))
+          one_written _ mates (same_entry _ _ work_was (start_new plans costs h a possible (c ∙ sym (first_of_send plans a.op k))) (end_now (c ∙ sym (last_of_eager plans (is_eager plans costs) a.op k eager))) (arriving_begun plans costs h a run possible c k ∙ ap (λ (b : Bool). Some (a.time + (if b then flight plans costs a.op else flight_one plans costs a.op))) eager ∙ ap Some (sym at)) (paired_was (mates a.op)) (there_was Begin c refl))
 
       -- a large send hands over its bytes
       pub data_sent : (there : ℕ) → a.class ≡ Data → IsSend plans a.op → is_eager plans costs a.op ≡ false → there ≡ a.time + flight plans costs a.op → Becomes (record e { end = Some until; there = Some there })
       data_sent there c k large at =
           let mates = unpaired Data c refl in
-          one_written _ mates (same_entry _ _ (start_was Data c (λ f. let g = f ∙ first_of_send plans a.op k in differ g)) (end_now (c ∙ sym (last_of_large plans (is_eager plans costs) a.op k large))) (arriving_was Data c refl refl) (paired_was (mates a.op)) (there_new plans costs h a possible c ∙ ap Some (sym at)))
+          one_written _ mates (same_entry _ _ work_was (start_was Data c (λ f. let g = f ∙ first_of_send plans a.op k in differ g)) (end_now (c ∙ sym (last_of_large plans (is_eager plans costs) a.op k large))) (arriving_was Data c refl refl) (paired_was (mates a.op)) (there_new plans costs h a possible c ∙ ap Some (sym at)))
         where
           differ : Data ≡ Begin → ⊥
           differ f = cc
@@ -126,7 +130,7 @@ module _ (plans : List Plan) (costs : CostModel) (h : List Timed) (a : Timed) (r
       pub message_taken : a.class ≡ Serve → IsReceive plans a.op → Becomes (record e { end = Some until })
       message_taken c k =
           let mates = unpaired Serve c refl in
-          one_written _ mates (same_entry _ _ (start_was Serve c (λ f. differ (f ∙ first_of_receive plans a.op k))) (end_now (c ∙ sym (last_of_receive plans (is_eager plans costs) a.op k))) (arriving_was Serve c refl refl) (paired_was (mates a.op)) (there_was Serve c refl))
+          one_written _ mates (same_entry _ _ work_was (start_was Serve c (λ f. differ (f ∙ first_of_receive plans a.op k))) (end_now (c ∙ sym (last_of_receive plans (is_eager plans costs) a.op k))) (arriving_was Serve c refl refl) (paired_was (mates a.op)) (there_was Serve c refl))
         where
           differ : Serve ≡ Post → ⊥
           differ f = cc
@@ -135,7 +139,7 @@ module _ (plans : List Plan) (costs : CostModel) (h : List Timed) (a : Timed) (r
     pub request_begun : (arrive : ℕ) → a.class ≡ Begin → IsSend plans a.op → is_eager plans costs a.op ≡ false → arrive ≡ a.time + flight_one plans costs a.op → Becomes (record e { start = Some a.time; arriving = Some arrive })
     request_begun arrive c k large at =
         let mates = unpaired Begin c refl in
-        one_written _ mates (same_entry _ _ (start_new plans costs h a possible (c ∙ sym (first_of_send plans a.op k))) (end_was Begin c (λ f. differ (f ∙ last_of_large plans (is_eager plans costs) a.op k large))) (arriving_begun plans costs h a run possible c k ∙ ap (λ (b : Bool). Some (a.time + (if b then flight plans costs a.op else flight_one plans costs a.op))) large ∙ ap Some (sym at)) (paired_was (mates a.op)) (there_was Begin c refl))
+        one_written _ mates (same_entry _ _ work_was (start_new plans costs h a possible (c ∙ sym (first_of_send plans a.op k))) (end_was Begin c (λ f. differ (f ∙ last_of_large plans (is_eager plans costs) a.op k large))) (arriving_begun plans costs h a run possible c k ∙ ap (λ (b : Bool). Some (a.time + (if b then flight plans costs a.op else flight_one plans costs a.op))) large ∙ ap Some (sym at)) (paired_was (mates a.op)) (there_was Begin c refl))
       where
         differ : Begin ≡ Data → ⊥
         differ f = cc
@@ -143,7 +147,7 @@ module _ (plans : List Plan) (costs : CostModel) (h : List Timed) (a : Timed) (r
     -- a receive is posted: what is known of it but its partner
     posted_entry : (p : Option Pairing) → a.class ≡ Post → IsReceive plans a.op → paired_known plans costs (a ∷ h) a.op ≡ p → after a.op ≡ record e { start = Some a.time; paired = p }
     posted_entry p c k pair =
-        same_entry _ _ (start_new plans costs h a possible (c ∙ sym (first_of_receive plans a.op k))) (end_was Post c (λ f. differ (f ∙ last_of_receive plans (is_eager plans costs) a.op k))) (arriving_was Post c refl refl) pair (there_was Post c refl)
+        same_entry _ _ work_was (start_new plans costs h a possible (c ∙ sym (first_of_receive plans a.op k))) (end_was Post c (λ f. differ (f ∙ last_of_receive plans (is_eager plans costs) a.op k))) (arriving_was Post c refl refl) pair (there_was Post c refl)
       where
         differ : Post ≡ Serve → ⊥
         differ f = cc
@@ -151,7 +155,7 @@ module _ (plans : List Plan) (costs : CostModel) (h : List Timed) (a : Timed) (r
     -- a message or a request arrives: what is known of its send but its partner
     arrived_entry : (p : Option Pairing) → a.class ≡ Arrive → IsSend plans a.op → paired_known plans costs (a ∷ h) a.op ≡ p → after a.op ≡ record e { arriving = None; paired = p }
     arrived_entry p c k pair =
-        same_entry _ _ (start_was Arrive c (λ f. differ (f ∙ first_of_send plans a.op k))) (end_was Arrive c last) (arriving_arrived plans costs h a c) pair (there_was Arrive c refl)
+        same_entry _ _ work_was (start_was Arrive c (λ f. differ (f ∙ first_of_send plans a.op k))) (end_was Arrive c last) (arriving_arrived plans costs h a c) pair (there_was Arrive c refl)
       where
         differ : Arrive ≡ Begin → ⊥
         differ f = cc
@@ -180,7 +184,7 @@ module _ (plans : List Plan) (costs : CostModel) (h : List Timed) (a : Timed) (r
 
     partner_entry : (m : OpId) → same_op a.op m ≡ false → mate plans costs h m ≡ None → mate plans costs (a ∷ h) m ≡ Some a.op → after m ≡ record (before m) { paired = Some (record { with = a.op; at = a.time }) }
     partner_entry m d free taken =
-        same_entry _ _ (start_same plans costs h a m (other_op plans costs h a (first_class (kind_at plans m)) m d)) (end_same plans costs h a run m (other_op plans costs h a (last_class (is_eager plans costs m) (kind_at plans m)) m d)) (arriving_same plans costs h a m (other_op plans costs h a Arrive m d) (other_op plans costs h a Begin m d)) (paired_new plans costs h a m a.op free taken) (there_same plans costs h a m (other_op plans costs h a Data m d))
+        same_entry _ _ refl (start_same plans costs h a m (other_op plans costs h a (first_class (kind_at plans m)) m d)) (end_same plans costs h a run m (other_op plans costs h a (last_class (is_eager plans costs m) (kind_at plans m)) m d)) (arriving_same plans costs h a m (other_op plans costs h a Arrive m d) (other_op plans costs h a Begin m d)) (paired_new plans costs h a m a.op free taken) (there_same plans costs h a m (other_op plans costs h a Data m d))
 
     apart : (m x : OpId) → IsSend plans m → IsReceive plans x → same_op m x ≡ false
     apart m x s r =

@@ -10,6 +10,7 @@ pub mod PostsAndArrivals
 pub mod Fits
 pub mod HoldTimes
 pub mod Entries
+pub mod EntryTable
 pub mod Performed
 pub mod Views
 pub mod EnabledLemmas

@@ -36,7 +36,7 @@ entry_is {C} model v w x entry e f = f ∙ ap (λ (u : View C). entry_known u.pl
 pub work_is : {C : Type 0} (model : C → CostModel) (v w : View C) (x : OpId) (work : Work) → v ≡ w → work ≡ work_of w.plans (model w.costs) x → work ≡ work_of v.plans (model v.costs) x
 work_is {C} model v w x work e f = f ∙ ap (λ (u : View C). work_of u.plans (model u.costs) x) (sym e)
 
-module _ (plans : List Plan) (costs : CostModel) (h : List Timed) (entries : List Entry) (works : List Work) (matcher : PostsAndArrivals) (res : Holds) (room : ℕ) (m : Represents plans costs h entries works matcher res room) where
+module _ (plans : List Plan) (costs : CostModel) (h : List Timed) (entries : List Entry) (matcher : PostsAndArrivals) (res : Holds) (room : ℕ) (m : Represents plans costs h entries matcher res room) where
   -- each operation has its entry
   pub each_entry : (lent : List Entry) → lent ≡ entries → length lent ≡ length (operations plans)
   each_entry lent e = ap length (e ∙ m.known) ∙ length-map (operations plans) (entry_known plans costs h)
@@ -59,7 +59,6 @@ module _ (plans : List Plan) (costs : CostModel) (h : List Timed) (entries : Lis
 pub record Parts : Type 0 where
   pub items : List Timed
   pub entries : List Entry
-  pub works : List Work
   pub matcher : PostsAndArrivals
   pub res : Holds
   pub room : ℕ
@@ -84,23 +83,22 @@ pub record Change (plans : List Plan) (costs : CostModel) (old : Parts) (a : Tim
   pub posts_and_arrivals : KnowsPostsAndArrivals plans costs (a ∷ reverse old.items) matcher
   pub free : AreFreeTimes plans costs (a ∷ reverse old.items) res
 
-module _ (plans : List Plan) (costs : CostModel) (old : Parts) (m : Represents plans costs (reverse old.items) old.entries old.works old.matcher old.res old.room) (a : Timed) (next : IsNext plans costs (reverse old.items) a) where
+module _ (plans : List Plan) (costs : CostModel) (old : Parts) (m : Represents plans costs (reverse old.items) old.entries old.matcher old.res old.room) (a : Timed) (next : IsNext plans costs (reverse old.items) a) where
   -- there is room for the next action
   pub room_left : length old.items < old.room
   room_left = omega (arith, possible_room plans costs (reverse old.items) a m.run next.possible, length-reverse old.items, m.roomy)
 
-  pub performed : (new : Change plans costs old a) → Represents plans costs (reverse new.items) (take new.count (new.written ++ drop (length new.written) old.entries)) old.works new.matcher new.res new.room
+  pub performed : (new : Change plans costs old a) → Represents plans costs (reverse new.items) (take new.count (new.written ++ drop (length new.written) old.entries)) new.matcher new.res new.room
   performed new =
       let table : take new.count (new.written ++ drop (length new.written) old.entries) ≡ new.written = whole_back new.count new.written old.entries (new.kept ∙ ap length new.same_table) new.whole in
       let list : a ∷ reverse old.items ≡ reverse new.items = sym (ap reverse new.pushed ∙ reverse_push old.items new.key ∙ ap (λ (b : Timed). b ∷ reverse old.items) new.same_action) in
-      let after : Represents plans costs (a ∷ reverse old.items) (take new.count (new.written ++ drop (length new.written) old.entries)) old.works new.matcher new.res new.room = record {
+      let after : Represents plans costs (a ∷ reverse old.items) (take new.count (new.written ++ drop (length new.written) old.entries)) new.matcher new.res new.room = record {
         accepted = m.accepted;
         within = m.within;
         run = (m.run, next);
         known = table ∙ new.told;
-        tabled = m.tabled;
         posts_and_arrivals = new.posts_and_arrivals;
         free = new.free;
         roomy = subst (λ (r : ℕ). 3 * length (operations plans) ≤ r) (sym new.same_room) m.roomy;
       } in
-      subst (λ (h : List Timed). Represents plans costs h (take new.count (new.written ++ drop (length new.written) old.entries)) old.works new.matcher new.res new.room) list after
+      subst (λ (h : List Timed). Represents plans costs h (take new.count (new.written ++ drop (length new.written) old.entries)) new.matcher new.res new.room) list after

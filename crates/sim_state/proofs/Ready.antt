@@ -1,6 +1,7 @@
 -- When an operation is ready, need by need.
-use Rattle.std.proofs.Common.{◌≡◌, ℕ, ◌+◌, ◌<◌, ◌≤◌, max, Bool, true, false, ◌&&◌, List, [], ◌∷◌, length, drop, get_or, Option, Some, None, is_some, if◌then◌else◌, refl, sym, ap, ◌∙◌, subst, arith}
+use Rattle.std.proofs.Common.{◌≡◌, ◌==◌, ℕ, ◌+◌, ◌<◌, ◌≤◌, max, Bool, true, false, ◌&&◌, List, [], ◌∷◌, length, drop, get_or, Option, Some, None, is_some, if◌then◌else◌, refl, sym, ap, ◌∙◌, subst, arith}
 use Rattle.std.specs.List.{list_all}
+use Rattle.std.proofs.lemmas.Bool.{eqb-true}
 use Rattle.std.proofs.lemmas.List.Folds.{list_all_at}
 use Rattle.std.proofs.lemmas.Option.{same_Some}
 use Rattle.std.proofs.lemmas.List.{drop_more, drop_all}
@@ -35,6 +36,11 @@ module _ (plans : List Plan) (costs : CostModel) (h : List Timed) (x : OpId) whe
   pub ready_end : (n : ℕ) → ready_from n [] ≡ Some n
   unfolding ready_from greatest
   ready_end n = ap Some (omega arith)
+
+  -- with no need it is ready at 0
+  pub ready_at_once : (items : List Need) → items ≡ needs plans x → (length items == 0) ≡ true → Some 0 ≡ ready_known plans costs h x
+  ready_at_once [] are none = sym (ready_end 0) ∙ ap (ready_from 0) are ∙ ready_start
+  ready_at_once (d ∷ ds) are none = absurd (omega (arith, eqb-true (length (d ∷ ds)) 0 none))
 
   pub moment_is : (d : Need) → moment_known plans costs h d.when (needed x d) ≡ (if is_there d then Some (there_at d) else None)
   moment_is d = go d.when

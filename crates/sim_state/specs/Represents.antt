@@ -15,7 +15,6 @@ use Rattle.sim_match.specs.PostsAndArrivals.{PostsAndArrivals, is_post_or_arriva
 use Rattle.sim_resources.specs.FreeTimes.{Holds, cpu_free, tx_free, rx_free}
 use Rattle.sim_state.specs.declared.entry.Entry.{Entry}
 use Rattle.sim_state.specs.declared.pairing.Pairing.{Pairing}
-use Rattle.sim_state.specs.declared.work.Work.{Work}
 use Rattle.sim_state.specs.Engine.{start_known, end_known}
 use Rattle.sim_state.specs.Enabled.{time_known}
 use Rattle.sim_state.specs.Shapes.{work_of}
@@ -36,6 +35,7 @@ module _ (plans : List Plan) (costs : CostModel) (h : List Timed) where
   -- what is kept of x
   abbrev pub entry_known : OpId → Entry
   entry_known x = record {
+    work = work_of plans costs x;
     start = start_known plans costs h x;
     end = end_known plans costs h x;
     arriving = time_known plans costs h Arrive x;
@@ -55,13 +55,12 @@ module _ (plans : List Plan) (costs : CostModel) (h : List Timed) where
     pub same_plans : matcher.plans ≡ plans
     pub events : matcher.actions ≡ filter is_post_or_arrival (plain h)
 
-  -- There is an entry and a work for each operation, in their order, and room for every action of a run.
-  pub record Represents (entries : List Entry) (works : List Work) (matcher : PostsAndArrivals) (res : Holds) (room : ℕ) : Type 0 where
+  -- There is an entry for each operation, in their order, and room for every action of a run.
+  pub record Represents (entries : List Entry) (matcher : PostsAndArrivals) (res : Holds) (room : ℕ) : Type 0 where
     pub accepted : IsAccepted plans
     pub within : budget plans costs < 2 ^ 63
     pub run : IsRun plans costs h
     pub known : entries ≡ map entry_known (operations plans)
-    pub tabled : works ≡ map (work_of plans costs) (operations plans)
     pub posts_and_arrivals : KnowsPostsAndArrivals matcher
     pub free : AreFreeTimes res
     pub roomy : 3 * length (operations plans) ≤ room

@@ -1,26 +1,36 @@
--- What an operation does, and whether a send goes out whole.
-use Rattle.std.specs.Prelude.{List, Option, Some, None, if◌then◌else◌}
+-- What an operation does, whether a send goes out whole, and whether anything is needed.
+use Rattle.std.specs.Prelude.{◌==◌, Bool, not, List, length, Option, Some, None, if◌then◌else◌}
 use Rattle.goal_graph.specs.declared.action.OpId.{OpId}
 use Rattle.goal_graph.specs.declared.plan.Kind.{Kind}
 use Rattle.goal_graph.specs.declared.plan.Kind.TheVariants.{Calc, Send, Recv}
-use Rattle.goal_graph.specs.Schedule.{Plan, kind_at}
+use Rattle.goal_graph.specs.declared.plan.Need.{Need}
+use Rattle.goal_graph.specs.Schedule.{Plan, kind_at, needs, waiting_on}
 use Rattle.sim_params.specs.Costs.{CostModel, is_eager}
 use Rattle.sim_state.specs.declared.shape.Shape.{Shape}
 use Rattle.sim_state.specs.declared.shape.Shape.TheVariants as shape
+use Rattle.sim_state.specs.declared.work.Ties.{Ties}
 use Rattle.sim_state.specs.declared.work.Work.{Work}
 
+abbrev pub has_any : List Need → Bool
+has_any needs = not (length needs == 0)
+
+-- whether x needs another, and another needs it
+abbrev pub ties_of : List Plan → OpId → Ties
+ties_of plans x = record { needs = has_any (needs plans x); needed = has_any (waiting_on plans x) }
+
 module _ (plans : List Plan) (costs : CostModel) (x : OpId) where
-  -- what x does, where it is of that kind: its nanoseconds or its bytes, the rank that it sends them to, and its
-  -- shape; what is no operation is told as a calc of no time
+  -- what x does, where it is of that kind: its nanoseconds or its bytes, the rank that it sends them to, its shape, and
+  -- its ties; what is no operation is told as a calc of no time
   abbrev pub work_by : Option Kind → Work
-  work_by (Some (Calc nanos)) = record { amount = nanos; to = 0; shape = shape.Calc }
+  work_by (Some (Calc nanos)) = record { amount = nanos; to = 0; shape = shape.Calc; ties = ties_of plans x }
   work_by (Some (Send bytes to tag)) = record {
     amount = bytes;
     to = to;
     shape = if is_eager plans costs x then shape.Eager else shape.Large;
+    ties = ties_of plans x;
   }
-  work_by (Some (Recv room from tag)) = record { amount = 0; to = 0; shape = shape.Receive }
-  work_by None = record { amount = 0; to = 0; shape = shape.Calc }
+  work_by (Some (Recv room from tag)) = record { amount = 0; to = 0; shape = shape.Receive; ties = ties_of plans x }
+  work_by None = record { amount = 0; to = 0; shape = shape.Calc; ties = ties_of plans x }
 
   abbrev pub work_of : Work
   work_of = work_by (kind_at plans x)

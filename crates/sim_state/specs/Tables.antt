@@ -1,8 +1,13 @@
--- The entries of two operations, after they are paired.
+-- The entry of an operation at first, and those of two after they are paired.
 use Rattle.std.specs.Prelude.{ℕ, Option, Some, None}
 use Rattle.goal_graph.specs.declared.action.OpId.{OpId}
 pub use Rattle.goal_graph.specs.Entries.{with_entry}
 use Rattle.sim_state.specs.declared.entry.Entry.{Entry}
+use Rattle.sim_state.specs.declared.work.Work.{Work}
+
+-- of one that does that, and has done nothing yet
+abbrev pub fresh_entry : Work → Entry
+fresh_entry work = record { work = work; start = None; end = None; arriving = None; paired = None; there = None }
 
 -- the entry of y says that it is paired with m since that time, and the others are those of f
 abbrev pub with_pairing : OpId → OpId → ℕ → (OpId → Entry) → OpId → Entry

@@ -2,7 +2,7 @@
 ghost use Rattle.std.specs.Prelude.{◌≡◌, [], IfOk};
 ghost use Rattle.goal_graph.specs.Fault.{IsOp};
 ghost use Rattle.sim_params.specs.Costs.{CostModel};
-ghost use Rattle.sim_state.specs.Cursors.{IsCursorOf, AreCursors};
+ghost use Rattle.sim_state.specs.Cursors.{AreCursors};
 ghost use Rattle.sim_state.specs.Enabled.{IsEnabledActionOf};
 
 use crate::cursor::Cursor;
@@ -19,15 +19,6 @@ pub fn at_first(alloc: Global, sched: &Sched) -> Result<Vec<Cursor>, AllocError>
     Ok(cursors)
 }
 
-// The cursor of an operation.
-fn cursor_of<C: Costs>(state: &State<C>, cursors: &[Cursor], id: OpId) -> Cursor
-    requires exists { IsOp state.now.plans id }
-    requires cursors { AreCursors state.now.plans (C.model state.now.costs) state.now.history cursors.now }
-    ensures { IsCursorOf state.now.plans (C.model state.now.costs) state.now.history id result }
-{
-    cursors[state.sched().index(id) as usize]
-}
-
 /// The possible action of an operation, if it has one. Its needs are looked at from its cursor on, which goes on past
 /// those that are met.
 pub fn choice_from<C: Costs>(state: &State<C>, cursors: &mut [Cursor], id: OpId) -> Option<Timed>
@@ -36,8 +27,6 @@ pub fn choice_from<C: Costs>(state: &State<C>, cursors: &mut [Cursor], id: OpId)
     ensures enabled { IsEnabledActionOf state.now.plans (C.model state.now.costs) state.now.history id result }
     ensures cursors { AreCursors state.now.plans (C.model state.now.costs) state.now.history cursors.new }
 {
-    let mut cursor = cursor_of(state, cursors, id);
-    let action = state.choice(id, &mut cursor);
-    cursors[state.sched().index(id) as usize] = cursor;
-    action
+    let slot = state.sched().index(id) as usize;
+    state.choice(id, &mut cursors[slot])
 }

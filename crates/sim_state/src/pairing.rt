@@ -15,9 +15,9 @@ pub struct Pairing {
 /// A pairing that may not be there, in sixteen bytes. Contracts see it as the option of that pairing.
 #[derive(Clone, Copy)]
 pub struct Partner {
+    at: Moment,
     // the first operation of all where no one is paired
     with: OpId,
-    at: Moment,
 }
 
 impl Model for Partner {

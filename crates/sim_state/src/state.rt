@@ -1,7 +1,8 @@
 // What has happened so far, and what is known of each operation.
-ghost use Rattle.std.specs.Prelude.{◌≡◌, ◌+◌, ◌<◌, ◌≤◌, ◌^◌, ◌↔◌, List, [], ◌∷◌, IsTrue, IfSome, IfNone, IfOk, IfErr, OnOk, count_by, length, reverse};
+ghost use Rattle.std.specs.Prelude.{◌≡◌, ◌+◌, ◌<◌, ◌≤◌, ◌^◌, ◌↔◌, List, [], ◌∷◌, IsTrue, IfSome, IfNone, IfOk, IfErr, OnOk, All, count_by, length, reverse};
 ghost use Rattle.goal_graph.specs.declared.action.OpId.{OpId};
 ghost use Rattle.goal_graph.specs.declared.action.Timed.{Timed};
+ghost use Rattle.goal_graph.specs.Schedule.{needs, needed, waiting_on};
 ghost use Rattle.goal_graph.specs.Fault.{IsOp, IsAccepted};
 ghost use Rattle.goal_graph.specs.Action.{plain, same_op};
 ghost use Rattle.goal_graph.specs.Interleaving.{IsCompleteInterleaving};
@@ -15,13 +16,13 @@ ghost use Rattle.sim_state.specs.Represents.{entry_known};
 ghost use Rattle.sim_state.specs.Shapes.{shape_of, work_of};
 ghost use Rattle.sim_state.specs.Free.{free, side};
 
-use crate::entry::{Entry, read};
+use crate::entry::{Entry, first_entries, read};
 use crate::fault::EngineFault;
 use crate::record::Record;
 use crate::shape::Shape;
-use crate::work::{Work, works};
+use crate::work::Work;
 use goal_base::MAX_BUDGET;
-use goal_graph::{OpId, Sched};
+use goal_graph::{Need, OpId, Sched};
 use sim_match::Matcher;
 use sim_order::CompactKey;
 use sim_params::{Costs, budget};
@@ -41,8 +42,6 @@ pub struct State<'a, C: Costs> {
     history: Vec<CompactKey>,
     // what is known of each operation, in the order of all
     entries: Vec<Entry>,
-    // what each operation does, in the same order
-    works: Vec<Work>,
     // who is paired with whom
     matcher: Matcher<'a>,
     // when cpus and interfaces are free
@@ -57,7 +56,6 @@ impl<C: Costs + Drop> Drop for State<'_, C> {
             costs: _costs,
             history: _history,
             entries: _entries,
-            works: _works,
             matcher: _matcher,
             resources: _resources,
         } = self;
@@ -73,7 +71,7 @@ impl<'a, C: Costs> Model for State<'a, C> {
 
     ghost view = { λ e. record { plans = e.sched.now; costs = e.costs; history = reverse e.history.items } };
 
-    ghost invariant = { λ e. Represents e.sched.now (C.model e.costs) (reverse e.history.items) e.entries.items e.works.items e.matcher e.resources (vec_capacity e.history) };
+    ghost invariant = { λ e. Represents e.sched.now (C.model e.costs) (reverse e.history.items) e.entries.items e.matcher e.resources (vec_capacity e.history) };
 }
 
 impl<'a, C: Costs + Drop> State<'a, C> {
@@ -94,8 +92,7 @@ impl<'a, C: Costs + Drop> State<'a, C> {
         let _plans = sched.plans();
         let count = sched.count() as usize;
         let history = Vec::with_capacity(alloc, 3 * count)?;
-        let entries = vec![in alloc; Entry::BLANK; count]?;
-        let works = works(alloc, sched, &costs)?;
+        let entries = first_entries(alloc, sched, &costs)?;
         let matcher = Matcher::new(alloc, sched)?;
         let resources = Resources::new(alloc, sched)?;
         Ok(State {
@@ -103,7 +100,6 @@ impl<'a, C: Costs + Drop> State<'a, C> {
             costs,
             history,
             entries,
-            works,
             matcher,
             resources,
         })
@@ -176,6 +172,30 @@ impl<'a, C: Costs> State<'a, C> {
         }
     }
 
+    /// The operations that need one, in the order of the rank's dependencies. Of one that none needs the schedule is not asked.
+    pub fn waiting_on(&self, id: OpId) -> &[Need]
+        requires { IsOp self.now.plans id }
+        ensures waiting_on { result.now ≡ waiting_on self.now.plans id }
+        ensures exist { All (λ need. IsOp self.now.plans (needed id need)) result.now }
+    {
+        if !self.work(id).ties.needed {
+            return &[];
+        }
+        self.sched.waiting_on(id)
+    }
+
+    // What an operation needs, in the order of the rank's dependencies. Of one that needs nothing the schedule is not asked.
+    fn needs(&self, id: OpId) -> &[Need]
+        requires { IsOp self.now.plans id }
+        ensures needs { result.now ≡ needs self.now.plans id }
+        ensures exist { All (λ need. IsOp self.now.plans (needed id need)) result.now }
+    {
+        if !self.work(id).ties.needs {
+            return &[];
+        }
+        self.sched.needs(id)
+    }
+
     /// The schedule that runs.
     pub fn sched(&self) -> &'a Sched
         ensures { result.now ≡ self.now.plans }
@@ -222,6 +242,6 @@ impl<'a, C: Costs> State<'a, C> {
         requires { IsOp self.now.plans id }
         ensures { result ≡ work_of self.now.plans (C.model self.now.costs) id }
     {
-        self.works[self.sched.index(id) as usize]
+        self.entry(id).work
     }
 }

@@ -1,14 +1,19 @@
-// What each operation does, in a table in the order of all operations.
-ghost use Rattle.std.specs.Prelude.{◌≡◌, map, IfOk};
-ghost use Rattle.goal_graph.specs.Schedule.{operations};
+// What each operation does.
+ghost use Rattle.std.specs.Prelude.{◌≡◌};
 ghost use Rattle.goal_graph.specs.Fault.{IsOp};
 ghost use Rattle.goal_graph.specs.Laws.{IsSend};
-ghost use Rattle.sim_state.specs.Shapes.{shape_of, work_of};
+ghost use Rattle.sim_state.specs.Shapes.{shape_of, ties_of, work_of};
 
 use crate::shape::Shape;
 use goal_graph::{Kind, OpId, Sched};
 use sim_params::Costs;
-use std::alloc::{AllocError, Global};
+
+/// Whether an operation needs another, and another needs it.
+#[derive(Clone, Copy)]
+pub struct Ties {
+    pub needs: bool,
+    pub needed: bool,
+}
 
 /// What an operation does, in 16 bytes: a run asks for it at each step, and the operation itself lies further away in
 /// memory.
@@ -20,6 +25,8 @@ pub struct Work {
     pub to: u32,
     /// What it is.
     pub shape: Shape,
+    /// What it needs, and what needs it.
+    pub ties: Ties,
 }
 
 // Whether a send goes out whole, or has a request before it.
@@ -35,37 +42,41 @@ fn shape_of_send<C: Costs>(sched: &Sched, costs: &C, send: OpId) -> Shape
     }
 }
 
-// What an operation does, as the schedule and the costs say it.
-fn work_of<C: Costs>(sched: &Sched, costs: &C, id: OpId) -> Work
+// Whether an operation needs another, and another needs it.
+fn ties_of(sched: &Sched, id: OpId) -> Ties
+    requires { IsOp sched.now id }
+    ensures { result ≡ ties_of sched.now id }
+{
+    Ties {
+        needs: !sched.needs(id).is_empty(),
+        needed: !sched.waiting_on(id).is_empty(),
+    }
+}
+
+/// What an operation does, as the schedule and the costs say it.
+pub fn work_of<C: Costs>(sched: &Sched, costs: &C, id: OpId) -> Work
     requires { IsOp sched.now id }
     ensures { result ≡ work_of sched.now (C.model costs.now) id }
 {
+    let ties = ties_of(sched, id);
     match sched.op(id).kind {
         Kind::Calc { nanos } => Work {
             amount: nanos,
             to: 0,
             shape: Shape::Calc,
+            ties,
         },
         Kind::Send { bytes, to, .. } => Work {
             amount: bytes,
             to,
             shape: shape_of_send(sched, costs, id),
+            ties,
         },
         Kind::Recv { .. } => Work {
             amount: 0,
             to: 0,
             shape: Shape::Receive,
+            ties,
         },
     }
-}
-
-/// What all operations do.
-pub fn works<C: Costs>(alloc: Global, sched: &Sched, costs: &C) -> Result<Vec<Work>, AllocError>
-    ensures { IfOk result (λ w. w.items ≡ map (work_of sched.now (C.model costs.now)) (operations sched.now)) }
-{
-    let mut works = Vec::with_capacity(alloc, sched.count() as usize)?;
-    for id in sched.operations() {
-        works.push_reserved(work_of(sched, costs, *id));
-    }
-    Ok(works)
 }

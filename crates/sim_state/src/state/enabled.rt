@@ -196,7 +196,10 @@ impl<'a, C: Costs> State<'a, C> {
     {
         // a schedule has so few dependencies that a place among them fits 32 bits
         let _plans = self.sched.plans();
-        let needs = self.sched.needs(id);
+        let needs = self.needs(id);
+        if needs.is_empty() {
+            return Some(0);
+        }
         for at in cursor.at as usize..needs.len() {
             let need = needs[at];
             let needed = OpId {
@@ -220,7 +223,7 @@ impl<'a, C: Costs> State<'a, C> {
         ensures { result ≡ ready_known self.now.plans (C.model self.now.costs) self.now.history id }
     {
         let mut last: u64 = 0;
-        for need in self.sched.needs(id) {
+        for need in self.needs(id) {
             let needed = OpId {
                 rank: id.rank,
                 op: need.op,

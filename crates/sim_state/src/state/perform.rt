@@ -8,7 +8,7 @@ ghost use Rattle.sim_params.specs.Run.{IsNext};
 ghost use Rattle.sim_eager.specs.Messages.{IsMessage};
 
 use super::State;
-use crate::entry::{Entry, write, write_met};
+use crate::entry::{write_met, write_sent, write_times};
 use crate::key::compact;
 use crate::moment::Moment;
 use crate::shape::Shape;
@@ -60,15 +60,12 @@ impl<'a, C: Costs> State<'a, C> {
         ensures { self.new ≡ record self.old { history = action ∷ self.old.history } }
     {
         let sched = self.sched;
-        let entry = *self.entry(action.op);
+        let arriving = self.entry(action.op).arriving;
         let end = action.time + nanos;
         self.resources.hold_cpu(action.op, end);
-        let begun = Entry {
-            start: Moment::at(action.time),
-            end: Moment::at(end),
-            ..entry
-        };
-        write(sched, &mut self.entries, action.op, begun);
+        let entries = &mut self.entries;
+        let start = Moment::at(action.time);
+        write_times(sched, entries, action.op, start, Moment::at(end), arriving);
         self.history.push_reserved(compact(sched, action));
     }
 
@@ -81,7 +78,6 @@ impl<'a, C: Costs> State<'a, C> {
         ensures { self.new ≡ record self.old { history = action ∷ self.old.history } }
     {
         let sched = self.sched;
-        let entry = *self.entry(action.op);
         let begun = eager_begin(
             sched,
             &self.costs,
@@ -91,13 +87,11 @@ impl<'a, C: Costs> State<'a, C> {
             work.amount,
             action.time,
         );
-        let entry = Entry {
-            start: Moment::at(action.time),
-            end: Moment::at(begun.end),
-            arriving: Moment::at(begun.arrive),
-            ..entry
-        };
-        write(sched, &mut self.entries, action.op, entry);
+        let entries = &mut self.entries;
+        let start = Moment::at(action.time);
+        let end = Moment::at(begun.end);
+        let arriving = Moment::at(begun.arrive);
+        write_times(sched, entries, action.op, start, end, arriving);
         self.history.push_reserved(compact(sched, action));
     }
 
@@ -110,7 +104,7 @@ impl<'a, C: Costs> State<'a, C> {
         ensures { self.new ≡ record self.old { history = action ∷ self.old.history } }
     {
         let sched = self.sched;
-        let entry = *self.entry(action.op);
+        let end = self.entry(action.op).end;
         let arrive = request(
             sched,
             &self.costs,
@@ -119,12 +113,9 @@ impl<'a, C: Costs> State<'a, C> {
             work.to,
             action.time,
         );
-        let entry = Entry {
-            start: Moment::at(action.time),
-            arriving: Moment::at(arrive),
-            ..entry
-        };
-        write(sched, &mut self.entries, action.op, entry);
+        let entries = &mut self.entries;
+        let start = Moment::at(action.time);
+        write_times(sched, entries, action.op, start, end, Moment::at(arrive));
         self.history.push_reserved(compact(sched, action));
     }
 
@@ -136,14 +127,18 @@ impl<'a, C: Costs> State<'a, C> {
         ensures looked { looks.new ≤ looks.old + 8 }
     {
         let sched = self.sched;
-        let entry = *self.entry(action.op);
-        let posted = Entry {
-            start: Moment::at(action.time),
-            ..entry
-        };
+        let arriving = self.entry(action.op).arriving;
+        let start = Moment::at(action.time);
         let partner = self.matcher.post_counted(action.op, looks);
-        let entries = &mut self.entries;
-        write_met(sched, entries, action.op, posted, partner, action.time);
+        write_met(
+            sched,
+            &mut self.entries,
+            action.op,
+            start,
+            arriving,
+            partner,
+            action.time,
+        );
         self.history.push_reserved(compact(sched, action));
     }
 
@@ -155,14 +150,17 @@ impl<'a, C: Costs> State<'a, C> {
         ensures looked { looks.new ≤ looks.old + 8 }
     {
         let sched = self.sched;
-        let entry = *self.entry(action.op);
-        let arrived = Entry {
-            arriving: Moment::NONE,
-            ..entry
-        };
+        let start = self.entry(action.op).start;
         let partner = self.matcher.arrive_counted(action.op, looks);
-        let entries = &mut self.entries;
-        write_met(sched, entries, action.op, arrived, partner, action.time);
+        write_met(
+            sched,
+            &mut self.entries,
+            action.op,
+            start,
+            Moment::NONE,
+            partner,
+            action.time,
+        );
         self.history.push_reserved(compact(sched, action));
     }
 
@@ -173,7 +171,6 @@ impl<'a, C: Costs> State<'a, C> {
         ensures { self.new ≡ record self.old { history = action ∷ self.old.history } }
     {
         let sched = self.sched;
-        let entry = *self.entry(action.op);
         let work = self.work(action.op);
         let sent = data(
             sched,
@@ -184,12 +181,9 @@ impl<'a, C: Costs> State<'a, C> {
             work.amount,
             action.time,
         );
-        let entry = Entry {
-            end: Moment::at(sent.end),
-            there: Moment::at(sent.arrive),
-            ..entry
-        };
-        write(sched, &mut self.entries, action.op, entry);
+        let entries = &mut self.entries;
+        let there = Moment::at(sent.arrive);
+        write_sent(sched, entries, action.op, Moment::at(sent.end), there);
         self.history.push_reserved(compact(sched, action));
     }
 
@@ -215,11 +209,9 @@ impl<'a, C: Costs> State<'a, C> {
             work.amount,
             action.time,
         );
-        let entry = Entry {
-            end: Moment::at(end),
-            ..entry
-        };
-        write(sched, &mut self.entries, action.op, entry);
+        let entries = &mut self.entries;
+        let end = Moment::at(end);
+        write_times(sched, entries, action.op, entry.start, end, entry.arriving);
         self.history.push_reserved(compact(sched, action));
     }
 }

@@ -16,9 +16,8 @@ none = record { op = 0; when = AfterEnd }
 
 pub refresh-requires : goal.refresh-requires
 refresh-requires g c =
-    let d = get_or c.waiting_on-need-items.result.now c.loop-need.need-index none in
     record {
-      exists = subst (λ (ps : List Plan). IsOp ps (needed c.args.action.op d)) c.sched.ensures (c.waiting_on-need-items.ensures.exist c.loop-need.need-index none c.loop-need-test.true);
+      exists = c.waiting_on-need-items.ensures.exist c.loop-need.need-index none c.loop-need-test.true;
       possible = possible_keys _ _ _ _ _ c.loop-need.invariant.0;
       cursors = c.loop-need.invariant.1;
     }
@@ -27,7 +26,7 @@ pub loop-need-preserved : goal.loop-need-preserved
 loop-need-preserved g c =
     let plans = c.args.state.now.plans in
     let id = c.args.action.op in
-    let items = c.waiting_on-need-items.ensures.waiting_on ∙ ap (λ (ps : List Plan). waiting_on ps id) c.sched.ensures in
+    let items = c.waiting_on-need-items.ensures.waiting_on in
     let k = c.loop-need.need-index in
     let within = subst (λ (ds : List Need). k < length ds) items c.loop-need-test.true in
     (refreshed plans _ _ _ _ _ _ _ c.loop-need.invariant.0 c.refresh.ensures.queue (λ y is n differ. await_rest (waiting_on plans id) k none c.args.action.class id y within n (λ e. differ (e ∙ ap (λ (ds : List Need). needed id (get_or ds k none)) (sym items)))), c.refresh.ensures.cursors, λ k few. let same = c.loop-need.invariant.0.of_it.each in let first = c.requires.rest.of_it.each in omega (arith, c.loop-need.invariant.2 k few, c.refresh.ensures.counted k (omega (arith, few, same, first))), placed_again c.args.queue.now _ _ c.loop-need.invariant.3 c.refresh.ensures.placed)
@@ -36,7 +35,7 @@ pub loop-need-preserved-then-not-gives : goal.loop-need-preserved-then-not-gives
 loop-need-preserved-then-not-gives g c =
     let plans = c.args.state.now.plans in
     let id = c.args.action.op in
-    let items = c.waiting_on-need-items.ensures.waiting_on ∙ ap (λ (ps : List Plan). waiting_on ps id) c.sched.ensures in
+    let items = c.waiting_on-need-items.ensures.waiting_on in
     let k = c.loop-need.need-index in
     let within = subst (λ (ds : List Need). k < length ds) items c.loop-need-test.true in
     let other = ap (λ (ds : List Need). gives c.args.action.class (get_or ds k none).when) (sym items) ∙ sym c.gives.ensures ∙ c.if-not-gives.true in
@@ -51,7 +50,7 @@ pub returns-clause-queue : goal.returns-clause-queue
 returns-clause-queue g c =
     let plans = c.args.state.now.plans in
     let id = c.args.action.op in
-    let items = c.waiting_on-need-items.ensures.waiting_on ∙ ap (λ (ps : List Plan). waiting_on ps id) c.sched.ensures in
+    let items = c.waiting_on-need-items.ensures.waiting_on in
     fewer_due plans _ _ _ _ _ c.loop-need.invariant.0 (λ y is n. await_none (waiting_on plans id) c.loop-need.need-index none c.args.action.class id y (omega (arith, ap length items, c.loop-need-test.false)) n)
 
 pub returns-clause-counted : goal.returns-clause-counted

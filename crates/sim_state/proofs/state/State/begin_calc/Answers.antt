@@ -1,4 +1,4 @@
-use Rattle.std.proofs.Common.{◌≡◌, ◌+◌, ◌∙◌, ℕ, Some, reverse, sym, ap, subst, arith, length, vec_capacity, ◌<◌, map}
+use Rattle.std.proofs.Common.{◌≡◌, ◌+◌, ◌∙◌, ℕ, Some, reverse, sym, ap, subst, arith, length, vec_capacity, ◌<◌, map, refl}
 use Rattle.goal_graph.specs.declared.plan.Kind.TheVariants.{Calc}
 use Rattle.goal_graph.specs.Schedule.{kind_at, operations}
 use Rattle.goal_graph.specs.Laws.{IsCalc}
@@ -16,8 +16,8 @@ use Rattle.sim_state.proofs.Places.{possible_exists}
 use Rattle.sim_state.proofs.Performed.{next_at, entry_is, each_entry, room_left, performed, Parts, is_op, is_resource_op, time_fits, end_fits}
 use Rattle.sim_state.proofs.state.State.begin_calc.Goals as goal
 
-pub entry-entry-requires : goal.entry-entry-requires
-entry-entry-requires g c =
+pub entry-requires : goal.entry-requires
+entry-requires g c =
     possible_exists _ _ _ c.args.action c.requires.next.possible
 
 pub overflow_add-end : goal.overflow_add-end
@@ -29,15 +29,15 @@ overflow_add-end g c =
 pub hold_cpu-requires : goal.hold_cpu-requires
 hold_cpu-requires g c =
     let next = next_at g.C.Costs.model _ _ c.args.action c.self.view_is c.requires.next in
-    is_resource_op _ _ _ _ _ _ _ _ c.self.invariant c.args.action next
+    is_resource_op _ _ _ _ _ _ _ c.self.invariant c.args.action next
+
+pub at-start-requires : goal.at-start-requires
+at-start-requires g c =
+    let next = next_at g.C.Costs.model _ _ c.args.action c.self.view_is c.requires.next in
+    time_fits _ _ _ _ _ _ _ c.self.invariant c.args.action next
 
 pub at-requires : goal.at-requires
 at-requires g c =
-    let next = next_at g.C.Costs.model _ _ c.args.action c.self.view_is c.requires.next in
-    time_fits _ _ _ _ _ _ _ _ c.self.invariant c.args.action next
-
-pub at-requires-2 : goal.at-requires-2
-at-requires-2 g c =
     let plans = c.self.inside.sched.now in
     let costs = g.C.Costs.model c.self.inside.costs in
     let h = reverse c.self.inside.history.items in
@@ -45,25 +45,25 @@ at-requires-2 g c =
     let m = c.self.invariant in
     let next = next_at g.C.Costs.model _ _ a c.self.view_is c.requires.next in
     let kind = subst (λ (v : View _). kind_at v.plans a.op ≡ Some (Calc c.args.nanos)) (sym c.self.view_is) c.requires.calc in
-    end_fits _ _ _ _ _ _ _ _ m a next _ (ap (λ (n : ℕ). a.time + n) (sym (cpu_of_calc plans costs h a.class a.op c.args.nanos c.requires.class kind)))
+    end_fits _ _ _ _ _ _ _ m a next _ (ap (λ (n : ℕ). a.time + n) (sym (cpu_of_calc plans costs h a.class a.op c.args.nanos c.requires.class kind)))
 
-pub write-requires : goal.write-requires
-write-requires g c =
+pub write_times-requires : goal.write_times-requires
+write_times-requires g c =
     let next = next_at g.C.Costs.model _ _ c.args.action c.self.view_is c.requires.next in
     record {
-      exists = is_op _ _ _ _ _ _ _ _ c.self.invariant c.args.action next;
-      each = each_entry _ _ _ _ _ _ _ _ c.self.invariant _ c.deref_mut.ensures.value;
+      exists = is_op _ _ _ _ _ _ _ c.self.invariant c.args.action next;
+      each = each_entry _ _ _ _ _ _ _ c.self.invariant _ c.deref_mut.ensures.value;
     }
 
 pub compact-requires : goal.compact-requires
 compact-requires g c =
     let next = next_at g.C.Costs.model _ _ c.args.action c.self.view_is c.requires.next in
-    is_op _ _ _ _ _ _ _ _ c.self.invariant c.args.action next
+    is_op _ _ _ _ _ _ _ c.self.invariant c.args.action next
 
 pub push_reserved-requires : goal.push_reserved-requires
 push_reserved-requires g c =
     let next = next_at g.C.Costs.model _ _ c.args.action c.self.view_is c.requires.next in
-    let room : length c.self.inside.history.items < vec_capacity c.self.inside.history = room_left _ _ (record { items = c.self.inside.history.items; entries = c.self.inside.entries.items; works = c.self.inside.works.items; matcher = c.self.inside.matcher; res = c.self.inside.resources; room = vec_capacity c.self.inside.history }) c.self.invariant c.args.action next in
+    let room : length c.self.inside.history.items < vec_capacity c.self.inside.history = room_left _ _ (record { items = c.self.inside.history.items; entries = c.self.inside.entries.items; matcher = c.self.inside.matcher; res = c.self.inside.resources; room = vec_capacity c.self.inside.history }) c.self.invariant c.args.action next in
     omega (arith, c.self.inside.history.ok.0, room)
 
 pub invariant_of-self : goal.invariant_of-self
@@ -76,16 +76,16 @@ invariant_of-self g c =
     let next = next_at g.C.Costs.model _ _ a c.self.view_is c.requires.next in
     let kind = subst (λ (v : View _). kind_at v.plans a.op ≡ Some (Calc c.args.nanos)) (sym c.self.view_is) c.requires.calc in
     let calc : IsCalc plans a.op = record { nanos = c.args.nanos; kind = kind } in
-    let was = entry_is g.C.Costs.model _ _ a.op c.entry-entry.result.now c.self.view_is c.entry-entry.ensures in
+    let was = entry_is g.C.Costs.model _ _ a.op c.entry.result.now c.self.view_is c.entry.ensures in
     let until = ap (λ (n : ℕ). a.time + n) (sym (cpu_of_calc plans costs h a.class a.op c.args.nanos c.requires.class kind)) in
-    let told = c.write.ensures (entry_known plans costs h) (c.deref_mut.ensures.value ∙ m.known) ∙ (λ i. map (with_entry a.op (record c.entry-entry.result.now { start = c.at.ensures i; end = c.at-2.ensures i }) (entry_known plans costs h)) (operations plans)) ∙ calc_begun plans costs h a m.run next.possible c.entry-entry.result.now was _ until c.requires.class calc in
+    let told = c.write_times.ensures (entry_known plans costs h) (c.deref_mut.ensures.value ∙ m.known) ∙ (λ i. map (with_entry a.op (record (entry_known plans costs h a.op) { start = c.at-start.ensures i; end = c.at.ensures i; arriving = (was i).arriving }) (entry_known plans costs h)) (operations plans)) ∙ calc_begun plans costs h a m.run next.possible (entry_known plans costs h a.op) refl _ until c.requires.class calc in
     let posts_and_arrivals = other_action plans costs h a c.self.inside.matcher m.posts_and_arrivals (ap is_post_or_arrival_class c.requires.class) in
     let free = free_calc plans costs h a c.self.inside.resources m.free c.hold_cpu.new.self _ (ap holds_cpu c.requires.class) until c.hold_cpu.ensures (tx_of_calc plans costs h a.class a.op c.args.nanos c.requires.class kind) (ap holds_rx c.requires.class) in
-    let parts : Parts = record { items = c.self.inside.history.items; entries = c.self.inside.entries.items; works = c.self.inside.works.items; matcher = c.self.inside.matcher; res = c.self.inside.resources; room = vec_capacity c.self.inside.history } in
+    let parts : Parts = record { items = c.self.inside.history.items; entries = c.self.inside.entries.items; matcher = c.self.inside.matcher; res = c.self.inside.resources; room = vec_capacity c.self.inside.history } in
     performed plans costs parts m a next (record {
       items = c.push_reserved.new.self.items;
       lent = c.deref_mut.result.now;
-      written = c.write.new.entries;
+      written = c.write_times.new.entries;
       count = c.self.inside.entries.len;
       matcher = c.self.inside.matcher;
       res = c.hold_cpu.new.self;
@@ -96,7 +96,7 @@ invariant_of-self g c =
       same_room = c.push_reserved.ensures.capacity;
       whole = c.self.inside.entries.ok.0;
       same_table = c.deref_mut.ensures.value;
-      kept = c.write.auto.entries;
+      kept = c.write_times.auto.entries;
       told = told;
       posts_and_arrivals = posts_and_arrivals;
       free = free;

@@ -1,4 +1,4 @@
-use Rattle.std.proofs.Common.{◌≡◌, ◌+◌, ◌∙◌, ◌<◌, ℕ, true, length, reverse, vec_capacity, sym, ap, subst, arith, map}
+use Rattle.std.proofs.Common.{◌≡◌, ◌+◌, ◌∙◌, ◌<◌, ℕ, true, length, reverse, vec_capacity, sym, ap, subst, arith, map, refl}
 use Rattle.goal_graph.specs.Laws.{IsSend}
 use Rattle.goal_graph.specs.Schedule.{operations}
 use Rattle.sim_params.specs.Costs.{is_eager}
@@ -14,13 +14,8 @@ use Rattle.sim_state.proofs.Fits.{cpu_fits, tx_fits, flight_of_eager}
 use Rattle.sim_state.proofs.FreeTimes.{free_send}
 use Rattle.sim_state.proofs.PostsAndArrivals.{other_action}
 use Rattle.sim_state.proofs.HoldTimes.{cpu_of_eager, tx_of_eager, sends_at_begin}
-use Rattle.sim_state.proofs.Places.{possible_exists}
-use Rattle.sim_state.proofs.Performed.{next_at, entry_is, each_entry, room_left, performed, Parts, is_op, time_fits, end_fits}
+use Rattle.sim_state.proofs.Performed.{next_at, each_entry, room_left, performed, Parts, is_op, time_fits, end_fits}
 use Rattle.sim_state.proofs.state.State.begin_eager.Goals as goal
-
-pub entry-entry-requires : goal.entry-entry-requires
-entry-entry-requires g c =
-    possible_exists _ _ _ c.args.action c.requires.next.possible
 
 pub eager_begin-begun-requires : goal.eager_begin-begun-requires
 eager_begin-begun-requires g c =
@@ -41,13 +36,13 @@ eager_begin-begun-requires g c =
       flight_fits = omega (arith, flight_of_eager plans costs h a m.run next.possible c.requires.class send eager, m.within);
     }
 
-pub at-requires : goal.at-requires
-at-requires g c =
+pub at-start-requires : goal.at-start-requires
+at-start-requires g c =
     let next = next_at g.C.Costs.model _ _ c.args.action c.self.view_is c.requires.next in
-    time_fits _ _ _ _ _ _ _ _ c.self.invariant c.args.action next
+    time_fits _ _ _ _ _ _ _ c.self.invariant c.args.action next
 
-pub at-requires-2 : goal.at-requires-2
-at-requires-2 g c =
+pub at-end-requires : goal.at-end-requires
+at-end-requires g c =
     let plans = c.self.inside.sched.now in
     let costs = g.C.Costs.model c.self.inside.costs in
     let h = reverse c.self.inside.history.items in
@@ -56,10 +51,10 @@ at-requires-2 g c =
     let next = next_at g.C.Costs.model _ _ a c.self.view_is c.requires.next in
     let send = subst (λ (v : View _). IsSend v.plans a.op) (sym c.self.view_is) (message_is_send _ a.op _ _ c.requires.message) in
     let eager = subst (λ (v : View _). is_eager v.plans (g.C.Costs.model v.costs) a.op ≡ true) (sym c.self.view_is) c.requires.eager in
-    end_fits _ _ _ _ _ _ _ _ m a next _ (c.eager_begin-begun.ensures.end ∙ ap (λ (n : ℕ). a.time + n) (sym (cpu_of_eager plans costs h a.class a.op send c.requires.class eager)))
+    end_fits _ _ _ _ _ _ _ m a next _ (c.eager_begin-begun.ensures.end ∙ ap (λ (n : ℕ). a.time + n) (sym (cpu_of_eager plans costs h a.class a.op send c.requires.class eager)))
 
-pub at-requires-3 : goal.at-requires-3
-at-requires-3 g c =
+pub at-arriving-requires : goal.at-arriving-requires
+at-arriving-requires g c =
     let plans = c.self.inside.sched.now in
     let costs = g.C.Costs.model c.self.inside.costs in
     let h = reverse c.self.inside.history.items in
@@ -70,23 +65,23 @@ at-requires-3 g c =
     let eager = subst (λ (v : View _). is_eager v.plans (g.C.Costs.model v.costs) a.op ≡ true) (sym c.self.view_is) c.requires.eager in
     omega (arith, c.eager_begin-begun.ensures.arrive, flight_of_eager plans costs h a m.run next.possible c.requires.class send eager, m.within)
 
-pub write-requires : goal.write-requires
-write-requires g c =
+pub write_times-requires : goal.write_times-requires
+write_times-requires g c =
     let next = next_at g.C.Costs.model _ _ c.args.action c.self.view_is c.requires.next in
     record {
-      exists = is_op _ _ _ _ _ _ _ _ c.self.invariant c.args.action next;
-      each = each_entry _ _ _ _ _ _ _ _ c.self.invariant _ c.deref_mut.ensures.value;
+      exists = is_op _ _ _ _ _ _ _ c.self.invariant c.args.action next;
+      each = each_entry _ _ _ _ _ _ _ c.self.invariant _ c.deref_mut.ensures.value;
     }
 
 pub compact-requires : goal.compact-requires
 compact-requires g c =
     let next = next_at g.C.Costs.model _ _ c.args.action c.self.view_is c.requires.next in
-    is_op _ _ _ _ _ _ _ _ c.self.invariant c.args.action next
+    is_op _ _ _ _ _ _ _ c.self.invariant c.args.action next
 
 pub push_reserved-requires : goal.push_reserved-requires
 push_reserved-requires g c =
     let next = next_at g.C.Costs.model _ _ c.args.action c.self.view_is c.requires.next in
-    let room : length c.self.inside.history.items < vec_capacity c.self.inside.history = room_left _ _ (record { items = c.self.inside.history.items; entries = c.self.inside.entries.items; works = c.self.inside.works.items; matcher = c.self.inside.matcher; res = c.self.inside.resources; room = vec_capacity c.self.inside.history }) c.self.invariant c.args.action next in
+    let room : length c.self.inside.history.items < vec_capacity c.self.inside.history = room_left _ _ (record { items = c.self.inside.history.items; entries = c.self.inside.entries.items; matcher = c.self.inside.matcher; res = c.self.inside.resources; room = vec_capacity c.self.inside.history }) c.self.invariant c.args.action next in
     omega (arith, c.self.inside.history.ok.0, room)
 
 pub invariant_of-self : goal.invariant_of-self
@@ -97,19 +92,18 @@ invariant_of-self g c =
     let a = c.args.action in
     let m = c.self.invariant in
     let next = next_at g.C.Costs.model _ _ a c.self.view_is c.requires.next in
-    let was = entry_is g.C.Costs.model _ _ a.op c.entry-entry.result.now c.self.view_is c.entry-entry.ensures in
     let send = subst (λ (v : View _). IsSend v.plans a.op) (sym c.self.view_is) (message_is_send _ a.op _ _ c.requires.message) in
     let eager = subst (λ (v : View _). is_eager v.plans (g.C.Costs.model v.costs) a.op ≡ true) (sym c.self.view_is) c.requires.eager in
     let until = c.eager_begin-begun.ensures.end ∙ ap (λ (n : ℕ). a.time + n) (sym (cpu_of_eager plans costs h a.class a.op send c.requires.class eager)) in
     let sent = ap (λ (n : ℕ). a.time + n) (sym (tx_of_eager plans costs h a.class a.op send c.requires.class eager)) in
-    let told = c.write.ensures (entry_known plans costs h) (c.deref_mut.ensures.value ∙ m.known) ∙ (λ i. map (with_entry a.op (record c.entry-entry.result.now { start = c.at.ensures i; end = c.at-2.ensures i; arriving = c.at-3.ensures i }) (entry_known plans costs h)) (operations plans)) ∙ eager_begun plans costs h a m.run next.possible c.entry-entry.result.now was _ until c.eager_begin-begun.result.arrive c.requires.class send eager c.eager_begin-begun.ensures.arrive in
+    let told = c.write_times.ensures (entry_known plans costs h) (c.deref_mut.ensures.value ∙ m.known) ∙ (λ i. map (with_entry a.op (record (entry_known plans costs h a.op) { start = c.at-start.ensures i; end = c.at-end.ensures i; arriving = c.at-arriving.ensures i }) (entry_known plans costs h)) (operations plans)) ∙ eager_begun plans costs h a m.run next.possible (entry_known plans costs h a.op) refl _ until c.eager_begin-begun.result.arrive c.requires.class send eager c.eager_begin-begun.ensures.arrive in
     let posts_and_arrivals = other_action plans costs h a c.self.inside.matcher m.posts_and_arrivals (ap is_post_or_arrival_class c.requires.class) in
     let free = free_send plans costs h a c.self.inside.resources m.free c.eager_begin-begun.new.res _ (ap holds_cpu c.requires.class) until _ c.eager_begin-begun.ensures.holds (sends_at_begin plans costs h a.class a.op send c.requires.class) sent (ap holds_rx c.requires.class) in
-    let parts : Parts = record { items = c.self.inside.history.items; entries = c.self.inside.entries.items; works = c.self.inside.works.items; matcher = c.self.inside.matcher; res = c.self.inside.resources; room = vec_capacity c.self.inside.history } in
+    let parts : Parts = record { items = c.self.inside.history.items; entries = c.self.inside.entries.items; matcher = c.self.inside.matcher; res = c.self.inside.resources; room = vec_capacity c.self.inside.history } in
     performed plans costs parts m a next (record {
       items = c.push_reserved.new.self.items;
       lent = c.deref_mut.result.now;
-      written = c.write.new.entries;
+      written = c.write_times.new.entries;
       count = c.self.inside.entries.len;
       matcher = c.self.inside.matcher;
       res = c.eager_begin-begun.new.res;
@@ -120,7 +114,7 @@ invariant_of-self g c =
       same_room = c.push_reserved.ensures.capacity;
       whole = c.self.inside.entries.ok.0;
       same_table = c.deref_mut.ensures.value;
-      kept = c.write.auto.entries;
+      kept = c.write_times.auto.entries;
       told = told;
       posts_and_arrivals = posts_and_arrivals;
       free = free;

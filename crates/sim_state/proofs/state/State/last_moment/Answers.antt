@@ -1,9 +1,7 @@
-use Rattle.std.proofs.Common.{◌∙◌, ◌+◌, drop, get_or, ap, subst}
+use Rattle.std.proofs.Common.{◌∙◌, ◌+◌, drop, ap}
 use Rattle.goal_graph.specs.declared.plan.Need.{Need}
 use Rattle.goal_graph.specs.declared.plan.When.TheVariants.{AfterEnd}
-use Rattle.goal_graph.specs.Schedule.{needs, needed}
-use Rattle.goal_graph.specs.Fault.{IsOp}
-use Rattle.sim_state.specs.Engine.{View}
+use Rattle.goal_graph.specs.Schedule.{needs}
 use Rattle.sim_state.specs.Enabled.{ready_known}
 use Rattle.sim_state.proofs.Ready.{ready_from, ready_start, read_met, read_unmet, read_all}
 use Rattle.sim_state.proofs.state.State.last_moment.Goals as goal
@@ -17,22 +15,21 @@ loop-need-init g c =
 
 pub moment-requires : goal.moment-requires
 moment-requires g c =
-    let d = get_or c.needs-need-items.result.now c.loop-need.need-index none in
-    subst (λ (v : View _). IsOp v.plans (needed c.args.id d)) c.self.view_is (c.needs-need-items.ensures.exist c.loop-need.need-index none c.loop-need-test.true)
+    c.needs-need-items.ensures.exist c.loop-need.need-index none c.loop-need-test.true
 
 pub returns-in-None : goal.returns-in-None
 returns-in-None g c =
-    let items = c.needs-need-items.ensures.needs ∙ ap (λ (v : View _). needs v.plans c.args.id) c.self.view_is in
+    let items = c.needs-need-items.ensures.needs in
     read_unmet c.args.self.now.plans (g.C.Costs.model c.args.self.now.costs) c.args.self.now.history c.args.id c.needs-need-items.result.now items c.loop-need.need-index c.loop-need.last (ready_known c.args.self.now.plans (g.C.Costs.model c.args.self.now.costs) c.args.self.now.history c.args.id) c.loop-need.invariant none c.moment.result c.loop-need-test.true c.moment.ensures c.in-None.is
 
 pub loop-need-preserved : goal.loop-need-preserved
 loop-need-preserved g c =
-    let items = c.needs-need-items.ensures.needs ∙ ap (λ (v : View _). needs v.plans c.args.id) c.self.view_is in
+    let items = c.needs-need-items.ensures.needs in
     let rest = drop (c.loop-need.need-index + 1) (needs c.args.self.now.plans c.args.id) in
     let met = read_met c.args.self.now.plans (g.C.Costs.model c.args.self.now.costs) c.args.self.now.history c.args.id c.needs-need-items.result.now items c.loop-need.need-index c.loop-need.last (ready_known c.args.self.now.plans (g.C.Costs.model c.args.self.now.costs) c.args.self.now.history c.args.id) c.loop-need.invariant none c.moment.result c.in-Some.moment c.loop-need-test.true c.moment.ensures c.in-Some.is in
     ap (λ n. ready_from c.args.self.now.plans (g.C.Costs.model c.args.self.now.costs) c.args.self.now.history c.args.id n rest) c.max-last.ensures ∙ met
 
 pub returns : goal.returns
 returns g c =
-    let items = c.needs-need-items.ensures.needs ∙ ap (λ (v : View _). needs v.plans c.args.id) c.self.view_is in
+    let items = c.needs-need-items.ensures.needs in
     read_all c.args.self.now.plans (g.C.Costs.model c.args.self.now.costs) c.args.self.now.history c.args.id c.needs-need-items.result.now items c.loop-need.need-index c.loop-need.last (ready_known c.args.self.now.plans (g.C.Costs.model c.args.self.now.costs) c.args.self.now.history c.args.id) c.loop-need.invariant c.loop-need-test.false

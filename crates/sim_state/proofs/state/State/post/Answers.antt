@@ -16,14 +16,14 @@ use Rattle.sim_state.proofs.Places.{possible_exists}
 use Rattle.sim_state.proofs.Performed.{next_at, entry_is, each_entry, room_left, performed, Parts, is_op, time_fits}
 use Rattle.sim_state.proofs.state.State.post.Goals as goal
 
-pub entry-entry-requires : goal.entry-entry-requires
-entry-entry-requires g c =
+pub entry-requires : goal.entry-requires
+entry-requires g c =
     possible_exists _ _ _ c.args.action c.requires.next.possible
 
-pub at-requires : goal.at-requires
-at-requires g c =
+pub at-start-requires : goal.at-start-requires
+at-start-requires g c =
     let next = next_at g.C.Costs.model _ _ c.args.action c.self.view_is c.requires.next in
-    time_fits _ _ _ _ _ _ _ _ c.self.invariant c.args.action next
+    time_fits _ _ _ _ _ _ _ c.self.invariant c.args.action next
 
 pub post_counted-partner-requires : goal.post_counted-partner-requires
 post_counted-partner-requires g c =
@@ -48,21 +48,21 @@ write_met-requires g c =
     let next = next_at g.C.Costs.model _ _ a c.self.view_is c.requires.next in
     let taken : c.post_counted-partner.result ≡ send_for plans (filter is_post_or_arrival (plain h)) a.op = c.post_counted-partner.ensures.taken ∙ (λ i. send_for (m.posts_and_arrivals.same_plans i) (m.posts_and_arrivals.events i) a.op) in
     record {
-      exists = is_op _ _ _ _ _ _ _ _ m a next;
+      exists = is_op _ _ _ _ _ _ _ m a next;
       other = sender_exists plans costs h a m.run next.possible c.post_counted-partner.result c.requires.class taken;
-      fits = time_fits _ _ _ _ _ _ _ _ m a next;
-      each = each_entry _ _ _ _ _ _ _ _ m _ c.deref_mut.ensures.value;
+      fits = time_fits _ _ _ _ _ _ _ m a next;
+      each = each_entry _ _ _ _ _ _ _ m _ c.deref_mut.ensures.value;
     }
 
 pub compact-requires : goal.compact-requires
 compact-requires g c =
     let next = next_at g.C.Costs.model _ _ c.args.action c.self.view_is c.requires.next in
-    is_op _ _ _ _ _ _ _ _ c.self.invariant c.args.action next
+    is_op _ _ _ _ _ _ _ c.self.invariant c.args.action next
 
 pub push_reserved-requires : goal.push_reserved-requires
 push_reserved-requires g c =
     let next = next_at g.C.Costs.model _ _ c.args.action c.self.view_is c.requires.next in
-    let room : length c.self.inside.history.items < vec_capacity c.self.inside.history = room_left _ _ (record { items = c.self.inside.history.items; entries = c.self.inside.entries.items; works = c.self.inside.works.items; matcher = c.self.inside.matcher; res = c.self.inside.resources; room = vec_capacity c.self.inside.history }) c.self.invariant c.args.action next in
+    let room : length c.self.inside.history.items < vec_capacity c.self.inside.history = room_left _ _ (record { items = c.self.inside.history.items; entries = c.self.inside.entries.items; matcher = c.self.inside.matcher; res = c.self.inside.resources; room = vec_capacity c.self.inside.history }) c.self.invariant c.args.action next in
     omega (arith, c.self.inside.history.ok.0, room)
 
 pub invariant_of-self : goal.invariant_of-self
@@ -73,13 +73,13 @@ invariant_of-self g c =
     let a = c.args.action in
     let m = c.self.invariant in
     let next = next_at g.C.Costs.model _ _ a c.self.view_is c.requires.next in
-    let was = entry_is g.C.Costs.model _ _ a.op c.entry-entry.result.now c.self.view_is c.entry-entry.ensures in
+    let was = entry_is g.C.Costs.model _ _ a.op c.entry.result.now c.self.view_is c.entry.ensures in
     let kind = posts plans costs h a m.run next.possible c.requires.class in
     let taken : c.post_counted-partner.result ≡ send_for plans (filter is_post_or_arrival (plain h)) a.op = c.post_counted-partner.ensures.taken ∙ (λ i. send_for (m.posts_and_arrivals.same_plans i) (m.posts_and_arrivals.events i) a.op) in
-    let told = c.write_met.ensures (entry_known plans costs h) (c.deref_mut.ensures.value ∙ m.known) ∙ (λ i. map (with_partner a.op c.post_counted-partner.result a.time (with_entry a.op (record c.entry-entry.result.now { start = c.at.ensures i }) (entry_known plans costs h))) (operations plans)) ∙ posted plans costs h a m.run next.possible c.entry-entry.result.now was c.post_counted-partner.result c.requires.class kind taken in
+    let told = c.write_met.ensures (entry_known plans costs h) (c.deref_mut.ensures.value ∙ m.known) ∙ (λ i. map (with_partner a.op c.post_counted-partner.result a.time (with_entry a.op (record (entry_known plans costs h a.op) { start = c.at-start.ensures i; arriving = (was i).arriving }) (entry_known plans costs h))) (operations plans)) ∙ posted plans costs h a m.run next.possible (entry_known plans costs h a.op) refl c.post_counted-partner.result c.requires.class kind taken in
     let posts_and_arrivals = post_known plans costs h a c.self.inside.matcher m.posts_and_arrivals c.post_counted-partner.new.self c.requires.class c.post_counted-partner.ensures.actions in
     let free = free_same plans costs h a c.self.inside.resources m.free (ap holds_cpu c.requires.class) (ap (λ (k : Class). holds_tx k (kind_at plans a.op)) c.requires.class) (ap holds_rx c.requires.class) in
-    let parts : Parts = record { items = c.self.inside.history.items; entries = c.self.inside.entries.items; works = c.self.inside.works.items; matcher = c.self.inside.matcher; res = c.self.inside.resources; room = vec_capacity c.self.inside.history } in
+    let parts : Parts = record { items = c.self.inside.history.items; entries = c.self.inside.entries.items; matcher = c.self.inside.matcher; res = c.self.inside.resources; room = vec_capacity c.self.inside.history } in
     performed plans costs parts m a next (record {
       items = c.push_reserved.new.self.items;
       lent = c.deref_mut.result.now;

@@ -1,4 +1,4 @@
-use Rattle.std.proofs.Common.{◌+◌, ◌∙◌, ◌<◌, ℕ, length, reverse, vec_capacity, sym, ap, subst, arith, map}
+use Rattle.std.proofs.Common.{◌+◌, ◌∙◌, ◌<◌, ℕ, length, reverse, vec_capacity, sym, ap, subst, arith, map, refl}
 use Rattle.goal_graph.specs.declared.action.Class.{Class}
 use Rattle.goal_graph.specs.Schedule.{kind_at, operations}
 use Rattle.goal_graph.specs.Action.{plain}
@@ -68,8 +68,8 @@ serve-end-requires g c =
       gap_fits = omega (arith, rx_fits plans costs h a m.run next.possible, rx_of_serve plans costs h a.class a.op receive c.in-Some.pairing.with partner c.requires.class, m.within);
     }
 
-pub at-requires : goal.at-requires
-at-requires g c =
+pub at-end-requires : goal.at-end-requires
+at-end-requires g c =
     let plans = c.self.inside.sched.now in
     let costs = g.C.Costs.model c.self.inside.costs in
     let h = reverse c.self.inside.history.items in
@@ -79,25 +79,25 @@ at-requires g c =
     let was = entry_is g.C.Costs.model _ _ a.op c.entry-entry.result.now c.self.view_is c.entry-entry.ensures in
     let receive = (serves plans costs h a m.run next.possible c.requires.class).0 in
     let partner = mate_of_known plans costs h a a.op c.in-Some.pairing (sym (ap (λ (e : Entry). e.paired) was) ∙ sym c.get.ensures ∙ c.in-Some.is) in
-    end_fits _ _ _ _ _ _ _ _ m a next _ (c.serve-end.ensures.end ∙ ap (λ (n : ℕ). a.time + n) (sym (cpu_of_serve plans costs h a.class a.op receive c.in-Some.pairing.with partner c.requires.class)))
+    end_fits _ _ _ _ _ _ _ m a next _ (c.serve-end.ensures.end ∙ ap (λ (n : ℕ). a.time + n) (sym (cpu_of_serve plans costs h a.class a.op receive c.in-Some.pairing.with partner c.requires.class)))
 
-pub write-requires : goal.write-requires
-write-requires g c =
+pub write_times-requires : goal.write_times-requires
+write_times-requires g c =
     let next = next_at g.C.Costs.model _ _ c.args.action c.self.view_is c.requires.next in
     record {
-      exists = is_op _ _ _ _ _ _ _ _ c.self.invariant c.args.action next;
-      each = each_entry _ _ _ _ _ _ _ _ c.self.invariant _ c.deref_mut.ensures.value;
+      exists = is_op _ _ _ _ _ _ _ c.self.invariant c.args.action next;
+      each = each_entry _ _ _ _ _ _ _ c.self.invariant _ c.deref_mut.ensures.value;
     }
 
 pub compact-requires : goal.compact-requires
 compact-requires g c =
     let next = next_at g.C.Costs.model _ _ c.args.action c.self.view_is c.requires.next in
-    is_op _ _ _ _ _ _ _ _ c.self.invariant c.args.action next
+    is_op _ _ _ _ _ _ _ c.self.invariant c.args.action next
 
 pub push_reserved-requires : goal.push_reserved-requires
 push_reserved-requires g c =
     let next = next_at g.C.Costs.model _ _ c.args.action c.self.view_is c.requires.next in
-    let room : length c.self.inside.history.items < vec_capacity c.self.inside.history = room_left _ _ (record { items = c.self.inside.history.items; entries = c.self.inside.entries.items; works = c.self.inside.works.items; matcher = c.self.inside.matcher; res = c.self.inside.resources; room = vec_capacity c.self.inside.history }) c.self.invariant c.args.action next in
+    let room : length c.self.inside.history.items < vec_capacity c.self.inside.history = room_left _ _ (record { items = c.self.inside.history.items; entries = c.self.inside.entries.items; matcher = c.self.inside.matcher; res = c.self.inside.resources; room = vec_capacity c.self.inside.history }) c.self.invariant c.args.action next in
     omega (arith, c.self.inside.history.ok.0, room)
 
 pub invariant_of-self : goal.invariant_of-self
@@ -113,14 +113,14 @@ invariant_of-self g c =
     let partner = mate_of_known plans costs h a a.op c.in-Some.pairing (sym (ap (λ (e : Entry). e.paired) was) ∙ sym c.get.ensures ∙ c.in-Some.is) in
     let until = c.serve-end.ensures.end ∙ ap (λ (n : ℕ). a.time + n) (sym (cpu_of_serve plans costs h a.class a.op receive c.in-Some.pairing.with partner c.requires.class)) in
     let received = ap (λ (n : ℕ). a.time + n) (sym (rx_of_serve plans costs h a.class a.op receive c.in-Some.pairing.with partner c.requires.class)) in
-    let told = c.write.ensures (entry_known plans costs h) (c.deref_mut.ensures.value ∙ m.known) ∙ (λ i. map (with_entry a.op (record c.entry-entry.result.now { end = c.at.ensures i }) (entry_known plans costs h)) (operations plans)) ∙ message_taken plans costs h a m.run next.possible c.entry-entry.result.now was _ until c.requires.class receive in
+    let told = c.write_times.ensures (entry_known plans costs h) (c.deref_mut.ensures.value ∙ m.known) ∙ (λ i. map (with_entry a.op (record (entry_known plans costs h a.op) { start = (was i).start; end = c.at-end.ensures i; arriving = (was i).arriving }) (entry_known plans costs h)) (operations plans)) ∙ message_taken plans costs h a m.run next.possible (entry_known plans costs h a.op) refl _ until c.requires.class receive in
     let posts_and_arrivals = other_action plans costs h a c.self.inside.matcher m.posts_and_arrivals (ap is_post_or_arrival_class c.requires.class) in
     let free = free_serve plans costs h a c.self.inside.resources m.free c.serve-end.new.res _ (ap holds_cpu c.requires.class) until _ c.serve-end.ensures.holds (ap (λ (k : Class). holds_tx k (kind_at plans a.op)) c.requires.class) (ap holds_rx c.requires.class) received in
-    let parts : Parts = record { items = c.self.inside.history.items; entries = c.self.inside.entries.items; works = c.self.inside.works.items; matcher = c.self.inside.matcher; res = c.self.inside.resources; room = vec_capacity c.self.inside.history } in
+    let parts : Parts = record { items = c.self.inside.history.items; entries = c.self.inside.entries.items; matcher = c.self.inside.matcher; res = c.self.inside.resources; room = vec_capacity c.self.inside.history } in
     performed plans costs parts m a next (record {
       items = c.push_reserved.new.self.items;
       lent = c.deref_mut.result.now;
-      written = c.write.new.entries;
+      written = c.write_times.new.entries;
       count = c.self.inside.entries.len;
       matcher = c.self.inside.matcher;
       res = c.serve-end.new.res;
@@ -131,7 +131,7 @@ invariant_of-self g c =
       same_room = c.push_reserved.ensures.capacity;
       whole = c.self.inside.entries.ok.0;
       same_table = c.deref_mut.ensures.value;
-      kept = c.write.auto.entries;
+      kept = c.write_times.auto.entries;
       told = told;
       posts_and_arrivals = posts_and_arrivals;
       free = free;
