@@ -131,6 +131,13 @@ read_bound ranks rank s (k ∷ ks) low all light =
     let rest = read_bound ranks rank s ks low (λ i d l. all (suc i) d (omega (arith, l))) light in
     omega (arith, most, rest, light, sum_by-cons (λ k. length (s rank k)) k ks)
 
+-- what an operation reads of the slots of its rank is little
+pub read_light : (plans : List Plan) → IsSmall plans → (x : OpId) → IsOp plans x → (ranks : ℕ) (s : Store) → ranks ≡ length plans → stored ranks s ≤ 2 ^ 24 → (ks : List ℕ) (vs : List Value) → ks ≡ slots plans x → vs ≡ map (s x.rank) ks → size_of vs ≤ 2 ^ 48
+read_light plans small x is ranks s same light ks vs e f =
+    let low : All IsLow ks = subst (All IsLow) (sym e) (slots_low plans small x is) in
+    let most = read_bound ranks x.rank s ks (omega (arith, rank_below plans x is, same)) low light in
+    omega (arith, most, ap length e, slots_few plans small x is, ap size_of f, size_read (s x.rank) ks)
+
 -- one note more
 add_last : (rank : ℕ) (added : List Adding) (a : Adding) (s : Store) → add_all rank (added ++ a ∷ []) s ≡ set_slot rank a.to (merge (add_all rank added s rank a.to) (add_all rank added s rank a.from)) (add_all rank added s)
 unfolding add_all

@@ -24,6 +24,16 @@ weight sums t = 2 * length (meaning sums t) - 1 + (1 - length (meaning sums t))
 abbrev pub shares : List Value → (Contribution → ℕ) → List Term → ℕ
 shares sums f parts = sum_by (λ t. sum_by f (meaning sums t)) parts
 
+-- one part more
+pub with_part : (sums : List Value) (f : Contribution → ℕ) (parts : List Term) (t : Term) → shares sums f (parts ++ t ∷ []) ≡ shares sums f parts + sum_by f (meaning sums t)
+with_part sums f parts t =
+    let g : Term → ℕ = λ u. sum_by f (meaning sums u) in
+    omega (arith, sum_by-append g parts (t ∷ []), sum_by-cons g t [])
+
+-- one contribution more
+pub with_one : (f : Contribution → ℕ) (v : Value) (c : Contribution) → sum_by f (v ++ c ∷ []) ≡ sum_by f v + sum_by f (c ∷ [])
+with_one f v c = sum_by-append f v (c ∷ [])
+
 insert_sum : (f : Contribution → ℕ) (c : Contribution) (v : Value) → sum_by f (insert_one c v) ≡ f c + sum_by f v
 unfolding insert_one
 insert_sum f c [] = sum_by-cons f c []

@@ -136,6 +136,23 @@ module _ (what : Collective) (ranks : ℕ) (segment : Segment) (sums : List Valu
   held_there held sound =
       sound.held_is ∙ ap (λ (u : Summed). stored u.kept.ranks (values u.kept)) is
 
+-- what was in the map of a slot, or else a term of its first value
+module _ (what : Collective) (ranks : ℕ) (segment : Segment) (sums : List Value) (m : Terms) (r k : ℕ) (old : Option Term) (first : Term) (there : old ≡ get place_cmp m (r, k)) where
+  pub old_size : meaning sums first ≡ initial_in what segment.width segment.block ranks r k → length (meaning sums (unwrap_or old first)) ≡ length (values (kept_in what ranks segment sums m.entries) r k)
+  old_size is =
+      ap length (go old ∙ sym (value_by what ranks segment sums m r k ∙ ap (λ (o : Option Term). unwrap_or (option_map (meaning sums) o) (initial_in what segment.width segment.block ranks r k)) (sym there)))
+    where
+      go : (o : Option Term) → meaning sums (unwrap_or o first) ≡ unwrap_or (option_map (meaning sums) o) (initial_in what segment.width segment.block ranks r k)
+      go None = is
+      go (Some t) = refl
+
+  pub old_below : IsBelow (length sums) first → AreBelow (length sums) m → IsBelow (length sums) (unwrap_or old first)
+  old_below small below = go old (sym there)
+    where
+      go : (o : Option Term) → get place_cmp m (r, k) ≡ o → IsBelow (length sums) (unwrap_or o first)
+      go None e = small
+      go (Some t) e = below (r, k) t e
+
 -- the sums have grown
 module _ (what : Collective) (ranks : ℕ) (segment : Segment) (sums new : List Value) (m : Terms) (held : ℕ) (sound : IsSound (record { kept = kept_in what ranks segment sums m.entries; sums = sums }) m.entries held) (grown : HasGrown sums new) where
   pub values_grown : values (kept_in what ranks segment new m.entries) ≡ values (kept_in what ranks segment sums m.entries)

@@ -1,13 +1,14 @@
 -- One more of the values that were lent is written.
-use Rattle.std.proofs.Common.{ℕ, suc, ◌≡◌, ◌≢◌, ◌+◌, ◌<◌, ◌≤◌, ◌==◌, ◌&&◌, Bool, true, false, if◌then◌else◌, List, [], ◌∷◌, length, map, drop, get_or, refl, ap, ◌∙◌, arith, add-one, drop-cons, ne_eqb}
+use Rattle.std.proofs.Common.{ℕ, suc, ◌≡◌, ◌≢◌, ◌+◌, ◌<◌, ◌≤◌, ◌==◌, ◌&&◌, Bool, true, false, if◌then◌else◌, List, [], ◌∷◌, length, map, take, drop, get_or, refl, sym, ap, ◌∙◌, arith, add-one, drop-cons, ne_eqb}
 use Rattle.std.specs.List.{sum_by}
-use Rattle.std.proofs.lemmas.List.{drop_all}
+use Rattle.std.proofs.lemmas.List.{take_all, drop_all}
 use Rattle.std.proofs.Math.ListN.{get_or-map, length-map}
-use Rattle.std.proofs.lemmas.List.Sums.{sum_by-cons}
+use Rattle.std.proofs.lemmas.List.Sums.{sum_by-cons, sum_by_more, sum_by_more_le}
 use Rattle.goal_blocks.specs.Values.{Value, Store, write, set_slot}
 use Rattle.goal_values.specs.declared.sums.Term.{Term}
 use Rattle.goal_values.specs.declared.sums.Term.TheVariants.{Nothing}
 use Rattle.goal_values.specs.Sums.{meaning}
+use Rattle.goal_values.specs.Summed.{Summed}
 
 -- the next value and those behind it
 pub next_value : (sums : List Value) (terms : List Term) (at : ℕ) → at < length terms → drop at (map (meaning sums) terms) ≡ meaning sums (get_or terms at Nothing) ∷ drop (at + 1) (map (meaning sums) terms)
@@ -33,3 +34,30 @@ set_elsewhere rank slot v s r k apart = go (r == rank) (ne_eqb r rank apart)
     go : (b : Bool) → b ≡ false → (if b && (k == slot) then v else s r k) ≡ s r k
     go true e = cc
     go false e = refl
+
+sizes_mapped : (sums : List Value) (terms : List Term) → sum_by (λ (v : Value). length v) (map (meaning sums) terms) ≡ sum_by (λ t. length (meaning sums t)) terms
+sizes_mapped sums [] = refl
+sizes_mapped sums (t ∷ more) =
+    omega (arith, sum_by-cons (λ (v : Value). length v) (meaning sums t) (map (meaning sums) more), sum_by-cons (λ x. length (meaning sums x)) t more, sizes_mapped sums more)
+
+-- how many contributions the first of the values have that were lent
+abbrev pub first_sizes : List Value → List Term → ℕ → ℕ
+first_sizes sums terms i = sum_by (λ t. length (meaning sums t)) (take i terms)
+
+module _ (s t : Summed) (is : s ≡ t) (terms : List Term) (i : ℕ) (d : Term) (size more : ℕ) (inside : i < length terms) (so_far : size ≡ first_sizes t.sums terms i) (here : more ≡ length (meaning s.sums (get_or terms i d))) where
+  one_size : more ≡ length (meaning t.sums (get_or terms i d))
+  one_size = here ∙ ap (λ (u : Summed). length (meaning u.sums (get_or terms i d))) is
+
+  -- with the next one
+  pub size_more : size + more ≡ first_sizes t.sums terms (i + 1)
+  size_more =
+      omega (arith, so_far, one_size, sum_by_more (λ x. length (meaning t.sums x)) terms i d inside)
+
+  pub size_within : size + more ≤ sum_by (λ (v : Value). length v) (map (meaning t.sums) terms)
+  size_within =
+      omega (arith, so_far, one_size, sum_by_more_le (λ x. length (meaning t.sums x)) terms i d inside, sizes_mapped t.sums terms)
+
+-- with all of them
+pub size_all : (sums : List Value) (terms : List Term) (i size : ℕ) → length terms ≤ i → size ≡ first_sizes sums terms i → size ≡ sum_by (λ (v : Value). length v) (map (meaning sums) terms)
+size_all sums terms i size all so_far =
+    so_far ∙ ap (sum_by (λ t. length (meaning sums t))) (take_all i terms all) ∙ sym (sizes_mapped sums terms)

@@ -100,7 +100,7 @@ impl Sums {
     {
         let _sums = &self.list;
         let mut list = self.gathered(alloc, term)?;
-        list.sort_unstable();
+        list.sort()?;
         Ok(list)
     }
 
@@ -109,20 +109,30 @@ impl Sums {
         requires { IsBelow (length self.now) term }
         ensures { IfOk result (λ v. HasSame v.items (meaning self.now term)) }
     {
-        let mut list = Vec::new(alloc);
+        let mut list = Vec::with_capacity(alloc, self.size(term) as usize)?;
         let mut open = Vec::new(alloc);
-        open.push(term)?;
-        'parts: while let Some(part) = open.pop() {
+        let mut part = term;
+        'parts: loop {
             match part {
-                Term::Nothing => {}
-                Term::One(contribution) => list.push(contribution)?,
                 Term::Made(number) => {
                     let Sum { left, right, .. } = self.list[number];
                     open.push(left)?;
-                    open.push(right)?;
+                    part = right;
+                }
+                Term::One(contribution) => {
+                    list.push(contribution)?;
+                    let Some(next) = open.pop() else {
+                        return Ok(list);
+                    };
+                    part = next;
+                }
+                Term::Nothing => {
+                    let Some(next) = open.pop() else {
+                        return Ok(list);
+                    };
+                    part = next;
                 }
             }
         }
-        Ok(list)
     }
 }

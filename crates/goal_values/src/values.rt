@@ -96,16 +96,15 @@ impl SlotValues {
         self.sums.size(self.term_at(rank, slot))
     }
 
-    /// How many contributions the slots of the rank have together.
-    pub fn size_of(&self, rank: u32, slots: &Slots) -> u64
-        requires rank { rank < self.now.kept.ranks }
-        requires few { length slots.now ≤ 2 ^ 24 }
-        requires light { stored self.now.kept.ranks (values self.now.kept) ≤ 2 ^ 24 }
-        ensures { result ≡ sum_by (λ k. length (values self.now.kept rank k)) slots.now }
+    /// How many contributions the values that were lent have together.
+    pub fn lent_size(&self, lent: &Lent) -> u64
+        requires lent { IsLent self.now.sums lent.now }
+        requires fits { sum_by (λ v. length v) (lent_values self.now.sums lent.now) < 2 ^ 64 }
+        ensures { result ≡ sum_by (λ v. length v) (lent_values self.now.sums lent.now) }
     {
         let mut size = 0;
-        for slot in slots.as_slice() {
-            size += self.size_at(rank, *slot);
+        for term in &lent.terms {
+            size += self.sums.size(*term);
         }
         size
     }
@@ -208,8 +207,9 @@ impl SlotValues {
         ensures sums { self.new.sums ≡ self.old.sums }
     {
         let size = self.sums.size(term);
-        let before = self.size_at(rank, slot);
-        self.written.insert((rank, slot), term)?;
+        let first = self.first_at(rank, slot);
+        let old = self.written.insert((rank, slot), term)?;
+        let before = self.sums.size(old.unwrap_or(first));
         self.held = self.held - before + size;
         Ok(())
     }

@@ -74,14 +74,14 @@ pub fn hand_over(
     ensures over { IfErr result (IsOver (λ total. (stored store.now.kept.ranks (values store.now.kept) + others + size_of (map (values store.now.kept send.rank) (slots table.now send)) ≡ total) × IsTooHeavy total)) }
 {
     let slots = table.slots_of(send);
-    let size = store.size_of(send.rank, slots);
+    let Ok(lent) = store.lend(send.rank, slots) else {
+        return Err(CertFault::NoMemory);
+    };
+    let size = store.lent_size(&lent);
     let total = store.held() + others + size;
     if total > MOST_HELD {
         return Err(CertFault::Weight { held: total });
     }
-    let Ok(lent) = store.lend(send.rank, slots) else {
-        return Err(CertFault::NoMemory);
-    };
     Ok(Parcel { lent, size })
 }
 

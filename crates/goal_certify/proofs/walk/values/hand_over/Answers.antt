@@ -1,25 +1,23 @@
-use Rattle.std.proofs.Common.{◌<◌, List, length, All, ap, sym, subst, arith}
+use Rattle.std.proofs.Common.{◌^◌, ◌≤◌, arith}
 use Rattle.goal_values.specs.Kept.{values}
+use Rattle.goal_values.specs.Summed.{lent_values}
+use Rattle.goal_blocks.specs.Weight.{stored}
 use Rattle.goal_certify.proofs.Places.{rank_below}
-use Rattle.goal_certify.proofs.SlotFacts.{IsLow, slots_low, slots_few, read_bound}
+use Rattle.goal_certify.proofs.SlotFacts.{read_light}
 use Rattle.goal_certify.proofs.walk.values.hand_over.Goals as goal
-
-pub size_of-size-requires-clause-rank : goal.size_of-size-requires-clause-rank
-size_of-size-requires-clause-rank c =
-    omega (arith, rank_below c.args.table.now c.args.send c.requires.exists, c.requires.ranks)
-
-pub size_of-size-requires-clause-few : goal.size_of-size-requires-clause-few
-size_of-size-requires-clause-few c =
-    omega (arith, ap length c.slots_of-slots.ensures, slots_few c.args.table.now c.requires.small c.args.send c.requires.exists)
-
-pub overflow_add-total-2 : goal.overflow_add-total-2
-overflow_add-total-2 c =
-    let few = slots_few c.args.table.now c.requires.small c.args.send c.requires.exists in
-    let low = subst (λ (ks : List _). All IsLow ks) (sym c.slots_of-slots.ensures) (slots_low c.args.table.now c.requires.small c.args.send c.requires.exists) in
-    let rank : c.args.send.rank < c.args.store.now.kept.ranks = omega (arith, rank_below c.args.table.now c.args.send c.requires.exists, c.requires.ranks) in
-    let most = read_bound c.args.store.now.kept.ranks c.args.send.rank (values c.args.store.now.kept) c.slots_of-slots.result.now rank low (omega (arith, c.requires.light)) in
-    omega (arith, c.held.ensures, c.requires.light, c.size_of-size.ensures, most, few, ap length c.slots_of-slots.ensures)
 
 pub lend-requires : goal.lend-requires
 lend-requires c =
     omega (arith, rank_below c.args.table.now c.args.send c.requires.exists, c.requires.ranks)
+
+pub lent_size-size-requires-clause-fits : goal.lent_size-size-requires-clause-fits
+lent_size-size-requires-clause-fits c =
+    let light : stored c.args.store.now.kept.ranks (values c.args.store.now.kept) ≤ 2 ^ 24 = omega (arith, c.requires.light) in
+    let few = read_light c.args.table.now c.requires.small c.args.send c.requires.exists c.args.store.now.kept.ranks (values c.args.store.now.kept) c.requires.ranks light c.slots_of-slots.result.now (lent_values c.args.store.now.sums c.in-Ok.lent) c.slots_of-slots.ensures c.in-Ok.ensures.values in
+    omega (arith, few)
+
+pub overflow_add-total-2 : goal.overflow_add-total-2
+overflow_add-total-2 c =
+    let light : stored c.args.store.now.kept.ranks (values c.args.store.now.kept) ≤ 2 ^ 24 = omega (arith, c.requires.light) in
+    let few = read_light c.args.table.now c.requires.small c.args.send c.requires.exists c.args.store.now.kept.ranks (values c.args.store.now.kept) c.requires.ranks light c.slots_of-slots.result.now (lent_values c.args.store.now.sums c.in-Ok.lent) c.slots_of-slots.ensures c.in-Ok.ensures.values in
+    omega (arith, few, c.lent_size-size.ensures, c.held.ensures, c.requires.light)

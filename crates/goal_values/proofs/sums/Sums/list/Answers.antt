@@ -6,8 +6,8 @@ use Rattle.goal_values.proofs.sums.Sums.list.Goals as goal
 
 pub returns-clause-list : goal.returns-clause-list
 returns-clause-list c =
-    let h = c.sort_unstable.ensures.sorted in
-    same_sorted c.sort_unstable.new.self.items _ (sorted_by c.sort_unstable.new.self.items h) (meaning_sorted c.args.self.now c.args.term (sorted_as c.self.inside.list.items c.self.invariant c.args.self.now c.self.view_is)) (λ f. sum_by-IsPermutation f _ _ c.sort_unstable.ensures.permutation ∙ c.in_ok-list.ensures f)
+    let h = c.in_ok-sort.ensures.sorted in
+    same_sorted c.sort.new.self.items _ (sorted_by c.sort.new.self.items h) (meaning_sorted c.args.self.now c.args.term (sorted_as c.self.inside.list.items c.self.invariant c.args.self.now c.self.view_is)) (λ f. sum_by-IsPermutation f _ _ c.sort.ensures.permutation ∙ c.in_ok-list.ensures f)
 
 pub returns-clause-sorted : goal.returns-clause-sorted
-returns-clause-sorted c = sorted_by c.sort_unstable.new.self.items c.sort_unstable.ensures.sorted
+returns-clause-sorted c = sorted_by c.sort.new.self.items c.in_ok-sort.ensures.sorted
