@@ -14,6 +14,8 @@ pub mod Kept
 pub mod Unseen
 pub mod CapacityLemmas
 pub mod Begun
+pub mod Lines
+pub mod Queued
 pub mod PostsAndArrivalsLemmas
 pub mod Partnered
 pub mod ForCallers

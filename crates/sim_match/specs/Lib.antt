@@ -9,6 +9,8 @@ pub mod Looks
 pub mod Capacities
 pub mod Packed
 pub mod Matcher
+pub mod Queues
+pub mod Tables
 -- Laws.
 pub mod Laws
 -- What the clauses cite of lower crates.

@@ -4,6 +4,7 @@ ghost use Rattle.goal_graph.specs.Schedule.{operations};
 ghost use Rattle.sim_match.specs.declared.capacities.Capacity.{Capacity};
 ghost use Rattle.sim_match.specs.ListNumbers.{AreNumbered};
 ghost use Rattle.sim_match.specs.Capacities.{room_of, AreCapacities, AreCounted, AreOnce, AreWithin};
+ghost use Rattle.sim_match.specs.Queues.{waits_as};
 
 use crate::list_numbers::ListNumbers;
 use goal_graph::{Kind, Sched};
@@ -31,6 +32,16 @@ impl Side {
         match self {
             Side::Receives => capacity.receives,
             Side::Sends => capacity.sends,
+        }
+    }
+
+    /// Whether it is that side.
+    pub fn is(self, side: Side) -> bool
+        ensures { result ≡ waits_as (Some self) side }
+    {
+        match (self, side) {
+            (Side::Receives, Side::Receives) | (Side::Sends, Side::Sends) => true,
+            (Side::Receives, Side::Sends) | (Side::Sends, Side::Receives) => false,
         }
     }
 }

@@ -10,6 +10,8 @@ mod match_lists;
 mod match_table;
 mod matcher;
 mod pattern;
+mod queues;
+mod table;
 #[cfg(test)]
 mod tests;
 

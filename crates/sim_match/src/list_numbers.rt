@@ -139,6 +139,15 @@ impl ListNumbers {
         self.own[sched.index(id) as usize]
     }
 
+    /// The number of the list of an operation's own pattern, where the schedule has it.
+    pub fn own_list(&self, sched: &Sched, id: OpId) -> Option<usize>
+        requires op { IsOp sched.now id }
+        requires numbered { AreNumbered sched.now self.now }
+        ensures { (n : AreNumbered sched.now self.now) → result ≡ own_list sched.now n.keys id }
+    {
+        decoded(self.own(sched, id))
+    }
+
     /// The number of the list of a receive.
     pub fn list_of_receive(&self, sched: &Sched, recv: OpId) -> usize
         requires receive { IsReceive sched.now recv }
@@ -157,7 +166,7 @@ impl ListNumbers {
         requires numbered { AreNumbered sched.now self.now }
         ensures { (n : AreNumbered sched.now self.now) → result ≡ lists_for sched.now n.keys send }
     {
-        let own = decoded(self.own(sched, send));
+        let own = self.own_list(sched, send);
         match &self.patterns {
             None => [own, None, None, None],
             Some(patterns) => {

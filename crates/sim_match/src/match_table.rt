@@ -8,6 +8,7 @@ ghost use Rattle.goal_graph.specs.declared.action.Class.TheVariants.{Post, Arriv
 ghost use Rattle.goal_graph.specs.Action.{happened};
 ghost use Rattle.sim_match.specs.PostsAndArrivals.{send_for, receive_for};
 ghost use Rattle.sim_match.specs.Patterns.{lists_for};
+ghost use Rattle.sim_match.specs.ListNumbers.{AreNumbered};
 ghost use Rattle.sim_match.specs.Looks.{unseen};
 ghost use Rattle.sim_match.specs.Matcher.{actions_of, side_by_side, ArePaired, IsJoined, IsKept};
 
@@ -56,12 +57,12 @@ fn pair(sched: &Sched, marks: &mut [bool], id: OpId, met: Option<MatchEntry>) ->
 
 impl MatchTable {
     /// Nothing was posted or has arrived, and there is room for each send and each receive once.
-    pub fn new(alloc: Global, sched: &Sched) -> Result<MatchTable, NoMemory>
+    pub fn new(alloc: Global, sched: &Sched, numbers: ListNumbers) -> Result<MatchTable, NoMemory>
+        requires { AreNumbered sched.now numbers }
         ensures kept { IfOk result (λ table. IsKept sched.now table) }
         ensures events { IfOk result (λ table. table.events.items ≡ []) }
     {
         sched.known();
-        let numbers = ListNumbers::of(alloc, sched)?;
         let capacities = capacities(alloc, sched, &numbers)?;
         let receives = MatchLists::new(alloc, &capacities, Side::Receives)?;
         let sends = MatchLists::new(alloc, &capacities, Side::Sends)?;

@@ -6,7 +6,7 @@ ghost use Rattle.goal_graph.specs.Laws.{IsSend, IsReceive};
 ghost use Rattle.goal_graph.specs.Matching.{pairs, partner};
 ghost use Rattle.sim_match.specs.PostsAndArrivals.{with_post, with_arrival, send_for, receive_for, NoSendFits, NoReceiveFits};
 
-use crate::match_table::MatchTable;
+use crate::table::Table;
 use goal_base::NoMemory;
 use goal_graph::{OpId, Sched};
 use sim_order::Steps;
@@ -23,7 +23,7 @@ use std::sync::ledger::{Blank, Ledger};
 #[derive(Drop)]
 pub struct Matcher<'a> {
     sched: &'a Sched,
-    table: MatchTable,
+    table: Table,
 }
 
 impl<'a> Model for Matcher<'a> {
@@ -31,11 +31,12 @@ impl<'a> Model for Matcher<'a> {
 
     ghost Value = { PostsAndArrivals };
 
-    ghost use Rattle.sim_match.specs.Matcher.{actions_of, IsKept};
+    ghost use Rattle.sim_match.specs.Matcher.{actions_of};
+    ghost use Rattle.sim_match.specs.Tables.{events_of, IsTable};
 
-    ghost view = { λ m. record { plans = m.sched.now; actions = actions_of m.sched.now m.table.events.items } };
+    ghost view = { λ m. record { plans = m.sched.now; actions = actions_of m.sched.now (events_of m.table) } };
 
-    ghost invariant = { λ m. IsKept m.sched.now m.table };
+    ghost invariant = { λ m. IsTable m.sched.now m.table };
 }
 
 impl<'a> Matcher<'a> {
@@ -46,7 +47,7 @@ impl<'a> Matcher<'a> {
     pub fn new(alloc: Global, sched: &'a Sched) -> Result<Matcher<'a>, NoMemory>
         ensures { IfOk result (λ m. m ≡ record { plans = sched.now; actions = [] }) }
     {
-        let table = MatchTable::new(alloc, sched)?;
+        let table = Table::new(alloc, sched)?;
         Ok(Matcher { sched, table })
     }
 

@@ -12,13 +12,13 @@ use Rattle.sim_match.proofs.match_table.MatchTable.new.Goals as goal
 pub returns-clause-kept : goal.returns-clause-kept
 returns-clause-kept c =
     let unmarked : c.in_ok-marks.marks.items ≡ replicate (length (operations c.args.sched.now)) false = rw c.count.ensures.count at (c.in_ok-marks.ensures.items_if_clones_equal (search rules)) in
-    let kept = begins _ _ _ _ _ c.known.ensures.accepted c.in_ok-numbers.ensures.listed (c.in_ok-capacities.ensures c.in_ok-numbers.ensures) unmarked (let few = count_by-le-length (is_message c.args.sched.now) (operations c.args.sched.now) in omega (arith, few, c.count-2.ensures.count, c.in_ok-events.ensures.exact)) in
+    let kept = begins _ _ _ _ _ c.known.ensures.accepted c.requires.listed (c.in_ok-capacities.ensures c.requires) unmarked (let few = count_by-le-length (is_message c.args.sched.now) (operations c.args.sched.now) in omega (arith, few, c.count-2.ensures.count, c.in_ok-events.ensures.exact)) in
     let receives = ap length (rw c.deref.ensures.value at c.in_ok-receives.ensures) ∙ length-map c.in_ok-capacities.capacities.items (empty_list Receives) in
     let sends = ap length (rw c.deref-2.ensures.value at c.in_ok-sends.ensures) ∙ length-map c.in_ok-capacities.capacities.items (empty_list Sends) in
     record {
       few = omega (arith, c.count.ensures.count, c.count.ensures.small);
       as_many = receives ∙ sym sends;
-      numbered = c.in_ok-numbers.ensures;
+      numbered = c.requires;
       covered = rw (c.in_ok-receives.ensures, c.in_ok-sends.ensures, c.deref.ensures.value, c.deref-2.ensures.value) (omega (arith, unseen_empty Receives c.in_ok-capacities.capacities.items, unseen_empty Sends c.in_ok-capacities.capacities.items));
       bounded = omega arith;
       mirrors = rw (c.in_ok-events.ensures.items, c.in_ok-receives.ensures, c.in_ok-sends.ensures, c.deref.ensures.value, c.deref-2.ensures.value) kept;

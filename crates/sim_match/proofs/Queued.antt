@@ -1,0 +1,511 @@
+-- What queues keep, after one more post or arrival.
+use Rattle.std.proofs.Common.{ℕ, zero, suc, ◌<◌, ◌≤◌, ◌≡◌, ◌≢◌, ◌==◌, ◌&&◌, ◌||◌, Bool, true, false, not, cond, ◌⊎◌, inl, inr, List, [], ◌∷◌, ◌++◌, length, get_or, Option, Some, None, is_some, All, AllPairs, filter, find, replicate, slice_get, slice_set, refl, arith, sym, ap, ap₂, ◌∙◌, subst, eq-eqb}
+use Rattle.std.specs.Option.{option_map}
+use Rattle.std.specs.List.{list_any}
+use Rattle.std.proofs.lemmas.Bool.{eqb-true, cases_Bool, cases_eq, cond-false, both_ways, and_parts, false_from_ne_true, ne_eqb}
+use Rattle.std.proofs.lemmas.Option.{none-some, same_Some, slice_get_within}
+use Rattle.std.proofs.lemmas.List.{length-set, length-replicate}
+use Rattle.std.proofs.lemmas.List.Elements.{All-head, All-tail, All-weaker, All-filter, All-contains, filter_passes}
+use Rattle.std.proofs.lemmas.List.Quantifiers.{all_pairs_push}
+use Rattle.goal_graph.specs.declared.action.OpId.{OpId}
+use Rattle.goal_graph.specs.declared.action.Class.{Class}
+use Rattle.goal_graph.specs.declared.action.Class.TheVariants.{Arrive, Post}
+use Rattle.goal_graph.specs.Schedule.{Plan, kind_at, operations}
+use Rattle.goal_graph.specs.Fault.{IsOp}
+use Rattle.goal_graph.specs.Action.{Act, place, same_op, happened}
+use Rattle.goal_graph.specs.Matching.{Pair, pair_of, fits, is_paired, new_pair, pairs}
+use Rattle.goal_graph.specs.Laws.{IsSend, IsReceive, has_class}
+use Rattle.goal_graph.proofs.ForCallers.{op_of_kind, pairs_same, place_same, same_op_from, cases_op, same_op_true, same_op_itself, same_op_swapped, not_send_receive, not_arrived, not_posted}
+use Rattle.sim_match.specs.declared.pattern.Pattern.{Pattern}
+use Rattle.sim_match.specs.Patterns.{same_number, own_pattern, list_number, own_list, list_of, AreListed}
+use Rattle.sim_match.specs.ListNumbers.{AreNamed}
+use Rattle.sim_match.specs.PostsAndArrivals.{receive_for}
+use Rattle.sim_match.specs.Waiting.{ops_of}
+use Rattle.sim_match.specs.Matcher.{actions_of, IsNew, ArePostsAndArrivals}
+use Rattle.sim_match.specs.declared.capacities.Side.{Side}
+use Rattle.sim_match.specs.declared.capacities.Side.TheVariants.{Receives, Sends}
+use Rattle.sim_match.specs.declared.queues.Queue.{Queue}
+use Rattle.sim_match.specs.Queues.{class_of_side, come, taken_by, waits_as, AreInLine, AreQueued, AreLeft, AreQueues, is_waiting, waiting}
+use Rattle.sim_match.proofs.Ops.{ops_same, ops_other, ops_happened, oldest_found, action_suits, suited_receive, suited_send}
+use Rattle.sim_match.proofs.Pairs.{in_pair, paired_more, pairs_with}
+use Rattle.sim_match.proofs.Kept.{actions_of-post, actions_of-arrival}
+use Rattle.sim_match.proofs.Written.{slice_get_written, slice_get_elsewhere}
+use Rattle.sim_match.proofs.Lines.{last_of, line_alone, line_more, line_still}
+use Rattle.sim_match.proofs.Finding.{find_alike, find_none, filter_last, filter_last_passes}
+use Rattle.sim_match.proofs.PatternLemmas.{fits_any, number_within}
+use Rattle.sim_match.proofs.Numbering.{own_of_receive, lists_where_named}
+
+-- two tests that agree on a list keep the same of it
+filter_alike : {X : Type 0} (p q : X → Bool) (xs : List X) → All (λ x. p x ≡ q x) xs → filter p xs ≡ filter q xs
+filter_alike p q [] agree = refl
+filter_alike {X} p q (x ∷ xs) agree =
+    ap (λ (b : Bool). cond b (x ∷ filter p xs) (filter p xs)) (All-head (λ x. p x ≡ q x) x xs agree) ∙ ap (λ (ys : List X). cond (q x) (x ∷ ys) ys) (filter_alike p q xs (All-tail (λ x. p x ≡ q x) x xs agree))
+
+-- the first of a list
+abbrev first : {X : Type 0} → List X → Option X
+first [] = None
+first (x ∷ xs) = Some x
+
+find_first : {X : Type 0} (p : X → Bool) (xs : List X) → find p xs ≡ first (filter p xs)
+find_first p [] = refl
+find_first {X} p (x ∷ xs) = go (p x) (find_first p xs)
+  where
+    go : (b : Bool) → find p xs ≡ first (filter p xs) → cond b (Some x) (find p xs) ≡ first (cond b (x ∷ filter p xs) (filter p xs))
+    go true rest = refl
+    go false rest = rest
+
+-- a test that differs at the first that passes alone leaves the rest
+rest_left : (p q : OpId → Bool) (y : OpId) → q y ≡ false → (xs rest : List OpId) → All (λ z. same_op y z ≡ false → q z ≡ p z) xs → AllPairs (λ (x z : OpId). x ≢ z) xs → filter p xs ≡ y ∷ rest → filter q xs ≡ rest
+rest_left p q y out [] rest agree apart is = absurd (none-some y (ap first is))
+rest_left p q y out (x ∷ xs) rest agree apart is = go (rest_left p q y out xs rest agree_tail apart_tail) (p x) refl is (cases_op y x)
+  where
+    agree_tail : All (λ z. same_op y z ≡ false → q z ≡ p z) xs
+    agree_tail = All-tail (λ z. same_op y z ≡ false → q z ≡ p z) x xs agree
+
+    apart_tail : AllPairs (λ (x z : OpId). x ≢ z) xs
+    apart_tail i j d l b = apart (suc i) (suc j) d (omega arith) (omega arith)
+
+    apart_head : All (λ (z : OpId). x ≢ z) xs
+    apart_head k d b = apart zero (suc k) d (omega arith) (omega arith)
+
+    go : (filter p xs ≡ y ∷ rest → filter q xs ≡ rest) → (b : Bool) → p x ≡ b → cond b (x ∷ filter p xs) (filter p xs) ≡ y ∷ rest → ((y ≡ x) ⊎ (same_op y x ≡ false)) → cond (q x) (x ∷ filter q xs) (filter q xs) ≡ rest
+    go after true e is c =
+        let same : x ≡ y = same_Some x y (ap first is) in
+        let fails : q x ≡ false = ap q same ∙ out in
+        cond-false (q x) (x ∷ filter q xs) (filter q xs) fails ∙ filter_alike q p xs (λ k d b. All-head-at k d b same) ∙ ap tail is
+      where
+        tail : List OpId → List OpId
+        tail [] = []
+        tail (z ∷ zs) = zs
+
+        All-head-at : (k : ℕ) (d : OpId) → k < length xs → x ≡ y → q (get_or xs k d) ≡ p (get_or xs k d)
+        All-head-at k d b same =
+            agree_tail k d b (false_from_ne_true (same_op y (get_or xs k d)) (λ t. apart_head k d b (same ∙ same_op_true y (get_or xs k d) t)))
+    go after false e is (inl same) =
+        cond-false (q x) (x ∷ filter q xs) (filter q xs) (ap q (sym same) ∙ out) ∙ after is
+    go after false e is (inr n) =
+        cond-false (q x) (x ∷ filter q xs) (filter q xs) (All-head (λ z. same_op y z ≡ false → q z ≡ p z) x xs agree n ∙ e) ∙ after is
+
+same_number_swapped : (o p : Option ℕ) → same_number o p ≡ same_number p o
+same_number_swapped None None = refl
+same_number_swapped None (Some n) = refl
+same_number_swapped (Some m) None = refl
+same_number_swapped (Some m) (Some n) = go (cases_eq m n)
+  where
+    go : ((m ≡ n) ⊎ (m ≡ n → ⊥)) → (m == n) ≡ (n == m)
+    go (inl same) = ap₂ (λ (i j : ℕ). i == j) same (sym same)
+    go (inr n) = ne_eqb _ _ n ∙ sym (ne_eqb _ _ (λ e. n (sym e)))
+
+and_none : (s : Bool) → (s && false) ≡ false
+and_none true = refl
+and_none false = refl
+
+or_none : (s : Bool) → (s || false) ≡ s
+or_none true = refl
+or_none false = refl
+
+no_number : (o : Option ℕ) → same_number o None ≡ false
+no_number None = refl
+no_number (Some i) = refl
+
+or_true : (s : Bool) → (s || true) ≡ true
+or_true true = refl
+or_true false = refl
+
+module _ (plans : List Plan) (h : List Act) (are : ArePostsAndArrivals plans h) where
+  -- what has happened suits its class
+  pub ops_suit : (c : Class) → All (λ (z : OpId). has_class (kind_at plans z) c ≡ true) (ops_of c h)
+  ops_suit c = All-weaker (λ (z : OpId). happened c z h ≡ true) (λ (z : OpId). has_class (kind_at plans z) c ≡ true) (λ z was. action_suits plans h c z are was) (ops_of c h) (ops_happened c h)
+
+  -- what is still to come is not among it
+  pub ops_apart : (c : Class) (x : OpId) → happened c x h ≡ false → All (λ (z : OpId). same_op x z ≡ false) (ops_of c h)
+  ops_apart c x fresh = All-weaker (λ (z : OpId). happened c z h ≡ true) (λ (z : OpId). same_op x z ≡ false) (λ z was. false_from_ne_true (same_op x z) (λ t. both_ways (happened c x h) fresh (subst (λ (y : OpId). happened c y h ≡ true) (sym (same_op_true x z t)) was))) (ops_of c h) (ops_happened c h)
+
+-- each operation comes once
+pub ops_differ : (plans : List Plan) (h : List Act) (c : Class) → ArePostsAndArrivals plans h → AllPairs (λ (x z : OpId). x ≢ z) (ops_of c h)
+unfolding ops_of
+ops_differ plans [] c are = λ i j d l b. absurd (omega arith)
+ops_differ plans (a ∷ h) c are = elim (cases_Bool (place a.class == place c)) [
+  | inl t ↦
+      let same : a.class ≡ c = place_same a.class c (eqb-true _ _ t) in
+      let fresh : happened c a.op h ≡ false = subst (λ (d : Class). happened d a.op h ≡ false) same are.1.fresh in
+      subst (AllPairs (λ (x z : OpId). x ≢ z)) (sym (ops_same c a h t)) (all_pairs_push (λ (x z : OpId). x ≢ z) (ops_of c h) a.op (ops_differ plans h c are.0) (λ k d b e. both_ways _ (ops_apart plans h are.0 c a.op fresh k d b) (same_op_from a.op _ (sym e))))
+  | inr f ↦ subst (AllPairs (λ (x z : OpId). x ≢ z)) (sym (ops_other c a h f)) (ops_differ plans h c are.0)
+]
+
+module _ (plans : List Plan) (keys : List Pattern) (h : List Act) where
+  abbrev act : Class → OpId → Act
+  act c x = record { class = c; op = x }
+
+  -- x comes, of the one class, and takes none
+  module _ (c d : Class) (x : OpId) (mine : (place c == place c) ≡ true) (other : (place c == place d) ≡ false) (none : new_pair plans (pairs plans h) h c x ≡ None) where
+    still : (l : ℕ) (z : OpId) → is_waiting plans keys (act c x ∷ h) l z ≡ is_waiting plans keys h l z
+    still l z = ap (λ (ps : List Pair). not (is_paired ps z) && same_number (own_list plans keys z) (Some l)) (pairs_same plans (act c x) h none)
+
+    pub others_stay : (l : ℕ) → waiting plans keys (act c x ∷ h) d l ≡ waiting plans keys h d l
+    others_stay l =
+        ap (filter (is_waiting plans keys (act c x ∷ h) l)) (ops_other d (act c x) h other) ∙ filter_alike (is_waiting plans keys (act c x ∷ h) l) (is_waiting plans keys h l) (ops_of d h) (λ k e b. still l _)
+
+    mine_then : (l : ℕ) → waiting plans keys (act c x ∷ h) c l ≡ filter (is_waiting plans keys h l) (ops_of c h ++ x ∷ [])
+    mine_then l =
+        ap (filter (is_waiting plans keys (act c x ∷ h) l)) (ops_same c (act c x) h mine) ∙ filter_alike (is_waiting plans keys (act c x ∷ h) l) (is_waiting plans keys h l) (ops_of c h ++ x ∷ []) (λ k e b. still l _)
+
+    pub mine_elsewhere : (l : ℕ) → same_number (own_list plans keys x) (Some l) ≡ false → waiting plans keys (act c x ∷ h) c l ≡ waiting plans keys h c l
+    mine_elsewhere l n =
+        mine_then l ∙ filter_last (is_waiting plans keys h l) (ops_of c h) x (ap (λ (b : Bool). not (is_paired (pairs plans h) x) && b) n ∙ and_none (not (is_paired (pairs plans h) x)))
+
+    pub mine_more : (l : ℕ) → is_paired (pairs plans h) x ≡ false → same_number (own_list plans keys x) (Some l) ≡ true → waiting plans keys (act c x ∷ h) c l ≡ waiting plans keys h c l ++ x ∷ []
+    mine_more l free own =
+        mine_then l ∙ filter_last_passes (is_waiting plans keys h l) (ops_of c h) x (ap₂ (λ (s t : Bool). not s && t) free own)
+
+  -- x comes, and takes y
+  module _ (c d : Class) (x y : OpId) (mine : (place c == place c) ≡ true) (other : (place c == place d) ≡ false) (p : Pair) (some : new_pair plans (pairs plans h) h c x ≡ Some p) (both : (z : OpId) → in_pair p z ≡ (same_op x z || same_op y z)) where
+    waits_then : (l : ℕ) (z : OpId) → is_waiting plans keys (act c x ∷ h) l z ≡ (not (is_paired (pairs plans h) z || (same_op x z || same_op y z)) && same_number (own_list plans keys z) (Some l))
+    waits_then l z =
+        ap (λ (b : Bool). not b && same_number (own_list plans keys z) (Some l)) (ap (λ (ps : List Pair). is_paired ps z) (pairs_with plans (act c x) h p some) ∙ paired_more p (pairs plans h) z ∙ ap (λ (b : Bool). is_paired (pairs plans h) z || b) (both z))
+
+    still_waits : (l : ℕ) (z : OpId) → same_op x z ≡ false → same_op y z ≡ false → is_waiting plans keys (act c x ∷ h) l z ≡ is_waiting plans keys h l z
+    still_waits l z m n =
+        waits_then l z ∙ ap₂ (λ (s t : Bool). not (is_paired (pairs plans h) z || (s || t)) && same_number (own_list plans keys z) (Some l)) m n ∙ ap (λ (b : Bool). not b && same_number (own_list plans keys z) (Some l)) (or_none (is_paired (pairs plans h) z))
+
+    gone : (l : ℕ) (z : OpId) → (same_op x z || same_op y z) ≡ true → is_waiting plans keys (act c x ∷ h) l z ≡ false
+    gone l z t =
+        waits_then l z ∙ ap (λ (b : Bool). not (is_paired (pairs plans h) z || b) && same_number (own_list plans keys z) (Some l)) t ∙ ap (λ (b : Bool). not b && same_number (own_list plans keys z) (Some l)) (or_true (is_paired (pairs plans h) z))
+
+    pub mine_stay : (l : ℕ) → All (λ (z : OpId). same_op x z ≡ false) (ops_of c h) → All (λ (z : OpId). same_op y z ≡ false) (ops_of c h) → waiting plans keys (act c x ∷ h) c l ≡ waiting plans keys h c l
+    mine_stay l fresh differ =
+        ap (filter (is_waiting plans keys (act c x ∷ h) l)) (ops_same c (act c x) h mine) ∙ filter_last (is_waiting plans keys (act c x ∷ h) l) (ops_of c h) x (gone l x (ap (λ (b : Bool). b || same_op y x) (same_op_itself x))) ∙ filter_alike (is_waiting plans keys (act c x ∷ h) l) (is_waiting plans keys h l) (ops_of c h) (λ k e b. still_waits l _ (fresh k e b) (differ k e b))
+
+    pub others_elsewhere : (l : ℕ) → All (λ (z : OpId). same_op x z ≡ false) (ops_of d h) → same_number (own_list plans keys y) (Some l) ≡ false → waiting plans keys (act c x ∷ h) d l ≡ waiting plans keys h d l
+    others_elsewhere l fresh n =
+        ap (filter (is_waiting plans keys (act c x ∷ h) l)) (ops_other d (act c x) h other) ∙ filter_alike (is_waiting plans keys (act c x ∷ h) l) (is_waiting plans keys h l) (ops_of d h) (λ k e b. same_at _ (fresh k e b))
+      where
+        same_at : (z : OpId) → same_op x z ≡ false → is_waiting plans keys (act c x ∷ h) l z ≡ is_waiting plans keys h l z
+        same_at z f = elim (cases_op y z) [
+          | inl same ↦
+              let out : same_number (own_list plans keys z) (Some l) ≡ false = subst (λ (w : OpId). same_number (own_list plans keys w) (Some l) ≡ false) same n in
+              fails (is_paired (pairs plans (act c x ∷ h)) z) _ out ∙ sym (fails (is_paired (pairs plans h) z) _ out)
+          | inr m ↦ still_waits l z f m
+        ]
+          where
+            fails : (s t : Bool) → t ≡ false → (not s && t) ≡ false
+            fails s t e = ap (λ (b : Bool). not s && b) e ∙ and_none (not s)
+
+    pub others_left : (l : ℕ) (rest : List OpId) → ArePostsAndArrivals plans h → All (λ (z : OpId). same_op x z ≡ false) (ops_of d h) → waiting plans keys h d l ≡ y ∷ rest → waiting plans keys (act c x ∷ h) d l ≡ rest
+    others_left l rest are fresh is =
+        ap (filter (is_waiting plans keys (act c x ∷ h) l)) (ops_other d (act c x) h other) ∙ rest_left (is_waiting plans keys h l) (is_waiting plans keys (act c x ∷ h) l) y (gone l y (ap (λ (b : Bool). same_op x y || b) (same_op_itself y) ∙ or_true (same_op x y))) (ops_of d h) rest (λ k e b n. still_waits l _ (fresh k e b) n) (ops_differ plans h d are) is
+
+abbrev pub other_side : Side → Side
+other_side Receives = Sends
+other_side Sends = Receives
+
+both_sides : (P : Side → Type 0) (s : Side) → P s → P (other_side s) → (t : Side) → P t
+both_sides P Receives p q Receives = p
+both_sides P Receives p q Sends = q
+both_sides P Sends p q Receives = q
+both_sides P Sends p q Sends = p
+
+pub same_sides : (s t : Side) → waits_as (Some s) t ≡ true → s ≡ t
+same_sides Receives Receives e = refl
+same_sides Receives Sends e = absurd (both_ways false refl e)
+same_sides Sends Receives e = absurd (both_ways false refl e)
+same_sides Sends Sends e = refl
+
+pub other_sides : (s t : Side) → waits_as (Some s) t ≡ false → s ≡ other_side t
+other_sides Receives Receives e = absurd (both_ways true e refl)
+other_sides Receives Sends e = refl
+other_sides Sends Receives e = refl
+other_sides Sends Sends e = absurd (both_ways true e refl)
+
+mine_is : (s : Side) → (place (class_of_side s) == place (class_of_side s)) ≡ true
+mine_is Receives = refl
+mine_is Sends = refl
+
+other_is : (s : Side) → (place (class_of_side s) == place (class_of_side (other_side s))) ≡ false
+other_is Receives = refl
+other_is Sends = refl
+
+pub waits_itself : (s : Side) → waits_as (Some s) s ≡ true
+waits_itself Receives = refl
+waits_itself Sends = refl
+
+pub waits_not : (s : Side) → waits_as (Some s) (other_side s) ≡ false
+waits_not Receives = refl
+waits_not Sends = refl
+
+other_waits : (s : Side) → waits_as (Some (other_side s)) (other_side s) ≡ true
+other_waits Receives = refl
+other_waits Sends = refl
+
+other_waits_not : (s : Side) → waits_as (Some (other_side s)) s ≡ false
+other_waits_not Receives = refl
+other_waits_not Sends = refl
+
+-- the pair of x, of that side, and y
+abbrev pair_with : Side → OpId → OpId → Pair
+pair_with Receives x y = pair_of y x
+pair_with Sends x y = pair_of x y
+
+or_swapped : (s t : Bool) → (s || t) ≡ (t || s)
+or_swapped true true = refl
+or_swapped true false = refl
+or_swapped false true = refl
+or_swapped false false = refl
+
+in_pair_with : (s : Side) (x y z : OpId) → in_pair (pair_with s x y) z ≡ (same_op x z || same_op y z)
+in_pair_with Receives x y z = or_swapped (same_op y z) (same_op x z)
+in_pair_with Sends x y z = refl
+
+of_four : (o p : Option ℕ) → (same_number o p || (same_number o None || (same_number o None || (same_number o None || false)))) ≡ same_number o p
+of_four None p = refl
+of_four (Some i) p = or_none (same_number (Some i) p)
+
+one_number : (o : Option ℕ) (k l : ℕ) → same_number o (Some k) ≡ true → same_number o (Some l) ≡ true → k ≡ l
+one_number None k l e f = absurd (both_ways false refl e)
+one_number (Some i) k l e f = sym (eqb-true i k e) ∙ eqb-true i l f
+
+-- what is of one side is no operation of the other
+sides_apart : (plans : List Plan) (s : Side) (y z : OpId) → has_class (kind_at plans y) (class_of_side (other_side s)) ≡ true → has_class (kind_at plans z) (class_of_side s) ≡ true → same_op y z ≡ false
+sides_apart plans Receives y z m r =
+    false_from_ne_true (same_op y z) (λ t. not_send_receive plans z (subst (IsSend plans) (same_op_true y z t) (suited_send plans y m)) (suited_receive plans z r))
+sides_apart plans Sends y z r m =
+    false_from_ne_true (same_op y z) (λ t. not_send_receive plans z (suited_send plans z m) (subst (IsReceive plans) (same_op_true y z t) (suited_receive plans y r)))
+
+not_yet : (plans : List Plan) (h : List Act) (s : Side) (x : OpId) → IsNew plans h (come s x) → is_paired (pairs plans h) x ≡ false
+not_yet plans h Receives x new =
+    ap (λ (o : Option OpId). is_some o) (not_posted plans h x (suited_receive plans x new.suited) new.fresh)
+not_yet plans h Sends x new =
+    ap (λ (o : Option OpId). is_some o) (not_arrived plans h x (suited_send plans x new.suited) new.fresh)
+
+module _ (plans : List Plan) (keys : List Pattern) (named : AreNamed keys) (listed : AreListed plans keys) where
+  -- a receive fits the sends of its own list
+  fits_own : (x m : OpId) → IsReceive plans x → IsSend plans m → fits plans x m ≡ same_number (own_list plans keys x) (own_list plans keys m)
+  fits_own x m r s =
+      sym (fits_any plans keys x m r (listed x r)) ∙ ap (list_any (same_number (list_of plans keys x))) (lists_where_named plans keys m s named) ∙ of_four (list_of plans keys x) (own_list plans keys m) ∙ ap (λ (o : Option ℕ). same_number o (own_list plans keys m)) (sym (own_of_receive plans keys x r))
+
+  module _ (h : List Act) (are : ArePostsAndArrivals plans h) where
+    -- the first that waits is what is taken
+    pub makes : (s : Side) (x : OpId) (l : ℕ) → has_class (kind_at plans x) (class_of_side s) ≡ true → own_list plans keys x ≡ Some l → new_pair plans (pairs plans h) h (class_of_side s) x ≡ option_map (pair_with s x) (first (waiting plans keys h (class_of_side (other_side s)) l))
+    makes Receives x l suited own =
+        ap (option_map (λ (m : OpId). pair_of m x)) (oldest_found Arrive (λ (z : OpId). not (is_paired (pairs plans h) z)) (fits plans x) h ∙ find_alike (λ (z : OpId). not (is_paired (pairs plans h) z) && fits plans x z) (is_waiting plans keys h l) (ops_of Arrive h) (λ k d b. ap (λ (t : Bool). not (is_paired (pairs plans h) (get_or (ops_of Arrive h) k d)) && t) (fits_own x (get_or (ops_of Arrive h) k d) (suited_receive plans x suited) (suited_send plans _ (ops_suit plans h are Arrive k d b)) ∙ ap (λ (o : Option ℕ). same_number o (own_list plans keys (get_or (ops_of Arrive h) k d))) own ∙ same_number_swapped (Some l) _)) ∙ find_first (is_waiting plans keys h l) (ops_of Arrive h))
+    makes Sends x l suited own =
+        ap (option_map (λ (z : OpId). pair_of x z)) (oldest_found Post (λ (z : OpId). not (is_paired (pairs plans h) z)) (λ (z : OpId). fits plans z x) h ∙ find_alike (λ (z : OpId). not (is_paired (pairs plans h) z) && fits plans z x) (is_waiting plans keys h l) (ops_of Post h) (λ k d b. ap (λ (t : Bool). not (is_paired (pairs plans h) (get_or (ops_of Post h) k d)) && t) (fits_own (get_or (ops_of Post h) k d) x (suited_receive plans _ (ops_suit plans h are Post k d b)) (suited_send plans x suited) ∙ ap (same_number (own_list plans keys (get_or (ops_of Post h) k d))) own)) ∙ find_first (is_waiting plans keys h l) (ops_of Post h))
+
+    takes : (s : Side) (x : OpId) (o : Option OpId) → new_pair plans (pairs plans h) h (class_of_side s) x ≡ option_map (pair_with s x) o → o ≡ taken_by s plans h x
+    takes Receives x o e = its o ∙ sym (ap (option_map (λ (p : Pair). p.send)) e)
+      where
+        its : (o : Option OpId) → o ≡ option_map (λ (p : Pair). p.send) (option_map (λ (m : OpId). pair_of m x) o)
+        its None = refl
+        its (Some m) = refl
+    takes Sends x o e = its o ∙ sym (ap (option_map (λ (p : Pair). p.recv)) e)
+      where
+        its : (o : Option OpId) → o ≡ option_map (λ (p : Pair). p.recv) (option_map (λ (z : OpId). pair_of x z) o)
+        its None = refl
+        its (Some m) = refl
+
+    -- a send whose pattern the schedule doesn't have meets none
+    pub meets_none : (m : OpId) → IsSend plans m → own_list plans keys m ≡ None → new_pair plans (pairs plans h) h Arrive m ≡ None
+    meets_none m s none =
+        ap (option_map (λ (z : OpId). pair_of m z)) (oldest_found Post (λ (z : OpId). not (is_paired (pairs plans h) z)) (λ (z : OpId). fits plans z m) h ∙ find_none (λ (z : OpId). not (is_paired (pairs plans h) z) && fits plans z m) (ops_of Post h) (λ k d b. ap (λ (t : Bool). not (is_paired (pairs plans h) (get_or (ops_of Post h) k d)) && t) (fits_own (get_or (ops_of Post h) k d) m (suited_receive plans _ (ops_suit plans h are Post k d b)) s ∙ ap (same_number (own_list plans keys (get_or (ops_of Post h) k d))) none ∙ no_number _) ∙ and_none (not (is_paired (pairs plans h) (get_or (ops_of Post h) k d)))))
+
+    -- what waits of a list is of it
+    own_of : (c : Class) (l : ℕ) → All (λ (z : OpId). same_number (own_list plans keys z) (Some l) ≡ true) (waiting plans keys h c l)
+    own_of c l = All-weaker (λ (z : OpId). is_waiting plans keys h l z ≡ true) (λ (z : OpId). same_number (own_list plans keys z) (Some l) ≡ true) (λ z t. (and_parts (not (is_paired (pairs plans h) z)) _ t).1) (waiting plans keys h c l) (filter_passes (is_waiting plans keys h l) (ops_of c h))
+
+    waiting_suits : (c : Class) (l : ℕ) → All (λ (z : OpId). has_class (kind_at plans z) c ≡ true) (waiting plans keys h c l)
+    waiting_suits c l = All-filter (is_waiting plans keys h l) (λ (z : OpId). has_class (kind_at plans z) c ≡ true) (ops_of c h) (ops_suit plans h are c)
+
+    -- of another list
+    other_list : (c : Class) (k l : ℕ) (z : OpId) → (k ≡ l → ⊥) → same_number (own_list plans keys z) (Some l) ≡ true → All (λ (y : OpId). y ≢ z) (waiting plans keys h c k)
+    other_list c k l z n own = All-weaker (λ (y : OpId). same_number (own_list plans keys y) (Some k) ≡ true) (λ (y : OpId). y ≢ z) (λ y its same. n (one_number (own_list plans keys z) k l (subst (λ (w : OpId). same_number (own_list plans keys w) (Some k) ≡ true) same its) own)) (waiting plans keys h c k) (own_of c k)
+
+    not_among : (c : Class) (l : ℕ) (x : OpId) → happened c x h ≡ false → All (λ (y : OpId). y ≢ x) (waiting plans keys h c l)
+    not_among c l x fresh = All-filter (is_waiting plans keys h l) (λ (y : OpId). y ≢ x) (ops_of c h) (All-weaker (λ (y : OpId). same_op x y ≡ false) (λ (y : OpId). y ≢ x) (λ y f same. both_ways (same_op x y) f (same_op_from x y (sym same))) (ops_of c h) (ops_apart plans h are c x fresh))
+
+    own_within : (x : OpId) (l : ℕ) → own_list plans keys x ≡ Some l → l < length keys
+    own_within x l own = go (own_pattern x (kind_at plans x)) own
+      where
+        go : (p : Option Pattern) → list_number keys p ≡ Some l → l < length keys
+        go None e = absurd (none-some l e)
+        go (Some p) e = number_within keys p l e
+
+    module _ (queues : List Queue) (next : List ℕ) (q : AreQueues plans keys queues next h) where
+      abbrev ops : List OpId
+      ops = operations plans
+
+      queued_as : (some : List ℕ) (queue : Queue) (b t : Bool) (xs ys : List OpId) → b ≡ t → xs ≡ ys → AreQueued ops some queue t ys → AreQueued ops some queue b xs
+      queued_as some queue b t xs ys same is queued =
+          subst (λ (s : Bool). AreQueued ops some queue s xs) (sym same) (subst (AreQueued ops some queue t) (sym is) queued)
+
+      queued_still : (queue : Queue) (b : Bool) (xs : List OpId) (z : OpId) (k j : ℕ) → slice_get ops k ≡ Some z → All (λ (y : OpId). y ≢ z) xs → AreQueued ops next queue b xs → AreQueued ops (slice_set next k j) queue b xs
+      queued_still queue true xs z k j at all queued = line_still ops next queue xs z k j at all queued
+      queued_still queue false xs z k j at all queued = queued
+
+      -- nobody comes: a send without a list
+      pub come_nowhere : (m : OpId) → IsSend plans m → own_list plans keys m ≡ None → AreQueues plans keys queues next (come Sends m ∷ h) × (None ≡ receive_for plans h m)
+      come_nowhere m s none =
+          let alone = meets_none m s none in (
+            record {
+              one_each = q.one_each;
+              links = q.links;
+              each = λ k u e. both_sides (λ (t : Side). AreQueued ops next u (waits_as u.waits t) (waiting plans keys (come Sends m ∷ h) (class_of_side t) k)) Sends (queued_as next u _ _ _ _ refl (mine_elsewhere plans keys h Arrive Post m refl refl alone k (ap (λ (o : Option ℕ). same_number o (Some k)) none)) (q.each k u e Sends)) (queued_as next u _ _ _ _ refl (others_stay plans keys h Arrive Post m refl refl alone k) (q.each k u e Receives));
+            },
+            takes Sends m None alone,
+          )
+
+      -- x comes to its list
+      module _ (s : Side) (x : OpId) (new : IsNew plans h (come s x)) (l : ℕ) (own : own_list plans keys x ≡ Some l) where
+        pub come_within : l < length queues
+        come_within = let within = own_within x l own in omega (arith, within, q.one_each)
+
+        here : same_number (own_list plans keys x) (Some l) ≡ true
+        here = ap (λ (o : Option ℕ). same_number o (Some l)) own ∙ eq-eqb l l refl
+
+        elsewhere : (k : ℕ) → (k ≡ l → ⊥) → same_number (own_list plans keys x) (Some k) ≡ false
+        elsewhere k n =
+            ap (λ (o : Option ℕ). same_number o (Some k)) own ∙ ne_eqb l k (λ e. n (sym e))
+
+        module _ (queue : Queue) (at : slice_get queues l ≡ Some queue) where
+          of_side : (t : Side) (b : Bool) → waits_as queue.waits t ≡ b → AreQueued ops next queue b (waiting plans keys h (class_of_side t) l)
+          of_side t b is = subst (λ (b : Bool). AreQueued ops next queue b (waiting plans keys h (class_of_side t) l)) is (q.each l queue at t)
+
+          pub last_within : waits_as queue.waits s ≡ true → queue.last < length next
+          last_within some =
+              let end = last_of ops next queue (waiting plans keys h (class_of_side s) l) (of_side s true some) in
+              let within = slice_get_within ops queue.last end.0 end.1 in
+              omega (arith, within, q.links)
+
+          -- each queue after a write of that one
+          each_after : (after : List ℕ) (a : Act) (u : Queue) → ((t : Side) → AreQueued ops after u (waits_as u.waits t) (waiting plans keys (a ∷ h) (class_of_side t) l)) → ((k : ℕ) (v : Queue) → (k ≡ l → ⊥) → slice_get queues k ≡ Some v → (t : Side) → AreQueued ops after v (waits_as v.waits t) (waiting plans keys (a ∷ h) (class_of_side t) k)) → (k : ℕ) (v : Queue) → slice_get (slice_set queues l u) k ≡ Some v → (t : Side) → AreQueued ops after v (waits_as v.waits t) (waiting plans keys (a ∷ h) (class_of_side t) k)
+          each_after after a u its others k v e t = elim (cases_eq k l) [
+            | inl same ↦
+                let is : u ≡ v = slice_get_written queues l u v (subst (λ (k : ℕ). slice_get (slice_set queues l u) k ≡ Some v) same e) in
+                subst (λ (k : ℕ). AreQueued ops after v (waits_as v.waits t) (waiting plans keys (a ∷ h) (class_of_side t) k)) (sym same) (subst (λ (w : Queue). AreQueued ops after w (waits_as w.waits t) (waiting plans keys (a ∷ h) (class_of_side t) l)) is (its t))
+            | inr n ↦ others k v n (sym (slice_get_elsewhere queues l k u n) ∙ e) t
+          ]
+
+          -- none of the other side waits there, so x waits
+          module _ (nobody : waits_as queue.waits (other_side s) ≡ false) where
+            alone : new_pair plans (pairs plans h) h (class_of_side s) x ≡ None
+            alone =
+                makes s x l new.suited own ∙ ap (λ (xs : List OpId). option_map (pair_with s x) (first xs)) (of_side (other_side s) false nobody)
+
+            pub none_taken : None ≡ taken_by s plans h x
+            none_taken = takes s x None alone
+
+            -- who waits there then
+            then_here : (after : List ℕ) (u : Queue) → u.waits ≡ Some s → AreInLine ops after u (waiting plans keys h (class_of_side s) l ++ x ∷ []) → (t : Side) → AreQueued ops after u (waits_as u.waits t) (waiting plans keys (come s x ∷ h) (class_of_side t) l)
+            then_here after u waits line = both_sides (λ (t : Side). AreQueued ops after u (waits_as u.waits t) (waiting plans keys (come s x ∷ h) (class_of_side t) l)) s (queued_as after u _ true _ _ (ap (λ (o : Option Side). waits_as o s) waits ∙ waits_itself s) (mine_more plans keys h (class_of_side s) (class_of_side (other_side s)) x (mine_is s) (other_is s) alone l (not_yet plans h s x new) here) line) (queued_as after u _ false _ _ (ap (λ (o : Option Side). waits_as o (other_side s)) waits ∙ waits_not s) (others_stay plans keys h (class_of_side s) (class_of_side (other_side s)) x (mine_is s) (other_is s) alone l) (of_side (other_side s) false nobody))
+
+            then_elsewhere : (after : List ℕ) (k : ℕ) (v : Queue) → (k ≡ l → ⊥) → ((t : Side) → AreQueued ops after v (waits_as v.waits t) (waiting plans keys h (class_of_side t) k)) → (t : Side) → AreQueued ops after v (waits_as v.waits t) (waiting plans keys (come s x ∷ h) (class_of_side t) k)
+            then_elsewhere after k v n before = both_sides (λ (t : Side). AreQueued ops after v (waits_as v.waits t) (waiting plans keys (come s x ∷ h) (class_of_side t) k)) s (queued_as after v _ _ _ _ refl (mine_elsewhere plans keys h (class_of_side s) (class_of_side (other_side s)) x (mine_is s) (other_is s) alone k (elsewhere k n)) (before s)) (queued_as after v _ _ _ _ refl (others_stay plans keys h (class_of_side s) (class_of_side (other_side s)) x (mine_is s) (other_is s) alone k) (before (other_side s)))
+
+            -- as the only one
+            pub come_alone : (u : Queue) → waits_as queue.waits s ≡ false → u.waits ≡ Some s → u.first ≡ x → slice_get ops u.last ≡ Some x → AreQueues plans keys (slice_set queues l u) next (come s x ∷ h)
+            come_alone u empty waits same last = record {
+              one_each = length-set queues l u ∙ q.one_each;
+              links = q.links;
+              each = each_after next (come s x) u (then_here next u waits (subst (λ (xs : List OpId). AreInLine ops next u (xs ++ x ∷ [])) (sym (of_side s false empty)) (line_alone ops next u x same last))) (λ k v n e. then_elsewhere next k v n (q.each k v e));
+            }
+
+            -- or behind those that wait
+            pub come_behind : (u : Queue) → waits_as queue.waits s ≡ true → u.waits ≡ Some s → u.first ≡ queue.first → slice_get ops u.last ≡ Some x → AreQueues plans keys (slice_set queues l u) (slice_set next queue.last u.last) (come s x ∷ h)
+            come_behind u some waits same last =
+                let line = of_side s true some in
+                let end = last_of ops next queue (waiting plans keys h (class_of_side s) l) line in
+                let its = All-contains (λ (z : OpId). same_number (own_list plans keys z) (Some l) ≡ true) (waiting plans keys h (class_of_side s) l) end.0 (own_of (class_of_side s) l) end.2 in
+                record {
+                  one_each = length-set queues l u ∙ q.one_each;
+                  links = let long = length-set next queue.last u.last in omega (arith, long, q.links);
+                  each = each_after (slice_set next queue.last u.last) (come s x) u (then_here (slice_set next queue.last u.last) u waits (line_more ops next queue u (waiting plans keys h (class_of_side s) l) x line same last (not_among (class_of_side s) l x new.fresh) q.links)) (λ k v n e. then_elsewhere (slice_set next queue.last u.last) k v n (λ t. queued_still v (waits_as v.waits t) (waiting plans keys h (class_of_side t) k) end.0 queue.last u.last end.1 (other_list (class_of_side t) k l end.0 n its) (q.each k v e t)));
+                }
+
+          -- one of the other side waits there, so x takes it
+          module _ (waits : queue.waits ≡ Some (other_side s)) where
+            line_there : AreInLine ops next queue (waiting plans keys h (class_of_side (other_side s)) l)
+            line_there = of_side (other_side s) true (ap (λ (o : Option Side). waits_as o (other_side s)) waits ∙ other_waits s)
+
+            pub in_line : (xs : List OpId) × AreInLine ops next queue xs
+            in_line = (waiting plans keys h (class_of_side (other_side s)) l, line_there)
+
+            mine_none : waiting plans keys h (class_of_side s) l ≡ []
+            mine_none = of_side s false (ap (λ (o : Option Side). waits_as o s) waits ∙ other_waits_not s)
+
+            module _ (y : OpId) (rest : List OpId) (is : waiting plans keys h (class_of_side (other_side s)) l ≡ y ∷ rest) where
+              made : new_pair plans (pairs plans h) h (class_of_side s) x ≡ Some (pair_with s x y)
+              made =
+                  makes s x l new.suited own ∙ ap (λ (xs : List OpId). option_map (pair_with s x) (first xs)) is
+
+              y_of : same_number (own_list plans keys y) (Some l) ≡ true
+              y_of = All-head (λ (z : OpId). same_number (own_list plans keys z) (Some l) ≡ true) y rest (subst (All (λ (z : OpId). same_number (own_list plans keys z) (Some l) ≡ true)) is (own_of (class_of_side (other_side s)) l))
+
+              y_suits : has_class (kind_at plans y) (class_of_side (other_side s)) ≡ true
+              y_suits = All-head (λ (z : OpId). has_class (kind_at plans z) (class_of_side (other_side s)) ≡ true) y rest (subst (All (λ (z : OpId). has_class (kind_at plans z) (class_of_side (other_side s)) ≡ true)) is (waiting_suits (class_of_side (other_side s)) l))
+
+              y_apart : All (λ (z : OpId). same_op y z ≡ false) (ops_of (class_of_side s) h)
+              y_apart = All-weaker (λ (z : OpId). has_class (kind_at plans z) (class_of_side s) ≡ true) (λ (z : OpId). same_op y z ≡ false) (λ z suits. sides_apart plans s y z y_suits suits) (ops_of (class_of_side s) h) (ops_suit plans h are (class_of_side s))
+
+              x_apart : All (λ (z : OpId). same_op x z ≡ false) (ops_of (class_of_side (other_side s)) h)
+              x_apart = All-weaker (λ (z : OpId). has_class (kind_at plans z) (class_of_side (other_side s)) ≡ true) (λ (z : OpId). same_op x z ≡ false) (λ z suits. same_op_swapped z x (sides_apart plans s z x suits new.suited)) (ops_of (class_of_side (other_side s)) h) (ops_suit plans h are (class_of_side (other_side s)))
+
+              y_elsewhere : (k : ℕ) → (k ≡ l → ⊥) → same_number (own_list plans keys y) (Some k) ≡ false
+              y_elsewhere k n =
+                  false_from_ne_true (same_number (own_list plans keys y) (Some k)) (λ t. n (one_number (own_list plans keys y) k l t y_of))
+
+              mine_still : (k : ℕ) → waiting plans keys (come s x ∷ h) (class_of_side s) k ≡ waiting plans keys h (class_of_side s) k
+              mine_still k =
+                  mine_stay plans keys h (class_of_side s) (class_of_side (other_side s)) x y (mine_is s) (other_is s) (pair_with s x y) made (in_pair_with s x y) k (ops_apart plans h are (class_of_side s) x new.fresh) y_apart
+
+              rest_there : waiting plans keys (come s x ∷ h) (class_of_side (other_side s)) l ≡ rest
+              rest_there =
+                  others_left plans keys h (class_of_side s) (class_of_side (other_side s)) x y (mine_is s) (other_is s) (pair_with s x y) made (in_pair_with s x y) l rest are x_apart is
+
+              after_here : (u : Queue) → (rest_is : List OpId) → rest ≡ rest_is → AreLeft ops next queue u rest_is → (t : Side) → AreQueued ops next u (waits_as u.waits t) (waiting plans keys (come s x ∷ h) (class_of_side t) l)
+              after_here u [] e left = both_sides (λ (t : Side). AreQueued ops next u (waits_as u.waits t) (waiting plans keys (come s x ∷ h) (class_of_side t) l)) s (queued_as next u _ false _ _ (ap (λ (o : Option Side). waits_as o s) left) (mine_still l) mine_none) (queued_as next u _ false _ _ (ap (λ (o : Option Side). waits_as o (other_side s)) left) rest_there e)
+              after_here u (z ∷ zs) e left = both_sides (λ (t : Side). AreQueued ops next u (waits_as u.waits t) (waiting plans keys (come s x ∷ h) (class_of_side t) l)) s (queued_as next u _ false _ _ (ap (λ (o : Option Side). waits_as o s) (left.0 ∙ waits) ∙ other_waits_not s) (mine_still l) mine_none) (queued_as next u _ true _ _ (ap (λ (o : Option Side). waits_as o (other_side s)) (left.0 ∙ waits) ∙ other_waits s) (rest_there ∙ e) left.1)
+
+              after_elsewhere : (k : ℕ) (v : Queue) → (k ≡ l → ⊥) → slice_get queues k ≡ Some v → (t : Side) → AreQueued ops next v (waits_as v.waits t) (waiting plans keys (come s x ∷ h) (class_of_side t) k)
+              after_elsewhere k v n e = both_sides (λ (t : Side). AreQueued ops next v (waits_as v.waits t) (waiting plans keys (come s x ∷ h) (class_of_side t) k)) s (queued_as next v _ _ _ _ refl (mine_still k) (q.each k v e s)) (queued_as next v _ _ _ _ refl (others_elsewhere plans keys h (class_of_side s) (class_of_side (other_side s)) x y (mine_is s) (other_is s) (pair_with s x y) made (in_pair_with s x y) k x_apart (y_elsewhere k n)) (q.each k v e (other_side s)))
+
+            pub come_meets : (u : Queue) → ((y : OpId) (rest : List OpId) → AreInLine ops next queue (y ∷ rest) → AreLeft ops next queue u rest) → AreQueues plans keys (slice_set queues l u) next (come s x ∷ h) × (Some queue.first ≡ taken_by s plans h x)
+            come_meets u left = go (waiting plans keys h (class_of_side (other_side s)) l) refl line_there
+              where
+                go : (xs : List OpId) → waiting plans keys h (class_of_side (other_side s)) l ≡ xs → AreInLine ops next queue xs → AreQueues plans keys (slice_set queues l u) next (come s x ∷ h) × (Some queue.first ≡ taken_by s plans h x)
+                go [] is line = absurd line
+                go (y ∷ rest) is line = (
+                  record {
+                    one_each = length-set queues l u ∙ q.one_each;
+                    links = q.links;
+                    each = each_after next (come s x) u (after_here y rest is u rest refl (left y rest line)) (after_elsewhere y rest is);
+                  },
+                  ap (λ (z : OpId). Some z) line.0 ∙ takes s x (Some y) (made y rest is),
+                )
+
+-- what comes is the next action
+pub comes_next : (plans : List Plan) (events : List OpId) (s : Side) (x : OpId) → has_class (kind_at plans x) (class_of_side s) ≡ true → actions_of plans (events ++ x ∷ []) ≡ come s x ∷ actions_of plans events
+comes_next plans events Receives x suited = actions_of-post plans events x (suited_receive plans x suited)
+comes_next plans events Sends x suited = actions_of-arrival plans events x (suited_send plans x suited)
+
+pub comes_exists : (plans : List Plan) (s : Side) (x : OpId) → has_class (kind_at plans x) (class_of_side s) ≡ true → IsOp plans x
+comes_exists plans Receives x suited = op_of_kind plans x _ (suited_receive plans x suited).kind
+comes_exists plans Sends x suited = op_of_kind plans x _ (suited_send plans x suited).kind
+
+ops_none : (c : Class) → ops_of c [] ≡ []
+unfolding ops_of
+ops_none c = refl
+
+-- before all posts and arrivals nobody waits
+pub queues_begin : (plans : List Plan) (keys : List Pattern) (none : Queue) (queues : List Queue) (next : List ℕ) → none.waits ≡ None → queues ≡ replicate (length keys) none → length (operations plans) ≤ length next → AreQueues plans keys queues next []
+queues_begin plans keys none queues next empty are long = record {
+  one_each = ap length are ∙ length-replicate (length keys) none;
+  links = long;
+  each = λ l u e t.
+      let same : none ≡ u = same_Some none u (sym (its (length keys) l (slice_get_within (replicate (length keys) none) l u (ap (λ (qs : List Queue). slice_get qs l) (sym are) ∙ e))) ∙ ap (λ (qs : List Queue). slice_get qs l) (sym are) ∙ e) in
+      let waits : u.waits ≡ None = ap (λ (q : Queue). q.waits) (sym same) ∙ empty in
+      subst (λ (o : Option Side). AreQueued (operations plans) next u (waits_as o t) (waiting plans keys [] (class_of_side t) l)) (sym waits) (ap (filter (is_waiting plans keys [] l)) (ops_none (class_of_side t)));
+}
+  where
+    its : (n l : ℕ) → l < length (replicate n none) → slice_get (replicate n none) l ≡ Some none
+    its zero l b = absurd (omega arith)
+    its (suc n) zero b = refl
+    its (suc n) (suc l) b = its n l (omega arith)

@@ -1,0 +1,90 @@
+-- Queues of the operations that wait, one a pattern, where each pattern names a source and a tag.
+use Rattle.std.specs.Prelude.{ℕ, ◌≡◌, ◌≢◌, ◌≤◌, ◌&&◌, not, Bool, true, false, List, [], ◌∷◌, length, filter, Option, Some, None, slice_get, count_by, vec_capacity}
+use Rattle.goal_graph.specs.declared.action.OpId.{OpId}
+use Rattle.goal_graph.specs.declared.action.Class.{Class}
+use Rattle.goal_graph.specs.declared.action.Class.TheVariants.{Arrive, Post}
+use Rattle.goal_graph.specs.Schedule.{Plan, operations}
+use Rattle.goal_graph.specs.Action.{Act}
+use Rattle.goal_graph.specs.Matching.{is_paired, pairs}
+use Rattle.sim_match.specs.declared.capacities.Side.{Side}
+use Rattle.sim_match.specs.declared.capacities.Side.TheVariants.{Receives, Sends}
+use Rattle.sim_match.specs.declared.pattern.Pattern.{Pattern}
+use Rattle.sim_match.specs.declared.queues.Queue.{Queue}
+use Rattle.sim_match.specs.declared.queues.Queues.{Queues}
+use Rattle.sim_match.specs.PostsAndArrivals.{send_for, receive_for}
+use Rattle.sim_match.specs.Waiting.{ops_of, is_message}
+use Rattle.sim_match.specs.Patterns.{same_number, own_list}
+use Rattle.sim_match.specs.ListNumbers.{AreNamed, AreNumbered}
+use Rattle.sim_match.specs.Matcher.{ArePostsAndArrivals, actions_of}
+
+-- receives are posted, sends arrive
+abbrev pub class_of_side : Side → Class
+class_of_side Receives = Post
+class_of_side Sends = Arrive
+
+abbrev pub come : Side → OpId → Act
+come side x = record { class = class_of_side side; op = x }
+
+-- what an operation of that side takes where it comes after h
+abbrev pub taken_by : Side → List Plan → List Act → OpId → Option OpId
+taken_by Receives plans h x = send_for plans h x
+taken_by Sends plans h x = receive_for plans h x
+
+-- those of that side wait
+abbrev pub waits_as : Option Side → Side → Bool
+waits_as None side = false
+waits_as (Some Receives) Receives = true
+waits_as (Some Receives) Sends = false
+waits_as (Some Sends) Receives = false
+waits_as (Some Sends) Sends = true
+
+-- what stands at a place that is not the last links to the place of the one behind it
+pub record IsLink (ops : List OpId) (next : List ℕ) (place last behind : ℕ) (y : OpId) : Type 0 where
+  pub apart : place ≢ last
+  pub links : slice_get next place ≡ Some behind
+  pub is : slice_get ops behind ≡ Some y
+
+-- behind that place stand these, up to the last
+abbrev pub AreLinked : List OpId → List ℕ → ℕ → ℕ → List OpId → Type 0
+AreLinked ops next place last [] = place ≡ last
+AreLinked ops next place last (y ∷ ys) =
+    (behind : ℕ) × IsLink ops next place last behind y × AreLinked ops next behind last ys
+
+-- the operations of a queue in which some wait, oldest first
+abbrev pub AreInLine : List OpId → List ℕ → Queue → List OpId → Type 0
+AreInLine ops next queue [] = ⊥
+AreInLine ops next queue (x ∷ xs) =
+    (queue.first ≡ x) × (place : ℕ) × (slice_get ops place ≡ Some x) × AreLinked ops next place queue.last xs
+
+-- of a side that waits these are in a queue, of another none
+abbrev pub AreQueued : List OpId → List ℕ → Queue → Bool → List OpId → Type 0
+AreQueued ops next queue true xs = AreInLine ops next queue xs
+AreQueued ops next queue false xs = xs ≡ []
+
+-- what is left of a queue without its first
+abbrev pub AreLeft : List OpId → List ℕ → Queue → Queue → List OpId → Type 0
+AreLeft ops next old new [] = new.waits ≡ None
+AreLeft ops next old new (y ∷ ys) = (new.waits ≡ old.waits) × AreInLine ops next new (y ∷ ys)
+
+module _ (plans : List Plan) (keys : List Pattern) where
+  -- an operation of a pattern that is not paired
+  abbrev pub is_waiting : List Act → ℕ → OpId → Bool
+  is_waiting h list x = not (is_paired (pairs plans h) x) && same_number (own_list plans keys x) (Some list)
+
+  -- the operations of a pattern that were posted, or have arrived, and wait
+  abbrev pub waiting : List Act → Class → ℕ → List OpId
+  waiting h class list = filter (is_waiting h list) (ops_of class h)
+
+  -- each pattern has in its queue what waits after h, of one side alone
+  pub record AreQueues (queues : List Queue) (next : List ℕ) (h : List Act) : Type 0 where
+    pub one_each : length queues ≡ length keys
+    pub links : length (operations plans) ≤ length next
+    pub each : (list : ℕ) (queue : Queue) → slice_get queues list ≡ Some queue → (side : Side) → AreQueued (operations plans) next queue (waits_as queue.waits side) (waiting h (class_of_side side) list)
+
+-- what queues keep
+pub record AreKept (plans : List Plan) (kept : Queues) : Type 0 where
+  pub numbered : AreNumbered plans kept.numbers
+  pub named : AreNamed numbered.keys
+  pub actions : ArePostsAndArrivals plans (actions_of plans kept.events.items)
+  pub queues : AreQueues plans numbered.keys kept.queues.items kept.next.items (actions_of plans kept.events.items)
+  pub roomy : count_by (is_message plans) (operations plans) ≤ vec_capacity kept.events
