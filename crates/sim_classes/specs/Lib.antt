@@ -5,6 +5,7 @@ pub mod Known
 pub mod Form
 -- What only the code keeps.
 pub mod Left
+pub mod Rows
 pub mod Bounds
 -- Laws.
 pub mod Laws

@@ -1,7 +1,8 @@
 -- What the parts of a machine of the code tell.
 use Rattle.std.specs.Prelude.{ℕ, ◌+◌, ◌*◌, nat_lt, List, map, Option, None, if◌then◌else◌}
 use Rattle.std.specs.Ordering.{nat_cmp}
-use Rattle.std.specs.BTreeMap.{BTreeMap, get}
+use Rattle.std.specs.BTreeMap.{is_at}
+use Rattle.std.specs.Map.{lookup}
 use Rattle.sim_params.specs.declared.params.Params.{Params}
 use Rattle.sim_params.specs.Numbers.{numbers}
 use Rattle.sim_classes.specs.Machine.{Known, machine_with}
@@ -10,9 +11,9 @@ use Rattle.sim_classes.specs.Machine.{Known, machine_with}
 abbrev pub pair_key : ℕ → ℕ → ℕ
 pair_key a b = 4294967296 * a + b
 
--- the class that a map tells for two nodes
-abbrev pub told_by : BTreeMap ℕ ℕ → ℕ → ℕ → Option ℕ
-told_by told a b = if nat_lt b 4294967296 then get nat_cmp told (pair_key a b) else None
+-- the class that entries tell for two nodes
+abbrev pub told_by : List (ℕ × ℕ) → ℕ → ℕ → Option ℕ
+told_by told a b = if nat_lt b 4294967296 then lookup (is_at (nat_cmp (pair_key a b))) told else None
 
-abbrev pub known_of : List Params → ℕ → ℕ → List ℕ → BTreeMap ℕ ℕ → Known
+abbrev pub known_of : List Params → ℕ → ℕ → List ℕ → List (ℕ × ℕ) → Known
 known_of classes inside usual nodes told = machine_with (map numbers classes) inside usual nodes (told_by told)

@@ -12,6 +12,7 @@ mod messages;
 mod reading;
 #[cfg(test)]
 mod tests;
+mod told;
 mod words;
 
 pub use fault::MachineFault;

@@ -1,10 +1,10 @@
 //! Machines.
 ghost use Rattle.std.specs.Prelude.{◌≡◌, ◌≤◌, length};
 ghost use Rattle.sim_classes.specs.Machine.{IsWhole};
-ghost use Rattle.sim_classes.specs.Parts.{known_of, pair_key};
+ghost use Rattle.sim_classes.specs.Parts.{known_of};
 
+use crate::told::Told;
 use sim_params::Params;
-use std::collections::BTreeMap;
 
 /// The most classes of a machine.
 pub const MAX_CLASSES: u64 = 16;
@@ -23,14 +23,7 @@ pub struct Machine {
     pub(crate) inside: u32,
     pub(crate) usual: u32,
     pub(crate) nodes: Vec<u32>,
-    pub(crate) told: BTreeMap<u64, u32>,
+    pub(crate) told: Told,
     pub(crate) ghost few: { length nodes.items ≤ 65536 },
     pub(crate) ghost whole: { IsWhole (known_of classes.items inside usual nodes.items told) },
-}
-
-// The key of a pair of nodes: its order is that of the pairs.
-pub(crate) fn pair_key(a: u32, b: u32) -> u64
-    ensures { result ≡ pair_key a b }
-{
-    u64::from(a) * 4_294_967_296 + u64::from(b)
 }

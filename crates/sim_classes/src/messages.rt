@@ -5,7 +5,7 @@ ghost use Rattle.sim_params.specs.Numbers.{numbers};
 ghost use Rattle.sim_classes.specs.Machine.{class_of, class_between, numbers_of, costs_between};
 ghost use Rattle.sim_classes.specs.Known.{known};
 
-use crate::machine::{Machine, pair_key};
+use crate::machine::Machine;
 use sim_params::{Costs, LogGops, Params};
 
 impl Machine {
@@ -47,8 +47,8 @@ impl Machine {
         if a == b {
             return self.inside;
         }
-        match self.told.get(&pair_key(a, b)) {
-            Some(class) => *class,
+        match self.told.class(a, b) {
+            Some(class) => class,
             None => self.usual,
         }
     }

@@ -11,7 +11,8 @@ ghost use Rattle.sim_classes.specs.Known.{known};
 ghost use Rattle.sim_classes.specs.Form.{Form, Value, said, class_part, classes_part, places_part, nodes_part, triples_part, triples, new_target, machine};
 
 use crate::fault::MachineFault;
-use crate::machine::{MAX_CLASSES, MAX_NODE, MAX_PAIRS, Machine, pair_key};
+use crate::machine::{MAX_CLASSES, MAX_NODE, MAX_PAIRS, Machine};
+use crate::told::{Told, pair_key};
 use crate::words::Words;
 use goal_base::{MAX_PARAM, MAX_PER_BYTE, MAX_RANKS};
 use sim_params::{MAX_PICOS, Params};
@@ -87,11 +88,11 @@ fn read_target(
     told: &BTreeMap<u64, u32>,
     from: u32,
 ) -> Result<u32, MachineFault>
-    ensures next { IfOk result (λ n. (m : Known) (rest : ℕ → Form) → m.told ≡ told_by told.now
+    ensures next { IfOk result (λ n. (m : Known) (rest : ℕ → Form) → m.told ≡ told_by told.now.entries
         → said (Value (new_target m from) rest) words.old.place words.old.words
         ≡ said (rest n) words.new.place words.new.words) }
     ensures within { IfOk result (λ n. n ≤ MAX_NODE) }
-    ensures fault { IfErr result (λ fault. (m : Known) (rest : ℕ → Form) → m.told ≡ told_by told.now
+    ensures fault { IfErr result (λ fault. (m : Known) (rest : ℕ → Form) → m.told ≡ told_by told.now.entries
         → said (Value (new_target m from) rest) words.old.place words.old.words ≡ Err fault) }
 {
     let (at, value) = words.number()?;
@@ -115,8 +116,8 @@ fn read_pairs(
     requires { classes ≤ 16 }
     ensures next { IfOk result (λ told. (numbers : List Numbers) (inside usual : ℕ) (nodes : List ℕ) → length numbers ≡ classes
         → said (triples count (machine_with numbers inside usual nodes (λ a b. None))) words.old.place words.old.words
-        ≡ Ok (machine_with numbers inside usual nodes (told_by told))) }
-    ensures within { IfOk result (λ told. (a b class : ℕ) → told_by told a b ≡ Some class → class < classes) }
+        ≡ Ok (machine_with numbers inside usual nodes (told_by told.entries))) }
+    ensures within { IfOk result (λ told. (a b class : ℕ) → told_by told.entries a b ≡ Some class → class < classes) }
     ensures fault { IfErr result (λ fault. fault ≢ NoMemory
         → (numbers : List Numbers) (inside usual : ℕ) (nodes : List ℕ) → length numbers ≡ classes
         → said (triples count (machine_with numbers inside usual nodes (λ a b. None))) words.old.place words.old.words ≡ Err fault) }
@@ -153,7 +154,7 @@ fn read_places(
     let nodes = read_nodes(alloc, words, ranks)?;
     words.fixed("pairs")?;
     let pairs = words.number_from(0, MAX_PAIRS)?;
-    let told = read_pairs(alloc, words, pairs, count)?;
+    let told = Told::of(alloc, read_pairs(alloc, words, pairs, count)?)?;
     Ok(Machine {
         classes,
         inside,

@@ -22,8 +22,8 @@ returns-in_err-from-clause-fault c =
     rw (p.1, p.2)
     (λ told numbers inside usual nodes few.
     c.loop.invariant.0 numbers inside usual nodes few
-    ∙ ap (λ (f : Form). said f c.loop.words.place c.loop.words.words) (more_pairs c.args.count c.loop.counter (machine_with numbers inside usual nodes (told_by c.loop.told)) c.loop-test.true)
-    ∙ c.in_err-from.ensures.fault (second c.args.count c.loop.counter numbers inside usual nodes (told_by c.loop.told)))
+    ∙ ap (λ (f : Form). said f c.loop.words.place c.loop.words.words) (more_pairs c.args.count c.loop.counter (machine_with numbers inside usual nodes (told_by c.loop.told.entries)) c.loop-test.true)
+    ∙ c.in_err-from.ensures.fault (second c.args.count c.loop.counter numbers inside usual nodes (told_by c.loop.told.entries)))
 
 pub returns-in_err-to-clause-fault : goal.returns-in_err-to-clause-fault
 returns-in_err-to-clause-fault c =
@@ -31,9 +31,9 @@ returns-in_err-to-clause-fault c =
     rw (p.1, p.2)
     (λ told numbers inside usual nodes few.
     c.loop.invariant.0 numbers inside usual nodes few
-    ∙ ap (λ (f : Form). said f c.loop.words.place c.loop.words.words) (more_pairs c.args.count c.loop.counter (machine_with numbers inside usual nodes (told_by c.loop.told)) c.loop-test.true)
-    ∙ c.in_ok-from.ensures.next (second c.args.count c.loop.counter numbers inside usual nodes (told_by c.loop.told))
-    ∙ c.in_err-to.ensures.fault (machine_with numbers inside usual nodes (told_by c.loop.told)) (λ b. Value (class_number numbers) (last c.args.count c.loop.counter numbers inside usual nodes (told_by c.loop.told) c.in_ok-from.field-0 b)) refl)
+    ∙ ap (λ (f : Form). said f c.loop.words.place c.loop.words.words) (more_pairs c.args.count c.loop.counter (machine_with numbers inside usual nodes (told_by c.loop.told.entries)) c.loop-test.true)
+    ∙ c.in_ok-from.ensures.next (second c.args.count c.loop.counter numbers inside usual nodes (told_by c.loop.told.entries))
+    ∙ c.in_err-to.ensures.fault (machine_with numbers inside usual nodes (told_by c.loop.told.entries)) (λ b. Value (class_number numbers) (last c.args.count c.loop.counter numbers inside usual nodes (told_by c.loop.told.entries) c.in_ok-from.field-0 b)) refl)
 
 pub returns-in_err-class-clause-fault : goal.returns-in_err-class-clause-fault
 returns-in_err-class-clause-fault c =
@@ -41,10 +41,10 @@ returns-in_err-class-clause-fault c =
     rw (p.1, p.2)
     (λ told numbers inside usual nodes few.
     c.loop.invariant.0 numbers inside usual nodes few
-    ∙ ap (λ (f : Form). said f c.loop.words.place c.loop.words.words) (more_pairs c.args.count c.loop.counter (machine_with numbers inside usual nodes (told_by c.loop.told)) c.loop-test.true)
-    ∙ c.in_ok-from.ensures.next (second c.args.count c.loop.counter numbers inside usual nodes (told_by c.loop.told))
-    ∙ c.in_ok-to.ensures.next (machine_with numbers inside usual nodes (told_by c.loop.told)) (λ b. Value (class_number numbers) (last c.args.count c.loop.counter numbers inside usual nodes (told_by c.loop.told) c.in_ok-from.field-0 b)) refl
-    ∙ c.in_err-class.ensures.fault numbers (last c.args.count c.loop.counter numbers inside usual nodes (told_by c.loop.told) c.in_ok-from.field-0 c.in_ok-to.to) few)
+    ∙ ap (λ (f : Form). said f c.loop.words.place c.loop.words.words) (more_pairs c.args.count c.loop.counter (machine_with numbers inside usual nodes (told_by c.loop.told.entries)) c.loop-test.true)
+    ∙ c.in_ok-from.ensures.next (second c.args.count c.loop.counter numbers inside usual nodes (told_by c.loop.told.entries))
+    ∙ c.in_ok-to.ensures.next (machine_with numbers inside usual nodes (told_by c.loop.told.entries)) (λ b. Value (class_number numbers) (last c.args.count c.loop.counter numbers inside usual nodes (told_by c.loop.told.entries) c.in_ok-from.field-0 b)) refl
+    ∙ c.in_err-class.ensures.fault numbers (last c.args.count c.loop.counter numbers inside usual nodes (told_by c.loop.told.entries) c.in_ok-from.field-0 c.in_ok-to.to) few)
 
 pub overflow_cast-class : goal.overflow_cast-class
 overflow_cast-class c = omega (arith, c.in_ok-class.ensures.within, c.requires)
@@ -54,10 +54,10 @@ loop-preserved c =
     let after = told_after c.loop.told c.insert.new.self c.in_ok-from.field-0 c.in_ok-to.to c.pair_key.result c.in_ok-class.field-0 c.pair_key.ensures (omega (arith, c.in_ok-to.ensures.within)) c.in_ok-insert.ensures.updates.0 in (
       λ numbers inside usual nodes few.
           c.loop.invariant.0 numbers inside usual nodes few
-          ∙ ap (λ (f : Form). said f c.loop.words.place c.loop.words.words) (more_pairs c.args.count c.loop.counter (machine_with numbers inside usual nodes (told_by c.loop.told)) c.loop-test.true)
-          ∙ c.in_ok-from.ensures.next (second c.args.count c.loop.counter numbers inside usual nodes (told_by c.loop.told))
-          ∙ c.in_ok-to.ensures.next (machine_with numbers inside usual nodes (told_by c.loop.told)) (λ b. Value (class_number numbers) (last c.args.count c.loop.counter numbers inside usual nodes (told_by c.loop.told) c.in_ok-from.field-0 b)) refl
-          ∙ c.in_ok-class.ensures.next numbers (last c.args.count c.loop.counter numbers inside usual nodes (told_by c.loop.told) c.in_ok-from.field-0 c.in_ok-to.to) few
+          ∙ ap (λ (f : Form). said f c.loop.words.place c.loop.words.words) (more_pairs c.args.count c.loop.counter (machine_with numbers inside usual nodes (told_by c.loop.told.entries)) c.loop-test.true)
+          ∙ c.in_ok-from.ensures.next (second c.args.count c.loop.counter numbers inside usual nodes (told_by c.loop.told.entries))
+          ∙ c.in_ok-to.ensures.next (machine_with numbers inside usual nodes (told_by c.loop.told.entries)) (λ b. Value (class_number numbers) (last c.args.count c.loop.counter numbers inside usual nodes (told_by c.loop.told.entries) c.in_ok-from.field-0 b)) refl
+          ∙ c.in_ok-class.ensures.next numbers (last c.args.count c.loop.counter numbers inside usual nodes (told_by c.loop.told.entries) c.in_ok-from.field-0 c.in_ok-to.to) few
           ∙ ap (λ (t : ℕ → ℕ → Option ℕ). said (triples (c.args.count - (c.loop.counter + 1)) (machine_with numbers inside usual nodes t)) c.class_number.new.self.place c.class_number.new.self.words) (λ i x y. sym (after x y) i),
       told_within c.loop.told c.insert.new.self c.in_ok-from.field-0 c.in_ok-to.to c.in_ok-class.field-0 c.args.classes after c.in_ok-class.ensures.within c.loop.invariant.1,
       omega (arith, c.loop-test.true),
@@ -69,13 +69,13 @@ returns-in_err-end-clause-fault c =
     rw (p.1, p.2)
     (λ told numbers inside usual nodes few.
     c.loop.invariant.0 numbers inside usual nodes few
-    ∙ ap (λ (f : Form). said f c.loop.words.place c.loop.words.words) (no_pairs c.args.count c.loop.counter (machine_with numbers inside usual nodes (told_by c.loop.told)) (omega (arith, c.loop.invariant.2, c.loop-test.false)))
-    ∙ c.in_err-end.ensures.fault (machine_with numbers inside usual nodes (told_by c.loop.told)))
+    ∙ ap (λ (f : Form). said f c.loop.words.place c.loop.words.words) (no_pairs c.args.count c.loop.counter (machine_with numbers inside usual nodes (told_by c.loop.told.entries)) (omega (arith, c.loop.invariant.2, c.loop-test.false)))
+    ∙ c.in_err-end.ensures.fault (machine_with numbers inside usual nodes (told_by c.loop.told.entries)))
 
 pub returns-clause-next : goal.returns-clause-next
 returns-clause-next c =
     λ numbers inside usual nodes few.
-    let m = machine_with numbers inside usual nodes (told_by c.loop.told) in
+    let m = machine_with numbers inside usual nodes (told_by c.loop.told.entries) in
     c.loop.invariant.0 numbers inside usual nodes few
     ∙ ap (λ (f : Form). said f c.loop.words.place c.loop.words.words) (no_pairs c.args.count c.loop.counter m (omega (arith, c.loop.invariant.2, c.loop-test.false)))
     ∙ ap (said (End m) c.loop.words.place) c.in_ok-end.ensures.next ∙ end_said m c.loop.words.place

@@ -9,5 +9,5 @@ use Rattle.sim_classes.proofs.reading.read_pairs.Given as goal
 abbrev pub invariant-loop : goal.invariant-loop
 invariant-loop l =
     ((numbers : List Numbers) (inside usual : ℕ) (nodes : List ℕ) → length numbers ≡ l.classes
-    → said (triples l.count (machine_with numbers inside usual nodes (λ a b. None))) l.initial.words.place l.initial.words.words ≡ said (triples (l.count - l.counter) (machine_with numbers inside usual nodes (told_by l.told))) l.words.place l.words.words)
-    × ((a b class : ℕ) → told_by l.told a b ≡ Some class → class < l.classes) × (l.counter ≤ l.count)
+    → said (triples l.count (machine_with numbers inside usual nodes (λ a b. None))) l.initial.words.place l.initial.words.words ≡ said (triples (l.count - l.counter) (machine_with numbers inside usual nodes (told_by l.told.entries))) l.words.place l.words.words)
+    × ((a b class : ℕ) → told_by l.told.entries a b ≡ Some class → class < l.classes) × (l.counter ≤ l.count)

@@ -1,0 +1,135 @@
+// The classes that a machine tells for pairs of nodes.
+ghost use Rattle.std.specs.Prelude.{◌≡◌, Some, IfOk, IfSome};
+ghost use Rattle.std.specs.Ordering.{nat_cmp};
+ghost use Rattle.std.specs.List.Sorted.{IsStrictlySortedBy};
+ghost use Rattle.std.specs.Map.{keys_of, lookup};
+ghost use Rattle.std.specs.BTreeMap.{is_at};
+ghost use Rattle.sim_classes.specs.Parts.{pair_key, told_by};
+ghost use Rattle.sim_classes.specs.Rows.{AreStarts, IsRow};
+
+use std::alloc::{AllocError, Global};
+use std::collections::BTreeMap;
+use std::marker::Model;
+
+/// The classes that are told, each at the key of its pair of nodes, in the order of the keys. Contracts see the list of them.
+#[derive(Drop)]
+pub(crate) struct Told {
+    entries: Vec<(u64, u32)>,
+    // where those from each node begin, and last where all end
+    starts: Vec<usize>,
+}
+
+impl Model for Told {
+    ghost use Rattle.std.specs.Prelude.{List, ℕ};
+
+    ghost Value = { List (ℕ × ℕ) };
+
+    ghost view = { λ t. t.entries.items };
+
+    ghost use Rattle.sim_classes.specs.Rows.{AreInRows};
+
+    ghost invariant = { λ t. AreInRows t.entries.items t.starts.items };
+}
+
+// The key of a pair of nodes: its order is that of the pairs.
+pub(crate) fn pair_key(a: u32, b: u32) -> u64
+    ensures { result ≡ pair_key a b }
+{
+    u64::from(a) * 4_294_967_296 + u64::from(b)
+}
+
+// Where the entries from each node begin, and last where those from the greatest end.
+fn starts_of(alloc: Global, entries: &[(u64, u32)]) -> Result<Vec<usize>, AllocError>
+    requires { IsStrictlySortedBy nat_cmp (keys_of entries.now) }
+    ensures { IfOk result (λ starts. AreStarts entries.now starts.items) }
+{
+    let nodes = match entries.last() {
+        Some(entry) => (entry.0 / 4_294_967_296).saturating_add(2),
+        None => 0,
+    };
+    let mut starts = Vec::new(alloc);
+    for node in 0..nodes {
+        starts.push(entries.partition_point(|entry| entry.0 / 4_294_967_296 < node))?;
+    }
+    Ok(starts)
+}
+
+impl Told {
+    /// What a map tells.
+    ///
+    /// # Errors
+    ///
+    /// Where memory ran out.
+    pub(crate) fn of(alloc: Global, map: BTreeMap<u64, u32>) -> Result<Told, AllocError>
+        ensures { IfOk result (λ told. told ≡ map.entries) }
+    {
+        let mut entries = Vec::with_capacity(alloc, map.len())?;
+        for entry in map {
+            entries.push(entry)?;
+        }
+        let starts = starts_of(alloc, &entries)?;
+        Ok(Told { entries, starts })
+    }
+
+    // Between which places all entries from a node stand.
+    fn row(&self, node: u32) -> (usize, usize)
+        ensures { IsRow self.now node result.0 result.1 }
+    {
+        let node = node as usize;
+        if node + 1 < self.starts.len() {
+            (self.starts[node], self.starts[node + 1])
+        } else {
+            (0, self.entries.len())
+        }
+    }
+
+    // Where the entry of a pair stands, if a class is told to each node from the first of its row on. It counts for nothing
+    // until the key there has been looked at.
+    fn guess(&self, a: u32, b: u32) -> usize {
+        let start = self.row(a).0;
+        match self.entries.get(start) {
+            Some(entry) => start
+                .wrapping_add(b as usize)
+                .wrapping_sub((entry.0 % 4_294_967_296) as usize),
+            None => start,
+        }
+    }
+
+    // The class that is told at a key, where that stands at this place.
+    fn class_at(&self, place: usize, key: u64) -> Option<u32>
+        ensures { IfSome result (λ class. lookup (is_at (nat_cmp key)) self.now ≡ Some class) }
+    {
+        match self.entries.get(place) {
+            Some(entry) if entry.0 == key => Some(entry.1),
+            Some(_) | None => None,
+        }
+    }
+
+    // The class that is told for two nodes, found in as many steps as the count of those from the first has binary digits.
+    fn search(&self, a: u32, b: u32) -> Option<u32>
+        ensures { result ≡ told_by self.now a b }
+    {
+        let (start, end) = self.row(a);
+        let row = &self.entries[start..end];
+        match row.binary_search_by_key(&pair_key(a, b), |entry| entry.0) {
+            Ok(at) => Some(row[at].1),
+            Err(_) => None,
+        }
+    }
+
+    /// The class that is told for two nodes. It is found at once where the first tells classes to all nodes from its first
+    /// on, with itself or without.
+    pub(crate) fn class(&self, a: u32, b: u32) -> Option<u32>
+        ensures { result ≡ told_by self.now a b }
+    {
+        let key = pair_key(a, b);
+        let guess = self.guess(a, b);
+        match self.class_at(guess, key) {
+            Some(class) => Some(class),
+            None => match self.class_at(guess.wrapping_sub(1), key) {
+                Some(class) => Some(class),
+                None => self.search(a, b),
+            },
+        }
+    }
+}
