@@ -13,6 +13,7 @@ pub mod Choice
 pub mod Queue
 pub mod Steps
 mod Rows
+mod Turns
 mod Depth
 mod Before
 mod Touches

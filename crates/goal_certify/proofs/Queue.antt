@@ -12,12 +12,12 @@ use Rattle.goal_graph.specs.Interleaving.{IsInterleaving, IsCompleteInterleaving
 use Rattle.goal_graph.proofs.ForCallers.{cases_op, same_op_false, allowed_listed, one_allowed, allowed_stays, operations_in_order, other_place, newly_allowed, find_class}
 use Rattle.goal_blocks.specs.Walk.{no_send, ComesFirst}
 use Rattle.sim_heaps.specs.Map.{key_at, IsEmptyMap, IsLeast}
-use Rattle.goal_certify.specs.WalkQueue.{Place, place_key, may_act, IsIdle, IsChoice, IsKeyOf, IsQueueBut, IsQueue, IsRefreshed, IsConcerned}
+use Rattle.goal_certify.specs.WalkQueue.{may_act, IsIdle, IsChoice, IsKeyOf, IsQueueBut, IsQueue, IsRefreshed, IsConcerned}
 use Rattle.std.proofs.lemmas.Bool.{false_from_ne_true, and_right}
 
 module _ (plans : List Plan) (h : List Act) where
   -- the key of an operation that may act
-  pub choice_key : (slot : ℕ) (x : OpId) (r : Option Class) (c : Class) → IsChoice plans h x r → r ≡ Some c → IsKeyOf plans h slot x (Some (place_key slot))
+  pub choice_key : (slot : ℕ) (x : OpId) (r : Option Class) (c : Class) → IsChoice plans h x r → r ≡ Some c → IsKeyOf plans h slot x (Some slot)
   choice_key slot x r c is e = (refl, (c, subst (λ (o : Option Class). IsChoice plans h x o) e is))
 
   pub choice_none : (slot : ℕ) (x : OpId) (r : Option Class) → IsChoice plans h x r → r ≡ None → IsKeyOf plans h slot x None
@@ -26,7 +26,7 @@ module _ (plans : List Plan) (h : List Act) where
   pub choice_some : (x : OpId) (r : Option Class) (c : Class) → IsChoice plans h x r → r ≡ Some c → may_act plans h c x ≡ true
   choice_some x r c is e = subst (λ (o : Option Class). IsChoice plans h x o) e is
 
-  pub put_key : (x : OpId) (known : List Plan) (slot : ℕ) (key : Option Place) (old new : List (Option Place)) → known ≡ plans → slice_get (operations known) slot ≡ Some x → IsKeyOf plans h slot x key → new ≡ slice_set old slot key → IsRefreshed plans h x old new
+  pub put_key : (x : OpId) (known : List Plan) (slot : ℕ) (key : Option ℕ) (old new : List (Option ℕ)) → known ≡ plans → slice_get (operations known) slot ≡ Some x → IsKeyOf plans h slot x key → new ≡ slice_set old slot key → IsRefreshed plans h x old new
   put_key x known slot key old new same at is put = record {
     slot = slot;
     is_slot = ap (λ (ps : List Plan). slice_get (operations ps) slot) (sym same) ∙ at;
@@ -36,10 +36,10 @@ module _ (plans : List Plan) (h : List Act) where
   }
 
   -- where an operation has got its key it is no longer due
-  pub refreshed : (Due Later : ℕ → OpId → Type 0) (old new : List (Option Place)) (x : OpId) → IsQueueBut plans h Due old → IsRefreshed plans h x old new → ((slot : ℕ) (y : OpId) → slice_get (operations plans) slot ≡ Some y → Due slot y → ¬ (y ≡ x) → Later slot y) → IsQueueBut plans h Later new
+  pub refreshed : (Due Later : ℕ → OpId → Type 0) (old new : List (Option ℕ)) (x : OpId) → IsQueueBut plans h Due old → IsRefreshed plans h x old new → ((slot : ℕ) (y : OpId) → slice_get (operations plans) slot ≡ Some y → Due slot y → ¬ (y ≡ x) → Later slot y) → IsQueueBut plans h Later new
   refreshed Due Later old new x q r still = record {
     each = ap length r.put ∙ length-set old r.slot r.key ∙ q.each;
-    bounds = λ i y e. subst (λ (keys : List (Option Place)). IsKeyOf plans h i y (key_at keys i) ⊎ Later i y) (sym r.put) (go i y e (cases_eq i r.slot));
+    bounds = λ i y e. subst (λ (keys : List (Option ℕ)). IsKeyOf plans h i y (key_at keys i) ⊎ Later i y) (sym r.put) (go i y e (cases_eq i r.slot));
   }
     where
       within : r.slot < length old
@@ -50,32 +50,32 @@ module _ (plans : List Plan) (h : List Act) where
           let same : x ≡ y = same_Some x y (sym r.is_slot ∙ ap (slice_get (operations plans)) (sym s) ∙ e) in
           let here : key_at (set old r.slot r.key) i ≡ r.key = ap (key_at (set old r.slot r.key)) s ∙ get_or-set_same old r.slot r.key None within in
           let there : IsKeyOf plans h i x r.key = subst (λ (n : ℕ). IsKeyOf plans h n x r.key) (sym s) r.bound in
-          inl (subst (λ (k : Option Place). IsKeyOf plans h i y k) (sym here) (subst (λ (z : OpId). IsKeyOf plans h i z r.key) same there))
+          inl (subst (λ (k : Option ℕ). IsKeyOf plans h i y k) (sym here) (subst (λ (z : OpId). IsKeyOf plans h i z r.key) same there))
       go i y e (inr d) =
           let there : key_at (set old r.slot r.key) i ≡ key_at old i = get_or-set_other old r.slot i r.key None d in
-          elim (q.bounds i y e) [ inl b ↦ inl (subst (λ (k : Option Place). IsKeyOf plans h i y k) (sym there) b) | inr due ↦ inr (still i y e due (other_place plans i r.slot y x e r.is_slot d)) ]
+          elim (q.bounds i y e) [ inl b ↦ inl (subst (λ (k : Option ℕ). IsKeyOf plans h i y k) (sym there) b) | inr due ↦ inr (still i y e due (other_place plans i r.slot y x e r.is_slot d)) ]
 
   -- fewer are due
-  pub fewer_due : (Due Later : ℕ → OpId → Type 0) (keys : List (Option Place)) → IsQueueBut plans h Due keys → ((slot : ℕ) (y : OpId) → slice_get (operations plans) slot ≡ Some y → Due slot y → Later slot y) → IsQueueBut plans h Later keys
+  pub fewer_due : (Due Later : ℕ → OpId → Type 0) (keys : List (Option ℕ)) → IsQueueBut plans h Due keys → ((slot : ℕ) (y : OpId) → slice_get (operations plans) slot ≡ Some y → Due slot y → Later slot y) → IsQueueBut plans h Later keys
   fewer_due Due Later keys q still = record {
     each = q.each;
     bounds = λ i y e. elim (q.bounds i y e) [ inl b ↦ inl b | inr due ↦ inr (still i y e due) ];
   }
 
   -- where all are due nothing is asked
-  pub all_due : (Due : ℕ → OpId → Type 0) (keys : List (Option Place)) → length keys ≡ length (operations plans) → ((slot : ℕ) (y : OpId) → Due slot y) → IsQueueBut plans h Due keys
+  pub all_due : (Due : ℕ → OpId → Type 0) (keys : List (Option ℕ)) → length keys ≡ length (operations plans) → ((slot : ℕ) (y : OpId) → Due slot y) → IsQueueBut plans h Due keys
   all_due Due keys e every = record { each = e; bounds = λ i y f. inr (every i y) }
 
-  module _ (now : IsInterleaving plans no_send h) (keys : List (Option Place)) (q : IsQueue plans h keys) where
+  module _ (now : IsInterleaving plans no_send h) (keys : List (Option ℕ)) (q : IsQueue plans h keys) where
     bound : (slot : ℕ) (x : OpId) → slice_get (operations plans) slot ≡ Some x → IsKeyOf plans h slot x (key_at keys slot)
     bound slot x at = elim (q.bounds slot x at) [ inl b ↦ b | inr none ↦ absurd none ]
 
     -- the slot of an operation that may act
     record IsThere (slot : ℕ) (x : OpId) : Type 0 where
       pub at : slice_get (operations plans) slot ≡ Some x
-      pub key : Place
+      pub key : ℕ
       pub has : key_at keys slot ≡ Some key
-      pub place : key.0 ≡ slot
+      pub place : key ≡ slot
 
     slot_of : (c : Class) (x : OpId) → may_act plans h c x ≡ true → (slot : ℕ) × IsThere slot x
     slot_of c x e = go (key_at keys slot) refl (bound slot x at)
@@ -89,7 +89,7 @@ module _ (plans : List Plan) (h : List Act) where
         at : slice_get (operations plans) slot ≡ Some x
         at = slice_get-get_or (operations plans) slot x listed.1 ∙ ap Some listed.2
 
-        go : (k : Option Place) → key_at keys slot ≡ k → IsKeyOf plans h slot x k → (slot : ℕ) × IsThere slot x
+        go : (k : Option ℕ) → key_at keys slot ≡ k → IsKeyOf plans h slot x k → (slot : ℕ) × IsThere slot x
         go None s idle = absurd (both_ways _ (idle c) e)
         go (Some k) s is = (slot, record { at = at; key = k; has = s; place = is.0 })
 
@@ -107,24 +107,24 @@ module _ (plans : List Plan) (h : List Act) where
             absurd (cc)
 
     -- the least key is in the slot of an operation that may act
-    pub within : (slot : ℕ) (k : Place) → key_at keys slot ≡ Some k → slot < length (operations plans)
+    pub within : (slot : ℕ) (k : ℕ) → key_at keys slot ≡ Some k → slot < length (operations plans)
     within slot k has = go (cases_lt slot (length keys))
       where
         go : (slot < length keys) ⊎ (length keys ≤ slot) → slot < length (operations plans)
         go (inl l) = omega (arith, l, q.each)
         go (inr l) = let none : key_at keys slot ≡ None = get_or_past keys slot None l in absurd (cc)
 
-    pub found_at : (items : List OpId) → items ≡ operations plans → (slot : ℕ) (k : Place) (d : OpId) → key_at keys slot ≡ Some k → slice_get (operations plans) slot ≡ Some (get_or items slot d)
+    pub found_at : (items : List OpId) → items ≡ operations plans → (slot : ℕ) (k : ℕ) (d : OpId) → key_at keys slot ≡ Some k → slice_get (operations plans) slot ≡ Some (get_or items slot d)
     found_at items are slot k d has =
         slice_get-get_or (operations plans) slot d (within slot k has) ∙ ap (λ (xs : List OpId). Some (get_or xs slot d)) (sym are)
 
-    pub not_idle : (slot : ℕ) (k : Place) (x : OpId) → key_at keys slot ≡ Some k → slice_get (operations plans) slot ≡ Some x → IsIdle plans h x → ⊥
+    pub not_idle : (slot : ℕ) (k : ℕ) (x : OpId) → key_at keys slot ≡ Some k → slice_get (operations plans) slot ≡ Some x → IsIdle plans h x → ⊥
     not_idle slot k x has at idle =
-        let is = subst (λ (o : Option Place). IsKeyOf plans h slot x o) has (bound slot x at) in
+        let is = subst (λ (o : Option ℕ). IsKeyOf plans h slot x o) has (bound slot x at) in
         both_ways _ (idle is.1.0) is.1.1
 
-    own_place : (slot : ℕ) (k : Place) (x : OpId) → key_at keys slot ≡ Some k → slice_get (operations plans) slot ≡ Some x → k.0 ≡ slot
-    own_place slot k x has at = (subst (λ (o : Option Place). IsKeyOf plans h slot x o) has (bound slot x at)).0
+    own_place : (slot : ℕ) (k : ℕ) (x : OpId) → key_at keys slot ≡ Some k → slice_get (operations plans) slot ≡ Some x → k ≡ slot
+    own_place slot k x has at = (subst (λ (o : Option ℕ). IsKeyOf plans h slot x o) has (bound slot x at)).0
 
     -- what stands earlier in the list of operations is before
     earlier_before : (i j : ℕ) (x y : OpId) → i < j → slice_get (operations plans) i ≡ Some x → slice_get (operations plans) j ≡ Some y → IsBefore x y
@@ -133,14 +133,14 @@ module _ (plans : List Plan) (h : List Act) where
         subst (λ (z : OpId). IsBefore z y) (get_or_from_slice_get (operations plans) i x x e) (subst (λ (z : OpId). IsBefore (get_or (operations plans) i x) z) (get_or_from_slice_get (operations plans) j y x f) before)
 
     -- it is the first of those that may
-    pub comes_first : (slot : ℕ) (k : Place) (x : OpId) (c : Class) → IsLeast (λ (x y : Place). nat_lt x.0 y.0) keys slot k → slice_get (operations plans) slot ≡ Some x → may_act plans h c x ≡ true → (b : Act) → may_act plans h b.class b.op ≡ true → ComesFirst (record { class = c; op = x }) b
+    pub comes_first : (slot : ℕ) (k : ℕ) (x : OpId) (c : Class) → IsLeast nat_lt keys slot k → slice_get (operations plans) slot ≡ Some x → may_act plans h c x ≡ true → (b : Act) → may_act plans h b.class b.op ≡ true → ComesFirst (record { class = c; op = x }) b
     comes_first slot k x c least at may b e = go (slot_of b.class b.op e)
       where
         go : (other : ℕ) × IsThere other b.op → ComesFirst (record { class = c; op = x }) b
         go (other, is) = order (cases_eq slot other)
           where
-            not_less : k.0 ≤ is.key.0
-            not_less = ltb-false is.key.0 k.0 (least.least other is.key is.has)
+            not_less : k ≤ is.key
+            not_less = ltb-false is.key k (least.least other is.key is.has)
 
             ahead : slot ≤ other
             ahead = omega (arith, not_less, own_place slot k x least.has at, is.place)
@@ -159,7 +159,7 @@ module _ (plans : List Plan) (h : List Act) (a : Act) (now : IsInterleaving plan
       elim (cases_op a.op x) [ inl s ↦ absurd (d (sym s)) | inr o ↦ allowed_stays plans no_send a h c x (and_right _ (same_op a.op x) o) e ]
 
   -- the key of an operation stays, or the action concerns it
-  key_stays : (slot : ℕ) (x : OpId) (k : Option Place) → IsKeyOf plans h slot x k → IsKeyOf plans (a ∷ h) slot x k ⊎ IsConcerned plans (a ∷ h) a.op x
+  key_stays : (slot : ℕ) (x : OpId) (k : Option ℕ) → IsKeyOf plans h slot x k → IsKeyOf plans (a ∷ h) slot x k ⊎ IsConcerned plans (a ∷ h) a.op x
   key_stays slot x None idle = go (find_class (λ c. may_act plans (a ∷ h) c x))
     where
       go : ((c : Class) × (may_act plans (a ∷ h) c x ≡ true)) ⊎ ((c : Class) → may_act plans (a ∷ h) c x ≡ false) → IsIdle plans (a ∷ h) x ⊎ IsConcerned plans (a ∷ h) a.op x
@@ -172,7 +172,7 @@ module _ (plans : List Plan) (h : List Act) (a : Act) (now : IsInterleaving plan
       go (inr o) = inl (b.0, (b.1.0, stays b.1.0 x (λ s. same_op_false a.op x o (sym s)) b.1.1))
 
   -- so after an action those are due that it concerns
-  pub queue_after : (keys : List (Option Place)) → IsQueue plans h keys → IsQueueBut plans (a ∷ h) (λ slot. IsConcerned plans (a ∷ h) a.op) keys
+  pub queue_after : (keys : List (Option ℕ)) → IsQueue plans h keys → IsQueueBut plans (a ∷ h) (λ slot. IsConcerned plans (a ∷ h) a.op) keys
   queue_after keys q = record {
     each = q.each;
     bounds = λ i x e. elim (q.bounds i x e) [ inl b ↦ key_stays i x (key_at keys i) b | inr none ↦ absurd none ];

@@ -4,9 +4,9 @@ use Rattle.std.proofs.lemmas.Bool.{cases_eq, cases_lt}
 use Rattle.std.proofs.Math.ListN.{get_or-append}
 use Rattle.std.proofs.Math.Seq.{get_or-append_right}
 use Rattle.std.proofs.lemmas.List.{get_or-replicate, get_or_past, length-replicate}
-use Rattle.std.proofs.lemmas.Nat.Bits.{bit_at_set_same, bit_at_set_other, bit_at-zero, bit_at_or, bit_at-lt, bit_at_and, bit_at_not}
+use Rattle.std.proofs.lemmas.Nat.Bits.{bit_at_set_same, bit_at_set_other, bit_at-zero, bit_at-trailing_zeros, bit_at_or, bit_at-lt, bit_at_and, bit_at_not}
 use Rattle.std.specs.Prelude.{bit_or, bit_and}
-use Rattle.std.specs.Int.{bit_at, bit_not}
+use Rattle.std.specs.Int.{bit_at, bit_not, trailing_zeros}
 use Rattle.goal_certify.specs.Rows.{has}
 
 -- a bit of a word
@@ -210,13 +210,20 @@ unfolding has
 no_word rows row k i none at =
     ap (λ (j : ℕ). bit (get_or rows j 0) k) at ∙ ap (λ w. bit w k) none ∙ ap (λ b. eqb b 1) (bit_at-zero (k % 64))
 
--- what all words but those of other rows have, that another row has: no bit of the one is left without the other
-pub none_alone : (these others : List ℕ) (row k : ℕ) → k < 2048 → get_or others (32 * row + k / 64) 0 < 2 ^ 64 → bit_and (get_or these (32 * row + k / 64) 0) (bit_not w64 (get_or others (32 * row + k / 64) 0)) ≡ 0 → has these row k ≡ true → has others row k ≡ false → ⊥
+-- below the lowest 1 of a word stand none
+pub below_lowest : (word i : ℕ) → word < 2 ^ 64 → i < trailing_zeros w64 word → bit_at word i ≡ 0
+below_lowest word i fits low =
+    elim (cases_lt 0 word) [
+      | inl some ↦ (bit_at-trailing_zeros w64 word some fits).2 i low
+      | inr none ↦ let zero_is : word ≡ 0 = omega (arith, none) in ap (λ w. bit_at w i) zero_is ∙ bit_at-zero i
+    ]
+
+-- where the bit is not one of those that the one row has without the other, the other has it too
+pub none_alone : (these others : List ℕ) (row k : ℕ) → k < 2048 → get_or others (32 * row + k / 64) 0 < 2 ^ 64 → bit_at (bit_and (get_or these (32 * row + k / 64) 0) (bit_not w64 (get_or others (32 * row + k / 64) 0))) (k % 64) ≡ 0 → has these row k ≡ true → has others row k ≡ false → ⊥
 unfolding has
 none_alone these others row k small fits none h alone =
     let x : bit_at (get_or these (32 * row + k / 64) 0) (k % 64) ≡ 1 = is_one _ h in
     let y : bit_at (get_or others (32 * row + k / 64) 0) (k % 64) ≢ 1 = λ e. true≢false (sym (eq-eqb _ 1 e) ∙ alone) in
     let z : bit_at (get_or others (32 * row + k / 64) 0) (k % 64) < 2 = bit_at-lt _ (k % 64) in
     let n : bit_at (bit_not w64 (get_or others (32 * row + k / 64) 0)) (k % 64) ≡ 1 - bit_at (get_or others (32 * row + k / 64) 0) (k % 64) = bit_at_not w64 _ (k % 64) fits (omega arith) in
-    let m : bit_at (bit_and (get_or these (32 * row + k / 64) 0) (bit_not w64 (get_or others (32 * row + k / 64) 0))) (k % 64) ≡ 0 = ap (λ w. bit_at w (k % 64)) none ∙ bit_at-zero (k % 64) in
-    omega (arith, m, n, x, y, z, bit_at_and (get_or these (32 * row + k / 64) 0) (bit_not w64 (get_or others (32 * row + k / 64) 0)) (k % 64))
+    omega (arith, none, n, x, y, z, bit_at_and (get_or these (32 * row + k / 64) 0) (bit_not w64 (get_or others (32 * row + k / 64) 0)) (k % 64))

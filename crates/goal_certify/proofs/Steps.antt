@@ -1,5 +1,5 @@
 -- A walker over one step, said of views.
-use Rattle.std.proofs.Common.{◌≡◌, ◌*◌, ◌-◌, ◌<◌, true, false, List, ◌∷◌, length, Option, Some, None, IfSome, IfNone, is_some, sym, ap, ◌∙◌, subst, arith}
+use Rattle.std.proofs.Common.{ℕ, ◌≡◌, ◌*◌, ◌-◌, ◌<◌, true, false, List, ◌∷◌, length, Option, Some, None, IfSome, IfNone, is_some, sym, ap, ◌∙◌, subst, arith}
 use Rattle.goal_graph.specs.Action.{Act}
 use Rattle.goal_graph.specs.Schedule.{operations}
 use Rattle.goal_graph.proofs.ForCallers.{happened_and_left}
@@ -8,7 +8,7 @@ use Rattle.goal_graph.specs.Interleaving.{IsInterleaving}
 use Rattle.goal_blocks.specs.Walk.{no_send, ComesFirst, TakesFirst, IsWalk}
 use Rattle.goal_certify.specs.declared.walk.action.Action.{Action}
 use Rattle.goal_certify.specs.Walked.{Walked, act_of, with_action, IsLater}
-use Rattle.goal_certify.specs.WalkQueue.{Place, may_act, IsQueue, IsQueueBut, IsConcerned}
+use Rattle.goal_certify.specs.WalkQueue.{may_act, IsQueue, IsQueueBut, IsConcerned}
 use Rattle.goal_certify.proofs.Places.{allowed_exists}
 use Rattle.goal_certify.proofs.Queue.{queue_after}
 
@@ -19,7 +19,7 @@ module _ (old new : Walked) (a : Action) (after : new ≡ with_action old a) (ma
       subst (λ (v : Walked). IsOp v.plans a.op) (sym after) (allowed_exists old.plans old.history a.class a.op may)
 
   -- after it those are due that it concerns
-  pub due_after : (keys : List (Option Place)) → IsInterleaving old.plans no_send old.history → IsQueue old.plans old.history keys → IsQueueBut new.plans new.history (λ slot. IsConcerned new.plans new.history a.op) keys
+  pub due_after : (keys : List (Option ℕ)) → IsInterleaving old.plans no_send old.history → IsQueue old.plans old.history keys → IsQueueBut new.plans new.history (λ slot. IsConcerned new.plans new.history a.op) keys
   due_after keys each q =
       subst (λ (v : Walked). IsQueueBut v.plans v.history (λ slot. IsConcerned v.plans v.history a.op) keys) (sym after) (queue_after old.plans old.history (act_of a) (each, may) keys q)
 

@@ -6,6 +6,7 @@ pub mod Stages
 pub mod Ends
 pub mod Walked
 pub mod WalkQueue
+pub mod Turns
 pub mod Rows
 pub mod Before
 pub mod Touches

@@ -10,15 +10,7 @@ use Rattle.goal_graph.specs.Action.{Act}
 pub use Rattle.goal_graph.specs.Concerned.{IsNamedIn, Waits, IsConcerned}
 use Rattle.goal_graph.specs.Allowed.{is_met, allowed}
 use Rattle.goal_blocks.specs.Walk.{no_send, TakesFirst}
-use Rattle.sim_order.specs.declared.order.Counted.{Counted}
 use Rattle.sim_heaps.specs.Map.{key_at}
-
--- the place of an operation as its key
-abbrev pub Place : Type 0
-Place = Counted ℕ
-
-abbrev pub place_key : ℕ → Place
-place_key slot = record { 0 = slot }
 
 module _ (plans : List Plan) where
   module _ (h : List Act) where
@@ -35,24 +27,24 @@ module _ (plans : List Plan) where
     IsChoice x (Some class) = may_act class x ≡ true
 
     -- an operation that may act has its place as its key, any other has none
-    abbrev pub IsKeyOf : ℕ → OpId → Option Place → Type 0
+    abbrev pub IsKeyOf : ℕ → OpId → Option ℕ → Type 0
     IsKeyOf slot x None = IsIdle x
-    IsKeyOf slot x (Some k) = (k.0 ≡ slot) × ((class : Class) × (may_act class x ≡ true))
+    IsKeyOf slot x (Some k) = (k ≡ slot) × ((class : Class) × (may_act class x ≡ true))
 
     -- each operation has its key in its slot, but those that are due
-    pub record IsQueueBut (Due : ℕ → OpId → Type 0) (keys : List (Option Place)) : Type 0 where
+    pub record IsQueueBut (Due : ℕ → OpId → Type 0) (keys : List (Option ℕ)) : Type 0 where
       pub each : length keys ≡ length (operations plans)
       pub bounds : (slot : ℕ) (x : OpId) → slice_get (operations plans) slot ≡ Some x → IsKeyOf slot x (key_at keys slot) ⊎ Due slot x
 
     -- each operation has its key in its slot
-    abbrev pub IsQueue : List (Option Place) → Type 0
+    abbrev pub IsQueue : List (Option ℕ) → Type 0
     IsQueue keys = IsQueueBut (λ slot x. ⊥) keys
 
     -- the slot of x has got the key of x, and the others are as they were
-    pub record IsRefreshed (x : OpId) (old new : List (Option Place)) : Type 0 where
+    pub record IsRefreshed (x : OpId) (old new : List (Option ℕ)) : Type 0 where
       pub slot : ℕ
       pub is_slot : slice_get (operations plans) slot ≡ Some x
-      pub key : Option Place
+      pub key : Option ℕ
       pub bound : IsKeyOf slot x key
       pub put : new ≡ slice_set old slot key
 
@@ -71,7 +63,7 @@ module _ (plans : List Plan) where
       pub are : (slot : ℕ) (x : OpId) (c : ℕ) → slice_get (operations plans) slot ≡ Some x → slice_get cursors slot ≡ Some c → IsCursorOf x c
 
     -- what a walker keeps of its history, each action of which was the first of those that might happen
-    pub record Follows (keys : List (Option Place)) (cursors : List ℕ) : Type 0 where
+    pub record Follows (keys : List (Option ℕ)) (cursors : List ℕ) : Type 0 where
       pub queue : IsQueue keys
       pub are_cursors : AreCursors cursors
       pub in_order : TakesFirst plans h

@@ -11,10 +11,8 @@ ghost use Rattle.goal_certify.specs.Walked.{act_of, with_action, IsLater};
 
 use goal_base::NoMemory;
 use goal_graph::{OpId, Sched, When};
-use sim_order::Steps;
 use std::alloc::Global;
-use std::marker::{Brand, Model};
-use std::sync::ledger::{Blank, Ledger};
+use std::marker::Model;
 
 mod action;
 mod entry;
@@ -23,19 +21,21 @@ mod outcome;
 mod parcel;
 mod stalls;
 mod state;
+mod turns;
 mod values;
 
 use action::Action;
-use follow::{Queue, fill, follow, next};
+use follow::{fill, follow, next};
 pub use outcome::check_walk;
 use state::State;
+use turns::Turns;
 
 /// Walks through a schedule. Contracts see it as the plans of the schedule and what has happened so far, newest first.
 pub struct Walker<'a> {
     // what has happened, and what is known of each operation
     state: State<'a>,
     // which operations may act
-    queue: Queue,
+    queue: Turns,
     // how far the needs of each operation have been looked at
     cursors: Vec<usize>,
 }
@@ -69,9 +69,9 @@ impl<'a> Walker<'a> {
         ensures empty { IfOk result (λ w. w.history ≡ []) }
     {
         let state = State::new(alloc, sched)?;
-        let mut queue = Queue::new(alloc, sched.count())?;
+        let mut queue = Turns::new(alloc, sched.count())?;
         let mut cursors = vec![in alloc; 0; sched.count() as usize]?;
-        fill::<Brand>(Blank::new(1), &state, &mut queue, &mut cursors);
+        fill(&state, &mut queue, &mut cursors);
         Ok(Walker {
             state,
             queue,
@@ -89,9 +89,11 @@ impl<'a> Walker<'a> {
         ensures same { IfNone result (self.new ≡ self.old) }
         ensures each { IsInterleaving self.new.plans no_send self.new.history }
     {
-        let next = self.next_counted::<Brand>(Blank::new(1));
         self.known();
-        next
+        let action = next(&self.state, &self.queue, &self.cursors)?;
+        self.state.perform(action);
+        follow(&self.state, &mut self.queue, &mut self.cursors, action.op);
+        Some(action)
     }
 
     /// Walks to the end: what has happened is then the walk.
@@ -134,31 +136,6 @@ impl<'a> Walker<'a> {
         ensures first { TakesFirst self.now.plans self.now.history }
     {
         self.state.known();
-    }
-
-    // A step whose comparisons are counted.
-    fn next_counted<L: Ledger>(&mut self, blank: Blank) -> Option<Action>
-        requires name { blank.name ≡ L.name }
-        requires parts { blank.parts ≡ L.parts }
-        requires some { 0 < blank.parts }
-        ensures allowed { IfSome result (λ a. allowed self.old.plans no_send self.old.history a.class a.op ≡ true) }
-        ensures first { IfSome result (λ a. (b : Act) → allowed self.old.plans no_send self.old.history b.class b.op ≡ true → ComesFirst (act_of a) b) }
-        ensures after { IfSome result (λ a. self.new ≡ with_action self.old a) }
-        ensures walk { IfNone result (IsWalk self.old.plans self.old.history) }
-        ensures same { IfNone result (self.new ≡ self.old) }
-    {
-        let mut steps = Steps::<L>::new(blank);
-        self.known();
-        let action = next(&self.state, &self.queue, &self.cursors, &mut steps)?;
-        self.state.perform(action);
-        follow(
-            &self.state,
-            &mut self.queue,
-            &mut self.cursors,
-            action.op,
-            &mut steps,
-        );
-        Some(action)
     }
 }
 

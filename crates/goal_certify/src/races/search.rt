@@ -65,7 +65,8 @@ fn is_open_below(before: &[u64], shared: &[u64], second: u32) -> bool
     false
 }
 
-// The same of the operations whose bits stand in one word. Those that end before this one starts are passed together.
+// The same of the operations whose bits stand in one word. Those below the first that does not end before this one starts
+// are passed together.
 fn is_open_in_word(before: &[u64], shared: &[u64], second: u32, place: u32) -> bool
     requires few { second < 2048 }
     requires place { place < 32 }
@@ -76,10 +77,8 @@ fn is_open_in_word(before: &[u64], shared: &[u64], second: u32, place: u32) -> b
         → is_open before.now shared.now x second ≡ true → ⊥ }
 {
     let at = WORDS * second as usize + place as usize;
-    if shared[at] & !before[at] == 0 {
-        return false;
-    }
-    for first in 64 * place..second.min(64 * place + 64) {
+    let alone = shared[at] & !before[at];
+    for first in 64 * place + alone.trailing_zeros()..second.min(64 * place + 64) {
         if is_open(before, shared, first, second) {
             return true;
         }

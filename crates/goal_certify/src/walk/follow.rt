@@ -13,37 +13,23 @@ ghost use Rattle.goal_certify.specs.WalkQueue.{may_act, IsChoice, IsQueue, IsQue
 
 use super::action::Action;
 use super::state::State;
+use super::turns::Turns;
 use goal_graph::{Class, OpId};
-use sim_heaps::{EventQueue, SlotHeap};
-use sim_order::{Counted, Steps};
-use std::sync::ledger::{Blank, Ledger};
-
-/// The places of the operations that may act.
-pub type Queue = SlotHeap<Counted<u32>>;
 
 /// Gives each operation its key.
-pub fn fill<L: Ledger>(blank: Blank, state: &State, queue: &mut Queue, cursors: &mut [usize])
-    requires name { blank.name ≡ L.name }
-    requires parts { blank.parts ≡ L.parts }
-    requires some { 0 < blank.parts }
+pub fn fill(state: &State, queue: &mut Turns, cursors: &mut [usize])
     requires each { length queue.old ≡ length (operations state.now.plans) }
     requires cursors { AreCursors state.now.plans state.now.history cursors.old }
     ensures queue { IsQueue state.now.plans state.now.history queue.new }
     ensures cursors { AreCursors state.now.plans state.now.history cursors.new }
 {
-    let mut steps = Steps::<L>::new(blank);
     for id in state.sched().operations() {
-        refresh(state, queue, cursors, *id, &mut steps);
+        refresh(state, queue, cursors, *id);
     }
 }
 
 /// The action that happens next, none where none may happen.
-pub fn next<L: Ledger>(
-    state: &State,
-    queue: &Queue,
-    cursors: &[usize],
-    steps: &mut Steps<L>,
-) -> Option<Action>
+pub fn next(state: &State, queue: &Turns, cursors: &[usize]) -> Option<Action>
     requires queue { IsQueue state.now.plans state.now.history queue.now }
     requires cursors { AreCursors state.now.plans state.now.history cursors.now }
     ensures may { IfSome result (λ a. may_act state.now.plans state.now.history a.class a.op ≡ true) }
@@ -51,7 +37,7 @@ pub fn next<L: Ledger>(
     ensures none { IfNone result (IsCompleteInterleaving state.now.plans no_send state.now.history) }
 {
     state.known();
-    let Some((slot, _key)) = queue.least(steps) else {
+    let Some(slot) = queue.least() else {
         return None;
     };
     let op = state.sched().operations()[slot as usize];
@@ -64,32 +50,20 @@ pub fn next<L: Ledger>(
 
 /// Gives their keys to those whose next action may be another after an action of this operation: it, its partner, and
 /// the operations that need it.
-pub fn follow<L: Ledger>(
-    state: &State,
-    queue: &mut Queue,
-    cursors: &mut [usize],
-    id: OpId,
-    steps: &mut Steps<L>,
-)
+pub fn follow(state: &State, queue: &mut Turns, cursors: &mut [usize], id: OpId)
     requires exists { IsOp state.now.plans id }
     requires rest { IsQueueBut state.now.plans state.now.history (λ slot. IsConcerned state.now.plans state.now.history id) queue.old }
     requires cursors { AreCursors state.now.plans state.now.history cursors.old }
     ensures queue { IsQueue state.now.plans state.now.history queue.new }
     ensures cursors { AreCursors state.now.plans state.now.history cursors.new }
 {
-    refresh(state, queue, cursors, id, steps);
-    follow_partner(state, queue, cursors, id, steps);
-    follow_waiting(state, queue, cursors, id, steps);
+    refresh(state, queue, cursors, id);
+    follow_partner(state, queue, cursors, id);
+    follow_waiting(state, queue, cursors, id);
 }
 
 // Gives its key to the partner of an operation, if it has one.
-fn follow_partner<L: Ledger>(
-    state: &State,
-    queue: &mut Queue,
-    cursors: &mut [usize],
-    id: OpId,
-    steps: &mut Steps<L>,
-)
+fn follow_partner(state: &State, queue: &mut Turns, cursors: &mut [usize], id: OpId)
     requires exists { IsOp state.now.plans id }
     requires rest { IsQueueBut state.now.plans state.now.history (λ slot y. (partner (pairs state.now.plans state.now.history) id ≡ Some y) ⊎ Waits state.now.plans id y) queue.old }
     requires cursors { AreCursors state.now.plans state.now.history cursors.old }
@@ -99,17 +73,11 @@ fn follow_partner<L: Ledger>(
     let Some(partner) = state.partner(id) else {
         return;
     };
-    refresh(state, queue, cursors, partner, steps);
+    refresh(state, queue, cursors, partner);
 }
 
 // Gives their keys to the operations that need this one.
-fn follow_waiting<L: Ledger>(
-    state: &State,
-    queue: &mut Queue,
-    cursors: &mut [usize],
-    id: OpId,
-    steps: &mut Steps<L>,
-)
+fn follow_waiting(state: &State, queue: &mut Turns, cursors: &mut [usize], id: OpId)
     requires exists { IsOp state.now.plans id }
     requires rest { IsQueueBut state.now.plans state.now.history (λ slot. Waits state.now.plans id) queue.old }
     requires cursors { AreCursors state.now.plans state.now.history cursors.old }
@@ -121,7 +89,7 @@ fn follow_waiting<L: Ledger>(
             rank: id.rank,
             op: need.op,
         };
-        refresh(state, queue, cursors, waiting, steps);
+        refresh(state, queue, cursors, waiting);
     }
 }
 
@@ -140,13 +108,7 @@ fn choice_from(state: &State, cursors: &mut [usize], id: OpId) -> Option<Class>
 }
 
 // Gives an operation its key where it may act, and takes the key where it may not.
-fn refresh<L: Ledger>(
-    state: &State,
-    queue: &mut Queue,
-    cursors: &mut [usize],
-    id: OpId,
-    steps: &mut Steps<L>,
-)
+fn refresh(state: &State, queue: &mut Turns, cursors: &mut [usize], id: OpId)
     requires exists { IsOp state.now.plans id }
     requires each { length queue.old ≡ length (operations state.now.plans) }
     requires cursors { AreCursors state.now.plans state.now.history cursors.old }
@@ -155,7 +117,7 @@ fn refresh<L: Ledger>(
 {
     let slot = state.sched().index(id);
     match choice_from(state, cursors, id) {
-        Some(_) => queue.put(slot, Counted(slot), steps),
-        None => queue.drop_slot(slot, steps),
+        Some(_) => queue.put(slot),
+        None => queue.take(slot),
     }
 }

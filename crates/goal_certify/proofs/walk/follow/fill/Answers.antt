@@ -10,10 +10,10 @@ abbrev none : OpId
 none = record { rank = 0; op = 0 }
 
 pub loop-id-init : goal.loop-id-init
-loop-id-init g c = (all_due _ _ _ _ c.requires.each (λ slot y. omega arith), c.requires.cursors)
+loop-id-init c = (all_due _ _ _ _ c.requires.each (λ slot y. omega arith), c.requires.cursors)
 
 pub refresh-requires : goal.refresh-requires
-refresh-requires g c =
+refresh-requires c =
     let x = get_or c.operations-id-items.result.now c.loop-id.id-index none in
     record {
       exists = subst (λ (ps : List Plan). IsOp ps x) c.sched.ensures (c.operations-id-items.ensures.exist c.loop-id.id-index none c.loop-id-test.true);
@@ -22,14 +22,14 @@ refresh-requires g c =
     }
 
 pub loop-id-preserved : goal.loop-id-preserved
-loop-id-preserved g c =
+loop-id-preserved c =
     let plans = c.args.state.now.plans in
     let items = c.operations-id-items.ensures.all ∙ ap (λ (ps : List Plan). operations ps) c.sched.ensures in
     let k = c.loop-id.id-index in
     (refreshed plans _ _ _ _ _ _ c.loop-id.invariant.0 c.refresh.ensures.queue (λ slot y at due differ. next_due plans c.operations-id-items.result.now items k none slot y at due differ), c.refresh.ensures.cursors)
 
 pub returns-clause-queue : goal.returns-clause-queue
-returns-clause-queue g c =
+returns-clause-queue c =
     let plans = c.args.state.now.plans in
     let items = c.operations-id-items.ensures.all ∙ ap (λ (ps : List Plan). operations ps) c.sched.ensures in
     fewer_due plans _ _ _ _ c.loop-id.invariant.0 (λ slot y at due. omega (arith, due, slice_get_within (operations plans) slot y at, ap length items, c.loop-id-test.false))

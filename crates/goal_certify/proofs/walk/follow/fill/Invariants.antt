@@ -4,5 +4,5 @@ use Rattle.goal_certify.proofs.walk.follow.fill.Given as goal
 
 -- the operations that are left are due
 abbrev pub invariant-loop-id : goal.invariant-loop-id
-invariant-loop-id g l =
+invariant-loop-id l =
     IsQueueBut l.state.plans l.state.history (λ slot y. l.id-index ≤ slot) l.queue × AreCursors l.state.plans l.state.history l.cursors

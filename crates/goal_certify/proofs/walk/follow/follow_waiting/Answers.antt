@@ -11,7 +11,7 @@ abbrev none : Need
 none = record { op = 0; when = AfterEnd }
 
 pub refresh-requires : goal.refresh-requires
-refresh-requires g c =
+refresh-requires c =
     let d = get_or c.waiting_on-need-items.result.now c.loop-need.need-index none in
     record {
       exists = subst (λ (ps : List Plan). IsOp ps (needed c.args.id d)) c.sched.ensures (c.waiting_on-need-items.ensures.exist c.loop-need.need-index none c.loop-need-test.true);
@@ -20,7 +20,7 @@ refresh-requires g c =
     }
 
 pub loop-need-preserved : goal.loop-need-preserved
-loop-need-preserved g c =
+loop-need-preserved c =
     let plans = c.args.state.now.plans in
     let items = c.waiting_on-need-items.ensures.waiting_on ∙ ap (λ (ps : List Plan). waiting_on ps c.args.id) c.sched.ensures in
     let k = c.loop-need.need-index in
@@ -29,7 +29,7 @@ loop-need-preserved g c =
     (refreshed plans _ _ _ _ _ _ c.loop-need.invariant.0 c.refresh.ensures.queue (λ slot y at n differ. named_rest (waiting_on plans c.args.id) k none c.args.id y within n (λ e. differ (e ∙ ap (λ (ds : List Need). needed c.args.id (get_or ds k none)) (sym items)))), c.refresh.ensures.cursors)
 
 pub returns-clause-queue : goal.returns-clause-queue
-returns-clause-queue g c =
+returns-clause-queue c =
     let plans = c.args.state.now.plans in
     let items = c.waiting_on-need-items.ensures.waiting_on ∙ ap (λ (ps : List Plan). waiting_on ps c.args.id) c.sched.ensures in
     fewer_due plans _ _ _ _ c.loop-need.invariant.0 (λ slot y at n. none_named (waiting_on plans c.args.id) c.loop-need.need-index c.args.id y (omega (arith, ap length items, c.loop-need-test.false)) n)

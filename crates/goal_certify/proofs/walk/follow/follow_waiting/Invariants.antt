@@ -5,5 +5,5 @@ use Rattle.goal_certify.proofs.walk.follow.follow_waiting.Given as goal
 
 -- those that are left are due
 abbrev pub invariant-loop-need : goal.invariant-loop-need
-invariant-loop-need g l =
+invariant-loop-need l =
     IsQueueBut l.state.plans l.state.history (λ slot. IsNamedIn (drop l.need-index (waiting_on l.state.plans l.id)) l.id) l.queue × AreCursors l.state.plans l.state.history l.cursors

@@ -4,13 +4,13 @@ use Rattle.goal_certify.proofs.Queue.{put_key, choice_key, choice_none}
 use Rattle.goal_certify.proofs.walk.follow.refresh.Goals as goal
 
 pub put-requires : goal.put-requires
-put-requires g c =
+put-requires c =
     omega (arith, c.index-slot.ensures.below, c.requires.each, ap (λ (ps : List Plan). length (operations ps)) c.sched.ensures)
 
 pub returns-in-Some-clause-queue : goal.returns-in-Some-clause-queue
-returns-in-Some-clause-queue g c =
-    put_key _ _ c.args.id _ c.index-slot.result _ _ _ c.sched.ensures c.index-slot.ensures.index (choice_key _ _ c.index-slot.result c.args.id _ _ c.choice_from.ensures.choice c.in-Some.is) c.put.ensures.put
+returns-in-Some-clause-queue c =
+    put_key _ _ c.args.id _ c.index-slot.result _ _ _ c.sched.ensures c.index-slot.ensures.index (choice_key _ _ c.index-slot.result c.args.id _ _ c.choice_from.ensures.choice c.in-Some.is) c.put.ensures
 
 pub returns-in-None-clause-queue : goal.returns-in-None-clause-queue
-returns-in-None-clause-queue g c =
-    put_key _ _ c.args.id _ c.index-slot.result _ _ _ c.sched.ensures c.index-slot.ensures.index (choice_none _ _ c.index-slot.result c.args.id _ c.choice_from.ensures.choice c.in-None.is) c.drop_slot.ensures.dropped
+returns-in-None-clause-queue c =
+    put_key _ _ c.args.id _ c.index-slot.result _ _ _ c.sched.ensures c.index-slot.ensures.index (choice_none _ _ c.index-slot.result c.args.id _ c.choice_from.ensures.choice c.in-None.is) c.take.ensures
