@@ -33,7 +33,8 @@ class Believed(unittest.TestCase):
 
     def test_names_are_followed_and_not_files(self):
         reached = dict(line.split(": ") for line in self.called("--list")[1].splitlines())
-        self.assertEqual(reached["goal_graph/Laws"].split(), ["IsReceive", "IsSend"])
+        self.assertEqual(reached["goal_graph/Order"].split(), ["IsBefore", "IsLess", "key"])
+        self.assertNotIn("goal_graph/Laws", reached)
         self.assertIn("IsCompleteRun", reached["sim_params/Run"].split())
         self.assertNotIn("goal_parser/Laws", reached)
 
@@ -51,6 +52,21 @@ class Believed(unittest.TestCase):
         status, said = self.called()
         self.assertEqual(status, 1)
         self.assertIn("crates/sim_stuck/specs/Lib.antt: StuckText is believed, and not in the first group", said)
+
+    def test_a_law_in_a_file_of_the_first_group_is_told(self):
+        rule = "abbrev pub IsLess : List ℕ → List ℕ → Type 0\n"
+        law = "abbrev pub NoneIsLess : Type 0\nNoneIsLess = (k : List ℕ) → ¬ (IsLess k k)\n\n"
+        self.change("crates/goal_graph/specs/Order.antt", rule, law + rule)
+        self.called("--write")
+        status, said = self.called()
+        self.assertEqual(status, 1)
+        self.assertIn("crates/goal_graph/specs/Order.antt: NoneIsLess is in the first group, and the top call does not reach it", said)
+
+    def test_what_is_listed_as_said_by_itself_is_looked_at_again(self):
+        self.change(".ci/believed", '    "goal_blocks/Right": ', '    "goal_blocks/Walk": "all of it is reached",\n    "goal_blocks/Right": ')
+        status, said = self.called()
+        self.assertEqual(status, 1)
+        self.assertIn(".ci/believed: BY_ITSELF lists goal_blocks/Walk, and needs not", said)
 
 
 if __name__ == "__main__":

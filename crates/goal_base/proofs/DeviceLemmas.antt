@@ -3,7 +3,8 @@ use Rattle.std.proofs.Common.{◌≡◌, ◌<◌, ℕ, ◌+◌, true, List, ◌+
 use Rattle.std.specs.FinMap.{get, insert}
 use Rattle.std.proofs.Math.Seq.{take-add}
 use Rattle.goal_base.specs.declared.limits.TheConstants.{MAX_INPUT}
-use Rattle.goal_base.specs.Device.{HostState, SinkState, Files, file_of, Held, Takes, Writes, Grows, SameRest, Holds, ReadFaulted, IsTooLong, appended_to}
+use Rattle.goal_base.specs.Device.{HostState, SinkState, Files, file_of, Held, Grows, SameRest, Holds, ReadFaulted, IsTooLong}
+use Rattle.goal_base.specs.DeviceCalls.{Takes, Writes, appended_to}
 use Rattle.goal_base.proofs.FilesLemmas.{get_inserted, appended_to_inserted}
 
 -- taken from the rest, and then more of it

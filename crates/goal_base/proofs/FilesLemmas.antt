@@ -11,7 +11,8 @@ use Rattle.std.specs.BTreeMap.{BTreeMap, is_at, UpdatesBy, get_by_text}
 use Rattle.std.specs.FinMap.{get_tied, get, insert, empty, same_map, get-insert, get-from_entries, find, nat_cmp-IsAntisymmetric, slice_cmp-IsAntisymmetric}
 use Rattle.std.proofs.lemmas.Bool.{false≢true}
 use Rattle.std.proofs.lemmas.Map.Text.{btree_map_updates_text, is_eq-slice_cmp}
-use Rattle.goal_base.specs.Device.{Files, grown, appended_to}
+use Rattle.goal_base.specs.Device.{Files}
+use Rattle.goal_base.specs.DeviceCalls.{grown, appended_to}
 use Rattle.goal_base.specs.NamedFiles.{files_of}
 
 abbrev Entries : Type 0

@@ -1,8 +1,8 @@
--- what a reader of the contracts believes
+-- What a reader must believe.
 pub mod Device
 pub mod Text
--- of devices in memory, for tests
+-- What only the code keeps.
+pub mod DeviceCalls
 pub mod Calls
 pub mod Memory
--- what the code keeps
 pub mod NamedFiles

@@ -3,7 +3,8 @@ use Rattle.std.specs.Prelude.{◌≡◌, ℕ, ◌^◌, ◌<◌, Bool, true, fals
 use Rattle.std.specs.Coded.{Coded, code_by, coded×, coded_ℕ, coded_bool, coded_list, coded_option}
 use Rattle.std.specs.FinMap.{insert, empty, code}
 use Rattle.goal_base.specs.Calls.{CallPlan, next_call}
-use Rattle.goal_base.specs.Device.{HostState, SinkState, Files, risen_from, appended_to}
+use Rattle.goal_base.specs.Device.{HostState, SinkState, Files, risen_from}
+use Rattle.goal_base.specs.DeviceCalls.{appended_to}
 
 -- A host in memory: what a host means, how many bytes a read or a write moves at most, and which calls fail.
 pub record MemHostState : Type 0 where

@@ -1,6 +1,7 @@
 //! The traits of the outside: a host with files, and a sink that takes bytes.
 ghost use Rattle.std.specs.Prelude.{◌≡◌, ◌↔◌, ◌<◌, ◌≤◌, true, false, [], ◌++◌, length, take, Some, None, OnOk, OnErr, IfOk};
-ghost use Rattle.goal_base.specs.Device.{HostState, SinkState, SameFiles, SameRest, SameBytes, file_of, CallsOpen, CallsRead, CallsWrite, CallsSink, Creates, Writes, Grows};
+ghost use Rattle.goal_base.specs.Device.{HostState, SinkState, SameFiles, SameRest, file_of, Grows};
+ghost use Rattle.goal_base.specs.DeviceCalls.{SameBytes, CallsOpen, CallsRead, CallsWrite, CallsSink, Creates, Writes};
 
 use std::alloc::{AllocError, AllocFailed};
 

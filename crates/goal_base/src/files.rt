@@ -2,7 +2,7 @@
 ghost use Rattle.std.specs.Prelude.{◌≡◌, OnOk, OnErr};
 ghost use Rattle.std.specs.Option.{option_copied};
 ghost use Rattle.std.specs.FinMap as map;
-ghost use Rattle.goal_base.specs.Device.{grown};
+ghost use Rattle.goal_base.specs.DeviceCalls.{grown};
 
 use crate::device::NoMemory;
 use std::alloc::Global;

@@ -1,6 +1,7 @@
 //! Writing a file whole.
 ghost use Rattle.std.specs.Prelude.{◌≡◌, false, OnOk, OnErr};
-ghost use Rattle.goal_base.specs.Device.{CallsWrite, Holds, HoldsPart};
+ghost use Rattle.goal_base.specs.Device.{Holds, HoldsPart};
+ghost use Rattle.goal_base.specs.DeviceCalls.{CallsWrite};
 
 use crate::device::{Host, IoFault};
 

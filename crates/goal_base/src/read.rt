@@ -1,6 +1,7 @@
 //! Reading a file whole.
 ghost use Rattle.std.specs.Prelude.{◌≡◌, ◌⊎◌, ℕ, ◌+◌, ◌<◌, ◌≤◌, true, List, [], length, Some, OnOk, IfOk, IsErrOf};
-ghost use Rattle.goal_base.specs.Device.{Rose, SameRest, Takes, ReadsAtMost, IsTooLong, file_of, ReadFaulted, ReadsFile};
+ghost use Rattle.goal_base.specs.Device.{Rose, SameRest, ReadsAtMost, IsTooLong, file_of, ReadFaulted};
+ghost use Rattle.goal_base.specs.DeviceCalls.{Takes, ReadsFile};
 ghost use Rattle.goal_base.specs.declared.read.ReadAll.TheVariants.{NoMemory};
 
 use crate::device::{Host, IoFault, OpenFault};

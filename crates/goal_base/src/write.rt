@@ -1,6 +1,7 @@
 //! Writing a piece whole.
 ghost use Rattle.std.specs.Prelude.{◌≡◌, ◌<◌, length, take, OnOk, IfErr};
-ghost use Rattle.goal_base.specs.Device.{CallsSink, Grows, stop_reason};
+ghost use Rattle.goal_base.specs.Device.{Grows};
+ghost use Rattle.goal_base.specs.DeviceCalls.{CallsSink, stop_reason};
 
 use crate::device::{IoFault, Sink};
 

@@ -11,13 +11,15 @@ use Rattle.goal_graph.specs.declared.plan.Dep.{Dep}
 use Rattle.goal_graph.specs.declared.plan.Note.{Note}
 use Rattle.goal_graph.specs.declared.plan.Note.TheVariants.{Moves, Adds}
 use Rattle.goal_graph.specs.Schedule.{Plan}
-use Rattle.goal_graph.specs.Fault.{op_count, dep_count, note_count, AreCountsWithin}
+use Rattle.goal_graph.specs.Fault.{op_count, dep_count, note_count}
+use Rattle.goal_graph.specs.Limits.{AreCountsWithin}
 use Rattle.goal_graph.specs.Widths.{IsNoteInWidth}
 use Rattle.goal_binary.specs.declared.layout.TheConstants.{MAGIC}
 use Rattle.goal_binary.specs.declared.layout.Layout.TheVariants.{Fixed, Packed}
 use Rattle.goal_binary.specs.Layouts.{version_of}
 use Rattle.goal_binary.specs.Fitting.{OpFits, DepFits, PlanFits, HaveFile}
-use Rattle.goal_binary.specs.File.{spelled_u32, packed, peer_in, tag_in, size_of, peer_of, tag_of, when_code, byte_unless_zero, packed_if_some, head_code, fixed_op, fixed_dep, fixed_note, packed_op, packed_dep, packed_note, spelled_count, spelled_op, spelled_dep, spelled_note, spelled_counts, spelled_rank, header, written, file, old, old_length}
+use Rattle.goal_binary.specs.File.{spelled_u32, packed, peer_in, tag_in, size_of, peer_of, tag_of, when_code, byte_unless_zero, packed_if_some, head_code, fixed_op, fixed_dep, fixed_note, packed_op, packed_dep, packed_note, spelled_count, spelled_op, spelled_dep, spelled_note, spelled_counts, spelled_rank, header, written, file, old}
+use Rattle.goal_binary.specs.Laws.{old_length}
 use Rattle.goal_binary.proofs.Groups.{fits_3, fits_4, fits_5, fits_10, length-groups}
 use Rattle.goal_binary.proofs.FixedAgain.{kind_fits, when_code-le}
 use Rattle.goal_binary.proofs.PackedItems.{is_some, packed_if, byte_is}

@@ -7,7 +7,8 @@ use Rattle.goal_graph.proofs.ForCallers.{no_limit_rule}
 use Rattle.goal_binary.specs.declared.fault.FileFault.{FileFault}
 use Rattle.goal_binary.specs.declared.fault.FileFault.TheVariants as fault
 use Rattle.goal_binary.specs.Fitting.{HaveFile}
-use Rattle.goal_binary.specs.Meaning.{meaning, IsFaultOf, IsFileFault, IsLimitFault}
+use Rattle.goal_binary.specs.Meaning.{meaning, IsFaultOf, IsFileFault}
+use Rattle.goal_binary.specs.Returned.{IsLimitFault}
 use Rattle.goal_binary.specs.Laws.{IsTrueOf}
 use Rattle.goal_binary.proofs.Steps.{IsBytes}
 use Rattle.goal_binary.proofs.Faults.{within_limits, faults_are_true}

@@ -7,7 +7,8 @@ use Rattle.goal_graph.specs.declared.plan.Op.{Op}
 use Rattle.goal_graph.specs.declared.plan.Dep.{Dep}
 use Rattle.goal_graph.specs.declared.plan.Note.{Note}
 use Rattle.goal_graph.specs.Schedule.{Plan}
-use Rattle.goal_graph.specs.Fault.{op_count, dep_count, note_count, AreCountsWithin}
+use Rattle.goal_graph.specs.Fault.{op_count, dep_count, note_count}
+use Rattle.goal_graph.specs.Limits.{AreCountsWithin}
 use Rattle.goal_binary.specs.declared.layout.Layout.{Layout}
 use Rattle.goal_binary.specs.Fields.{rank_count_at}
 use Rattle.goal_binary.specs.Reading.{list_at, op_at, dep_at, note_at, rank_at, ranks_at, records_at}

@@ -11,7 +11,6 @@ use Rattle.goal_graph.specs.declared.plan.When.TheVariants.{AfterEnd, AfterStart
 use Rattle.goal_graph.specs.declared.plan.Note.{Note}
 use Rattle.goal_graph.specs.declared.plan.Note.TheVariants.{Moves, Adds}
 use Rattle.goal_graph.specs.Schedule.{Plan}
-use Rattle.goal_graph.specs.Fault.{op_count, dep_count, note_count}
 use Rattle.goal_binary.specs.declared.layout.TheConstants.{MAGIC}
 use Rattle.goal_binary.specs.declared.layout.Layout.{Layout}
 use Rattle.goal_binary.specs.declared.layout.Layout.TheVariants.{Fixed, Packed}
@@ -175,7 +174,3 @@ file plans = written Packed plans
 
 abbrev pub old : List Plan → List ℕ
 old plans = written Fixed plans
-
--- how many bytes the old one has
-abbrev pub old_length : List Plan → ℕ
-old_length plans = 16 + 12 * length plans + 24 * op_count plans + 12 * dep_count plans + 16 * note_count plans

@@ -4,7 +4,8 @@ use Rattle.std.specs.Prelude.{◌≡◌, ◌^◌, ◌<◌, true, List, All}
 use Rattle.goal_graph.specs.declared.plan.Op.{Op}
 use Rattle.goal_graph.specs.declared.plan.Dep.{Dep}
 use Rattle.goal_graph.specs.Schedule.{Plan}
-use Rattle.goal_graph.specs.Fault.{value_fits, AreCountsWithin}
+use Rattle.goal_graph.specs.Fault.{value_fits}
+use Rattle.goal_graph.specs.Limits.{AreCountsWithin}
 use Rattle.goal_graph.specs.Widths.{IsOpInWidth, IsNoteInWidth}
 
 -- an operation

@@ -1,8 +1,9 @@
 -- The laws that join a schedule and its files.
-use Rattle.std.specs.Prelude.{◌≡◌, ◌≢◌, ◌<◌, ◌≤◌, ◌+◌, ◌^◌, ◌⊎◌, ℕ, List, ◌∷◌, ◌++◌, length, take, drop, Ok, Err, All, None}
+use Rattle.std.specs.Prelude.{◌≡◌, ◌≢◌, ◌<◌, ◌≤◌, ◌+◌, ◌^◌, ◌⊎◌, ℕ, List, ◌∷◌, ◌++◌, length, take, drop, Ok, Err, All, None, ◌*◌}
 use Rattle.goal_base.specs.declared.limits.TheConstants.{MAX_INPUT}
 use Rattle.goal_graph.specs.Schedule.{Plan}
-use Rattle.goal_graph.specs.Fault.{IsAccepted, AreCountsWithin}
+use Rattle.goal_graph.specs.Fault.{IsAccepted, op_count, dep_count, note_count}
+use Rattle.goal_graph.specs.Limits.{AreCountsWithin}
 use Rattle.goal_graph.specs.Widths.{AreInWidth}
 use Rattle.goal_binary.specs.declared.fault.FileFault.{FileFault}
 use Rattle.goal_binary.specs.declared.fault.FileFault.TheVariants.{Short, Magic, Version, Field, Extra}
@@ -11,12 +12,16 @@ use Rattle.goal_binary.specs.declared.layout.Layout.{Layout}
 use Rattle.goal_binary.specs.declared.layout.Layout.TheVariants.{Fixed, Packed}
 use Rattle.goal_binary.specs.Layouts.{layout_of}
 use Rattle.goal_binary.specs.Fitting.{HaveFile}
-use Rattle.goal_binary.specs.File.{spelled_u32, packed, written, file, old, old_length}
+use Rattle.goal_binary.specs.File.{spelled_u32, packed, written, file, old}
 use Rattle.goal_binary.specs.Meaning.{meaning}
 
 -- no packed number is the front of another
 abbrev pub PackedApart : Type 0
 PackedApart = (m n : ℕ) (xs ys : List ℕ) → m < 2 ^ 64 → n < 2 ^ 64 → packed m ++ xs ≡ packed n ++ ys → (m ≡ n) × (xs ≡ ys)
+
+-- how many bytes the old one has
+abbrev pub old_length : List Plan → ℕ
+old_length plans = 16 + 12 * length plans + 24 * op_count plans + 12 * dep_count plans + 16 * note_count plans
 
 -- the old file has so many bytes as the plans call for
 abbrev pub LengthIsTold : Type 0

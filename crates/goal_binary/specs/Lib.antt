@@ -4,6 +4,8 @@ pub mod File
 pub mod Fields
 pub mod Reading
 pub mod Meaning
+-- What only the code keeps.
+pub mod Returned
 pub mod FaultWords
 -- Laws.
 pub mod Fitting

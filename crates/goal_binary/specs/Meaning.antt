@@ -1,10 +1,7 @@
 -- What bytes mean: the plans of all ranks, or the first fault.
-use Rattle.std.specs.Prelude.{◌≡◌, ◌≢◌, ℕ, List, length, Result, Ok, Err, nat_lt, if◌then◌else◌}
-use Rattle.goal_graph.specs.declared.fault.PlanFault.{PlanFault}
-use Rattle.goal_graph.specs.declared.fault.PlanFault.TheVariants as plan
+use Rattle.std.specs.Prelude.{◌≡◌, ℕ, List, length, Result, Ok, Err, nat_lt, if◌then◌else◌}
 use Rattle.goal_graph.specs.Schedule.{Plan}
 use Rattle.goal_graph.specs.Fault.{IsFault}
-use Rattle.goal_graph.specs.Limits.{IsLimitRule}
 use Rattle.goal_binary.specs.declared.fault.FileFault.{FileFault}
 use Rattle.goal_binary.specs.declared.fault.FileFault.TheVariants as fault
 use Rattle.goal_binary.specs.Fields.{Read, ◌>>=◌, opening_at}
@@ -33,21 +30,3 @@ IsFaultOf (Ok plans) found = IsFaultOfPlans plans found
 
 abbrev pub IsFileFault : List ℕ → FileFault → Type 0
 IsFileFault bytes found = IsFaultOf (meaning bytes) found
-
--- the fault is that of a count or a value over its limit
-abbrev pub IsLimitFault : FileFault → Type 0
-IsLimitFault (fault.Plan rule) = IsLimitRule rule
-IsLimitFault _ = ⊥
-
--- the fault of plans, as that of the file
-abbrev pub fault_of_plans : PlanFault → FileFault
-fault_of_plans plan.NoMemory = fault.NoMemory
-fault_of_plans f = fault.Plan f
-
--- what a function that takes memory returned, seen by view, is what reading gives, unless memory ran out
-abbrev pub Fails : {Y : Type 0} → FileFault → Result Y FileFault → Type 0
-Fails found read = found ≢ fault.NoMemory → read ≡ Err found
-
-abbrev pub Gives : {X Y : Type 0} → (X → Y) → Result X FileFault → Result Y FileFault → Type 0
-Gives view (Ok x) read = read ≡ Ok (view x)
-Gives view (Err found) read = Fails found read

@@ -4,7 +4,8 @@ ghost use Rattle.goal_graph.specs.Schedule.{Plan};
 ghost use Rattle.goal_graph.specs.Fault.{IsAccepted};
 ghost use Rattle.goal_graph.specs.Widths.{AreInWidth};
 ghost use Rattle.goal_binary.specs.File.{file, old};
-ghost use Rattle.goal_binary.specs.Meaning.{plans_at, meaning, IsFileFault, IsLimitFault, fault_of_plans, Gives};
+ghost use Rattle.goal_binary.specs.Meaning.{plans_at, meaning, IsFileFault};
+ghost use Rattle.goal_binary.specs.Returned.{IsLimitFault, fault_of_plans, Gives};
 
 use crate::fault::FileFault;
 use crate::fields::opening_at;

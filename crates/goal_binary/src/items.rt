@@ -1,7 +1,7 @@
 //! The operations, dependencies and notes of a rank.
 ghost use Rattle.std.specs.Prelude.{◌≡◌, ◌-◌, ◌*◌, ◌≤◌, length, IfOk};
 ghost use Rattle.goal_binary.specs.Reading.{fixed_op_at, packed_op_at, op_at, fixed_dep_at, packed_dep_at, dep_at, when_of, fixed_note_at, packed_note_at, note_at, note_of, some_byte_if, packed_u32_at, packed_u32_if, list_at};
-ghost use Rattle.goal_binary.specs.Meaning.{Gives};
+ghost use Rattle.goal_binary.specs.Returned.{Gives};
 
 use crate::fault::FileFault;
 use crate::fields::{

@@ -1,7 +1,7 @@
 //! The records of the ranks, which are alike in both layouts.
 ghost use Rattle.std.specs.Prelude.{◌≡◌, ◌+◌, ◌≤◌, [], length, IfOk};
 ghost use Rattle.goal_binary.specs.Reading.{rank_at, ranks_at, records_at};
-ghost use Rattle.goal_binary.specs.Meaning.{Gives};
+ghost use Rattle.goal_binary.specs.Returned.{Gives};
 
 use crate::fault::FileFault;
 use crate::fields::{count_at, rank_count_at};

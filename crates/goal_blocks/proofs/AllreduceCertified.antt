@@ -5,9 +5,10 @@ use Rattle.std.proofs.lemmas.Bool.{lt-ltb, ne_eqb, cases_lt, cases_eq}
 use Rattle.std.proofs.lemmas.Nat.{pow_pos, div-mul-add, div-add-mod', mod_below}
 use Rattle.goal_blocks.specs.declared.collective.Collective.TheVariants.{Allreduce}
 use Rattle.goal_blocks.specs.Values.{Value, Store, merge}
-use Rattle.goal_blocks.specs.Certification.{IsCertified, IsRightEverywhere}
+use Rattle.goal_blocks.specs.Certification.{IsCertified}
+use Rattle.goal_blocks.specs.Right.{IsRightEverywhere, IsRightFor}
 use Rattle.goal_blocks.specs.Collectives.{single, of_each, initial, wanted}
-use Rattle.goal_blocks.specs.Certified.{IsCertifiedFor, IsRightFor}
+use Rattle.goal_blocks.specs.Certified.{IsCertifiedFor}
 use Rattle.goal_blocks.specs.Positions.{flipped, digits}
 use Rattle.goal_blocks.specs.Made.{allreduce_in}
 use Rattle.goal_blocks.specs.Generated.{made}

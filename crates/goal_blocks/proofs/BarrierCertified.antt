@@ -5,9 +5,10 @@ use Rattle.std.proofs.Math.Nat.{pow-suc}
 use Rattle.std.proofs.lemmas.Bool.{both_ways, lt-ltb, ne_eqb, cases_lt}
 use Rattle.goal_blocks.specs.declared.collective.Collective.TheVariants.{Barrier}
 use Rattle.goal_blocks.specs.Values.{Contribution, Value, Store, is_lower, insert_one, merge}
-use Rattle.goal_blocks.specs.Certification.{IsCertified, IsRightEverywhere}
+use Rattle.goal_blocks.specs.Certification.{IsCertified}
+use Rattle.goal_blocks.specs.Right.{IsRightEverywhere, IsRightFor}
 use Rattle.goal_blocks.specs.Collectives.{single, of_each, initial, is_one, has_one, wanted}
-use Rattle.goal_blocks.specs.Certified.{IsCertifiedFor, IsRightFor}
+use Rattle.goal_blocks.specs.Certified.{IsCertifiedFor}
 use Rattle.goal_blocks.specs.Positions.{ahead, back, digits}
 use Rattle.goal_blocks.specs.Made.{barrier_in}
 use Rattle.goal_blocks.specs.Generated.{made}

@@ -8,12 +8,11 @@ use Rattle.goal_graph.specs.declared.plan.Kind.{Kind}
 use Rattle.goal_graph.specs.declared.plan.Kind.TheVariants.{Send, Recv}
 use Rattle.goal_graph.specs.declared.plan.Note.{Note}
 use Rattle.goal_graph.specs.declared.plan.Note.TheVariants.{Moves}
-use Rattle.goal_graph.specs.Schedule.{Plan, op_at, kind_at, deps_at, needs, places_of_rank, places_from, operations}
+use Rattle.goal_graph.specs.Schedule.{Plan, op_at, kind_at, deps_at, needs, places_of_rank, places_from, operations, IsSend, IsReceive}
 use Rattle.goal_graph.specs.Action.{Act, happened, oldest}
 use Rattle.goal_graph.specs.Matching.{fits, pairs, partner}
 use Rattle.goal_graph.specs.Allowed.{has_ended, is_ready, allowed}
 use Rattle.goal_graph.specs.Interleaving.{IsInterleaving}
-use Rattle.goal_graph.specs.Laws.{IsSend, IsReceive}
 use Rattle.goal_graph.specs.Order.{IsBefore}
 use Rattle.goal_graph.proofs.ForCallers.{kind_listed, listed_places}
 use Rattle.goal_blocks.specs.declared.collective.Collective.TheVariants.{Bcast}
@@ -31,7 +30,8 @@ use Rattle.goal_blocks.specs.Entries.{plan_by, made_by}
 use Rattle.goal_blocks.specs.Positions.{ahead, back, digits}
 use Rattle.goal_blocks.specs.Made.{bcast_in, bcast_count}
 use Rattle.goal_blocks.specs.Generated.{made}
-use Rattle.goal_blocks.specs.Certified.{IsCertifiedFor, BcastOfTwoIsCertified}
+use Rattle.goal_blocks.specs.Certified.{IsCertifiedFor}
+use Rattle.goal_blocks.specs.Laws.{BcastOfTwoIsCertified}
 use Rattle.goal_blocks.proofs.SomeWalk.{NoneOf, takes_first, nothing_left}
 
 abbrev pub two : List Plan

@@ -11,10 +11,10 @@ use Rattle.goal_graph.specs.declared.plan.Kind.TheVariants.{Calc, Recv}
 use Rattle.goal_graph.specs.declared.plan.Need.{Need}
 use Rattle.goal_graph.specs.declared.plan.Op.{Op}
 use Rattle.goal_graph.specs.declared.plan.When.TheVariants.{AfterEnd}
-use Rattle.goal_graph.specs.Schedule.{Plan, kind_at, needs, needed, operations, places_of_rank, places_from}
+use Rattle.goal_graph.specs.Schedule.{Plan, kind_at, needs, needed, operations, places_of_rank, places_from, IsReceive}
 use Rattle.goal_graph.specs.Action.{Act}
 use Rattle.goal_graph.specs.Fault.{IsOp}
-use Rattle.goal_graph.specs.Laws.{IsCalc, IsReceive}
+use Rattle.goal_graph.specs.Laws.{IsCalc}
 use Rattle.goal_blocks.specs.Channels.{channel, AreOfOneChannel}
 use Rattle.goal_blocks.specs.Slots.{Adding, slots, adds, written_in, touched_in, written, touched}
 use Rattle.goal_blocks.specs.Race.{here, through, EndsBefore, HasNoRace}
@@ -22,7 +22,8 @@ use Rattle.goal_blocks.specs.Values.{Value, Store, Held, merge, set_slot, add_al
 use Rattle.goal_blocks.specs.Walk.{no_send, IsWalk}
 use Rattle.goal_blocks.specs.Matched.{IsMatched}
 use Rattle.goal_blocks.specs.Weight.{sum_below}
-use Rattle.goal_blocks.specs.Certification.{IsSmall, HasEqualLengths, HoldsWanted, IsCertified, IsRightEverywhere}
+use Rattle.goal_blocks.specs.Certification.{IsSmall, HasEqualLengths, HoldsWanted, IsCertified}
+use Rattle.goal_blocks.specs.Right.{IsRightEverywhere}
 use Rattle.goal_blocks.specs.Entries.{Entry, op_of, plan_by, made_by}
 use Rattle.goal_blocks.specs.Levels.{AreLevels}
 use Rattle.goal_blocks.specs.Messages.{AreMessages, AreChannelsPaired}

@@ -7,12 +7,11 @@ use Rattle.goal_graph.specs.declared.action.Class.{Class}
 use Rattle.goal_graph.specs.declared.action.Class.TheVariants.{Arrive, Serve, Data, Post, Begin}
 use Rattle.goal_graph.specs.declared.plan.Kind.{Kind}
 use Rattle.goal_graph.specs.declared.plan.Kind.TheVariants.{Calc, Send, Recv}
-use Rattle.goal_graph.specs.Schedule.{Plan, kind_at}
+use Rattle.goal_graph.specs.Schedule.{Plan, kind_at, IsSend, IsReceive}
 use Rattle.goal_graph.specs.Action.{Act, place, happened}
 use Rattle.goal_graph.specs.Matching.{pairs, partner}
 use Rattle.goal_graph.specs.Allowed.{last_class, has_ended, is_served, allowed}
 use Rattle.goal_graph.specs.Interleaving.{IsInterleaving}
-use Rattle.goal_graph.specs.Laws.{IsSend, IsReceive}
 use Rattle.goal_graph.specs.Fault.{IsOp}
 use Rattle.goal_graph.proofs.ForCallers.{place_same, is_act_class, is_act_op, is_act_from, happened_none, happened_cases, happened_stays, happened_new, allowed_fresh, allowed_serve, allowed_data, allowed_listed, listed_places, ended_started, arrived_begun, partner_of_receive, partner_is_send, partners_mutual, last_of_eager, last_of_large, last_of_receive}
 use Rattle.goal_blocks.specs.Channels.{AreOfOneChannel}

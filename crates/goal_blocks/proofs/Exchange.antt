@@ -4,7 +4,7 @@ use Rattle.std.proofs.lemmas.Bool.{lt-ltb, le-ltb, le-leb, lt-leb, cases_lt}
 use Rattle.goal_blocks.specs.declared.collective.Collective.{Collective}
 use Rattle.goal_blocks.specs.Weight.{stored}
 use Rattle.goal_blocks.specs.Collectives.{initial, wanted}
-use Rattle.goal_blocks.specs.Renamed.{IsUndoneBy}
+use Rattle.goal_blocks.specs.Laws.{IsUndoneBy}
 use Rattle.goal_blocks.specs.Segments.{exchange, exchanges, initial_in, wanted_in}
 use Rattle.goal_blocks.proofs.SumPermuted.{stored_permuted}
 

@@ -6,10 +6,9 @@ use Rattle.goal_graph.specs.declared.action.OpId.{OpId}
 use Rattle.goal_graph.specs.declared.plan.Kind.{Kind}
 use Rattle.goal_graph.specs.declared.plan.Kind.TheVariants.{Send, Recv}
 use Rattle.goal_graph.specs.declared.plan.Op.{Op}
-use Rattle.goal_graph.specs.Schedule.{Plan, op_at, kind_at, places_of_rank, places_from}
+use Rattle.goal_graph.specs.Schedule.{Plan, op_at, kind_at, places_of_rank, places_from, IsSend, IsReceive}
 use Rattle.goal_graph.specs.Action.{Act, happened, oldest}
 use Rattle.goal_graph.specs.Matching.{fits, pairs, partner}
-use Rattle.goal_graph.specs.Laws.{IsSend, IsReceive}
 use Rattle.goal_graph.specs.Order.{IsBefore, IsLess}
 use Rattle.goal_blocks.specs.declared.collective.Collective.TheVariants.{Bcast}
 use Rattle.goal_blocks.specs.declared.cert_fault.CertFault.{CertFault}

@@ -5,8 +5,8 @@ use Rattle.std.proofs.lemmas.Bool.{cases_eq}
 use Rattle.goal_graph.specs.declared.action.OpId.{OpId}
 use Rattle.goal_graph.specs.declared.plan.Kind.{Kind}
 use Rattle.goal_graph.specs.declared.plan.Kind.TheVariants.{Calc, Send, Recv}
-use Rattle.goal_graph.specs.Schedule.{Plan, kind_at}
-use Rattle.goal_graph.specs.Laws.{IsCalc, IsSend, IsReceive}
+use Rattle.goal_graph.specs.Schedule.{Plan, kind_at, IsSend, IsReceive}
+use Rattle.goal_graph.specs.Laws.{IsCalc}
 use Rattle.goal_graph.proofs.ForCallers.{cases_op, same_op_false, same_op_itself, not_send_receive, not_receive_calc}
 use Rattle.goal_blocks.specs.Channels.{AreOfOneChannel}
 use Rattle.goal_blocks.specs.Slots.{slots, adds, written, written_in, touched, touched_in}

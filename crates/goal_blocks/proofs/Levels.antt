@@ -7,13 +7,13 @@ use Rattle.goal_graph.specs.declared.plan.Kind.{Kind}
 use Rattle.goal_graph.specs.declared.plan.Kind.TheVariants.{Calc, Send, Recv}
 use Rattle.goal_graph.specs.declared.plan.When.{When}
 use Rattle.goal_graph.specs.declared.plan.When.TheVariants.{AfterEnd, AfterStart}
-use Rattle.goal_graph.specs.Schedule.{Plan, kind_at, needed}
+use Rattle.goal_graph.specs.Schedule.{Plan, kind_at, needed, IsSend, IsReceive}
 use Rattle.goal_graph.specs.Action.{Act, happened}
 use Rattle.goal_graph.specs.Matching.{fits}
 use Rattle.goal_graph.specs.Allowed.{has_started, has_ended, is_met, is_ready, may}
 use Rattle.goal_graph.specs.Interleaving.{IsCompleteInterleaving}
 use Rattle.goal_graph.specs.Fault.{IsOp}
-use Rattle.goal_graph.specs.Laws.{IsSend, IsReceive, IsApart, IsTaken}
+use Rattle.goal_graph.specs.Laws.{IsApart, IsTaken}
 use Rattle.goal_graph.proofs.ForCallers.{allowed_from, started_send, started_receive, ended_started, ready_calc_ended, unready_need, fitting_taken, partner_of_receive, partners_met, fits_receive, not_send_receive, op_of_kind}
 use Rattle.goal_blocks.specs.Channels.{AreOfOneChannel, HasNoWildcard, HasNoDoubleChannel, HasNoUnpaired}
 use Rattle.goal_blocks.specs.Walk.{AllEnd}

@@ -47,6 +47,7 @@ pub mod BcastCertified
 pub mod AllgatherCertified
 pub mod ScanCertified
 pub mod MadeCertified
+pub mod Powers
 pub mod AlltoallCertified
 pub mod Sorted
 pub mod SlotSums

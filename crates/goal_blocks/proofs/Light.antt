@@ -7,12 +7,12 @@ use Rattle.goal_graph.specs.declared.action.Class.{Class}
 use Rattle.goal_graph.specs.declared.action.Class.TheVariants.{Arrive, Serve, Data, Post, Begin}
 use Rattle.goal_graph.specs.declared.plan.Kind.{Kind}
 use Rattle.goal_graph.specs.declared.plan.Kind.TheVariants.{Calc, Send, Recv}
-use Rattle.goal_graph.specs.Schedule.{Plan, kind_at, operations}
+use Rattle.goal_graph.specs.Schedule.{Plan, kind_at, operations, IsSend}
 use Rattle.goal_graph.specs.Action.{Act}
 use Rattle.goal_graph.specs.Matching.{pairs, partner}
 use Rattle.goal_graph.specs.Allowed.{may}
 use Rattle.goal_graph.specs.Interleaving.{IsInterleaving}
-use Rattle.goal_graph.specs.Laws.{IsCalc, IsSend}
+use Rattle.goal_graph.specs.Laws.{IsCalc}
 use Rattle.goal_graph.proofs.ForCallers.{allowed_may}
 use Rattle.goal_blocks.specs.Slots.{Adding, slots, adds, written}
 use Rattle.goal_blocks.specs.Values.{Value, Store, Held, add_all, held_after, change}

@@ -6,7 +6,8 @@ use Rattle.goal_base.specs.declared.limits.TheConstants.{MAX_BYTES}
 use Rattle.goal_blocks.specs.declared.collective.Collective.{Collective}
 use Rattle.goal_blocks.specs.declared.collective.Collective.TheVariants.{Bcast, Barrier, Allgather, Allreduce, Alltoall, Reduce, Gather, Scatter, ReduceScatter, Scan}
 use Rattle.goal_blocks.specs.Collectives.{initial, wanted}
-use Rattle.goal_blocks.specs.Certified.{IsCertifiedFor, IsRightFor, IsCertifiedByProof}
+use Rattle.goal_blocks.specs.Certified.{IsCertifiedFor}
+use Rattle.goal_blocks.specs.Right.{IsRightFor, IsCertifiedByProof}
 use Rattle.goal_blocks.specs.Generated.{made, IsPossible}
 use Rattle.goal_blocks.proofs.Right.{certified_right}
 use Rattle.goal_blocks.proofs.BcastCertified.{bcast_certified}

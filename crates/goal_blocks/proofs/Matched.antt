@@ -13,7 +13,8 @@ use Rattle.goal_graph.specs.Laws.{HaveMet, IsApart}
 use Rattle.goal_graph.proofs.ForCallers.{started_send, started_receive, ended_started, begun_send_arrived, partners_iff_met, completes_alike, op_of_kind}
 use Rattle.goal_blocks.specs.Channels.{AreOfOneChannel}
 use Rattle.goal_blocks.specs.Walk.{no_send, AllEnd}
-use Rattle.goal_blocks.specs.Matched.{IsMatched, EndsInItsPairs}
+use Rattle.goal_blocks.specs.Matched.{IsMatched}
+use Rattle.goal_blocks.specs.Right.{EndsInItsPairs}
 use Rattle.goal_blocks.proofs.Channels.{fits_channel, channel_fits, channels_apart}
 
 module _ (plans : List Plan) where

@@ -3,8 +3,7 @@ use Rattle.std.proofs.Common.{◌≡◌, ◌⊎◌, ℕ, true, List, Option, Som
 use Rattle.std.proofs.lemmas.Option.{same_Some}
 use Rattle.goal_graph.specs.declared.action.OpId.{OpId}
 use Rattle.goal_graph.specs.declared.plan.Kind.TheVariants.{Calc, Send, Recv}
-use Rattle.goal_graph.specs.Schedule.{Plan, kind_at}
-use Rattle.goal_graph.specs.Laws.{IsSend, IsReceive}
+use Rattle.goal_graph.specs.Schedule.{Plan, kind_at, IsSend, IsReceive}
 use Rattle.goal_blocks.specs.Channels.{Channel, channel, AreOfOneChannel}
 use Rattle.goal_blocks.specs.Entries.{Entry, made_by}
 use Rattle.goal_blocks.specs.Messages.{AreMessages, AreChannelsPaired}

@@ -9,9 +9,8 @@ use Rattle.goal_graph.specs.declared.action.OpId.{OpId}
 use Rattle.goal_graph.specs.declared.plan.Kind.{Kind}
 use Rattle.goal_graph.specs.declared.plan.Kind.TheVariants.{Calc, Send, Recv}
 use Rattle.goal_graph.specs.declared.plan.Need.{Need}
-use Rattle.goal_graph.specs.Schedule.{Plan, kind_at}
+use Rattle.goal_graph.specs.Schedule.{Plan, kind_at, IsSend, IsReceive}
 use Rattle.goal_graph.specs.Action.{Act}
-use Rattle.goal_graph.specs.Laws.{IsSend, IsReceive}
 use Rattle.goal_blocks.specs.Channels.{Channel, channel, AreOfOneChannel}
 use Rattle.goal_blocks.specs.Slots.{slots, adds, written_in, touched_in, written, touched}
 use Rattle.goal_blocks.specs.Walk.{no_send, IsWalk}

@@ -7,9 +7,9 @@ use Rattle.goal_blocks.specs.declared.collective.Collective.{Collective}
 use Rattle.goal_blocks.specs.declared.collective.Collective.TheVariants.{Bcast, Barrier, Allgather, Allreduce, Alltoall, Reduce, Gather, Scatter, ReduceScatter, Scan}
 use Rattle.goal_blocks.specs.Values.{Contribution, Value, insert_one}
 use Rattle.goal_blocks.specs.Collectives.{single, of_each, initial_at, initial, is_one, is_value, has_one, wanted_at, wanted}
-use Rattle.goal_blocks.specs.Certification.{IsRightEverywhere}
-use Rattle.goal_blocks.specs.Certified.{IsRightFor}
-use Rattle.goal_blocks.specs.Renamed.{IsUndoneBy, IsRenamed, under, renamed}
+use Rattle.goal_blocks.specs.Right.{IsRightEverywhere, IsRightFor}
+use Rattle.goal_blocks.specs.Renamed.{under, renamed}
+use Rattle.goal_blocks.specs.Laws.{IsUndoneBy, IsRenamed}
 use Rattle.goal_blocks.specs.Placed.{IsPermutation, IsPlaced, placed, relabelled, moved_along, CanBePlaced, placed_slot, placed_for}
 use Rattle.goal_blocks.proofs.BarrierCertified.{has_new, has_still, has_none}
 use Rattle.goal_blocks.proofs.Wishes.{one_same, one_self, value_equal, value_self, all_yes, one_no}

@@ -5,18 +5,17 @@ use Rattle.goal_graph.specs.declared.action.OpId.{OpId}
 use Rattle.goal_graph.specs.declared.plan.Op.{Op}
 use Rattle.goal_graph.specs.declared.plan.Kind.{Kind}
 use Rattle.goal_graph.specs.declared.plan.Kind.TheVariants.{Calc, Send, Recv}
-use Rattle.goal_graph.specs.Schedule.{Plan, op_at, kind_at}
+use Rattle.goal_graph.specs.Schedule.{Plan, op_at, kind_at, IsSend, IsReceive}
 use Rattle.goal_graph.specs.Action.{Act}
 use Rattle.goal_graph.specs.Matching.{pairs, partner}
 use Rattle.goal_graph.specs.Allowed.{has_ended}
 use Rattle.goal_graph.specs.Fault.{IsOp}
 use Rattle.goal_graph.specs.Interleaving.{IsCompleteInterleaving}
-use Rattle.goal_graph.specs.Laws.{IsSend, IsReceive}
 use Rattle.goal_blocks.specs.Channels.{Channel, channel_in, channel, AreOfOneChannel}
 use Rattle.goal_blocks.specs.Walk.{AllEnd}
-use Rattle.goal_blocks.specs.Matched.{EndsInItsPairs}
+use Rattle.goal_blocks.specs.Right.{EndsInItsPairs, IsRightEverywhere}
 use Rattle.goal_blocks.specs.Values.{Contribution, Value, Store, value}
-use Rattle.goal_blocks.specs.Certification.{HoldsWanted, IsRightEverywhere}
+use Rattle.goal_blocks.specs.Certification.{HoldsWanted}
 use Rattle.goal_blocks.specs.Placed.{IsPermutation, IsPlaced, placed_op, placed_act, placed_kind, placed_of, relabelled, AsksNoMore}
 use Rattle.goal_blocks.proofs.PlacedAlike.{kind_placed, mate_placed, ended_placed, all_into}
 use Rattle.goal_blocks.proofs.PlacedValues.{held_placed}

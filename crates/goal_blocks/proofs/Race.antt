@@ -8,7 +8,8 @@ use Rattle.goal_graph.specs.Action.{Act}
 use Rattle.goal_graph.specs.Allowed.{has_ended, is_met, is_ready}
 use Rattle.goal_graph.specs.Interleaving.{IsInterleaving}
 use Rattle.goal_graph.proofs.ForCallers.{ready_need, ended_started, started_ready}
-use Rattle.goal_blocks.specs.Race.{Reaches, here, through, EndsBefore, Conflict, HasNoRace, AlwaysEndsFirst}
+use Rattle.goal_blocks.specs.Race.{Reaches, here, through, EndsBefore, Conflict, HasNoRace}
+use Rattle.goal_blocks.specs.Laws.{AlwaysEndsFirst}
 
 module _ (plans : List Plan) where
   module _ (eager : OpId → Bool) (h : List Act) (run : IsInterleaving plans eager h) where

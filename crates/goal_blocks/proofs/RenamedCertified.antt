@@ -19,7 +19,8 @@ use Rattle.goal_blocks.specs.Race.{Reaches, here, through, EndsBefore, Conflict,
 use Rattle.goal_blocks.specs.Values.{Value, Store, Held, add_all, held_after}
 use Rattle.goal_blocks.specs.Weight.{stored, has_received, carried, weight, weight_within}
 use Rattle.goal_blocks.specs.Certification.{IsSmall, AddsAreLight, IsLight, IsCertified}
-use Rattle.goal_blocks.specs.Renamed.{IsUndoneBy, IsRenamed, under, renamed_adding, renamed, KeepsSlots}
+use Rattle.goal_blocks.specs.Renamed.{under, renamed_adding, renamed}
+use Rattle.goal_blocks.specs.Laws.{IsUndoneBy, IsRenamed, KeepsSlots}
 use Rattle.goal_blocks.proofs.AllowedAlike.{kind_alike, pairs_alike, allowed_alike, complete_into}
 use Rattle.goal_blocks.proofs.RenamedValues.{add_under, renamed_held, held_named}
 use Rattle.goal_blocks.proofs.RenamedNotes.{places_renamed, renamed_is, renamed_back}

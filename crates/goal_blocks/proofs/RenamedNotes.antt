@@ -11,7 +11,8 @@ use Rattle.goal_graph.specs.declared.plan.Note.{Note}
 use Rattle.goal_graph.specs.declared.plan.Note.TheVariants.{Moves, Adds}
 use Rattle.goal_graph.specs.Schedule.{Plan, op_at, needs, deps_at, earlier_of, places_from, places_of_rank}
 use Rattle.goal_blocks.specs.Slots.{Adding, slots_from, moved_by, added_by, notes_at, slots, adds}
-use Rattle.goal_blocks.specs.Renamed.{IsUndoneBy, IsRenamed, renamed_adding, renamed_note, renamed_plan, renamed_from, renamed}
+use Rattle.goal_blocks.specs.Renamed.{renamed_adding, renamed_note, renamed_plan, renamed_from, renamed}
+use Rattle.goal_blocks.specs.Laws.{IsUndoneBy, IsRenamed}
 
 module _ (name : ℕ → ℕ) (op : ℕ) where
   one_slot : (t : ℕ) → slots_from t (t + 1 - t) ≡ t ∷ []

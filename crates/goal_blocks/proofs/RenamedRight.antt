@@ -1,17 +1,17 @@
 -- What is right of a renamed schedule is right of the schedule as it is.
 use Rattle.std.proofs.Common.{ℕ, ◌<◌, ◌≡◌, ◌↔◌, Bool, true, List, Some, is_some, sym, ap, ◌∙◌, subst}
 use Rattle.goal_graph.specs.declared.action.OpId.{OpId}
-use Rattle.goal_graph.specs.Schedule.{Plan, op_at}
+use Rattle.goal_graph.specs.Schedule.{Plan, op_at, IsSend, IsReceive}
 use Rattle.goal_graph.specs.Action.{Act}
 use Rattle.goal_graph.specs.Matching.{Pair, pairs, partner}
 use Rattle.goal_graph.specs.Fault.{IsOp}
-use Rattle.goal_graph.specs.Laws.{IsSend, IsReceive}
 use Rattle.goal_blocks.specs.Channels.{channel_in, channel, AreOfOneChannel}
 use Rattle.goal_blocks.specs.Walk.{AllEnd}
-use Rattle.goal_blocks.specs.Matched.{EndsInItsPairs}
+use Rattle.goal_blocks.specs.Right.{EndsInItsPairs, IsRightEverywhere}
 use Rattle.goal_blocks.specs.Values.{Value, Store, Held, held_after}
-use Rattle.goal_blocks.specs.Certification.{HoldsWanted, IsRightEverywhere}
-use Rattle.goal_blocks.specs.Renamed.{IsUndoneBy, IsRenamed, under}
+use Rattle.goal_blocks.specs.Certification.{HoldsWanted}
+use Rattle.goal_blocks.specs.Renamed.{under}
+use Rattle.goal_blocks.specs.Laws.{IsUndoneBy, IsRenamed}
 use Rattle.goal_blocks.proofs.AllowedAlike.{kind_alike, pairs_alike, ended_alike, complete_from}
 use Rattle.goal_blocks.proofs.RenamedValues.{held_named}
 use Rattle.goal_blocks.proofs.RenamedNotes.{renamed_back}

@@ -9,7 +9,8 @@ use Rattle.goal_graph.specs.declared.plan.Note.TheVariants.{Moves, Adds}
 use Rattle.goal_graph.specs.Schedule.{Plan}
 use Rattle.goal_blocks.specs.Slots.{slots_from}
 use Rattle.goal_blocks.specs.Certification.{NamesLowSlots, moved_count, IsSmall}
-use Rattle.goal_blocks.specs.Renamed.{renamed_note, renamed_plan, renamed_from, renamed, KeepsSlots}
+use Rattle.goal_blocks.specs.Renamed.{renamed_note, renamed_plan, renamed_from, renamed}
+use Rattle.goal_blocks.specs.Laws.{KeepsSlots}
 
 module _ (name : ℕ → ℕ) (low : (slot : ℕ) → slot ≤ 65535 → name slot ≤ 65535) where
   abbrev one : ℕ → ℕ → Note

@@ -11,7 +11,8 @@ use Rattle.goal_graph.specs.Action.{Act, same_op}
 use Rattle.goal_graph.specs.Matching.{Pair, pairs, partner}
 use Rattle.goal_blocks.specs.Slots.{Adding, slots, adds}
 use Rattle.goal_blocks.specs.Values.{Value, Store, Held, merge, set_slot, write, add_all, payload_from, read, change, held_after}
-use Rattle.goal_blocks.specs.Renamed.{IsUndoneBy, IsRenamed, under, renamed_adding}
+use Rattle.goal_blocks.specs.Renamed.{under, renamed_adding}
+use Rattle.goal_blocks.specs.Laws.{IsUndoneBy, IsRenamed}
 use Rattle.goal_blocks.proofs.AllowedAlike.{kind_alike, pairs_alike}
 
 module _ (name old : ℕ → ℕ → ℕ) (undone : IsUndoneBy name old) where

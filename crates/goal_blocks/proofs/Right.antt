@@ -12,7 +12,8 @@ use Rattle.goal_blocks.specs.Race.{EndsBefore, Conflict, HasNoRace}
 use Rattle.goal_blocks.specs.Values.{Value, Store, Held, held_after, value}
 use Rattle.goal_blocks.specs.Matched.{IsMatched}
 use Rattle.goal_blocks.specs.Walk.{no_send}
-use Rattle.goal_blocks.specs.Certification.{HoldsWanted, IsCertified, IsRightEverywhere}
+use Rattle.goal_blocks.specs.Certification.{HoldsWanted, IsCertified}
+use Rattle.goal_blocks.specs.Right.{IsRightEverywhere}
 use Rattle.goal_blocks.proofs.Matched.{ends_in_its_pairs}
 use Rattle.goal_blocks.proofs.Orders.{Mem, Swaps, one_result}
 use Rattle.goal_blocks.proofs.Effects.{mem_contains, cases_shared, ended, IsClear, swapped}

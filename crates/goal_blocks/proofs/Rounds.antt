@@ -12,7 +12,8 @@ use Rattle.goal_graph.specs.declared.plan.Note.TheVariants.{Moves, Adds}
 use Rattle.goal_blocks.specs.Slots.{Adding}
 use Rattle.goal_blocks.specs.Values.{Value, Store, merge}
 use Rattle.goal_blocks.specs.Weight.{sum_below}
-use Rattle.goal_blocks.specs.Certification.{NamesLowSlots, moved_count, IsSmall, IsCertified, IsRightEverywhere}
+use Rattle.goal_blocks.specs.Certification.{NamesLowSlots, moved_count, IsSmall, IsCertified}
+use Rattle.goal_blocks.specs.Right.{IsRightEverywhere}
 use Rattle.goal_blocks.specs.Collectives.{single}
 use Rattle.goal_blocks.specs.Entries.{Entry, slot, sending, receiving, summing, notes_of, made_by}
 use Rattle.goal_blocks.specs.Made.{before_round, round_in}

@@ -7,10 +7,10 @@ use Rattle.goal_graph.specs.Interleaving.{IsCompleteInterleaving}
 use Rattle.goal_blocks.specs.declared.collective.Collective.{Collective}
 use Rattle.goal_blocks.specs.Values.{value}
 use Rattle.goal_blocks.specs.Collectives.{initial, wanted}
-use Rattle.goal_blocks.specs.Matched.{EndsInItsPairs}
-use Rattle.goal_blocks.specs.Certification.{IsSmall, IsCertified, IsRightEverywhere}
+use Rattle.goal_blocks.specs.Right.{EndsInItsPairs, IsRightEverywhere}
+use Rattle.goal_blocks.specs.Certification.{IsSmall, IsCertified}
 use Rattle.goal_blocks.specs.Certified.{IsCertifiedFor}
-use Rattle.goal_blocks.specs.Renamed.{IsRenamed, KeepsSlots}
+use Rattle.goal_blocks.specs.Laws.{IsRenamed, KeepsSlots}
 use Rattle.goal_blocks.specs.Segments.{exchanges, exchanged, initial_in, wanted_in, IsCertifiedIn, HoldsSegment, AreAllRight}
 use Rattle.goal_blocks.proofs.Right.{certified_right}
 use Rattle.goal_blocks.proofs.Exchange.{of_other, exchange_below, exchanges_undone}

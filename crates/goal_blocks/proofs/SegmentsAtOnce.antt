@@ -16,7 +16,7 @@ use Rattle.goal_blocks.specs.Slots.{Adding, slots, adds}
 use Rattle.goal_blocks.specs.Values.{Value, Store, Held, merge, set_slot, write, add_all, payload_from, read, change, held_after, value}
 use Rattle.goal_blocks.specs.Stored.{IsSorted}
 use Rattle.goal_blocks.specs.Collectives.{wanted, is_value}
-use Rattle.goal_blocks.specs.Matched.{EndsInItsPairs}
+use Rattle.goal_blocks.specs.Right.{EndsInItsPairs}
 use Rattle.goal_blocks.specs.Certification.{IsCertified}
 use Rattle.goal_blocks.specs.Segments.{exchange, initial_in, IsCertifiedIn, HoldsSegment}
 use Rattle.goal_blocks.specs.Joined.{joined, all_starts, is_elsewhere, keeps_out}

@@ -3,7 +3,8 @@ use Rattle.std.proofs.Common.{ℕ, ◌^◌, length, zero, suc, ◌+◌, ◌<◌,
 use Rattle.std.proofs.lemmas.Bool.{eqb-true, true≢false}
 use Rattle.goal_blocks.specs.Values.{Store}
 use Rattle.goal_blocks.specs.Weight.{sum_below, stored}
-use Rattle.goal_blocks.specs.Renamed.{IsUndoneBy, under}
+use Rattle.goal_blocks.specs.Renamed.{under}
+use Rattle.goal_blocks.specs.Laws.{IsUndoneBy}
 use Rattle.goal_blocks.proofs.SlotSums.{sum_same, sum_changed}
 
 sum_none : (n : ℕ) → sum_below n (λ k. 0) ≡ 0

@@ -1,7 +1,7 @@
 -- When a schedule is certified, for stores that hold `first` at the start and slots whose
 -- values at the end are to pass the test `wanted`.
 -- Each condition is readable alone.
-use Rattle.std.specs.Prelude.{ℕ, ◌+◌, ◌-◌, ◌^◌, ◌≡◌, ◌<◌, ◌≤◌, ◌⊎◌, Bool, true, List, [], ◌∷◌, length, All, Option, Some}
+use Rattle.std.specs.Prelude.{ℕ, ◌+◌, ◌-◌, ◌^◌, ◌≡◌, ◌<◌, ◌≤◌, Bool, true, List, [], ◌∷◌, length, All, Option, Some}
 use Rattle.std.specs.List.{sum_by}
 use Rattle.goal_graph.specs.declared.action.OpId.{OpId}
 use Rattle.goal_graph.specs.declared.plan.Kind.{Kind}
@@ -10,12 +10,11 @@ use Rattle.goal_graph.specs.declared.plan.Note.{Note}
 use Rattle.goal_graph.specs.declared.plan.Note.TheVariants.{Moves, Adds}
 use Rattle.goal_graph.specs.Schedule.{Plan, kind_at}
 use Rattle.goal_graph.specs.Action.{Act}
-use Rattle.goal_graph.specs.Interleaving.{IsCompleteInterleaving}
 use Rattle.goal_blocks.specs.Channels.{AreOfOneChannel}
 use Rattle.goal_blocks.specs.Slots.{slots}
 use Rattle.goal_blocks.specs.Walk.{no_send}
-use Rattle.goal_blocks.specs.Matched.{IsMatched, EndsInItsPairs}
-use Rattle.goal_blocks.specs.Race.{HasNoRace, Conflict, AlwaysEndsFirst}
+use Rattle.goal_blocks.specs.Matched.{IsMatched}
+use Rattle.goal_blocks.specs.Race.{HasNoRace}
 use Rattle.goal_blocks.specs.Values.{Value, Store, Held, held_after, value}
 use Rattle.goal_blocks.specs.Weight.{weight, weight_within}
 
@@ -63,43 +62,3 @@ pub record IsCertified (plans : List Plan) (first : Store) (wanted : ℕ → ℕ
   pub no_race : HasNoRace plans
   pub light : IsLight plans first matched.no_stall.walk
   pub right : HoldsWanted plans wanted (value plans no_send first matched.no_stall.walk)
-
--- right in one interleaving: it ends, with the right pairs, and leaves what is wanted
-pub record IsRight (plans : List Plan) (first : Store) (wanted : ℕ → ℕ → Value → Bool) (eager : OpId → Bool) (h : List Act) : Type 0 where
-  pub ends : EndsInItsPairs plans eager h
-  pub wanted_held : HoldsWanted plans wanted (value plans eager first h)
-
--- right in every complete interleaving, whatever is eager
-abbrev pub IsRightEverywhere : List Plan → Store → (ℕ → ℕ → Value → Bool) → Type 0
-IsRightEverywhere plans first wanted =
-    (eager : OpId → Bool) (h : List Act) → IsCompleteInterleaving plans eager h → IsRight plans first wanted eager h
-
--- The laws, for all schedules. The functions `laws_of_..` ensure each.
-
--- what is certified ends in every complete interleaving, and in the same pairs
-abbrev pub CertifiedEndsEverywhere : Type 0
-CertifiedEndsEverywhere =
-    (plans : List Plan) (first : Store) (wanted : ℕ → ℕ → Value → Bool) (eager : OpId → Bool) (h : List Act)
-    → IsCertified plans first wanted
-    → IsCompleteInterleaving plans eager h
-    → EndsInItsPairs plans eager h
-
--- in what is certified, of two operations that conflict one comes first, the same in every interleaving
-abbrev pub CertifiedConflictsInOneOrder : Type 0
-CertifiedConflictsInOneOrder =
-    (plans : List Plan) (first : Store) (wanted : ℕ → ℕ → Value → Bool) (x y : OpId)
-    → IsCertified plans first wanted
-    → Conflict plans x y
-    → AlwaysEndsFirst plans x y ⊎ AlwaysEndsFirst plans y x
-
--- without a race, what is matched leaves in each slot, and has read for each send, what the walk leaves and reads
-abbrev pub MatchedHoldsAsTheWalk : Type 0
-MatchedHoldsAsTheWalk =
-    (plans : List Plan) (first : Store) (eager : OpId → Bool) (h : List Act) (matched : IsMatched plans)
-    → HasNoRace plans
-    → IsCompleteInterleaving plans eager h
-    → held_after plans eager first h ≡ held_after plans no_send first matched.no_stall.walk
-
--- what is certified is right everywhere
-abbrev pub CertifiedIsRightEverywhere : Type 0
-CertifiedIsRightEverywhere = (plans : List Plan) (first : Store) (wanted : ℕ → ℕ → Value → Bool) → IsCertified plans first wanted → IsRightEverywhere plans first wanted

@@ -3,8 +3,7 @@ use Rattle.std.specs.Prelude.{ℕ, ◌≡◌, true, List, Option, Some, None, is
 use Rattle.goal_graph.specs.declared.action.OpId.{OpId}
 use Rattle.goal_graph.specs.declared.plan.Kind.{Kind}
 use Rattle.goal_graph.specs.declared.plan.Kind.TheVariants.{Send, Recv}
-use Rattle.goal_graph.specs.Schedule.{Plan, kind_at}
-use Rattle.goal_graph.specs.Laws.{IsSend, IsReceive}
+use Rattle.goal_graph.specs.Schedule.{Plan, kind_at, IsSend, IsReceive}
 
 pub record Channel : Type 0 where
   pub source : ℕ

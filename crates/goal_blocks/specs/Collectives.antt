@@ -6,14 +6,6 @@ use Rattle.goal_blocks.specs.declared.collective.Collective.{Collective}
 use Rattle.goal_blocks.specs.declared.collective.Collective.TheVariants.{Bcast, Barrier, Allgather, Allreduce, Alltoall, Reduce, Gather, Scatter, ReduceScatter, Scan}
 use Rattle.goal_blocks.specs.Values.{Contribution, Value, Store}
 
-abbrev pub is_first : Collective → Bool
-is_first (Bcast root) = true
-is_first Barrier = true
-is_first Allgather = true
-is_first Allreduce = true
-is_first Alltoall = true
-is_first _ = false
-
 -- the value of one contribution
 abbrev pub single : ℕ → ℕ → Value
 single rank item = record { rank = rank; item = item } ∷ []

@@ -5,12 +5,11 @@ use Rattle.goal_graph.specs.declared.action.OpId.{OpId}
 use Rattle.goal_graph.specs.declared.plan.Kind.{Kind}
 use Rattle.goal_graph.specs.declared.plan.Kind.TheVariants.{Calc, Recv}
 use Rattle.goal_graph.specs.declared.plan.Note.{Note}
-use Rattle.goal_graph.specs.Schedule.{Plan, kind_at, ops_at}
+use Rattle.goal_graph.specs.Schedule.{Plan, kind_at, ops_at, IsSend, IsReceive}
 use Rattle.goal_graph.specs.Action.{Act}
 use Rattle.goal_graph.specs.Allowed.{has_ended}
 use Rattle.goal_graph.specs.Order.{IsBefore, IsLess}
-use Rattle.goal_graph.specs.Fault.{IsOp, IsAccepted}
-use Rattle.goal_graph.specs.Laws.{IsSend, IsReceive}
+use Rattle.goal_graph.specs.Fault.{IsOp}
 use Rattle.goal_blocks.specs.declared.cert_fault.CertFault.{CertFault}
 use Rattle.goal_blocks.specs.declared.cert_fault.CertFault.TheVariants.{TooLarge, Wildcard, DoubleChannel, Unpaired, Lengths, Race, Stalls, Weight, Wrong, NoMemory}
 use Rattle.goal_blocks.specs.Channels.{Channel, channel, AreOfOneChannel}
@@ -19,7 +18,7 @@ use Rattle.goal_blocks.specs.Race.{EndsBefore}
 use Rattle.goal_blocks.specs.Walk.{no_send, IsWalk}
 use Rattle.goal_blocks.specs.Values.{Value, Store, Held, held_after, value}
 use Rattle.goal_blocks.specs.Weight.{weight, weight_within}
-use Rattle.goal_blocks.specs.Certification.{NamesLowSlots, moved_count, AddsAreLight, IsLight, IsCertified}
+use Rattle.goal_blocks.specs.Certification.{NamesLowSlots, moved_count, AddsAreLight, IsLight}
 
 -- x is the least of which P holds, by a key
 pub record IsLeast {A : Type 0} (key : A → List ℕ) (P : A → Type 0) (x : A) : Type 0 where
@@ -160,23 +159,3 @@ fault_place NoMemory = 9
 pub record IsCertificationFault (plans : List Plan) (first : Store) (wanted : ℕ → ℕ → Value → Bool) (fault : CertFault) : Type 0 where
   pub has : HasFault plans first wanted fault
   pub none_before : (other : CertFault) → fault_place other < fault_place fault → HasFault plans first wanted other → ⊥
-
--- The laws, for all schedules. The function `laws_of_faults` ensures each.
-
--- each fault excludes certified
-abbrev pub FaultExcludesCertified : Type 0
-FaultExcludesCertified = (plans : List Plan) (first : Store) (wanted : ℕ → ℕ → Value → Bool) (fault : CertFault) → HasFault plans first wanted fault → ¬ (IsCertified plans first wanted)
-
--- an accepted schedule without a first fault is certified
-abbrev pub FaultlessIsCertified : Type 0
-FaultlessIsCertified = (plans : List Plan) (first : Store) (wanted : ℕ → ℕ → Value → Bool)
-    → IsAccepted plans
-    → ((fault : CertFault) → ¬ (IsCertificationFault plans first wanted fault))
-    → IsCertified plans first wanted
-
--- a schedule has at most one first fault
-abbrev pub OneFirstFault : Type 0
-OneFirstFault = (plans : List Plan) (first : Store) (wanted : ℕ → ℕ → Value → Bool) (fault other : CertFault)
-    → IsCertificationFault plans first wanted fault
-    → IsCertificationFault plans first wanted other
-    → fault ≡ other

@@ -1,10 +1,7 @@
 -- The schedule of each of the ten collectives, and for which ranks there is one.
 use Rattle.std.specs.Prelude.{ℕ, ◌+◌, ◌-◌, ◌*◌, ◌<◌, ◌≤◌, List}
 use Rattle.std.specs.Int.{IsPowerOfTwo}
-use Rattle.std.proofs.Props.{props}
-use Rattle.goal_base.specs.declared.limits.TheConstants.{MAX_BYTES}
 use Rattle.goal_graph.specs.Schedule.{Plan}
-use Rattle.goal_graph.specs.Fault.{IsAccepted}
 use Rattle.goal_blocks.specs.declared.collective.Collective.{Collective}
 use Rattle.goal_blocks.specs.declared.collective.Collective.TheVariants.{Bcast, Barrier, Allgather, Allreduce, Alltoall, Reduce, Gather, Scatter, ReduceScatter, Scan}
 use Rattle.goal_blocks.specs.Entries.{Entry, made_by}
@@ -63,14 +60,6 @@ HasRoot (Gather root) ranks = root < ranks
 HasRoot (Scatter root) ranks = root < ranks
 HasRoot _ ranks = Unit {0}
 
--- it says no more than that it holds
-pub HasRoot-prop : (what : Collective) (ranks : ℕ) → IsProp (HasRoot what ranks)
-HasRoot-prop (Bcast root) ranks = hlevel props
-HasRoot-prop (Reduce root) ranks = hlevel props
-HasRoot-prop (Gather root) ranks = hlevel props
-HasRoot-prop (Scatter root) ranks = hlevel props
-HasRoot-prop _ ranks = hlevel props
-
 -- the ranks of an allreduce are a power of two
 abbrev pub HasPower : Collective → ℕ → Type 0
 HasPower Allreduce ranks = IsPowerOfTwo ranks
@@ -82,7 +71,3 @@ pub record IsPossible (what : Collective) (ranks : ℕ) : Type 0 where
   pub few_ranks : ranks ≤ most_ranks what
   pub root : HasRoot what ranks
   pub power : HasPower what ranks
-
--- The law: it is accepted.
-abbrev pub MadeIsAccepted : Type 0
-MadeIsAccepted = (what : Collective) (ranks bytes : ℕ) → IsPossible what ranks → bytes ≤ MAX_BYTES → IsAccepted (made what ranks bytes)

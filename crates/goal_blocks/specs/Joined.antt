@@ -7,7 +7,7 @@ use Rattle.goal_graph.specs.Interleaving.{IsCompleteInterleaving}
 use Rattle.goal_blocks.specs.declared.collective.Collective.{Collective}
 use Rattle.goal_blocks.specs.Values.{Value, Store, merge, value}
 use Rattle.goal_blocks.specs.Collectives.{is_value}
-use Rattle.goal_blocks.specs.Matched.{EndsInItsPairs}
+use Rattle.goal_blocks.specs.Right.{EndsInItsPairs}
 use Rattle.goal_blocks.specs.Certification.{IsCertified}
 use Rattle.goal_blocks.specs.Segments.{initial_in, IsCertifiedIn, HoldsSegment}
 

@@ -13,15 +13,19 @@ pub mod Positions
 pub mod Made
 pub mod MadeRooted
 pub mod Generated
+pub mod GenFaults
 pub mod Certified
 pub mod Renamed
 pub mod Segments
 pub mod Faults
+pub mod Right
 -- What only the code keeps.
+pub mod Makers
 pub mod Steps
 pub mod Stored
 pub mod SlotTables
 -- Laws.
+pub mod Laws
 pub mod Joined
 pub mod Placed
 pub mod HeldFew

@@ -17,8 +17,8 @@ use Rattle.goal_blocks.specs.Slots.{slots, adds}
 use Rattle.goal_blocks.specs.Walk.{IsWalk}
 use Rattle.goal_blocks.specs.Values.{Contribution, Value, Store, insert_one, value}
 use Rattle.goal_blocks.specs.Collectives.{wanted}
-use Rattle.goal_blocks.specs.Certification.{IsLight, IsCertified, IsRightEverywhere}
-use Rattle.goal_blocks.specs.Certified.{IsRightFor}
+use Rattle.goal_blocks.specs.Certification.{IsLight, IsCertified}
+use Rattle.goal_blocks.specs.Right.{IsRightEverywhere, IsRightFor}
 use Rattle.goal_blocks.specs.Renamed.{renamed}
 
 -- a permutation of so many ranks, and the one that undoes it; no other number changes

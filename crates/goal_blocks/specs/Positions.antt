@@ -1,7 +1,7 @@
 -- Where ranks stand in a ring and in a tree, and which slots a part of the tree has.
 -- Where there is a root z, the rank r has the virtual rank `back ranks r z`; the rank of the virtual rank v is
 -- `ahead ranks v z`.
-use Rattle.std.specs.Prelude.{ℕ, ◌≡◌, ◌<◌, ◌≤◌, ◌+◌, ◌-◌, ◌/◌, ◌%◌, ◌^◌, ◌==◌, nat_lt, nat_le, min, List, [], ◌∷◌, if◌then◌else◌}
+use Rattle.std.specs.Prelude.{ℕ, ◌+◌, ◌-◌, ◌/◌, ◌%◌, ◌^◌, ◌==◌, nat_lt, nat_le, min, List, [], ◌∷◌, if◌then◌else◌}
 use Rattle.std.specs.Int.Count.{count_leading_zeros, count_trailing_zeros}
 use Rattle.goal_blocks.specs.Entries.{Span}
 
@@ -45,9 +45,3 @@ span ranks x y =
 -- the slots of the virtual ranks v up to v + s - 1, as far as there are such
 unfoldable pub share : ℕ → ℕ → ℕ → ℕ → List Span
 share ranks root v s = span ranks (ahead ranks v root) (ahead ranks (min (v + s) ranks - 1) root)
-
--- The law, for all rings. The function `laws_of_positions` ensures it.
-
--- both are ranks, and each undoes the other: the rank that is s ahead of r has r as the one that is s back
-abbrev pub AheadAndBack : Type 0
-AheadAndBack = (ranks r s : ℕ) → r < ranks → s ≤ ranks → (ahead ranks r s < ranks) × (back ranks r s < ranks) × (back ranks (ahead ranks r s) s ≡ r) × (ahead ranks (back ranks r s) s ≡ r)

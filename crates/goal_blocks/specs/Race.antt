@@ -1,12 +1,9 @@
 -- Races: two operations of one rank of which neither is before the other, though one writes what the other touches.
-use Rattle.std.specs.Prelude.{ℕ, ◌≡◌, ◌≢◌, ◌⊎◌, Bool, true, List, Contains}
+use Rattle.std.specs.Prelude.{ℕ, ◌≡◌, ◌≢◌, ◌⊎◌, List, Contains}
 use Rattle.goal_graph.specs.declared.action.OpId.{OpId}
 use Rattle.goal_graph.specs.declared.plan.Need.{Need}
 use Rattle.goal_graph.specs.declared.plan.When.TheVariants.{AfterEnd}
 use Rattle.goal_graph.specs.Schedule.{Plan, needs, needed}
-use Rattle.goal_graph.specs.Action.{Act}
-use Rattle.goal_graph.specs.Allowed.{has_started, has_ended}
-use Rattle.goal_graph.specs.Interleaving.{IsInterleaving}
 use Rattle.goal_blocks.specs.Slots.{written, touched}
 
 -- z is y, or is reached from y by needs of either kind
@@ -34,18 +31,3 @@ pub record Conflict (plans : List Plan) (x y : OpId) : Type 0 where
 -- where two operations conflict, one ends before the other
 abbrev pub HasNoRace : List Plan → Type 0
 HasNoRace plans = (x y : OpId) → Conflict plans x y → EndsBefore plans x y ⊎ EndsBefore plans y x
-
--- in each interleaving, and whatever is eager, x has ended where y has started
-abbrev pub AlwaysEndsFirst : List Plan → OpId → OpId → Type 0
-AlwaysEndsFirst plans x y =
-    (eager : OpId → Bool) (h : List Act) → IsInterleaving plans eager h → has_started plans y h ≡ true → has_ended plans eager x h ≡ true
-
--- The laws, for all schedules. The functions `laws_of_..` ensure each.
-
--- the order that dependencies give holds in each interleaving
-abbrev pub OrderIsKept : Type 0
-OrderIsKept = (plans : List Plan) (x y : OpId) → EndsBefore plans x y → AlwaysEndsFirst plans x y
-
--- without a race, two operations that conflict come in one order, the same in every interleaving
-abbrev pub ConflictsComeInOneOrder : Type 0
-ConflictsComeInOneOrder = (plans : List Plan) (x y : OpId) → HasNoRace plans → Conflict plans x y → AlwaysEndsFirst plans x y ⊎ AlwaysEndsFirst plans y x

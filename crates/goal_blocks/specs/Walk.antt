@@ -1,10 +1,10 @@
 -- The walk: one run without times in which no send is eager and the order is fixed.
-use Rattle.std.specs.Prelude.{◌≡◌, ◌≤◌, ◌⊎◌, Bool, true, false, List, [], ◌∷◌, ◌++◌}
+use Rattle.std.specs.Prelude.{◌≡◌, ◌≤◌, ◌⊎◌, Bool, true, false, List, [], ◌∷◌}
 use Rattle.goal_graph.specs.declared.action.OpId.{OpId}
 use Rattle.goal_graph.specs.Schedule.{Plan}
 use Rattle.goal_graph.specs.Action.{Act, place}
 use Rattle.goal_graph.specs.Allowed.{has_ended, allowed}
-use Rattle.goal_graph.specs.Interleaving.{IsInterleaving, IsCompleteInterleaving}
+use Rattle.goal_graph.specs.Interleaving.{IsCompleteInterleaving}
 use Rattle.goal_graph.specs.Fault.{IsOp}
 use Rattle.goal_graph.specs.Order.{IsBefore}
 
@@ -35,23 +35,3 @@ pub record HasNoStall (plans : List Plan) : Type 0 where
   pub walk : List Act
   pub is_walk : IsWalk plans walk
   pub all_end : AllEnd plans no_send walk
-
--- The laws, for all schedules. The functions `laws_of_..` ensure each.
-
--- a schedule has at most one walk
-abbrev pub OneWalk : Type 0
-OneWalk = (plans : List Plan) (v w : List Act) → IsWalk plans v → IsWalk plans w → v ≡ w
-
--- a schedule has a walk
-abbrev pub SomeWalk : Type 0
-SomeWalk = (plans : List Plan) → (w : List Act) × IsWalk plans w
-
--- whatever is eager, an interleaving goes on to a complete one, with more actions, or none, after its own
-abbrev pub InterleavingGoesOn : Type 0
-InterleavingGoesOn = (plans : List Plan) (eager : OpId → Bool) (h : List Act)
-    → IsInterleaving plans eager h
-    → (more : List Act) × IsCompleteInterleaving plans eager (more ++ h)
-
--- so for each choice of eager sends there is a complete interleaving
-abbrev pub SomeCompleteInterleaving : Type 0
-SomeCompleteInterleaving = (plans : List Plan) (eager : OpId → Bool) → (h : List Act) × IsCompleteInterleaving plans eager h

@@ -1,6 +1,6 @@
 // The collectives, and what their values are made of.
 ghost use Rattle.std.specs.Prelude.{◌≡◌};
-ghost use Rattle.goal_blocks.specs.Collectives.{is_first};
+ghost use Rattle.goal_blocks.specs.Makers.{is_made_by_generate};
 
 /// A collective: what all ranks together are to do with the values of their slots. `initial` and `wanted` say for each
 /// what the slots hold at the start, and what they must hold at the end.
@@ -29,10 +29,11 @@ pub enum Collective {
 }
 
 impl Collective {
-    /// Whether it is a broadcast, barrier, allgather, allreduce or alltoall.
+    /// Whether it is a broadcast, barrier, allgather, allreduce or alltoall, the schedules of which `generate` of goal_collectives
+    /// makes; `generate_rooted` of goal_rooted makes those of the others.
     #[must_use]
-    pub fn is_first(&self) -> bool
-        ensures { result ≡ is_first self.now }
+    pub fn is_made_by_generate(&self) -> bool
+        ensures { result ≡ is_made_by_generate self.now }
     {
         matches!(
             self,

@@ -1,9 +1,8 @@
 // For which ranks a collective has a schedule. The laws of schedules that are told by entries: their function does
 // nothing, and a proof cites a law by a call.
 ghost use Rattle.goal_blocks.specs.Fitting.{FittingIsAccepted};
-ghost use Rattle.goal_blocks.specs.Generated.{MadeIsAccepted};
+ghost use Rattle.goal_blocks.specs.Laws.{MadeIsAccepted, MadeIsCertified, OnlyTheseAreCertified, MadeIsRight};
 ghost use Rattle.goal_blocks.specs.Messages.{BcastIsPaired, AllgatherIsPaired, ScanIsPaired};
-ghost use Rattle.goal_blocks.specs.Certified.{MadeIsCertified, OnlyTheseAreCertified, MadeIsRight};
 
 use crate::collective::Collective;
 

@@ -1,17 +1,9 @@
 // The laws of matched and certified schedules and of races. Their functions do nothing: a proof cites a law by a call.
-ghost use Rattle.goal_blocks.specs.Matched.{ChannelsAreApart, MatchedEndsInItsPairs};
-ghost use Rattle.goal_blocks.specs.Walk.{OneWalk, SomeWalk, InterleavingGoesOn, SomeCompleteInterleaving};
+ghost use Rattle.goal_blocks.specs.Laws.{OneWalk, SomeWalk, InterleavingGoesOn, SomeCompleteInterleaving, ChannelsAreApart, MatchedEndsInItsPairs, OrderIsKept, ConflictsComeInOneOrder, CertifiedEndsEverywhere, CertifiedConflictsInOneOrder, MatchedHoldsAsTheWalk, CertifiedIsRightEverywhere, FaultExcludesCertified, FaultlessIsCertified, OneFirstFault, AheadAndBack, BcastOfTwoIsCertified, RenamedIsRenamed, RenamedBack, RenamedIsAllowedAlike, RenamedInterleavesAlike, RenamedHoldsAlike, RenamedIsRight, RenamedIsCertified, ExchangeUndoesItself, BlocksAreExchanged, FirstBlockStays, ExchangedIsCertified, SlotHoldsWanted, BlockHoldsWanted, SegmentsInOneRun, BlocksInOneRun};
 ghost use Rattle.goal_blocks.specs.Levels.{LevelsEnd};
-ghost use Rattle.goal_blocks.specs.Certification.{CertifiedEndsEverywhere, CertifiedConflictsInOneOrder, MatchedHoldsAsTheWalk, CertifiedIsRightEverywhere};
-ghost use Rattle.goal_blocks.specs.Certified.{BcastOfTwoIsCertified};
 ghost use Rattle.goal_blocks.specs.HeldFew.{ValuesStaySingle, HeldStaysFew};
-ghost use Rattle.goal_blocks.specs.Faults.{FaultExcludesCertified, FaultlessIsCertified, OneFirstFault};
 ghost use Rattle.goal_blocks.specs.Joined.{JoinedHoldsBoth, SegmentsAtOnce};
 ghost use Rattle.goal_blocks.specs.Placed.{PlacedIsPlaced, PlacedIsAllowedAlike, PlacedInterleavesAlike, PlacedHoldsAlike, PlacedIsRight, PlacedIsCertified, PlacedCollectiveIsRight};
-ghost use Rattle.goal_blocks.specs.Positions.{AheadAndBack};
-ghost use Rattle.goal_blocks.specs.Race.{OrderIsKept, ConflictsComeInOneOrder};
-ghost use Rattle.goal_blocks.specs.Renamed.{RenamedIsRenamed, RenamedBack, RenamedIsAllowedAlike, RenamedInterleavesAlike, RenamedHoldsAlike, RenamedIsRight, RenamedIsCertified};
-ghost use Rattle.goal_blocks.specs.Segments.{ExchangeUndoesItself, BlocksAreExchanged, FirstBlockStays, ExchangedIsCertified, SlotHoldsWanted, BlockHoldsWanted, SegmentsInOneRun, BlocksInOneRun};
 
 /// The laws of schedules without wildcards, in which each send has one receive of its channel and each receive one
 /// send, and whose walk ends:

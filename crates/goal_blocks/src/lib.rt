@@ -3,8 +3,10 @@
 
 mod cert_fault;
 mod collective;
+mod gen_fault;
 mod generated;
 mod laws;
+mod making;
 mod merging;
 mod positions;
 mod segment;
@@ -16,12 +18,14 @@ mod wanted;
 
 pub use cert_fault::CertFault;
 pub use collective::{Collective, Contribution};
+pub use gen_fault::GenFault;
 pub use generated::laws_of_made_schedules;
 pub use laws::{
     laws_of_certified_schedules, laws_of_faults, laws_of_held_contributions, laws_of_joined_starts,
     laws_of_matched_schedules, laws_of_placed_schedules, laws_of_positions, laws_of_races,
     laws_of_renamed_slots, laws_of_segments,
 };
+pub use making::{possible, schedule_by};
 pub use positions::{ahead, back, digits, power};
 pub use segment::Segment;
 pub use slot_table::SlotTable;

@@ -3,12 +3,12 @@ use Rattle.std.proofs.Common.{All, ◌≡◌, ◌==◌, ◌+◌, ◌-◌, ◌^�
 use Rattle.goal_graph.specs.declared.action.OpId.{OpId}
 use Rattle.goal_graph.specs.declared.action.Class.{Class}
 use Rattle.goal_graph.specs.declared.action.Class.TheVariants.{Arrive, Post, Begin, Data, Serve}
-use Rattle.goal_graph.specs.Schedule.{Plan, operations}
+use Rattle.goal_graph.specs.Schedule.{Plan, operations, IsSend, IsReceive}
 use Rattle.goal_graph.specs.Action.{Act, place, happened}
 use Rattle.goal_graph.specs.Allowed.{allowed, is_served}
 use Rattle.goal_graph.specs.Fault.{IsOp}
 use Rattle.goal_graph.specs.Interleaving.{IsInterleaving}
-use Rattle.goal_graph.specs.Laws.{IsCalc, IsSend, IsReceive}
+use Rattle.goal_graph.specs.Laws.{IsCalc}
 use Rattle.goal_graph.proofs.ForCallers.{allowed_listed, allowed_arrive, allowed_post, allowed_data, allowed_serve, partner_stays, partner_of_receive}
 use Rattle.goal_graph.specs.Matching.{pairs, partner}
 use Rattle.std.proofs.lemmas.Bool.{both_ways}

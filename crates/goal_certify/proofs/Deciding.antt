@@ -5,8 +5,10 @@ use Rattle.goal_graph.specs.Fault.{IsAccepted}
 use Rattle.goal_blocks.specs.declared.cert_fault.CertFault.{CertFault}
 use Rattle.goal_blocks.specs.declared.cert_fault.CertFault.TheVariants.{TooLarge, Wildcard, DoubleChannel, Unpaired, Lengths, Race, Stalls, Weight, Wrong, NoMemory}
 use Rattle.goal_blocks.specs.Values.{Value, Store}
-use Rattle.goal_blocks.specs.Certification.{IsCertified, IsRightEverywhere, CertifiedIsRightEverywhere}
-use Rattle.goal_blocks.specs.Faults.{HasFault, IsCertificationFault, FaultExcludesCertified, FaultlessIsCertified, OneFirstFault}
+use Rattle.goal_blocks.specs.Certification.{IsCertified}
+use Rattle.goal_blocks.specs.Laws.{CertifiedIsRightEverywhere, FaultExcludesCertified, FaultlessIsCertified, OneFirstFault}
+use Rattle.goal_blocks.specs.Right.{IsRightEverywhere}
+use Rattle.goal_blocks.specs.Faults.{HasFault, IsCertificationFault}
 use Rattle.goal_certify.specs.Stages.{HasNone, IsFirstOf, IsStopped}
 use Rattle.goal_certify.proofs.StageLemmas.{none_joined, first_later, first_sooner}
 

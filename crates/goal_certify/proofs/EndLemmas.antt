@@ -6,12 +6,11 @@ use Rattle.goal_graph.specs.declared.action.OpId.{OpId}
 use Rattle.goal_graph.specs.declared.plan.Kind.{Kind}
 use Rattle.goal_graph.specs.declared.plan.Kind.TheVariants.{Calc, Send, Recv}
 use Rattle.goal_graph.specs.declared.plan.Op.{Op}
-use Rattle.goal_graph.specs.Schedule.{Plan, op_at, kind_at}
+use Rattle.goal_graph.specs.Schedule.{Plan, op_at, kind_at, IsSend, IsReceive}
 use Rattle.goal_graph.specs.Fault.{IsOp}
 use Rattle.goal_graph.proofs.ForCallers.{kind_from_op, send_is_op, receive_is_op}
 use Rattle.std.proofs.lemmas.List.Elements.{All-contains}
 use Rattle.goal_graph.specs.Order.{IsBefore}
-use Rattle.goal_graph.specs.Laws.{IsSend, IsReceive}
 use Rattle.goal_blocks.specs.Channels.{Channel, channel_in, channel, AreOfOneChannel, HasNoWildcard, HasNoDoubleChannel}
 use Rattle.goal_blocks.specs.Faults.{IsLeast, op_key, AreDouble, IsUnpaired}
 use Rattle.goal_certify.specs.declared.ends.End.{End}

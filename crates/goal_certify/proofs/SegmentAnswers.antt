@@ -8,7 +8,8 @@ use Rattle.goal_blocks.specs.declared.cert_fault.CertFault.{CertFault}
 use Rattle.goal_blocks.specs.declared.cert_fault.CertFault.TheVariants.{NoMemory}
 use Rattle.goal_blocks.specs.declared.collective.Collective.{Collective}
 use Rattle.goal_blocks.specs.Values.{Value, Store}
-use Rattle.goal_blocks.specs.Faults.{IsCertificationFault, FaultExcludesCertified, FaultlessIsCertified, OneFirstFault}
+use Rattle.goal_blocks.specs.Faults.{IsCertificationFault}
+use Rattle.goal_blocks.specs.Laws.{FaultExcludesCertified, FaultlessIsCertified, OneFirstFault}
 use Rattle.goal_blocks.specs.Segments.{initial_in, wanted_in, IsCertifiedIn}
 use Rattle.goal_blocks.proofs.ForCallers.{certified_right}
 use Rattle.goal_certify.specs.declared.segments.SegmentFault.{SegmentFault}

@@ -5,12 +5,11 @@ use Rattle.std.proofs.lemmas.Bool.{and_left, and_right, false_from_ne_true}
 use Rattle.goal_graph.specs.declared.action.OpId.{OpId}
 use Rattle.goal_graph.specs.declared.action.Class.{Class}
 use Rattle.goal_graph.specs.declared.action.Class.TheVariants.{Arrive, Serve, Data, Post, Begin}
-use Rattle.goal_graph.specs.Schedule.{Plan, operations}
+use Rattle.goal_graph.specs.Schedule.{Plan, operations, IsSend, IsReceive}
 use Rattle.goal_graph.specs.Action.{Act, place, same_op, happened}
 use Rattle.goal_graph.specs.Matching.{Pair, partner, new_pair, add_pair, pairs}
 use Rattle.goal_graph.specs.Fault.{IsOp}
 use Rattle.goal_graph.specs.Interleaving.{IsInterleaving}
-use Rattle.goal_graph.specs.Laws.{IsSend, IsReceive}
 use Rattle.goal_graph.proofs.ForCallers.{cases_op, happened_new, happened_other, is_act_from, same_op_true, not_send_receive, fits_receive, fits_send, new_pair_is, pairs_same, partner_other, IsListed, listed_partners, send_is_op, receive_is_op, same_tables, at_entry, off_entry, entry_written, same_op_swapped}
 use Rattle.goal_blocks.specs.Walk.{no_send}
 use Rattle.sim_match.specs.PostsAndArrivals.{is_post_or_arrival}

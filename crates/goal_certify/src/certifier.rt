@@ -2,7 +2,8 @@
 ghost use Rattle.std.specs.Prelude.{◌≡◌, ◌⊎◌, length, OnOk, IfErr, IsOkUnless, IsErrOf};
 ghost use Rattle.goal_blocks.specs.declared.cert_fault.CertFault.{CertFault};
 ghost use Rattle.goal_blocks.specs.Collectives.{initial, wanted};
-ghost use Rattle.goal_blocks.specs.Certified.{IsCertifiedFor, IsRightFor};
+ghost use Rattle.goal_blocks.specs.Certified.{IsCertifiedFor};
+ghost use Rattle.goal_blocks.specs.Right.{IsRightFor};
 ghost use Rattle.goal_certify.specs.Certifying.{IsFaultFor};
 ghost use Rattle.goal_certify.specs.Stages.{HasNone, IsFirstOf, IsFree, IsStopped};
 

@@ -7,7 +7,7 @@ use Rattle.goal_base.specs.Device.{HostState, SinkState, Files, Later, KeepsFile
 use Rattle.goal_graph.specs.Schedule.{Plan}
 use Rattle.sim_params.specs.Costs.{Numbers, CostModel, log_gops}
 use Rattle.sim_classes.specs.Machine.{Known, costs_of}
-use Rattle.goal_input.specs.Unread.{IfFile}
+use Rattle.goal_input.specs.Input.{IfFile}
 use Rattle.goal_words.specs.declared.sentence.View.{View}
 use Rattle.goal_words.specs.declared.sentence.View.TheVariants as view
 use Rattle.goal_words.specs.declared.sentence.RunView.{RunView}
@@ -23,11 +23,12 @@ use Rattle.goal_cli.specs.declared.output.Stop.TheVariants.{Refused}
 use Rattle.goal_cli.specs.Stop.{IsStop}
 use Rattle.goal_cli.specs.declared.answer.Status.{Status}
 use Rattle.goal_cli.specs.declared.answer.Status.TheVariants as status
-use Rattle.goal_cli.specs.Output.{Input, input_with, input_of, machine_of, IsWorkOf, IsRunShown, IsShownAs, IsOutput, EndsAs, MayEnd, IsVerdict, IsCertify, IsRefused, HasRun, HasRunOn, HasOutput}
+use Rattle.goal_cli.specs.Output.{Input, input_with, input_of, machine_of, IsRunShown, IsShownAs, IsOutput, EndsAs, MayEnd, IsRefused, HasRun, HasRunOn, HasOutput}
+use Rattle.goal_cli.specs.Laws.{IsVerdict, IsCertify, ForInput, Answers, IsSilent, line_at}
 use Rattle.goal_views.specs.Views.{IsPrintedRun}
 use Rattle.goal_cli.specs.Refusal.{refused_line}
-use Rattle.goal_cli.specs.Answer.{ForNamed, IfNamed, ForRead, IfRead, ForInput, IfInput, ReadsFaulted, IsReadOut, GrowsByPart, ReadsHeld, Target, ToOut, ToFile, target_of, Gets, GetsPart, Elsewhere, WritesRose, WritesHeld, WritesSame, InputHeld, GetsOutput, GetsPartOfOutput, AnswersWhole, PrintsRun, IsUntouched, IsWritten, IsCutOff, IsCauseOf, IsCauseOfNone, IsCause, line_for, status_at, status_of, Answers, AnswersWith, IsSilent, line_at, input_in, machine_in, Says, IsCutShort, IsAnswered, IsTakenOf}
-use Rattle.goal_cli.specs.Unmade.{IsUnmade, IsIdle, IsGot, IsTakenFrom, IsToldOr}
+use Rattle.goal_cli.specs.Answer.{ForNamed, IfNamed, ForRead, IfRead, IfInput, ReadsFaulted, IsReadOut, GrowsByPart, ReadsHeld, Target, ToOut, ToFile, target_of, Gets, GetsPart, Elsewhere, WritesRose, WritesHeld, WritesSame, InputHeld, GetsOutput, GetsPartOfOutput, AnswersWhole, PrintsRun, IsUntouched, IsWritten, IsCutOff, IsCauseOf, IsCauseOfNone, IsCause, line_for, status_at, status_of, AnswersWith, input_in, machine_in, Says, IsCutShort, IsAnswered, IsTakenOf}
+use Rattle.goal_cli.specs.Unmade.{IsUnmade, IsIdle, IsGot, IsTakenFrom, IsToldOr, IsWorkOf}
 use Rattle.goal_cli.specs.World.{Devices, devices}
 use Rattle.goal_input.proofs.ForCallers.{same_schedule}
 use Rattle.goal_cli.proofs.RefusalLemmas.{same_refusal, no_refusal, one_machine}

@@ -6,8 +6,8 @@ use Rattle.goal_graph.specs.Schedule.{Plan}
 use Rattle.goal_graph.specs.Action.{plain}
 use Rattle.goal_blocks.specs.declared.collective.Collective.{Collective}
 use Rattle.goal_blocks.specs.Collectives.{initial, wanted}
-use Rattle.goal_blocks.specs.Certification.{IsRight}
-use Rattle.goal_blocks.specs.Certified.{IsCertifiedFor, IsRightFor, IsCertifiedByProof}
+use Rattle.goal_blocks.specs.Right.{IsRight, IsRightFor, IsCertifiedByProof}
+use Rattle.goal_blocks.specs.Certified.{IsCertifiedFor}
 use Rattle.goal_blocks.proofs.ForCallers.{certified_right, made_certified, all_made_right}
 use Rattle.sim_params.specs.Costs.{CostModel, is_eager}
 use Rattle.sim_params.specs.Run.{IsCompleteRun}

@@ -7,7 +7,7 @@ use Rattle.sim_classes.specs.Machine.{Known, numbers_of, costs_of}
 use Rattle.sim_classes.specs.Form as form
 use Rattle.sim_classes.specs.Laws.{SaidIsWhole, AlikeIsLogGops}
 use Rattle.goal_blocks.specs.declared.collective.Collective.{Collective}
-use Rattle.goal_blocks.specs.Faults.{FaultExcludesCertified, OneFirstFault}
+use Rattle.goal_blocks.specs.Laws.{FaultExcludesCertified, OneFirstFault}
 use Rattle.goal_words.specs.declared.sentence.View.{View}
 use Rattle.goal_words.specs.declared.sentence.View.TheVariants as view
 use Rattle.goal_words.specs.declared.sentence.RunView.{RunView}
@@ -16,7 +16,8 @@ use Rattle.goal_views.proofs.ForCallers.{one_shown}
 use Rattle.goal_cli.specs.Verdict.{faulty_text, IsVerdictOn}
 use Rattle.goal_input.specs.Input.{IsReadAs}
 use Rattle.goal_cli.specs.declared.answer.Ending.{Ending}
-use Rattle.goal_cli.specs.Output.{Input, IsSameMachine, SaysSame, IsCosted, IsRunShown, IsShownAs, ending_if, IsOutput}
+use Rattle.goal_cli.specs.Output.{Input, IsCosted, IsRunShown, IsShownAs, ending_if, IsOutput}
+use Rattle.goal_cli.specs.Laws.{IsSameMachine, SaysSame}
 use Rattle.goal_input.proofs.ForCallers.{same_schedule}
 use Rattle.goal_cli.proofs.RefusalLemmas.{one_machine, same_source}
 

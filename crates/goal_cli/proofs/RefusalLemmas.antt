@@ -13,9 +13,9 @@ use Rattle.sim_classes.specs.Form as form
 use Rattle.sim_classes.specs.declared.fault.MachineFault.{MachineFault}
 use Rattle.goal_blocks.specs.declared.collective.Collective.{Collective}
 use Rattle.goal_blocks.specs.Generated.{most_ranks, IsPossible}
-use Rattle.goal_collectives.specs.declared.fault.GenFault.{GenFault}
-use Rattle.goal_collectives.specs.declared.fault.GenFault.TheVariants as gen
-use Rattle.goal_collectives.specs.GenFaults.{AreRanksWithin}
+use Rattle.goal_blocks.specs.declared.gen_fault.GenFault.{GenFault}
+use Rattle.goal_blocks.specs.declared.gen_fault.GenFault.TheVariants as gen
+use Rattle.goal_blocks.specs.GenFaults.{AreRanksWithin}
 use Rattle.goal_words.specs.declared.sentence.Source.{Source}
 use Rattle.goal_words.specs.declared.sentence.Source.TheVariants as source
 use Rattle.goal_words.specs.Words.{Command, Pricing, ByNumbers, ByMachine, Unpriced}

@@ -8,12 +8,14 @@ use Rattle.sim_classes.specs.Form as form
 use Rattle.goal_words.specs.declared.sentence.RunView.{RunView}
 use Rattle.goal_words.specs.declared.sentence.View.{View}
 use Rattle.goal_words.specs.declared.sentence.View.TheVariants as view
-use Rattle.goal_words.specs.Words.{Command, Pricing, ByNumbers, ByMachine, Unpriced, IsRun, PricedFor}
+use Rattle.goal_words.specs.Words.{Command, Pricing, ByNumbers, ByMachine, Unpriced}
+use Rattle.goal_words.specs.Sentences.{IsRun, PricedFor}
 use Rattle.goal_cli.specs.declared.answer.Ending.{Ending}
 use Rattle.goal_cli.specs.declared.answer.Refusal.TheVariants.{TooLong, Text, File, Machine, MachineRanks, Generator, Budget}
 use Rattle.goal_cli.specs.declared.output.Stop.{Stop}
 use Rattle.goal_cli.specs.declared.output.Stop.TheVariants.{Refused, NoMemory}
-use Rattle.goal_cli.specs.Output.{Input, IsCosted, IsShownAs, IsOutput, EndsAs, IsWorkOf}
+use Rattle.goal_cli.specs.Output.{Input, IsCosted, IsShownAs, IsOutput, EndsAs}
+use Rattle.goal_cli.specs.Unmade.{IsWorkOf}
 use Rattle.goal_cli.specs.Stop.{IsStop, IsPaidRun, IsUnpaid}
 
 -- what is so at an error, and what is so else

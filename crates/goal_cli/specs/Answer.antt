@@ -5,7 +5,7 @@ use Rattle.goal_base.specs.declared.limits.TheConstants.{MAX_INPUT}
 use Rattle.goal_base.specs.Device.{HostState, SinkState, Rose, Held, KeepsFiles, KeepsReading, SameRest, ReadsAtMost, SameReadCounts, Holds, HoldsPart, Grows, ReadFaulted, IsTooLong}
 use Rattle.goal_graph.specs.Schedule.{Plan}
 use Rattle.sim_params.specs.Costs.{CostModel}
-use Rattle.goal_input.specs.Unread.{ForFile, IfFile}
+use Rattle.goal_input.specs.Input.{ForFile, IfFile}
 use Rattle.goal_words.specs.declared.sentence.View.{View}
 use Rattle.goal_words.specs.declared.sentence.View.TheVariants as view
 use Rattle.goal_words.specs.Words.{Command}
@@ -47,10 +47,6 @@ ForRead host c P =
 abbrev pub IfRead : HostState → Command → (Input → Type 0) → Type 0
 IfRead host c P =
     IfNamed host (input_of c) (λ schedule. IfNamed host (machine_of c) (λ machine. P (input_with schedule machine)))
-
--- the same of what the command reads that the words are
-abbrev pub ForInput : Option Command → HostState → (Command → Input → Type 0) → Type 0
-ForInput command host P = IsSomeAnd command (λ c. ForRead host c (P c))
 
 abbrev pub IfInput : Option Command → HostState → (Command → Input → Type 0) → Type 0
 IfInput command host P = IfSome command (λ c. IfRead host c (P c))
@@ -199,10 +195,6 @@ status_of answer.ReadFault = status.ReadFault
 status_of answer.WriteFault = status.WriteFault
 status_of answer.NoMemory = status.NoMemory
 
--- this status is answered, or want of memory in its place
-abbrev pub Answers : Status → Status → Type 0
-Answers result s = (result ≡ s) ⊎ (result ≡ status.NoMemory)
-
 -- this status is answered and P holds, or want of memory is answered in its place
 abbrev pub AnswersWith : Status → Status → Type 0 → Type 0
 AnswersWith result s P = ((result ≡ s) × P) ⊎ (result ≡ status.NoMemory)
@@ -213,17 +205,6 @@ abbrev pub PrintsRun : Status → SinkState → SinkState → CostModel → List
 PrintsRun result out out' costs sched =
     ((output : List ℕ) × ((stuck : Bool) × IsPrintedRun costs sched output stuck × (result ≡ status_at (ending_if stuck))) × Grows out out' output)
     ⊎ (result ≡ status.NoMemory)
-
--- the statuses at which nothing is written
-abbrev pub IsSilent : Status → Type 0
-IsSilent s = (s ≡ status.BadLine) ⊎ (s ≡ status.ReadFault) ⊎ (s ≡ status.Refused)
-
--- The lines to `err` of the statuses at which it gets one line whole; that of Refused has the refusal's words besides.
-abbrev pub line_at : Status → Option (List ℕ)
-line_at status.BadLine = Some (line_for answer.BadLine)
-line_at status.ReadFault = Some (line_for answer.ReadFault)
-line_at status.WriteFault = Some (line_for answer.WriteFault)
-line_at _ = None
 
 -- A sink got the line, or a prefix of it; and where its count of faults didn't rise, the whole line.
 pub record Says (old new : SinkState) (line : List ℕ) : Type 0 where

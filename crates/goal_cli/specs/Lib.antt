@@ -9,6 +9,7 @@ pub mod Unmade
 pub mod Stop
 pub mod Pages
 -- Laws.
+pub mod Laws
 pub mod CertifiedRuns
 -- What the clauses cite of lower crates.
 pub use Rattle.goal_base.specs.Device

@@ -14,9 +14,9 @@ use Rattle.goal_print.specs.Canonical.{canonical}
 use Rattle.goal_binary.specs.File.{file}
 use Rattle.goal_blocks.specs.declared.collective.Collective.{Collective}
 use Rattle.goal_blocks.specs.Generated.{made, IsPossible}
-use Rattle.goal_collectives.specs.declared.fault.GenFault.{GenFault}
-use Rattle.goal_collectives.specs.declared.fault.GenFault.TheVariants as gen
-use Rattle.goal_collectives.specs.GenFaults.{IsGenFault}
+use Rattle.goal_blocks.specs.declared.gen_fault.GenFault.{GenFault}
+use Rattle.goal_blocks.specs.declared.gen_fault.GenFault.TheVariants as gen
+use Rattle.goal_blocks.specs.GenFaults.{IsGenFault}
 use Rattle.goal_collectives.specs.Probe.{probed}
 use Rattle.goal_words.specs.declared.sentence.Source.{Source}
 use Rattle.goal_words.specs.declared.sentence.Source.TheVariants as source
@@ -150,29 +150,6 @@ EndsAs (view.Verdict what) e = (e ≡ ending.Done) ⊎ (e ≡ ending.NotCertifie
 
 abbrev pub MayEnd : Command → Ending → Type 0
 MayEnd c e = EndsAs c.view e
-
--- it is a verdict that is asked for, of some collective
-abbrev pub IsVerdict : View → Type 0
-IsVerdict (view.Run how) = ⊥
-IsVerdict view.Text = ⊥
-IsVerdict (view.File name) = ⊥
-IsVerdict (view.Verdict what) = Unit {0}
-
-abbrev pub IsCertify : Command → Type 0
-IsCertify c = IsVerdict c.view
-
--- the schedule that a command works on, and the text of its machine
-abbrev pub IsWorkOf : Command → List Plan → List ℕ → Input → Type 0
-IsWorkOf c sched machine input = IsFrom c.source input.schedule sched × (input.machine ≡ machine)
-
--- where there is a machine, two texts say the same one, or have the same fault
-abbrev pub SaysSame : Pricing → List ℕ → List ℕ → Type 0
-SaysSame (ByNumbers numbers) one other = Unit {0}
-SaysSame (ByMachine name) one other = form.machine one ≡ form.machine other
-SaysSame Unpriced one other = Unit {0}
-
-abbrev pub IsSameMachine : Command → Input → Input → Type 0
-IsSameMachine c input again = SaysSame c.costs input.machine again.machine
 
 -- a collective has no schedule for so many ranks, for this first reason
 pub record IsNotMade (what : Collective) (ranks : ℕ) (fault : GenFault) : Type 0 where

@@ -7,8 +7,8 @@ use Rattle.goal_parser.specs.declared.faults.TextFault.{TextFault}
 use Rattle.goal_parser.specs.declared.faults.TextFault.TheVariants as text
 use Rattle.goal_binary.specs.declared.fault.FileFault.{FileFault}
 use Rattle.goal_binary.specs.declared.fault.FileFault.TheVariants as file
-use Rattle.goal_collectives.specs.declared.fault.GenFault.{GenFault}
-use Rattle.goal_collectives.specs.declared.fault.GenFault.TheVariants as gen
+use Rattle.goal_blocks.specs.declared.gen_fault.GenFault.{GenFault}
+use Rattle.goal_blocks.specs.declared.gen_fault.GenFault.TheVariants as gen
 use Rattle.sim_classes.specs.declared.fault.MachineFault.{MachineFault}
 use Rattle.sim_classes.specs.declared.fault.MachineFault.TheVariants as sayings
 use Rattle.goal_cli.specs.declared.answer.Refusal.{Refusal}

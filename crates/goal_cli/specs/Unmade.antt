@@ -1,14 +1,16 @@
 -- What is so where a command has nothing to work on, while its files are read; and while an answer is told.
 use Rattle.std.specs.Prelude.{ℕ, ◌+◌, ◌≡◌, ◌≤◌, ◌⊎◌, true, List, [], length, Option, Some, None, IsSomeAnd}
 use Rattle.goal_base.specs.declared.limits.TheConstants.{MAX_INPUT}
-use Rattle.goal_base.specs.Device.{HostState, SinkState, SameReadCounts, KeepsReading, SameRest, ReadsAtMost, ReadFaulted, IsTooLong, file_of}
+use Rattle.goal_base.specs.Device.{HostState, SinkState, SameReadCounts, KeepsReading, SameRest, ReadsAtMost, ReadFaulted, IsTooLong, file_of, Later, SinkLater}
 use Rattle.goal_words.specs.Words.{Command}
 use Rattle.goal_cli.specs.declared.answer.Answer.{Answer}
 use Rattle.goal_cli.specs.declared.answer.Answer.TheVariants as answer
 use Rattle.goal_cli.specs.declared.answer.Refusal.TheVariants as refusal
-use Rattle.goal_cli.specs.Output.{input_of, machine_of, input_with, IsRefused}
+use Rattle.goal_cli.specs.Output.{input_of, machine_of, input_with, IsRefused, Input, IsFrom}
 use Rattle.goal_cli.specs.declared.answer.Status.{Status}
 use Rattle.goal_cli.specs.Answer.{ForNamed, ForRead, ReadsFaulted, IsReadOut, IsAnswered}
+use Rattle.goal_graph.specs.Schedule.{Plan}
+use Rattle.goal_cli.specs.World.{Devices}
 
 -- why there is no schedule, whatever the machine is, as long as that is not too long; want of memory is free
 abbrev pub IsUnmade : HostState → HostState → Command → Answer → Type 0
@@ -47,3 +49,12 @@ IsTakenFrom old new (Some name) = SameRest old new ⊎ ReadsAtMost old new name 
 abbrev pub IsToldOr : SinkState → SinkState → Answer → Status → Type 0
 IsToldOr old new (answer.Refused r) s = IsAnswered old new (answer.Refused r) s ⊎ IsAnswered old new answer.NoMemory s
 IsToldOr old new a s = IsAnswered old new a s
+
+-- the schedule that a command works on, and the text of its machine
+abbrev pub IsWorkOf : Command → List Plan → List ℕ → Input → Type 0
+IsWorkOf c sched machine input = IsFrom c.source input.schedule sched × (input.machine ≡ machine)
+
+-- no call changes what kind of devices they are, and no count falls
+pub record DevicesLater (old new : Devices) : Type 0 where
+  pub host : Later old.host new.host
+  pub out : SinkLater old.out new.out

@@ -22,11 +22,6 @@ world host out err = record { host = host; out = out; err = err }
 abbrev pub but_err : World → Devices
 but_err w = devices w.host w.out
 
--- no call changes what kind of devices they are, and no count falls
-pub record DevicesLater (old new : Devices) : Type 0 where
-  pub host : Later old.host new.host
-  pub out : SinkLater old.out new.out
-
 pub record WorldLater (old new : World) : Type 0 where
   pub host : Later old.host new.host
   pub out : SinkLater old.out new.out

@@ -3,14 +3,15 @@ ghost use Rattle.std.specs.Prelude.{ℕ, ◌≡◌, ◌⊎◌, List, Some, OnOk,
 ghost use Rattle.goal_base.specs.Device.{Rose, Held, SinkLater, KeepsReading, Grows};
 ghost use Rattle.goal_graph.specs.Schedule.{Plan};
 ghost use Rattle.sim_params.specs.Costs.{Numbers, log_gops};
-ghost use Rattle.goal_input.specs.Unread.{IfFile};
+ghost use Rattle.goal_input.specs.Input.{IfFile};
 ghost use Rattle.sim_classes.specs.Machine.{Known, costs_of};
-ghost use Rattle.goal_words.specs.Words.{Sim, Nodes, command_in, said, IsSized, IsPriced};
+ghost use Rattle.goal_words.specs.Words.{Sim, Nodes, command_in};
+ghost use Rattle.goal_words.specs.Sentences.{said, IsSized, IsPriced};
 ghost use Rattle.goal_cli.specs.Answer.{IfInput, GrowsByPart, ReadsHeld, InputHeld, goes_to, target_of, Gets, GetsPart, Elsewhere, WritesRose, WritesHeld, WritesSame, AnswersWhole, PrintsRun, IsCauseOf, IsCause, AnswersWith, Says, IsCutShort, Answered, IsTaken};
-ghost use Rattle.goal_cli.specs.World.{devices, world, DevicesLater, WorldLater};
+ghost use Rattle.goal_cli.specs.World.{devices, world, WorldLater};
 ghost use Rattle.goal_cli.specs.Output.{HasOutput, HasRun, HasRunOn, IsRefused};
 ghost use Rattle.goal_cli.specs.Pages.{text_of, Suits};
-ghost use Rattle.goal_cli.specs.Unmade.{IsToldOr};
+ghost use Rattle.goal_cli.specs.Unmade.{IsToldOr, DevicesLater};
 ghost use Rattle.goal_cli.specs.Refusal.{refused_line};
 ghost use Rattle.goal_cli.specs.declared.answer.Refusal.{Refusal};
 

@@ -5,11 +5,13 @@ ghost use Rattle.sim_params.specs.Costs.{CostModel};
 ghost use Rattle.sim_params.specs.Numbers.{numbers};
 ghost use Rattle.sim_classes.specs.Known.{known};
 ghost use Rattle.goal_binary.specs.File.{file};
-ghost use Rattle.goal_words.specs.Words.{ByNumbers, ByMachine, pricing, said, IsPriced, IsRun};
+ghost use Rattle.goal_words.specs.Words.{ByNumbers, ByMachine};
+ghost use Rattle.goal_words.specs.Sentences.{pricing, said, IsPriced, IsRun};
 ghost use Rattle.goal_input.specs.Input.{IsReadAs};
 ghost use Rattle.goal_cli.specs.Answer.{goes_to};
 ghost use Rattle.goal_cli.specs.Pages.{text_of, Suits};
-ghost use Rattle.goal_cli.specs.Output.{Input, ending_if, IsMachineFor, IsText, IsShownAs, IsOutput, EndsAs, MayEnd, IsWorkOf};
+ghost use Rattle.goal_cli.specs.Output.{Input, ending_if, IsMachineFor, IsText, IsShownAs, IsOutput, EndsAs, MayEnd};
+ghost use Rattle.goal_cli.specs.Unmade.{IsWorkOf};
 ghost use Rattle.goal_cli.specs.Stop.{IsStop, IsPaidRun, IsUnpaid};
 
 use crate::answer::{Ending, Refusal};

@@ -2,15 +2,14 @@
 ghost use Rattle.std.specs.Prelude.{◌≡◌, ◌≤◌, true, false, length, Some, OnOk, IfOk, IfErr};
 ghost use Rattle.goal_base.specs.declared.limits.TheConstants.{MAX_INPUT};
 ghost use Rattle.goal_base.specs.Device.{HostState, Later, KeepsFiles, SameReadCounts};
-ghost use Rattle.goal_input.specs.Input.{IsReadAs};
-ghost use Rattle.goal_input.specs.Unread.{ForFile};
-ghost use Rattle.goal_blocks.specs.Collectives.{is_first};
+ghost use Rattle.goal_input.specs.Input.{IsReadAs, ForFile};
 ghost use Rattle.goal_collectives.specs.Probe.{probed};
 ghost use Rattle.goal_words.specs.declared.sentence.View.{View};
-ghost use Rattle.goal_words.specs.Words.{Command, Pricing, asks, said, IsSized};
-ghost use Rattle.goal_cli.specs.Output.{input_of, machine_of, IsMade, IsFrom, IsWorkOf};
+ghost use Rattle.goal_words.specs.Words.{Command, Pricing, asks};
+ghost use Rattle.goal_words.specs.Sentences.{said, IsSized};
+ghost use Rattle.goal_cli.specs.Output.{input_of, machine_of, IsMade, IsFrom};
 ghost use Rattle.goal_cli.specs.Answer.{ForNamed, ForRead, IsReadOut, IsTaken};
-ghost use Rattle.goal_cli.specs.Unmade.{IsUnmade, IsUntold, IsIdle, IsGot, IsTakenFrom};
+ghost use Rattle.goal_cli.specs.Unmade.{IsUnmade, IsUntold, IsIdle, IsGot, IsTakenFrom, IsWorkOf};
 
 use crate::answer::{Answer, Refusal};
 use goal_base::{Host, MAX_BYTES, NoMemory, ReadAll, read_all};
@@ -18,42 +17,9 @@ use goal_blocks::Collective;
 use goal_collectives::{GenFault, MAX_ROUNDS, generate, probe_plan};
 use goal_graph::Sched;
 use goal_input::{Unread, read_schedule};
-use goal_rooted::{RootedFault, generate_rooted};
+use goal_rooted::generate_rooted;
 use goal_words::{Costing, Sentence, Source};
 use std::alloc::Global;
-
-// The schedule of a broadcast, barrier, allgather, allreduce or alltoall.
-fn make_first(alloc: Global, what: Collective, ranks: u32, bytes: u64) -> Result<Sched, Answer>
-    requires first { is_first what ≡ true }
-    requires size { bytes ≤ MAX_BYTES }
-    ensures made { IfOk result (λ sched. IsMade what ranks bytes sched) }
-    ensures unmade { IfErr result (λ answer. (costs : Pricing) (view : View) (host : HostState)
-        → IsUnmade host host (asks (Source.Made what ranks bytes) costs view) answer) }
-{
-    match generate(alloc, what, ranks, bytes) {
-        Ok(sched) => Ok(sched),
-        Err(GenFault::NoMemory) => Err(Answer::NoMemory),
-        Err(fault) => Err(Answer::Refused(Refusal::Generator(fault))),
-    }
-}
-
-// The schedule of a reduce, gather, scatter, reduce_scatter or scan.
-fn make_rooted(alloc: Global, what: Collective, ranks: u32, bytes: u64) -> Result<Sched, Answer>
-    requires second { is_first what ≡ false }
-    requires size { bytes ≤ MAX_BYTES }
-    ensures made { IfOk result (λ sched. IsMade what ranks bytes sched) }
-    ensures unmade { IfErr result (λ answer. (costs : Pricing) (view : View) (host : HostState)
-        → IsUnmade host host (asks (Source.Made what ranks bytes) costs view) answer) }
-{
-    match generate_rooted(alloc, what, ranks, bytes) {
-        Ok(sched) => Ok(sched),
-        Err(RootedFault::Ranks { limit }) => {
-            Err(Answer::Refused(Refusal::Generator(GenFault::Ranks { limit })))
-        }
-        Err(RootedFault::Root) => Err(Answer::Refused(Refusal::Generator(GenFault::Root))),
-        Err(RootedFault::NoMemory) => Err(Answer::NoMemory),
-    }
-}
 
 // The schedule of a collective.
 fn make_schedule(alloc: Global, what: Collective, ranks: u32, bytes: u64) -> Result<Sched, Answer>
@@ -62,10 +28,15 @@ fn make_schedule(alloc: Global, what: Collective, ranks: u32, bytes: u64) -> Res
     ensures unmade { IfErr result (λ answer. (costs : Pricing) (view : View) (host : HostState)
         → IsUnmade host host (asks (Source.Made what ranks bytes) costs view) answer) }
 {
-    if what.is_first() {
-        make_first(alloc, what, ranks, bytes)
+    let made = if what.is_made_by_generate() {
+        generate(alloc, what, ranks, bytes)
     } else {
-        make_rooted(alloc, what, ranks, bytes)
+        generate_rooted(alloc, what, ranks, bytes)
+    };
+    match made {
+        Ok(sched) => Ok(sched),
+        Err(GenFault::NoMemory) => Err(Answer::NoMemory),
+        Err(fault) => Err(Answer::Refused(Refusal::Generator(fault))),
     }
 }
 

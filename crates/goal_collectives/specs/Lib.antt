@@ -1,9 +1,9 @@
 -- What a reader must believe.
-pub mod GenFaults
 pub mod Probe
 -- What the clauses cite of lower crates.
 pub use Rattle.goal_blocks.specs.Collectives
 pub use Rattle.goal_blocks.specs.Generated
+pub use Rattle.goal_blocks.specs.GenFaults
 pub use Rattle.goal_blocks.specs.Made
 pub use Rattle.goal_blocks.specs.Positions
 pub use Rattle.goal_blocks.specs.Steps

@@ -1,26 +1,26 @@
 // The formulas of the five collectives, as counts and steps.
 ghost use Rattle.std.specs.Prelude.{◌≡◌, ◌<◌, ◌≤◌, true};
-ghost use Rattle.goal_blocks.specs.Collectives.{is_first};
-ghost use Rattle.goal_blocks.specs.Generated.{most_ranks, HasRoot, HasRoot-prop};
+ghost use Rattle.goal_blocks.specs.Generated.{most_ranks, HasRoot};
+ghost use Rattle.goal_blocks.specs.Makers.{HasRoot-prop, is_made_by_generate};
 
 use crate::steps::{
     allgather_step, allreduce_step, alltoall_step, barrier_step, bcast_count, bcast_step,
 };
 use goal_blocks::{Collective, Formula, Step, back, digits};
 
-/// The schedule of a collective of so many ranks, which it may have.
+/// A schedule that is asked for: of a collective, among so many ranks, which it may have, with messages of so many bytes.
 #[derive(Drop)]
-pub struct First {
+pub struct Asked {
     pub what: Collective,
     pub ranks: u32,
     pub bytes: u64,
-    ghost first: { is_first what ≡ true },
+    ghost made_here: { is_made_by_generate what ≡ true },
     ghost some_rank: { 0 < ranks },
     ghost few_ranks: { ranks ≤ most_ranks what },
     ghost root: { HasRoot what ranks } by { HasRoot-prop what ranks },
 }
 
-impl Formula for First {
+impl Formula for Asked {
     ghost use Rattle.goal_blocks.specs.Generated.{count_in, entry_in};
 
     ghost rank_count = { λ f. f.ranks };

@@ -2,13 +2,12 @@
 #![tactic(auto)]
 
 mod draws;
-mod fault;
 mod formula;
 mod making;
 mod probe;
 mod steps;
 
-pub use fault::GenFault;
+pub use goal_blocks::GenFault;
 pub use making::generate;
 pub use probe::{MAX_ROUNDS, probe_plan};
 

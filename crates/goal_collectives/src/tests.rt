@@ -6,7 +6,7 @@ use std::test::Fail;
 
 // How many operations the schedule has, with messages of eight bytes.
 fn count(rt: &HostRuntime, what: Collective, ranks: u32) -> Result<u32, Fail> {
-    if !what.is_first() {
+    if !what.is_made_by_generate() {
         return Err(Fail::from("none of the five"));
     }
     let sched = generate(rt.alloc(), what, ranks, 8)

@@ -9,12 +9,12 @@ use Rattle.goal_graph.specs.declared.action.Class.TheVariants.{Arrive, Serve, Da
 use Rattle.goal_graph.specs.declared.plan.Need.{Need}
 use Rattle.goal_graph.specs.declared.plan.When.{When}
 use Rattle.goal_graph.specs.declared.plan.When.TheVariants.{AfterEnd, AfterStart}
-use Rattle.goal_graph.specs.Schedule.{Plan, kind_at, needs, needed}
+use Rattle.goal_graph.specs.Schedule.{Plan, kind_at, needs, needed, IsSend}
 use Rattle.goal_graph.specs.Action.{Act, happened}
 use Rattle.goal_graph.specs.Matching.{partner, pairs}
 use Rattle.goal_graph.specs.Allowed.{first_class, has_started, has_ended, is_met, is_ready, allowed}
 use Rattle.goal_graph.specs.Interleaving.{IsInterleaving, IsCompleteInterleaving}
-use Rattle.goal_graph.specs.Laws.{IsSend, HaveMet, IsApart}
+use Rattle.goal_graph.specs.Laws.{HaveMet, IsApart}
 use Rattle.goal_graph.proofs.Actions.{happened_none, happened_cases}
 use Rattle.goal_graph.proofs.Persist.{is_some_from, cases_some}
 use Rattle.goal_graph.proofs.Rules.{fits_send, fits_receive, allowed_begin, allowed_post, allowed_arrive, allowed_data, allowed_serve}

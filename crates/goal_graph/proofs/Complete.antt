@@ -7,12 +7,12 @@ use Rattle.goal_graph.specs.declared.action.Class.TheVariants.{Arrive, Serve, Da
 use Rattle.goal_graph.specs.declared.plan.Kind.{Kind}
 use Rattle.goal_graph.specs.declared.plan.When.{When}
 use Rattle.goal_graph.specs.declared.plan.When.TheVariants.{AfterEnd, AfterStart}
-use Rattle.goal_graph.specs.Schedule.{Plan, kind_at}
+use Rattle.goal_graph.specs.Schedule.{Plan, kind_at, IsSend, IsReceive}
 use Rattle.goal_graph.specs.Action.{Act, happened}
 use Rattle.goal_graph.specs.Matching.{partner, is_paired, pairs, fits}
 use Rattle.goal_graph.specs.Allowed.{has_started, has_ended, is_met, is_ready, is_served, may, allowed}
 use Rattle.goal_graph.specs.Interleaving.{IsInterleaving, IsCompleteInterleaving}
-use Rattle.goal_graph.specs.Laws.{IsCalc, IsSend, IsReceive, IsWaitingSend, IsWaitingReceive, IsTaken}
+use Rattle.goal_graph.specs.Laws.{IsCalc, IsWaitingSend, IsWaitingReceive, IsTaken}
 use Rattle.goal_graph.proofs.Actions.{act_of}
 use Rattle.goal_graph.proofs.Persist.{is_some_from, cases_some}
 use Rattle.goal_graph.proofs.Rules.{fits_receive, fits_send}

@@ -9,12 +9,11 @@ use Rattle.goal_graph.specs.declared.plan.Kind.TheVariants.{Calc, Send, Recv}
 use Rattle.goal_graph.specs.declared.plan.Need.{Need}
 use Rattle.goal_graph.specs.declared.plan.When.{When}
 use Rattle.goal_graph.specs.declared.plan.When.TheVariants.{AfterEnd, AfterStart}
-use Rattle.goal_graph.specs.Schedule.{Plan, kind_at, needs, needed}
+use Rattle.goal_graph.specs.Schedule.{Plan, kind_at, needs, needed, IsSend}
 use Rattle.goal_graph.specs.Action.{Act, happened}
 use Rattle.goal_graph.specs.Matching.{pairs, partner}
 use Rattle.goal_graph.specs.Allowed.{last_class, is_met, is_ready, is_served, may, allowed}
 use Rattle.goal_graph.specs.Interleaving.{IsInterleaving}
-use Rattle.goal_graph.specs.Laws.{IsSend}
 use Rattle.goal_graph.proofs.Partners.{partner_is_send}
 
 module _ (plans : List Plan) (eager other : OpId → Bool) (agree : (m : OpId) → IsSend plans m → eager m ≡ other m) where

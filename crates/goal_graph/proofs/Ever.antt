@@ -4,12 +4,11 @@ use Rattle.std.proofs.lemmas.Bool.{both_ways}
 use Rattle.goal_graph.specs.declared.action.OpId.{OpId}
 use Rattle.goal_graph.specs.declared.action.Class.{Class}
 use Rattle.goal_graph.specs.declared.action.Class.TheVariants.{Arrive, Serve, Data, Post, Begin}
-use Rattle.goal_graph.specs.Schedule.{Plan}
+use Rattle.goal_graph.specs.Schedule.{Plan, IsSend, IsReceive}
 use Rattle.goal_graph.specs.Action.{Act, is_act, happened}
 use Rattle.goal_graph.specs.Matching.{partner, is_paired, pairs}
 use Rattle.goal_graph.specs.Allowed.{is_ready, is_served, allowed}
 use Rattle.goal_graph.specs.Interleaving.{IsInterleaving}
-use Rattle.goal_graph.specs.Laws.{IsSend, IsReceive}
 use Rattle.goal_graph.proofs.Actions.{happened_none, happened_cases, happened_stays, is_act_class, is_act_op}
 use Rattle.goal_graph.proofs.Persist.{paired_stays, ready_stays, served_stays}
 use Rattle.goal_graph.proofs.Rules.{allowed_arrive, allowed_data, allowed_serve, allowed_post, allowed_begin}

@@ -6,7 +6,8 @@ use Rattle.goal_graph.specs.declared.action.OpId.{OpId}
 use Rattle.goal_graph.specs.declared.fault.PlanFault.{PlanFault}
 use Rattle.goal_graph.specs.declared.fault.PlanFault.TheVariants.{Cycle}
 use Rattle.goal_graph.specs.declared.plan.Need.{Need}
-use Rattle.goal_graph.specs.Schedule.{Plan, needs, waiting_on, needed}
+use Rattle.goal_graph.specs.Schedule.{Plan, needs, needed}
+use Rattle.goal_graph.specs.Concerned.{waiting_on}
 use Rattle.goal_graph.specs.Fault.{plain_fault, IsOp, IsFirstCycle, IsFault, IsAccepted}
 use Rattle.goal_graph.proofs.Order.{before_cases}
 use Rattle.goal_graph.proofs.Places.{no_plan, IsOp-located, IsOp-below}

@@ -11,13 +11,13 @@ use Rattle.goal_graph.specs.declared.plan.Kind.TheVariants.{Calc, Send, Recv}
 use Rattle.goal_graph.specs.declared.plan.Need.{Need}
 use Rattle.goal_graph.specs.declared.plan.When.{When}
 use Rattle.goal_graph.specs.declared.plan.When.TheVariants.{AfterEnd, AfterStart}
-use Rattle.goal_graph.specs.Schedule.{Plan, kind_at, deps_at, earlier_of, later_of, needs, needed, waiting_on}
+use Rattle.goal_graph.specs.Schedule.{Plan, kind_at, deps_at, earlier_of, needs, needed}
 use Rattle.goal_graph.specs.Action.{Act, happened}
 use Rattle.goal_graph.specs.Matching.{Pair, new_pair, add_pair, pairs, partner, is_paired}
 use Rattle.goal_graph.specs.Fault.{IsOp}
 use Rattle.goal_graph.specs.Allowed.{first_class, last_class, is_met, is_ready, is_served, may, allowed}
 use Rattle.goal_graph.specs.Interleaving.{IsInterleaving}
-use Rattle.goal_graph.specs.Concerned.{IsNamedIn, Waits, IsConcerned}
+use Rattle.goal_graph.specs.Concerned.{IsNamedIn, Waits, IsConcerned, later_of, waiting_on}
 use Rattle.goal_graph.proofs.Lists.{contains_first, contains_more}
 use Rattle.goal_graph.proofs.Actions.{act_of, happened_before, happened_cases, is_act_op}
 use Rattle.goal_graph.proofs.Persist.{is_some_from, partner_stays}

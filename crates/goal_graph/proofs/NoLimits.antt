@@ -10,8 +10,8 @@ use Rattle.goal_graph.specs.declared.fault.PlanFault.{PlanFault}
 use Rattle.goal_graph.specs.declared.fault.PlanFault.TheVariants as plan
 use Rattle.goal_graph.specs.declared.plan.Op.{Op}
 use Rattle.goal_graph.specs.Schedule.{Plan}
-use Rattle.goal_graph.specs.Fault.{op_count, dep_count, note_count, AreCountsWithin, count_over, count_fault, has_peer, dep_in_range, note_fits, op_fault, dep_fault, note_fault, first_fault, rank_fault, plain_fault, IsFault}
-use Rattle.goal_graph.specs.Limits.{HasValue, HaveValues, AreWithinLimits, IsLimitRule}
+use Rattle.goal_graph.specs.Fault.{op_count, dep_count, note_count, count_over, count_fault, has_peer, dep_in_range, note_fits, op_fault, dep_fault, note_fault, first_fault, rank_fault, plain_fault, IsFault}
+use Rattle.goal_graph.specs.Limits.{HasValue, HaveValues, AreWithinLimits, IsLimitRule, AreCountsWithin}
 
 -- no fault that is told so is of a limit
 abbrev IsOther : Option PlanFault → Type 0

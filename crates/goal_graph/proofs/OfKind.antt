@@ -5,11 +5,10 @@ use Rattle.std.specs.Option.{option_map, option_and_then}
 use Rattle.goal_graph.specs.declared.action.OpId.{OpId}
 use Rattle.goal_graph.specs.declared.plan.Op.{Op}
 use Rattle.goal_graph.specs.declared.plan.Kind.{Kind}
-use Rattle.goal_graph.specs.Schedule.{Plan, op_at, ops_at, kind_at}
+use Rattle.goal_graph.specs.Schedule.{Plan, op_at, ops_at, kind_at, IsSend, IsReceive}
 use Rattle.goal_base.specs.declared.limits.TheConstants.{MAX_BYTES}
 use Rattle.goal_graph.specs.declared.plan.Kind.TheVariants.{Send}
 use Rattle.goal_graph.specs.Fault.{IsOp, value_fits}
-use Rattle.goal_graph.specs.Laws.{IsSend, IsReceive}
 
 pub op_of_kind : (plans : List Plan) (x : OpId) (k : Kind) → kind_at plans x ≡ Some k → IsOp plans x
 unfolding kind_at

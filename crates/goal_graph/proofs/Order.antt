@@ -4,7 +4,8 @@ use Rattle.std.proofs.lemmas.Bool.{cases_order, or_cases, and_parts, or_left, or
 use Rattle.goal_graph.specs.declared.action.OpId.{OpId}
 use Rattle.goal_graph.specs.declared.action.Timed.{Timed}
 use Rattle.goal_graph.proofs.Actions.{place_same}
-use Rattle.goal_graph.specs.Order.{IsBefore, IsLess, less, key}
+use Rattle.goal_graph.specs.Order.{IsBefore, IsLess, key}
+use Rattle.goal_graph.specs.Keys.{less}
 
 -- an operation is not before itself
 pub before_irreflexive : (x : OpId) → ¬ (IsBefore x x)

@@ -6,12 +6,12 @@ use Rattle.std.proofs.lemmas.Bool.{and_parts, cases_Bool, both_ways, not-true, f
 use Rattle.goal_graph.specs.declared.action.OpId.{OpId}
 use Rattle.goal_graph.specs.declared.action.Class.{Class}
 use Rattle.goal_graph.specs.declared.action.Class.TheVariants.{Arrive, Serve, Data, Post, Begin}
-use Rattle.goal_graph.specs.Schedule.{Plan}
+use Rattle.goal_graph.specs.Schedule.{Plan, IsSend, IsReceive}
 use Rattle.goal_graph.specs.Action.{Act, place, same_op, happened, oldest}
 use Rattle.goal_graph.specs.Matching.{Pair, pair_of, partner, is_paired, add_pair, new_pair, pairs, fits, is_open_receive, is_open_send}
 use Rattle.goal_graph.specs.Allowed.{allowed}
 use Rattle.goal_graph.specs.Interleaving.{IsInterleaving}
-use Rattle.goal_graph.specs.Laws.{IsSend, IsReceive, HaveMet}
+use Rattle.goal_graph.specs.Laws.{HaveMet}
 use Rattle.goal_graph.proofs.Actions.{act_of, is_act_true, happened_none, same_op_true, same_op_itself, place_same, happened_stays, happened_now, happened_new, happened_cases, is_act_from}
 use Rattle.goal_graph.proofs.Rules.{allowed_fresh, not_send_receive, fits_receive, fits_send}
 use Rattle.goal_graph.proofs.Persist.{is_some_from, partner_stays}

@@ -13,7 +13,8 @@ use Rattle.goal_graph.specs.declared.rows.Listing.{Listing}
 use Rattle.goal_graph.specs.declared.rows.Listing.TheVariants.{Needs, WaitingOn}
 use Rattle.goal_graph.specs.Schedule.{Plan}
 use Rattle.goal_graph.specs.Rows.{owner}
-use Rattle.goal_graph.specs.Fault.{AreCountsWithin, op_count, dep_count, note_count, count_over, count_fault, op_fault, dep_fault, value_fits, has_peer, dep_in_range, first_fault, rank_fault, plain_fault}
+use Rattle.goal_graph.specs.Fault.{op_count, dep_count, note_count, count_over, count_fault, op_fault, dep_fault, value_fits, has_peer, dep_in_range, first_fault, rank_fault, plain_fault}
+use Rattle.goal_graph.specs.Limits.{AreCountsWithin}
 
 -- neither of two is there
 pub option_or-none : {T : Type 0} (a b : Option T) → option_or a b ≡ None → (a ≡ None) × (b ≡ None)

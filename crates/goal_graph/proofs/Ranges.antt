@@ -8,7 +8,8 @@ use Rattle.goal_graph.specs.declared.plan.Dep.{Dep}
 use Rattle.goal_graph.specs.declared.plan.Need.{Need}
 use Rattle.goal_graph.specs.declared.rows.Listing.{Listing}
 use Rattle.goal_graph.specs.declared.rows.Listing.TheVariants.{Needs, WaitingOn}
-use Rattle.goal_graph.specs.Schedule.{Plan, needs, waiting_on, deps_at}
+use Rattle.goal_graph.specs.Schedule.{Plan, needs, deps_at}
+use Rattle.goal_graph.specs.Concerned.{waiting_on}
 use Rattle.goal_graph.specs.Fault.{dep_in_range, dep_count, plain_fault}
 use Rattle.goal_graph.specs.Rows.{owner, entry, row}
 use Rattle.goal_graph.proofs.Numbers.{and_left, and_right}

@@ -7,7 +7,8 @@ use Rattle.std.specs.List.{list_all}
 use Rattle.std.proofs.lemmas.List.Sums.{sum_by-set}
 use Rattle.goal_graph.specs.declared.plan.When.TheVariants.{AfterEnd}
 use Rattle.goal_graph.specs.declared.plan.Need.{Need}
-use Rattle.goal_graph.specs.Schedule.{Plan, needs, waiting_on, deps_at}
+use Rattle.goal_graph.specs.Schedule.{Plan, needs, deps_at}
+use Rattle.goal_graph.specs.Concerned.{waiting_on}
 use Rattle.goal_graph.specs.Fault.{HasDepth, IsOp, plain_fault}
 use Rattle.goal_graph.specs.Search.{op_id, is_among, unfinished, count_of, IsSearch, CoversRank, IsFirstMissing, IsFirstInRank}
 use Rattle.goal_graph.proofs.Numbers.{ne-eqb}

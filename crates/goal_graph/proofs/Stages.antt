@@ -6,12 +6,12 @@ use Rattle.goal_graph.specs.declared.action.Class.{Class}
 use Rattle.goal_graph.specs.declared.action.Class.TheVariants.{Arrive, Serve, Data, Post, Begin}
 use Rattle.goal_graph.specs.declared.plan.Kind.{Kind}
 use Rattle.goal_graph.specs.declared.plan.Kind.TheVariants.{Calc, Send, Recv}
-use Rattle.goal_graph.specs.Schedule.{Plan, kind_at}
+use Rattle.goal_graph.specs.Schedule.{Plan, kind_at, IsSend, IsReceive}
 use Rattle.goal_graph.specs.Action.{Act, happened}
 use Rattle.goal_graph.specs.Matching.{partner, is_paired, pairs}
 use Rattle.goal_graph.specs.Allowed.{first_class, last_class, has_started, has_ended, is_ready, is_served}
 use Rattle.goal_graph.specs.Interleaving.{IsInterleaving}
-use Rattle.goal_graph.specs.Laws.{IsCalc, IsSend, IsReceive}
+use Rattle.goal_graph.specs.Laws.{IsCalc}
 use Rattle.goal_graph.proofs.Persist.{cases_some}
 use Rattle.goal_graph.proofs.Ever.{begun_ready, posted_ready, arrived_begun, data_send, data_paired, served_receive, served_message}
 use Rattle.goal_graph.proofs.Partners.{partner_of_send, partner_of_receive}

@@ -1,10 +1,19 @@
 -- Which operations wait for an operation, and which of them an action of it concerns.
-use Rattle.std.specs.Prelude.{◌≡◌, ◌⊎◌, List, Some, Contains}
+use Rattle.std.specs.Prelude.{◌≡◌, ◌⊎◌, List, Some, Contains, ◌==◌, map, filter}
 use Rattle.goal_graph.specs.declared.action.OpId.{OpId}
+use Rattle.goal_graph.specs.declared.plan.Dep.{Dep}
 use Rattle.goal_graph.specs.declared.plan.Need.{Need}
-use Rattle.goal_graph.specs.Schedule.{Plan, needed, waiting_on}
+use Rattle.goal_graph.specs.Schedule.{Plan, needed, deps_at}
 use Rattle.goal_graph.specs.Action.{Act}
 use Rattle.goal_graph.specs.Matching.{pairs, partner}
+
+-- the later side of a dependency
+abbrev pub later_of : Dep → Need
+later_of d = record { op = d.later; when = d.when }
+
+-- what needs an operation, in the order of the rank's dependencies
+unfoldable pub waiting_on : List Plan → OpId → List Need
+waiting_on plans x = map later_of (filter (λ (d : Dep). d.earlier == x.op) (deps_at plans x.rank))
 
 -- y is named in a list of needs of x's rank
 pub record IsNamedIn (needs : List Need) (x y : OpId) : Type 0 where

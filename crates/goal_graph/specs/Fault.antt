@@ -1,5 +1,5 @@
 -- When a list of plans is a schedule, and else the first rule that it breaks.
-use Rattle.std.specs.Prelude.{◌≡◌, ℕ, zero, suc, ◌+◌, ◌<◌, ◌≤◌, ◌==◌, ◌&&◌, ◌⊎◌, Bool, true, false, not, nat_lt, nat_le, List, [], ◌∷◌, length, Option, Some, None, is_some, slice_get, if◌then◌else◌}
+use Rattle.std.specs.Prelude.{◌≡◌, ℕ, zero, suc, ◌+◌, ◌==◌, ◌&&◌, ◌⊎◌, Bool, true, false, not, nat_lt, nat_le, List, [], ◌∷◌, length, Option, Some, None, is_some, slice_get, if◌then◌else◌}
 use Rattle.std.specs.List.{list_all, sum_by}
 use Rattle.std.specs.Option.{option_or}
 use Rattle.goal_graph.specs.declared.action.OpId.{OpId}
@@ -25,14 +25,6 @@ dep_count plans = sum_by (λ (p : Plan). length p.deps) plans
 
 unfoldable pub note_count : List Plan → ℕ
 note_count plans = sum_by (λ (p : Plan). length p.notes) plans
-
--- there is a rank, and all ranks, operations, dependencies and notes are within their limits
-pub record AreCountsWithin (plans : List Plan) : Type 0 where
-  pub some_rank : 0 < length plans
-  pub ranks : length plans ≤ MAX_RANKS
-  pub ops : op_count plans ≤ MAX_OPS
-  pub deps : dep_count plans ≤ MAX_DEPS
-  pub notes : note_count plans ≤ MAX_NOTES
 
 -- a number is over its limit
 abbrev pub count_over : ℕ → ℕ → Option PlanFault

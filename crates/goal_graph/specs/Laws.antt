@@ -8,30 +8,20 @@ use Rattle.goal_graph.specs.declared.action.Class.{Class}
 use Rattle.goal_graph.specs.declared.action.Class.TheVariants.{Arrive, Serve, Data, Post, Begin}
 use Rattle.goal_graph.specs.declared.plan.Kind.{Kind}
 use Rattle.goal_graph.specs.declared.plan.Kind.TheVariants.{Calc, Send, Recv}
-use Rattle.goal_graph.specs.Schedule.{Plan, op_at, kind_at, operations}
+use Rattle.goal_graph.specs.Schedule.{Plan, op_at, kind_at, operations, IsSend, IsReceive}
 use Rattle.goal_graph.specs.Action.{Act, same_op, is_act, happened, oldest}
-use Rattle.goal_graph.specs.Order.{IsBefore, IsLess, less, key}
-use Rattle.goal_graph.specs.Fault.{IsAccepted, AreCountsWithin, value_fits, has_peer}
+use Rattle.goal_graph.specs.Order.{IsBefore, IsLess, key}
+use Rattle.goal_graph.specs.Keys.{less}
+use Rattle.goal_graph.specs.Fault.{IsAccepted, value_fits, has_peer}
+use Rattle.goal_graph.specs.Limits.{AreCountsWithin}
 use Rattle.goal_graph.specs.Matching.{Pair, pair_of, fits, pairs, partner, is_paired}
 use Rattle.goal_graph.specs.Allowed.{has_started, has_ended, is_ready, is_served, allowed}
 use Rattle.goal_graph.specs.Interleaving.{IsInterleaving, IsCompleteInterleaving}
 
--- x is a calc, a send, a receive
+-- x is a calc
 pub record IsCalc (plans : List Plan) (x : OpId) : Type 0 where
   pub nanos : ℕ
   pub kind : kind_at plans x ≡ Some (Calc nanos)
-
-pub record IsSend (plans : List Plan) (x : OpId) : Type 0 where
-  pub bytes : ℕ
-  pub to : ℕ
-  pub tag : ℕ
-  pub kind : kind_at plans x ≡ Some (Send bytes to tag)
-
-pub record IsReceive (plans : List Plan) (x : OpId) : Type 0 where
-  pub room : ℕ
-  pub from : Option ℕ
-  pub tag : Option ℕ
-  pub kind : kind_at plans x ≡ Some (Recv room from tag)
 
 -- the send m and the receive x have met: the one has arrived, the other is posted, and they fit
 pub record HaveMet (plans : List Plan) (h : List Act) (m x : OpId) : Type 0 where

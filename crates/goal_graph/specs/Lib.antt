@@ -2,13 +2,14 @@
 pub mod Schedule
 pub mod Order
 pub mod Fault
-pub mod Limits
 pub mod Action
 pub mod Matching
 pub mod Allowed
 pub mod Interleaving
 pub mod IdText
 -- What only the code keeps.
+pub mod Limits
+pub mod Keys
 pub mod Widths
 pub mod Rows
 pub mod Tables

@@ -1,5 +1,5 @@
 -- The orders of operations and of actions.
-use Rattle.std.specs.Prelude.{ℕ, ◌≡◌, ◌<◌, ◌⊎◌, ◌==◌, ◌&&◌, ◌||◌, Bool, false, nat_lt, List, [], ◌∷◌}
+use Rattle.std.specs.Prelude.{ℕ, ◌≡◌, ◌<◌, ◌⊎◌, List, [], ◌∷◌}
 use Rattle.goal_graph.specs.declared.action.OpId.{OpId}
 use Rattle.goal_graph.specs.declared.action.Timed.{Timed}
 use Rattle.goal_graph.specs.Action.{place}
@@ -12,11 +12,6 @@ IsBefore x y = (x.rank < y.rank) ⊎ ((x.rank ≡ y.rank) × (x.op < y.op))
 abbrev pub IsLess : List ℕ → List ℕ → Type 0
 IsLess (m ∷ ms) (n ∷ ns) = (m < n) ⊎ ((m ≡ n) × IsLess ms ns)
 IsLess _ _ = ⊥
-
--- the same as a test
-unfoldable pub less : List ℕ → List ℕ → Bool
-less (m ∷ ms) (n ∷ ns) = nat_lt m n || ((m == n) && less ms ns)
-less _ _ = false
 
 -- the key of an action at its time: the time, its class, its rank, its number in the rank
 abbrev pub key : Timed → List ℕ

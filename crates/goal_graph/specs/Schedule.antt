@@ -1,9 +1,10 @@
 -- A schedule: for each rank a list of operations, of dependencies and of notes.
-use Rattle.std.specs.Prelude.{ℕ, ◌+◌, ◌==◌, ◌&&◌, Bool, false, Some, List, [], ◌∷◌, ◌++◌, Option, map, filter, slice_get, unwrap_or, option_and_then}
+use Rattle.std.specs.Prelude.{ℕ, ◌≡◌, ◌+◌, ◌==◌, ◌&&◌, Bool, false, Some, List, [], ◌∷◌, ◌++◌, Option, map, filter, slice_get, unwrap_or, option_and_then}
 use Rattle.std.specs.Option.{option_map}
 use Rattle.goal_graph.specs.declared.action.OpId.{OpId}
 use Rattle.goal_graph.specs.declared.plan.Op.{Op}
 use Rattle.goal_graph.specs.declared.plan.Kind.{Kind}
+use Rattle.goal_graph.specs.declared.plan.Kind.TheVariants.{Send, Recv}
 use Rattle.goal_graph.specs.declared.plan.Dep.{Dep}
 use Rattle.goal_graph.specs.declared.plan.Need.{Need}
 use Rattle.goal_graph.specs.declared.plan.Note.{Note}
@@ -22,6 +23,19 @@ op_at plans x = option_and_then (λ (p : Plan). slice_get p.ops x.op) (slice_get
 unfoldable pub kind_at : List Plan → OpId → Option Kind
 kind_at plans x = option_map (λ (o : Op). o.kind) (op_at plans x)
 
+-- x is a send, a receive
+pub record IsSend (plans : List Plan) (x : OpId) : Type 0 where
+  pub bytes : ℕ
+  pub to : ℕ
+  pub tag : ℕ
+  pub kind : kind_at plans x ≡ Some (Send bytes to tag)
+
+pub record IsReceive (plans : List Plan) (x : OpId) : Type 0 where
+  pub room : ℕ
+  pub from : Option ℕ
+  pub tag : Option ℕ
+  pub kind : kind_at plans x ≡ Some (Recv room from tag)
+
 -- two operations of one rank with the same cpu, or the same interface
 abbrev pub same_place : (Op → ℕ) → OpId → Option Op → OpId → Option Op → Bool
 same_place place x (Some o) y (Some p) = (x.rank == y.rank) && (place o == place p)
@@ -35,20 +49,13 @@ ops_at plans rank = unwrap_or (option_map (λ (p : Plan). p.ops) (slice_get plan
 unfoldable pub deps_at : List Plan → ℕ → List Dep
 deps_at plans rank = unwrap_or (option_map (λ (p : Plan). p.deps) (slice_get plans rank)) []
 
--- the earlier side of a dependency, and its later side
+-- the earlier side of a dependency
 abbrev pub earlier_of : Dep → Need
 earlier_of d = record { op = d.earlier; when = d.when }
-
-abbrev pub later_of : Dep → Need
-later_of d = record { op = d.later; when = d.when }
 
 -- what an operation needs, in the order of the rank's dependencies
 unfoldable pub needs : List Plan → OpId → List Need
 needs plans x = map earlier_of (filter (λ (d : Dep). d.later == x.op) (deps_at plans x.rank))
-
--- what needs an operation, in the order of the rank's dependencies
-unfoldable pub waiting_on : List Plan → OpId → List Need
-waiting_on plans x = map later_of (filter (λ (d : Dep). d.earlier == x.op) (deps_at plans x.rank))
 
 -- the operation that a need of x names
 abbrev pub needed : OpId → Need → OpId

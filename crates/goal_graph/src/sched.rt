@@ -1,10 +1,11 @@
 // Schedules: lists of plans that break no rule.
 ghost use Rattle.std.specs.Prelude.{◌≡◌, ◌≢◌, ◌<◌, ◌≤◌, ◌⊎◌, List, length, Some, All, IfOk, IfErr, OnOk, IsTrue, IsOkUnless, IsErrOf, slice_get};
 ghost use Rattle.goal_graph.specs.declared.fault.PlanFault.{PlanFault};
-ghost use Rattle.goal_graph.specs.Schedule.{Plan, op_at, kind_at, ops_at, needs, waiting_on, needed, operations};
-ghost use Rattle.goal_graph.specs.Laws.{IsSend};
+ghost use Rattle.goal_graph.specs.Schedule.{Plan, op_at, kind_at, ops_at, needs, needed, operations, IsSend};
+ghost use Rattle.goal_graph.specs.Concerned.{waiting_on};
 ghost use Rattle.goal_graph.specs.declared.plan.Kind.TheVariants as kind;
-ghost use Rattle.goal_graph.specs.Fault.{IsOp, IsFault, IsAccepted, AreCountsWithin, value_fits, has_peer};
+ghost use Rattle.goal_graph.specs.Fault.{IsOp, IsFault, IsAccepted, value_fits, has_peer};
+ghost use Rattle.goal_graph.specs.Limits.{AreCountsWithin};
 ghost use Rattle.goal_graph.specs.Widths.{AreInWidth};
 
 use crate::action::OpId;

@@ -1,6 +1,7 @@
 // Plans with the rows of their dependencies, and the place of each operation in the order of all.
 ghost use Rattle.std.specs.Prelude.{◌≡◌, ◌+◌, ◌<◌, ◌≤◌, ◌^◌, List, length, Some, None, IfOk, slice_get, slice_index};
-ghost use Rattle.goal_graph.specs.Schedule.{Plan, op_at, needs, waiting_on, operations};
+ghost use Rattle.goal_graph.specs.Schedule.{Plan, op_at, needs, operations};
+ghost use Rattle.goal_graph.specs.Concerned.{waiting_on};
 ghost use Rattle.goal_graph.specs.Fault.{plain_fault, op_count, IsOp};
 ghost use Rattle.goal_graph.specs.Tables.{index_of, AreStarts, IsTabled};
 

@@ -1,6 +1,7 @@
 -- What came of an input.
 use Rattle.std.proofs.Common.{◌≡◌, ◌<◌, ℕ, Bool, true, List, [], ◌∷◌, ◌++◌, length, sym, ap, ◌∙◌, append_assoc, arith}
-use Rattle.goal_base.specs.Device.{HostState, Takes}
+use Rattle.goal_base.specs.Device.{HostState}
+use Rattle.goal_base.specs.DeviceCalls.{Takes}
 use Rattle.goal_input.specs.Input.{is_compiled}
 use Rattle.goal_input.specs.Intake.{Begins}
 

@@ -1,5 +1,5 @@
 -- What the bytes of an input say: the plans of a schedule, as a compiled file or as a text.
-use Rattle.std.specs.Prelude.{ℕ, ◌≡◌, ◌≢◌, ◌≤◌, ◌==◌, Bool, true, false, List, [], ◌∷◌, length, Ok}
+use Rattle.std.specs.Prelude.{ℕ, ◌≡◌, ◌≢◌, ◌≤◌, ◌==◌, Bool, true, false, List, [], ◌∷◌, length, Ok, Some}
 use Rattle.goal_base.specs.declared.limits.TheConstants.{MAX_INPUT}
 use Rattle.goal_graph.specs.Schedule.{Plan}
 use Rattle.goal_graph.specs.Fault.{IsAccepted}
@@ -9,6 +9,7 @@ use Rattle.goal_parser.specs.Reads.{reads, plans, IsFaultOf}
 use Rattle.goal_binary.specs.declared.fault.FileFault.{FileFault}
 use Rattle.goal_binary.specs.declared.fault.FileFault.TheVariants as file
 use Rattle.goal_binary.specs.Meaning.{meaning, IsFileFault}
+use Rattle.goal_base.specs.Device.{HostState, file_of}
 
 -- a compiled file begins with the byte 0x89; any other input, the empty one too, is a text
 abbrev pub is_compiled : List ℕ → Bool
@@ -38,3 +39,11 @@ pub record IsFaultOfFile (input : List ℕ) (fault : FileFault) : Type 0 where
   pub form : is_compiled input ≡ true
   pub told : fault ≢ file.NoMemory
   pub first : IsFileFault input fault
+
+-- where the host tells its files, the file of that name is there, and P holds of its bytes
+abbrev pub ForFile : HostState → List ℕ → (List ℕ → Type 0) → Type 0
+ForFile host name P = host.tells ≡ true → (input : List ℕ) × (file_of host name ≡ Some input) × P input
+
+-- where the host tells its files and the file of that name is there, P holds of its bytes
+abbrev pub IfFile : HostState → List ℕ → (List ℕ → Type 0) → Type 0
+IfFile host name P = host.tells ≡ true → (input : List ℕ) → file_of host name ≡ Some input → P input

@@ -1,7 +1,7 @@
 -- What a reader must believe.
 pub mod Input
-pub mod Unread
 -- What only the code keeps.
+pub mod Unread
 pub mod Follows
 pub mod Intake
 -- What the clauses cite of lower crates.

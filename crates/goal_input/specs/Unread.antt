@@ -1,20 +1,12 @@
 -- What reading a schedule from a file answers.
-use Rattle.std.specs.Prelude.{ℕ, ◌≡◌, ◌≢◌, ◌<◌, true, List, length, Some, Result, Ok, Err}
+use Rattle.std.specs.Prelude.{ℕ, ◌≢◌, ◌<◌, List, length, Result, Ok, Err}
 use Rattle.goal_base.specs.declared.limits.TheConstants.{MAX_INPUT}
-use Rattle.goal_base.specs.Device.{HostState, Later, KeepsFiles, SameReadCounts, file_of}
+use Rattle.goal_base.specs.Device.{HostState, Later, KeepsFiles, SameReadCounts}
 use Rattle.goal_parser.specs.declared.faults.TextFault.TheVariants as text
 use Rattle.goal_binary.specs.declared.fault.FileFault.TheVariants as file
 use Rattle.goal_input.specs.declared.unread.Unread.{Unread}
 use Rattle.goal_input.specs.declared.unread.Unread.TheVariants as unread
-use Rattle.goal_input.specs.Input.{IsTextFault, IsFaultOfFile}
-
--- where the host tells its files, the file of that name is there, and P holds of its bytes
-abbrev pub ForFile : HostState → List ℕ → (List ℕ → Type 0) → Type 0
-ForFile host name P = host.tells ≡ true → (input : List ℕ) × (file_of host name ≡ Some input) × P input
-
--- where the host tells its files and the file of that name is there, P holds of its bytes
-abbrev pub IfFile : HostState → List ℕ → (List ℕ → Type 0) → Type 0
-IfFile host name P = host.tells ≡ true → (input : List ℕ) → file_of host name ≡ Some input → P input
+use Rattle.goal_input.specs.Input.{IsTextFault, IsFaultOfFile, ForFile}
 
 -- an input is not read as a schedule for this reason; want of memory is free
 abbrev pub IsFaultIn : List ℕ → Unread → Type 0

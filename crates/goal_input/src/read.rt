@@ -1,10 +1,11 @@
 //! Reading a schedule from a file.
 ghost use Rattle.std.specs.Prelude.{◌≡◌, ◌⊎◌, ℕ, ◌+◌, ◌≤◌, true, List, length, IfOk, IfErr};
 ghost use Rattle.goal_base.specs.declared.limits.TheConstants.{MAX_INPUT};
-ghost use Rattle.goal_base.specs.Device.{Rose, SameRest, Takes, ReadsAtMost, ReadFaulted};
-ghost use Rattle.goal_input.specs.Input.{IsReadAs};
+ghost use Rattle.goal_base.specs.Device.{Rose, SameRest, ReadsAtMost, ReadFaulted};
+ghost use Rattle.goal_base.specs.DeviceCalls.{Takes};
+ghost use Rattle.goal_input.specs.Input.{IsReadAs, ForFile};
 ghost use Rattle.goal_input.specs.Intake.{IsUnreadRest};
-ghost use Rattle.goal_input.specs.Unread.{ForFile, IsUnread, ReadsSchedule};
+ghost use Rattle.goal_input.specs.Unread.{IsUnread, ReadsSchedule};
 
 use crate::intake::Intake;
 use crate::unread::Unread;

@@ -1,6 +1,5 @@
--- What a reader must believe.
-pub mod Entries
 -- What only the code keeps.
+pub mod Entries
 pub mod Chains
 pub mod Ordered
 pub mod Indexed

@@ -10,7 +10,8 @@ use Rattle.goal_lexer.specs.declared.tokens.TokenKind.TheVariants.{Number, Size,
 use Rattle.goal_lexer.specs.declared.mode.Form.TheVariants.{Word}
 use Rattle.goal_lexer.specs.declared.mode.Mode.{Mode}
 use Rattle.goal_lexer.specs.declared.mode.Mode.TheVariants.{Between, Run}
-use Rattle.goal_lexer.specs.Bytes.{is_blank, begins_word, is_digit, is_run_byte, ends_reserved, size_mark}
+use Rattle.goal_lexer.specs.Bytes.{is_blank, begins_word, is_digit, is_run_byte, size_mark}
+use Rattle.goal_lexer.specs.Reserved.{ends_reserved}
 use Rattle.goal_lexer.specs.Numbers.{number_value}
 use Rattle.goal_lexer.specs.Words.{word_kind}
 use Rattle.goal_lexer.specs.Scan.{Scanned, next, scan, closing, ended}

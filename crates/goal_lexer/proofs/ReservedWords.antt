@@ -5,8 +5,8 @@ use Rattle.std.proofs.lemmas.Slice.Eq.{bytes_eq-Decides}
 use Rattle.std.proofs.lemmas.Bool.Decides.{nat_tests}
 use Rattle.goal_lexer.specs.declared.tokens.TokenKind.{TokenKind}
 use Rattle.goal_lexer.specs.declared.tokens.TokenKind.TheVariants.{Label}
-use Rattle.goal_lexer.specs.Bytes.{ends_reserved}
-use Rattle.goal_lexer.specs.Words.{kind_among, words_of_length, reserved_words, word_kind}
+use Rattle.goal_lexer.specs.Reserved.{ends_reserved, words_of_length}
+use Rattle.goal_lexer.specs.Words.{kind_among, reserved_words, word_kind}
 
 -- bytes of another length are not the word
 other_length : (xs ys : List ℕ) → nat_eq (length xs) (length ys) ≡ false → bytes_eq xs ys ≡ false

@@ -18,11 +18,6 @@ is_digit c = is_ascii_digit c
 abbrev pub is_run_byte : ℕ → Bool
 is_run_byte c = begins_word c || is_digit c
 
--- a byte that a reserved word ends with
-abbrev pub ends_reserved : ℕ → Bool
-ends_reserved c =
-    c == 99 || c == 100 || c == 103 || c == 107 || c == 109 || c == 111 || c == 115 || c == 117 || c == 118 || c == 121
-
 -- `{`, `}` and `:`, which are tokens by themselves
 abbrev pub left_brace : ℕ
 left_brace = 123

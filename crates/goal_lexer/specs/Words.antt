@@ -1,5 +1,5 @@
 -- The reserved words.
-use Rattle.std.specs.Prelude.{ℕ, List, [], ◌∷◌, length, codes, nat_eq, bytes_eq, if◌then◌else◌}
+use Rattle.std.specs.Prelude.{ℕ, List, [], ◌∷◌, codes, bytes_eq, if◌then◌else◌}
 use Rattle.goal_lexer.specs.declared.tokens.TokenKind.{TokenKind}
 use Rattle.goal_lexer.specs.declared.tokens.TokenKind.TheVariants.{NumRanks, Rank, Calc, Send, Recv, To, From, Tag, Cpu, Nic, Any, Requires, Irequires, Moves, Adds, Label}
 
@@ -15,12 +15,6 @@ reserved_words =
 abbrev pub kind_among : List (List ℕ × TokenKind) → List ℕ → TokenKind
 kind_among [] word = Label word
 kind_among (entry ∷ entries) word = if bytes_eq word entry.0 then entry.1 else kind_among entries word
-
--- the entries of the table whose words have n bytes
-abbrev pub words_of_length : ℕ → List (List ℕ × TokenKind) → List (List ℕ × TokenKind)
-words_of_length n [] = []
-words_of_length n (entry ∷ entries) =
-    if nat_eq n (length entry.0) then entry ∷ words_of_length n entries else words_of_length n entries
 
 -- the token of a word
 abbrev pub word_kind : List ℕ → TokenKind

@@ -1,6 +1,7 @@
 //! What a byte of the text is.
 ghost use Rattle.std.specs.Prelude.{◌≡◌};
-ghost use Rattle.goal_lexer.specs.Bytes.{is_blank, begins_word, is_digit, is_run_byte, ends_reserved};
+ghost use Rattle.goal_lexer.specs.Bytes.{is_blank, begins_word, is_digit, is_run_byte};
+ghost use Rattle.goal_lexer.specs.Reserved.{ends_reserved};
 
 /// The bytes of runs among all bytes: an `x` at each.
 const RUN_BYTES: [u8; 256] = *b"\

@@ -1,6 +1,7 @@
 //! Which token a run is.
 ghost use Rattle.std.specs.Prelude.{◌≡◌, ◌<◌, ◌≤◌, length, bytes_eq};
-ghost use Rattle.goal_lexer.specs.Words.{word_kind, kind_among, words_of_length, reserved_words};
+ghost use Rattle.goal_lexer.specs.Words.{word_kind, kind_among, reserved_words};
+ghost use Rattle.goal_lexer.specs.Reserved.{words_of_length};
 ghost use Rattle.goal_lexer.specs.Runs.{run_kind};
 
 use crate::labels::Label;

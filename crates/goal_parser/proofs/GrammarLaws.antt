@@ -29,7 +29,7 @@ use Rattle.goal_parser.specs.declared.head.Mention.{Mention}
 use Rattle.goal_parser.specs.declared.head.Verb.{Verb}
 use Rattle.goal_parser.specs.declared.head.Verb.TheVariants as verb
 use Rattle.goal_parser.specs.Sentence.{entry, item_entry, state_of}
-use Rattle.goal_parser.specs.Ranks.{blocks_with, rank_with, rank_of, blocks_of, IsNewRank}
+use Rattle.goal_parser.specs.Ranks.{blocks_with, rank_with, rank_of, blocks_of}
 use Rattle.goal_parser.specs.Actions.{begun, option_with, draft_with, draft_of, op_of, has_option}
 use Rattle.goal_parser.specs.Items.{Definition, NamedDep, NamedNote, ends_action, ended_ops, ops_with, ops_of, head_with, head_of, defined_with, defined_of, define, dep_ended, deps_with, deps_of, note_ended, notes_with, notes_of, dep_by, note_by}
 use Rattle.goal_parser.specs.Plans.{empty_plan, plans_with, plans_of}
@@ -41,7 +41,7 @@ use Rattle.goal_parser.specs.Counts.{counts_of}
 use Rattle.goal_parser.specs.Items.{defined_as, is_defined, first_outside, first_unknown, dep_uses, note_uses, used_with, used_of}
 use Rattle.goal_parser.specs.Faults.{fault_by, token_fault, syntax_fault, number_fault, rank_fault, rank_fault_of, fault_if, option_fault, defined_fault, label_fault, label_fault_of, count_fault, unknown_fault, unknown_fault_of}
 use Rattle.goal_parser.proofs.ParserLaws.{none_first, none_second, not_so, rank_passes}
-use Rattle.goal_parser.specs.Grammar.{Amount, plain, marked, Setting, tag, cpu, nic, Item, calc, send, recv, requires, irequires, moves, adds, Block, Written, number_or_any, amount_token, setting_tokens, label_tokens, item_tokens, block_tokens, text_tokens, amount, tag_of, cpu_of, nic_of, op_said, defined_before, defined_by, definitions, dep_said, note_said, plan_said, rank_said, AreSaid, used_by, is_tag, is_cpu, is_nic, AreGivenOnce, HasOptionsOnce, KeepsRules, AreRight, IsWritten}
+use Rattle.goal_parser.specs.Grammar.{Amount, plain, marked, Setting, tag, cpu, nic, Item, calc, send, recv, requires, irequires, moves, adds, Block, Written, number_or_any, amount_token, setting_tokens, label_tokens, item_tokens, block_tokens, text_tokens, amount, tag_of, cpu_of, nic_of, op_said, defined_before, defined_by, definitions, dep_said, note_said, plan_said, rank_said, AreSaid, used_by, is_tag, is_cpu, is_nic, AreGivenOnce, HasOptionsOnce, KeepsRules, AreRight, IsWritten, IsNewRank}
 
 -- what is kept of the tokens so far, but for the newest action and the newest head
 record Kept : Type 0 where

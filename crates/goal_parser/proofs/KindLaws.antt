@@ -23,7 +23,8 @@ use Rattle.goal_parser.specs.declared.names.Names.{Names}
 use Rattle.goal_parser.specs.declared.parser.Parser.{Parser}
 use Rattle.goal_parser.specs.Sentence.{entry, state_of}
 use Rattle.goal_parser.specs.Numbers.{number_within, is_within}
-use Rattle.goal_parser.specs.Ranks.{IsNewRank, ranks_with, rank_with, blocks_with, ranks_of, rank_of, blocks_of}
+use Rattle.goal_parser.specs.Ranks.{ranks_with, rank_with, blocks_with, ranks_of, rank_of, blocks_of}
+use Rattle.goal_parser.specs.Grammar.{IsNewRank}
 use Rattle.goal_parser.specs.Counts.{counts_with, counts_of, is_too_many}
 use Rattle.goal_parser.specs.Actions.{draft_with, draft_of, op_of, has_option}
 use Rattle.goal_parser.specs.Items.{Definition, NamedDep, NamedNote, define, begins_item, ends_action, ended_ops, head_with, verb_head, low_head, ops_with, defined_with, used_with, deps_with, notes_with, note_uses, note_ended, dep_uses, dep_ended, dep_by, note_by, first_unknown, head_of, ops_of, defined_of, used_of, deps_of, notes_of}

@@ -24,7 +24,8 @@ use Rattle.goal_parser.specs.Items.{Definition, is_defined, first_unknown, head_
 use Rattle.goal_parser.specs.Faults.{fault_if, fault_by, token_fault, syntax_fault, number_fault, rank_fault as rank_text_fault, rank_fault_of, option_fault, label_fault, label_fault_of, count_fault as count_text_fault, unknown_fault, unknown_fault_of}
 use Rattle.goal_parser.specs.declared.faults.TextFault.{TextFault}
 use Rattle.goal_parser.specs.declared.faults.TextFault.TheVariants as fault
-use Rattle.goal_parser.specs.Reads.{first_fault as first_text_fault, last_fault, text_fault, text_plans, reading, reads, plans, IsFaultOf, IsLimitFault}
+use Rattle.goal_parser.specs.Reads.{first_fault as first_text_fault, last_fault, text_fault, text_plans, reading, reads, plans, IsFaultOf}
+use Rattle.goal_parser.specs.FaultInText.{IsLimitFault}
 use Rattle.goal_parser.proofs.LimitLaws.{keep_limits}
 
 -- the faults of tokens are no faults of plans

@@ -21,7 +21,7 @@ use Rattle.goal_parser.specs.Sentence.{entry}
 use Rattle.goal_parser.specs.Items.{Definition, NamedDep, NamedNote, define, dep_uses, note_uses, dep_ended, note_ended, head_with, defined_with, used_with, deps_with, notes_with, head_of, defined_of, used_of}
 use Rattle.goal_parser.specs.Numbers.{is_within}
 use Rattle.goal_parser.specs.Counts.{is_too_many}
-use Rattle.goal_parser.specs.Ranks.{IsNewRank}
+use Rattle.goal_parser.specs.Grammar.{IsNewRank}
 use Rattle.goal_parser.specs.Faults.{fault_if, number_fault, rank_fault, rank_fault_of, count_fault, syntax_fault, label_fault, fault_by, token_fault}
 
 pub none_first : {A : Type 0} (a b : Option A) → option_or a b ≡ None → a ≡ None

@@ -18,7 +18,8 @@ use Rattle.goal_graph.specs.Fault.{IsFault}
 use Rattle.goal_parser.specs.Sentence.{state_of}
 use Rattle.goal_parser.specs.Faults.{token_fault}
 use Rattle.goal_parser.specs.Plans.{plans_of}
-use Rattle.goal_parser.specs.Reads.{first_fault, end_fault, last_fault, text_fault, text_plans, Reading, reading, reads, plans, faulty, IsFaultOf, fault_of_plans}
+use Rattle.goal_parser.specs.Reads.{first_fault, end_fault, last_fault, text_fault, text_plans, Reading, reading, reads, plans, faulty, IsFaultOf}
+use Rattle.goal_parser.specs.FaultInText.{fault_of_plans}
 
 or_assoc : {A : Type 0} (a b c : Option A) → option_or a (option_or b c) ≡ option_or (option_or a b) c
 or_assoc None b c = refl

@@ -1,6 +1,6 @@
 -- The sentences of a text as one writes them: their tokens, and what they mean.
-use Rattle.std.specs.Prelude.{◌≡◌, ℕ, ◌+◌, ◌<◌, ◌≤◌, ◌==◌, Bool, true, false, List, [], ◌∷◌, ◌++◌, Option, Some, None, length, map, unwrap_or, IsSome, slice_index_or, bytes_eq, if◌then◌else◌, All, ⊤, ◌^◌}
-use Rattle.std.specs.List.{flat_map, count_by, sum_by}
+use Rattle.std.specs.Prelude.{◌≡◌, ℕ, ◌+◌, ◌<◌, ◌≤◌, ◌==◌, Bool, true, false, List, [], ◌∷◌, ◌++◌, Option, Some, None, length, map, unwrap_or, IsSome, slice_index_or, bytes_eq, if◌then◌else◌, All, ⊤, ◌^◌, nat_eq}
+use Rattle.std.specs.List.{flat_map, count_by, sum_by, list_any}
 use Rattle.goal_lexer.specs.declared.tokens.Token.{Token}
 use Rattle.goal_lexer.specs.declared.tokens.TokenKind.{TokenKind}
 use Rattle.goal_lexer.specs.declared.tokens.TokenKind.TheVariants as token
@@ -14,6 +14,8 @@ use Rattle.goal_graph.specs.declared.plan.Note.TheVariants as note
 use Rattle.goal_graph.specs.Schedule.{Plan}
 use Rattle.goal_parser.specs.Items.{Definition, is_defined, op_number}
 use Rattle.goal_parser.specs.Plans.{empty_plan}
+use Rattle.goal_parser.specs.declared.sentence.State.{State}
+use Rattle.goal_parser.specs.declared.sentence.State.TheVariants as state
 
 -- a size: `10` or `10b`
 pub data Amount : Type 0 where
@@ -257,3 +259,8 @@ pub record IsWritten (tokens : List Token) (ps : List Plan) : Type 0 where
   pub spelled : map (λ (t : Token). t.kind) tokens ≡ text_tokens written
   pub right : AreRight written
   pub said : AreSaid written ps
+
+-- a rank that is given by this token had no block before
+abbrev pub IsNewRank : State → List ℕ → TokenKind → Type 0
+IsNewRank state.Block blocks (token.Number n) = list_any (nat_eq n) blocks ≡ false
+IsNewRank _ blocks _ = ⊤

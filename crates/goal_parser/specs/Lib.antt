@@ -8,10 +8,10 @@ pub mod Counts
 pub mod Faults
 pub mod Plans
 pub mod Reads
+-- What only the code keeps.
 pub mod Reader
 pub mod TextRead
 pub mod FaultWords
--- What only the code keeps.
 pub mod FaultInText
 pub mod Slots
 pub mod Taken

@@ -1,5 +1,5 @@
 -- The limits of the numbers of a text.
-use Rattle.std.specs.Prelude.{◌≡◌, ℕ, ◌-◌, ◌^◌, Bool, true, ◌&&◌, nat_le}
+use Rattle.std.specs.Prelude.{ℕ, ◌-◌, ◌^◌, Bool, true, ◌&&◌, nat_le}
 use Rattle.goal_lexer.specs.declared.tokens.TokenKind.{TokenKind}
 use Rattle.goal_lexer.specs.declared.tokens.TokenKind.TheVariants as token
 use Rattle.goal_base.specs.declared.limits.TheConstants.{MAX_RANKS, MAX_BYTES, MAX_NANOS}
@@ -39,7 +39,3 @@ unfoldable pub is_within : State → OptionWord → TokenKind → Bool
 is_within s option (token.Number n) = number_within s option n
 is_within s option (token.Size n) = number_within s option n
 is_within s option _ = true
-
--- the same, whichever option word stood last
-abbrev pub IsWithin : State → TokenKind → Type 0
-IsWithin s kind = (option : OptionWord) × (is_within s option kind ≡ true)

@@ -1,6 +1,5 @@
 -- The number of ranks, and the ranks of the blocks.
-use Rattle.std.specs.Prelude.{◌≡◌, ℕ, false, List, [], ◌∷◌, ◌++◌, nat_eq, ⊤}
-use Rattle.std.specs.List.{list_any}
+use Rattle.std.specs.Prelude.{ℕ, List, [], ◌∷◌, ◌++◌}
 use Rattle.goal_lexer.specs.declared.tokens.Token.{Token}
 use Rattle.goal_lexer.specs.declared.tokens.TokenKind.{TokenKind}
 use Rattle.goal_lexer.specs.declared.tokens.TokenKind.TheVariants as token
@@ -34,8 +33,3 @@ rank_with _ _ rank = rank
 unfoldable pub rank_of : List Token → ℕ
 rank_of [] = 0
 rank_of (t ∷ before) = rank_with (state_of before) t.kind (rank_of before)
-
--- a rank that is given by this token had no block before
-abbrev pub IsNewRank : State → List ℕ → TokenKind → Type 0
-IsNewRank state.Block blocks (token.Number n) = list_any (nat_eq n) blocks ≡ false
-IsNewRank _ blocks _ = ⊤

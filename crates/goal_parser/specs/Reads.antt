@@ -5,9 +5,6 @@ use Rattle.goal_lexer.specs.declared.tokens.Token.{Token}
 use Rattle.goal_lexer.specs.Scan.{lexed}
 use Rattle.goal_graph.specs.Schedule.{Plan}
 use Rattle.goal_graph.specs.Fault.{IsFault}
-use Rattle.goal_graph.specs.Limits.{IsLimitRule}
-use Rattle.goal_graph.specs.declared.fault.PlanFault.{PlanFault}
-use Rattle.goal_graph.specs.declared.fault.PlanFault.TheVariants as plan
 use Rattle.goal_parser.specs.declared.faults.TextFault.{TextFault}
 use Rattle.goal_parser.specs.declared.faults.TextFault.TheVariants as fault
 use Rattle.goal_parser.specs.declared.sentence.State.{State}
@@ -60,13 +57,3 @@ IsFaultOfPlans ps _ = ⊥
 abbrev pub IsFaultOf : Reading → TextFault → Type 0
 IsFaultOf (faulty first) found = first ≡ found
 IsFaultOf (plans ps) found = IsFaultOfPlans ps found
-
--- the fault of plans, as that of the text
-abbrev pub fault_of_plans : PlanFault → TextFault
-fault_of_plans plan.NoMemory = fault.NoMemory
-fault_of_plans f = fault.Plan f
-
--- the fault is that of a count or a value over its limit
-abbrev pub IsLimitFault : TextFault → Type 0
-IsLimitFault (fault.Plan rule) = IsLimitRule rule
-IsLimitFault _ = ⊥

@@ -1,5 +1,5 @@
 -- What a parser keeps of the tokens that it has taken.
-use Rattle.std.specs.Prelude.{◌≡◌, ℕ, ◌⊎◌, List, ◌∷◌, ◌++◌, None, Some, ⊤, reverse}
+use Rattle.std.specs.Prelude.{◌≡◌, ℕ, ◌⊎◌, List, ◌∷◌, ◌++◌, None, Some, ⊤, reverse, true}
 use Rattle.goal_lexer.specs.declared.tokens.Token.{Token}
 use Rattle.goal_lexer.specs.declared.tokens.TokenKind.{TokenKind}
 use Rattle.goal_lexer.specs.declared.tokens.TokenKind.TheVariants as token
@@ -20,6 +20,8 @@ use Rattle.goal_parser.specs.Faults.{token_fault}
 use Rattle.goal_parser.specs.Reads.{first_fault}
 use Rattle.goal_parser.specs.FaultInText.{fault_in_text}
 use Rattle.goal_parser.specs.Slots.{NamesHold}
+use Rattle.goal_parser.specs.declared.draft.OptionWord.{OptionWord}
+use Rattle.goal_parser.specs.Numbers.{is_within}
 
 -- What is kept of the newest item that begins with a label, as long as its tokens need it: the label, then its verb, then
 -- its first slot.
@@ -113,3 +115,7 @@ IsPlain token.To = ⊤
 IsPlain token.From = ⊤
 IsPlain token.Open = ⊤
 IsPlain _ = ⊥
+
+-- the number is within the limit of its place, after some option word
+abbrev pub IsWithin : State → TokenKind → Type 0
+IsWithin s kind = (option : OptionWord) × (is_within s option kind ≡ true)

@@ -1,7 +1,7 @@
 //! The label and the verb that an item of a block begins with.
 ghost use Rattle.std.specs.Prelude.{◌≡◌, Some};
 ghost use Rattle.goal_parser.specs.Items.{low_head, verb_head};
-ghost use Rattle.goal_parser.specs.Numbers.{IsWithin};
+ghost use Rattle.goal_parser.specs.Taken.{IsWithin};
 
 use crate::sentence::State;
 use goal_lexer::{Label, TokenKind};

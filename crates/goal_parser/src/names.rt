@@ -3,7 +3,7 @@ ghost use Rattle.std.specs.Prelude.{◌≡◌, ◌≢◌, List, [], IfErr, OnOk,
 ghost use Rattle.goal_parser.specs.declared.head.Mention.{Mention};
 ghost use Rattle.goal_parser.specs.Items.{Definition, NamedDep, NamedNote, define, dep_ended, note_ended, dep_uses, note_uses, when_of, note_as};
 ghost use Rattle.goal_parser.specs.Slots.{Keeps, NamesHold, dep_at, note_at};
-ghost use Rattle.goal_parser.specs.Numbers.{IsWithin};
+ghost use Rattle.goal_parser.specs.Taken.{IsWithin};
 ghost use Rattle.goal_parser.specs.Faults.{defined_fault};
 ghost use Rattle.goal_parser.specs.FaultInText.{fault_in_text};
 

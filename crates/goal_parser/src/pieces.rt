@@ -2,7 +2,8 @@
 ghost use Rattle.std.specs.Prelude.{◌≡◌, ◌≢◌, ℕ, ◌+◌, ◌<◌, ◌^◌, List, [], ◌++◌, length, false, None, Some, Err, OnOk, IfOk, IfErr};
 ghost use Rattle.goal_graph.specs.Fault.{IsAccepted};
 ghost use Rattle.goal_graph.specs.Widths.{AreInWidth};
-ghost use Rattle.goal_parser.specs.Reads.{reads, faulty, plans, IsFaultOf, fault_of_plans};
+ghost use Rattle.goal_parser.specs.Reads.{reads, faulty, plans, IsFaultOf};
+ghost use Rattle.goal_parser.specs.FaultInText.{fault_of_plans};
 
 use crate::faults::TextFault;
 use crate::reader::Reader;

@@ -2,7 +2,8 @@
 ghost use Rattle.std.specs.Prelude.{◌≡◌, ◌≢◌, ◌⊎◌, IfOk, IfErr, IsErrOf};
 ghost use Rattle.goal_graph.specs.Fault.{IsAccepted};
 ghost use Rattle.goal_graph.specs.Widths.{AreInWidth};
-ghost use Rattle.goal_parser.specs.Reads.{reads, plans, IsFaultOf, IsLimitFault};
+ghost use Rattle.goal_parser.specs.Reads.{reads, plans, IsFaultOf};
+ghost use Rattle.goal_parser.specs.FaultInText.{IsLimitFault};
 
 use crate::faults::TextFault;
 use crate::pieces::TextReader;

@@ -17,7 +17,8 @@ use Rattle.goal_graph.specs.declared.plan.Dep.{Dep}
 use Rattle.goal_graph.specs.declared.plan.Note.{Note}
 use Rattle.goal_graph.specs.declared.plan.Note.TheVariants.{Moves, Adds}
 use Rattle.goal_graph.specs.Schedule.{Plan}
-use Rattle.goal_graph.specs.Fault.{IsAccepted, AreCountsWithin, op_count, value_fits, has_peer, dep_in_range, note_fits, can_move, can_add, op_fault, dep_fault, note_fault, first_fault, rank_fault, count_fault, plain_fault}
+use Rattle.goal_graph.specs.Fault.{IsAccepted, op_count, value_fits, has_peer, dep_in_range, note_fits, can_move, can_add, op_fault, dep_fault, note_fault, first_fault, rank_fault, count_fault, plain_fault}
+use Rattle.goal_graph.specs.Limits.{AreCountsWithin}
 use Rattle.goal_graph.specs.Widths.{IsKindInWidth, IsOpInWidth, IsNoteInWidth, IsPlanInWidth, AreInWidth}
 use Rattle.goal_graph.proofs.ForCallers.{option_or-none, passed}
 use Rattle.goal_parser.specs.Plans.{empty_plan}

@@ -1,6 +1,6 @@
 -- The canonical text of a schedule, by lines. Words are separated by one space, each line ends with a line feed, and
 -- numbers are decimal.
-use Rattle.std.specs.Prelude.{ℕ, ◌+◌, List, [], ◌∷◌, ◌++◌, Option, Some, None, length, drop, codes, decimal}
+use Rattle.std.specs.Prelude.{ℕ, ◌+◌, List, [], ◌∷◌, ◌++◌, Option, Some, None, length, codes, decimal}
 use Rattle.std.specs.List.{flat_map}
 use Rattle.goal_graph.specs.declared.plan.Op.{Op}
 use Rattle.goal_graph.specs.declared.plan.Kind.{Kind}
@@ -73,10 +73,6 @@ unless_empty (o ∷ os) text = text
 unfoldable pub blocks : ℕ → List Plan → List ℕ
 blocks rank [] = []
 blocks rank (p ∷ ps) = unless_empty p.ops (block rank p) ++ blocks (rank + 1) ps
-
--- the lines of all ranks but the first so many
-abbrev pub blocks_from : List Plan → ℕ → List ℕ
-blocks_from plans done = blocks done (drop done plans)
 
 -- the first line of a text with so many ranks
 abbrev pub heading : ℕ → List ℕ

@@ -1,7 +1,8 @@
 -- The law that joins a schedule and its canonical text.
 use Rattle.std.specs.Prelude.{◌≡◌, List}
 use Rattle.goal_graph.specs.Schedule.{Plan}
-use Rattle.goal_graph.specs.Fault.{IsAccepted, AreCountsWithin}
+use Rattle.goal_graph.specs.Fault.{IsAccepted}
+use Rattle.goal_graph.specs.Limits.{AreCountsWithin}
 use Rattle.goal_graph.specs.Widths.{AreInWidth}
 use Rattle.goal_parser.specs.Reads.{reads, plans}
 use Rattle.goal_print.specs.Canonical.{canonical}

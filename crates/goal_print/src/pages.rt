@@ -21,7 +21,7 @@ pub struct Blocks<'a> {
 
 impl<'a> Model for Blocks<'a> {
     ghost use Rattle.std.specs.Prelude.{ℕ, List};
-    ghost use Rattle.goal_print.specs.Canonical.{blocks_from};
+    ghost use Rattle.goal_print.specs.Pages.{blocks_from};
 
     ghost Value = { List ℕ };
 

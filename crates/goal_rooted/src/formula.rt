@@ -1,7 +1,7 @@
 // The formulas of the five collectives, as counts and steps.
 ghost use Rattle.std.specs.Prelude.{◌≡◌, ◌<◌, ◌≤◌, false};
-ghost use Rattle.goal_blocks.specs.Collectives.{is_first};
-ghost use Rattle.goal_blocks.specs.Generated.{most_ranks, HasRoot, HasRoot-prop};
+ghost use Rattle.goal_blocks.specs.Generated.{most_ranks, HasRoot};
+ghost use Rattle.goal_blocks.specs.Makers.{HasRoot-prop, is_made_by_generate};
 
 use crate::steps::{
     gather_step, reduce_scatter_step, reduce_step, scan_count, scan_step, scatter_step,
@@ -9,19 +9,19 @@ use crate::steps::{
 use crate::tree::{children, upward};
 use goal_blocks::{Collective, Formula, Step, back};
 
-/// The schedule of a collective of so many ranks, which it may have.
+/// A schedule that is asked for: of a collective, among so many ranks, which it may have, with messages of so many bytes.
 #[derive(Drop)]
-pub struct Rooted {
+pub struct Asked {
     pub what: Collective,
     pub ranks: u32,
     pub bytes: u64,
-    ghost second: { is_first what ≡ false },
+    ghost made_here: { is_made_by_generate what ≡ false },
     ghost some_rank: { 0 < ranks },
     ghost few_ranks: { ranks ≤ most_ranks what },
     ghost root: { HasRoot what ranks } by { HasRoot-prop what ranks },
 }
 
-impl Formula for Rooted {
+impl Formula for Asked {
     ghost use Rattle.goal_blocks.specs.Generated.{count_in, entry_in};
 
     ghost rank_count = { λ f. f.ranks };

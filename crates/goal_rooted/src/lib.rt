@@ -1,13 +1,12 @@
 //! The schedules of the reduce, gather, scatter, reduce_scatter and scan.
 #![tactic(auto)]
 
-mod fault;
 mod formula;
 mod making;
 mod steps;
 mod tree;
 
-pub use fault::RootedFault;
+pub use goal_blocks::GenFault;
 pub use making::generate_rooted;
 
 #[cfg(test)]

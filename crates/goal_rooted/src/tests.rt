@@ -1,11 +1,11 @@
 //! What no clause says: that the calls succeed. The counts are worked by hand from the rounds.
-use crate::{RootedFault, generate_rooted};
+use crate::{GenFault, generate_rooted};
 use goal_blocks::Collective;
 use std::test::Fail;
 
 // How many operations the schedule has, with messages of eight bytes.
 fn count(rt: &HostRuntime, what: Collective, ranks: u32) -> Result<u32, Fail> {
-    if what.is_first() {
+    if what.is_made_by_generate() {
         return Err(Fail::from("none of the five"));
     }
     let sched = generate_rooted(rt.alloc(), what, ranks, 8)
@@ -46,8 +46,8 @@ fn most_ranks(rt: HostRuntime) -> Result<(), Fail> {
 #[test]
 fn no_schedule(rt: HostRuntime) -> Result<(), Fail> {
     let fault = generate_rooted(rt.alloc(), Collective::Scan, 2_049, 8).err();
-    assert_eq!(rt; fault, Some(RootedFault::Ranks { limit: 2_048 }));
+    assert_eq!(rt; fault, Some(GenFault::Ranks { limit: 2_048 }));
     let fault = generate_rooted(rt.alloc(), Collective::Gather { root: 4 }, 4, 8).err();
-    assert_eq!(rt; fault, Some(RootedFault::Root));
+    assert_eq!(rt; fault, Some(GenFault::Root));
     Ok(())
 }

@@ -1,7 +1,6 @@
--- What a reader must believe.
+-- What only the code keeps.
 pub mod Sums
 pub mod Kept
--- What only the code keeps.
 pub mod Summed
 pub mod Parts
 -- What the clauses cite of lower crates.

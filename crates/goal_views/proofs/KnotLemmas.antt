@@ -11,7 +11,8 @@ use Rattle.goal_graph.specs.declared.action.Why.TheVariants.{Op, Partner, Alone}
 use Rattle.goal_graph.specs.Schedule.{Plan, operations}
 use Rattle.sim_params.specs.Costs.{CostModel}
 use Rattle.sim_params.specs.Stuck.{lacks_end}
-use Rattle.sim_stuck.specs.StuckList.{stuck_list, with_reason, NamesListed}
+use Rattle.sim_stuck.specs.StuckList.{stuck_list, with_reason}
+use Rattle.sim_stuck.specs.Laws.{NamesListed}
 use Rattle.sim_cycles.specs.Knots.{named}
 use Rattle.sim_cycles.specs.Laws.{NamesListed as NamesAreListed}
 

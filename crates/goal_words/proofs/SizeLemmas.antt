@@ -6,7 +6,8 @@ use Rattle.goal_base.specs.declared.limits.TheConstants.{MAX_RANKS, MAX_BYTES}
 use Rattle.sim_params.specs.Costs.{Numbers}
 use Rattle.goal_words.specs.declared.kinds.TheConstants.{MAX_ROUNDS}
 use Rattle.goal_words.specs.Options.{value_of, within_limits}
-use Rattle.goal_words.specs.Words.{Command, Sim, Waits, Knots, Gen, Certify, Probe, IsSized, sim_of, waits_of, knots_of, nodes_of, compile_of, show_of, gen_of, certify_of, probe_of, number_from, collective_of, command_by}
+use Rattle.goal_words.specs.Words.{Command, Sim, Waits, Knots, Gen, Certify, Probe, sim_of, waits_of, knots_of, nodes_of, compile_of, show_of, gen_of, certify_of, probe_of, number_from, collective_of, command_by}
+use Rattle.goal_words.specs.Sentences.{IsSized}
 
 tested : (most n : ℕ) (low high : Bool) → nat_le n most ≡ high → IfSome (if low && high then Some n else None) (λ m. m ≤ most)
 tested most n true true h = leb-true n most h

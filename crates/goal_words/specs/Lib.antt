@@ -2,6 +2,7 @@
 pub mod Options
 pub mod Words
 -- What only the code keeps.
+pub mod Sentences
 pub mod Reading
 -- Laws.
 pub mod Laws

@@ -1,5 +1,5 @@
 -- The command lines of `goal`, by the words after the program's name.
-use Rattle.std.specs.Prelude.{ℕ, ◌≤◌, ◌||◌, ◌&&◌, nat_le, List, [], ◌∷◌, Option, Some, None, is_some, unwrap_or, map, codes, bytes_eq, string_bytes, if◌then◌else◌}
+use Rattle.std.specs.Prelude.{ℕ, ◌||◌, ◌&&◌, nat_le, List, [], ◌∷◌, Option, Some, None, is_some, unwrap_or, map, codes, bytes_eq, string_bytes, if◌then◌else◌}
 use Rattle.std.specs.Option.{option_map, option_and_then}
 use Rattle.std.specs.declared.alloc.Global.{Global}
 use Rattle.std.specs.declared.string.String.{String}
@@ -8,17 +8,12 @@ use Rattle.goal_blocks.specs.declared.collective.Collective.{Collective}
 use Rattle.goal_blocks.specs.declared.collective.Collective.TheVariants.{Bcast, Barrier, Allgather, Allreduce, Alltoall, Reduce, Gather, Scatter, ReduceScatter, Scan}
 use Rattle.sim_params.specs.Costs.{Numbers}
 use Rattle.sim_params.specs.Numbers.{numbers}
-use Rattle.goal_words.specs.declared.line.Line.{Line}
-use Rattle.goal_words.specs.declared.line.Line.TheVariants as line
 use Rattle.goal_words.specs.declared.kinds.TheConstants.{MAX_ROOT, MAX_ROUNDS}
 use Rattle.goal_words.specs.declared.sentence.Source.{Source}
 use Rattle.goal_words.specs.declared.sentence.Source.TheVariants as source
-use Rattle.goal_words.specs.declared.sentence.Costing.{Costing}
-use Rattle.goal_words.specs.declared.sentence.Costing.TheVariants as costing
 use Rattle.goal_words.specs.declared.sentence.RunView.TheVariants as run
 use Rattle.goal_words.specs.declared.sentence.View.{View}
 use Rattle.goal_words.specs.declared.sentence.View.TheVariants as view
-use Rattle.goal_words.specs.declared.sentence.Sentence.{Sentence}
 use Rattle.goal_words.specs.Options.{Place, run_options, root_option, value_of, places, plain_words, is_right, value_at, numbers_of, within_limits}
 
 -- What the actions of a schedule cost.
@@ -74,31 +69,6 @@ Certify what name = asks (source.File name) Unpriced (view.Verdict what)
 -- to run the probe of so many rounds that are drawn from a seed, with these parameters, and to sum it up
 abbrev pub Probe : ℕ → ℕ → Numbers → Command
 Probe rounds seed numbers = asks (source.Drawn rounds seed) (ByNumbers numbers) (view.Run run.Sum)
-
--- a view of a run
-abbrev pub IsRun : View → Type 0
-IsRun (view.Run how) = Unit {0}
-IsRun view.Text = ⊥
-IsRun (view.File name) = ⊥
-IsRun (view.Verdict what) = ⊥
-
-abbrev pub PricedFor : Pricing → View → Type 0
-PricedFor (ByNumbers numbers) v = IsRun v
-PricedFor (ByMachine name) v = IsRun v
-PricedFor Unpriced v = IsRun v → ⊥
-
--- what is shown by its run has costs, and nothing else has
-abbrev pub IsPriced : Command → Type 0
-IsPriced c = PricedFor c.costs c.view
-
--- the messages or the rounds of a source are not too many
-abbrev pub IsSizedSource : Source → Type 0
-IsSizedSource (source.File name) = Unit {0}
-IsSizedSource (source.Made what ranks bytes) = bytes ≤ MAX_BYTES
-IsSizedSource (source.Drawn rounds seed) = rounds ≤ MAX_ROUNDS
-
-abbrev pub IsSized : Command → Type 0
-IsSized c = IsSizedSource c.source
 
 -- the options that a command takes, by the first word
 abbrev pub options_of : List ℕ → List (List ℕ)
@@ -215,24 +185,3 @@ command_of (first ∷ words) =
 -- the same of the words as they are handed over
 abbrev pub command_in : List (String Global) → Option Command
 command_in words = command_of (map string_bytes words)
-
--- the command of a line
-abbrev pub command : Line → Command
-command (line.Sim name params) = Sim name (numbers params)
-command (line.Waits name params) = Waits name (numbers params)
-command (line.Knots name params) = Knots name (numbers params)
-command (line.Nodes name machine) = Nodes name machine
-command (line.Compile name out) = Compile name out
-command (line.Show name) = Show name
-command (line.Gen what ranks bytes) = Gen what ranks bytes
-command (line.Certify what name) = Certify what name
-command (line.Probe rounds seed params) = Probe rounds seed (numbers params)
-
--- the same of its parts
-abbrev pub pricing : Costing → Pricing
-pricing (costing.Params params) = ByNumbers (numbers params)
-pricing (costing.Machine name) = ByMachine name
-pricing costing.None = Unpriced
-
-abbrev pub said : Sentence → Command
-said s = asks s.source (pricing s.costs) s.view

@@ -1,7 +1,8 @@
 // What a command line asks for, as one sentence: a schedule from a source, with what its actions cost, is shown.
 ghost use Rattle.std.specs.Prelude.{◌≡◌};
 ghost use Rattle.sim_params.specs.Numbers.{numbers};
-ghost use Rattle.goal_words.specs.Words.{ByNumbers, Unpriced, asks, command, said, IsPriced};
+ghost use Rattle.goal_words.specs.Words.{ByNumbers, Unpriced, asks};
+ghost use Rattle.goal_words.specs.Sentences.{command, said, IsPriced};
 
 use crate::line::{FileName, Line};
 use goal_blocks::Collective;

@@ -1,7 +1,8 @@
 -- The laws of machines.
 use Rattle.std.proofs.Common.{ℕ, Bool, true, false, Option, Some, None, ◌≡◌, ◌<◌, ◌==◌, length, slice_get, unwrap_or, if◌then◌else◌, refl, ap, eq-eqb}
 use Rattle.sim_params.specs.Costs.{Numbers, log_gops}
-use Rattle.sim_classes.specs.Machine.{Known, IsWhole, class_between, class_by, class_of, numbers_of, costs_between, costs_of}
+use Rattle.sim_classes.specs.Machine.{Known, class_between, class_by, class_of, numbers_of, costs_between, costs_of}
+use Rattle.sim_classes.specs.Parts.{IsWhole}
 
 between_there : (m : Known) (a b : ℕ) → IsWhole m → class_between m a b < length m.classes
 between_there m a b is = go (a == b) (m.told a b) refl

@@ -5,7 +5,8 @@ use Rattle.std.specs.Str.Parse.{digits_value}
 use Rattle.sim_classes.specs.declared.fault.MachineFault.{MachineFault}
 use Rattle.sim_classes.specs.declared.fault.MachineFault.TheVariants.{Syntax}
 use Rattle.sim_classes.specs.Machine.{Known}
-use Rattle.sim_classes.specs.Form.{Form, Fixed, Value, End, Test, said, or_fault, is_number, value_of}
+use Rattle.sim_classes.specs.Form.{Form, Fixed, Value, End, Test, said, or_fault, is_number}
+use Rattle.sim_classes.specs.Left.{value_of}
 
 pub fixed_next : (word w : List ℕ) (ws : List (List ℕ)) (place : ℕ) (rest : Form) → bytes_eq w word ≡ true → said (Fixed word rest) place (w ∷ ws) ≡ said rest (place + 1) ws
 unfolding said

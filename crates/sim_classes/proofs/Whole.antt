@@ -7,7 +7,8 @@ use Rattle.sim_params.specs.Costs.{Numbers}
 use Rattle.sim_params.specs.Numbers.{asked}
 use Rattle.sim_classes.specs.declared.fault.MachineFault.{MachineFault}
 use Rattle.sim_classes.specs.declared.fault.MachineFault.TheVariants.{Syntax, Number}
-use Rattle.sim_classes.specs.Machine.{Known, IsWhole, machine_with}
+use Rattle.sim_classes.specs.Machine.{Known, machine_with}
+use Rattle.sim_classes.specs.Parts.{IsWhole}
 use Rattle.sim_classes.specs.Form.{Form, Fixed, Value, End, said, or_fault, is_number, words, class_number, telling, triples, nodes_part, classes_part, machine_form, machine}
 
 -- a fact that holds of each machine that words of a form may say

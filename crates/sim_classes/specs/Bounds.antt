@@ -1,8 +1,9 @@
 -- The bound on the costs of a machine.
 use Rattle.std.specs.Prelude.{ℕ, zero, suc, List, [], ◌∷◌, map, slice_get, unwrap_or}
-use Rattle.sim_params.specs.Costs.{IsBounded, log_gops}
+use Rattle.sim_params.specs.Costs.{log_gops}
 use Rattle.sim_params.specs.Numbers.{numbers, asked}
 use Rattle.sim_params.specs.Bounds.{up_bound, log_gops_bounded}
+use Rattle.sim_params.specs.Bounded.{IsBounded}
 use Rattle.sim_params.specs.declared.params.Params.{Params}
 use Rattle.sim_classes.specs.declared.machine.Machine.{Machine}
 use Rattle.sim_classes.specs.Machine.{costs_of, costs_between, class_of}

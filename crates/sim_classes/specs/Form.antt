@@ -24,10 +24,6 @@ words text = filter (λ (w : List ℕ). nat_lt 0 (length w)) (slice_split is_bla
 abbrev pub is_number : List ℕ → Bool
 is_number w = nat_lt 0 (length w) && nat_le (length w) 20 && list_all is_ascii_digit w
 
--- the value of a number
-abbrev pub value_of : List ℕ → Option ℕ
-value_of w = if is_number w then Some (digits_value 10 w) else None
-
 -- a test of a number: None where it passes, or else the fault at the number's place
 abbrev pub Test : Type 0
 Test = ℕ → Option (ℕ → MachineFault)

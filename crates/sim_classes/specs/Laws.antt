@@ -1,8 +1,9 @@
 -- The laws of machines. The function `laws_of_machines` ensures each.
 use Rattle.std.specs.Prelude.{ℕ, ◌≡◌, ◌<◌, List, length, slice_get, Some, Ok}
 use Rattle.sim_params.specs.Costs.{Numbers, log_gops}
-use Rattle.sim_classes.specs.Machine.{Known, IsWhole, class_of, numbers_of, costs_of}
+use Rattle.sim_classes.specs.Machine.{Known, class_of, numbers_of, costs_of}
 use Rattle.sim_classes.specs.Form.{machine}
+use Rattle.sim_classes.specs.Parts.{IsWhole}
 
 -- each message has a class of the machine
 abbrev pub ClassesAreThere : Type 0

@@ -1,9 +1,9 @@
 -- What a reader must believe.
 pub mod Machine
-pub mod Parts
-pub mod Known
 pub mod Form
 -- What only the code keeps.
+pub mod Parts
+pub mod Known
 pub mod Left
 pub mod Rows
 pub mod Bounds

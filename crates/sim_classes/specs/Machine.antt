@@ -1,5 +1,5 @@
 -- A machine: classes of messages, each with its own parameters, and the class of each message by the nodes of its ranks.
-use Rattle.std.specs.Prelude.{ℕ, ◌≡◌, ◌<◌, ◌==◌, Bool, List, length, slice_get, Option, Some, None, unwrap_or, if◌then◌else◌}
+use Rattle.std.specs.Prelude.{ℕ, ◌==◌, Bool, List, slice_get, Option, Some, None, unwrap_or, if◌then◌else◌}
 use Rattle.sim_params.specs.Costs.{Numbers, CostModel, log_gops}
 use Rattle.sim_params.specs.Numbers.{asked}
 
@@ -54,9 +54,3 @@ costs_of m = record {
   latency = λ from to. (costs_between m from to).latency from to;
   eager = λ from to bytes. (costs_between m from to).eager from to bytes;
 }
-
--- each class that is named is one of the machine's
-pub record IsWhole (m : Known) : Type 0 where
-  pub inside : m.inside < length m.classes
-  pub usual : m.usual < length m.classes
-  pub told : (a b c : ℕ) → m.told a b ≡ Some c → c < length m.classes

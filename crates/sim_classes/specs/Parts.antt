@@ -1,5 +1,5 @@
 -- What the parts of a machine of the code tell.
-use Rattle.std.specs.Prelude.{ℕ, ◌+◌, ◌*◌, nat_lt, List, map, Option, None, if◌then◌else◌}
+use Rattle.std.specs.Prelude.{ℕ, ◌+◌, ◌*◌, nat_lt, List, map, Option, None, if◌then◌else◌, ◌≡◌, ◌<◌, length, Some}
 use Rattle.std.specs.Ordering.{nat_cmp}
 use Rattle.std.specs.BTreeMap.{is_at}
 use Rattle.std.specs.Map.{lookup}
@@ -17,3 +17,9 @@ told_by told a b = if nat_lt b 4294967296 then lookup (is_at (nat_cmp (pair_key 
 
 abbrev pub known_of : List Params → ℕ → ℕ → List ℕ → List (ℕ × ℕ) → Known
 known_of classes inside usual nodes told = machine_with (map numbers classes) inside usual nodes (told_by told)
+
+-- each class that is named is one of the machine's
+pub record IsWhole (m : Known) : Type 0 where
+  pub inside : m.inside < length m.classes
+  pub usual : m.usual < length m.classes
+  pub told : (a b c : ℕ) → m.told a b ≡ Some c → c < length m.classes

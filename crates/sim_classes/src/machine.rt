@@ -1,7 +1,6 @@
 //! Machines.
 ghost use Rattle.std.specs.Prelude.{◌≡◌, ◌≤◌, length};
-ghost use Rattle.sim_classes.specs.Machine.{IsWhole};
-ghost use Rattle.sim_classes.specs.Parts.{known_of};
+ghost use Rattle.sim_classes.specs.Parts.{known_of, IsWhole};
 
 use crate::told::Told;
 use sim_params::Params;

@@ -2,7 +2,8 @@
 ghost use Rattle.std.specs.Prelude.{ℕ, List, Err, ◌≡◌, ◌≢◌, ◌+◌, ◌<◌, ◌≤◌, ◌^◌, [], ◌∷◌, length, not, IfOk, IfErr, IfSome, IfNone};
 ghost use Rattle.std.specs.List.{prefix_len, list_all};
 ghost use Rattle.std.specs.Char.{is_ascii_digit};
-ghost use Rattle.sim_classes.specs.Form.{Form, Fixed, Value, End, Test, words, is_blank, or_fault, said, between, class_number, value_of};
+ghost use Rattle.sim_classes.specs.Form.{Form, Fixed, Value, End, Test, words, is_blank, or_fault, said, between, class_number};
+ghost use Rattle.sim_classes.specs.Left.{value_of};
 ghost use Rattle.sim_classes.specs.Machine.{Known};
 ghost use Rattle.sim_params.specs.Costs.{Numbers};
 

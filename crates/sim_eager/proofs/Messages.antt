@@ -2,9 +2,9 @@
 use Rattle.std.proofs.Common.{◌≡◌, ℕ, ◌<◌, ◌^◌, true, leb-true, List, subst, arith}
 use Rattle.goal_graph.specs.declared.action.OpId.{OpId}
 use Rattle.goal_graph.specs.declared.plan.Kind.{Kind}
-use Rattle.goal_graph.specs.Schedule.{Plan, op_at}
+use Rattle.goal_graph.specs.Schedule.{Plan, op_at, IsSend}
 use Rattle.goal_graph.specs.Fault.{IsAccepted, value_fits}
-use Rattle.goal_graph.specs.Laws.{IsSend, ValuesAreWithin}
+use Rattle.goal_graph.specs.Laws.{ValuesAreWithin}
 use Rattle.goal_graph.proofs.ForCallers.{cases_some, kind_of_op, send_is_op}
 use Rattle.sim_eager.specs.Messages.{IsMessage}
 

@@ -1,6 +1,6 @@
--- What a reader must believe.
+-- What only the code keeps.
 pub mod Messages
 -- What the clauses cite of lower crates.
-pub use Rattle.goal_graph.specs.Laws
 pub use Rattle.sim_params.specs.Costs
 pub use Rattle.sim_resources.specs.FreeTimes
+pub use Rattle.goal_graph.specs.Schedule

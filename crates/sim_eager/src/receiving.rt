@@ -1,6 +1,6 @@
 // A receive takes its message.
 ghost use Rattle.std.specs.Prelude.{◌≡◌, ◌+◌, ◌<◌, ◌^◌, max};
-ghost use Rattle.goal_graph.specs.Laws.{IsReceive};
+ghost use Rattle.goal_graph.specs.Schedule.{IsReceive};
 ghost use Rattle.sim_params.specs.Costs.{over, gap};
 ghost use Rattle.sim_resources.specs.FreeTimes.{SameFreeTimes, cpu_free, rx_free, hold_cpu, hold_rx};
 ghost use Rattle.sim_eager.specs.Messages.{IsMessage};

@@ -11,7 +11,8 @@ use Rattle.goal_graph.specs.declared.plan.Kind.TheVariants.{Calc, Send, Recv}
 use Rattle.goal_graph.specs.declared.plan.Need.{Need}
 use Rattle.goal_graph.specs.declared.plan.When.{When}
 use Rattle.goal_graph.specs.declared.plan.When.TheVariants.{AfterEnd, AfterStart}
-use Rattle.goal_graph.specs.Schedule.{Plan, kind_at, deps_at, earlier_of, later_of, needs, needed, waiting_on}
+use Rattle.goal_graph.specs.Schedule.{Plan, kind_at, deps_at, earlier_of, needs, needed}
+use Rattle.goal_graph.specs.Concerned.{later_of, waiting_on}
 use Rattle.goal_graph.specs.Action.{Act, happened}
 use Rattle.goal_graph.specs.Matching.{Pair, new_pair, add_pair, pairs, partner, is_paired}
 use Rattle.goal_graph.specs.Allowed.{first_class, last_class, is_met, is_ready, is_served, may, allowed}

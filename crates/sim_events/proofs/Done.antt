@@ -4,12 +4,11 @@ use Rattle.std.proofs.lemmas.Bool.{both_ways, or_cases}
 use Rattle.goal_graph.specs.declared.action.OpId.{OpId}
 use Rattle.goal_graph.specs.declared.action.Class.{Class}
 use Rattle.goal_graph.specs.declared.action.Class.TheVariants.{Arrive, Serve, Data, Post, Begin}
-use Rattle.goal_graph.specs.Schedule.{Plan}
+use Rattle.goal_graph.specs.Schedule.{Plan, IsReceive}
 use Rattle.goal_graph.specs.Action.{Act, place, happened}
 use Rattle.goal_graph.specs.Matching.{pairs, partner}
 use Rattle.goal_graph.specs.Allowed.{is_served, allowed}
 use Rattle.goal_graph.specs.Interleaving.{IsInterleaving}
-use Rattle.goal_graph.specs.Laws.{IsReceive}
 use Rattle.goal_graph.proofs.ForCallers.{allowed_fresh, allowed_data, allowed_post, allowed_serve, arrived_begun, fits_send, not_send_receive, partner_of_receive, served_message}
 
 another : (c : Class) → (place c ≡ place Serve → ⊥) → c ≢ Serve

@@ -12,11 +12,10 @@ use Rattle.goal_graph.specs.declared.plan.Kind.TheVariants.{Calc, Send, Recv}
 use Rattle.goal_graph.specs.declared.plan.Need.{Need}
 use Rattle.goal_graph.specs.declared.plan.When.{When}
 use Rattle.goal_graph.specs.declared.plan.When.TheVariants.{AfterEnd, AfterStart}
-use Rattle.goal_graph.specs.Schedule.{Plan, kind_at, needs, needed}
+use Rattle.goal_graph.specs.Schedule.{Plan, kind_at, needs, needed, IsSend}
 use Rattle.goal_graph.specs.Action.{happened, plain, plain_act}
 use Rattle.goal_graph.specs.Matching.{pairs, is_paired}
 use Rattle.goal_graph.specs.Allowed.{is_met, is_ready, is_served, may, allowed}
-use Rattle.goal_graph.specs.Laws.{IsSend}
 use Rattle.goal_graph.proofs.ForCallers.{and_left, and_right, started_send, started_stays, ended_stays, is_some_from}
 use Rattle.sim_params.specs.Costs.{CostModel, flight, is_eager}
 use Rattle.sim_params.specs.Times.{since, mate, greatest, met_at, ready, cpu, tx, rx, paired_at, there_at, time_of, time}

@@ -24,5 +24,4 @@ pub use Rattle.sim_state.specs.Cursors
 pub use Rattle.sim_state.specs.Enabled
 pub use Rattle.sim_state.specs.Engine
 pub use Rattle.sim_state.specs.Free
-pub use Rattle.goal_graph.specs.Laws as ScheduleLaws
 pub use Rattle.sim_params.specs.Laws as RunLaws

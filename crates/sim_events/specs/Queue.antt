@@ -8,7 +8,8 @@ use Rattle.goal_graph.specs.declared.action.Class.TheVariants.{Serve, Data, Post
 use Rattle.goal_graph.specs.declared.plan.Need.{Need}
 use Rattle.goal_graph.specs.declared.plan.When.{When}
 use Rattle.goal_graph.specs.declared.plan.When.TheVariants.{AfterEnd, AfterStart}
-use Rattle.goal_graph.specs.Schedule.{Plan, needed, waiting_on, operations}
+use Rattle.goal_graph.specs.Schedule.{Plan, needed, operations}
+use Rattle.goal_graph.specs.Concerned.{waiting_on}
 use Rattle.sim_params.specs.Costs.{CostModel}
 use Rattle.sim_params.specs.Times.{mate, cpu, Possible}
 use Rattle.sim_heaps.specs.Map.{key_at}

@@ -17,7 +17,8 @@ use Rattle.goal_graph.specs.Matching.{fits, pairs, partner}
 use Rattle.goal_graph.specs.Allowed.{has_started, has_ended, is_ready, allowed}
 use Rattle.sim_params.specs.Costs.{CostModel, Numbers, least_up_to, rounded_up, log_gops, is_eager}
 use Rattle.sim_params.specs.Times.{since, greatest, cpu, tx, rx, start, end, ready, time}
-use Rattle.goal_graph.specs.Order.{less, key}
+use Rattle.goal_graph.specs.Order.{key}
+use Rattle.goal_graph.specs.Keys.{less}
 use Rattle.sim_params.specs.Stuck.{first_unmet, first_absent, reason}
 use Rattle.sim_params.specs.Budget.{share, budget}
 

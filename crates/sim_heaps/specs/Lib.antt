@@ -1,6 +1,5 @@
--- What a reader must believe.
-pub mod Map
 -- What only the code keeps.
+pub mod Map
 pub mod Places
 pub mod Heap
 pub mod Item

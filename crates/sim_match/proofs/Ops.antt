@@ -11,9 +11,9 @@ use Rattle.goal_graph.specs.declared.action.Class.{Class}
 use Rattle.goal_graph.specs.declared.action.Class.TheVariants.{Arrive, Serve, Data, Post, Begin}
 use Rattle.goal_graph.specs.declared.plan.Kind.{Kind}
 use Rattle.goal_graph.specs.declared.plan.Kind.TheVariants.{Calc, Send, Recv}
-use Rattle.goal_graph.specs.Schedule.{Plan, kind_at, operations}
+use Rattle.goal_graph.specs.Schedule.{Plan, kind_at, operations, IsSend, IsReceive}
 use Rattle.goal_graph.specs.Action.{Act, place, happened, oldest}
-use Rattle.goal_graph.specs.Laws.{IsSend, IsReceive, has_class}
+use Rattle.goal_graph.specs.Laws.{has_class}
 use Rattle.goal_graph.proofs.ForCallers.{place_same, is_act_class, is_act_op, is_act_from, happened_stays, happened_new, happened_now, happened_none, happened_cases, happened_before, kind_listed, count_falls, count_le}
 use Rattle.sim_match.specs.PostsAndArrivals.{is_post_or_arrival_class}
 use Rattle.sim_match.specs.Waiting.{ops_of, is_message, is_message_kind}

@@ -5,10 +5,9 @@ use Rattle.std.proofs.lemmas.Bool.{both_ways, and_parts, and_from, eqb-true, fal
 use Rattle.goal_graph.specs.declared.action.OpId.{OpId}
 use Rattle.goal_graph.specs.declared.action.Class.{Class}
 use Rattle.goal_graph.specs.declared.action.Class.TheVariants.{Arrive, Post}
-use Rattle.goal_graph.specs.Schedule.{Plan}
+use Rattle.goal_graph.specs.Schedule.{Plan, IsSend, IsReceive}
 use Rattle.goal_graph.specs.Action.{Act, place, same_op, happened, oldest}
 use Rattle.goal_graph.specs.Matching.{Pair, pair_of, other_in, fits, is_paired, is_open_receive, is_open_send, pairs, partner}
-use Rattle.goal_graph.specs.Laws.{IsSend, IsReceive}
 use Rattle.goal_graph.proofs.ForCallers.{act_of, place_same, same_op_true, same_op_itself, not_send_receive, fits_send, IsFound, oldest_some, oldest_none, pairs_same, not_arrived, not_posted}
 use Rattle.sim_match.specs.PostsAndArrivals.{send_for, receive_for, NoSendFits, NoReceiveFits}
 use Rattle.sim_match.proofs.Pairs.{pairs_with}

@@ -9,9 +9,8 @@ use Rattle.std.proofs.lemmas.List.Sums.{AllPass-from_list_all, position_or_len_i
 use Rattle.goal_graph.specs.declared.action.OpId.{OpId}
 use Rattle.goal_graph.specs.declared.plan.Kind.{Kind}
 use Rattle.goal_graph.specs.declared.plan.Kind.TheVariants.{Calc, Send, Recv}
-use Rattle.goal_graph.specs.Schedule.{Plan, kind_at, operations}
+use Rattle.goal_graph.specs.Schedule.{Plan, kind_at, operations, IsSend, IsReceive}
 use Rattle.goal_graph.specs.Matching.{accepts, fits, fits_kinds}
-use Rattle.goal_graph.specs.Laws.{IsSend, IsReceive}
 use Rattle.goal_graph.proofs.ForCallers.{kind_listed, same_choice_true, same_choice_itself}
 use Rattle.sim_match.specs.declared.pattern.Pattern.{Pattern}
 use Rattle.sim_match.specs.Patterns.{same_choice, same_pattern, pattern_of, patterns_for, same_number, number, list_number, numbers_for, list_of, lists_for, for_list, IsListed, AreListed}

@@ -10,11 +10,11 @@ use Rattle.std.proofs.lemmas.List.Quantifiers.{all_pairs_push}
 use Rattle.goal_graph.specs.declared.action.OpId.{OpId}
 use Rattle.goal_graph.specs.declared.action.Class.{Class}
 use Rattle.goal_graph.specs.declared.action.Class.TheVariants.{Arrive, Post}
-use Rattle.goal_graph.specs.Schedule.{Plan, kind_at, operations}
+use Rattle.goal_graph.specs.Schedule.{Plan, kind_at, operations, IsSend, IsReceive}
 use Rattle.goal_graph.specs.Fault.{IsOp}
 use Rattle.goal_graph.specs.Action.{Act, place, same_op, happened}
 use Rattle.goal_graph.specs.Matching.{Pair, pair_of, fits, is_paired, new_pair, pairs}
-use Rattle.goal_graph.specs.Laws.{IsSend, IsReceive, has_class}
+use Rattle.goal_graph.specs.Laws.{has_class}
 use Rattle.goal_graph.proofs.ForCallers.{op_of_kind, pairs_same, place_same, same_op_from, cases_op, same_op_true, same_op_itself, same_op_swapped, not_send_receive, not_arrived, not_posted}
 use Rattle.sim_match.specs.declared.pattern.Pattern.{Pattern}
 use Rattle.sim_match.specs.Patterns.{same_number, own_pattern, list_number, own_list, list_of, AreListed}

@@ -1,6 +1,5 @@
--- What a reader must believe.
-pub mod PostsAndArrivals
 -- What only the code keeps.
+pub mod PostsAndArrivals
 pub mod Waiting
 pub mod Patterns
 pub mod ListNumbers
@@ -18,4 +17,3 @@ pub use Rattle.goal_graph.specs.Action
 pub use Rattle.goal_graph.specs.Fault
 pub use Rattle.goal_graph.specs.Matching
 pub use Rattle.goal_graph.specs.Schedule
-pub use Rattle.goal_graph.specs.Laws as ScheduleLaws

@@ -8,8 +8,7 @@ use Rattle.std.specs.Ordering.{nat_cmp, ordering_then}
 use Rattle.goal_graph.specs.declared.action.OpId.{OpId}
 use Rattle.goal_graph.specs.declared.plan.Kind.{Kind}
 use Rattle.goal_graph.specs.declared.plan.Kind.TheVariants.{Calc, Send, Recv}
-use Rattle.goal_graph.specs.Schedule.{Plan, kind_at}
-use Rattle.goal_graph.specs.Laws.{IsReceive}
+use Rattle.goal_graph.specs.Schedule.{Plan, kind_at, IsReceive}
 use Rattle.sim_match.specs.declared.pattern.Pattern.{Pattern}
 pub use Rattle.goal_graph.specs.Choices.{same_choice}
 

@@ -1,8 +1,7 @@
 // The number of each operation's list, found once.
 ghost use Rattle.std.specs.Prelude.{ℕ, ◌≡◌, ◌<◌, ◌≤◌, ◌-◌, ◌^◌, Option, Some, length, map, IfOk, OnOk};
-ghost use Rattle.goal_graph.specs.Schedule.{operations};
+ghost use Rattle.goal_graph.specs.Schedule.{operations, IsSend, IsReceive};
 ghost use Rattle.goal_graph.specs.Fault.{IsOp};
-ghost use Rattle.goal_graph.specs.Laws.{IsSend, IsReceive};
 ghost use Rattle.sim_match.specs.Patterns.{own_list, list_of, lists_for, AreListed};
 ghost use Rattle.sim_match.specs.ListNumbers.{coded, IsCodable, AreSought, AreNumbered};
 

@@ -1,9 +1,8 @@
 // The table of a matcher: the posts and arrivals so far, by pattern.
 ghost use Rattle.std.specs.Prelude.{◌≡◌, ◌≤◌, ◌+◌, ◌∷◌, [], ◌++◌, false, length, IfOk};
 ghost use Rattle.std.specs.Option.{option_map, IfSome};
-ghost use Rattle.goal_graph.specs.Schedule.{operations};
+ghost use Rattle.goal_graph.specs.Schedule.{operations, IsSend, IsReceive};
 ghost use Rattle.goal_graph.specs.Fault.{IsOp};
-ghost use Rattle.goal_graph.specs.Laws.{IsSend, IsReceive};
 ghost use Rattle.goal_graph.specs.declared.action.Class.TheVariants.{Post, Arrive};
 ghost use Rattle.goal_graph.specs.Action.{happened};
 ghost use Rattle.sim_match.specs.PostsAndArrivals.{send_for, receive_for};

@@ -2,7 +2,7 @@
 ghost use Rattle.std.specs.Prelude.{◌≡◌, ◌≤◌, ◌<◌, ◌+◌, ◌↔◌, [], false, true, IfOk, IsNone};
 ghost use Rattle.goal_graph.specs.declared.action.Class.TheVariants.{Post, Arrive};
 ghost use Rattle.goal_graph.specs.Action.{happened};
-ghost use Rattle.goal_graph.specs.Laws.{IsSend, IsReceive};
+ghost use Rattle.goal_graph.specs.Schedule.{IsSend, IsReceive};
 ghost use Rattle.goal_graph.specs.Matching.{pairs, partner};
 ghost use Rattle.sim_match.specs.PostsAndArrivals.{with_post, with_arrival, send_for, receive_for, NoSendFits, NoReceiveFits};
 

@@ -1,6 +1,6 @@
 // The posts and arrivals of a matcher: in queues where each pattern names a source and a tag, and else in match lists.
 ghost use Rattle.std.specs.Prelude.{◌≡◌, ◌≤◌, ◌+◌, ◌∷◌, [], ◌++◌, false, IfOk};
-ghost use Rattle.goal_graph.specs.Laws.{IsSend, IsReceive};
+ghost use Rattle.goal_graph.specs.Schedule.{IsSend, IsReceive};
 ghost use Rattle.goal_graph.specs.declared.action.Class.TheVariants.{Post, Arrive};
 ghost use Rattle.goal_graph.specs.Action.{happened};
 ghost use Rattle.sim_match.specs.PostsAndArrivals.{send_for, receive_for};

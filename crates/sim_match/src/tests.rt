@@ -1,6 +1,6 @@
 // Messages that wait for their receives, and receives that wait for their messages.
 ghost use Rattle.std.specs.Prelude.{◌≡◌, ◌<◌, ℕ};
-ghost use Rattle.goal_graph.specs.Laws.{IsSend, IsReceive};
+ghost use Rattle.goal_graph.specs.Schedule.{IsSend, IsReceive};
 
 use super::Matcher;
 use goal_base::NoMemory;

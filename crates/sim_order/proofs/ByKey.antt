@@ -3,7 +3,8 @@ use Rattle.std.proofs.Common.{◌≡◌, ℕ, ◌==◌, ◌&&◌, ◌||◌, Bool
 use Rattle.std.proofs.lemmas.Bool.{cases_order, le-ltb, ne_eqb}
 use Rattle.goal_graph.specs.declared.action.Timed.{Timed}
 use Rattle.goal_graph.specs.Action.{place}
-use Rattle.goal_graph.specs.Order.{less, key}
+use Rattle.goal_graph.specs.Order.{key}
+use Rattle.goal_graph.specs.Keys.{less}
 use Rattle.sim_order.specs.Order.{lexical}
 use Rattle.sim_order.specs.Events.{event_before}
 

@@ -3,7 +3,8 @@ use Rattle.std.specs.Prelude.{◌≡◌, Bool, nat_lt}
 use Rattle.goal_graph.specs.declared.action.Timed.{Timed}
 use Rattle.goal_graph.specs.declared.action.Class.{Class}
 use Rattle.goal_graph.specs.Action.{place}
-use Rattle.goal_graph.specs.Order.{less, key}
+use Rattle.goal_graph.specs.Order.{key}
+use Rattle.goal_graph.specs.Keys.{less}
 use Rattle.sim_order.specs.Order.{lexical}
 
 -- the classes of actions at one time: Arrive, Serve, Data, Post, Begin

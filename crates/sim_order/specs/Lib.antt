@@ -1,7 +1,6 @@
--- What a reader must believe.
+-- What only the code keeps.
 pub mod Order
 pub mod Events
--- What only the code keeps.
 pub mod Keys
 pub mod Compact
 -- Laws.

@@ -16,7 +16,8 @@ use Rattle.goal_graph.specs.Allowed.{has_started, is_met, is_ready}
 use Rattle.goal_graph.specs.Interleaving.{IsInterleaving, IsCompleteInterleaving}
 use Rattle.goal_graph.specs.Laws.{IsCalc, IsTaken}
 use Rattle.goal_graph.proofs.ForCallers.{contains_first, contains_more, fits_send, fits_receive, kind_listed, unstarted_unended, unmet_unended, ready_calc_ended, fitting_taken}
-use Rattle.sim_params.specs.Stuck.{IsStuck, first_unmet, are_fit, first_absent, partner_or_alone, reason_by, reason}
+use Rattle.sim_params.specs.Stuck.{first_unmet, are_fit, first_absent, partner_or_alone, reason_by, reason}
+use Rattle.sim_params.specs.Laws.{IsStuck}
 use Rattle.sim_params.specs.Laws.{IsUnmet, IsAbsent}
 
 found_or_later : {A : Type 0} (b : Bool) (y x : A) (r : Option A) → cond b (Some y) r ≡ Some x → ((b ≡ true) × (y ≡ x)) ⊎ (r ≡ Some x)

@@ -10,7 +10,8 @@ use Rattle.goal_graph.specs.declared.plan.Kind.{Kind}
 use Rattle.goal_graph.specs.declared.plan.Kind.TheVariants.{Calc, Send, Recv}
 use Rattle.goal_graph.specs.Schedule.{Plan, op_at, kind_at}
 use Rattle.goal_graph.specs.Fault.{value_fits, IsAccepted}
-use Rattle.sim_params.specs.Costs.{CostModel, IsBounded, is_eager}
+use Rattle.sim_params.specs.Costs.{CostModel, is_eager}
+use Rattle.sim_params.specs.Bounded.{IsBounded}
 use Rattle.sim_params.specs.Budget.{share, message_share, request_share}
 use Rattle.sim_params.proofs.Accepted.{value_within}
 use Rattle.goal_graph.proofs.ForCallers.{kind_from_op}

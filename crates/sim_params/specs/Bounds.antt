@@ -3,8 +3,9 @@ use Rattle.std.specs.Prelude.{ℕ, zero, suc, ◌≡◌, ◌+◌, ◌-◌, ◌*�
 use Rattle.std.proofs.Common.{arith, refl, ap}
 use Rattle.std.proofs.lemmas.Bool.{le-leb, lt-leb}
 use Rattle.sim_params.specs.declared.params.Params.{Params}
-use Rattle.sim_params.specs.Costs.{IsBounded, log_gops, up, least_up_to, rounded_up}
+use Rattle.sim_params.specs.Costs.{log_gops, up, least_up_to, rounded_up}
 use Rattle.sim_params.specs.Numbers.{numbers}
+use Rattle.sim_params.specs.Bounded.{IsBounded}
 
 -- the least number that passes is the one that passes while none below it does
 least_is : (n : ℕ) (test : ℕ → Bool) (k : ℕ) → k ≤ n → test k ≡ true → ((j : ℕ) → j < k → test j ≡ false) → least_up_to n test ≡ k

@@ -1,5 +1,5 @@
 -- What messages cost. Times are in nanoseconds, sizes in bytes.
-use Rattle.std.specs.Prelude.{ℕ, zero, suc, ◌+◌, ◌-◌, ◌*◌, ◌≤◌, ◌<◌, ◌^◌, max, Bool, true, nat_le, Option, Some, None, List, if◌then◌else◌}
+use Rattle.std.specs.Prelude.{ℕ, zero, suc, ◌+◌, ◌-◌, ◌*◌, max, Bool, true, nat_le, Option, Some, None, List, if◌then◌else◌}
 use Rattle.goal_graph.specs.declared.action.OpId.{OpId}
 use Rattle.goal_graph.specs.declared.plan.Kind.{Kind}
 use Rattle.goal_graph.specs.declared.plan.Kind.TheVariants.{Calc, Send, Recv}
@@ -14,13 +14,6 @@ pub record CostModel : Type 0 where
   pub flight : ℕ → ℕ → ℕ → ℕ
   pub latency : ℕ → ℕ → ℕ
   pub eager : ℕ → ℕ → ℕ → Bool
-
--- each number of a cost model is at most 2^61, for messages of at most 2^40-1 bytes
-pub record IsBounded (costs : CostModel) : Type 0 where
-  pub over : (from to bytes : ℕ) → bytes < 2 ^ 40 → costs.over from to bytes ≤ 2 ^ 61
-  pub gap : (from to bytes : ℕ) → bytes < 2 ^ 40 → costs.gap from to bytes ≤ 2 ^ 61
-  pub flight : (from to bytes : ℕ) → bytes < 2 ^ 40 → costs.flight from to bytes ≤ 2 ^ 61
-  pub latency : (from to : ℕ) → costs.latency from to ≤ 2 ^ 61
 
 -- the LogGOPS parameters: latency L, overhead o, gap g, gap per byte G and Gp, overhead per byte O and Op, eager up to
 -- S bytes. L, o and g are in nanoseconds, G and O in nanoseconds per byte, Gp and Op in picoseconds per byte besides.

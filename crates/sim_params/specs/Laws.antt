@@ -18,8 +18,12 @@ use Rattle.goal_graph.specs.Laws.{IsCalc, IsTaken, left}
 use Rattle.sim_params.specs.Costs.{CostModel, over, over_one, gap, gap_one, flight, flight_one, latency, is_eager}
 use Rattle.sim_params.specs.Times.{at_partner, mate, cpu_hold, tx_hold, rx_hold, cpu, tx, rx, start, end, ready, paired_at, time, Possible}
 use Rattle.sim_params.specs.Run.{IsNext, IsRun, IsFinished, IsCompleteRun}
-use Rattle.sim_params.specs.Stuck.{IsStuck, are_fit, reason}
+use Rattle.sim_params.specs.Stuck.{are_fit, reason}
 use Rattle.sim_params.specs.Budget.{share, budget}
+
+-- x has no end
+abbrev pub IsStuck : List Plan → (OpId → Bool) → List Act → OpId → Type 0
+IsStuck plans eager h x = has_ended plans eager x h ≡ false
 
 -- a queue has an entry for b whose time is not later
 pub record HasBound (InQueue : Timed → Type 0) (b : Timed) : Type 0 where

@@ -7,6 +7,7 @@ pub mod Run
 pub mod Stuck
 pub mod Budget
 -- What only the code keeps.
+pub mod Bounded
 pub mod Bounds
 -- Laws.
 pub mod Laws

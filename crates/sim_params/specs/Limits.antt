@@ -1,20 +1,10 @@
 -- The limits of the parameters: 2^40-1 for L, o, g and S, 2^20-1 for G and O, 999 for Gp and Op.
-use Rattle.std.specs.Prelude.{ℕ, ◌≤◌, nat_lt, Option, Some, None, if◌then◌else◌}
+use Rattle.std.specs.Prelude.{ℕ, nat_lt, Option, Some, None, if◌then◌else◌}
 use Rattle.goal_base.specs.declared.limits.TheConstants.{MAX_PARAM, MAX_PER_BYTE}
 use Rattle.sim_params.specs.declared.params.TheConstants.{MAX_PICOS}
 use Rattle.sim_params.specs.declared.params.Param.{Param}
 use Rattle.sim_params.specs.declared.params.Param.TheVariants.{Latency, Overhead, Gap, GapPerByte, GapPicos, OverheadPerByte, OverheadPicos, Sync}
 use Rattle.sim_params.specs.Costs.{Numbers}
-
-pub record IsWithinLimits (n : Numbers) : Type 0 where
-  pub latency : n.latency ≤ MAX_PARAM
-  pub overhead : n.overhead ≤ MAX_PARAM
-  pub gap : n.gap ≤ MAX_PARAM
-  pub gap_per_byte : n.gap_per_byte ≤ MAX_PER_BYTE
-  pub gap_picos : n.gap_picos ≤ MAX_PICOS
-  pub overhead_per_byte : n.overhead_per_byte ≤ MAX_PER_BYTE
-  pub overhead_picos : n.overhead_picos ≤ MAX_PICOS
-  pub sync : n.sync ≤ MAX_PARAM
 
 -- this parameter where its value is over the limit, and else what is found of the others
 abbrev pub over_or : ℕ → ℕ → Param → Option Param → Option Param

@@ -1,5 +1,5 @@
 -- Stuck operations, and the reason of each.
-use Rattle.std.specs.Prelude.{◌≡◌, ◌||◌, ◌&&◌, Bool, false, not, nat_lt, count_by, List, Option, Some, None}
+use Rattle.std.specs.Prelude.{◌||◌, ◌&&◌, Bool, not, nat_lt, count_by, List, Option, Some, None}
 use Rattle.std.specs.List.{find}
 use Rattle.goal_graph.specs.declared.action.OpId.{OpId}
 use Rattle.goal_graph.specs.declared.action.Timed.{Timed}
@@ -13,10 +13,6 @@ use Rattle.goal_graph.specs.Allowed.{has_started, has_ended, is_met}
 use Rattle.sim_params.specs.Costs.{CostModel, is_eager}
 
 module _ (plans : List Plan) (eager : OpId → Bool) where
-  -- x has no end
-  abbrev pub IsStuck : List Act → OpId → Type 0
-  IsStuck h x = has_ended plans eager x h ≡ false
-
   -- the first thing that x needs and that is not there, in the order of the dependencies
   unfoldable pub first_unmet : List Act → OpId → Option Need
   first_unmet h x = find (λ (d : Need). not (is_met plans eager h d.when (needed x d))) (needs plans x)

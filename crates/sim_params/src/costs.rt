@@ -1,6 +1,7 @@
 // What messages cost.
 ghost use Rattle.std.specs.Prelude.{◌≡◌, ◌<◌, ◌≤◌, ◌+◌, ◌^◌};
-ghost use Rattle.sim_params.specs.Costs.{CostModel, IsBounded, up};
+ghost use Rattle.sim_params.specs.Costs.{CostModel, up};
+ghost use Rattle.sim_params.specs.Bounded.{IsBounded};
 
 use crate::Params;
 use crate::params::MAX_PICOS;

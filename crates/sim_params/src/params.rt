@@ -1,6 +1,7 @@
 // The parameters of LogGOPS, kept within their limits.
 ghost use Rattle.std.specs.Prelude.{◌≡◌, ◌≤◌, ◌<◌, None, Some, IfOk, IfErr, OnOk, OnErr};
-ghost use Rattle.sim_params.specs.Limits.{IsWithinLimits, first_over};
+ghost use Rattle.sim_params.specs.Limits.{first_over};
+ghost use Rattle.sim_params.specs.Bounded.{IsWithinLimits};
 
 use goal_base::{MAX_PARAM, MAX_PER_BYTE};
 

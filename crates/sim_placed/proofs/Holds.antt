@@ -8,10 +8,10 @@ use Rattle.goal_graph.specs.declared.action.Class.TheVariants.{Arrive, Serve, Da
 use Rattle.goal_graph.specs.declared.plan.Op.{Op}
 use Rattle.goal_graph.specs.declared.plan.Kind.{Kind}
 use Rattle.goal_graph.specs.declared.plan.Kind.TheVariants.{Calc, Send, Recv}
-use Rattle.goal_graph.specs.Schedule.{Plan, op_at, kind_at, same_place}
+use Rattle.goal_graph.specs.Schedule.{Plan, op_at, kind_at, same_place, IsReceive}
 use Rattle.goal_graph.specs.Action.{plain}
 use Rattle.goal_graph.specs.Allowed.{is_served, allowed}
-use Rattle.goal_graph.specs.Laws.{IsReceive, IsApart}
+use Rattle.goal_graph.specs.Laws.{IsApart}
 use Rattle.goal_graph.proofs.ForCallers.{allowed_serve, served_message}
 use Rattle.sim_params.specs.Costs.{CostModel, over, gap, is_eager}
 use Rattle.sim_params.specs.Times.{at_partner, holds_cpu, holds_tx, holds_rx, mate, cpu_hold, tx_hold, rx_hold, cpu, tx, rx, Possible}

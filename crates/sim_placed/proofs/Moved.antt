@@ -12,11 +12,11 @@ use Rattle.goal_graph.specs.declared.plan.Kind.TheVariants.{Calc, Send, Recv}
 use Rattle.goal_graph.specs.declared.plan.Need.{Need}
 use Rattle.goal_graph.specs.declared.plan.When.{When}
 use Rattle.goal_graph.specs.declared.plan.When.TheVariants.{AfterEnd, AfterStart}
-use Rattle.goal_graph.specs.Schedule.{Plan, kind_at, needs, needed}
+use Rattle.goal_graph.specs.Schedule.{Plan, kind_at, needs, needed, IsSend, IsReceive}
 use Rattle.goal_graph.specs.Action.{happened, plain}
 use Rattle.goal_graph.specs.Matching.{pairs, is_paired}
 use Rattle.goal_graph.specs.Allowed.{first_class, last_class, has_started, has_ended, is_met, is_ready, is_served, may}
-use Rattle.goal_graph.specs.Laws.{IsSend, IsReceive, IsApart}
+use Rattle.goal_graph.specs.Laws.{IsApart}
 use Rattle.goal_graph.proofs.ForCallers.{allowed_fresh, allowed_may, allowed_from, is_some_from, cases_some}
 use Rattle.sim_params.specs.Costs.{CostModel, flight, flight_one, latency, is_eager}
 use Rattle.sim_params.specs.Times.{since, greatest, mate, cpu, tx, rx, start, met_at, ready, paired_at, there_at, time_of, time, Possible}

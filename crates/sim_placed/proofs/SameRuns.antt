@@ -8,11 +8,11 @@ use Rattle.goal_graph.specs.declared.action.Class.{Class}
 use Rattle.goal_graph.specs.declared.action.Class.TheVariants.{Arrive, Serve, Data, Post, Begin}
 use Rattle.goal_graph.specs.declared.plan.Kind.{Kind}
 use Rattle.goal_graph.specs.declared.plan.Kind.TheVariants.{Calc, Send, Recv}
-use Rattle.goal_graph.specs.Schedule.{Plan, kind_at}
+use Rattle.goal_graph.specs.Schedule.{Plan, kind_at, IsSend, IsReceive}
 use Rattle.goal_graph.specs.Action.{place, is_act, happened, plain, plain_act}
 use Rattle.goal_graph.specs.Matching.{accepts, fits_kinds, fits}
 use Rattle.goal_graph.specs.Allowed.{first_class, last_class, is_served, may, allowed}
-use Rattle.goal_graph.specs.Laws.{IsSend, IsReceive, IsApart}
+use Rattle.goal_graph.specs.Laws.{IsApart}
 use Rattle.goal_graph.proofs.ForCallers.{fits_send, allowed_data, allowed_serve, allowed_arrive, allowed_from, arrived_begun, data_paired, cases_some, is_act_class, is_act_op, place_same}
 use Rattle.sim_params.specs.Costs.{CostModel, flight, flight_one, latency, is_eager}
 use Rattle.sim_params.specs.Times.{since, mate, start, end, paired_at, there_at, time_of, time, Possible}

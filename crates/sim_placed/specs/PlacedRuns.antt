@@ -3,10 +3,10 @@ use Rattle.std.specs.Prelude.{ℕ, ◌≡◌, ◌≢◌, ◌≤◌, ◌↔◌, L
 use Rattle.goal_graph.specs.declared.action.OpId.{OpId}
 use Rattle.goal_graph.specs.declared.action.Timed.{Timed}
 use Rattle.goal_graph.specs.declared.action.Class.{Class}
-use Rattle.goal_graph.specs.Schedule.{Plan}
+use Rattle.goal_graph.specs.Schedule.{Plan, IsSend}
 use Rattle.goal_graph.specs.Action.{place}
 use Rattle.goal_graph.specs.Order.{IsLess}
-use Rattle.goal_graph.specs.Laws.{IsSend, IsApart}
+use Rattle.goal_graph.specs.Laws.{IsApart}
 use Rattle.goal_blocks.specs.Placed.{IsPermutation, IsPlaced, placed_op}
 use Rattle.sim_params.specs.Costs.{CostModel, Numbers, log_gops, flight, flight_one, latency}
 use Rattle.sim_params.specs.Times.{start, end, time, Possible}

@@ -9,7 +9,8 @@ use Rattle.std.proofs.lemmas.Option.{slice_get-get_or, slice_get_within, get_or_
 use Rattle.goal_graph.specs.declared.action.OpId.{OpId}
 use Rattle.goal_graph.specs.declared.plan.Op.{Op}
 use Rattle.goal_graph.specs.Schedule.{Plan, ops_at, places_of_rank, places_from, operations}
-use Rattle.goal_graph.specs.Fault.{op_count, AreCountsWithin}
+use Rattle.goal_graph.specs.Fault.{op_count}
+use Rattle.goal_graph.specs.Limits.{AreCountsWithin}
 use Rattle.goal_graph.proofs.ForCallers.{ops_at_some, length-places_of_rank}
 use Rattle.sim_order.specs.Order.{IsOrder}
 use Rattle.sim_groups.specs.declared.groups.Home.{Home}

@@ -1,7 +1,6 @@
--- What a reader must believe.
+-- What only the code keeps.
 pub mod Row
 pub mod Ranked
--- What only the code keeps.
 pub mod Scan
 pub mod Ranks
 -- What the clauses cite of lower crates.

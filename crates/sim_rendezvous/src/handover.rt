@@ -1,6 +1,6 @@
 // A large send hands over its bytes.
 ghost use Rattle.std.specs.Prelude.{◌≡◌, ◌+◌, ◌<◌, ◌^◌, max};
-ghost use Rattle.goal_graph.specs.Laws.{IsSend};
+ghost use Rattle.goal_graph.specs.Schedule.{IsSend};
 ghost use Rattle.sim_params.specs.Costs.{over, gap, flight};
 ghost use Rattle.sim_resources.specs.FreeTimes.{SameFreeTimes, cpu_free, tx_free, hold_cpu, hold_tx};
 ghost use Rattle.sim_eager.specs.Messages.{IsMessage};

@@ -8,11 +8,11 @@ use Rattle.goal_graph.specs.declared.action.Class.{Class}
 use Rattle.goal_graph.specs.declared.action.Class.TheVariants.{Arrive, Data, Begin}
 use Rattle.goal_graph.specs.declared.plan.Kind.{Kind}
 use Rattle.goal_graph.specs.declared.plan.Kind.TheVariants.{Calc, Send, Recv}
-use Rattle.goal_graph.specs.Schedule.{Plan, kind_at}
+use Rattle.goal_graph.specs.Schedule.{Plan, kind_at, IsSend}
 use Rattle.goal_graph.specs.Action.{place, same_op, is_act, happened, plain, plain_act}
 use Rattle.goal_graph.specs.Matching.{pairs, is_paired}
 use Rattle.goal_graph.specs.Allowed.{first_class, last_class, may, allowed}
-use Rattle.goal_graph.specs.Laws.{IsCalc, IsSend}
+use Rattle.goal_graph.specs.Laws.{IsCalc}
 use Rattle.goal_graph.proofs.ForCallers.{happened_other, happened_new, is_act_from, arrived_begun, is_some_from, allowed_fresh, started_send}
 use Rattle.sim_params.specs.Costs.{CostModel, flight, flight_one, is_eager}
 use Rattle.sim_params.specs.Times.{mate, cpu_hold, start, paired_at, time_of, time, Possible}

@@ -5,11 +5,11 @@ use Rattle.goal_graph.specs.declared.action.OpId.{OpId}
 use Rattle.goal_graph.specs.declared.action.Timed.{Timed}
 use Rattle.goal_graph.specs.declared.action.Class.{Class}
 use Rattle.goal_graph.specs.declared.action.Class.TheVariants.{Arrive, Serve, Data, Post, Begin}
-use Rattle.goal_graph.specs.Schedule.{Plan, kind_at, operations}
+use Rattle.goal_graph.specs.Schedule.{Plan, kind_at, operations, IsSend, IsReceive}
 use Rattle.goal_graph.specs.Fault.{IsOp}
 use Rattle.goal_graph.specs.Action.{place, same_op, is_act, plain, plain_act}
 use Rattle.goal_graph.specs.Allowed.{first_class, last_class}
-use Rattle.goal_graph.specs.Laws.{IsCalc, IsSend, IsReceive}
+use Rattle.goal_graph.specs.Laws.{IsCalc}
 use Rattle.goal_graph.proofs.ForCallers.{cases_op, is_act_class, same_op_true, not_send_receive, first_of_calc, first_of_send, first_of_receive, last_of_calc, last_of_eager, last_of_large, last_of_receive, same_tables, at_entry, off_entry, entry_written, same_op_swapped, send_is_op, receive_is_op}
 use Rattle.sim_params.specs.Costs.{CostModel, flight, flight_one, is_eager}
 use Rattle.sim_params.specs.Times.{mate, cpu_hold, Possible}

@@ -5,8 +5,7 @@ use Rattle.goal_graph.specs.declared.action.Timed.{Timed}
 use Rattle.goal_graph.specs.declared.action.Class.{Class}
 use Rattle.goal_graph.specs.declared.action.Class.TheVariants.{Serve, Data, Begin}
 use Rattle.goal_graph.specs.declared.plan.Kind.TheVariants.{Calc}
-use Rattle.goal_graph.specs.Schedule.{Plan, kind_at}
-use Rattle.goal_graph.specs.Laws.{IsSend, IsReceive}
+use Rattle.goal_graph.specs.Schedule.{Plan, kind_at, IsSend, IsReceive}
 use Rattle.sim_params.specs.Costs.{CostModel, over, over_one, gap, gap_one, is_eager}
 use Rattle.sim_params.specs.Times.{at_partner, mate, holds_tx, cpu_hold, tx_hold, rx_hold}
 

@@ -7,7 +7,7 @@ use Rattle.std.proofs.lemmas.Option.{slice_get_within, get_or_from_slice_get}
 use Rattle.goal_base.specs.declared.limits.TheConstants.{MAX_DEPS}
 use Rattle.goal_graph.specs.declared.action.OpId.{OpId}
 use Rattle.goal_graph.specs.declared.plan.Dep.{Dep}
-use Rattle.goal_graph.specs.Fault.{AreCountsWithin}
+use Rattle.goal_graph.specs.Limits.{AreCountsWithin}
 use Rattle.goal_graph.specs.Schedule.{Plan, deps_at, earlier_of, needs}
 use Rattle.goal_graph.proofs.ForCallers.{lengths-le}
 

@@ -7,12 +7,11 @@ use Rattle.goal_graph.specs.declared.action.OpId.{OpId}
 use Rattle.goal_graph.specs.declared.action.Timed.{Timed}
 use Rattle.goal_graph.specs.declared.action.Class.{Class}
 use Rattle.goal_graph.specs.declared.action.Class.TheVariants.{Arrive, Serve, Data, Post, Begin}
-use Rattle.goal_graph.specs.Schedule.{Plan}
+use Rattle.goal_graph.specs.Schedule.{Plan, IsSend, IsReceive}
 use Rattle.goal_graph.specs.Action.{Act, same_op, happened, plain, plain_act}
 use Rattle.goal_graph.specs.Matching.{Pair, partner, is_paired, fits, new_pair, add_pair, pairs}
 use Rattle.goal_graph.specs.Allowed.{is_served, allowed}
 use Rattle.goal_graph.specs.Interleaving.{IsInterleaving}
-use Rattle.goal_graph.specs.Laws.{IsSend, IsReceive}
 use Rattle.goal_graph.proofs.ForCallers.{act_of, is_some_from, allowed_fresh, fits_receive, fits_send, IsNew, new_pair_is, pairs_same, partner_other, not_arrived, not_posted, IsListed, listed_partners}
 use Rattle.sim_params.specs.Costs.{CostModel, is_eager}
 use Rattle.sim_params.specs.Times.{mate, paired_at, Possible}

@@ -4,9 +4,9 @@ use Rattle.goal_graph.specs.declared.action.OpId.{OpId}
 use Rattle.goal_graph.specs.declared.plan.Kind.{Kind}
 use Rattle.goal_graph.specs.declared.plan.Kind.TheVariants.{Calc, Send, Recv}
 use Rattle.goal_graph.specs.declared.plan.Op.{Op}
-use Rattle.goal_graph.specs.Schedule.{Plan, op_at, kind_at}
+use Rattle.goal_graph.specs.Schedule.{Plan, op_at, kind_at, IsSend, IsReceive}
 use Rattle.goal_graph.specs.Fault.{IsOp}
-use Rattle.goal_graph.specs.Laws.{IsCalc, IsSend, IsReceive}
+use Rattle.goal_graph.specs.Laws.{IsCalc}
 use Rattle.goal_graph.proofs.ForCallers.{kind_from_op}
 use Rattle.sim_params.specs.Costs.{CostModel, is_eager}
 use Rattle.sim_eager.specs.Messages.{IsMessage}

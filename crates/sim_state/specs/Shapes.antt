@@ -4,7 +4,8 @@ use Rattle.goal_graph.specs.declared.action.OpId.{OpId}
 use Rattle.goal_graph.specs.declared.plan.Kind.{Kind}
 use Rattle.goal_graph.specs.declared.plan.Kind.TheVariants.{Calc, Send, Recv}
 use Rattle.goal_graph.specs.declared.plan.Need.{Need}
-use Rattle.goal_graph.specs.Schedule.{Plan, kind_at, needs, waiting_on}
+use Rattle.goal_graph.specs.Schedule.{Plan, kind_at, needs}
+use Rattle.goal_graph.specs.Concerned.{waiting_on}
 use Rattle.sim_params.specs.Costs.{CostModel, is_eager}
 use Rattle.sim_state.specs.declared.shape.Shape.{Shape}
 use Rattle.sim_state.specs.declared.shape.Shape.TheVariants as shape

@@ -2,7 +2,8 @@
 ghost use Rattle.std.specs.Prelude.{◌≡◌, ◌+◌, ◌<◌, ◌≤◌, ◌^◌, ◌↔◌, List, [], ◌∷◌, IsTrue, IfSome, IfNone, IfOk, IfErr, OnOk, All, count_by, length, reverse};
 ghost use Rattle.goal_graph.specs.declared.action.OpId.{OpId};
 ghost use Rattle.goal_graph.specs.declared.action.Timed.{Timed};
-ghost use Rattle.goal_graph.specs.Schedule.{needs, needed, waiting_on};
+ghost use Rattle.goal_graph.specs.Schedule.{needs, needed};
+ghost use Rattle.goal_graph.specs.Concerned.{waiting_on};
 ghost use Rattle.goal_graph.specs.Fault.{IsOp, IsAccepted};
 ghost use Rattle.goal_graph.specs.Action.{plain, same_op};
 ghost use Rattle.goal_graph.specs.Interleaving.{IsCompleteInterleaving};

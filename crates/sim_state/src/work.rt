@@ -1,7 +1,7 @@
 // What each operation does.
 ghost use Rattle.std.specs.Prelude.{◌≡◌};
+ghost use Rattle.goal_graph.specs.Schedule.{IsSend};
 ghost use Rattle.goal_graph.specs.Fault.{IsOp};
-ghost use Rattle.goal_graph.specs.Laws.{IsSend};
 ghost use Rattle.sim_state.specs.Shapes.{shape_of, ties_of, work_of};
 
 use crate::shape::Shape;

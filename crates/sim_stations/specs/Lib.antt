@@ -1,7 +1,6 @@
--- What a reader must believe.
+-- What only the code keeps.
 pub mod Stations
 pub mod Moves
--- What only the code keeps.
 pub mod Rows
 pub mod Kept
 -- What the clauses cite of lower crates.

@@ -20,8 +20,10 @@ use Rattle.goal_graph.proofs.ForCallers.{listed_places, operations_in_order, nee
 use Rattle.sim_params.specs.Costs.{CostModel, is_eager}
 use Rattle.sim_params.specs.Run.{IsRun, IsFinished}
 use Rattle.sim_params.proofs.ForCallers.{run_interleaving, complete_interleaving, op_is_unmet, partner_is_absent, op_is_stuck, partner_is_stuck, alone_is_alone}
-use Rattle.sim_stuck.specs.StuckList.{ops_of, IsInOrder, NamesListed, with_reason, stuck_list, ListsStuck, AloneAreAlone}
-use Rattle.sim_params.specs.Stuck.{IsStuck, are_fit, lacks_end}
+use Rattle.sim_stuck.specs.StuckList.{with_reason, stuck_list}
+use Rattle.sim_stuck.specs.Laws.{ops_of, IsInOrder, NamesListed, ListsStuck, AloneAreAlone}
+use Rattle.sim_params.specs.Stuck.{are_fit, lacks_end}
+use Rattle.sim_params.specs.Laws.{IsStuck}
 use Rattle.sim_stuck.proofs.Kept.{contains_kept, kept_contained}
 
 module _ (plans : List Plan) (costs : CostModel) (h : List Timed) where

@@ -3,6 +3,8 @@ pub mod StuckList
 pub mod StuckText
 -- What only the code keeps.
 pub mod Patterns
+-- Laws.
+pub mod Laws
 -- What the clauses cite of lower crates.
 pub use Rattle.goal_graph.specs.Action
 pub use Rattle.goal_graph.specs.Allowed

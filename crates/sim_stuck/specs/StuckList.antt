@@ -1,31 +1,13 @@
 -- The stuck operations of a run, each with its reason.
-use Rattle.std.specs.Prelude.{◌≡◌, ◌⊎◌, ◌↔◌, true, List, map, filter, Contains, AllPairs}
+use Rattle.std.specs.Prelude.{List, map, filter}
 use Rattle.goal_graph.specs.declared.action.OpId.{OpId}
 use Rattle.goal_graph.specs.declared.action.Timed.{Timed}
 use Rattle.goal_graph.specs.declared.action.Stuck.{Stuck}
 use Rattle.goal_graph.specs.declared.action.Why.{Why}
-use Rattle.goal_graph.specs.declared.action.Why.TheVariants.{Op, Partner, Alone}
 use Rattle.goal_graph.specs.Schedule.{Plan, operations}
 use Rattle.goal_graph.specs.Action.{plain}
-use Rattle.goal_graph.specs.Fault.{IsOp}
-use Rattle.goal_graph.specs.Allowed.{has_started}
-use Rattle.goal_graph.specs.Order.{IsBefore}
-use Rattle.goal_graph.specs.Laws.{IsTaken}
 use Rattle.sim_params.specs.Costs.{CostModel, is_eager}
-use Rattle.sim_params.specs.Stuck.{IsStuck, are_fit, lacks_end, reason}
-
--- the operations of a list
-abbrev pub ops_of : List Stuck → List OpId
-ops_of list = map (λ (s : Stuck). s.op) list
-
--- they stand by rank and number, each once
-abbrev pub IsInOrder : List Stuck → Type 0
-IsInOrder list = AllPairs IsBefore (ops_of list)
-
--- an operation that a reason names is one of them
-abbrev pub NamesListed : List Stuck → Type 0
-NamesListed list =
-    (s : Stuck) (y : OpId) → Contains list s → ((s.why ≡ Op y) ⊎ (s.why ≡ Partner y)) → Contains (ops_of list) y
+use Rattle.sim_params.specs.Stuck.{lacks_end, reason}
 
 module _ (plans : List Plan) (costs : CostModel) (h : List Timed) where
   -- the reason of x
@@ -39,13 +21,3 @@ module _ (plans : List Plan) (costs : CostModel) (h : List Timed) where
   -- each operation that has no end, with its reason, by rank and number
   unfoldable pub stuck_list : List Stuck
   stuck_list = map with_reason (filter (lacks_end plans costs h) (operations plans))
-
-  -- the operations without an end are listed, and no others
-  abbrev pub ListsStuck : List Stuck → Type 0
-  ListsStuck list = (x : OpId) → Contains (ops_of list) x ↔ (IsOp plans x × IsStuck plans (is_eager plans costs) (plain h) x)
-
-  -- each operation that fits one that is alone has started, and is paired with another
-  abbrev pub AloneAreAlone : List Stuck → Type 0
-  AloneAreAlone list =
-      (s : Stuck) (y : OpId) → Contains list s → s.why ≡ Alone → are_fit plans (is_eager plans costs) s.op y ≡ true
-      → (has_started plans y (plain h) ≡ true) × IsTaken plans (plain h) y s.op

@@ -9,7 +9,8 @@ ghost use Rattle.sim_params.specs.Costs.{is_eager};
 ghost use Rattle.sim_params.specs.Run.{IsFinished};
 ghost use Rattle.sim_params.specs.Stuck.{first_unmet};
 ghost use Rattle.sim_stuck.specs.Patterns.{AreFirsts};
-ghost use Rattle.sim_stuck.specs.StuckList.{stuck_list, reason_of, IsInOrder, NamesListed, ListsStuck, AloneAreAlone};
+ghost use Rattle.sim_stuck.specs.StuckList.{stuck_list, reason_of};
+ghost use Rattle.sim_stuck.specs.Laws.{IsInOrder, NamesListed, ListsStuck, AloneAreAlone};
 
 use crate::partner::Firsts;
 use goal_base::NoMemory;

@@ -18,7 +18,8 @@ use Rattle.sim_params.specs.Costs.{CostModel, is_eager}
 use Rattle.sim_params.specs.Times.{greatest, end, start}
 use Rattle.sim_params.specs.Stuck.{lacks_end}
 use Rattle.sim_events.specs.Engine.{start_known, end_known}
-use Rattle.sim_timeline.specs.Timeline.{IsSummary, is_unread_send, is_unread, end_or_zero, operation_line, summary_line, first_line, line_by, line_of}
+use Rattle.sim_timeline.specs.Timeline.{is_unread, end_or_zero, operation_line, summary_line, first_line, line_by, line_of}
+use Rattle.sim_timeline.specs.Pages.{IsSummary, is_unread_send}
 use Rattle.goal_graph.proofs.ForCallers.{at_kind}
 
 -- the greatest of a list and one more

@@ -1,6 +1,6 @@
 -- The printed run: a line on the whole, then a line for each operation. Every line ends with a line feed, and numbers
 -- are decimal.
-use Rattle.std.specs.Prelude.{ℕ, ◌≡◌, ◌&&◌, Bool, true, false, not, List, [], ◌++◌, Option, Some, None, is_some, if◌then◌else◌, length, drop, codes, decimal, count_by}
+use Rattle.std.specs.Prelude.{ℕ, ◌&&◌, Bool, true, false, not, List, [], ◌++◌, Option, Some, None, if◌then◌else◌, length, codes, decimal, count_by}
 use Rattle.std.specs.List.{flat_map}
 use Rattle.goal_base.specs.Text.{line_feed, time_text}
 use Rattle.goal_graph.specs.declared.action.OpId.{OpId}
@@ -50,10 +50,6 @@ is_send (Some (Calc nanos)) = false
 is_send (Some (Recv bytes from tag)) = false
 is_send None = false
 
--- a message that has begun and that no receive takes, by its kind, its start and its partner
-abbrev pub is_unread_send : Option Kind → Option ℕ → Option OpId → Bool
-is_unread_send kind start partner = is_send kind && is_some start && not (is_some partner)
-
 module _ (plans : List Plan) (costs : CostModel) (h : List Timed) where
   -- x is a message that has begun and that no receive takes
   abbrev pub is_unread : OpId → Bool
@@ -63,12 +59,6 @@ module _ (plans : List Plan) (costs : CostModel) (h : List Timed) where
   -- the end of x, 0 where it has none
   abbrev pub end_or_zero : OpId → ℕ
   end_or_zero x = if has_ended plans (is_eager plans costs) x (plain h) then end plans costs h x else 0
-
-  -- what the first line tells of these operations
-  pub record IsSummary (ops : List OpId) (stuck unread finish : ℕ) : Type 0 where
-    pub stuck_is : stuck ≡ count_by (lacks_end plans costs h) ops
-    pub unread_is : unread ≡ count_by is_unread ops
-    pub finish_is : finish ≡ greatest end_or_zero ops
 
   unfoldable pub first_line : List ℕ
   first_line =
@@ -83,10 +73,6 @@ module _ (plans : List Plan) (costs : CostModel) (h : List Timed) where
   -- the line of an operation
   unfoldable pub line_of : OpId → List ℕ
   line_of x = line_by x (kind_at plans x)
-
-  -- the lines of all operations but so many, by rank and number
-  abbrev pub lines_from : ℕ → List ℕ
-  lines_from done = flat_map line_of (drop done (operations plans))
 
   -- the first line, and the lines of all operations by rank and number
   unfoldable pub timeline : List ℕ

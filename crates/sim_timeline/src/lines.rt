@@ -1,7 +1,8 @@
 // The lines of the timeline.
 ghost use Rattle.std.specs.Prelude.{◌≡◌, ◌+◌, ◌-◌, ◌++◌, ◌<◌, ◌^◌, length, OnOk, IfOk, Some, is_some, unwrap_or, max, if◌then◌else◌};
 ghost use Rattle.goal_graph.specs.Schedule.{operations};
-ghost use Rattle.sim_timeline.specs.Timeline.{operation_line, summary_line, kind_text, partner_text, match_text, first_line, IsSummary, is_unread_send};
+ghost use Rattle.sim_timeline.specs.Timeline.{operation_line, summary_line, kind_text, partner_text, match_text, first_line};
+ghost use Rattle.sim_timeline.specs.Pages.{IsSummary, is_unread_send};
 
 use goal_base::{NoMemory, TextOut};
 use goal_graph::{Kind, Op, OpId, Sched};

@@ -31,7 +31,7 @@ pub struct Lines<'a, C: Costs> {
 impl<'a, C: Costs> Model for Lines<'a, C> {
     ghost use Rattle.std.specs.Prelude.{ℕ, List, ◌≤◌, length};
     ghost use Rattle.goal_graph.specs.Schedule.{operations};
-    ghost use Rattle.sim_timeline.specs.Timeline.{lines_from};
+    ghost use Rattle.sim_timeline.specs.Pages.{lines_from};
 
     ghost Value = { List ℕ };
 

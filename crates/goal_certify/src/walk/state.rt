@@ -2,12 +2,11 @@
 ghost use Rattle.std.specs.Prelude.{◌≡◌, [], true, false, Some, IfOk};
 ghost use Rattle.goal_graph.specs.declared.action.Class.TheVariants.{Arrive, Serve, Data, Post, Begin};
 ghost use Rattle.goal_graph.specs.Action.{happened};
-ghost use Rattle.goal_graph.specs.Schedule.{kind_at};
+ghost use Rattle.goal_graph.specs.Schedule.{kind_at, IsSend, IsReceive};
 ghost use Rattle.goal_graph.specs.Matching.{pairs, partner};
 ghost use Rattle.goal_graph.specs.Allowed.{first_class, last_class, is_met, is_ready};
 ghost use Rattle.goal_graph.specs.Fault.{IsOp, IsAccepted};
 ghost use Rattle.goal_graph.specs.Interleaving.{IsInterleaving};
-ghost use Rattle.goal_graph.specs.Laws.{IsSend, IsReceive};
 ghost use Rattle.goal_blocks.specs.Walk.{no_send};
 ghost use Rattle.sim_match.specs.PostsAndArrivals.{is_post_or_arrival_class};
 ghost use Rattle.goal_certify.specs.Walked.{entry_known, with_action, met, more_met};

@@ -2,7 +2,8 @@
 ghost use Rattle.std.specs.Prelude.{◌≡◌, true, None};
 ghost use Rattle.goal_graph.specs.declared.action.Class.TheVariants.{Arrive, Serve, Data, Post, Begin};
 ghost use Rattle.goal_graph.specs.Fault.{IsOp};
-ghost use Rattle.goal_graph.specs.Laws.{IsCalc, IsSend, IsReceive};
+ghost use Rattle.goal_graph.specs.Laws.{IsCalc};
+ghost use Rattle.goal_graph.specs.Schedule.{IsSend, IsReceive};
 ghost use Rattle.sim_params.specs.Costs.{is_eager};
 ghost use Rattle.sim_state.specs.Represents.{message_known};
 ghost use Rattle.sim_state.specs.Cursors.{IsCursorOf};

@@ -1,5 +1,6 @@
 use Rattle.std.proofs.Common.{◌≡◌, ◌+◌, ◌-◌, ◌^◌, ◌≤◌, true, length}
-use Rattle.goal_base.specs.Device.{Later, SameReadCounts, KeepsFiles, Takes}
+use Rattle.goal_base.specs.Device.{Later, SameReadCounts, KeepsFiles}
+use Rattle.goal_base.specs.DeviceCalls.{Takes}
 use Rattle.goal_base.proofs.read.read_rest.Given as goal
 
 abbrev pub invariant-pieces : goal.invariant-pieces

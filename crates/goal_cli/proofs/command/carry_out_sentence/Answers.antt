@@ -1,5 +1,5 @@
 use Rattle.std.proofs.Common.{rules, inr}
-use Rattle.goal_words.specs.Words.{said}
+use Rattle.goal_words.specs.Sentences.{said}
 use Rattle.goal_cli.specs.World.{devices}
 use Rattle.goal_cli.specs.Output.{input_of, machine_of}
 use Rattle.goal_cli.specs.Pages.{text_of}

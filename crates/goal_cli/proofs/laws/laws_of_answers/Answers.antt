@@ -3,7 +3,8 @@ use Rattle.goal_words.specs.Words.{Command}
 use Rattle.goal_cli.specs.declared.answer.Status.{Status}
 use Rattle.goal_cli.specs.declared.answer.Status.TheVariants as status
 use Rattle.goal_cli.specs.World.{World, but_err}
-use Rattle.goal_cli.specs.Answer.{Answers, Answered}
+use Rattle.goal_cli.specs.Answer.{Answered}
+use Rattle.goal_cli.specs.Laws.{Answers}
 use Rattle.goal_cli.proofs.AnswerLemmas.{no_line, no_line_told, read_fault, reads_risen, absent_risen, absent_named, absent_machine, told_refusal, cut_off_told, writes_risen, files_risen, done, stuck, not_certified, only_certify, part_or_none, untouched, kept_elsewhere, line_said, nothing_at, part_said, failed_said, machine_read}
 use Rattle.goal_cli.proofs.laws.laws_of_answers.Goals as goal
 

@@ -1,6 +1,7 @@
-use Rattle.goal_words.specs.Words.{pricing, said}
+use Rattle.goal_words.specs.Sentences.{pricing, said}
 use Rattle.goal_cli.specs.declared.pages.Output.{Output}
-use Rattle.goal_cli.specs.Output.{Input, IsOutput, IsWorkOf}
+use Rattle.goal_cli.specs.Output.{Input, IsOutput}
+use Rattle.goal_cli.specs.Unmade.{IsWorkOf}
 use Rattle.goal_cli.specs.Pages.{text_of}
 use Rattle.goal_cli.specs.Stop.{IsPaidRun}
 use Rattle.goal_cli.proofs.StopLemmas.{if_ok, is_run_output}

@@ -1,5 +1,6 @@
 use Rattle.std.proofs.Common.{◌≡◌, ℕ, length, sym, ap, ◌∙◌}
-use Rattle.goal_lexer.specs.Words.{kind_among, words_of_length, reserved_words}
+use Rattle.goal_lexer.specs.Words.{kind_among, reserved_words}
+use Rattle.goal_lexer.specs.Reserved.{words_of_length}
 use Rattle.goal_lexer.proofs.ReservedWords.{kind_among_length}
 use Rattle.goal_lexer.proofs.words.word_kind.Goals as goal
 

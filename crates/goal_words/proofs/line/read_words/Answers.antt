@@ -8,7 +8,8 @@ use Rattle.goal_words.specs.declared.line.Line.{Line}
 use Rattle.goal_words.specs.declared.line.LineFault.{LineFault}
 use Rattle.goal_words.specs.declared.line.LineFault.TheVariants.{Bad, NoMemory}
 use Rattle.goal_words.specs.declared.options.Taken.{Taken}
-use Rattle.goal_words.specs.Words.{Command, command, command_by, command_in, command_of, options_of, IsSized}
+use Rattle.goal_words.specs.Words.{Command, command_by, command_in, command_of, options_of}
+use Rattle.goal_words.specs.Sentences.{command, IsSized}
 use Rattle.goal_words.specs.Reading.{Parts, numbers_given, words_of, parts_in, none_given, left, listed, are_few}
 use Rattle.goal_words.proofs.SizeLemmas.{sized}
 use Rattle.goal_words.proofs.PartsLemmas.{command_read, too_few_or_many}

@@ -3,7 +3,8 @@ use Rattle.std.proofs.lemmas.Bool.{both_ways}
 use Rattle.goal_graph.specs.declared.action.Class.{Class}
 use Rattle.goal_graph.specs.declared.plan.Need.{Need}
 use Rattle.goal_graph.specs.declared.plan.When.TheVariants.{AfterEnd}
-use Rattle.goal_graph.specs.Schedule.{Plan, needed, waiting_on}
+use Rattle.goal_graph.specs.Schedule.{Plan, needed}
+use Rattle.goal_graph.specs.Concerned.{waiting_on}
 use Rattle.goal_graph.specs.Fault.{IsOp}
 use Rattle.sim_events.specs.Queue.{gives}
 use Rattle.sim_events.proofs.Awaited.{await_rest, await_skipped, await_none}

@@ -1,5 +1,5 @@
 use Rattle.std.proofs.Common.{drop}
-use Rattle.goal_graph.specs.Schedule.{waiting_on}
+use Rattle.goal_graph.specs.Concerned.{waiting_on}
 use Rattle.sim_events.specs.Queue.{IsAwaiting, IsQueueBut}
 use Rattle.sim_state.specs.Cursors.{AreCursors}
 use Rattle.sim_events.specs.Changes.{AreAtPlaces}

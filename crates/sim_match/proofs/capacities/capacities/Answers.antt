@@ -1,6 +1,6 @@
 use Rattle.std.proofs.Common.{◌<◌, ◌^◌, Some, length, get_or, arith, ap, ◌∙◌}
 use Rattle.goal_graph.specs.declared.plan.Kind.{Kind}
-use Rattle.goal_graph.specs.Laws.{IsSend}
+use Rattle.goal_graph.specs.Schedule.{IsSend}
 use Rattle.sim_match.proofs.PatternLemmas.{lists_once, lists_within}
 use Rattle.sim_match.proofs.CapacityLemmas.{receives_fit, receive_more, its_lists, sends_fit, send_more, calc_more}
 use Rattle.sim_match.proofs.capacities.capacities.Goals as goal

@@ -3,8 +3,7 @@ use Rattle.std.proofs.Common.{ℕ, zero, suc, ◌<◌, ◌≡◌, List, [], ◌�
 use Rattle.std.specs.Option.{option_map, option_and_then}
 use Rattle.goal_graph.specs.declared.plan.Op.{Op}
 use Rattle.goal_graph.specs.declared.plan.Kind.TheVariants.{Send, Recv}
-use Rattle.goal_graph.specs.Schedule.{Plan, op_at, kind_at}
-use Rattle.goal_graph.specs.Laws.{IsSend, IsReceive}
+use Rattle.goal_graph.specs.Schedule.{Plan, op_at, kind_at, IsSend, IsReceive}
 use Rattle.sim_match.proofs.tests.pairs_by_order_of_posts_and_arrivals.Goals as goal
 
 abbrev sends : List Op

@@ -2,7 +2,7 @@ use Rattle.std.proofs.Common.{◌≡◌, ℕ, ◌+◌, ◌≤◌, Some, Bool, tr
 use Rattle.std.proofs.lemmas.List.{take_more}
 use Rattle.goal_graph.specs.Schedule.{op_at}
 use Rattle.sim_params.specs.Times.{greatest}
-use Rattle.sim_timeline.specs.Timeline.{is_unread_send}
+use Rattle.sim_timeline.specs.Pages.{is_unread_send}
 use Rattle.sim_timeline.proofs.TimelineLemmas.{summary_more}
 use Rattle.sim_timeline.proofs.lines.sum_up.Goals as goal
 

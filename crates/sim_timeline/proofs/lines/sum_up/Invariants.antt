@@ -1,5 +1,5 @@
 use Rattle.std.proofs.Common.{◌≤◌, take}
-use Rattle.sim_timeline.specs.Timeline.{IsSummary}
+use Rattle.sim_timeline.specs.Pages.{IsSummary}
 use Rattle.sim_timeline.proofs.lines.sum_up.Given as goal
 
 -- what the operations so far tell

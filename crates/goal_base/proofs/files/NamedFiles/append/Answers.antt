@@ -1,7 +1,8 @@
 use Rattle.std.proofs.Common.{rules, ◌≡◌, ap, sym, ◌∙◌, subst, None}
 use Rattle.std.specs.FinMap.{get}
 use Rattle.std.specs.Option.{option_map}
-use Rattle.goal_base.specs.Device.{Files, grown}
+use Rattle.goal_base.specs.Device.{Files}
+use Rattle.goal_base.specs.DeviceCalls.{grown}
 use Rattle.goal_base.specs.NamedFiles.{files_of}
 use Rattle.goal_base.proofs.FilesLemmas.{files_of-append, files_of-same, get-files_of, bytes_of, Map}
 use Rattle.goal_base.proofs.files.NamedFiles.append.Goals as goal

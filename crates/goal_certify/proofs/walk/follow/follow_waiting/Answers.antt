@@ -1,7 +1,8 @@
 use Rattle.std.proofs.Common.{◌<◌, List, get_or, length, ap, sym, ◌∙◌, subst, arith}
 use Rattle.goal_graph.specs.declared.plan.Need.{Need}
 use Rattle.goal_graph.specs.declared.plan.When.TheVariants.{AfterEnd}
-use Rattle.goal_graph.specs.Schedule.{Plan, needed, waiting_on}
+use Rattle.goal_graph.specs.Schedule.{Plan, needed}
+use Rattle.goal_graph.specs.Concerned.{waiting_on}
 use Rattle.goal_graph.specs.Fault.{IsOp}
 use Rattle.goal_certify.proofs.Queue.{refreshed, fewer_due}
 use Rattle.goal_certify.proofs.walk.follow.follow_waiting.Goals as goal

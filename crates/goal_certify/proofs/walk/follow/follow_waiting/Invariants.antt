@@ -1,5 +1,5 @@
 use Rattle.std.proofs.Common.{drop}
-use Rattle.goal_graph.specs.Schedule.{waiting_on}
+use Rattle.goal_graph.specs.Concerned.{waiting_on}
 use Rattle.goal_certify.specs.WalkQueue.{IsNamedIn, IsQueueBut, AreCursors}
 use Rattle.goal_certify.proofs.walk.follow.follow_waiting.Given as goal
 

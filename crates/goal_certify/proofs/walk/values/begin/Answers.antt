@@ -1,8 +1,8 @@
 use Rattle.std.proofs.Common.{◌≡◌, true, List, drop, inl, inr, sym, ap, ◌∙◌, subst}
 use Rattle.goal_graph.specs.declared.action.Class.{Class}
-use Rattle.goal_graph.specs.Schedule.{Plan, op_at}
+use Rattle.goal_graph.specs.Schedule.{Plan, op_at, IsSend, IsReceive}
 use Rattle.goal_graph.specs.Fault.{IsOp}
-use Rattle.goal_graph.specs.Laws.{IsCalc, IsSend, IsReceive}
+use Rattle.goal_graph.specs.Laws.{IsCalc}
 use Rattle.goal_graph.specs.Allowed.{allowed}
 use Rattle.goal_graph.proofs.ForCallers.{kind_from_op, allowed_begin, not_receive_calc, not_send_receive}
 use Rattle.goal_blocks.specs.Walk.{no_send}

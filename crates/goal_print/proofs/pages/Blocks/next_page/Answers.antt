@@ -1,6 +1,7 @@
 use Rattle.std.proofs.Common.{◌≡◌, ◌≤◌, List, length, sym, ap, ◌∙◌, arith}
 use Rattle.goal_graph.specs.Schedule.{Plan}
-use Rattle.goal_print.specs.Canonical.{block, blocks_from}
+use Rattle.goal_print.specs.Canonical.{block}
+use Rattle.goal_print.specs.Pages.{blocks_from}
 use Rattle.goal_print.proofs.Ranks.{one_more, all_done, more_bytes, block_bytes}
 use Rattle.goal_print.proofs.pages.Blocks.next_page.Goals as goal
 use Rattle.goal_print.proofs.pages.Blocks.next_page.Goals.{then-loop-rank-test+else-operations-lt-PAGE, else-loop-rank-test}

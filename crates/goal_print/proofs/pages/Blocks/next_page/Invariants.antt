@@ -1,5 +1,6 @@
 use Rattle.std.proofs.Common.{◌≡◌, ◌<◌, ◌-◌, ◌++◌, length, drop}
-use Rattle.goal_print.specs.Canonical.{blocks, blocks_from}
+use Rattle.goal_print.specs.Canonical.{blocks}
+use Rattle.goal_print.specs.Pages.{blocks_from}
 use Rattle.goal_print.proofs.pages.Blocks.next_page.Given as goal
 
 -- the page so far, and then the blocks of the ranks that are left, are the blocks that were to come

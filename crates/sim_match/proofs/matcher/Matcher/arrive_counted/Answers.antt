@@ -2,7 +2,7 @@ use Rattle.std.proofs.Common.{◌≡◌, ◌↔◌, false, Option, IsNone, sym, 
 use Rattle.goal_graph.specs.declared.action.OpId.{OpId}
 use Rattle.goal_graph.specs.declared.action.Class.TheVariants.{Arrive}
 use Rattle.goal_graph.specs.Action.{happened}
-use Rattle.goal_graph.specs.Laws.{IsSend}
+use Rattle.goal_graph.specs.Schedule.{IsSend}
 use Rattle.sim_match.specs.PostsAndArrivals.{PostsAndArrivals, with_arrival, receive_for, NoReceiveFits}
 use Rattle.sim_match.proofs.Kept.{actions_of-arrival}
 use Rattle.sim_match.proofs.Partnered.{arrival_partner, arrival_none}

@@ -2,7 +2,7 @@ use Rattle.std.proofs.Common.{◌≡◌, ◌↔◌, false, Option, IsNone, sym, 
 use Rattle.goal_graph.specs.declared.action.OpId.{OpId}
 use Rattle.goal_graph.specs.declared.action.Class.TheVariants.{Post}
 use Rattle.goal_graph.specs.Action.{happened}
-use Rattle.goal_graph.specs.Laws.{IsReceive}
+use Rattle.goal_graph.specs.Schedule.{IsReceive}
 use Rattle.sim_match.specs.PostsAndArrivals.{PostsAndArrivals, with_post, send_for, NoSendFits}
 use Rattle.sim_match.proofs.Kept.{actions_of-post}
 use Rattle.sim_match.proofs.Partnered.{post_partner, post_none}

@@ -1,9 +1,8 @@
 use Rattle.std.proofs.Common.{◌≡◌, ◌∙◌, ◌<◌, List, length, reverse, vec_capacity, refl, sym, ap, subst, arith, filter, map, None}
 use Rattle.goal_graph.specs.declared.action.Class.{Class}
 use Rattle.goal_graph.specs.declared.action.Class.TheVariants.{Arrive}
-use Rattle.goal_graph.specs.Schedule.{Plan, kind_at}
+use Rattle.goal_graph.specs.Schedule.{Plan, kind_at, IsSend}
 use Rattle.goal_graph.specs.Action.{plain}
-use Rattle.goal_graph.specs.Laws.{IsSend}
 use Rattle.sim_params.specs.Times.{holds_cpu, holds_tx, holds_rx}
 use Rattle.sim_match.specs.PostsAndArrivals.{is_post_or_arrival, receive_for}
 use Rattle.goal_graph.specs.Schedule.{operations}

@@ -1,6 +1,5 @@
 use Rattle.std.proofs.Common.{◌≡◌, ◌+◌, ◌∙◌, ◌<◌, ℕ, false, length, reverse, vec_capacity, sym, ap, subst, arith, map, refl}
-use Rattle.goal_graph.specs.Laws.{IsSend}
-use Rattle.goal_graph.specs.Schedule.{operations}
+use Rattle.goal_graph.specs.Schedule.{operations, IsSend}
 use Rattle.sim_params.specs.Costs.{is_eager}
 use Rattle.sim_params.specs.Times.{holds_cpu, holds_rx}
 use Rattle.sim_match.specs.PostsAndArrivals.{is_post_or_arrival_class}

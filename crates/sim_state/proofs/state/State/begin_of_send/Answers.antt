@@ -1,6 +1,6 @@
 use Rattle.std.proofs.Common.{is_some, subst, sym, ap, ap₂, ◌∙◌, max}
 use Rattle.goal_graph.specs.declared.action.Class.TheVariants.{Begin}
-use Rattle.goal_graph.specs.Laws.{IsSend}
+use Rattle.goal_graph.specs.Schedule.{IsSend}
 use Rattle.sim_state.proofs.Views.{free_at_view}
 use Rattle.sim_state.proofs.EnabledLemmas.{send_begins, begun_not_enabled, unready_not_enabled, ready_enabled, send_time}
 use Rattle.sim_state.proofs.state.State.begin_of_send.Goals as goal

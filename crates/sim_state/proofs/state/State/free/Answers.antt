@@ -1,5 +1,5 @@
 use Rattle.std.proofs.Common.{max, sym, ap, ap₂, ◌∙◌, subst}
-use Rattle.goal_graph.specs.Laws.{IsSend, IsReceive}
+use Rattle.goal_graph.specs.Schedule.{IsSend, IsReceive}
 use Rattle.sim_state.specs.Free.{free_of}
 use Rattle.sim_state.proofs.Shapes.{calc_of, send_of, receive_of}
 use Rattle.sim_state.proofs.Views.{free_at_view}

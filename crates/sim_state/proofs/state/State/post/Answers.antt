@@ -1,9 +1,8 @@
 use Rattle.std.proofs.Common.{◌≡◌, ◌∙◌, ◌<◌, List, length, reverse, vec_capacity, refl, sym, ap, subst, arith, filter, map}
 use Rattle.goal_graph.specs.declared.action.Class.{Class}
 use Rattle.goal_graph.specs.declared.action.Class.TheVariants.{Post}
-use Rattle.goal_graph.specs.Schedule.{Plan, kind_at, operations}
+use Rattle.goal_graph.specs.Schedule.{Plan, kind_at, operations, IsReceive}
 use Rattle.goal_graph.specs.Action.{plain}
-use Rattle.goal_graph.specs.Laws.{IsReceive}
 use Rattle.sim_params.specs.Times.{holds_cpu, holds_tx, holds_rx}
 use Rattle.sim_match.specs.PostsAndArrivals.{is_post_or_arrival, send_for}
 use Rattle.sim_state.specs.Tables.{with_entry, with_partner}

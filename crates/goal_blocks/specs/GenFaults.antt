@@ -2,8 +2,8 @@
 use Rattle.std.specs.Prelude.{ℕ, ◌≡◌, ◌<◌, ◌≤◌, ◌⊎◌}
 use Rattle.goal_blocks.specs.declared.collective.Collective.{Collective}
 use Rattle.goal_blocks.specs.Generated.{most_ranks, HasRoot, HasPower, IsPossible}
-use Rattle.goal_collectives.specs.declared.fault.GenFault.{GenFault}
-use Rattle.goal_collectives.specs.declared.fault.GenFault.TheVariants.{Ranks, Root, NotPowerOfTwo, NoMemory}
+use Rattle.goal_blocks.specs.declared.gen_fault.GenFault.{GenFault}
+use Rattle.goal_blocks.specs.declared.gen_fault.GenFault.TheVariants.{Ranks, Root, NotPowerOfTwo, NoMemory}
 
 -- there is a rank, and there are not too many
 pub record AreRanksWithin (what : Collective) (ranks : ℕ) : Type 0 where

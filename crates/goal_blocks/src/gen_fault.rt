@@ -1,6 +1,6 @@
 // Why a collective has no schedule.
 ghost use Rattle.std.specs.Prelude.{◌≡◌};
-ghost use Rattle.goal_collectives.specs.declared.fault.GenFault.TheVariants.{NoMemory};
+ghost use Rattle.goal_blocks.specs.declared.gen_fault.GenFault.TheVariants.{NoMemory};
 
 use std::alloc::{AllocError, AllocFailed};
 

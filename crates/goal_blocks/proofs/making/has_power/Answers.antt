@@ -1,6 +1,6 @@
 use Rattle.std.proofs.Common.{arith}
-use Rattle.goal_collectives.proofs.Powers.{power_decides}
-use Rattle.goal_collectives.proofs.making.has_power.Goals as goal
+use Rattle.goal_blocks.proofs.Powers.{power_decides}
+use Rattle.goal_blocks.proofs.making.has_power.Goals as goal
 
 pub returns-in-Allreduce : goal.returns-in-Allreduce
 returns-in-Allreduce c =

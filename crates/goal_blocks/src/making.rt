@@ -1,0 +1,79 @@
+// Whether a collective has a schedule, and the schedule that a formula of it gives.
+ghost use Rattle.std.specs.Prelude.{◌≡◌, ◌≢◌, ◌≤◌, ◌↔◌, IsTrue, OnOk, IfOk, IfErr};
+ghost use Rattle.goal_graph.specs.Fault.{IsAccepted};
+ghost use Rattle.goal_blocks.specs.Certified.{IsCertifiedFor};
+ghost use Rattle.goal_blocks.specs.Entries.{made_by};
+ghost use Rattle.goal_blocks.specs.Generated.{made, HasPower, IsPossible};
+ghost use Rattle.goal_blocks.specs.GenFaults.{IsGenFault};
+ghost use Rattle.goal_blocks.specs.Right.{IsCertifiedByProof, IsRightFor};
+
+use crate::collective::Collective;
+use crate::gen_fault::GenFault;
+use crate::steps::{Formula, plans_of};
+use goal_base::MAX_BYTES;
+use goal_graph::Sched;
+use std::alloc::Global;
+
+// Whether the number of ranks is a power of two, where it has to be.
+fn has_power(what: Collective, ranks: u32) -> bool
+    ensures { IsTrue result ↔ HasPower what ranks }
+{
+    match what {
+        Collective::Allreduce => ranks.is_power_of_two(),
+        _ => true,
+    }
+}
+
+/// Whether a collective has a schedule for so many ranks.
+///
+/// # Errors
+///
+/// The first of these: no ranks, or more than the collective may have; a root that is no rank; an allreduce among
+/// another number of ranks than a power of two.
+pub fn possible(what: Collective, ranks: u32) -> Result<(), GenFault>
+    ensures possible { OnOk result (IsPossible what ranks) }
+    ensures fault { IfErr result (λ fault. IsGenFault what ranks fault) }
+    ensures memory { IfErr result (λ fault. fault ≢ GenFault.NoMemory) }
+{
+    let limit = what.most_ranks();
+    if ranks == 0 || limit < ranks {
+        return Err(GenFault::Ranks { limit });
+    }
+    if !what.has_root(ranks) {
+        return Err(GenFault::Root);
+    }
+    if !has_power(what, ranks) {
+        return Err(GenFault::NotPowerOfTwo);
+    }
+    Ok(())
+}
+
+/// The schedule of a collective among so many ranks, with messages of so many bytes, by a formula that tells its operations.
+/// It is made in one pass over the ranks and their operations.
+///
+/// # Errors
+///
+/// Want of memory.
+pub fn schedule_by<F: Formula>(
+    alloc: Global,
+    what: Collective,
+    ranks: u32,
+    bytes: u64,
+    formula: &F,
+) -> Result<Sched, GenFault>
+    requires possible { IsPossible what ranks }
+    requires size { bytes ≤ MAX_BYTES }
+    requires told { made_by (F.rank_count formula.now) (F.op_count formula.now) (F.entry_at formula.now)
+        ≡ made what ranks bytes }
+    ensures made { IfOk result (λ sched. sched ≡ made what ranks bytes) }
+    ensures accepted { IfOk result (λ sched. IsAccepted sched) }
+    ensures certified { IsCertifiedByProof what ranks → IfOk result (λ sched. IsCertifiedFor what sched) }
+    ensures right { IfOk result (λ sched. IsRightFor what sched) }
+    ensures memory { IfErr result (λ fault. fault ≡ GenFault.NoMemory) }
+{
+    let plans = plans_of(alloc, formula)?;
+    match Sched::build(alloc, plans) {
+        Ok(sched) => Ok(sched),
+        Err(_) => Err(GenFault::NoMemory),
+    }
+}

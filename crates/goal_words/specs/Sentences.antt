@@ -1,0 +1,61 @@
+-- The command that a line or a sentence of the code stands for, and what is so of the costs and sizes of each.
+use Rattle.std.specs.Prelude.{◌≤◌}
+use Rattle.goal_base.specs.declared.limits.TheConstants.{MAX_BYTES}
+use Rattle.sim_params.specs.Numbers.{numbers}
+use Rattle.goal_words.specs.declared.line.Line.{Line}
+use Rattle.goal_words.specs.declared.kinds.TheConstants.{MAX_ROUNDS}
+use Rattle.goal_words.specs.declared.sentence.Source.{Source}
+use Rattle.goal_words.specs.declared.sentence.Costing.{Costing}
+use Rattle.goal_words.specs.declared.sentence.View.{View}
+use Rattle.goal_words.specs.declared.sentence.Sentence.{Sentence}
+use Rattle.goal_words.specs.Words.{Pricing, ByNumbers, ByMachine, Unpriced, Command, asks, Sim, Waits, Knots, Nodes, Compile, Show, Gen, Certify, Probe}
+use Rattle.goal_words.specs.declared.line.Line.TheVariants as line
+use Rattle.goal_words.specs.declared.sentence.Source.TheVariants as source
+use Rattle.goal_words.specs.declared.sentence.Costing.TheVariants as costing
+use Rattle.goal_words.specs.declared.sentence.View.TheVariants as view
+
+-- a view of a run
+abbrev pub IsRun : View → Type 0
+IsRun (view.Run how) = Unit {0}
+IsRun view.Text = ⊥
+IsRun (view.File name) = ⊥
+IsRun (view.Verdict what) = ⊥
+
+abbrev pub PricedFor : Pricing → View → Type 0
+PricedFor (ByNumbers numbers) v = IsRun v
+PricedFor (ByMachine name) v = IsRun v
+PricedFor Unpriced v = IsRun v → ⊥
+
+-- what is shown by its run has costs, and nothing else has
+abbrev pub IsPriced : Command → Type 0
+IsPriced c = PricedFor c.costs c.view
+
+-- the messages or the rounds of a source are not too many
+abbrev pub IsSizedSource : Source → Type 0
+IsSizedSource (source.File name) = Unit {0}
+IsSizedSource (source.Made what ranks bytes) = bytes ≤ MAX_BYTES
+IsSizedSource (source.Drawn rounds seed) = rounds ≤ MAX_ROUNDS
+
+abbrev pub IsSized : Command → Type 0
+IsSized c = IsSizedSource c.source
+
+-- the command of a line
+abbrev pub command : Line → Command
+command (line.Sim name params) = Sim name (numbers params)
+command (line.Waits name params) = Waits name (numbers params)
+command (line.Knots name params) = Knots name (numbers params)
+command (line.Nodes name machine) = Nodes name machine
+command (line.Compile name out) = Compile name out
+command (line.Show name) = Show name
+command (line.Gen what ranks bytes) = Gen what ranks bytes
+command (line.Certify what name) = Certify what name
+command (line.Probe rounds seed params) = Probe rounds seed (numbers params)
+
+-- the same of its parts
+abbrev pub pricing : Costing → Pricing
+pricing (costing.Params params) = ByNumbers (numbers params)
+pricing (costing.Machine name) = ByMachine name
+pricing costing.None = Unpriced
+
+abbrev pub said : Sentence → Command
+said s = asks s.source (pricing s.costs) s.view

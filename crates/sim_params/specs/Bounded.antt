@@ -1,0 +1,23 @@
+-- Costs and parameters that are within bounds.
+use Rattle.std.specs.Prelude.{ℕ, ◌<◌, ◌≤◌, ◌^◌}
+use Rattle.sim_params.specs.Costs.{CostModel, Numbers}
+use Rattle.goal_base.specs.declared.limits.TheConstants.{MAX_PARAM, MAX_PER_BYTE}
+use Rattle.sim_params.specs.declared.params.TheConstants.{MAX_PICOS}
+
+-- each number of a cost model is at most 2^61, for messages of at most 2^40-1 bytes
+pub record IsBounded (costs : CostModel) : Type 0 where
+  pub over : (from to bytes : ℕ) → bytes < 2 ^ 40 → costs.over from to bytes ≤ 2 ^ 61
+  pub gap : (from to bytes : ℕ) → bytes < 2 ^ 40 → costs.gap from to bytes ≤ 2 ^ 61
+  pub flight : (from to bytes : ℕ) → bytes < 2 ^ 40 → costs.flight from to bytes ≤ 2 ^ 61
+  pub latency : (from to : ℕ) → costs.latency from to ≤ 2 ^ 61
+
+-- each parameter is at most its limit
+pub record IsWithinLimits (n : Numbers) : Type 0 where
+  pub latency : n.latency ≤ MAX_PARAM
+  pub overhead : n.overhead ≤ MAX_PARAM
+  pub gap : n.gap ≤ MAX_PARAM
+  pub gap_per_byte : n.gap_per_byte ≤ MAX_PER_BYTE
+  pub gap_picos : n.gap_picos ≤ MAX_PICOS
+  pub overhead_per_byte : n.overhead_per_byte ≤ MAX_PER_BYTE
+  pub overhead_picos : n.overhead_picos ≤ MAX_PICOS
+  pub sync : n.sync ≤ MAX_PARAM

@@ -1,0 +1,26 @@
+-- What is told of some of the operations, while the first line is made and the lines are printed.
+use Rattle.std.specs.Prelude.{ℕ, ◌≡◌, ◌&&◌, Bool, not, List, Option, is_some, drop, count_by}
+use Rattle.std.specs.List.{flat_map}
+use Rattle.goal_graph.specs.declared.action.OpId.{OpId}
+use Rattle.goal_graph.specs.declared.action.Timed.{Timed}
+use Rattle.goal_graph.specs.declared.plan.Kind.{Kind}
+use Rattle.goal_graph.specs.Schedule.{Plan, operations}
+use Rattle.sim_params.specs.Costs.{CostModel}
+use Rattle.sim_params.specs.Times.{greatest}
+use Rattle.sim_params.specs.Stuck.{lacks_end}
+use Rattle.sim_timeline.specs.Timeline.{is_send, is_unread, end_or_zero, line_of}
+
+-- a message that has begun and that no receive takes, by its kind, its start and its partner
+abbrev pub is_unread_send : Option Kind → Option ℕ → Option OpId → Bool
+is_unread_send kind start partner = is_send kind && is_some start && not (is_some partner)
+
+module _ (plans : List Plan) (costs : CostModel) (h : List Timed) where
+  -- what the first line tells of these operations
+  pub record IsSummary (ops : List OpId) (stuck unread finish : ℕ) : Type 0 where
+    pub stuck_is : stuck ≡ count_by (lacks_end plans costs h) ops
+    pub unread_is : unread ≡ count_by (is_unread plans costs h) ops
+    pub finish_is : finish ≡ greatest (end_or_zero plans costs h) ops
+
+  -- the lines of all operations but so many, by rank and number
+  abbrev pub lines_from : ℕ → List ℕ
+  lines_from done = flat_map (line_of plans costs h) (drop done (operations plans))
