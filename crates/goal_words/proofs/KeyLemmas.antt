@@ -4,8 +4,8 @@ use Rattle.std.proofs.lemmas.Bool.{both_ways}
 use Rattle.std.proofs.lemmas.Slice.Eq.{bytes_eq-Decides}
 use Rattle.goal_words.specs.declared.options.Key.{Key}
 use Rattle.goal_words.specs.declared.options.Key.TheVariants.{Latency, Overhead, Gap, GapPerByte, GapPicos, OverheadPerByte, OverheadPicos, Sync, Root}
-use Rattle.goal_words.specs.declared.options.Taken.{Taken}
-use Rattle.goal_words.specs.declared.options.Taken.TheVariants as taken_by
+use Rattle.goal_words.specs.declared.options.AllowedOptions.{AllowedOptions}
+use Rattle.goal_words.specs.declared.options.AllowedOptions.TheVariants as taken_by
 use Rattle.goal_words.specs.Options.{run_options, all_options, is_option, begins_dash, value_of}
 use Rattle.goal_words.specs.Words.{options_of}
 use Rattle.goal_words.specs.Reading.{named_or, run_key_of, key_named, key_of, words_of}
@@ -47,7 +47,7 @@ run_known w =
     (step w (codes "--Op") OverheadPicos _ _ refl
     (step w (codes "--S") Sync None false refl refl)))))))
 
-known : (taken : Taken) (w : List ℕ) → Known (key_of taken w) (is_option (words_of taken) w) w
+known : (taken : AllowedOptions) (w : List ℕ) → Known (key_of taken w) (is_option (words_of taken) w) w
 known taken_by.Run w = run_known w
 known taken_by.Root w = step w (codes "--root") Root None false refl refl
 known taken_by.Nothing w = refl
@@ -55,17 +55,17 @@ known taken_by.Nothing w = refl
 pub named_known : (w : List ℕ) → Known (key_named w) (is_option all_options w) w
 named_known w = step w (codes "--root") Root (run_key_of w) (is_option run_options w) refl (run_known w)
 
-pub key_found : (taken : Taken) (w : List ℕ) (key : Key) → key_of taken w ≡ Some key → (is_option (words_of taken) w ≡ true) × (w ≡ word key)
+pub key_found : (taken : AllowedOptions) (w : List ℕ) (key : Key) → key_of taken w ≡ Some key → (is_option (words_of taken) w ≡ true) × (w ≡ word key)
 key_found taken w key h = subst (λ o. Known o (is_option (words_of taken) w) w) h (known taken w)
 
-pub key_none : (taken : Taken) (w : List ℕ) → key_of taken w ≡ None → is_option (words_of taken) w ≡ false
+pub key_none : (taken : AllowedOptions) (w : List ℕ) → key_of taken w ≡ None → is_option (words_of taken) w ≡ false
 key_none taken w h = subst (λ o. Known o (is_option (words_of taken) w) w) h (known taken w)
 
 option_word : (o : Option Key) (test : Bool) (w : List ℕ) → Known o test w → test ≡ true → (key : Key) × (w ≡ word key)
 option_word None test w k t = absurd (both_ways test k t)
 option_word (Some key) test w k t = (key, k.1)
 
-pub option_key : (taken : Taken) (w : List ℕ) → is_option (words_of taken) w ≡ true → (key : Key) × (w ≡ word key)
+pub option_key : (taken : AllowedOptions) (w : List ℕ) → is_option (words_of taken) w ≡ true → (key : Key) × (w ≡ word key)
 option_key taken w h = option_word (key_of taken w) (is_option (words_of taken) w) w (known taken w) h
 
 pub no_option_by : (test : Bool) → (test ≡ true → ⊥) → test ≡ false
@@ -122,24 +122,24 @@ not_named w key none =
     no_option_by (bytes_eq w (word key))
     (λ same. both_ways (is_option all_options w) none (ap (is_option all_options) ((bytes_eq-Decides w (word key)).0 same) ∙ word_is_option key))
 
-pub option_dash : (taken : Taken) (w : List ℕ) → is_option (words_of taken) w ≡ true → begins_dash w ≡ true
+pub option_dash : (taken : AllowedOptions) (w : List ℕ) → is_option (words_of taken) w ≡ true → begins_dash w ≡ true
 option_dash taken w h =
     let found = option_key taken w h in ap begins_dash found.1 ∙ word_dash found.0
 
-pub plain_no_option : (taken : Taken) (w : List ℕ) → begins_dash w ≡ false → is_option (words_of taken) w ≡ false
+pub plain_no_option : (taken : AllowedOptions) (w : List ℕ) → begins_dash w ≡ false → is_option (words_of taken) w ≡ false
 plain_no_option taken w plain = no_option_by (is_option (words_of taken) w) (λ h. both_ways (begins_dash w) plain (option_dash taken w h))
 
 none_some : (n : ℕ) → None ≡ Some n → ⊥
 none_some n h = cc
 
-pub number_no_option : (taken : Taken) (w : List ℕ) (n : ℕ) → value_of w ≡ Some n → is_option (words_of taken) w ≡ false
+pub number_no_option : (taken : AllowedOptions) (w : List ℕ) (n : ℕ) → value_of w ≡ Some n → is_option (words_of taken) w ≡ false
 number_no_option taken w n number =
     no_option_by (is_option (words_of taken) w)
     (λ h.
     let found = option_key taken w h in
     none_some n (sym (word_no_number found.0) ∙ (sym (ap value_of found.1) ∙ number)))
 
-pub empty_no_option : (taken : Taken) → is_option (words_of taken) [] ≡ false
+pub empty_no_option : (taken : AllowedOptions) → is_option (words_of taken) [] ≡ false
 empty_no_option taken_by.Run = refl
 empty_no_option taken_by.Root = refl
 empty_no_option taken_by.Nothing = refl
@@ -156,7 +156,7 @@ word_takes_none OverheadPicos = refl
 word_takes_none Sync = refl
 word_takes_none Root = refl
 
-pub first_no_option : (taken : Taken) (first : List ℕ) → words_of taken ≡ options_of first → is_option (options_of first) first ≡ false
+pub first_no_option : (taken : AllowedOptions) (first : List ℕ) → words_of taken ≡ options_of first → is_option (options_of first) first ≡ false
 first_no_option taken first same =
     no_option_by (is_option (options_of first) first)
     (λ h.

@@ -6,8 +6,8 @@ use Rattle.std.proofs.lemmas.List.{length-append}
 use Rattle.std.proofs.lemmas.List.Folds.{list_all-append}
 use Rattle.goal_words.specs.declared.options.Key.{Key}
 use Rattle.goal_words.specs.declared.options.Key.TheVariants.{Latency, Overhead, Gap, GapPerByte, GapPicos, OverheadPerByte, OverheadPicos, Sync, Root}
-use Rattle.goal_words.specs.declared.options.Taken.{Taken}
-use Rattle.goal_words.specs.declared.options.Taken.TheVariants as taken_by
+use Rattle.goal_words.specs.declared.options.AllowedOptions.{AllowedOptions}
+use Rattle.goal_words.specs.declared.options.AllowedOptions.TheVariants as taken_by
 use Rattle.goal_words.specs.Options.{Place, Plain, Named, Set, Wrong, run_options, root_option, is_option, begins_dash, value_of, set_to, place, places, plain_words, values_of, first_of, is_known, at_most_one, is_right, value_at}
 use Rattle.goal_words.specs.Words.{Command, options_of, line_places, command_by, command_of}
 use Rattle.goal_words.specs.Laws.{Group, Word, Apart, Joined, spelt, IsSetting, IsGroup, ends_whole}
@@ -17,11 +17,11 @@ use Rattle.goal_words.proofs.PlaceLemmas.{after}
 use Rattle.goal_words.proofs.PartsLemmas.{all_keys, of_keys, same_all, same_given, one_false}
 
 -- the options that the first word takes are some
-taken_for : (first : List ℕ) → (taken : Taken) × (words_of taken ≡ options_of first)
+taken_for : (first : List ℕ) → (taken : AllowedOptions) × (words_of taken ≡ options_of first)
 taken_for first =
     by (bytes_eq first (codes "sim") || bytes_eq first (codes "waits") || bytes_eq first (codes "knots") || bytes_eq first (codes "probe")) (bytes_eq first (codes "gen") || bytes_eq first (codes "certify"))
   where
-    by : (run gen : Bool) → (taken : Taken) × (words_of taken ≡ (if run then run_options else (if gen then root_option else [])))
+    by : (run gen : Bool) → (taken : AllowedOptions) × (words_of taken ≡ (if run then run_options else (if gen then root_option else [])))
     by true gen = (taken_by.Run, refl)
     by false true = (taken_by.Root, refl)
     by false false = (taken_by.Nothing, refl)
@@ -103,14 +103,14 @@ joined_dash OverheadPicos v = refl
 joined_dash Sync v = refl
 joined_dash Root v = refl
 
-joined_no_option : (taken : Taken) (key : Key) (v : List ℕ) → is_option (words_of taken) (word key ++ (61 ∷ v)) ≡ false
+joined_no_option : (taken : AllowedOptions) (key : Key) (v : List ℕ) → is_option (words_of taken) (word key ++ (61 ∷ v)) ≡ false
 joined_no_option taken key v =
     no_option_by (is_option (words_of taken) (word key ++ (61 ∷ v)))
     (λ h.
     let found = option_key taken (word key ++ (61 ∷ v)) h in
     both_ways (has_equals (word found.0)) (word_has_none found.0) (ap has_equals (sym found.1) ∙ joined_has_one key v))
 
-joined_placed : (taken : Taken) (option v : List ℕ) (words : List (List ℕ)) (key : Key) → option ≡ word key → is_option (words_of taken) (word key) ≡ true
+joined_placed : (taken : AllowedOptions) (option v : List ℕ) (words : List (List ℕ)) (key : Key) → option ≡ word key → is_option (words_of taken) (word key) ≡ true
     → places (words_of taken) [] ((option ++ (61 ∷ v)) ∷ words) ≡ set_to option (value_of v) ∷ places (words_of taken) [] words
 unfolding places
 joined_placed taken option v words key e is =
@@ -118,19 +118,19 @@ joined_placed taken option v words key e is =
     (rw (empty_no_option taken, joined_dash key v, joined_no_option taken key v, joined_before key v, joined_after key v, is, after (words_of taken) (word key ++ (61 ∷ v)) words (joined_no_option taken key v) (empty_no_option taken))
     refl)
 
-apart_placed : (taken : Taken) (option v : List ℕ) (words : List (List ℕ)) → is_option (words_of taken) option ≡ true → begins_dash v ≡ false
+apart_placed : (taken : AllowedOptions) (option v : List ℕ) (words : List (List ℕ)) → is_option (words_of taken) option ≡ true → begins_dash v ≡ false
     → places (words_of taken) [] (option ∷ v ∷ words) ≡ Named ∷ set_to option (value_of v) ∷ places (words_of taken) [] words
 unfolding places
 apart_placed taken option v words is plain =
     rw (empty_no_option taken, option_dash taken option is, is, after (words_of taken) v words (plain_no_option taken v plain) (empty_no_option taken)) refl
 
-word_placed : (taken : Taken) (w : List ℕ) (words : List (List ℕ)) → begins_dash w ≡ false
+word_placed : (taken : AllowedOptions) (w : List ℕ) (words : List (List ℕ)) → begins_dash w ≡ false
     → places (words_of taken) [] (w ∷ words) ≡ Plain w ∷ places (words_of taken) [] words
 unfolding places
 word_placed taken w words plain =
     rw (empty_no_option taken, plain, after (words_of taken) w words (plain_no_option taken w plain) (empty_no_option taken)) refl
 
-group_placed : (taken : Taken) (g : Group) (words : List (List ℕ)) → IsGroup (words_of taken) g
+group_placed : (taken : AllowedOptions) (g : Group) (words : List (List ℕ)) → IsGroup (words_of taken) g
     → places (words_of taken) [] (spelt g ++ words) ≡ placed g ++ places (words_of taken) [] words
 unfolding placed
 group_placed taken (Word w) words plain = word_placed taken w words plain
@@ -145,14 +145,14 @@ setting_group options (Apart option v) is = is
 setting_group options (Joined option v) is = is
 
 -- two groups after some words
-two_placed : (taken : Taken) (before : List ℕ) (xs : List (List ℕ)) (g h : Group) (ys : List (List ℕ)) → ends_whole (words_of taken) (before ∷ xs) ≡ true
+two_placed : (taken : AllowedOptions) (before : List ℕ) (xs : List (List ℕ)) (g h : Group) (ys : List (List ℕ)) → ends_whole (words_of taken) (before ∷ xs) ≡ true
     → IsGroup (words_of taken) g → IsGroup (words_of taken) h
     → places (words_of taken) before (xs ++ (spelt g ++ (spelt h ++ ys))) ≡ inner (words_of taken) before xs ++ (placed g ++ (placed h ++ places (words_of taken) [] ys))
 two_placed taken before xs g h ys whole one other =
     cut (words_of taken) before xs (spelt g ++ (spelt h ++ ys)) (empty_no_option taken) whole
     ∙ ap (λ ps. inner (words_of taken) before xs ++ ps) (group_placed taken g (spelt h ++ ys) one ∙ ap (λ ps. placed g ++ ps) (group_placed taken h ys other))
 
-one_placed : (taken : Taken) (before : List ℕ) (xs : List (List ℕ)) (g : Group) (ys : List (List ℕ)) → ends_whole (words_of taken) (before ∷ xs) ≡ true
+one_placed : (taken : AllowedOptions) (before : List ℕ) (xs : List (List ℕ)) (g : Group) (ys : List (List ℕ)) → ends_whole (words_of taken) (before ∷ xs) ≡ true
     → IsGroup (words_of taken) g → places (words_of taken) before (xs ++ (spelt g ++ ys)) ≡ inner (words_of taken) before xs ++ (placed g ++ places (words_of taken) [] ys)
 one_placed taken before xs g ys whole one =
     cut (words_of taken) before xs (spelt g ++ ys) (empty_no_option taken) whole

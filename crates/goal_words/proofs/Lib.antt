@@ -1,7 +1,7 @@
 pub mod NumberLemmas
 pub mod KeyLemmas
 pub mod PlaceLemmas
-pub mod RestLemmas
+pub mod WordsLeftLemmas
 pub mod PartsLemmas
 pub mod LawLemmas
 pub mod SizeLemmas

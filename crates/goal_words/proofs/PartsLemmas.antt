@@ -5,10 +5,10 @@ use Rattle.std.specs.List.{list_all}
 use Rattle.sim_params.specs.Costs.{Numbers}
 use Rattle.goal_words.specs.declared.options.Key.{Key}
 use Rattle.goal_words.specs.declared.options.Key.TheVariants.{Latency, Overhead, Gap, GapPerByte, GapPicos, OverheadPerByte, OverheadPicos, Sync, Root}
-use Rattle.goal_words.specs.declared.options.Taken.{Taken}
-use Rattle.goal_words.specs.declared.options.Given.{Given}
+use Rattle.goal_words.specs.declared.options.AllowedOptions.{AllowedOptions}
+use Rattle.goal_words.specs.declared.options.OptionValues.{OptionValues}
 use Rattle.goal_words.specs.Options.{Place, Plain, Named, Set, Wrong, is_option, all_options, plain_words, values_of, first_of, is_known, at_most_one, is_right, value_at, places}
-use Rattle.goal_words.specs.Reading.{Parts, key_named, words_of, none_given, given_for, set, with_set, with_plain, numbers_given, parts_of, parts_in, are_few}
+use Rattle.goal_words.specs.Reading.{Parts, key_named, words_of, none_given, given_for, set, with_set, with_plain, numbers_given, parts_of, parts_in, are_one_to_three}
 use Rattle.goal_words.specs.Words.{Command, options_of, command_by, command_of}
 use Rattle.goal_words.proofs.KeyLemmas.{word, Known, named_known, not_named, first_no_option, empty_no_option}
 use Rattle.goal_words.proofs.PlaceLemmas.{after}
@@ -30,7 +30,7 @@ abbrev pub all_keys : (Key → Bool) → Bool
 all_keys f =
     list_all f (Root ∷ Latency ∷ Overhead ∷ Gap ∷ GapPerByte ∷ GapPicos ∷ OverheadPerByte ∷ OverheadPicos ∷ Sync ∷ [])
 
-abbrev pub of_keys : (Key → Option ℕ) → Given
+abbrev pub of_keys : (Key → Option ℕ) → OptionValues
 of_keys f = record {
   latency = f Latency;
   overhead = f Overhead;
@@ -55,14 +55,14 @@ all_true : (f : Key → Bool) → ((k : Key) → f k ≡ true) → all_keys f �
 all_true f each = same_all f (λ k. true) each
 
 -- what all places say together
-abbrev chosen : Bool → List (List ℕ) → Given → Option Parts
+abbrev chosen : Bool → List (List ℕ) → OptionValues → Option Parts
 chosen right plain given = if right then Some (record { plain = plain; given = given }) else None
 
-abbrev summed : Given → List Place → Option Parts
+abbrev summed : OptionValues → List Place → Option Parts
 summed g ps =
     chosen (list_all is_known ps && all_keys (λ k. fine (given_for g k) (values_of (word k) ps))) (plain_words ps) (of_keys (λ k. final (given_for g k) (values_of (word k) ps)))
 
-mapped : (right : Bool) (w : List ℕ) (plain : List (List ℕ)) (given : Given) → option_map (with_plain w) (chosen right plain given) ≡ chosen right (w ∷ plain) given
+mapped : (right : Bool) (w : List ℕ) (plain : List (List ℕ)) (given : OptionValues) → option_map (with_plain w) (chosen right plain given) ≡ chosen right (w ∷ plain) given
 mapped true w plain given = refl
 mapped false w plain given = refl
 
@@ -75,7 +75,7 @@ final_nothing None = refl
 final_nothing (Some m) = refl
 
 -- two options are one, or have different words and places
-split : (key k : Key) → (key ≡ k) ⊎ ((bytes_eq (word key) (word k) ≡ false) × ((g : Given) (n : ℕ) → given_for (set g key n) k ≡ given_for g k))
+split : (key k : Key) → (key ≡ k) ⊎ ((bytes_eq (word key) (word k) ≡ false) × ((g : OptionValues) (n : ℕ) → given_for (set g key n) k ≡ given_for g k))
 split Latency Latency = inl refl
 split Overhead Overhead = inl refl
 split Gap Gap = inl refl
@@ -98,7 +98,7 @@ same_key OverheadPicos = refl
 same_key Sync = refl
 same_key Root = refl
 
-set_here : (g : Given) (key : Key) (n : ℕ) → given_for (set g key n) key ≡ Some n
+set_here : (g : OptionValues) (key : Key) (n : ℕ) → given_for (set g key n) key ≡ Some n
 set_here g Latency n = refl
 set_here g Overhead n = refl
 set_here g Gap n = refl
@@ -145,31 +145,31 @@ one_more n [] = refl
 one_more n (m ∷ ns) = refl
 
 -- one key, after an option is set
-fine_set : (g : Given) (key k : Key) (n : ℕ) (ps : List Place) → given_for g key ≡ None
+fine_set : (g : OptionValues) (key k : Key) (n : ℕ) (ps : List Place) → given_for g key ≡ None
     → fine (given_for (set g key n) k) (values_of (word k) ps) ≡ fine (given_for g k) (values_of (word k) (Set (word key) n ∷ ps))
 unfolding values_of
 fine_set g key k n ps none = by (split key k)
   where
-    by : (key ≡ k) ⊎ ((bytes_eq (word key) (word k) ≡ false) × ((h : Given) (m : ℕ) → given_for (set h key m) k ≡ given_for h k))
+    by : (key ≡ k) ⊎ ((bytes_eq (word key) (word k) ≡ false) × ((h : OptionValues) (m : ℕ) → given_for (set h key m) k ≡ given_for h k))
         → fine (given_for (set g key n) k) (values_of (word k) ps) ≡ fine (given_for g k) (values_of (word k) (Set (word key) n ∷ ps))
     by (inl e) =
         subst (λ x. fine (given_for (set g key n) x) (values_of (word x) ps) ≡ fine (given_for g x) (values_of (word x) (Set (word key) n ∷ ps))) e
         (rw (set_here g key n, none, same_key key) (sym (one_more n (values_of (word key) ps))))
     by (inr o) = rw (o.0, o.1 g n) refl
 
-final_set : (g : Given) (key k : Key) (n : ℕ) (ps : List Place) → given_for g key ≡ None
+final_set : (g : OptionValues) (key k : Key) (n : ℕ) (ps : List Place) → given_for g key ≡ None
     → final (given_for (set g key n) k) (values_of (word k) ps) ≡ final (given_for g k) (values_of (word k) (Set (word key) n ∷ ps))
 unfolding values_of
 final_set g key k n ps none = by (split key k)
   where
-    by : (key ≡ k) ⊎ ((bytes_eq (word key) (word k) ≡ false) × ((h : Given) (m : ℕ) → given_for (set h key m) k ≡ given_for h k))
+    by : (key ≡ k) ⊎ ((bytes_eq (word key) (word k) ≡ false) × ((h : OptionValues) (m : ℕ) → given_for (set h key m) k ≡ given_for h k))
         → final (given_for (set g key n) k) (values_of (word k) ps) ≡ final (given_for g k) (values_of (word k) (Set (word key) n ∷ ps))
     by (inl e) =
         subst (λ x. final (given_for (set g key n) x) (values_of (word x) ps) ≡ final (given_for g x) (values_of (word x) (Set (word key) n ∷ ps))) e
         (rw (set_here g key n, none, same_key key) refl)
     by (inr o) = rw (o.0, o.1 g n) refl
 
-summed_alike : (g h : Given) (option : List ℕ) (n : ℕ) (ps : List Place)
+summed_alike : (g h : OptionValues) (option : List ℕ) (n : ℕ) (ps : List Place)
     → ((k : Key) → fine (given_for h k) (values_of (word k) ps) ≡ fine (given_for g k) (values_of (word k) (Set option n ∷ ps)))
     → ((k : Key) → final (given_for h k) (values_of (word k) ps) ≡ final (given_for g k) (values_of (word k) (Set option n ∷ ps)))
     → summed h ps ≡ summed g (Set option n ∷ ps)
@@ -181,22 +181,22 @@ summed_alike g h option n ps rights values =
     (same_given (λ k. final (given_for h k) (values_of (word k) ps)) (λ k. final (given_for g k) (values_of (word k) (Set option n ∷ ps))) values)
 
 -- an option that is set for the second time
-twice : (g : Given) (key : Key) (n m : ℕ) (ps : List Place) → given_for g key ≡ Some m → None ≡ summed g (Set (word key) n ∷ ps)
+twice : (g : OptionValues) (key : Key) (n m : ℕ) (ps : List Place) → given_for g key ≡ Some m → None ≡ summed g (Set (word key) n ∷ ps)
 unfolding values_of
 twice g key n m ps given =
     ap (λ right. chosen right (plain_words (Set (word key) n ∷ ps)) (of_keys (λ k. final (given_for g k) (values_of (word k) (Set (word key) n ∷ ps)))))
     (sym (and_both_false (list_all is_known (Set (word key) n ∷ ps)) (all_keys (λ k. fine (given_for g k) (values_of (word k) (Set (word key) n ∷ ps))))
     (one_false (λ k. fine (given_for g k) (values_of (word k) (Set (word key) n ∷ ps))) key (rw (given, same_key key) refl))))
 
-set_option : (g : Given) (key : Key) (n : ℕ) (ps : List Place) (o : Option ℕ) → given_for g key ≡ o → ((h : Given) → parts_of h ps ≡ summed h ps)
+set_option : (g : OptionValues) (key : Key) (n : ℕ) (ps : List Place) (o : Option ℕ) → given_for g key ≡ o → ((h : OptionValues) → parts_of h ps ≡ summed h ps)
     → option_and_then (λ h. parts_of h ps) (if is_some o then None else Some (set g key n)) ≡ summed g (Set (word key) n ∷ ps)
 set_option g key n ps None none next =
     next (set g key n)
     ∙ summed_alike g (set g key n) (word key) n ps (λ k. fine_set g key k n ps none) (λ k. final_set g key k n ps none)
 set_option g key n ps (Some m) given next = twice g key n m ps given
 
-set_known : (g : Given) (option : List ℕ) (n : ℕ) (ps : List Place) (found : Option Key) → Known found (is_option all_options option) option
-    → ((h : Given) → parts_of h ps ≡ summed h ps) → option_and_then (λ h. parts_of h ps) (with_set g found n) ≡ summed g (Set option n ∷ ps)
+set_known : (g : OptionValues) (option : List ℕ) (n : ℕ) (ps : List Place) (found : Option Key) → Known found (is_option all_options option) option
+    → ((h : OptionValues) → parts_of h ps ≡ summed h ps) → option_and_then (λ h. parts_of h ps) (with_set g found n) ≡ summed g (Set option n ∷ ps)
 unfolding values_of
 set_known g option n ps None none next =
     next g
@@ -205,7 +205,7 @@ set_known g option n ps (Some key) found next =
     subst (λ w. option_and_then (λ h. parts_of h ps) (with_set g (Some key) n) ≡ summed g (Set w n ∷ ps)) (sym found.1)
     (set_option g key n ps (given_for g key) refl next)
 
-pub together : (g : Given) (ps : List Place) → parts_of g ps ≡ summed g ps
+pub together : (g : OptionValues) (ps : List Place) → parts_of g ps ≡ summed g ps
 unfolding parts_of values_of plain_words
 together g [] =
     rw (all_true (λ k. fine (given_for g k) []) (λ k. fine_nothing (given_for g k)))
@@ -218,7 +218,7 @@ together g (Wrong ∷ ps) = refl
 together g (Set option n ∷ ps) = set_known g option n ps (key_named option) (named_known option) (λ h. together h ps)
 
 -- the command of words, by what is read of them
-pub command_read : (taken : Taken) (first : List ℕ) (words : List (List ℕ)) → words_of taken ≡ options_of first
+pub command_read : (taken : AllowedOptions) (first : List ℕ) (words : List (List ℕ)) → words_of taken ≡ options_of first
     → command_of (first ∷ words) ≡ option_and_then (λ parts. command_by first parts.plain (numbers_given parts.given) parts.given.root) (parts_in taken none_given words)
 unfolding parts_in
 command_read taken first words same =
@@ -229,7 +229,7 @@ command_read taken first words same =
     ap (parts_of none_given) first_only ∙ together none_given ps in
     rw read (judged (is_right ps) first (plain_words ps) (of_keys (λ k. value_at (word k) ps)))
   where
-    judged : (right : Bool) (w : List ℕ) (plain : List (List ℕ)) (given : Given)
+    judged : (right : Bool) (w : List ℕ) (plain : List (List ℕ)) (given : OptionValues)
         → (if right then command_by w plain (numbers_given given) given.root else None) ≡ option_and_then (λ parts. command_by w parts.plain (numbers_given parts.given) parts.given.root) (chosen right plain given)
     judged true w plain given = refl
     judged false w plain given = refl
@@ -254,7 +254,7 @@ unnamed first =
     neither (bytes_eq first (codes "sim")) (bytes_eq first (codes "waits")) (bytes_eq first (codes "knots")) (bytes_eq first (codes "nodes")) (bytes_eq first (codes "compile")) (bytes_eq first (codes "show")) (bytes_eq first (codes "gen")) (bytes_eq first (codes "certify")) (bytes_eq first (codes "probe"))
 
 -- every command has one to three plain words
-pub too_few_or_many : (first : List ℕ) (plain : List (List ℕ)) (params : Numbers) (root : Option ℕ) → are_few plain ≡ false → command_by first plain params root ≡ None
+pub too_few_or_many : (first : List ℕ) (plain : List (List ℕ)) (params : Numbers) (root : Option ℕ) → are_one_to_three plain ≡ false → command_by first plain params root ≡ None
 too_few_or_many first [] params root few = unnamed first
 too_few_or_many first (a ∷ []) params root few = absurd cc
 too_few_or_many first (a ∷ b ∷ []) params root few = absurd cc

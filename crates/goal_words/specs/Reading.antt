@@ -6,12 +6,12 @@ use Rattle.sim_params.specs.declared.params.TheConstants.{DEFAULT_LATENCY, DEFAU
 use Rattle.goal_words.specs.Options.{Place, Plain, Named, Set, Wrong, run_options, root_option, begins_dash, value_of, places}
 use Rattle.goal_words.specs.declared.options.Key.{Key}
 use Rattle.goal_words.specs.declared.options.Key.TheVariants.{Latency, Overhead, Gap, GapPerByte, GapPicos, OverheadPerByte, OverheadPicos, Sync, Root}
-use Rattle.goal_words.specs.declared.options.Taken.{Taken}
-use Rattle.goal_words.specs.declared.options.Taken.TheVariants as taken_by
-use Rattle.goal_words.specs.declared.options.Given.{Given}
-use Rattle.goal_words.specs.declared.rest.Rest.{Rest}
-use Rattle.goal_words.specs.declared.rest.Few.{Few}
-use Rattle.goal_words.specs.declared.rest.Few.TheVariants.{One, Two, Three}
+use Rattle.goal_words.specs.declared.options.AllowedOptions.{AllowedOptions}
+use Rattle.goal_words.specs.declared.options.AllowedOptions.TheVariants as taken_by
+use Rattle.goal_words.specs.declared.options.OptionValues.{OptionValues}
+use Rattle.goal_words.specs.declared.words_left.WordsLeft.{WordsLeft}
+use Rattle.goal_words.specs.declared.words_left.PlainWords.{PlainWords}
+use Rattle.goal_words.specs.declared.words_left.PlainWords.TheVariants.{One, Two, Three}
 
 -- this option where the word is its word, and else what the others say
 abbrev pub named_or : List ℕ → List ℕ → Key → Option Key → Option Key
@@ -34,19 +34,19 @@ abbrev pub key_named : List ℕ → Option Key
 key_named w = named_or w (codes "--root") Root (run_key_of w)
 
 -- the option of that word among those that a command takes
-abbrev pub key_of : Taken → List ℕ → Option Key
+abbrev pub key_of : AllowedOptions → List ℕ → Option Key
 key_of taken_by.Run w = run_key_of w
 key_of taken_by.Root w = named_or w (codes "--root") Root None
 key_of taken_by.Nothing w = None
 
 -- the words of the options that a command takes
-abbrev pub words_of : Taken → List (List ℕ)
+abbrev pub words_of : AllowedOptions → List (List ℕ)
 words_of taken_by.Run = run_options
 words_of taken_by.Root = root_option
 words_of taken_by.Nothing = []
 
 -- no option yet
-abbrev pub none_given : Given
+abbrev pub none_given : OptionValues
 none_given = record {
   latency = None;
   overhead = None;
@@ -60,7 +60,7 @@ none_given = record {
 }
 
 -- what an option is set to
-abbrev pub given_for : Given → Key → Option ℕ
+abbrev pub given_for : OptionValues → Key → Option ℕ
 given_for g Latency = g.latency
 given_for g Overhead = g.overhead
 given_for g Gap = g.gap
@@ -72,7 +72,7 @@ given_for g Sync = g.sync
 given_for g Root = g.root
 
 -- with an option set to a number
-abbrev pub set : Given → Key → ℕ → Given
+abbrev pub set : OptionValues → Key → ℕ → OptionValues
 set g Latency n = record g { latency = Some n }
 set g Overhead n = record g { overhead = Some n }
 set g Gap n = record g { gap = Some n }
@@ -84,20 +84,20 @@ set g Sync n = record g { sync = Some n }
 set g Root n = record g { root = Some n }
 
 -- with one option more, which stands at most once
-abbrev pub with_option : Given → Key → ℕ → Option Given
+abbrev pub with_option : OptionValues → Key → ℕ → Option OptionValues
 with_option g key n = if is_some (given_for g key) then None else Some (set g key n)
 
 -- with the option and this word as its value
-abbrev pub with_value : Given → Key → List ℕ → Option Given
+abbrev pub with_value : OptionValues → Key → List ℕ → Option OptionValues
 with_value g key w = option_and_then (λ n. with_option g key n) (value_of w)
 
 -- with what the option of that word is set to
-abbrev pub with_set : Given → Option Key → ℕ → Option Given
+abbrev pub with_set : OptionValues → Option Key → ℕ → Option OptionValues
 with_set g None n = Some g
 with_set g (Some key) n = with_option g key n
 
 -- the parameters of a run: those given, and else the usual ones
-abbrev pub numbers_given : Given → Numbers
+abbrev pub numbers_given : OptionValues → Numbers
 numbers_given g = record {
   latency = unwrap_or g.latency DEFAULT_LATENCY;
   overhead = unwrap_or g.overhead DEFAULT_OVERHEAD;
@@ -112,14 +112,14 @@ numbers_given g = record {
 -- plain words, and what the options are set to
 pub record Parts : Type 0 where
   pub plain : List (List ℕ)
-  pub given : Given
+  pub given : OptionValues
 
 -- with a plain word before
 abbrev pub with_plain : List ℕ → Parts → Parts
 with_plain w parts = record { plain = w ∷ parts.plain; given = parts.given }
 
 -- what places say, with the options that are given before
-unfoldable pub parts_of : Given → List Place → Option Parts
+unfoldable pub parts_of : OptionValues → List Place → Option Parts
 parts_of g [] = Some (record { plain = []; given = g })
 parts_of g (Plain w ∷ ps) = option_map (with_plain w) (parts_of g ps)
 parts_of g (Named ∷ ps) = parts_of g ps
@@ -127,11 +127,11 @@ parts_of g (Set option n ∷ ps) = option_and_then (λ h. parts_of h ps) (with_s
 parts_of g (Wrong ∷ ps) = None
 
 -- what words say that do not follow an option word
-unfoldable pub parts_in : Taken → Given → List (List ℕ) → Option Parts
+unfoldable pub parts_in : AllowedOptions → OptionValues → List (List ℕ) → Option Parts
 parts_in taken g words = parts_of g (places (words_of taken) [] words)
 
 -- what is left of a line
-abbrev pub left : Rest → Option Parts
+abbrev pub left : WordsLeft → Option Parts
 left rest = parts_in rest.taken rest.given (map string_bytes rest.words.now)
 
 -- no more words, or a plain word first
@@ -140,13 +140,13 @@ begins_plain [] = true
 begins_plain (w ∷ words) = not (begins_dash w)
 
 -- the words, which are one to three
-abbrev pub listed : Few → List (List ℕ)
+abbrev pub listed : PlainWords → List (List ℕ)
 listed (One a) = a.now ∷ []
 listed (Two a b) = a.now ∷ b.now ∷ []
 listed (Three a b c) = a.now ∷ b.now ∷ c.now ∷ []
 
-abbrev pub are_few : List (List ℕ) → Bool
-are_few (a ∷ []) = true
-are_few (a ∷ b ∷ []) = true
-are_few (a ∷ b ∷ c ∷ []) = true
-are_few _ = false
+abbrev pub are_one_to_three : List (List ℕ) → Bool
+are_one_to_three (a ∷ []) = true
+are_one_to_three (a ∷ b ∷ []) = true
+are_one_to_three (a ∷ b ∷ c ∷ []) = true
+are_one_to_three _ = false

@@ -19,10 +19,10 @@ mod kinds;
 mod laws;
 mod line;
 mod options;
-mod rest;
 mod sentence;
 #[cfg(test)]
 mod tests;
+mod words_left;
 
 pub use laws::laws_of_lines;
 pub use line::{FileName, Line, LineFault, read_words};

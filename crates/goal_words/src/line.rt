@@ -5,8 +5,8 @@ ghost use Rattle.goal_words.specs.Sentences.{command, IsSized};
 ghost use Rattle.goal_words.specs.Reading.{listed, numbers_given, words_of};
 
 use crate::kinds::{MAX_ROUNDS, collective_of, number_from};
-use crate::options::{Given, Taken, value_of};
-use crate::rest::{Few, Rest};
+use crate::options::{AllowedOptions, OptionValues, value_of};
+use crate::words_left::{PlainWords, WordsLeft};
 use goal_base::{MAX_BYTES, MAX_RANKS};
 use goal_blocks::Collective;
 use sim_params::Params;
@@ -131,25 +131,30 @@ pub fn read_words(alloc: Global, words: &[String]) -> Result<Line, LineFault>
         return Err(LineFault::Bad);
     };
     let first = first.as_str();
-    match Rest::new(taken_by(first), words).parts() {
+    match WordsLeft::new(taken_by(first), words).parts() {
         Some((plain, given)) => read_line(alloc, first, plain, given),
         None => Err(LineFault::Bad),
     }
 }
 
 // The options that a command takes, by the first word.
-fn taken_by(first: &str) -> Taken
+fn taken_by(first: &str) -> AllowedOptions
     ensures { words_of result ≡ options_of first.now }
 {
     match first {
-        "sim" | "waits" | "knots" | "probe" => Taken::Run,
-        "gen" | "certify" => Taken::Root,
-        _ => Taken::Nothing,
+        "sim" | "waits" | "knots" | "probe" => AllowedOptions::Run,
+        "gen" | "certify" => AllowedOptions::Root,
+        _ => AllowedOptions::Nothing,
     }
 }
 
 // The line of the first word, the plain words and the options.
-fn read_line(alloc: Global, first: &str, plain: Few<'_>, given: Given) -> Result<Line, LineFault>
+fn read_line(
+    alloc: Global,
+    first: &str,
+    plain: PlainWords<'_>,
+    given: OptionValues,
+) -> Result<Line, LineFault>
     ensures line { IfOk result (λ line. command_by first.now (listed plain.entry) (numbers_given given) given.root ≡ Some (command line)) }
     ensures bad { IfErr result (λ fault. fault ≡ LineFault.Bad → command_by first.now (listed plain.entry) (numbers_given given) given.root ≡ None) }
 {
@@ -174,11 +179,11 @@ fn read_line(alloc: Global, first: &str, plain: Few<'_>, given: Given) -> Result
 }
 
 // `sim NAME`.
-fn read_sim(alloc: Global, plain: Few<'_>, given: Given) -> Result<Line, LineFault>
+fn read_sim(alloc: Global, plain: PlainWords<'_>, given: OptionValues) -> Result<Line, LineFault>
     ensures line { IfOk result (λ line. sim_of (listed plain.entry) (numbers_given given) ≡ Some (command line)) }
     ensures bad { IfErr result (λ fault. fault ≡ LineFault.Bad → sim_of (listed plain.entry) (numbers_given given) ≡ None) }
 {
-    let Few::One(name) = plain else {
+    let PlainWords::One(name) = plain else {
         return Err(LineFault::Bad);
     };
     let Some(params) = given.params() else {
@@ -189,11 +194,11 @@ fn read_sim(alloc: Global, plain: Few<'_>, given: Given) -> Result<Line, LineFau
 }
 
 // `waits NAME`.
-fn read_waits(alloc: Global, plain: Few<'_>, given: Given) -> Result<Line, LineFault>
+fn read_waits(alloc: Global, plain: PlainWords<'_>, given: OptionValues) -> Result<Line, LineFault>
     ensures line { IfOk result (λ line. waits_of (listed plain.entry) (numbers_given given) ≡ Some (command line)) }
     ensures bad { IfErr result (λ fault. fault ≡ LineFault.Bad → waits_of (listed plain.entry) (numbers_given given) ≡ None) }
 {
-    let Few::One(name) = plain else {
+    let PlainWords::One(name) = plain else {
         return Err(LineFault::Bad);
     };
     let Some(params) = given.params() else {
@@ -204,11 +209,11 @@ fn read_waits(alloc: Global, plain: Few<'_>, given: Given) -> Result<Line, LineF
 }
 
 // `knots NAME`.
-fn read_knots(alloc: Global, plain: Few<'_>, given: Given) -> Result<Line, LineFault>
+fn read_knots(alloc: Global, plain: PlainWords<'_>, given: OptionValues) -> Result<Line, LineFault>
     ensures line { IfOk result (λ line. knots_of (listed plain.entry) (numbers_given given) ≡ Some (command line)) }
     ensures bad { IfErr result (λ fault. fault ≡ LineFault.Bad → knots_of (listed plain.entry) (numbers_given given) ≡ None) }
 {
-    let Few::One(name) = plain else {
+    let PlainWords::One(name) = plain else {
         return Err(LineFault::Bad);
     };
     let Some(params) = given.params() else {
@@ -219,11 +224,11 @@ fn read_knots(alloc: Global, plain: Few<'_>, given: Given) -> Result<Line, LineF
 }
 
 // `nodes NAME MACHINE`.
-fn read_nodes(alloc: Global, plain: Few<'_>) -> Result<Line, LineFault>
+fn read_nodes(alloc: Global, plain: PlainWords<'_>) -> Result<Line, LineFault>
     ensures line { IfOk result (λ line. nodes_of (listed plain.entry) ≡ Some (command line)) }
     ensures bad { IfErr result (λ fault. fault ≡ LineFault.Bad → nodes_of (listed plain.entry) ≡ None) }
 {
-    let Few::Two(name, machine) = plain else {
+    let PlainWords::Two(name, machine) = plain else {
         return Err(LineFault::Bad);
     };
     let name = FileName::new(alloc, name)?;
@@ -232,11 +237,11 @@ fn read_nodes(alloc: Global, plain: Few<'_>) -> Result<Line, LineFault>
 }
 
 // `compile NAME OUT`.
-fn read_compile(alloc: Global, plain: Few<'_>) -> Result<Line, LineFault>
+fn read_compile(alloc: Global, plain: PlainWords<'_>) -> Result<Line, LineFault>
     ensures line { IfOk result (λ line. compile_of (listed plain.entry) ≡ Some (command line)) }
     ensures bad { IfErr result (λ fault. fault ≡ LineFault.Bad → compile_of (listed plain.entry) ≡ None) }
 {
-    let Few::Two(name, out) = plain else {
+    let PlainWords::Two(name, out) = plain else {
         return Err(LineFault::Bad);
     };
     let name = FileName::new(alloc, name)?;
@@ -245,11 +250,11 @@ fn read_compile(alloc: Global, plain: Few<'_>) -> Result<Line, LineFault>
 }
 
 // `show NAME`.
-fn read_show(alloc: Global, plain: Few<'_>) -> Result<Line, LineFault>
+fn read_show(alloc: Global, plain: PlainWords<'_>) -> Result<Line, LineFault>
     ensures line { IfOk result (λ line. show_of (listed plain.entry) ≡ Some (command line)) }
     ensures bad { IfErr result (λ fault. fault ≡ LineFault.Bad → show_of (listed plain.entry) ≡ None) }
 {
-    let Few::One(name) = plain else {
+    let PlainWords::One(name) = plain else {
         return Err(LineFault::Bad);
     };
     let name = FileName::new(alloc, name)?;
@@ -257,10 +262,10 @@ fn read_show(alloc: Global, plain: Few<'_>) -> Result<Line, LineFault>
 }
 
 // `gen KIND RANKS BYTES`.
-fn read_gen(plain: Few<'_>, given: Given) -> Option<Line>
+fn read_gen(plain: PlainWords<'_>, given: OptionValues) -> Option<Line>
     ensures { MatchOption result (gen_of (listed plain.entry) given.root ≡ None) (λ line. gen_of (listed plain.entry) given.root ≡ Some (command line)) }
 {
-    let Few::Three(kind, ranks, bytes) = plain else {
+    let PlainWords::Three(kind, ranks, bytes) = plain else {
         return None;
     };
     let what = collective_of(kind, given.root())?;
@@ -274,11 +279,15 @@ fn read_gen(plain: Few<'_>, given: Given) -> Option<Line>
 }
 
 // `certify KIND NAME`.
-fn read_certify(alloc: Global, plain: Few<'_>, given: Given) -> Result<Line, LineFault>
+fn read_certify(
+    alloc: Global,
+    plain: PlainWords<'_>,
+    given: OptionValues,
+) -> Result<Line, LineFault>
     ensures line { IfOk result (λ line. certify_of (listed plain.entry) given.root ≡ Some (command line)) }
     ensures bad { IfErr result (λ fault. fault ≡ LineFault.Bad → certify_of (listed plain.entry) given.root ≡ None) }
 {
-    let Few::Two(kind, name) = plain else {
+    let PlainWords::Two(kind, name) = plain else {
         return Err(LineFault::Bad);
     };
     let Some(what) = collective_of(kind, given.root()) else {
@@ -289,10 +298,10 @@ fn read_certify(alloc: Global, plain: Few<'_>, given: Given) -> Result<Line, Lin
 }
 
 // `probe ROUNDS SEED`.
-fn read_probe(plain: Few<'_>, given: Given) -> Option<Line>
+fn read_probe(plain: PlainWords<'_>, given: OptionValues) -> Option<Line>
     ensures { MatchOption result (probe_of (listed plain.entry) (numbers_given given) ≡ None) (λ line. probe_of (listed plain.entry) (numbers_given given) ≡ Some (command line)) }
 {
-    let Few::Two(rounds, seed) = plain else {
+    let PlainWords::Two(rounds, seed) = plain else {
         return None;
     };
     let rounds = number_from(1, MAX_ROUNDS, rounds)?;

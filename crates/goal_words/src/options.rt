@@ -27,7 +27,7 @@ pub enum Key {
 
 // The options that a command takes.
 #[derive(Clone, Copy)]
-pub enum Taken {
+pub enum AllowedOptions {
     // Those of a run.
     Run,
     // That of a collective.
@@ -36,18 +36,18 @@ pub enum Taken {
     Nothing,
 }
 
-impl Taken {
+impl AllowedOptions {
     // The option of a word.
     pub fn key_of(self, word: &str) -> Option<Key>
         ensures { result ≡ key_of self word.now }
     {
         match self {
-            Taken::Run => run_key_of(word),
-            Taken::Root => match word {
+            AllowedOptions::Run => run_key_of(word),
+            AllowedOptions::Root => match word {
                 "--root" => Some(Key::Root),
                 _ => None,
             },
-            Taken::Nothing => None,
+            AllowedOptions::Nothing => None,
         }
     }
 }
@@ -94,7 +94,7 @@ pub fn value_of(word: &str) -> Option<u64>
 
 // The values of the options so far.
 #[derive(Clone, Copy)]
-pub struct Given {
+pub struct OptionValues {
     latency: Option<u64>,
     overhead: Option<u64>,
     gap: Option<u64>,
@@ -107,7 +107,7 @@ pub struct Given {
 }
 
 // No option yet.
-pub const NONE_GIVEN: Given = Given {
+pub const NONE_GIVEN: OptionValues = OptionValues {
     latency: None,
     overhead: None,
     gap: None,
@@ -119,9 +119,9 @@ pub const NONE_GIVEN: Given = Given {
     root: None,
 };
 
-impl Given {
+impl OptionValues {
     // With one option more. None where it was given before.
-    pub fn with(self, key: Key, number: u64) -> Option<Given>
+    pub fn with(self, key: Key, number: u64) -> Option<OptionValues>
         ensures { result ≡ with_option self key number }
     {
         let place = match key {
@@ -142,44 +142,44 @@ impl Given {
     }
 
     // With this value for an option.
-    fn set(self, key: Key, number: u64) -> Given
+    fn set(self, key: Key, number: u64) -> OptionValues
         ensures { result ≡ set self key number }
     {
         let number = Some(number);
         match key {
-            Key::Latency => Given {
+            Key::Latency => OptionValues {
                 latency: number,
                 ..self
             },
-            Key::Overhead => Given {
+            Key::Overhead => OptionValues {
                 overhead: number,
                 ..self
             },
-            Key::Gap => Given {
+            Key::Gap => OptionValues {
                 gap: number,
                 ..self
             },
-            Key::GapPerByte => Given {
+            Key::GapPerByte => OptionValues {
                 gap_per_byte: number,
                 ..self
             },
-            Key::GapPicos => Given {
+            Key::GapPicos => OptionValues {
                 gap_picos: number,
                 ..self
             },
-            Key::OverheadPerByte => Given {
+            Key::OverheadPerByte => OptionValues {
                 overhead_per_byte: number,
                 ..self
             },
-            Key::OverheadPicos => Given {
+            Key::OverheadPicos => OptionValues {
                 overhead_picos: number,
                 ..self
             },
-            Key::Sync => Given {
+            Key::Sync => OptionValues {
                 sync: number,
                 ..self
             },
-            Key::Root => Given {
+            Key::Root => OptionValues {
                 root: number,
                 ..self
             },

@@ -7,10 +7,10 @@ use Rattle.sim_params.specs.Costs.{Numbers}
 use Rattle.goal_words.specs.declared.line.Line.{Line}
 use Rattle.goal_words.specs.declared.line.LineFault.{LineFault}
 use Rattle.goal_words.specs.declared.line.LineFault.TheVariants.{Bad, NoMemory}
-use Rattle.goal_words.specs.declared.options.Taken.{Taken}
+use Rattle.goal_words.specs.declared.options.AllowedOptions.{AllowedOptions}
 use Rattle.goal_words.specs.Words.{Command, command_by, command_in, command_of, options_of}
 use Rattle.goal_words.specs.Sentences.{command, IsSized}
-use Rattle.goal_words.specs.Reading.{Parts, numbers_given, words_of, parts_in, none_given, left, listed, are_few}
+use Rattle.goal_words.specs.Reading.{Parts, numbers_given, words_of, parts_in, none_given, left, listed, are_one_to_three}
 use Rattle.goal_words.proofs.SizeLemmas.{sized}
 use Rattle.goal_words.proofs.PartsLemmas.{command_read, too_few_or_many}
 use Rattle.goal_words.proofs.line.read_words.Goals as goal
@@ -18,7 +18,7 @@ use Rattle.goal_words.proofs.line.read_words.Goals as goal
 abbrev by_parts : List ℕ → Option Parts → Option Command
 by_parts first o = option_and_then (λ parts. command_by first parts.plain (numbers_given parts.given) parts.given.root) o
 
-read : (first : List ℕ) (s : String Global) (words all : List (String Global)) (taken : Taken) (o : Option Parts) → all ≡ s ∷ words → first ≡ string_bytes s
+read : (first : List ℕ) (s : String Global) (words all : List (String Global)) (taken : AllowedOptions) (o : Option Parts) → all ≡ s ∷ words → first ≡ string_bytes s
     → words_of taken ≡ options_of first → o ≡ parts_in taken none_given (map string_bytes words) → command_in all ≡ by_parts first o
 read first s words all taken o split text same is =
     ap command_in split
@@ -34,7 +34,7 @@ exact (Ok line) o is none = let e : None ≡ Some (command line) = sym none ∙ 
 exact (Err Bad) o is none = inl refl
 exact (Err NoMemory) o is none = inr refl
 
-wrong : (first : List ℕ) (o : Option Parts) → IfSome o (λ parts. are_few parts.plain ≡ false) → by_parts first o ≡ None
+wrong : (first : List ℕ) (o : Option Parts) → IfSome o (λ parts. are_one_to_three parts.plain ≡ false) → by_parts first o ≡ None
 wrong first None few = refl
 wrong first (Some parts) few = too_few_or_many first parts.plain (numbers_given parts.given) parts.given.root few
 

@@ -1,7 +1,7 @@
 use Rattle.std.proofs.Common.{length, sym, ◌∙◌, arith}
 use Rattle.std.proofs.lemmas.Bool.{eqb-true, eqb-false}
-use Rattle.goal_words.proofs.RestLemmas.{ended, not_ended}
-use Rattle.goal_words.proofs.rest.Rest.end.Goals as goal
+use Rattle.goal_words.proofs.WordsLeftLemmas.{ended, not_ended}
+use Rattle.goal_words.proofs.words_left.WordsLeft.end.Goals as goal
 
 pub returns-then-is_empty : goal.returns-then-is_empty
 returns-then-is_empty c =

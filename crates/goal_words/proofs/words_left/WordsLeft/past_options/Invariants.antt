@@ -1,6 +1,6 @@
 use Rattle.std.proofs.Common.{◌≡◌, length}
 use Rattle.goal_words.specs.Reading.{left}
-use Rattle.goal_words.proofs.rest.Rest.past_options.Given as goal
+use Rattle.goal_words.proofs.words_left.WordsLeft.past_options.Given as goal
 
 abbrev pub invariant-options : goal.invariant-options
 invariant-options l = left l.self ≡ left l.rest

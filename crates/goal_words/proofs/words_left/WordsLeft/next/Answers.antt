@@ -1,6 +1,6 @@
 use Rattle.std.proofs.Common.{refl, ◌∙◌}
-use Rattle.goal_words.proofs.RestLemmas.{ended, begun}
-use Rattle.goal_words.proofs.rest.Rest.next.Goals as goal
+use Rattle.goal_words.proofs.WordsLeftLemmas.{ended, begun}
+use Rattle.goal_words.proofs.words_left.WordsLeft.next.Goals as goal
 
 pub returns-in_err-word : goal.returns-in_err-word
 returns-in_err-word c =

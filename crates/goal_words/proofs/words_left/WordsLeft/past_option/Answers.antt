@@ -1,8 +1,8 @@
 use Rattle.std.proofs.Common.{◌∷◌, map, string_bytes, sym, ap, ◌∙◌}
 use Rattle.goal_words.specs.Reading.{key_of, with_value, parts_in}
 use Rattle.goal_words.proofs.PlaceLemmas.{step_apart, step_joined, step_wrong}
-use Rattle.goal_words.proofs.RestLemmas.{past, alone, unequal}
-use Rattle.goal_words.proofs.rest.Rest.past_option.Goals as goal
+use Rattle.goal_words.proofs.WordsLeftLemmas.{past, alone, unequal}
+use Rattle.goal_words.proofs.words_left.WordsLeft.past_option.Goals as goal
 
 pub returns-in_err-value-in-Some-clause-left : goal.returns-in_err-value-in-Some-clause-left
 returns-in_err-value-in-Some-clause-left c =

@@ -3,22 +3,22 @@ ghost use Rattle.std.specs.Prelude.{◌≡◌, ◌==◌, ◌≢◌, ◌≤◌, �
 ghost use Rattle.std.specs.Option.{option_map};
 ghost use Rattle.std.specs.List.{before_first, after_first, position_or_len};
 ghost use Rattle.goal_words.specs.Options.{begins_dash};
-ghost use Rattle.goal_words.specs.Reading.{parts_in, left, with_plain, with_value, none_given, begins_plain, listed, are_few};
+ghost use Rattle.goal_words.specs.Reading.{parts_in, left, with_plain, with_value, none_given, begins_plain, listed, are_one_to_three};
 
-use crate::options::{Given, Key, NONE_GIVEN, Taken, value_of};
+use crate::options::{AllowedOptions, Key, NONE_GIVEN, OptionValues, value_of};
 
 // What is left of a line: the options that it takes, those given so far, and the words to come. These do not follow an
 // option word.
 #[derive(Clone, Copy)]
-pub struct Rest<'a> {
-    taken: Taken,
-    given: Given,
+pub struct WordsLeft<'a> {
+    taken: AllowedOptions,
+    given: OptionValues,
     words: &'a [String],
 }
 
 // Plain words, one to three.
 #[derive(Clone, Copy)]
-pub enum Few<'a> {
+pub enum PlainWords<'a> {
     One(&'a str),
     Two(&'a str, &'a str),
     Three(&'a str, &'a str, &'a str),
@@ -32,12 +32,12 @@ fn around_equals(word: &str) -> Option<(&str, &str)>
     word.split_once('=')
 }
 
-impl<'a> Rest<'a> {
+impl<'a> WordsLeft<'a> {
     // The words after the first, of a line that takes these options.
-    pub fn new(taken: Taken, words: &'a [String]) -> Rest<'a>
+    pub fn new(taken: AllowedOptions, words: &'a [String]) -> WordsLeft<'a>
         ensures { left result ≡ parts_in taken none_given (map string_bytes words.now) }
     {
-        Rest {
+        WordsLeft {
             taken,
             given: NONE_GIVEN,
             words,
@@ -45,12 +45,12 @@ impl<'a> Rest<'a> {
     }
 
     // With an option set to the number that is this word, and with these words to come.
-    fn with(self, key: Key, value: &str, words: &'a [String]) -> Option<Rest<'a>>
+    fn with(self, key: Key, value: &str, words: &'a [String]) -> Option<WordsLeft<'a>>
         ensures { MatchOption result (with_value self.entry.given key value.now ≡ None)
             (λ rest. (with_value self.entry.given key value.now ≡ Some rest.given) × (rest.taken ≡ self.entry.taken) × (rest.words.now ≡ words.now)) }
     {
         let given = self.given.with(key, value_of(value)?)?;
-        Some(Rest {
+        Some(WordsLeft {
             taken: self.taken,
             given,
             words,
@@ -58,7 +58,7 @@ impl<'a> Rest<'a> {
     }
 
     // Past the option that a word begins, which other words follow.
-    fn past_option(self, word: &str, others: &'a [String]) -> Option<Rest<'a>>
+    fn past_option(self, word: &str, others: &'a [String]) -> Option<WordsLeft<'a>>
         requires { begins_dash word.now ≡ true }
         ensures left { MatchOption result (parts_in self.entry.taken self.entry.given (word.now ∷ map string_bytes others.now) ≡ None)
             (λ rest. parts_in self.entry.taken self.entry.given (word.now ∷ map string_bytes others.now) ≡ left rest) }
@@ -77,7 +77,7 @@ impl<'a> Rest<'a> {
     }
 
     // Past the options before the next plain word.
-    fn past_options(self) -> Option<Rest<'a>>
+    fn past_options(self) -> Option<WordsLeft<'a>>
         ensures left { MatchOption result (left self.entry ≡ None) (λ rest. left self.entry ≡ left rest) }
         ensures plain { IfSome result (λ rest. begins_plain (map string_bytes rest.words.now) ≡ true) }
     {
@@ -92,13 +92,13 @@ impl<'a> Rest<'a> {
     }
 
     // The next plain word, and what is left after it. None where there is none.
-    fn next(self) -> Option<(&'a str, Rest<'a>)>
+    fn next(self) -> Option<(&'a str, WordsLeft<'a>)>
         ensures { MatchOption result (IfSome (left self.entry) (λ parts. parts.plain ≡ []))
             (λ found. left self.entry ≡ option_map (with_plain found.0.now) (left found.1)) }
     {
         let rest = self.past_options()?;
         let (word, words) = rest.words.split_first()?;
-        let rest = Rest {
+        let rest = WordsLeft {
             taken: rest.taken,
             given: rest.given,
             words,
@@ -107,7 +107,7 @@ impl<'a> Rest<'a> {
     }
 
     // The options of a line that has no more plain words. None where it has.
-    fn end(self) -> Option<Given>
+    fn end(self) -> Option<OptionValues>
         ensures { MatchOption result (IfSome (left self.entry) (λ parts. parts.plain ≢ []))
             (λ given. left self.entry ≡ Some (record { plain = []; given = given })) }
     {
@@ -120,20 +120,20 @@ impl<'a> Rest<'a> {
     }
 
     // The plain words and the options. None where there are not one to three plain words.
-    pub fn parts(self) -> Option<(Few<'a>, Given)>
-        ensures { MatchOption result (IfSome (left self.entry) (λ parts. are_few parts.plain ≡ false))
+    pub fn parts(self) -> Option<(PlainWords<'a>, OptionValues)>
+        ensures { MatchOption result (IfSome (left self.entry) (λ parts. are_one_to_three parts.plain ≡ false))
             (λ parts. left self.entry ≡ Some (record { plain = listed parts.0; given = parts.1 })) }
     {
         let (first, rest) = self.next()?;
         if let Some(given) = rest.end() {
-            return Some((Few::One(first), given));
+            return Some((PlainWords::One(first), given));
         }
         let (second, rest) = rest.next()?;
         if let Some(given) = rest.end() {
-            return Some((Few::Two(first, second), given));
+            return Some((PlainWords::Two(first, second), given));
         }
         let (third, rest) = rest.next()?;
         let given = rest.end()?;
-        Some((Few::Three(first, second, third), given))
+        Some((PlainWords::Three(first, second, third), given))
     }
 }

@@ -1,6 +1,6 @@
 use Rattle.goal_words.specs.Reading.{left}
-use Rattle.goal_words.proofs.RestLemmas.{too_many}
-use Rattle.goal_words.proofs.rest.Rest.parts.Goals as goal
+use Rattle.goal_words.proofs.WordsLeftLemmas.{too_many}
+use Rattle.goal_words.proofs.words_left.WordsLeft.parts.Goals as goal
 
 pub returns-in_err-given : goal.returns-in_err-given
 returns-in_err-given c =

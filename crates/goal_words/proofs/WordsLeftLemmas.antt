@@ -7,15 +7,15 @@ use Rattle.std.specs.declared.string.String.{String}
 use Rattle.std.proofs.lemmas.List.{drop_all}
 use Rattle.std.proofs.lemmas.Bool.{not-true}
 use Rattle.goal_words.specs.declared.options.Key.{Key}
-use Rattle.goal_words.specs.declared.options.Taken.{Taken}
-use Rattle.goal_words.specs.declared.options.Given.{Given}
-use Rattle.goal_words.specs.declared.rest.Rest.{Rest}
+use Rattle.goal_words.specs.declared.options.AllowedOptions.{AllowedOptions}
+use Rattle.goal_words.specs.declared.options.OptionValues.{OptionValues}
+use Rattle.goal_words.specs.declared.words_left.WordsLeft.{WordsLeft}
 use Rattle.goal_words.specs.Options.{begins_dash}
-use Rattle.goal_words.specs.Reading.{Parts, key_of, with_plain, parts_in, left, begins_plain, are_few}
+use Rattle.goal_words.specs.Reading.{Parts, key_of, with_plain, parts_in, left, begins_plain, are_one_to_three}
 use Rattle.goal_words.proofs.PlaceLemmas.{step_end, step_plain, step_alone, step_joined, step_wrong}
 
 -- an option that has got its value, where there is one
-pub past : (r : Option Rest) (o : Option Given) (taken : Taken) (words : List (String Global)) (p : Option Parts)
+pub past : (r : Option WordsLeft) (o : Option OptionValues) (taken : AllowedOptions) (words : List (String Global)) (p : Option Parts)
     → p ≡ option_and_then (λ h. parts_in taken h (map string_bytes words)) o
     → MatchOption r (o ≡ None) (λ rest. (o ≡ Some rest.given) × (rest.taken ≡ taken) × (rest.words.now ≡ words))
     → MatchOption r (p ≡ None) (λ rest. p ≡ left rest)
@@ -23,13 +23,13 @@ past None o taken words p e h = rw h at e
 past (Some rest) o taken words p e h = e ∙ rw (h.0, h.1, h.2) refl
 
 -- an option word at the end
-pub alone : (taken : Taken) (g : Given) (w : List ℕ) (key : Key) (words : List (String Global)) → key_of taken w ≡ Some key → length words ≡ 0
+pub alone : (taken : AllowedOptions) (g : OptionValues) (w : List ℕ) (key : Key) (words : List (String Global)) → key_of taken w ≡ Some key → length words ≡ 0
     → parts_in taken g (w ∷ map string_bytes words) ≡ None
 alone taken g w key [] h none = step_alone taken g w key h
 alone taken g w key (x ∷ words) h none = absurd (omega arith)
 
 -- a word that begins with `-` and has no `=`
-pub unequal : (taken : Taken) (g : Given) (w : List ℕ) (words : List (List ℕ)) → begins_dash w ≡ true → key_of taken w ≡ None
+pub unequal : (taken : AllowedOptions) (g : OptionValues) (w : List ℕ) (words : List (List ℕ)) → begins_dash w ≡ true → key_of taken w ≡ None
     → position_or_len (λ b. b == 61) w ≡ length w → parts_in taken g (w ∷ words) ≡ None
 unequal taken g w words dash none last = by (key_of taken (before_first (λ b. b == 61) w)) refl
   where
@@ -41,13 +41,13 @@ unequal taken g w words dash none last = by (key_of taken (before_first (λ b. b
     by (Some key) other = step_joined taken g w key words dash none other ∙ rw nothing refl
 
 -- no more words
-pub ended : (taken : Taken) (g : Given) (words : List (String Global)) → length words ≡ 0
+pub ended : (taken : AllowedOptions) (g : OptionValues) (words : List (String Global)) → length words ≡ 0
     → parts_in taken g (map string_bytes words) ≡ Some (record { plain = []; given = g })
 ended taken g [] none = step_end taken g
 ended taken g (x ∷ words) none = absurd (omega arith)
 
 -- a plain word comes next
-pub begun : (taken : Taken) (g : Given) (x : String Global) (words : List (String Global)) → begins_plain (map string_bytes (x ∷ words)) ≡ true
+pub begun : (taken : AllowedOptions) (g : OptionValues) (x : String Global) (words : List (String Global)) → begins_plain (map string_bytes (x ∷ words)) ≡ true
     → parts_in taken g (map string_bytes (x ∷ words)) ≡ option_map (with_plain (string_bytes x)) (parts_in taken g (map string_bytes words))
 begun taken g x words plain = step_plain taken g (string_bytes x) (map string_bytes words) (not-true (begins_dash (string_bytes x)) plain)
 
@@ -55,7 +55,7 @@ some_plain : (w : List ℕ) (o : Option Parts) → IfSome (option_map (with_plai
 some_plain w None = tt
 some_plain w (Some parts) = λ h. cc
 
-pub not_ended : (taken : Taken) (g : Given) (words : List (String Global)) → begins_plain (map string_bytes words) ≡ true → 0 < length words
+pub not_ended : (taken : AllowedOptions) (g : OptionValues) (words : List (String Global)) → begins_plain (map string_bytes words) ≡ true → 0 < length words
     → IfSome (parts_in taken g (map string_bytes words)) (λ parts. parts.plain ≢ [])
 not_ended taken g [] plain some = absurd (omega arith)
 not_ended taken g (x ∷ words) plain some =
@@ -63,10 +63,10 @@ not_ended taken g (x ∷ words) plain some =
 
 -- more than three
 pub too_many : (a b c : List ℕ) (o : Option Parts) → IfSome o (λ parts. parts.plain ≢ [])
-    → IfSome (option_map (with_plain a) (option_map (with_plain b) (option_map (with_plain c) o))) (λ parts. are_few parts.plain ≡ false)
+    → IfSome (option_map (with_plain a) (option_map (with_plain b) (option_map (with_plain c) o))) (λ parts. are_one_to_three parts.plain ≡ false)
 too_many a b c None h = tt
 too_many a b c (Some parts) h = by parts.plain h
   where
-    by : (plain : List (List ℕ)) → plain ≢ [] → are_few (a ∷ b ∷ c ∷ plain) ≡ false
+    by : (plain : List (List ℕ)) → plain ≢ [] → are_one_to_three (a ∷ b ∷ c ∷ plain) ≡ false
     by [] some = absurd (some refl)
     by (d ∷ plain) some = refl
