@@ -6,6 +6,7 @@ use Rattle.std.proofs.lemmas.Option.{same_Some, slice_get-get_or, slice_get_with
 use Rattle.goal_graph.specs.declared.action.OpId.{OpId}
 use Rattle.goal_graph.specs.declared.action.Timed.{Timed}
 use Rattle.goal_graph.specs.Schedule.{Plan, operations}
+use Rattle.goal_graph.proofs.ForCallers.{other_place}
 use Rattle.sim_params.specs.Costs.{CostModel}
 use Rattle.sim_match.proofs.ForCallers.{slice_get_written, slice_get_elsewhere}
 use Rattle.sim_state.specs.declared.cursor.Cursor.{Cursor}
@@ -55,3 +56,11 @@ cursors_start plans costs h n cursors count made = record {
         let there : slice_get (replicate n start) slot ≡ Some c = ap (λ (cs : List Cursor). slice_get cs slot) (sym made) ∙ here in
         let within : slot < n = omega (arith, slice_get_within (replicate n start) slot c there, length-replicate n start) in
         sym (get_or-replicate n slot start start within) ∙ get_or_from_slice_get (replicate n start) slot c start there
+
+-- an operation has one slot
+pub one_slot : (plans read : List Plan) (x : OpId) (i slot : ℕ) → read ≡ plans → slice_get (operations read) i ≡ Some x → slice_get (operations plans) slot ≡ Some x → slot ≡ i
+one_slot plans read x i slot same is at = go (cases_eq slot i)
+  where
+    go : (slot ≡ i) ⊎ (slot ≡ i → ⊥) → slot ≡ i
+    go (inl e) = e
+    go (inr d) = absurd (other_place plans slot i x x at (ap (λ (ps : List Plan). slice_get (operations ps) i) (sym same) ∙ is) d refl)

@@ -1,10 +1,10 @@
 -- When an operation is ready, need by need.
-use Rattle.std.proofs.Common.{◌≡◌, ◌==◌, ℕ, ◌+◌, ◌<◌, ◌≤◌, max, Bool, true, false, ◌&&◌, List, [], ◌∷◌, length, drop, get_or, Option, Some, None, is_some, if◌then◌else◌, refl, sym, ap, ◌∙◌, subst, arith}
+use Rattle.std.proofs.Common.{◌≡◌, ◌==◌, ℕ, ◌+◌, ◌<◌, ◌≤◌, max, Bool, true, false, ◌&&◌, List, [], ◌∷◌, length, drop, take, get_or, Option, Some, None, is_some, if◌then◌else◌, refl, sym, ap, ◌∙◌, subst, arith}
 use Rattle.std.specs.List.{list_all}
 use Rattle.std.proofs.lemmas.Bool.{eqb-true}
 use Rattle.std.proofs.lemmas.List.Folds.{list_all_at}
 use Rattle.std.proofs.lemmas.Option.{same_Some}
-use Rattle.std.proofs.lemmas.List.{drop_more, drop_all}
+use Rattle.std.proofs.lemmas.List.{drop_more, drop_all, take_all}
 use Rattle.goal_graph.specs.declared.action.OpId.{OpId}
 use Rattle.goal_graph.specs.declared.action.Timed.{Timed}
 use Rattle.goal_graph.specs.declared.plan.Need.{Need}
@@ -80,6 +80,13 @@ module _ (plans : List Plan) (costs : CostModel) (h : List Timed) (x : OpId) whe
       go : (b : Bool) → is_some (if b then Some (there_at (get_or items k d)) else None) ≡ false → b ≡ false
       go true f = absurd (cc)
       go false f = refl
+
+  -- where the needs before a place are met, and there are no more, it is ready
+  pub all_met_known : (n : ℕ) → length (needs plans x) ≤ n → list_all is_there (take n (needs plans x)) ≡ true → is_some (ready_known plans costs h x) ≡ true
+  unfolding is_ready
+  all_met_known n l met =
+      let all : list_all is_there (needs plans x) ≡ true = subst (λ ds. list_all is_there ds ≡ true) (take_all n (needs plans x) l) met in
+      ap (λ b. is_some (if b then Some (ready plans costs h x) else None)) all
 
   -- the needs as they are read, one after another
   module _ (items : List Need) (are_needs : items ≡ needs plans x) (k : ℕ) (n : ℕ) (whole : Option ℕ) (so_far : ready_from n (drop k (needs plans x)) ≡ whole) where

@@ -1,12 +1,13 @@
 // What may happen next of one operation, and when.
-ghost use Rattle.std.specs.Prelude.{◌≡◌, true, None};
+ghost use Rattle.std.specs.Prelude.{◌≡◌, ◌≤◌, ◌+◌, true, None, length};
 ghost use Rattle.goal_graph.specs.declared.action.Class.TheVariants.{Arrive, Serve, Data, Post, Begin};
+ghost use Rattle.goal_graph.specs.Schedule.{needs};
 ghost use Rattle.goal_graph.specs.Fault.{IsOp};
 ghost use Rattle.goal_graph.specs.Laws.{IsCalc};
 ghost use Rattle.goal_graph.specs.Schedule.{IsSend, IsReceive};
 ghost use Rattle.sim_params.specs.Costs.{is_eager};
 ghost use Rattle.sim_state.specs.Represents.{message_known};
-ghost use Rattle.sim_state.specs.Cursors.{IsCursorOf};
+ghost use Rattle.sim_state.specs.Cursors.{IsCursorOf, all_if_met, looked_again};
 ghost use Rattle.sim_state.specs.Enabled.{moment_known, ready_known, enabled_action, IsEnabledActionOf};
 
 use super::State;
@@ -15,33 +16,48 @@ use crate::pairing::Pairing;
 use crate::shape::Shape;
 use goal_graph::{Class, OpId, Timed, When};
 use sim_eager::{begin_at, serve_at};
+use sim_order::Steps;
 use sim_params::Costs;
 use sim_rendezvous::{clear, data_at};
+use std::sync::ledger::Ledger;
 
 impl<'a, C: Costs> State<'a, C> {
     /// The possible action of an operation, if it has one. While it has not started its cursor goes on to the first need
-    /// that is not met, or past all: the next call looks from there on.
-    pub(crate) fn choice(&self, id: OpId, cursor: &mut Cursor) -> Option<Timed>
+    /// that is not met, or past all: the next call looks from there on. A counter tells how many needs are looked at: as many as the
+    /// cursor goes on by, one more, and all once more where the action starts the operation.
+    pub(crate) fn choice<L: Ledger>(
+        &self,
+        id: OpId,
+        cursor: &mut Cursor,
+        looks: &mut Steps<L>,
+    ) -> Option<Timed>
         requires op { IsOp self.now.plans id }
         requires cursor { IsCursorOf self.now.plans (C.model self.now.costs) self.now.history id cursor.old }
         ensures enabled { IsEnabledActionOf self.now.plans (C.model self.now.costs) self.now.history id result }
         ensures cursor { IsCursorOf self.now.plans (C.model self.now.costs) self.now.history id cursor.new }
+        ensures looked { looks.new + cursor.old.at ≤ looks.old + cursor.new.at + 1 + looked_again self.now.plans id result }
     {
         match self.shape(id) {
-            Shape::Calc => self.begin_of_calc(id, cursor),
-            Shape::Eager | Shape::Large => self.choice_of_send(id, cursor),
-            Shape::Receive => self.choice_of_receive(id, cursor),
+            Shape::Calc => self.begin_of_calc(id, cursor, looks),
+            Shape::Eager | Shape::Large => self.choice_of_send(id, cursor, looks),
+            Shape::Receive => self.choice_of_receive(id, cursor, looks),
         }
     }
 
     // The possible action of a send, if it has one.
-    fn choice_of_send(&self, send: OpId, cursor: &mut Cursor) -> Option<Timed>
+    fn choice_of_send<L: Ledger>(
+        &self,
+        send: OpId,
+        cursor: &mut Cursor,
+        looks: &mut Steps<L>,
+    ) -> Option<Timed>
         requires op { IsSend self.now.plans send }
         requires cursor { IsCursorOf self.now.plans (C.model self.now.costs) self.now.history send cursor.old }
         ensures enabled { IsEnabledActionOf self.now.plans (C.model self.now.costs) self.now.history send result }
         ensures cursor { IsCursorOf self.now.plans (C.model self.now.costs) self.now.history send cursor.new }
+        ensures looked { looks.new + cursor.old.at ≤ looks.old + cursor.new.at + 1 + looked_again self.now.plans send result }
     {
-        let begin = self.begin_of_send(send, cursor);
+        let begin = self.begin_of_send(send, cursor, looks);
         if begin.is_some() {
             return begin;
         }
@@ -53,13 +69,19 @@ impl<'a, C: Costs> State<'a, C> {
     }
 
     // The possible action of a receive, if it has one.
-    fn choice_of_receive(&self, recv: OpId, cursor: &mut Cursor) -> Option<Timed>
+    fn choice_of_receive<L: Ledger>(
+        &self,
+        recv: OpId,
+        cursor: &mut Cursor,
+        looks: &mut Steps<L>,
+    ) -> Option<Timed>
         requires op { IsReceive self.now.plans recv }
         requires cursor { IsCursorOf self.now.plans (C.model self.now.costs) self.now.history recv cursor.old }
         ensures enabled { IsEnabledActionOf self.now.plans (C.model self.now.costs) self.now.history recv result }
         ensures cursor { IsCursorOf self.now.plans (C.model self.now.costs) self.now.history recv cursor.new }
+        ensures looked { looks.new + cursor.old.at ≤ looks.old + cursor.new.at + 1 + looked_again self.now.plans recv result }
     {
-        let post = self.post_of(recv, cursor);
+        let post = self.post_of(recv, cursor, looks);
         if post.is_some() {
             return post;
         }
@@ -67,16 +89,22 @@ impl<'a, C: Costs> State<'a, C> {
     }
 
     // The Begin of a calc: once it is ready and its cpu is free.
-    fn begin_of_calc(&self, calc: OpId, cursor: &mut Cursor) -> Option<Timed>
+    fn begin_of_calc<L: Ledger>(
+        &self,
+        calc: OpId,
+        cursor: &mut Cursor,
+        looks: &mut Steps<L>,
+    ) -> Option<Timed>
         requires op { IsCalc self.now.plans calc }
         requires cursor { IsCursorOf self.now.plans (C.model self.now.costs) self.now.history calc cursor.old }
         ensures enabled { result ≡ enabled_action self.now.plans (C.model self.now.costs) self.now.history Begin calc }
         ensures cursor { IsCursorOf self.now.plans (C.model self.now.costs) self.now.history calc cursor.new }
+        ensures looked { looks.new + cursor.old.at ≤ looks.old + cursor.new.at + 1 + looked_again self.now.plans calc result }
     {
         if self.entry(calc).start.get().is_some() {
             return None;
         }
-        let ready = self.ready(calc, cursor)?;
+        let ready = self.ready(calc, cursor, looks)?;
         Some(Timed {
             time: ready.max(self.resources.cpu(calc)),
             class: Class::Begin,
@@ -85,16 +113,22 @@ impl<'a, C: Costs> State<'a, C> {
     }
 
     // The Begin of a send: once it is ready, and its cpu and its interface are free.
-    fn begin_of_send(&self, send: OpId, cursor: &mut Cursor) -> Option<Timed>
+    fn begin_of_send<L: Ledger>(
+        &self,
+        send: OpId,
+        cursor: &mut Cursor,
+        looks: &mut Steps<L>,
+    ) -> Option<Timed>
         requires op { IsSend self.now.plans send }
         requires cursor { IsCursorOf self.now.plans (C.model self.now.costs) self.now.history send cursor.old }
         ensures enabled { result ≡ enabled_action self.now.plans (C.model self.now.costs) self.now.history Begin send }
         ensures cursor { IsCursorOf self.now.plans (C.model self.now.costs) self.now.history send cursor.new }
+        ensures looked { looks.new + cursor.old.at ≤ looks.old + cursor.new.at + 1 + looked_again self.now.plans send result }
     {
         if self.entry(send).start.get().is_some() {
             return None;
         }
-        let ready = self.ready(send, cursor)?;
+        let ready = self.ready(send, cursor, looks)?;
         Some(Timed {
             time: begin_at(&self.resources, send, ready),
             class: Class::Begin,
@@ -134,16 +168,22 @@ impl<'a, C: Costs> State<'a, C> {
     }
 
     // The Post of a receive: once it is ready.
-    fn post_of(&self, recv: OpId, cursor: &mut Cursor) -> Option<Timed>
+    fn post_of<L: Ledger>(
+        &self,
+        recv: OpId,
+        cursor: &mut Cursor,
+        looks: &mut Steps<L>,
+    ) -> Option<Timed>
         requires op { IsReceive self.now.plans recv }
         requires cursor { IsCursorOf self.now.plans (C.model self.now.costs) self.now.history recv cursor.old }
         ensures enabled { result ≡ enabled_action self.now.plans (C.model self.now.costs) self.now.history Post recv }
         ensures cursor { IsCursorOf self.now.plans (C.model self.now.costs) self.now.history recv cursor.new }
+        ensures looked { looks.new + cursor.old.at ≤ looks.old + cursor.new.at + 1 + looked_again self.now.plans recv result }
     {
         if self.entry(recv).start.get().is_some() {
             return None;
         }
-        let time = self.ready(recv, cursor)?;
+        let time = self.ready(recv, cursor, looks)?;
         Some(Timed {
             time,
             class: Class::Post,
@@ -189,11 +229,12 @@ impl<'a, C: Costs> State<'a, C> {
     }
 
     // When all that an operation needs is there, once it is. Its cursor goes on as far as needs are met.
-    fn ready(&self, id: OpId, cursor: &mut Cursor) -> Option<u64>
+    fn ready<L: Ledger>(&self, id: OpId, cursor: &mut Cursor, looks: &mut Steps<L>) -> Option<u64>
         requires op { IsOp self.now.plans id }
         requires cursor { IsCursorOf self.now.plans (C.model self.now.costs) self.now.history id cursor.old }
         ensures ready { result ≡ ready_known self.now.plans (C.model self.now.costs) self.now.history id }
         ensures cursor { IsCursorOf self.now.plans (C.model self.now.costs) self.now.history id cursor.new }
+        ensures looked { looks.new + cursor.old.at ≤ looks.old + cursor.new.at + 1 + all_if_met (length (needs self.now.plans id)) result }
     {
         // a schedule has so few dependencies that a place among them fits 32 bits
         let _plans = self.sched.plans();
@@ -207,6 +248,7 @@ impl<'a, C: Costs> State<'a, C> {
                 rank: id.rank,
                 op: need.op,
             };
+            looks.tick();
             if self.moment(need.when, needed).is_none() {
                 *cursor = Cursor { at: at as u32 };
                 return None;
@@ -215,13 +257,14 @@ impl<'a, C: Costs> State<'a, C> {
         *cursor = Cursor {
             at: needs.len() as u32,
         };
-        self.last_moment(id)
+        self.last_moment(id, looks)
     }
 
     // The last of the moments that an operation needs, once all are there.
-    fn last_moment(&self, id: OpId) -> Option<u64>
+    fn last_moment<L: Ledger>(&self, id: OpId, looks: &mut Steps<L>) -> Option<u64>
         requires { IsOp self.now.plans id }
-        ensures { result ≡ ready_known self.now.plans (C.model self.now.costs) self.now.history id }
+        ensures ready { result ≡ ready_known self.now.plans (C.model self.now.costs) self.now.history id }
+        ensures looked { looks.new ≤ looks.old + length (needs self.now.plans id) }
     {
         let mut last: u64 = 0;
         for need in self.needs(id) {
@@ -229,6 +272,7 @@ impl<'a, C: Costs> State<'a, C> {
                 rank: id.rank,
                 op: need.op,
             };
+            looks.tick();
             match self.moment(need.when, needed) {
                 Some(moment) => last = last.max(moment),
                 None => return None,

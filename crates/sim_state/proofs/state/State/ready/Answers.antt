@@ -1,9 +1,11 @@
-use Rattle.std.proofs.Common.{◌∙◌, length, not, ap, sym, arith}
+use Rattle.std.proofs.Common.{◌≡◌, ℕ, true, false, Option, Some, None, is_some, refl, ◌∙◌, length, not, ap, sym, arith}
 use Rattle.goal_graph.specs.declared.plan.Need.{Need}
 use Rattle.goal_graph.specs.declared.plan.When.TheVariants.{AfterEnd}
 use Rattle.goal_graph.specs.Schedule.{needs}
+use Rattle.std.proofs.lemmas.Bool.{both_ways}
+use Rattle.sim_state.specs.Cursors.{all_if_met}
 use Rattle.sim_state.specs.Engine.{View}
-use Rattle.sim_state.proofs.Ready.{missing_unready, ready_at_once}
+use Rattle.sim_state.proofs.Ready.{missing_unready, ready_at_once, all_met_known}
 use Rattle.sim_state.proofs.Needs.{few_needs}
 use Rattle.sim_state.proofs.state.State.ready.Goals as goal
 
@@ -29,3 +31,16 @@ returns-then-is_none-clause-ready g c =
 pub returns-then-is_empty-clause-ready : goal.returns-then-is_empty-clause-ready
 returns-then-is_empty-clause-ready g c =
     ready_at_once c.args.self.now.plans (g.C.Costs.model c.args.self.now.costs) c.args.self.now.history c.args.id c.needs-needs.result.now c.needs-needs.ensures.needs (sym c.is_empty.ensures ∙ c.if-is_empty.true)
+
+-- what is found of needs that are all met is there
+met_all : (n : ℕ) (r : Option ℕ) → is_some r ≡ true → all_if_met n r ≡ n
+met_all n (Some m) e = refl
+met_all n None e = absurd (both_ways false refl e)
+
+pub returns-clause-looked : goal.returns-clause-looked
+returns-clause-looked g c =
+    let v = c.args.self.now in
+    let items = ap length c.needs-needs.ensures.needs in
+    let known = all_met_known v.plans (g.C.Costs.model v.costs) v.history c.args.id c.loop-at.at (omega (arith, items, c.loop-at-test.false)) c.loop-at.invariant.0.met in
+    let all = met_all (length (needs v.plans c.args.id)) c.last_moment.result (ap is_some c.last_moment.ensures.ready ∙ known) in
+    omega (arith, all, c.last_moment.ensures.looked, c.loop-at.invariant.1, c.loop-at.invariant.0.within, items)
