@@ -6,6 +6,7 @@ ghost use Rattle.sim_params.specs.Run.{IsFinished};
 ghost use Rattle.sim_params.specs.Stuck.{is_stuck};
 ghost use Rattle.sim_events.specs.Comparisons.{cost_of_start, cost_of_run};
 ghost use Rattle.sim_events.specs.Engine.{IsEngineFault};
+ghost use Rattle.sim_events.specs.Needs.{all_needs, most_reads};
 ghost use Rattle.goal_views.specs.Views.{Shows, IsShownRun};
 ghost use Rattle.goal_views.specs.Runs.{IsRunOf};
 
@@ -25,14 +26,15 @@ use std::alloc::Global;
 use std::marker::Brand;
 use std::sync::ledger::{Blank, Ledger};
 
-// The run of a schedule with these costs, to its end. Counters tell how often its queue compares keys, and at how many entries
-// its matcher looks.
-fn run_counted<'a, C: Costs + Drop, L: Ledger, M: Ledger>(
+// The run of a schedule with these costs, to its end. Counters tell how often its queue compares keys, at how many entries its
+// matcher looks, and at how many needs of operations it looks.
+fn run_counted<'a, C: Costs + Drop, L: Ledger, M: Ledger, N: Ledger>(
     alloc: Global,
     sched: &'a Sched,
     costs: C,
     steps: &mut Steps<L>,
     looks: &mut Steps<M>,
+    reads: &mut Steps<N>,
 ) -> Result<Engine<'a, C>, EngineFault>
     ensures fits { OnOk result (budget sched.now (C.model costs) < 2 ^ 63) }
     ensures run { IfOk result (λ engine. IsRunOf (C.model costs) sched.now engine) }
@@ -41,11 +43,12 @@ fn run_counted<'a, C: Costs + Drop, L: Ledger, M: Ledger>(
     ensures counted { IfOk result (λ engine. (k : ℕ) → length (operations sched.now) ≤ 2 ^ k
         → steps.new ≤ steps.old + (cost_of_start k sched.now + cost_of_run k sched.now engine.history)) }
     ensures looked { IfOk result (λ engine. looks.new ≤ looks.old + 8 * length engine.history) }
+    ensures needed { IfOk result (λ engine. reads.new ≤ reads.old + 2 * all_needs sched.now + length (operations sched.now) + most_reads sched.now engine.history) }
 {
-    match Engine::new_counted(alloc, sched, costs, steps) {
+    match Engine::new_counted(alloc, sched, costs, steps, reads) {
         Ok(engine) => {
             let mut engine = engine;
-            engine.run_counted(steps, looks);
+            engine.run_counted(steps, looks, reads);
             Ok(engine)
         }
         Err(fault) => Err(fault),
@@ -53,10 +56,11 @@ fn run_counted<'a, C: Costs + Drop, L: Ledger, M: Ledger>(
 }
 
 // The same, with counters of its own.
-fn run<'a, C: Costs + Drop, L: Ledger, M: Ledger>(
+fn run<'a, C: Costs + Drop, L: Ledger, M: Ledger, N: Ledger>(
     alloc: Global,
     blank: Blank,
     for_looks: Blank,
+    for_reads: Blank,
     sched: &'a Sched,
     costs: C,
 ) -> Result<Engine<'a, C>, EngineFault>
@@ -66,6 +70,9 @@ fn run<'a, C: Costs + Drop, L: Ledger, M: Ledger>(
     requires looks_name { for_looks.name ≡ M.name }
     requires looks_parts { for_looks.parts ≡ M.parts }
     requires looks_some { 0 < for_looks.parts }
+    requires reads_name { for_reads.name ≡ N.name }
+    requires reads_parts { for_reads.parts ≡ N.parts }
+    requires reads_some { 0 < for_reads.parts }
     ensures fits { OnOk result (budget sched.now (C.model costs) < 2 ^ 63) }
     ensures run { IfOk result (λ engine. IsRunOf (C.model costs) sched.now engine) }
     ensures costs { IfOk result (λ engine. C.model engine.costs ≡ C.model costs) }
@@ -73,7 +80,8 @@ fn run<'a, C: Costs + Drop, L: Ledger, M: Ledger>(
 {
     let mut steps = Steps::<L>::new(blank);
     let mut looks = Steps::<M>::new(for_looks);
-    run_counted(alloc, sched, costs, &mut steps, &mut looks)
+    let mut reads = Steps::<N>::new(for_reads);
+    run_counted(alloc, sched, costs, &mut steps, &mut looks, &mut reads)
 }
 
 // What a view other than the printed run shows of an engine whose run is over, a row for each.
@@ -159,7 +167,14 @@ pub fn show_run<C: Costs + Drop>(
         (run.head.items ++ (unwrap_or run.lines [] ++ run.tail.items)) run.stuck) }
     ensures fault { IfErr result (IsEngineFault (budget sched.now (C.model costs))) }
 {
-    let ran = run::<C, Brand, Brand>(alloc, Blank::new(1), Blank::new(1), sched, costs);
+    let ran = run::<C, Brand, Brand, Brand>(
+        alloc,
+        Blank::new(1),
+        Blank::new(1),
+        Blank::new(1),
+        sched,
+        costs,
+    );
     let engine = match ran {
         Ok(engine) => engine,
         Err(fault) => return Err(fault),

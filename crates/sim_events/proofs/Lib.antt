@@ -14,4 +14,5 @@ pub mod Numbering
 pub mod Costs
 pub mod Changes
 pub mod Shared
+pub mod Passed
 pub mod ForCallers

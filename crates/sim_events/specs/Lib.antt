@@ -1,6 +1,7 @@
 -- What a reader must believe.
 pub mod Stations
 pub mod Moves
+pub mod Needs
 pub mod Comparisons
 -- What only the code keeps.
 pub mod Queue

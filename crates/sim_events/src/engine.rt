@@ -13,6 +13,7 @@ ghost use Rattle.sim_params.specs.Run.{IsNext, IsRun, IsFinished, IsCompleteRun}
 ghost use Rattle.sim_params.specs.Laws.{IsWithin};
 ghost use Rattle.sim_state.specs.Engine.{IsEngineFault, start_known, end_known};
 ghost use Rattle.sim_events.specs.Comparisons.{cost_of_start, cost_of_run};
+ghost use Rattle.sim_events.specs.Needs.{all_needs, most_reads};
 
 use crate::follow::is_empty;
 use crate::outlook::{Outlook, at_the_start, run_on, step_once};
@@ -64,17 +65,19 @@ impl<'a, C: Costs + Drop> Engine<'a, C> {
         ensures fits { OnOk result (budget sched.now (C.model costs) < 2 ^ 63) }
         ensures fault { IfErr result (IsEngineFault (budget sched.now (C.model costs))) }
     {
-        new_by::<C, Brand>(alloc, Blank::new(1), sched, costs)
+        new_by::<C, Brand, Brand>(alloc, Blank::new(1), Blank::new(1), sched, costs)
     }
 
-    /// The same, with a counter of the comparisons of keys.
+    /// The same, with a counter of the comparisons of keys and one of the needs of operations that are looked at.
     ///
     /// - `counted`: among 2^k operations it compares 10k + 16 times at most for each.
-    pub fn new_counted<L: Ledger>(
+    /// - `needed`: it looks at each need at most twice, and once more for each operation.
+    pub fn new_counted<L: Ledger, N: Ledger>(
         alloc: Global,
         sched: &'a Sched,
         costs: C,
         steps: &mut Steps<L>,
+        reads: &mut Steps<N>,
     ) -> Result<Engine<'a, C>, EngineFault>
         ensures plans { IfOk result (λ e. e.plans ≡ sched.now) }
         ensures costs { IfOk result (λ e. e.costs ≡ costs) }
@@ -82,9 +85,10 @@ impl<'a, C: Costs + Drop> Engine<'a, C> {
         ensures fits { OnOk result (budget sched.now (C.model costs) < 2 ^ 63) }
         ensures fault { IfErr result (IsEngineFault (budget sched.now (C.model costs))) }
         ensures counted { (k : ℕ) → length (operations sched.now) ≤ 2 ^ k → steps.new ≤ steps.old + cost_of_start k sched.now }
+        ensures needed { reads.new ≤ reads.old + 2 * all_needs sched.now + length (operations sched.now) }
     {
         let state = State::new(alloc, sched, costs)?;
-        let outlook = at_the_start(alloc, &state, steps)?;
+        let outlook = at_the_start(alloc, &state, steps, reads)?;
         Ok(Engine {
             state,
             outlook: Some(outlook),
@@ -93,15 +97,19 @@ impl<'a, C: Costs + Drop> Engine<'a, C> {
 }
 
 // An engine before its first step, with a counter of its own.
-fn new_by<'a, C: Costs + Drop, L: Ledger>(
+fn new_by<'a, C: Costs + Drop, L: Ledger, N: Ledger>(
     alloc: Global,
     blank: Blank,
+    for_reads: Blank,
     sched: &'a Sched,
     costs: C,
 ) -> Result<Engine<'a, C>, EngineFault>
     requires name { blank.name ≡ L.name }
     requires parts { blank.parts ≡ L.parts }
     requires some { 0 < blank.parts }
+    requires reads_name { for_reads.name ≡ N.name }
+    requires reads_parts { for_reads.parts ≡ N.parts }
+    requires reads_some { 0 < for_reads.parts }
     ensures plans { IfOk result (λ e. e.plans ≡ sched.now) }
     ensures costs { IfOk result (λ e. e.costs ≡ costs) }
     ensures empty { IfOk result (λ e. e.history ≡ []) }
@@ -109,7 +117,8 @@ fn new_by<'a, C: Costs + Drop, L: Ledger>(
     ensures fault { IfErr result (IsEngineFault (budget sched.now (C.model costs))) }
 {
     let mut steps = Steps::<L>::new(blank);
-    Engine::new_counted(alloc, sched, costs, &mut steps)
+    let mut reads = Steps::<N>::new(for_reads);
+    Engine::new_counted(alloc, sched, costs, &mut steps, &mut reads)
 }
 
 impl<'a, C: Costs> Engine<'a, C> {
@@ -126,9 +135,10 @@ impl<'a, C: Costs> Engine<'a, C> {
         let Some(outlook) = &mut self.outlook else {
             return None;
         };
-        step_once::<C, Brand, Brand, Brand>(
+        step_once::<C, Brand, Brand, Brand, Brand>(
             &mut self.state,
             outlook,
+            Blank::new(1),
             Blank::new(1),
             Blank::new(1),
             Blank::new(1),
@@ -151,45 +161,68 @@ impl<'a, C: Costs> Engine<'a, C> {
         ensures times { IsWithin self.new.plans (C.model self.new.costs) self.new.history (budget self.new.plans (C.model self.new.costs)) }
         ensures interleaving { IsCompleteInterleaving self.new.plans (is_eager self.new.plans (C.model self.new.costs)) (plain self.new.history) }
     {
-        self.run_by::<Brand, Brand>(Blank::new(1), Blank::new(1));
+        self.run_by::<Brand, Brand, Brand>(Blank::new(1), Blank::new(1), Blank::new(1));
     }
 
-    /// The same, with a counter of the comparisons of keys and one of the entries at which the matcher looks. What `run` says
-    /// besides follows from `complete`.
+    /// The same, with a counter of the comparisons of keys, one of the entries at which the matcher looks, and one of the needs of
+    /// operations that are looked at. What `run` says besides follows from `complete`.
     ///
     /// - `counted`: among 2^k operations it compares 18k + 29 times at most for each action that has happened then, and 8k + 15
     ///   times for each change of place of a station, of which there are at most `most_moves`.
     /// - `looked`: the matcher looks at eight entries at most for each action.
-    pub fn run_counted<L: Ledger, M: Ledger>(&mut self, steps: &mut Steps<L>, looks: &mut Steps<M>)
+    /// - `needed`: each need is looked at at most twice, and one more whenever an operation is looked at after an action.
+    pub fn run_counted<L: Ledger, M: Ledger, N: Ledger>(
+        &mut self,
+        steps: &mut Steps<L>,
+        looks: &mut Steps<M>,
+        reads: &mut Steps<N>,
+    )
         ensures plans { self.new.plans ≡ self.old.plans }
         ensures costs { self.new.costs ≡ self.old.costs }
         ensures complete { IsCompleteRun self.new.plans (C.model self.new.costs) self.new.history }
         ensures only { (h : List Timed) → IsCompleteRun self.new.plans (C.model self.new.costs) h → h ≡ self.new.history }
         ensures counted { (k : ℕ) → length (operations self.old.plans) ≤ 2 ^ k → steps.new ≤ steps.old + cost_of_run k self.new.plans self.new.history }
         ensures looked { looks.new ≤ looks.old + 8 * length self.new.history }
+        ensures needed { reads.new ≤ reads.old + most_reads self.new.plans self.new.history }
     {
         self.known();
         if let Some(outlook) = &mut self.outlook {
-            run_on::<C, L, Brand, M>(&mut self.state, outlook, Blank::new(1), steps, looks);
+            run_on::<C, L, Brand, M, N>(
+                &mut self.state,
+                outlook,
+                Blank::new(1),
+                steps,
+                looks,
+                reads,
+            );
         }
         self.outlook = None;
     }
 
     // Lets all that is possible happen, with counters of its own.
-    fn run_by<L: Ledger, M: Ledger>(&mut self, blank: Blank, for_looks: Blank)
+    fn run_by<L: Ledger, M: Ledger, N: Ledger>(
+        &mut self,
+        blank: Blank,
+        for_looks: Blank,
+        for_reads: Blank,
+    )
         requires name { blank.name ≡ L.name }
         requires parts { blank.parts ≡ L.parts }
         requires some { 0 < blank.parts }
         requires looks_name { for_looks.name ≡ M.name }
         requires looks_parts { for_looks.parts ≡ M.parts }
         requires looks_some { 0 < for_looks.parts }
+        requires reads_name { for_reads.name ≡ N.name }
+        requires reads_parts { for_reads.parts ≡ N.parts }
+        requires reads_some { 0 < for_reads.parts }
         ensures plans { self.new.plans ≡ self.old.plans }
         ensures costs { self.new.costs ≡ self.old.costs }
         ensures complete { IsCompleteRun self.new.plans (C.model self.new.costs) self.new.history }
     {
         let mut steps = Steps::<L>::new(blank);
         let mut looks = Steps::<M>::new(for_looks);
-        self.run_counted(&mut steps, &mut looks);
+        let mut reads = Steps::<N>::new(for_reads);
+        self.run_counted(&mut steps, &mut looks, &mut reads);
     }
 
     /// Whether nothing is possible.

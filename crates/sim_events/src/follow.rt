@@ -1,7 +1,8 @@
 // The queue of an engine: what it holds, and how it follows what happens.
-ghost use Rattle.std.specs.Prelude.{◌≡◌, ◌≢◌, ℕ, ◌<◌, ◌≤◌, ◌+◌, ◌*◌, ◌^◌, ◌↔◌, ◌⊎◌, IsTrue, IfSome, IsNone, Some, true, length, slice_get};
+ghost use Rattle.std.specs.Prelude.{◌≡◌, ◌≢◌, ℕ, ◌<◌, ◌≤◌, ◌+◌, ◌*◌, ◌^◌, ◌↔◌, ◌⊎◌, IsTrue, IfSome, IsNone, Some, true, count_by, length, slice_get};
 ghost use Rattle.goal_graph.specs.declared.action.Class.TheVariants.{Serve};
 ghost use Rattle.goal_graph.specs.Schedule.{operations};
+ghost use Rattle.goal_graph.specs.Concerned.{waiting_on};
 ghost use Rattle.goal_graph.specs.Fault.{IsOp};
 ghost use Rattle.sim_params.specs.Times.{mate, cpu};
 ghost use Rattle.sim_params.specs.Run.{IsNext, IsFinished};
@@ -10,13 +11,14 @@ ghost use Rattle.sim_stations.specs.Stations.{waits_for_room, pair_of, IsLater, 
 ghost use Rattle.sim_state.specs.Cursors.{AreCursors};
 ghost use Rattle.sim_state.specs.Free.{side};
 ghost use Rattle.sim_events.specs.Comparisons.{spent};
+ghost use Rattle.sim_events.specs.Needs.{looked_after, read_so_far};
 ghost use Rattle.sim_events.specs.Changes.{AreAtPlaces, HaveChanged, HaveChangedOn};
 ghost use Rattle.sim_events.specs.Queue.{IsOfSchedule, IsQueue, IsQueueBut, HasPossibleKeys, IsRefreshed, IsSettledBy, IsDueAfter, Awaits, gives};
 
 use goal_graph::{Class, OpId, Timed, When};
 use sim_order::Steps;
 use sim_params::Costs;
-use sim_state::{Cursor, State, choice_from, compact};
+use sim_state::{Cursor, State, choice_counted, compact};
 use sim_stations::StationQueue;
 use std::sync::ledger::{Blank, Ledger};
 
@@ -24,11 +26,12 @@ use std::sync::ledger::{Blank, Ledger};
 pub type Queue = StationQueue;
 
 /// Gives each operation its key, where none has one yet.
-pub fn fill<C: Costs, L: Ledger>(
+pub fn fill<C: Costs, L: Ledger, N: Ledger>(
     state: &State<C>,
     queue: &mut Queue,
     cursors: &mut [Cursor],
     steps: &mut Steps<L>,
+    reads: &mut Steps<N>,
 )
     requires of_it { IsOfSchedule state.now.plans (C.model state.now.costs) state.now.history queue.old }
     requires empty { IsEmptyMap queue.old.keys }
@@ -36,10 +39,11 @@ pub fn fill<C: Costs, L: Ledger>(
     ensures queue { IsQueue state.now.plans (C.model state.now.costs) state.now.history queue.new }
     ensures cursors { AreCursors state.now.plans (C.model state.now.costs) state.now.history cursors.new }
     ensures placed { AreAtPlaces queue.old queue.new }
+    ensures looked { reads.new + read_so_far state.now.plans state.now.history queue.old cursors.old ≤ reads.old + read_so_far state.now.plans state.now.history queue.new cursors.new + length (operations state.now.plans) }
     ensures counted { (k : ℕ) → length queue.old.keys ≤ 2 ^ k → steps.new + cost_of_waiting k queue.new.stands ≤ steps.old + cost_of_waiting k queue.old.stands + spent k queue.new }
 {
     for id in state.sched().operations() {
-        refresh(state, queue, cursors, *id, steps);
+        refresh(state, queue, cursors, *id, steps, reads);
     }
 }
 
@@ -99,12 +103,13 @@ pub fn settle<C: Costs, L: Ledger>(
 
 /// Gives their keys to those whose next action may be possible only since an action: its operation, the partner, and
 /// the operations that need the moment which it gives.
-pub fn follow<C: Costs, L: Ledger>(
+pub fn follow<C: Costs, L: Ledger, N: Ledger>(
     state: &State<C>,
     queue: &mut Queue,
     cursors: &mut [Cursor],
     action: Timed,
     steps: &mut Steps<L>,
+    reads: &mut Steps<N>,
 )
     requires exists { IsOp state.now.plans action.op }
     requires rest { IsQueueBut state.now.plans (C.model state.now.costs) state.now.history (IsDueAfter state.now.plans (C.model state.now.costs) state.now.history action) queue.old }
@@ -112,20 +117,22 @@ pub fn follow<C: Costs, L: Ledger>(
     ensures queue { IsQueue state.now.plans (C.model state.now.costs) state.now.history queue.new }
     ensures cursors { AreCursors state.now.plans (C.model state.now.costs) state.now.history cursors.new }
     ensures placed { AreAtPlaces queue.old queue.new }
+    ensures looked { reads.new + read_so_far state.now.plans state.now.history queue.old cursors.old ≤ reads.old + read_so_far state.now.plans state.now.history queue.new cursors.new + looked_after state.now.plans action }
     ensures counted { (k : ℕ) → length queue.old.keys ≤ 2 ^ k → steps.new + cost_of_waiting k queue.new.stands + spent k queue.old ≤ steps.old + cost_of_waiting k queue.old.stands + spent k queue.new }
 {
-    refresh(state, queue, cursors, action.op, steps);
-    follow_partner(state, queue, cursors, action, steps);
-    follow_waiting(state, queue, cursors, action, steps);
+    refresh(state, queue, cursors, action.op, steps, reads);
+    follow_partner(state, queue, cursors, action, steps, reads);
+    follow_waiting(state, queue, cursors, action, steps, reads);
 }
 
 // Gives its key to the partner of the operation of an action, if it has one. After a Serve the partner is done.
-fn follow_partner<C: Costs, L: Ledger>(
+fn follow_partner<C: Costs, L: Ledger, N: Ledger>(
     state: &State<C>,
     queue: &mut Queue,
     cursors: &mut [Cursor],
     action: Timed,
     steps: &mut Steps<L>,
+    reads: &mut Steps<N>,
 )
     requires exists { IsOp state.now.plans action.op }
     requires rest { IsQueueBut state.now.plans (C.model state.now.costs) state.now.history (λ y. ((action.class ≢ Serve) × (mate state.now.plans (C.model state.now.costs) state.now.history action.op ≡ Some y)) ⊎ Awaits state.now.plans action.class action.op y) queue.old }
@@ -133,6 +140,7 @@ fn follow_partner<C: Costs, L: Ledger>(
     ensures queue { IsQueueBut state.now.plans (C.model state.now.costs) state.now.history (Awaits state.now.plans action.class action.op) queue.new }
     ensures cursors { AreCursors state.now.plans (C.model state.now.costs) state.now.history cursors.new }
     ensures placed { AreAtPlaces queue.old queue.new }
+    ensures looked { reads.new + read_so_far state.now.plans state.now.history queue.old cursors.old ≤ reads.old + read_so_far state.now.plans state.now.history queue.new cursors.new + 1 }
     ensures counted { (k : ℕ) → length queue.old.keys ≤ 2 ^ k → steps.new + cost_of_waiting k queue.new.stands + spent k queue.old ≤ steps.old + cost_of_waiting k queue.old.stands + spent k queue.new }
 {
     if let Class::Serve = action.class {
@@ -141,7 +149,7 @@ fn follow_partner<C: Costs, L: Ledger>(
     let Some(partner) = state.partner(action.op) else {
         return;
     };
-    refresh(state, queue, cursors, partner, steps);
+    refresh(state, queue, cursors, partner, steps, reads);
 }
 
 // Whether an action of a class may give its operation the moment that a need is of.
@@ -157,12 +165,13 @@ fn gives(class: Class, when: When) -> bool
 }
 
 // Gives their keys to the operations that need the moment which an action gives. An Arrive gives none.
-fn follow_waiting<C: Costs, L: Ledger>(
+fn follow_waiting<C: Costs, L: Ledger, N: Ledger>(
     state: &State<C>,
     queue: &mut Queue,
     cursors: &mut [Cursor],
     action: Timed,
     steps: &mut Steps<L>,
+    reads: &mut Steps<N>,
 )
     requires exists { IsOp state.now.plans action.op }
     requires rest { IsQueueBut state.now.plans (C.model state.now.costs) state.now.history (Awaits state.now.plans action.class action.op) queue.old }
@@ -170,6 +179,7 @@ fn follow_waiting<C: Costs, L: Ledger>(
     ensures queue { IsQueue state.now.plans (C.model state.now.costs) state.now.history queue.new }
     ensures cursors { AreCursors state.now.plans (C.model state.now.costs) state.now.history cursors.new }
     ensures placed { AreAtPlaces queue.old queue.new }
+    ensures looked { reads.new + read_so_far state.now.plans state.now.history queue.old cursors.old ≤ reads.old + read_so_far state.now.plans state.now.history queue.new cursors.new + count_by (λ d. gives action.class d.when) (waiting_on state.now.plans action.op) }
     ensures counted { (k : ℕ) → length queue.old.keys ≤ 2 ^ k → steps.new + cost_of_waiting k queue.new.stands + spent k queue.old ≤ steps.old + cost_of_waiting k queue.old.stands + spent k queue.new }
 {
     if let Class::Arrive = action.class {
@@ -183,17 +193,18 @@ fn follow_waiting<C: Costs, L: Ledger>(
             rank: action.op.rank,
             op: need.op,
         };
-        refresh(state, queue, cursors, waiting, steps);
+        refresh(state, queue, cursors, waiting, steps, reads);
     }
 }
 
 // Gives an operation that has no key the one of its possible action, if it has one.
-fn refresh<C: Costs, L: Ledger>(
+fn refresh<C: Costs, L: Ledger, N: Ledger>(
     state: &State<C>,
     queue: &mut Queue,
     cursors: &mut [Cursor],
     id: OpId,
     steps: &mut Steps<L>,
+    reads: &mut Steps<N>,
 )
     requires exists { IsOp state.now.plans id }
     requires possible { HasPossibleKeys state.now.plans (C.model state.now.costs) state.now.history queue.old }
@@ -201,13 +212,14 @@ fn refresh<C: Costs, L: Ledger>(
     ensures queue { IsRefreshed state.now.plans (C.model state.now.costs) state.now.history id queue.old queue.new }
     ensures cursors { AreCursors state.now.plans (C.model state.now.costs) state.now.history cursors.new }
     ensures placed { AreAtPlaces queue.old queue.new }
+    ensures looked { reads.new + read_so_far state.now.plans state.now.history queue.old cursors.old ≤ reads.old + read_so_far state.now.plans state.now.history queue.new cursors.new + 1 }
     ensures counted { (k : ℕ) → length queue.old.keys ≤ 2 ^ k → steps.new + cost_of_waiting k queue.new.stands + spent k queue.old ≤ steps.old + cost_of_waiting k queue.old.stands + spent k queue.new }
 {
     let slot = state.sched().index(id);
     if queue.has(slot) {
         return;
     }
-    if let Some(action) = choice_from(state, cursors, id) {
+    if let Some(action) = choice_counted(state, cursors, id, reads) {
         queue.put(slot, compact(state.sched(), action), steps);
     }
 }

@@ -9,6 +9,7 @@ ghost use Rattle.sim_state.specs.Cursors.{AreCursors};
 ghost use Rattle.sim_events.specs.Queue.{IsOfSchedule};
 ghost use Rattle.sim_events.specs.Comparisons.{spent, cost_of_actions, cost_of_start, cost_of_run, count_of, last_look};
 ghost use Rattle.sim_events.specs.Moves.{most_moves};
+ghost use Rattle.sim_events.specs.Needs.{all_needs, all_looked_after, most_reads, read_so_far};
 ghost use Rattle.sim_events.specs.Changes.{HaveChanged, HaveChangedOn};
 ghost use Rattle.sim_events.specs.Outlook.{IsOutlookOf, IsStepped};
 
@@ -59,28 +60,37 @@ fn blank(alloc: Global, sched: &Sched) -> Result<Outlook, NoMemory>
 }
 
 /// What may come before the first action. Among 2^k operations it compares 10k + 16 times at most for each.
-pub fn at_the_start<C: Costs, L: Ledger>(
+pub fn at_the_start<C: Costs, L: Ledger, N: Ledger>(
     alloc: Global,
     state: &State<C>,
     steps: &mut Steps<L>,
+    reads: &mut Steps<N>,
 ) -> Result<Outlook, NoMemory>
     requires empty { state.now.history ≡ [] }
     ensures outlook { IfOk result (IsOutlookOf C.model state.now) }
     ensures counted { (k : ℕ) → length (operations state.now.plans) ≤ 2 ^ k → steps.new ≤ steps.old + cost_of_start k state.now.plans }
+    ensures needed { reads.new ≤ reads.old + 2 * all_needs state.now.plans + length (operations state.now.plans) }
 {
     let mut outlook = blank(alloc, state.sched())?;
     outlook.queue.known();
-    fill(state, &mut outlook.queue, &mut outlook.cursors, steps);
+    fill(
+        state,
+        &mut outlook.queue,
+        &mut outlook.cursors,
+        steps,
+        reads,
+    );
     Ok(outlook)
 }
 
 // Lets the next action happen and answers it. What it compares is the cost of the action and of the changes of place.
-fn step<C: Costs, L: Ledger, R: Ledger, M: Ledger>(
+fn step<C: Costs, L: Ledger, R: Ledger, M: Ledger, N: Ledger>(
     state: &mut State<C>,
     outlook: &mut Outlook,
     steps: &mut Steps<L>,
     moves: &mut Steps<R>,
     looks: &mut Steps<M>,
+    reads: &mut Steps<N>,
 ) -> Option<Timed>
     requires outlook { IsOutlookOf C.model state.old outlook.old }
     ensures outlook { IsOutlookOf C.model state.new outlook.new }
@@ -89,6 +99,7 @@ fn step<C: Costs, L: Ledger, R: Ledger, M: Ledger>(
     ensures counted { (k : ℕ) → length (operations state.old.plans) ≤ 2 ^ k
         → steps.new + cost_of_waiting k outlook.new.queue.stands + spent k outlook.old.queue + cost_of_actions k 0 moves.old ≤ steps.old + cost_of_waiting k outlook.old.queue.stands + spent k outlook.new.queue + cost_of_actions k (count_of result) moves.new + last_look result }
     ensures moved { (all : ℕ) → HaveChanged state.old.plans state.old.history outlook.old.queue all → HaveChangedOn state.new.plans state.new.history outlook.new.queue all moves.old moves.new }
+    ensures needed { reads.new + read_so_far state.old.plans state.old.history outlook.old.queue outlook.old.cursors.items + all_looked_after state.old.plans state.old.history ≤ reads.old + read_so_far state.new.plans state.new.history outlook.new.queue outlook.new.cursors.items + all_looked_after state.new.plans state.new.history }
     ensures looked { looks.new ≤ looks.old + 8 * count_of result }
 {
     state.known();
@@ -101,6 +112,7 @@ fn step<C: Costs, L: Ledger, R: Ledger, M: Ledger>(
         &mut outlook.cursors,
         action,
         steps,
+        reads,
     );
     Some(action)
 }
@@ -108,12 +120,13 @@ fn step<C: Costs, L: Ledger, R: Ledger, M: Ledger>(
 // Lets all that is possible happen. Among 2^k operations each action costs 18k + 29 comparisons at most, and each change of
 // place of a station 8k + 15, what the keys have cost that are there before it included. The matcher looks at eight
 // entries an action at most.
-fn run<C: Costs, L: Ledger, R: Ledger, M: Ledger>(
+fn run<C: Costs, L: Ledger, R: Ledger, M: Ledger, N: Ledger>(
     state: &mut State<C>,
     outlook: &mut Outlook,
     steps: &mut Steps<L>,
     moves: &mut Steps<R>,
     looks: &mut Steps<M>,
+    reads: &mut Steps<N>,
 )
     requires outlook { IsOutlookOf C.model state.old outlook.old }
     ensures plans { state.new.plans ≡ state.old.plans }
@@ -122,19 +135,21 @@ fn run<C: Costs, L: Ledger, R: Ledger, M: Ledger>(
     ensures counted { (k : ℕ) → length (operations state.old.plans) ≤ 2 ^ k
         → steps.new + spent k outlook.old.queue + cost_of_actions k (length state.old.history) moves.old ≤ steps.old + cost_of_waiting k outlook.old.queue.stands + cost_of_actions k (length state.new.history) moves.new + 3 }
     ensures moved { moves.new ≤ moves.old + most_moves state.new.plans state.new.history }
+    ensures needed { reads.new ≤ reads.old + most_reads state.new.plans state.new.history }
     ensures looked { looks.new + 8 * length state.old.history ≤ looks.old + 8 * length state.new.history }
 {
-    'steps: while step(state, outlook, steps, moves, looks).is_some() {}
+    'steps: while step(state, outlook, steps, moves, looks, reads).is_some() {}
 }
 
 /// Lets the next action happen and answers it: the possible one of the least key. Where nothing is possible it answers
 /// None, and nothing changes.
-pub fn step_once<C: Costs, L: Ledger, R: Ledger, M: Ledger>(
+pub fn step_once<C: Costs, L: Ledger, R: Ledger, M: Ledger, N: Ledger>(
     state: &mut State<C>,
     outlook: &mut Outlook,
     blank: Blank,
     for_moves: Blank,
     for_looks: Blank,
+    for_reads: Blank,
 ) -> Option<Timed>
     requires name { blank.name ≡ L.name }
     requires parts { blank.parts ≡ L.parts }
@@ -145,6 +160,9 @@ pub fn step_once<C: Costs, L: Ledger, R: Ledger, M: Ledger>(
     requires looks_name { for_looks.name ≡ M.name }
     requires looks_parts { for_looks.parts ≡ M.parts }
     requires looks_some { 0 < for_looks.parts }
+    requires reads_name { for_reads.name ≡ N.name }
+    requires reads_parts { for_reads.parts ≡ N.parts }
+    requires reads_some { 0 < for_reads.parts }
     requires outlook { IsOutlookOf C.model state.old outlook.old }
     ensures outlook { IsOutlookOf C.model state.new outlook.new }
     ensures stepped { IsStepped C.model state.old state.new result }
@@ -152,17 +170,21 @@ pub fn step_once<C: Costs, L: Ledger, R: Ledger, M: Ledger>(
     let mut steps = Steps::<L>::new(blank);
     let mut moves = Steps::<R>::new(for_moves);
     let mut looks = Steps::<M>::new(for_looks);
-    step(state, outlook, &mut steps, &mut moves, &mut looks)
+    let mut reads = Steps::<N>::new(for_reads);
+    step(
+        state, outlook, &mut steps, &mut moves, &mut looks, &mut reads,
+    )
 }
 
 /// Lets all that is possible happen, until nothing is. What it compares, and what the matcher looks at, is bounded by what has
 /// happened then.
-pub fn run_on<C: Costs, L: Ledger, R: Ledger, M: Ledger>(
+pub fn run_on<C: Costs, L: Ledger, R: Ledger, M: Ledger, N: Ledger>(
     state: &mut State<C>,
     outlook: &mut Outlook,
     for_moves: Blank,
     steps: &mut Steps<L>,
     looks: &mut Steps<M>,
+    reads: &mut Steps<N>,
 )
     requires moves_name { for_moves.name ≡ R.name }
     requires moves_parts { for_moves.parts ≡ R.parts }
@@ -172,9 +194,10 @@ pub fn run_on<C: Costs, L: Ledger, R: Ledger, M: Ledger>(
     ensures costs { state.new.costs ≡ state.old.costs }
     ensures complete { IsCompleteRun state.new.plans (C.model state.new.costs) state.new.history }
     ensures counted { (k : ℕ) → length (operations state.old.plans) ≤ 2 ^ k → steps.new ≤ steps.old + cost_of_run k state.new.plans state.new.history }
+    ensures needed { reads.new ≤ reads.old + most_reads state.new.plans state.new.history }
     ensures looked { looks.new ≤ looks.old + 8 * length state.new.history }
 {
     outlook.queue.known();
     let mut moves = Steps::<R>::new(for_moves);
-    run(state, outlook, steps, &mut moves, looks);
+    run(state, outlook, steps, &mut moves, looks, reads);
 }

@@ -1,5 +1,8 @@
 use Rattle.std.proofs.Common.{◌<◌, ◌∙◌, List, get_or, length, ap, sym, subst, arith}
+use Rattle.std.specs.List.{count_by}
 use Rattle.std.proofs.lemmas.Bool.{both_ways}
+use Rattle.std.proofs.lemmas.List.{take_all}
+use Rattle.std.proofs.lemmas.List.Sums.{count_by_more_yes, count_by_more_no}
 use Rattle.goal_graph.specs.declared.action.Class.{Class}
 use Rattle.goal_graph.specs.declared.plan.Need.{Need}
 use Rattle.goal_graph.specs.declared.plan.When.TheVariants.{AfterEnd}
@@ -30,7 +33,9 @@ loop-need-preserved g c =
     let items = c.waiting_on-need-items.ensures.waiting_on in
     let k = c.loop-need.need-index in
     let within = subst (λ (ds : List Need). k < length ds) items c.loop-need-test.true in
-    (refreshed plans _ _ _ _ _ _ _ c.loop-need.invariant.0 c.refresh.ensures.queue (λ y is n differ. await_rest (waiting_on plans id) k none c.args.action.class id y within n (λ e. differ (e ∙ ap (λ (ds : List Need). needed id (get_or ds k none)) (sym items)))), c.refresh.ensures.cursors, λ k few. let same = c.loop-need.invariant.0.of_it.each in let first = c.requires.rest.of_it.each in omega (arith, c.loop-need.invariant.2 k few, c.refresh.ensures.counted k (omega (arith, few, same, first))), placed_again c.args.queue.now _ _ c.loop-need.invariant.3 c.refresh.ensures.placed)
+    let test = ap (λ (ds : List Need). gives c.args.action.class (get_or ds k none).when) (sym items) ∙ sym c.gives.ensures ∙ c.if-not-gives.false in
+    let more = count_by_more_yes (λ (d : Need). gives c.args.action.class d.when) (waiting_on plans id) k none within test in
+    (refreshed plans _ _ _ _ _ _ _ c.loop-need.invariant.0 c.refresh.ensures.queue (λ y is n differ. await_rest (waiting_on plans id) k none c.args.action.class id y within n (λ e. differ (e ∙ ap (λ (ds : List Need). needed id (get_or ds k none)) (sym items)))), c.refresh.ensures.cursors, λ k few. let same = c.loop-need.invariant.0.of_it.each in let first = c.requires.rest.of_it.each in omega (arith, c.loop-need.invariant.2 k few, c.refresh.ensures.counted k (omega (arith, few, same, first))), placed_again c.args.queue.now _ _ c.loop-need.invariant.3 c.refresh.ensures.placed, omega (arith, c.loop-need.invariant.4, c.refresh.ensures.looked, more))
 
 pub loop-need-preserved-then-not-gives : goal.loop-need-preserved-then-not-gives
 loop-need-preserved-then-not-gives g c =
@@ -40,7 +45,7 @@ loop-need-preserved-then-not-gives g c =
     let k = c.loop-need.need-index in
     let within = subst (λ (ds : List Need). k < length ds) items c.loop-need-test.true in
     let other = ap (λ (ds : List Need). gives c.args.action.class (get_or ds k none).when) (sym items) ∙ sym c.gives.ensures ∙ c.if-not-gives.true in
-    (fewer_due plans _ _ _ _ _ c.loop-need.invariant.0 (λ y is n. await_skipped (waiting_on plans id) k none c.args.action.class id y within other n), c.loop-need.invariant.1, c.loop-need.invariant.2, c.loop-need.invariant.3)
+    (fewer_due plans _ _ _ _ _ c.loop-need.invariant.0 (λ y is n. await_skipped (waiting_on plans id) k none c.args.action.class id y within other n), c.loop-need.invariant.1, c.loop-need.invariant.2, c.loop-need.invariant.3, omega (arith, c.loop-need.invariant.4, count_by_more_no (λ (d : Need). gives c.args.action.class d.when) (waiting_on plans id) k none within other))
 
 -- an Arrive gives nothing
 pub returns-in-Arrive-clause-queue : goal.returns-in-Arrive-clause-queue
@@ -56,3 +61,11 @@ returns-clause-queue g c =
 
 pub returns-clause-counted : goal.returns-clause-counted
 returns-clause-counted g c = c.loop-need.invariant.2
+
+pub returns-clause-looked : goal.returns-clause-looked
+returns-clause-looked g c =
+    let plans = c.args.state.now.plans in
+    let id = c.args.action.op in
+    let items = c.waiting_on-need-items.ensures.waiting_on ∙ ap (λ (ps : List Plan). waiting_on ps id) c.sched.ensures in
+    let whole = take_all c.loop-need.need-index (waiting_on plans id) (omega (arith, ap length items, c.loop-need-test.false)) in
+    omega (arith, c.loop-need.invariant.4, ap (count_by (λ (d : Need). gives c.args.action.class d.when)) whole)

@@ -5,6 +5,7 @@ use Rattle.sim_state.specs.Cursors.{AreCursors}
 use Rattle.sim_events.specs.Queue.{IsOfSchedule}
 use Rattle.sim_events.specs.Changes.{HaveChanged}
 use Rattle.sim_events.proofs.Changes.{changed_placed}
+use Rattle.sim_events.proofs.Passed.{read_most}
 use Rattle.sim_events.proofs.Costs.{spent_none, spent_most, waiting_paid}
 use Rattle.goal_graph.proofs.ForCallers.{whole_back}
 use Rattle.sim_events.proofs.outlook.at_the_start.Goals as goal
@@ -44,3 +45,9 @@ returns-clause-counted g c =
     let filled = c.fill.ensures.counted k (omega (arith, few, each.each, ap (λ (ps : List Plan). length (operations ps)) c.sched.ensures)) in
     let most = spent_most k c.fill.new.queue in
     omega (arith, filled, most, waiting_paid k first c.known.ensures, spent_none k first c.in_ok-outlook.ensures.empty, ap (λ n. n * (10 * k + 16)) c.fill.ensures.queue.of_it.each)
+
+pub returns-clause-needed : goal.returns-clause-needed
+returns-clause-needed g c =
+    let state = c.args.state.now in
+    let most = read_most state.plans (g.C.Costs.model state.costs) state.history c.fill.new.queue c.fill.new.cursors c.fill.ensures.cursors in
+    omega (arith, c.fill.ensures.looked, most)

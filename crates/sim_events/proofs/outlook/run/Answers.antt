@@ -2,6 +2,7 @@ use Rattle.std.proofs.Common.{◌*◌, ◌+◌, length, sym, ap, ◌∙◌, arit
 use Rattle.goal_graph.specs.Schedule.{operations}
 use Rattle.sim_events.proofs.Changes.{changed_most}
 use Rattle.sim_events.proofs.Costs.{spent_none}
+use Rattle.sim_events.proofs.Passed.{read_most}
 use Rattle.sim_events.proofs.Queue.{empty_from}
 use Rattle.sim_events.proofs.Runs.{stepped_plans, stepped_costs, stepped_length, stepped_last, fewer_left, none_counted, some_look, look_most}
 use Rattle.sim_events.proofs.outlook.run.Goals as goal
@@ -22,6 +23,7 @@ steps-preserved g c =
           let now = c.step.ensures.moved so_far.now so_far.changed in
           record { now = now.now; changed = now.changed; counted = omega (arith, so_far.counted, now.counted) },
       omega (arith, c.steps.invariant.5, c.step.ensures.looked, more),
+      omega (arith, c.steps.invariant.6, c.step.ensures.needed),
     )
 
 pub steps-smaller : goal.steps-smaller
@@ -66,3 +68,9 @@ returns-clause-moved g c =
     let now = c.step.ensures.moved so_far.now so_far.changed in
     let most = changed_most c.step.new.state.plans (g.C.Costs.model c.step.new.state.costs) c.step.new.state.history c.step.new.outlook.queue c.step.ensures.outlook.0.of_it.stationed now.now now.changed in
     omega (arith, so_far.counted, now.counted, most)
+
+pub returns-clause-needed : goal.returns-clause-needed
+returns-clause-needed g c =
+    let state = c.step.new.state in
+    let most = read_most state.plans (g.C.Costs.model state.costs) state.history c.step.new.outlook.queue c.step.new.outlook.cursors.items c.step.ensures.outlook.1 in
+    omega (arith, c.steps.invariant.6, c.step.ensures.needed, most)

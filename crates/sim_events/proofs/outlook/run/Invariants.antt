@@ -2,6 +2,7 @@ use Rattle.std.proofs.Common.{◌≡◌, ◌+◌, ◌*◌, ◌-◌, ◌≤◌, �
 use Rattle.goal_graph.specs.Schedule.{operations}
 use Rattle.sim_stations.specs.Stations.{cost_of_waiting}
 use Rattle.sim_events.specs.Comparisons.{spent, cost_of_actions}
+use Rattle.sim_events.specs.Needs.{all_looked_after, read_so_far}
 use Rattle.sim_events.specs.Changes.{HaveChanged, HaveChangedOn}
 use Rattle.sim_events.specs.Outlook.{IsOutlookOf}
 use Rattle.sim_events.proofs.outlook.run.Given as goal
@@ -17,6 +18,7 @@ invariant-steps g l =
     ≤ l.fn.steps + cost_of_waiting k l.fn.outlook.queue.stands + spent k l.outlook.queue + cost_of_actions k (length l.state.history) l.moves)
     × ((all : ℕ) → HaveChanged l.fn.state.plans l.fn.state.history l.fn.outlook.queue all → HaveChangedOn l.state.plans l.state.history l.outlook.queue all l.fn.moves l.moves)
     × (l.looks + 8 * length l.fn.state.history ≤ l.fn.looks + 8 * length l.state.history)
+    × (l.reads + read_so_far l.fn.state.plans l.fn.state.history l.fn.outlook.queue l.fn.outlook.cursors.items + all_looked_after l.fn.state.plans l.fn.state.history ≤ l.fn.reads + read_so_far l.state.plans l.state.history l.outlook.queue l.outlook.cursors.items + all_looked_after l.state.plans l.state.history)
 
 abbrev pub decreases-steps : goal.decreases-steps
 decreases-steps g l = 3 * length (operations l.state.plans) - length l.state.history

@@ -6,9 +6,11 @@ use Rattle.sim_events.specs.Comparisons.{count_of, last_look}
 use Rattle.sim_events.proofs.Costs.{spent_same}
 use Rattle.goal_graph.proofs.ForCallers.{whole_back}
 use Rattle.sim_events.proofs.Cursors.{cursors_after}
+use Rattle.sim_events.specs.Needs.{read_so_far}
+use Rattle.sim_events.proofs.Passed.{read_same}
 use Rattle.sim_events.proofs.Settled.{spent_settled}
 use Rattle.sim_events.proofs.Changes.{changed_placed}
-use Rattle.sim_events.proofs.Steps.{op_after, due_after, later_after, changed_after}
+use Rattle.sim_events.proofs.Steps.{op_after, due_after, later_after, changed_after, read_after, looked_more}
 use Rattle.sim_events.proofs.outlook.step.Goals as goal
 
 pub returns-in_err-slot-clause-counted : goal.returns-in_err-slot-clause-counted
@@ -75,3 +77,15 @@ returns-in_err-slot-clause-outlook g c =
     let first = c.requires.outlook.2 in
     let found = c.next.ensures.moved first.0 first.1 in
     (c.next.ensures.queue, c.requires.outlook.1, (found.now, found.changed))
+
+pub returns-clause-needed : goal.returns-clause-needed
+returns-clause-needed g c =
+    let old = c.args.state.now in
+    let state = c.perform.new.self in
+    let action = c.in_ok-slot.action in
+    let cursors = c.args.outlook.now.cursors in
+    let whole = whole_back cursors.len c.follow.new.cursors cursors.items (c.follow.auto.cursors ∙ ap length c.deref_mut.ensures.value) cursors.ok.0 in
+    let found = read_same old.plans old.history c.args.outlook.now.queue c.next.new.queue cursors.items c.next.ensures.keys in
+    let settled = read_after g.C.Costs.model old state action c.next.new.queue c.settle.new.queue c.in_ok-slot.slot c.perform.ensures.performed c.in_ok-slot.ensures.next c.in_ok-slot.ensures.slot c.in_ok-slot.ensures.key c.settle.ensures.settled cursors.items in
+    let same = ap (read_so_far state.plans state.history c.settle.new.queue) c.deref_mut.ensures.value in
+    omega (arith, c.follow.ensures.looked, same, found, settled, looked_more g.C.Costs.model old state action c.perform.ensures.performed, ap (read_so_far state.plans state.history c.follow.new.queue) whole)

@@ -8,3 +8,6 @@ ghosts-step_once-R-Ledger g a = record { name = a.for_moves.name; parts = a.for_
 
 abbrev pub ghosts-step_once-M-Ledger : goal.ghosts-step_once-M-Ledger
 ghosts-step_once-M-Ledger g a = record { name = a.for_looks.name; parts = a.for_looks.parts }
+
+abbrev pub ghosts-step_once-N-Ledger : goal.ghosts-step_once-N-Ledger
+ghosts-step_once-N-Ledger g a = record { name = a.for_reads.name; parts = a.for_reads.parts }
