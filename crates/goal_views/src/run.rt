@@ -4,9 +4,8 @@ ghost use Rattle.goal_graph.specs.Schedule.{operations};
 ghost use Rattle.sim_params.specs.Budget.{budget};
 ghost use Rattle.sim_params.specs.Run.{IsFinished};
 ghost use Rattle.sim_params.specs.Stuck.{is_stuck};
-ghost use Rattle.sim_events.specs.Comparisons.{cost_of_start, cost_of_run};
+ghost use Rattle.sim_events.specs.Cost.{cost_of_start, cost_of_run, all_needs, most_reads};
 ghost use Rattle.sim_events.specs.Engine.{IsEngineFault};
-ghost use Rattle.sim_events.specs.Needs.{all_needs, most_reads};
 ghost use Rattle.goal_views.specs.Views.{Shows, IsShownRun};
 ghost use Rattle.goal_views.specs.Runs.{IsRunOf};
 

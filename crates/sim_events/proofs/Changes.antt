@@ -16,8 +16,8 @@ use Rattle.sim_stations.specs.Stations.{Stationed, waits_for_room, pair_at, pair
 use Rattle.sim_stations.specs.Moves.{HaveReturned, HaveMoved, changes, held_once_more}
 use Rattle.sim_stations.proofs.ForCallers.{few_changes}
 use Rattle.sim_events.specs.declared.station.Station.{Station}
-use Rattle.sim_events.specs.Stations.{station_of, station_as, cpu_alone, side_alone, same_station, with_station, stations_among, AreStationed}
-use Rattle.sim_events.specs.Moves.{holds_as, times_held, most_moves}
+use Rattle.sim_events.specs.Stations.{AreStationed}
+use Rattle.sim_events.specs.Cost.{station_of, station_as, cpu_alone, side_alone, same_station, with_station, stations_among, holds_as, times_held, most_moves}
 use Rattle.sim_events.specs.Changes.{AreAtPlaces, AreHeld, HaveChanged, HaveChangedOn}
 use Rattle.sim_events.specs.Queue.{IsOfSchedule, IsSettledBy}
 use Rattle.sim_events.proofs.FreeAfter.{needs}

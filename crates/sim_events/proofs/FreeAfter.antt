@@ -19,7 +19,7 @@ use Rattle.goal_graph.specs.Allowed.{allowed}
 use Rattle.sim_stations.specs.Stations.{waits_for_room}
 use Rattle.sim_state.specs.Free.{free, free_of, side, side_of}
 use Rattle.sim_events.specs.declared.station.Station.{Station}
-use Rattle.sim_events.specs.Stations.{station_by, station_of, cpu_alone, side_alone}
+use Rattle.sim_events.specs.Cost.{station_by, station_of, cpu_alone, side_alone}
 
 -- two operations of one rank at one place are at the same place as others
 same_places : (place : Op → ℕ) (x y z : OpId) (o p : Op) (q : Option Op) → x.rank ≡ y.rank → place o ≡ place p → same_place place x (Some o) z q ≡ same_place place y (Some p) z q

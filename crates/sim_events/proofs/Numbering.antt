@@ -18,7 +18,8 @@ use Rattle.sim_resources.proofs.ForCallers.{get_kept, get_either}
 use Rattle.sim_stations.specs.declared.pair.Pair.{Pair}
 use Rattle.sim_stations.specs.Stations.{DoExist}
 use Rattle.sim_events.specs.declared.station.Station.{Station}
-use Rattle.sim_events.specs.Stations.{station_by, station_of, station_as, same_station, with_station, stations_among, cpu_alone, side_by, side_alone, IsNotAfter, AreOnce, HasNumber, HasPair, IsNumbering, AreStationed}
+use Rattle.sim_events.specs.Stations.{IsNotAfter, AreOnce, HasNumber, HasPair, IsNumbering, AreStationed}
+use Rattle.sim_events.specs.Cost.{station_by, station_of, station_as, same_station, with_station, stations_among, cpu_alone, side_by, side_alone}
 use Rattle.sim_events.proofs.Placing.{same_station_true, same_station_from}
 
 -- what stands behind a list

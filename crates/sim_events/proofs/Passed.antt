@@ -21,7 +21,8 @@ use Rattle.sim_stations.specs.Stations.{Stationed, waits_for_room, when_free, pa
 use Rattle.sim_state.specs.declared.cursor.Cursor.{Cursor}
 use Rattle.sim_state.specs.Cursors.{AreCursors, IsLookedAt, starts, cursor_at, looked_again}
 use Rattle.sim_state.proofs.ForCallers.{happened_this}
-use Rattle.sim_events.specs.Needs.{starts_by, all_needs, read_of, read_so_far}
+use Rattle.sim_events.specs.Needs.{starts_by, read_of, read_so_far}
+use Rattle.sim_events.specs.Cost.{all_needs}
 use Rattle.sim_events.specs.Queue.{IsSettledBy}
 use Rattle.sim_events.proofs.Costs.{sum_moved}
 

@@ -6,7 +6,8 @@ use Rattle.std.proofs.lemmas.Option.{slice_get-get_or, slice_get_within, get_or_
 use Rattle.goal_graph.proofs.ForCallers.{same_choice_true, get_last}
 use Rattle.sim_resources.proofs.ForCallers.{get_kept, get_either}
 use Rattle.sim_events.specs.declared.station.Station.{Station}
-use Rattle.sim_events.specs.Stations.{same_choice, same_station, cpu_place, side_place, place, IsOneSide, cpu_alone, side_by, side_alone, IsPlain, IsNotAfter, ArePlaced, HasNumber}
+use Rattle.sim_events.specs.Stations.{cpu_place, side_place, place, IsOneSide, IsPlain, IsNotAfter, ArePlaced, HasNumber}
+use Rattle.sim_events.specs.Cost.{same_station, cpu_alone, side_by, side_alone, same_choice}
 
 pub same_station_true : (p q : Station) → same_station p q ≡ true → p ≡ q
 same_station_true p q e =

@@ -19,9 +19,8 @@ use Rattle.sim_params.proofs.ForCallers.{run_length}
 use Rattle.sim_resources.proofs.ForCallers.{get_either}
 use Rattle.sim_stations.specs.Stations.{waits_for_room}
 use Rattle.sim_events.specs.declared.station.Station.{Station}
-use Rattle.sim_events.specs.Stations.{station_by, station_of, station_as, cpu_alone, side_alone, same_station, with_station, stations_among, AreOnce}
-use Rattle.sim_events.specs.Moves.{holds_as, times_held, most_moves}
-use Rattle.sim_events.specs.Comparisons.{cost_of_start, cost_of_run}
+use Rattle.sim_events.specs.Stations.{AreOnce}
+use Rattle.sim_events.specs.Cost.{station_by, station_of, station_as, cpu_alone, side_alone, same_station, with_station, stations_among, holds_as, times_held, most_moves, cost_of_start, cost_of_run}
 use Rattle.sim_events.specs.Laws.{HasOne, IsOneWide, MovesAreFew, RunsAreCheap}
 use Rattle.sim_events.proofs.Numbering.{any_there}
 use Rattle.sim_events.proofs.Placing.{same_station_true, same_station_from}

@@ -6,8 +6,7 @@ use Rattle.goal_graph.specs.declared.plan.Op.{Op}
 use Rattle.goal_graph.specs.Schedule.{Plan, op_at, operations}
 use Rattle.sim_stations.specs.Stations.{Stationed, pair_of}
 use Rattle.sim_stations.specs.Moves.{HaveReturned, changes}
-use Rattle.sim_events.specs.Stations.{station_of, cpu_alone, side_alone}
-use Rattle.sim_events.specs.Moves.{times_held}
+use Rattle.sim_events.specs.Cost.{station_of, cpu_alone, side_alone, times_held}
 
 -- no station of a queue has changed its place
 pub record AreAtPlaces (old new : Stationed) : Type 0 where

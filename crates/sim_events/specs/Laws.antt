@@ -6,8 +6,7 @@ use Rattle.goal_graph.specs.declared.plan.Op.{Op}
 use Rattle.goal_graph.specs.Schedule.{Plan, op_at, operations}
 use Rattle.sim_params.specs.Costs.{CostModel}
 use Rattle.sim_params.specs.Run.{IsRun}
-use Rattle.sim_events.specs.Moves.{most_moves}
-use Rattle.sim_events.specs.Comparisons.{cost_of_start, cost_of_run}
+use Rattle.sim_events.specs.Cost.{most_moves, cost_of_start, cost_of_run}
 
 -- all operations of a rank have one number of this kind
 abbrev pub HasOne : (Op → ℕ) → List Plan → ℕ → Type 0

@@ -1,9 +1,9 @@
 -- What a reader must believe.
-pub mod Stations
-pub mod Moves
-pub mod Needs
-pub mod Comparisons
+pub mod Cost
 -- What only the code keeps.
+pub mod Comparisons
+pub mod Needs
+pub mod Stations
 pub mod Queue
 pub mod Changes
 pub mod Outlook

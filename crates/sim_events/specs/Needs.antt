@@ -1,9 +1,8 @@
 -- How often the needs of operations are looked at in a run.
-use Rattle.std.specs.Prelude.{ℕ, ◌+◌, ◌*◌, ◌||◌, Bool, false, List, Option, Some, None, length, count_by, slice_get, if◌then◌else◌}
+use Rattle.std.specs.Prelude.{ℕ, ◌+◌, ◌||◌, Bool, false, List, Option, Some, None, length, slice_get, if◌then◌else◌}
 use Rattle.std.specs.List.{sum_by, range_with_len}
 use Rattle.goal_graph.specs.declared.action.OpId.{OpId}
 use Rattle.goal_graph.specs.declared.action.Timed.{Timed}
-use Rattle.goal_graph.specs.declared.plan.Need.{Need}
 use Rattle.goal_graph.specs.Schedule.{Plan, needs, operations}
 use Rattle.goal_graph.specs.Action.{plain}
 use Rattle.goal_graph.specs.Allowed.{has_started}
@@ -11,7 +10,6 @@ use Rattle.sim_heaps.specs.Map.{key_at}
 use Rattle.sim_stations.specs.Stations.{Stationed}
 use Rattle.sim_state.specs.declared.cursor.Cursor.{Cursor}
 use Rattle.sim_state.specs.Cursors.{starts, cursor_at}
-use Rattle.sim_events.specs.Queue.{gives}
 
 -- a key is that of the first action of its operation
 abbrev pub starts_by : Option Timed → Bool
@@ -19,21 +17,6 @@ starts_by None = false
 starts_by (Some a) = starts a.class
 
 module _ (plans : List Plan) where
-  -- how many needs there are
-  abbrev pub all_needs : ℕ
-  all_needs = sum_by (λ x. length (needs plans x)) (operations plans)
-
-  -- how many operations are looked at after an action: its own, its partner, and those that need a moment that it may give
-  abbrev pub looked_after : Timed → ℕ
-  looked_after a = 2 + count_by (λ (d : Need). gives a.class d.when) (waiting_on plans a.op)
-
-  abbrev pub all_looked_after : List Timed → ℕ
-  all_looked_after h = sum_by looked_after h
-
-  -- how often needs are looked at as so much happens, at most: each twice, and one whenever an operation is looked at
-  abbrev pub most_reads : List Timed → ℕ
-  most_reads h = 2 * all_needs + all_looked_after h
-
   -- What was looked at of an operation: as far as its cursor has gone, and all once more where it has started or its key starts it.
   abbrev pub read_of : List Timed → Option OpId → Option Timed → Cursor → ℕ
   read_of h None k c = 0

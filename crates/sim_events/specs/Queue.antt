@@ -1,13 +1,11 @@
 -- What the queue of an engine holds: the possible action of each operation that has one.
-use Rattle.std.specs.Prelude.{ℕ, ◌≡◌, ◌≢◌, ◌⊎◌, Bool, true, false, List, Contains, length, Option, Some, None, slice_get, slice_index, slice_set}
+use Rattle.std.specs.Prelude.{ℕ, ◌≡◌, ◌≢◌, ◌⊎◌, true, false, List, Contains, length, Option, Some, None, slice_get, slice_index, slice_set}
 use Rattle.std.specs.Option.{option_map}
 use Rattle.goal_graph.specs.declared.action.OpId.{OpId}
 use Rattle.goal_graph.specs.declared.action.Timed.{Timed}
 use Rattle.goal_graph.specs.declared.action.Class.{Class}
-use Rattle.goal_graph.specs.declared.action.Class.TheVariants.{Serve, Data, Post, Begin}
+use Rattle.goal_graph.specs.declared.action.Class.TheVariants.{Serve}
 use Rattle.goal_graph.specs.declared.plan.Need.{Need}
-use Rattle.goal_graph.specs.declared.plan.When.{When}
-use Rattle.goal_graph.specs.declared.plan.When.TheVariants.{AfterEnd, AfterStart}
 use Rattle.goal_graph.specs.Schedule.{Plan, needed, operations}
 use Rattle.goal_graph.specs.Concerned.{waiting_on}
 use Rattle.sim_params.specs.Costs.{CostModel}
@@ -18,6 +16,7 @@ use Rattle.sim_stations.specs.Moves.{HaveReturned, held_once_more}
 use Rattle.sim_state.specs.Enabled.{IsIdle, IsEnabledActionOf}
 use Rattle.sim_state.specs.Free.{side}
 use Rattle.sim_events.specs.Stations.{AreStationed}
+use Rattle.sim_events.specs.Cost.{gives}
 
 -- A queue after the action in a slot, which has left its resources free at c and s: its key is gone and, where the action
 -- waited for room, all that waits for these is raised, and they were held once more.
@@ -35,15 +34,6 @@ pub record IsSettledBy (c s slot : ℕ) (a : Timed) (old new : Stationed) : Type
       waits_for_room a.class ≡ true → (holds returns : List ℕ)
       → HaveReturned old.pairs old.turned old.free holds returns
       → HaveReturned new.pairs new.turned new.free (held_once_more holds (pair_of old slot)) returns
-
--- an action of that class may give its operation the moment: a Begin its start and its end, a Post its start, a Data and a
--- Serve its end
-abbrev pub gives : Class → When → Bool
-gives Begin when = true
-gives Post AfterStart = true
-gives Data AfterEnd = true
-gives Serve AfterEnd = true
-gives _ _ = false
 
 -- by one of these needs y waits for a moment of x that an action of that class may give
 pub record IsAwaiting (needs : List Need) (class : Class) (x y : OpId) : Type 0 where

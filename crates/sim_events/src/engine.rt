@@ -12,8 +12,7 @@ ghost use Rattle.sim_params.specs.Times.{mate};
 ghost use Rattle.sim_params.specs.Run.{IsNext, IsRun, IsFinished, IsCompleteRun};
 ghost use Rattle.sim_params.specs.Laws.{IsWithin};
 ghost use Rattle.sim_state.specs.Engine.{IsEngineFault, start_known, end_known};
-ghost use Rattle.sim_events.specs.Comparisons.{cost_of_start, cost_of_run};
-ghost use Rattle.sim_events.specs.Needs.{all_needs, most_reads};
+ghost use Rattle.sim_events.specs.Cost.{cost_of_start, cost_of_run, all_needs, most_reads};
 
 use crate::follow::is_empty;
 use crate::outlook::{Outlook, at_the_start, run_on, step_once};

@@ -11,9 +11,10 @@ ghost use Rattle.sim_stations.specs.Stations.{waits_for_room, pair_of, IsLater, 
 ghost use Rattle.sim_state.specs.Cursors.{AreCursors};
 ghost use Rattle.sim_state.specs.Free.{side};
 ghost use Rattle.sim_events.specs.Comparisons.{spent};
-ghost use Rattle.sim_events.specs.Needs.{looked_after, read_so_far};
+ghost use Rattle.sim_events.specs.Needs.{read_so_far};
+ghost use Rattle.sim_events.specs.Cost.{looked_after, gives};
 ghost use Rattle.sim_events.specs.Changes.{AreAtPlaces, HaveChanged, HaveChangedOn};
-ghost use Rattle.sim_events.specs.Queue.{IsOfSchedule, IsQueue, IsQueueBut, HasPossibleKeys, IsRefreshed, IsSettledBy, IsDueAfter, Awaits, gives};
+ghost use Rattle.sim_events.specs.Queue.{IsOfSchedule, IsQueue, IsQueueBut, HasPossibleKeys, IsRefreshed, IsSettledBy, IsDueAfter, Awaits};
 
 use goal_graph::{Class, OpId, Timed, When};
 use sim_order::Steps;

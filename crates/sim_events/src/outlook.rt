@@ -7,9 +7,9 @@ ghost use Rattle.sim_heaps.specs.Map.{IsEmptyMap};
 ghost use Rattle.sim_stations.specs.Stations.{cost_of_waiting};
 ghost use Rattle.sim_state.specs.Cursors.{AreCursors};
 ghost use Rattle.sim_events.specs.Queue.{IsOfSchedule};
-ghost use Rattle.sim_events.specs.Comparisons.{spent, cost_of_actions, cost_of_start, cost_of_run, count_of, last_look};
-ghost use Rattle.sim_events.specs.Moves.{most_moves};
-ghost use Rattle.sim_events.specs.Needs.{all_needs, all_looked_after, most_reads, read_so_far};
+ghost use Rattle.sim_events.specs.Comparisons.{spent, count_of, last_look};
+ghost use Rattle.sim_events.specs.Cost.{cost_of_actions, cost_of_start, cost_of_run, most_moves, all_needs, all_looked_after, most_reads};
+ghost use Rattle.sim_events.specs.Needs.{read_so_far};
 ghost use Rattle.sim_events.specs.Changes.{HaveChanged, HaveChangedOn};
 ghost use Rattle.sim_events.specs.Outlook.{IsOutlookOf, IsStepped};
 

@@ -3,7 +3,8 @@ ghost use Rattle.std.specs.Prelude.{◌≡◌, ◌<◌, ◌≤◌, ◌+◌, ◌*
 ghost use Rattle.goal_base.specs.declared.limits.TheConstants.{MAX_OPS};
 ghost use Rattle.goal_graph.specs.Schedule.{operations};
 ghost use Rattle.sim_stations.specs.Stations.{DoExist};
-ghost use Rattle.sim_events.specs.Stations.{station_of, cpu_alone, side_alone, place, AreStationed, IsPlain, IsNotAfter, AreOnce, HasNumber, HasPair, IsNumbering};
+ghost use Rattle.sim_events.specs.Stations.{place, AreStationed, IsPlain, IsNotAfter, AreOnce, HasNumber, HasPair, IsNumbering};
+ghost use Rattle.sim_events.specs.Cost.{station_of, cpu_alone, side_alone};
 
 use goal_base::NoMemory;
 use goal_graph::{Kind, Op, OpId, Sched};

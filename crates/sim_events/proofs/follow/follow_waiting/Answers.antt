@@ -6,10 +6,9 @@ use Rattle.std.proofs.lemmas.List.Sums.{count_by_more_yes, count_by_more_no}
 use Rattle.goal_graph.specs.declared.action.Class.{Class}
 use Rattle.goal_graph.specs.declared.plan.Need.{Need}
 use Rattle.goal_graph.specs.declared.plan.When.TheVariants.{AfterEnd}
-use Rattle.goal_graph.specs.Schedule.{Plan, needed}
+use Rattle.goal_graph.specs.Schedule.{needed}
 use Rattle.goal_graph.specs.Concerned.{waiting_on}
-use Rattle.goal_graph.specs.Fault.{IsOp}
-use Rattle.sim_events.specs.Queue.{gives}
+use Rattle.sim_events.specs.Cost.{gives}
 use Rattle.sim_events.proofs.Awaited.{await_rest, await_skipped, await_none}
 use Rattle.sim_events.proofs.Changes.{placed_again}
 use Rattle.sim_events.proofs.Queue.{possible_keys, refreshed, fewer_due}
@@ -66,6 +65,6 @@ pub returns-clause-looked : goal.returns-clause-looked
 returns-clause-looked g c =
     let plans = c.args.state.now.plans in
     let id = c.args.action.op in
-    let items = c.waiting_on-need-items.ensures.waiting_on ∙ ap (λ (ps : List Plan). waiting_on ps id) c.sched.ensures in
+    let items = c.waiting_on-need-items.ensures.waiting_on in
     let whole = take_all c.loop-need.need-index (waiting_on plans id) (omega (arith, ap length items, c.loop-need-test.false)) in
     omega (arith, c.loop-need.invariant.4, ap (count_by (λ (d : Need). gives c.args.action.class d.when)) whole)

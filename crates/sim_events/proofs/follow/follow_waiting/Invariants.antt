@@ -2,7 +2,8 @@ use Rattle.std.proofs.Common.{◌+◌, ◌≤◌, drop, take}
 use Rattle.std.specs.List.{count_by}
 use Rattle.goal_graph.specs.declared.plan.Need.{Need}
 use Rattle.goal_graph.specs.Concerned.{waiting_on}
-use Rattle.sim_events.specs.Queue.{IsAwaiting, IsQueueBut, gives}
+use Rattle.sim_events.specs.Queue.{IsAwaiting, IsQueueBut}
+use Rattle.sim_events.specs.Cost.{gives}
 use Rattle.sim_state.specs.Cursors.{AreCursors}
 use Rattle.sim_events.specs.Needs.{read_so_far}
 use Rattle.sim_events.specs.Changes.{AreAtPlaces}

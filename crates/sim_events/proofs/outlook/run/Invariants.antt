@@ -1,8 +1,9 @@
 use Rattle.std.proofs.Common.{◌≡◌, ◌+◌, ◌*◌, ◌-◌, ◌≤◌, ◌^◌, ℕ, length}
 use Rattle.goal_graph.specs.Schedule.{operations}
 use Rattle.sim_stations.specs.Stations.{cost_of_waiting}
-use Rattle.sim_events.specs.Comparisons.{spent, cost_of_actions}
-use Rattle.sim_events.specs.Needs.{all_looked_after, read_so_far}
+use Rattle.sim_events.specs.Comparisons.{spent}
+use Rattle.sim_events.specs.Cost.{cost_of_actions, all_looked_after}
+use Rattle.sim_events.specs.Needs.{read_so_far}
 use Rattle.sim_events.specs.Changes.{HaveChanged, HaveChangedOn}
 use Rattle.sim_events.specs.Outlook.{IsOutlookOf}
 use Rattle.sim_events.proofs.outlook.run.Given as goal

@@ -1,6 +1,6 @@
 use Rattle.std.proofs.Common.{◌*◌, ◌+◌, ◌≤◌, ap, arith}
 use Rattle.std.proofs.Math.Nat.{mul-le-mul_right}
-use Rattle.sim_events.specs.Moves.{most_moves}
+use Rattle.sim_events.specs.Cost.{most_moves}
 use Rattle.sim_events.proofs.Costs.{waiting_paid}
 use Rattle.sim_events.proofs.outlook.run_on.Goals as goal
 

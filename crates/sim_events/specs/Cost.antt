@@ -1,0 +1,112 @@
+-- What a run costs at most: how often its queue compares keys, and how often needs are looked at, over the schedule and what has
+-- happened.
+use Rattle.std.specs.Prelude.{ℕ, ◌+◌, ◌*◌, ◌&&◌, ◌||◌, ◌==◌, ◌++◌, min, Bool, true, false, List, [], ◌∷◌, length, count_by, Option, Some, None, if◌then◌else◌}
+use Rattle.std.specs.List.{fold, list_any, sum_by}
+use Rattle.goal_graph.specs.declared.action.OpId.{OpId}
+use Rattle.goal_graph.specs.declared.action.Timed.{Timed}
+use Rattle.goal_graph.specs.declared.action.Class.{Class}
+use Rattle.goal_graph.specs.declared.action.Class.TheVariants.{Serve, Data, Post, Begin}
+use Rattle.goal_graph.specs.declared.plan.Kind.{Kind}
+use Rattle.goal_graph.specs.declared.plan.Kind.TheVariants.{Calc, Send, Recv}
+use Rattle.goal_graph.specs.declared.plan.Need.{Need}
+use Rattle.goal_graph.specs.declared.plan.Op.{Op}
+use Rattle.goal_graph.specs.declared.plan.When.{When}
+use Rattle.goal_graph.specs.declared.plan.When.TheVariants.{AfterEnd, AfterStart}
+use Rattle.goal_graph.specs.Schedule.{Plan, op_at, operations, needs}
+use Rattle.goal_graph.specs.Concerned.{waiting_on}
+use Rattle.sim_stations.specs.Stations.{waits_for_room}
+use Rattle.sim_events.specs.declared.station.Station.{Station}
+pub use Rattle.goal_graph.specs.Choices.{same_choice}
+
+-- the station of an operation: what it waits for before it works
+abbrev pub station_by : OpId → Op → Kind → Station
+station_by x o (Calc nanos) = record { rank = x.rank; cpu = Some o.cpu; sends = None; receives = None }
+station_by x o (Send bytes to tag) = record { rank = x.rank; cpu = Some o.cpu; sends = Some o.nic; receives = None }
+station_by x o (Recv room from tag) = record { rank = x.rank; cpu = Some o.cpu; sends = None; receives = Some o.nic }
+
+-- the station of the operation x
+abbrev pub station_of : OpId → Op → Station
+station_of x o = station_by x o o.kind
+
+-- The two resources of a station: its cpu alone, and its side alone, or its cpu again where it needs no side.
+abbrev pub cpu_alone : Station → Station
+cpu_alone s = record { rank = s.rank; cpu = s.cpu; sends = None; receives = None }
+
+abbrev pub side_by : Station → Option ℕ → Option ℕ → Station
+side_by s None None = s
+side_by s (Some n) r = record { rank = s.rank; cpu = None; sends = Some n; receives = r }
+side_by s None (Some n) = record { rank = s.rank; cpu = None; sends = None; receives = Some n }
+
+abbrev pub side_alone : Station → Station
+side_alone s = side_by s s.sends s.receives
+
+abbrev pub same_station : Station → Station → Bool
+same_station p q =
+    (p.rank == q.rank) && (same_choice p.cpu q.cpu && (same_choice p.sends q.sends && same_choice p.receives q.receives))
+
+-- the station of an operation
+abbrev pub station_as : OpId → Option Op → Station
+station_as x None = record { rank = x.rank; cpu = None; sends = None; receives = None }
+station_as x (Some o) = station_of x o
+
+-- one more station, unless it is there
+abbrev pub with_station : List Station → Station → List Station
+with_station stations s = if list_any (same_station s) stations then stations else stations ++ s ∷ []
+
+-- the stations of these operations, each once
+abbrev pub stations_among : List Plan → List OpId → List Station
+stations_among plans ops = fold (λ stations x. with_station stations (station_as x (op_at plans x))) [] ops
+
+-- An action that waits for room holds two resources: the cpu of its operation, and that side of its interface or, where it
+-- needs none, the cpu alone.
+abbrev pub holds_as : Station → Timed → Option Op → Bool
+holds_as resource a None = false
+holds_as resource a (Some o) =
+    waits_for_room a.class && (same_station (cpu_alone (station_of a.op o)) resource || same_station (side_alone (station_of a.op o)) resource)
+
+module _ (plans : List Plan) where
+  -- how many actions of a history held a resource
+  abbrev pub times_held : List Timed → Station → ℕ
+  times_held h resource = count_by (λ a. holds_as resource a (op_at plans a.op)) h
+
+  -- each station once, and twice the lesser of how often its cpu and its side were held
+  abbrev pub most_moves : List Timed → ℕ
+  most_moves h =
+      sum_by (λ s. 1 + 2 * min (times_held h (cpu_alone s)) (times_held h (side_alone s))) (stations_among plans (operations plans))
+
+-- what so many actions cost, with so many changes of place: a key is put, found and taken out
+abbrev pub cost_of_actions : ℕ → ℕ → ℕ → ℕ
+cost_of_actions k actions moves = actions * (18 * k + 29) + moves * (8 * k + 15)
+
+-- what the first keys of a schedule cost at most, among 2^k operations
+abbrev pub cost_of_start : ℕ → List Plan → ℕ
+cost_of_start k plans = length (operations plans) * (10 * k + 16)
+
+-- what a run costs at most, among 2^k operations: its actions, the changes of place that these allow, and its end
+abbrev pub cost_of_run : ℕ → List Plan → List Timed → ℕ
+cost_of_run k plans h = cost_of_actions k (length h) (most_moves plans h) + 3
+
+-- an action of that class may give its operation the moment: a Begin its start and its end, a Post its start, a Data and a
+-- Serve its end
+abbrev pub gives : Class → When → Bool
+gives Begin when = true
+gives Post AfterStart = true
+gives Data AfterEnd = true
+gives Serve AfterEnd = true
+gives _ _ = false
+
+module _ (plans : List Plan) where
+  -- how many needs there are
+  abbrev pub all_needs : ℕ
+  all_needs = sum_by (λ x. length (needs plans x)) (operations plans)
+
+  -- how many operations are looked at after an action: its own, its partner, and those that need a moment that it may give
+  abbrev pub looked_after : Timed → ℕ
+  looked_after a = 2 + count_by (λ (d : Need). gives a.class d.when) (waiting_on plans a.op)
+
+  abbrev pub all_looked_after : List Timed → ℕ
+  all_looked_after h = sum_by looked_after h
+
+  -- how often needs are looked at as so much happens, at most: each twice, and one whenever an operation is looked at
+  abbrev pub most_reads : List Timed → ℕ
+  most_reads h = 2 * all_needs + all_looked_after h
