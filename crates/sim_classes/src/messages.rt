@@ -69,7 +69,8 @@ impl Machine {
         Some(first)
     }
 
-    // The costs of a message from a rank to a rank.
+    // The costs of a message from a rank to a rank. As a part of its callers it reads only the parameters that they ask for.
+    #[inline(always)]
     fn costs(&self, from: u32, to: u32) -> LogGops
         ensures { log_gops (numbers result.params) ≡ costs_between (known self.now) from to }
     {
