@@ -36,13 +36,13 @@ slice_get-set xs i x within =
 
 -- and at another
 pub slice_get-apart : {A : Type 0} (xs : List A) (i j : ℕ) (x : A) → j ≢ i → slice_get (slice_set xs i x) j ≡ slice_get xs j
-slice_get-apart xs i j x apart = by (slice_get (slice_set xs i x) j) refl (slice_get xs j) refl
+slice_get-apart xs i j x unchained = by (slice_get (slice_set xs i x) j) refl (slice_get xs j) refl
   where
     by : (a : Option _) → slice_get (slice_set xs i x) j ≡ a → (b : Option _) → slice_get xs j ≡ b → slice_get (slice_set xs i x) j ≡ slice_get xs j
     by (Some y) p b q =
         let within : j < length xs = omega (arith, length-set xs i x, slice_get_within (slice_set xs i x) j y p) in
-        p ∙ ap Some (sym (get_or_from_slice_get (slice_set xs i x) j y y p) ∙ get_or-set_other xs i j x y apart) ∙ sym (slice_get-get_or xs j y within)
-    by None p (Some y) q = slice_get-get_or (slice_set xs i x) j y (omega (arith, length-set xs i x, slice_get_within xs j y q)) ∙ ap Some (get_or-set_other xs i j x y apart) ∙ sym (slice_get-get_or xs j y (slice_get_within xs j y q))
+        p ∙ ap Some (sym (get_or_from_slice_get (slice_set xs i x) j y y p) ∙ get_or-set_other xs i j x y unchained) ∙ sym (slice_get-get_or xs j y within)
+    by None p (Some y) q = slice_get-get_or (slice_set xs i x) j y (omega (arith, length-set xs i x, slice_get_within xs j y q)) ∙ ap Some (get_or-set_other xs i j x y unchained) ∙ sym (slice_get-get_or xs j y (slice_get_within xs j y q))
     by None p None q = p ∙ sym q
 
 pub Leads-more : (links more : List Link) (number first : ℕ) → Leads links number first → Leads (links ++ more) number first
@@ -95,11 +95,11 @@ module _ (old : Chains) (hash next : ℕ) (head after : Head) (newest : after.pa
   first_now h same within =
       head-at grown h after (ap (λ n. slice_get grown (bucket h n)) grown-length ∙ ap (slice_get grown) same ∙ slice_get-set heads at after within) ∙ newest
 
-  first_apart : (h : ℕ) → bucket h (length heads) ≢ at → head_of grown h ≡ head_of heads h
+  first_unchained : (h : ℕ) → bucket h (length heads) ≢ at → head_of grown h ≡ head_of heads h
   unfolding head_of
-  first_apart h apart =
+  first_unchained h unchained =
       ap (λ o. option_map_or (λ (x : Head). x.packed / 32) o 0)
-      (ap (λ n. slice_get grown (bucket h n)) grown-length ∙ slice_get-apart heads at (bucket h (length heads)) _ apart)
+      (ap (λ n. slice_get grown (bucket h n)) grown-length ∙ slice_get-apart heads at (bucket h (length heads)) _ unchained)
 
   pub led : slice_get heads at ≡ Some head → Leads added (length old.links.items) (head_of grown hash)
   led there =
@@ -117,12 +117,12 @@ module _ (old : Chains) (hash next : ℕ) (head after : Head) (newest : after.pa
           (on (length old.links.items) (record { hash = hash; next = next }) (slice_get-last old.links.items _) (omega (arith, was, Leads-within old.links.items number (head_of heads h) leads))
           (subst (Leads added number) was (Leads-more old.links.items _ number (head_of heads h) leads)))
       by (inr told) =
-          subst (Leads added number) (sym (first_apart h told.1)) (Leads-more old.links.items _ number (head_of heads h) leads)
+          subst (Leads added number) (sym (first_unchained h told.1)) (Leads-more old.links.items _ number (head_of heads h) leads)
 
 -- a number that is linked into no chain
-pub apart : (old mid new : Chains) (hash : ℕ) → mid ≡ old → new.heads ≡ mid.heads → new.links.items ≡ mid.links.items ++ record { hash = hash; next = 0 } ∷ []
+pub unchained : (old mid new : Chains) (hash : ℕ) → mid ≡ old → new.heads ≡ mid.heads → new.links.items ≡ mid.links.items ++ record { hash = hash; next = 0 } ∷ []
     → length old.links.items + 1 < 2 ^ 32 → IsLinked old new hash false
-apart old mid new hash same heads links few =
+unchained old mid new hash same heads links few =
     let links_now : new.links.items ≡ old.links.items ++ record { hash = hash; next = 0 } ∷ [] = links ∙ ap (λ (m : Chains). m.links.items ++ record { hash = hash; next = 0 } ∷ []) same in
     let heads_now : new.heads.items ≡ old.heads.items = ap (λ v. v.items) heads ∙ ap (λ (m : Chains). m.heads.items) same in
     record {

@@ -31,25 +31,25 @@ label_hash label =
     (folding.finish (folding.write folding.initial (take (ending_start label) label)) / 2 ^ 32 + ending_number (drop (ending_start label) label)) % 2 ^ 32
 
 -- the numbers of labels whose chains are long
-abbrev pub Apart : Type 0
-Apart = BTreeMap (List ℕ) ℕ
+abbrev pub Unchained : Type 0
+Unchained = BTreeMap (List ℕ) ℕ
 
-abbrev pub apart_at : Apart → List ℕ → Option ℕ
-apart_at apart label = get (slice_cmp nat_cmp) apart label
+abbrev pub unchained_at : Unchained → List ℕ → Option ℕ
+unchained_at unchained label = get (slice_cmp nat_cmp) unchained label
 
 -- the entry of that number is found by its label
-abbrev pub IsFound : Chains → Apart → List ℕ → ℕ → Type 0
-IsFound chains apart label i = Leads chains.links.items i (head_of chains.heads.items (label_hash label)) ⊎ (apart_at apart label ≡ Some i)
+abbrev pub IsFound : Chains → Unchained → List ℕ → ℕ → Type 0
+IsFound chains unchained label i = Leads chains.links.items i (head_of chains.heads.items (label_hash label)) ⊎ (unchained_at unchained label ≡ Some i)
 
 -- each of the first n entries has a link with its hash, and is found
-pub record IsIndexed (entries : Entries) (n : ℕ) (chains : Chains) (apart : Apart) : Type 0 where
+pub record IsIndexed (entries : Entries) (n : ℕ) (chains : Chains) (unchained : Unchained) : Type 0 where
   pub count : length chains.links.items ≡ n
   pub hashes : (i : ℕ) (label : List ℕ) (l : Link) → IsAt entries label i → slice_get chains.links.items i ≡ Some l → l.hash ≡ label_hash label
-  pub found : (i : ℕ) (label : List ℕ) → i < n → IsAt entries label i → IsFound chains apart label i
+  pub found : (i : ℕ) (label : List ℕ) → i < n → IsAt entries label i → IsFound chains unchained label i
 
 -- what a map of labels keeps: each entry is found by its label, or nothing is linked, and the labels ascend
-pub record IsMap (entries : Entries) (chains : Chains) (apart : Apart) : Type 0 where
-  pub found : IsIndexed entries (length entries) chains apart ⊎ ((chains.links.items ≡ []) × AreAscending entries)
+pub record IsMap (entries : Entries) (chains : Chains) (unchained : Unchained) : Type 0 where
+  pub found : IsIndexed entries (length entries) chains unchained ⊎ ((chains.links.items ≡ []) × AreAscending entries)
   pub unique : AreUnique entries
 
 -- what is found of a label: the number of its entry, or that it has none and goes behind all, or that it has none, and its hash

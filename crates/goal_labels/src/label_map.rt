@@ -5,10 +5,10 @@ ghost use Rattle.goal_labels.specs.declared.chains.Link.{Link};
 ghost use Rattle.goal_labels.specs.Chains.{Leads, head_of};
 ghost use Rattle.goal_labels.specs.Entries.{Entries, put, is_at, label_of, entries_of, IsAt, IsAbsent, IsHeld, AreUnique, AreHeld};
 ghost use Rattle.goal_labels.specs.Ordered.{label_cmp, AreAscending, AreBefore};
-ghost use Rattle.goal_labels.specs.Indexed.{ending_number, label_hash, apart_at, IsFinding, IsIndexed, IsMap};
+ghost use Rattle.goal_labels.specs.Indexed.{ending_number, label_hash, unchained_at, IsFinding, IsIndexed, IsMap};
 
-use crate::apart::Sorted;
 use crate::chains::{Chains, Link};
+use crate::sorted::Sorted;
 use std::alloc::{AllocError, Global};
 use std::cmp::Ordering;
 use std::collections::BTreeMap;
@@ -52,7 +52,7 @@ pub struct LabelMap {
     // The bytes of all labels, one label behind another: a short label takes little memory.
     bytes: Vec<u8>,
     chains: Chains,
-    apart: BTreeMap<Sorted, u32>,
+    unchained: BTreeMap<Sorted, u32>,
     // The numbers that were found last, the newest first. They only save time: any values are right.
     recent: [usize; 4],
     // How many searches were made among labels that ascend. It only saves time.
@@ -66,7 +66,7 @@ impl Drop for LabelMap {
             entries: _entries,
             bytes: _bytes,
             chains: _chains,
-            apart: _apart,
+            unchained: _unchained,
             recent: _,
             searches: _,
         } = self;
@@ -82,7 +82,7 @@ impl Model for LabelMap {
 
     ghost view = { λ m. entries_of m.bytes.items m.entries.items };
 
-    ghost invariant = { λ m. AreHeld m.bytes.items m.entries.items × IsMap (entries_of m.bytes.items m.entries.items) m.chains m.apart };
+    ghost invariant = { λ m. AreHeld m.bytes.items m.entries.items × IsMap (entries_of m.bytes.items m.entries.items) m.chains m.unchained };
 }
 
 /// What a search for a label finds.
@@ -222,36 +222,36 @@ fn seek(
 
 // The number of a label among those whose chains are long. Hardly any text has such labels.
 #[cold]
-fn seek_apart(
+fn seek_unchained(
     entries: &[Entry],
     bytes: &[u8],
-    apart: &BTreeMap<Sorted, u32>,
+    unchained: &BTreeMap<Sorted, u32>,
     label: &[u8],
 ) -> Option<usize>
     requires held { AreHeld bytes.now entries.now }
     requires some { 0 < length label.now }
     requires short { length label.now ≤ 64 }
     ensures found { IfSome result (IsAt (entries_of bytes.now entries.now) label.now) }
-    ensures absent { IfNone result ((i : ℕ) → apart_at apart.now label.now ≡ Some i → IsAt (entries_of bytes.now entries.now) label.now i → ⊥) }
+    ensures absent { IfNone result ((i : ℕ) → unchained_at unchained.now label.now ≡ Some i → IsAt (entries_of bytes.now entries.now) label.now i → ⊥) }
 {
-    match apart.get(&Sorted::of(label)) {
+    match unchained.get(&Sorted::of(label)) {
         Some(i) if is_at(entries, bytes, label, *i as usize) => Some(*i as usize),
         _ => None,
     }
 }
 
-// What is found of a label by its hash, where all labels are linked or apart.
+// What is found of a label by its hash, where all labels are linked or unchained.
 fn find_chained(
     entries: &[Entry],
     bytes: &[u8],
     chains: &Chains,
-    apart: &BTreeMap<Sorted, u32>,
+    unchained: &BTreeMap<Sorted, u32>,
     label: &[u8],
 ) -> Found
     requires some { 0 < length label.now }
     requires short { length label.now ≤ 64 }
     requires held { AreHeld bytes.now entries.now }
-    requires indexed { IsIndexed (entries_of bytes.now entries.now) (length entries.now) chains.now apart.now }
+    requires indexed { IsIndexed (entries_of bytes.now entries.now) (length entries.now) chains.now unchained.now }
     ensures { IsFinding (entries_of bytes.now entries.now) label.now result }
 {
     let hash = hash_of(label);
@@ -259,10 +259,10 @@ fn find_chained(
     if let Some(i) = seek(entries, bytes, &chains.links, label, hash, first) {
         return Found::At(i);
     }
-    if apart.is_empty() {
+    if unchained.is_empty() {
         return Found::Absent(hash);
     }
-    match seek_apart(entries, bytes, apart, label) {
+    match seek_unchained(entries, bytes, unchained, label) {
         Some(i) => Found::At(i),
         None => Found::Absent(hash),
     }
@@ -284,21 +284,21 @@ fn find_ascending(entries: &[Entry], bytes: &[u8], label: &[u8]) -> Found
 #[inline(always)]
 fn place(
     chains: &mut Chains,
-    apart: &mut BTreeMap<Sorted, u32>,
+    unchained: &mut BTreeMap<Sorted, u32>,
     label: &[u8],
     hash: u32,
 ) -> Result<(), AllocError>
     requires some { 0 < length label.now }
     requires short { length label.now ≤ 64 }
     requires hash { hash ≡ label_hash label.now }
-    ensures indexed { OnOk result ((entries : Entries) (n : ℕ) → IsIndexed entries n chains.old apart.old → AreUnique entries
-        → IsAt entries label.now n → IsIndexed entries (n + 1) chains.new apart.new) }
+    ensures indexed { OnOk result ((entries : Entries) (n : ℕ) → IsIndexed entries n chains.old unchained.old → AreUnique entries
+        → IsAt entries label.now n → IsIndexed entries (n + 1) chains.new unchained.new) }
     ensures chains { OnOk result (length chains.new.heads.items ≡ length chains.old.heads.items) }
     ensures few { OnOk result (length chains.old.links.items + 1 < 2 ^ 32) }
 {
     let number = chains.links.len();
     if !chains.push(hash)? {
-        apart.insert(Sorted::of(label), number as u32)?;
+        unchained.insert(Sorted::of(label), number as u32)?;
     }
     Ok(())
 }
@@ -308,19 +308,19 @@ fn place_all(
     entries: &[Entry],
     bytes: &[u8],
     chains: &mut Chains,
-    apart: &mut BTreeMap<Sorted, u32>,
+    unchained: &mut BTreeMap<Sorted, u32>,
     count: usize,
 ) -> Result<(), AllocError>
     requires held { AreHeld bytes.now entries.now }
     requires unique { AreUnique (entries_of bytes.now entries.now) }
-    ensures indexed { OnOk result (IsIndexed (entries_of bytes.now entries.now) (length entries.now) chains.new apart.new) }
+    ensures indexed { OnOk result (IsIndexed (entries_of bytes.now entries.now) (length entries.now) chains.new unchained.new) }
     ensures chains { OnOk result (length chains.new.heads.items ≡ count) }
 {
     chains.reset(count)?;
-    apart.clear();
+    unchained.clear();
     for entry in entries {
         let label = label_of(bytes, entry);
-        place(chains, apart, label, hash_of(label))?;
+        place(chains, unchained, label, hash_of(label))?;
     }
     Ok(())
 }
@@ -371,7 +371,7 @@ fn append(
     entries: &mut Vec<Entry>,
     bytes: &mut Vec<u8>,
     chains: &mut Chains,
-    apart: &mut BTreeMap<Sorted, u32>,
+    unchained: &mut BTreeMap<Sorted, u32>,
     label: &[u8],
     slot: Slot,
     hash: u32,
@@ -380,18 +380,18 @@ fn append(
     requires short { length label.now ≤ 64 }
     requires hash { hash ≡ label_hash label.now }
     requires held { AreHeld bytes.old.items entries.old.items }
-    requires map { IsMap (entries_of bytes.old.items entries.old.items) chains.old apart.old }
+    requires map { IsMap (entries_of bytes.old.items entries.old.items) chains.old unchained.old }
     requires absent { IsAbsent (entries_of bytes.old.items entries.old.items) label.now }
     ensures entries { OnOk result (entries_of bytes.new.items entries.new.items ≡ entries_of bytes.old.items entries.old.items ++ (label.now, slot) ∷ []) }
     ensures held { OnOk result (AreHeld bytes.new.items entries.new.items) }
-    ensures map { OnOk result (IsMap (entries_of bytes.new.items entries.new.items) chains.new apart.new) }
+    ensures map { OnOk result (IsMap (entries_of bytes.new.items entries.new.items) chains.new unchained.new) }
     ensures chains { OnOk result (length entries.new.items ≤ length chains.new.heads.items) }
 {
     if chains.links.len() < entries.len() || entries.len() >= chains.heads.len() {
-        place_all(entries, bytes, chains, apart, chains_for(entries.len()))?;
+        place_all(entries, bytes, chains, unchained, chains_for(entries.len()))?;
     }
     hold(entries, bytes, label, slot)?;
-    place(chains, apart, label, hash)
+    place(chains, unchained, label, hash)
 }
 
 // Forgets all labels, in time by the labels that go. Of what a map had when memory ran out, nothing need be known.
@@ -399,7 +399,7 @@ fn forget(
     entries: &mut Vec<Entry>,
     bytes: &mut Vec<u8>,
     chains: &mut Chains,
-    apart: &mut BTreeMap<Sorted, u32>,
+    unchained: &mut BTreeMap<Sorted, u32>,
 )
     ensures entries { entries.new.items ≡ [] }
     ensures unlinked { chains.new.links.items ≡ [] }
@@ -407,7 +407,7 @@ fn forget(
     entries.truncate(0);
     bytes.truncate(0);
     chains.clear();
-    apart.clear();
+    unchained.clear();
 }
 
 impl LabelMap {
@@ -419,7 +419,7 @@ impl LabelMap {
             entries: Vec::new(alloc),
             bytes: Vec::new(alloc),
             chains: Chains::new(alloc),
-            apart: BTreeMap::new(alloc),
+            unchained: BTreeMap::new(alloc),
             recent: [0; 4],
             searches: 0,
         }
@@ -433,7 +433,7 @@ impl LabelMap {
             &mut self.entries,
             &mut self.bytes,
             &mut self.chains,
-            &mut self.apart,
+            &mut self.unchained,
         );
         self.searches = 0;
     }
@@ -466,7 +466,13 @@ impl LabelMap {
         ensures kept { self.new ≡ self.old }
     {
         if !self.chains.links.is_empty() {
-            return find_chained(&self.entries, &self.bytes, &self.chains, &self.apart, label);
+            return find_chained(
+                &self.entries,
+                &self.bytes,
+                &self.chains,
+                &self.unchained,
+                label,
+            );
         }
         if let Some(found) = find_at_end(&self.entries, &self.bytes, label) {
             return found;
@@ -486,7 +492,7 @@ impl LabelMap {
             &self.entries,
             &self.bytes,
             &mut self.chains,
-            &mut self.apart,
+            &mut self.unchained,
             count,
         );
         if placed.is_err() {
@@ -494,7 +500,7 @@ impl LabelMap {
                 &mut self.entries,
                 &mut self.bytes,
                 &mut self.chains,
-                &mut self.apart,
+                &mut self.unchained,
             );
         }
         placed
@@ -528,7 +534,7 @@ impl LabelMap {
                 &mut self.entries,
                 &mut self.bytes,
                 &mut self.chains,
-                &mut self.apart,
+                &mut self.unchained,
             );
         }
         held
@@ -573,7 +579,7 @@ impl LabelMap {
             &mut self.entries,
             &mut self.bytes,
             &mut self.chains,
-            &mut self.apart,
+            &mut self.unchained,
             label,
             slot,
             hash,
@@ -583,7 +589,7 @@ impl LabelMap {
                 &mut self.entries,
                 &mut self.bytes,
                 &mut self.chains,
-                &mut self.apart,
+                &mut self.unchained,
             );
         }
         added

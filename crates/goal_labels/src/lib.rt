@@ -7,8 +7,8 @@
 //! So a call takes some steps at most, and else a number that grows as the logarithm of the labels, whatever they are.
 #![tactic(auto)]
 
-mod apart;
 mod chains;
 mod label_map;
+mod sorted;
 
 pub use label_map::{LabelMap, Slot};

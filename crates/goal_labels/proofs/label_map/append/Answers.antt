@@ -17,18 +17,18 @@ place_all-requires-clause-unique c =
     subst AreUnique (sym same) c.requires.map.unique
 
 -- the entries before are found, whether they were numbered anew or not
-indexed_before : (c : goal.After-place) → IsIndexed (entries_of c.args.bytes.now.items c.args.entries.now.items) (length (entries_of c.args.bytes.now.items c.args.entries.now.items)) c.if-len.chains c.if-len.apart
+indexed_before : (c : goal.After-place) → IsIndexed (entries_of c.args.bytes.now.items c.args.entries.now.items) (length (entries_of c.args.bytes.now.items c.args.entries.now.items)) c.if-len.chains c.if-len.unchained
 indexed_before c =
     let bytes = c.args.bytes.now.items in
     let held = c.args.entries.now.items in
     let es = entries_of bytes held in
     let count = length-entries_of bytes held in
     elim c.if-len.branch [
-      | then-len+in_ok-place_all w ↦ rw (w.chains-is, w.apart-is)
-          (IsIndexed-read bytes w.deref-then-len.result.now held w.deref.result.now w.place_all.new.chains w.place_all.new.apart
+      | then-len+in_ok-place_all w ↦ rw (w.chains-is, w.unchained-is)
+          (IsIndexed-read bytes w.deref-then-len.result.now held w.deref.result.now w.place_all.new.chains w.place_all.new.unchained
           w.deref-then-len.ensures.value w.deref.ensures.value w.in_ok-place_all.ensures.indexed)
-      | else-len+else-len-2 w ↦ rw (w.chains-is, w.apart-is)
-          (IsMap-indexed es c.args.chains.now c.args.apart.now c.requires.map
+      | else-len+else-len-2 w ↦ rw (w.chains-is, w.unchained-is)
+          (IsMap-indexed es c.args.chains.now c.args.unchained.now c.requires.map
           (λ none.
           let links = c.args.chains.now.links.ok.0 in
           let entries = c.args.entries.now.ok.0 in
@@ -43,14 +43,14 @@ returns-clause-map c =
     let es = entries_of bytes held in
     let fs = es ++ (label, c.args.slot) ∷ [] in
     let gs = entries_of c.hold.new.bytes.items c.hold.new.entries.items in
-    let left = IsIndexed-left es (label, c.args.slot) c.if-len.chains c.if-len.apart (indexed_before c) in
+    let left = IsIndexed-left es (label, c.args.slot) c.if-len.chains c.if-len.unchained (indexed_before c) in
     let unique : AreUnique fs = AreUnique-more es label c.args.slot c.requires.map.unique c.requires.absent in
     let added = c.in_ok-hold.ensures.entries in
     let now = c.place.new in
     on_ok_weaker c.place.result
     (λ placed.
-    IsMap-more es gs now.chains now.apart label c.args.slot added c.requires.map.unique c.requires.absent
-    (subst (λ (ds : Entries). IsIndexed ds (length es + 1) now.chains now.apart) (sym added)
+    IsMap-more es gs now.chains now.unchained label c.args.slot added c.requires.map.unique c.requires.absent
+    (subst (λ (ds : Entries). IsIndexed ds (length es + 1) now.chains now.unchained) (sym added)
     (placed fs (length es) left unique (IsAt-last es label c.args.slot))))
     c.place.ensures.indexed
 

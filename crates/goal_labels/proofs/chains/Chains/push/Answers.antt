@@ -2,7 +2,7 @@ use Rattle.std.proofs.Common.{◌≡◌, ◌∙◌, ap, subst, arith, rules, Som
 use Rattle.std.proofs.lemmas.Option.{slice_get_read}
 use Rattle.goal_labels.specs.declared.chains.Head.{Head}
 use Rattle.goal_labels.specs.Chains.{bucket}
-use Rattle.goal_labels.proofs.ChainLemmas.{linked, apart}
+use Rattle.goal_labels.proofs.ChainLemmas.{linked, unchained}
 use Rattle.goal_labels.proofs.chains.Chains.push.Goals as goal
 use Rattle.goal_labels.proofs.chains.Chains.push.Goals.{in_default-via-in-Some+else-count-lt-MOST_IN_A_CHAIN, in_default-via-in-Some+then-count-lt-MOST_IN_A_CHAIN+else-number-lt-PAST_HEADS, in_default-via-in_default}
 
@@ -28,4 +28,4 @@ returns-in_ok-push-in_default c =
       | in_default-via-in-Some+then-count-lt-MOST_IN_A_CHAIN+else-number-lt-PAST_HEADS w ↦ w.self-is
       | in_default-via-in_default w ↦ w.self-is
     ] in
-    apart c.args.self.now c.in_default.self _ c.args.hash same refl c.in_ok-push-in_default.ensures.items (omega (arith, c.in-Ok.ensures.0, c.len.ensures, c.args.self.now.links.ok.0))
+    unchained c.args.self.now c.in_default.self _ c.args.hash same refl c.in_ok-push-in_default.ensures.items (omega (arith, c.in-Ok.ensures.0, c.len.ensures, c.args.self.now.links.ok.0))

@@ -9,4 +9,4 @@ append-added-requires-clause-absent c = subst (λ (es : Entries). IsAbsent es c.
 pub invariant_of-self : goal.invariant_of-self
 invariant_of-self c =
     let now = c.forget.new in
-    keeps-none now.bytes.items now.entries.items now.chains now.apart c.forget.ensures.entries c.forget.ensures.unlinked
+    keeps-none now.bytes.items now.entries.items now.chains now.unchained c.forget.ensures.entries c.forget.ensures.unlinked

@@ -11,7 +11,7 @@ add-requires-clause-absent c = before_absent c.args.self.now c.args.label.now c.
 pub invariant_of-self : goal.invariant_of-self
 invariant_of-self c =
     let now = c.forget.new in
-    keeps-none now.bytes.items now.entries.items now.chains now.apart c.forget.ensures.entries c.forget.ensures.unlinked
+    keeps-none now.bytes.items now.entries.items now.chains now.unchained c.forget.ensures.entries c.forget.ensures.unlinked
 
 pub invariant_of-self-else-is_err : goal.invariant_of-self-else-is_err
 invariant_of-self-else-is_err c =
@@ -22,7 +22,7 @@ invariant_of-self-else-is_err c =
     let label = c.args.label.now in
     let told = c.if-is_err.ensures.value in (
       on_success held.result told held.ensures.held,
-      IsMap-behind es fs map.chains map.apart label c.args.slot
+      IsMap-behind es fs map.chains map.unchained label c.args.slot
           (on_success held.result told held.ensures.entries) c.self.invariant.1
           (omega (arith, true-eqb map.chains.links.len 0 c.if-not-is_empty.ensures, map.chains.links.ok.0))
           (subst (λ (es : Entries). AreBefore es label) (sym c.self.view_is) c.requires.before),

@@ -15,7 +15,7 @@ place_all-placed-requires-clause-unique c =
 pub invariant_of-self : goal.invariant_of-self
 invariant_of-self c =
     let now = c.forget.new in
-    keeps-none now.bytes.items now.entries.items now.chains now.apart c.forget.ensures.entries c.forget.ensures.unlinked
+    keeps-none now.bytes.items now.entries.items now.chains now.unchained c.forget.ensures.entries c.forget.ensures.unlinked
 
 pub invariant_of-self-else-is_err : goal.invariant_of-self-else-is_err
 invariant_of-self-else-is_err c =
@@ -26,7 +26,7 @@ invariant_of-self-else-is_err c =
       record {
         found =
             inl
-            (IsIndexed-read bytes c.deref-2.result.now held c.deref.result.now placed.new.chains placed.new.apart
+            (IsIndexed-read bytes c.deref-2.result.now held c.deref.result.now placed.new.chains placed.new.unchained
             c.deref-2.ensures.value c.deref.ensures.value (on_success placed.result c.if-is_err.ensures.value placed.ensures.indexed));
         unique = c.self.invariant.1.unique;
       },

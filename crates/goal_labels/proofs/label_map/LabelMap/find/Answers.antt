@@ -10,9 +10,9 @@ find_chained-requires-clause-indexed c =
     let map = c.self.inside in
     let bytes = map.bytes.items in
     let held = map.entries.items in
-    IsIndexed-seen bytes c.deref-then-not-is_empty.result.now held c.deref.result.now map.chains map.apart
+    IsIndexed-seen bytes c.deref-then-not-is_empty.result.now held c.deref.result.now map.chains map.unchained
     c.deref-then-not-is_empty.ensures.value c.deref.ensures.value
-    (IsMap-indexed (entries_of bytes held) map.chains map.apart c.self.invariant.1
+    (IsMap-indexed (entries_of bytes held) map.chains map.unchained c.self.invariant.1
     (λ none. absurd (omega (arith, false-eqb map.chains.links.len 0 c.if-not-is_empty.ensures, none, map.chains.links.ok.0))))
 
 pub find_at_end-requires-clause-ascending : goal.find_at_end-requires-clause-ascending
@@ -23,7 +23,7 @@ find_at_end-requires-clause-ascending c =
     let same =
     entries_of-read c.deref-3.result.now bytes c.deref-2.result.now held c.deref-3.ensures.value c.deref-2.ensures.value in
     subst AreAscending (sym same)
-    (IsMap-ascending (entries_of bytes held) map.chains map.apart c.self.invariant.1
+    (IsMap-ascending (entries_of bytes held) map.chains map.unchained c.self.invariant.1
     (omega (arith, true-eqb map.chains.links.len 0 c.if-not-is_empty.ensures, map.chains.links.ok.0)))
 
 pub find_ascending-requires-clause-ascending : goal.find_ascending-requires-clause-ascending
@@ -34,7 +34,7 @@ find_ascending-requires-clause-ascending c =
     let same =
     entries_of-read c.deref-5.result.now bytes c.deref-4.result.now held c.deref-5.ensures.value c.deref-4.ensures.value in
     subst AreAscending (sym same)
-    (IsMap-ascending (entries_of bytes held) map.chains map.apart c.self.invariant.1
+    (IsMap-ascending (entries_of bytes held) map.chains map.unchained c.self.invariant.1
     (omega (arith, true-eqb map.chains.links.len 0 c.if-not-is_empty.ensures, map.chains.links.ok.0)))
 
 pub returns-then-not-is_empty-clause-unique : goal.returns-then-not-is_empty-clause-unique

@@ -30,8 +30,8 @@ invariant_of-self c =
     let e = c.index_mut.result.now in
     let at : IsAt es label i = subst (λ (ds : Entries). IsAt ds label i) (sym c.self.view_is) c.in-At.ensures.found in (
       AreHeld-set bytes held label i e c.args.slot at c.index_mut.ensures.value c.self.invariant.0,
-      subst (λ (ds : Entries). IsMap ds c.self.inside.chains c.self.inside.apart) (sym (entries_of-set bytes held label i e c.args.slot at c.index_mut.ensures.value))
-          (IsMap-set es c.self.inside.chains c.self.inside.apart i label at.0 c.args.slot at.1 c.self.invariant.1),
+      subst (λ (ds : Entries). IsMap ds c.self.inside.chains c.self.inside.unchained) (sym (entries_of-set bytes held label i e c.args.slot at c.index_mut.ensures.value))
+          (IsMap-set es c.self.inside.chains c.self.inside.unchained i label at.0 c.args.slot at.1 c.self.invariant.1),
     )
 
 pub returns-in-At-clause-old : goal.returns-in-At-clause-old
