@@ -19,7 +19,7 @@ ghost use Rattle.sim_events.specs.Queue.{IsOfSchedule, IsQueue, IsQueueBut, HasP
 use goal_graph::{Class, OpId, Timed, When};
 use sim_order::Steps;
 use sim_params::Costs;
-use sim_state::{Cursor, State, choice_counted, compact};
+use sim_state::{Cursor, State, choice_from, compact};
 use sim_stations::StationQueue;
 use std::sync::ledger::{Blank, Ledger};
 
@@ -220,7 +220,7 @@ fn refresh<C: Costs, L: Ledger, N: Ledger>(
     if queue.has(slot) {
         return;
     }
-    if let Some(action) = choice_counted(state, cursors, id, reads) {
+    if let Some(action) = choice_from(state, cursors, id, reads) {
         queue.put(slot, compact(state.sched(), action), steps);
     }
 }

@@ -12,8 +12,7 @@ use goal_graph::{OpId, Sched, Timed};
 use sim_order::Steps;
 use sim_params::Costs;
 use std::alloc::{AllocError, Global};
-use std::marker::Brand;
-use std::sync::ledger::{Blank, Ledger};
+use std::sync::ledger::Ledger;
 
 /// The cursors of all operations, each before the first need.
 pub fn at_first(alloc: Global, sched: &Sched) -> Result<Vec<Cursor>, AllocError>
@@ -34,19 +33,9 @@ fn cursor_of<C: Costs>(state: &State<C>, cursors: &[Cursor], id: OpId) -> Cursor
 }
 
 /// The possible action of an operation, if it has one. Its needs are looked at from its cursor on, which goes on past
-/// those that are met.
-pub fn choice_from<C: Costs>(state: &State<C>, cursors: &mut [Cursor], id: OpId) -> Option<Timed>
-    requires exists { IsOp state.now.plans id }
-    requires cursors { AreCursors state.now.plans (C.model state.now.costs) state.now.history cursors.old }
-    ensures enabled { IsEnabledActionOf state.now.plans (C.model state.now.costs) state.now.history id result }
-    ensures cursors { AreCursors state.now.plans (C.model state.now.costs) state.now.history cursors.new }
-{
-    choice_by::<C, Brand>(Blank::new(1), state, cursors, id)
-}
-
-/// The same, with a counter of the needs that are looked at: as many as the cursor goes on by, one more, before which it may stop,
+/// those that are met. A counter tells how many are looked at: as many as the cursor goes on by, one more, before which it may stop,
 /// and all once more where the action starts the operation.
-pub fn choice_counted<C: Costs, L: Ledger>(
+pub fn choice_from<C: Costs, L: Ledger>(
     state: &State<C>,
     cursors: &mut [Cursor],
     id: OpId,
@@ -62,23 +51,4 @@ pub fn choice_counted<C: Costs, L: Ledger>(
     let action = state.choice(id, &mut cursor, looks);
     cursors[state.sched().index(id) as usize] = cursor;
     action
-}
-
-// The possible action of an operation, with a counter of its own.
-fn choice_by<C: Costs, L: Ledger>(
-    blank: Blank,
-    state: &State<C>,
-    cursors: &mut [Cursor],
-    id: OpId,
-) -> Option<Timed>
-    requires name { blank.name ≡ L.name }
-    requires parts { blank.parts ≡ L.parts }
-    requires some { 0 < blank.parts }
-    requires exists { IsOp state.now.plans id }
-    requires cursors { AreCursors state.now.plans (C.model state.now.costs) state.now.history cursors.old }
-    ensures enabled { IsEnabledActionOf state.now.plans (C.model state.now.costs) state.now.history id result }
-    ensures cursors { AreCursors state.now.plans (C.model state.now.costs) state.now.history cursors.new }
-{
-    let mut looks = Steps::<L>::new(blank);
-    choice_counted(state, cursors, id, &mut looks)
 }

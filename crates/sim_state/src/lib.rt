@@ -14,7 +14,7 @@ mod state;
 mod work;
 
 pub use cursor::Cursor;
-pub use cursors::{at_first, choice_counted, choice_from};
+pub use cursors::{at_first, choice_from};
 pub use fault::EngineFault;
 pub use key::compact;
 pub use record::Record;

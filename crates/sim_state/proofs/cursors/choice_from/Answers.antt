@@ -5,7 +5,7 @@ use Rattle.goal_graph.specs.Schedule.{Plan, operations}
 use Rattle.sim_state.specs.declared.cursor.Cursor.{Cursor}
 use Rattle.sim_state.specs.Cursors.{cursor_at}
 use Rattle.sim_state.proofs.CursorTable.{cursors_set}
-use Rattle.sim_state.proofs.cursors.choice_counted.Goals as goal
+use Rattle.sim_state.proofs.cursors.choice_from.Goals as goal
 
 pub returns-clause-cursors : goal.returns-clause-cursors
 returns-clause-cursors g c =
