@@ -44,6 +44,14 @@ impl Collective {
                 | Collective::Alltoall
         )
     }
+
+    /// The same, by its shorter name.
+    #[must_use]
+    pub fn is_first(&self) -> bool
+        ensures { result ≡ is_made_by_generate self.now }
+    {
+        self.is_made_by_generate()
+    }
 }
 
 /// A part of a value: the item of that number of the rank that had it at the start.

@@ -28,7 +28,7 @@ use Rattle.goal_cli.specs.Laws.{IsVerdict, IsCertify, ForInput, Answers, IsSilen
 use Rattle.goal_views.specs.Views.{IsPrintedRun}
 use Rattle.goal_cli.specs.Refusal.{refused_line}
 use Rattle.goal_cli.specs.Answer.{ForNamed, IfNamed, ForRead, IfRead, IfInput, ReadsFaulted, IsReadOut, GrowsByPart, ReadsHeld, Target, ToOut, ToFile, target_of, Gets, GetsPart, Elsewhere, WritesRose, WritesHeld, WritesSame, InputHeld, GetsOutput, GetsPartOfOutput, AnswersWhole, PrintsRun, IsUntouched, IsWritten, IsCutOff, IsCauseOf, IsCauseOfNone, IsCause, line_for, status_at, status_of, AnswersWith, input_in, machine_in, Says, IsCutShort, IsAnswered, IsTakenOf}
-use Rattle.goal_cli.specs.Unmade.{IsUnmade, IsIdle, IsGot, IsTakenFrom, IsToldOr, IsWorkOf}
+use Rattle.goal_cli.specs.Unmade.{IsUnmade, IsIdle, IsGot, IsTakenFrom, IsToldOr, IsGathered}
 use Rattle.goal_cli.specs.World.{Devices, devices}
 use Rattle.goal_input.proofs.ForCallers.{same_schedule}
 use Rattle.goal_cli.proofs.RefusalLemmas.{same_refusal, no_refusal, one_machine}
@@ -94,10 +94,10 @@ module _ (host : HostState) (c : Command) (P : Input → Type 0) where
 
 -- a refusal of what was got
 pub refused_of : (host : HostState) (c : Command) (sched : List Plan) (machine : List ℕ) (stop : Stop) (r : Refusal) → stop ≡ Refused r
-    → ForRead host c (IsWorkOf c sched machine) → ((input : Input) → IsWorkOf c sched machine input → IsStop c input stop)
+    → ForRead host c (IsGathered c sched machine) → ((input : Input) → IsGathered c sched machine input → IsStop c input stop)
     → ForRead host c (λ input. IsRefused c input r)
 refused_of host c sched machine stop r is got refused =
-    read_turned host c (IsWorkOf c sched machine) (λ (i : Input). IsRefused c i r)
+    read_turned host c (IsGathered c sched machine) (λ (i : Input). IsRefused c i r)
     (λ input from. subst (λ (s : Stop). IsStop c input s) is (refused input from)) got
 
 -- why there is nothing to work on, as it stands in the table of causes
@@ -261,13 +261,13 @@ module _ (a b : HostState) (out : SinkState) (new : Devices) (kept : KeepsFiles 
   }
 
   -- what is so after an output was written whole, of a schedule that was read before
-  pub written_from : (c : Command) (sched : List Plan) (machine output : List ℕ) (e : Ending) → ForRead a c (IsWorkOf c sched machine)
-      → SameReadCounts a b → ((input : Input) → IsWorkOf c sched machine input → IsOutput c input output e) → MayEnd c e → Gets (devices b out) new (target_of c) output
+  pub written_from : (c : Command) (sched : List Plan) (machine output : List ℕ) (e : Ending) → ForRead a c (IsGathered c sched machine)
+      → SameReadCounts a b → ((input : Input) → IsGathered c sched machine input → IsOutput c input output e) → MayEnd c e → Gets (devices b out) new (target_of c) output
       → WritesSame (devices b out) new (target_of c) → SameReadCounts b new.host → Elsewhere (devices b out) new (target_of c)
       → IsWritten (devices a out) new e c
   written_from c sched machine output e got counts is ends all same reads elsewhere = record {
     output =
-        read_turned a c (IsWorkOf c sched machine) (GetsOutput (devices a out) new e c)
+        read_turned a c (IsGathered c sched machine) (GetsOutput (devices a out) new e c)
         (λ input from. (output, is input from, gets_from (target_of c) output all)) got;
     ends = ends;
     reads = reads_from counts reads;
@@ -276,12 +276,12 @@ module _ (a b : HostState) (out : SinkState) (new : Devices) (kept : KeepsFiles 
   }
 
   -- what is so after it was cut off
-  pub cut_off_from : (c : Command) (sched : List Plan) (machine output : List ℕ) (e : Ending) → ForRead a c (IsWorkOf c sched machine)
-      → SameReadCounts a b → ((input : Input) → IsWorkOf c sched machine input → IsOutput c input output e) → GetsPart (devices b out) new (target_of c) output → SameReadCounts b new.host
+  pub cut_off_from : (c : Command) (sched : List Plan) (machine output : List ℕ) (e : Ending) → ForRead a c (IsGathered c sched machine)
+      → SameReadCounts a b → ((input : Input) → IsGathered c sched machine input → IsOutput c input output e) → GetsPart (devices b out) new (target_of c) output → SameReadCounts b new.host
       → Elsewhere (devices b out) new (target_of c) → IsCutOff (devices a out) new c
   cut_off_from c sched machine output e got counts is part reads elsewhere = record {
     output =
-        read_turned a c (IsWorkOf c sched machine) (GetsPartOfOutput (devices a out) new c)
+        read_turned a c (IsGathered c sched machine) (GetsPartOfOutput (devices a out) new c)
         (λ input from. (output, (e, is input from), part_from (target_of c) output part)) got;
     reads = reads_from counts reads;
     elsewhere = elsewhere_from (target_of c) elsewhere;

@@ -22,7 +22,7 @@ use Rattle.goal_words.specs.Words.{Command, Pricing, ByNumbers, ByMachine, Unpri
 use Rattle.goal_cli.specs.declared.answer.Refusal.{Refusal}
 use Rattle.goal_cli.specs.declared.answer.Refusal.TheVariants.{TooLong, Text, File, Machine, MachineRanks, Generator, Budget}
 use Rattle.goal_input.specs.Input.{IsReadAs}
-use Rattle.goal_cli.specs.Output.{Input, named_by, machine_named, HasInput, HasMachine, IsFrom, IsMachineFor, IsCosted, HasOutput, IsOverBudget, IsNotMade, IsNotFrom, IsMachineFault, IsMisfit, IsTooLong, IsRefused}
+use Rattle.goal_cli.specs.Output.{Input, named_by, machine_named, HasInput, HasMachine, IsFrom, IsMachineFor, IsCosted, HasOutput, IsOverBudget, IsNotMade, IsNotFrom, IsMachineFault, IsForOtherRanks, IsTooLong, IsRefused}
 use Rattle.goal_input.proofs.ForCallers.{same_schedule, same_text_fault, same_file_fault, not_both, no_text_fault, no_file_fault}
 
 -- a text says one machine
@@ -188,9 +188,9 @@ made_later c input f r later a b =
     no_source c.source input.schedule k.0 f k.1 a.1
 
 -- a budget on a machine has one that fits
-misfit_read : (c : Command) (input : Input) (sched : List Plan) (m : Known) (p : ℕ) → IsFrom c.source input.schedule sched
-    → IsMachineFor input.machine sched m → IsMisfit c input p → ⊥
-misfit_read c input sched m p from a b =
+other_ranks_read : (c : Command) (input : Input) (sched : List Plan) (m : Known) (p : ℕ) → IsFrom c.source input.schedule sched
+    → IsMachineFor input.machine sched m → IsForOtherRanks c input p → ⊥
+other_ranks_read c input sched m p from a b =
     b.other (b.ranks_are ∙ ap (λ (k : Known). length k.nodes) (one_machine input.machine _ _ b.said a.said) ∙ a.ranks ∙ ap length (one_schedule c.source input.schedule _ _ from b.from))
 
 machine_budget : (c : Command) (input : Input) (f : MachineFault) (s : ℕ) → IsRefused c input (Machine f) → IsOverBudget c input s → ⊥
@@ -201,12 +201,12 @@ machine_budget c input f s a b =
 ranks_budget : (c : Command) (input : Input) (p s : ℕ) → IsRefused c input (MachineRanks p) → IsOverBudget c input s → ⊥
 ranks_budget c input p s a b =
     let k = costs_machine c.costs input.machine b.sched (Some b.costs) b.costed a.0 in
-    misfit_read c input b.sched k.0 p b.from k.1 a.1
+    other_ranks_read c input b.sched k.0 p b.from k.1 a.1
 
 same_fault : (c : Command) (input : Input) (f g : MachineFault) → IsMachineFault c input f → IsMachineFault c input g → f ≡ g
 same_fault c input f g a b = let e : ◌≡◌ {A = Result Known MachineFault} (Err f) (Err g) = sym a.first ∙ b.first in cc
 
-same_ranks : (c : Command) (input : Input) (p q : ℕ) → IsMisfit c input p → IsMisfit c input q → p ≡ q
+same_ranks : (c : Command) (input : Input) (p q : ℕ) → IsForOtherRanks c input p → IsForOtherRanks c input q → p ≡ q
 same_ranks c input p q a b =
     a.ranks_are ∙ ap (λ (k : Known). length k.nodes) (one_machine input.machine _ _ a.said b.said) ∙ sym b.ranks_are
 
@@ -274,5 +274,5 @@ no_refusal c input sched (Machine f) a b =
     no_machine input.machine k.0 f k.1.said b.1.first
 no_refusal c input sched (MachineRanks p) a b =
     let k = costs_machine c.costs input.machine sched a.costs a.costed b.0 in
-    misfit_read c input sched k.0 p a.from k.1 b.1
+    other_ranks_read c input sched k.0 p a.from k.1 b.1
 no_refusal c input sched (Budget s) a b = output_fits c input sched s a b

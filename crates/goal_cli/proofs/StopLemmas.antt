@@ -15,7 +15,7 @@ use Rattle.goal_cli.specs.declared.answer.Refusal.TheVariants.{TooLong, Text, Fi
 use Rattle.goal_cli.specs.declared.output.Stop.{Stop}
 use Rattle.goal_cli.specs.declared.output.Stop.TheVariants.{Refused, NoMemory}
 use Rattle.goal_cli.specs.Output.{Input, IsCosted, IsShownAs, IsOutput, EndsAs}
-use Rattle.goal_cli.specs.Unmade.{IsWorkOf}
+use Rattle.goal_cli.specs.Unmade.{IsGathered}
 use Rattle.goal_cli.specs.Stop.{IsStop, IsPaidRun, IsUnpaid}
 
 -- what is so at an error, and what is so else
@@ -29,7 +29,7 @@ if_ok (Err e) P Q f h = tt
 
 -- why there is no run is why there is no output
 pub is_stop : (c : Command) (input : Input) (sched : List Plan) (text : List ℕ) (stop : Stop) → length text ≤ MAX_INPUT
-    → IsWorkOf c sched text input → IsUnpaid c.costs text sched stop → IsStop c input stop
+    → IsGathered c sched text input → IsUnpaid c.costs text sched stop → IsStop c input stop
 is_stop c input sched text (Refused (Machine fault)) short work un = (
   un.0,
   record {
@@ -68,7 +68,7 @@ is_stop c input sched text NoMemory short work un = tt
 
 -- a run that is shown
 pub is_run_output : (c : Command) (input : Input) (sched : List Plan) (text : List ℕ) (how : RunView) (output : List ℕ) (e : Ending)
-    → c.view ≡ view.Run how → IsWorkOf c sched text input → IsPaidRun c.costs how text sched output e → IsOutput c input output e
+    → c.view ≡ view.Run how → IsGathered c sched text input → IsPaidRun c.costs how text sched output e → IsOutput c input output e
 is_run_output c input sched text how output e is work paid = record {
   sched = sched;
   has = record {
@@ -93,7 +93,7 @@ unpriced Unpriced v priced not_run = refl
 
 -- a schedule that is shown as it is
 pub is_still_output : (c : Command) (input : Input) (sched : List Plan) (text output : List ℕ) (e : Ending) → PricedFor c.costs c.view
-    → (IsRun c.view → ⊥) → IsWorkOf c sched text input → ((costs : Option CostModel) → IsShownAs c.view costs sched output e)
+    → (IsRun c.view → ⊥) → IsGathered c sched text input → ((costs : Option CostModel) → IsShownAs c.view costs sched output e)
     → IsOutput c input output e
 is_still_output c input sched text output e priced not_run work shown = record {
   sched = sched;

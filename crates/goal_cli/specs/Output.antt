@@ -171,7 +171,7 @@ pub record IsMachineFault (c : Command) (input : Input) (fault : MachineFault) :
   pub first : form.machine input.machine ≡ Err fault
 
 -- or it is a machine with a node for so many ranks, which is not the schedule's number of ranks
-pub record IsMisfit (c : Command) (input : Input) (ranks : ℕ) : Type 0 where
+pub record IsForOtherRanks (c : Command) (input : Input) (ranks : ℕ) : Type 0 where
   pub sched : List Plan
   pub known : Known
   pub from : IsFrom c.source input.schedule sched
@@ -201,5 +201,5 @@ IsRefused c input (refusal.Text fault) = HasInput c × (length input.machine ≤
 IsRefused c input (refusal.File fault) = HasInput c × (length input.machine ≤ MAX_INPUT) × IsFaultOfFile input.schedule fault
 IsRefused c input (refusal.Generator fault) = (length input.machine ≤ MAX_INPUT) × IsNotFrom c.source fault
 IsRefused c input (refusal.Machine fault) = HasMachine c × IsMachineFault c input fault
-IsRefused c input (refusal.MachineRanks ranks) = HasMachine c × IsMisfit c input ranks
+IsRefused c input (refusal.MachineRanks ranks) = HasMachine c × IsForOtherRanks c input ranks
 IsRefused c input (refusal.Budget sum) = IsOverBudget c input sum

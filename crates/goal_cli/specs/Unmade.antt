@@ -51,8 +51,8 @@ IsToldOr old new (answer.Refused r) s = IsAnswered old new (answer.Refused r) s 
 IsToldOr old new a s = IsAnswered old new a s
 
 -- the schedule that a command works on, and the text of its machine
-abbrev pub IsWorkOf : Command → List Plan → List ℕ → Input → Type 0
-IsWorkOf c sched machine input = IsFrom c.source input.schedule sched × (input.machine ≡ machine)
+abbrev pub IsGathered : Command → List Plan → List ℕ → Input → Type 0
+IsGathered c sched machine input = IsFrom c.source input.schedule sched × (input.machine ≡ machine)
 
 -- no call changes what kind of devices they are, and no count falls
 pub record DevicesLater (old new : Devices) : Type 0 where

@@ -11,7 +11,7 @@ ghost use Rattle.goal_input.specs.Input.{IsReadAs};
 ghost use Rattle.goal_cli.specs.Answer.{goes_to};
 ghost use Rattle.goal_cli.specs.Pages.{text_of, Suits};
 ghost use Rattle.goal_cli.specs.Output.{Input, ending_if, IsMachineFor, IsText, IsShownAs, IsOutput, EndsAs, MayEnd};
-ghost use Rattle.goal_cli.specs.Unmade.{IsWorkOf};
+ghost use Rattle.goal_cli.specs.Unmade.{IsGathered};
 ghost use Rattle.goal_cli.specs.Stop.{IsStop, IsPaidRun, IsUnpaid};
 
 use crate::answer::{Ending, Refusal};
@@ -181,11 +181,11 @@ pub fn output_of<'a>(
 ) -> Result<Output<'a>, Stop>
     requires short { length machine.now ≤ MAX_INPUT }
     requires priced { IsPriced (said sentence.now) }
-    ensures output { IfOk result (λ output. (input : Input) → IsWorkOf (said sentence.now) sched.now machine.now input
+    ensures output { IfOk result (λ output. (input : Input) → IsGathered (said sentence.now) sched.now machine.now input
         → IsOutput (said sentence.now) input (text_of output) output.ending) }
     ensures ends { IfOk result (λ output. MayEnd (said sentence.now) output.ending) }
     ensures suits { IfOk result (λ output. Suits (goes_to sentence.now.view) output) }
-    ensures stop { IfErr result (λ stop. (input : Input) → IsWorkOf (said sentence.now) sched.now machine.now input
+    ensures stop { IfErr result (λ stop. (input : Input) → IsGathered (said sentence.now) sched.now machine.now input
         → IsStop (said sentence.now) input stop) }
 {
     match &sentence.view {

@@ -9,7 +9,7 @@ ghost use Rattle.goal_words.specs.Words.{Command, Pricing, asks};
 ghost use Rattle.goal_words.specs.Sentences.{said, IsSized};
 ghost use Rattle.goal_cli.specs.Output.{input_of, machine_of, IsMade, IsFrom};
 ghost use Rattle.goal_cli.specs.Answer.{ForNamed, ForRead, IsReadOut, IsTaken};
-ghost use Rattle.goal_cli.specs.Unmade.{IsUnmade, IsUntold, IsIdle, IsGot, IsTakenFrom, IsWorkOf};
+ghost use Rattle.goal_cli.specs.Unmade.{IsUnmade, IsUntold, IsIdle, IsGot, IsTakenFrom, IsGathered};
 
 use crate::answer::{Answer, Refusal};
 use goal_base::{Host, MAX_BYTES, NoMemory, ReadAll, read_all};
@@ -119,7 +119,7 @@ fn take_machine<H: Host>(
 
 // What a command works on: a schedule, and the text of a machine.
 #[derive(Drop)]
-pub struct Work {
+pub struct Gathered {
     pub sched: Sched,
     pub machine: Vec<u8>,
 }
@@ -127,10 +127,10 @@ pub struct Work {
 // What a command works on. Each of its files is read to its end before one is refused. Where there is nothing to work on, this
 // is the answer.
 #[tactic(auto, using(crate::proofs::AnswerLemmas::taken_both))]
-pub fn gather<H: Host>(alloc: Global, host: &mut H, sentence: &Sentence) -> Result<Work, Answer>
+pub fn gather<H: Host>(alloc: Global, host: &mut H, sentence: &Sentence) -> Result<Gathered, Answer>
     requires sized { IsSized (said sentence.now) }
     ensures work { IfOk result (λ work. ForRead (H.state host.old) (said sentence.now)
-        (IsWorkOf (said sentence.now) work.sched work.machine.items)) }
+        (IsGathered (said sentence.now) work.sched work.machine.items)) }
     ensures short { IfOk result (λ work. length work.machine.items ≤ MAX_INPUT) }
     ensures idle { IfErr result (IsIdle (H.state host.old) (H.state host.new) (said sentence.now)) }
     ensures read_out { OnOk result (IsReadOut (H.state host.old) (H.state host.new) (machine_of (said sentence.now))) }
@@ -141,7 +141,7 @@ pub fn gather<H: Host>(alloc: Global, host: &mut H, sentence: &Sentence) -> Resu
 {
     match schedule_of(alloc, host, sentence) {
         Ok(sched) => match take_machine(alloc, host, sentence) {
-            Ok(machine) => Ok(Work { sched, machine }),
+            Ok(machine) => Ok(Gathered { sched, machine }),
             Err(answer) => Err(answer),
         },
         Err(Answer::Refused(refusal)) => match take_machine(alloc, host, sentence) {

@@ -28,7 +28,7 @@ struct Small {
 
 /// The size of a message in bytes and its peer, as they stand ahead, and the index behind them.
 #[derive(Clone, Copy)]
-struct Message {
+struct MessageAhead {
     bytes: u64,
     peer: u32,
     end: usize,
@@ -85,7 +85,7 @@ fn peer_ahead(rest: &[u8], at: usize, word: &[u8]) -> Option<Small>
 
 /// What stands at this index of a message behind its first word: its size, a word and its peer.
 #[inline(always)]
-fn message_ahead(rest: &[u8], at: usize, word: &[u8]) -> Option<Message>
+fn message_ahead(rest: &[u8], at: usize, word: &[u8]) -> Option<MessageAhead>
     requires at { at ≤ length rest.now }
     requires word { is_word word.now ≡ true }
     requires short { length word.now ≤ 64 }
@@ -99,7 +99,7 @@ fn message_ahead(rest: &[u8], at: usize, word: &[u8]) -> Option<Message>
     }
     match peer_ahead(rest, at + size.count, word) {
         None => None,
-        Some(peer) => Some(Message {
+        Some(peer) => Some(MessageAhead {
             bytes: size.value,
             peer: peer.value,
             end: peer.end,

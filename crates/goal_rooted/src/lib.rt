@@ -6,7 +6,7 @@ mod making;
 mod steps;
 mod tree;
 
-pub use goal_blocks::GenFault;
+pub use goal_blocks::{GenFault, GenFault as RootedFault};
 pub use making::generate_rooted;
 
 #[cfg(test)]

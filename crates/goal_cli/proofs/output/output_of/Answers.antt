@@ -1,7 +1,7 @@
 use Rattle.goal_words.specs.Sentences.{pricing, said}
 use Rattle.goal_cli.specs.declared.pages.Output.{Output}
 use Rattle.goal_cli.specs.Output.{Input, IsOutput}
-use Rattle.goal_cli.specs.Unmade.{IsWorkOf}
+use Rattle.goal_cli.specs.Unmade.{IsGathered}
 use Rattle.goal_cli.specs.Pages.{text_of}
 use Rattle.goal_cli.specs.Stop.{IsPaidRun}
 use Rattle.goal_cli.proofs.StopLemmas.{if_ok, is_run_output}
@@ -13,6 +13,6 @@ returns-in-Run-clause-output c =
     let sched = c.args.sched.now in
     let machine = c.args.machine.now in
     if_ok c.run_costed.result (λ (output : Output). IsPaidRun (pricing s.costs) c.in-Run.how machine sched (text_of output) output.ending)
-    (λ (output : Output). (input : Input) → IsWorkOf (said s) sched machine input → IsOutput (said s) input (text_of output) output.ending)
+    (λ (output : Output). (input : Input) → IsGathered (said s) sched machine input → IsOutput (said s) input (text_of output) output.ending)
     (λ output paid input work. is_run_output (said s) input sched machine c.in-Run.how (text_of output) output.ending c.in-Run.is work paid)
     c.run_costed.ensures.paid
