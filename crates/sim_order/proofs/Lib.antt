@@ -1,3 +1,4 @@
 pub mod Different
 pub mod ByKey
 pub mod ForCallers
+mod Walks

@@ -1,4 +1,4 @@
-//! Orders of keys and of events, each with its laws. The comparisons of events are counted.
+//! Orders of keys and of events, each with its laws. The comparisons of events are counted. What has come so far, for proofs.
 #![tactic(auto)]
 
 mod compact;
@@ -6,6 +6,7 @@ mod event;
 mod key;
 mod laws;
 mod order;
+mod past;
 mod steps;
 #[cfg(test)]
 mod tests;
@@ -15,4 +16,5 @@ pub use event::EventKey;
 pub use key::{Flip, KeyOrder, Lex};
 pub use laws::{laws_of_event_keys, laws_of_events, laws_of_keys};
 pub use order::{Counted, EventOrder};
+pub use past::Past;
 pub use steps::Steps;

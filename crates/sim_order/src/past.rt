@@ -1,0 +1,43 @@
+// What has come so far, for proofs alone.
+ghost use Rattle.std.specs.Prelude.{◌≡◌, List, [], ◌∷◌, ◌++◌};
+ghost use Rattle.std.specs.Borrow.{ftrue};
+
+use std::marker::{Model, PhantomData};
+
+/// The items that were pushed so far, oldest first. Contracts and proofs alone see them, as `items`: at run time it takes no
+/// bytes, and its calls do nothing.
+#[derive(Drop)]
+pub struct Past<T> {
+    of: PhantomData<T>,
+    pub ghost items: { List T },
+}
+
+impl<T> Model for Past<T> {
+    ghost also_owns = { λ _. ftrue };
+}
+
+impl<T> Past<T> {
+    /// Nothing has come.
+    #[inline(always)]
+    pub fn new() -> Past<T>
+        ensures { result.items ≡ [] }
+    {
+        Past { of: PhantomData }
+    }
+
+    /// The same, and behind it one item more.
+    #[inline(always)]
+    pub fn and(&self, item: &T) -> Past<T>
+        ensures { result.items ≡ self.now.items ++ item.now ∷ [] }
+    {
+        Past { of: PhantomData }
+    }
+
+    /// One item more has come.
+    #[inline(always)]
+    pub fn push(&mut self, item: &T)
+        ensures { self.new.items ≡ self.old.items ++ item.now ∷ [] }
+    {
+        *self = self.and(item);
+    }
+}
