@@ -1,5 +1,5 @@
 -- A match table before all posts and arrivals.
-use Rattle.std.proofs.Common.{ℕ, zero, suc, ◌≤◌, ◌≡◌, Bool, true, false, List, [], ◌∷◌, length, Some, map, take, replicate, filter, slice_get, count_by, All, refl, arith, sym, ap, ◌∙◌, subst}
+use Rattle.std.proofs.Common.{ℕ, zero, suc, ◌≤◌, ◌≡◌, Bool, true, false, List, [], ◌∷◌, length, Some, map, take, replicate, filter, slice_get, All, refl, arith, sym, ap, ◌∙◌, subst}
 use Rattle.std.proofs.lemmas.Option.{same_Some, none-some}
 use Rattle.std.proofs.lemmas.List.{length-map, length-replicate}
 use Rattle.std.proofs.lemmas.List.Elements.{All-nil}
@@ -12,7 +12,6 @@ use Rattle.sim_match.specs.declared.capacities.Capacity.{Capacity}
 use Rattle.sim_match.specs.declared.capacities.Side.TheVariants.{Receives, Sends}
 use Rattle.sim_match.specs.declared.match_list.MatchEntry.{MatchEntry}
 use Rattle.sim_match.specs.declared.pattern.Pattern.{Pattern}
-use Rattle.sim_match.specs.Waiting.{is_message}
 use Rattle.sim_match.specs.Patterns.{in_list, for_list, AreListed}
 use Rattle.sim_match.specs.MatchLists.{is_marked}
 use Rattle.sim_match.specs.Capacities.{empty_list, IsCapacity, AreCapacities}
@@ -41,8 +40,8 @@ abbrev empty_lists : Capacity → PatternLists
 empty_lists c = record { receives = empty_list Receives c; sends = empty_list Sends c }
 
 -- what a new match table keeps
-pub begins : (plans : List Plan) (keys : List Pattern) (capacities : List Capacity) (marks : List Bool) (room : ℕ) → IsAccepted plans → AreListed plans keys → AreCapacities plans keys (operations plans) capacities → marks ≡ replicate (length (operations plans)) false → count_by (is_message plans) (operations plans) ≤ room → Mirrors plans keys (side_by_side (map (empty_list Receives) capacities) (map (empty_list Sends) capacities)) marks [] room
-begins plans keys capacities marks room accepted listed counted unmarked roomy = subst (λ (ws : List PatternLists). Mirrors plans keys ws marks [] room) (sym (sides_map (empty_list Receives) (empty_list Sends) capacities)) (record {
+pub begins : (plans : List Plan) (keys : List Pattern) (capacities : List Capacity) (marks : List Bool) → IsAccepted plans → AreListed plans keys → AreCapacities plans keys (operations plans) capacities → marks ≡ replicate (length (operations plans)) false → Mirrors plans keys (side_by_side (map (empty_list Receives) capacities) (map (empty_list Sends) capacities)) marks []
+begins plans keys capacities marks accepted listed counted unmarked = subst (λ (ws : List PatternLists). Mirrors plans keys ws marks []) (sym (sides_map (empty_list Receives) (empty_list Sends) capacities)) (record {
   accepted = accepted;
   actions = tt;
   listed = listed;
@@ -50,7 +49,6 @@ begins plans keys capacities marks room accepted listed counted unmarked roomy =
   each = λ list w e. let at = source capacities list w e in subst (AreLists plans keys (is_paired (pairs plans [])) list (receives_of plans keys [] list) (sends_of plans keys [] list)) at.2 (begun list at.0 (counted.each list at.0 at.1));
   marked = λ x. ap (λ (bs : List Bool). is_marked (operations plans) bs x) unmarked ∙ no_marks (operations plans) (length (operations plans)) x ∙ sym (none_paired plans x);
   all_marks = let long = ap length unmarked ∙ length-replicate (length (operations plans)) false in omega (arith, long);
-  roomy = roomy;
 })
   where
     source : (cs : List Capacity) (list : ℕ) (w : PatternLists) → slice_get (map empty_lists cs) list ≡ Some w → (c : Capacity) × (slice_get cs list ≡ Some c) × (empty_lists c ≡ w)

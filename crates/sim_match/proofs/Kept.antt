@@ -128,7 +128,7 @@ module _ (plans : List Plan) (keys : List Pattern) (h : List Act) where
   sends_after m l =
       ap (filter (λ (e : MatchEntry). for_list plans keys l e.op)) (entries_same Arrive (arrival_of m) h refl) ∙ filter-append (λ (e : MatchEntry). for_list plans keys l e.op) (entries_of Arrive h) (entry m ∷ [])
 
-module _ (plans : List Plan) (keys : List Pattern) (lists : List PatternLists) (marks : List Bool) (h : List Act) (room : ℕ) (m : Mirrors plans keys lists marks h room) where
+module _ (plans : List Plan) (keys : List Pattern) (lists : List PatternLists) (marks : List Bool) (h : List Act) (m : Mirrors plans keys lists marks h) where
   abbrev paired : OpId → Bool
   paired = is_paired (pairs plans h)
 
@@ -146,11 +146,6 @@ module _ (plans : List Plan) (keys : List Pattern) (lists : List PatternLists) (
   module _ (x : OpId) (r : IsReceive plans x) (fresh : happened Post x h ≡ false) where
     new : IsNew plans h (post_of plans keys h x)
     new = record { class = refl; suited = post_suits plans x r; fresh = fresh }
-
-    pub post_event_room : length h < room
-    post_event_room =
-        let fewer = actions_fewer plans (post_of plans keys h x) h m.actions new in
-        omega (arith, fewer, m.roomy)
 
     pub post_counted : length h < length (operations plans)
     post_counted =
@@ -228,7 +223,7 @@ module _ (plans : List Plan) (keys : List Pattern) (lists : List PatternLists) (
             | inr n ↦ post_elsewhere l u n (m.each l u (sym (slice_get_elsewhere lists list l v n) ∙ e))
           ]
 
-          pub post_keeps : (after : List Bool) → ArePaired (operations plans) x met marks after → length after ≡ length marks → Mirrors plans keys (slice_set lists list v) after (post_of plans keys h x ∷ h) room
+          pub post_keeps : (after : List Bool) → ArePaired (operations plans) x met marks after → length after ≡ length marks → Mirrors plans keys (slice_set lists list v) after (post_of plans keys h x ∷ h)
           post_keeps after changes long = record {
             accepted = m.accepted;
             actions = (m.actions, new);
@@ -237,18 +232,12 @@ module _ (plans : List Plan) (keys : List Pattern) (lists : List PatternLists) (
             each = post_each;
             marked = paired_after plans (post_of plans keys h x) h marks after met (λ (z : OpId). pair_of z x) (λ z y. or_comm (same_op z y) (same_op x y)) post_makes m.marked changes;
             all_marks = omega (arith, m.all_marks, long);
-            roomy = m.roomy;
           }
 
   -- a send that is still to arrive
   module _ (y : OpId) (s : IsSend plans y) (fresh : happened Arrive y h ≡ false) where
     coming : IsNew plans h (arrival_of plans keys h y)
     coming = record { class = refl; suited = arrival_suits plans y s; fresh = fresh }
-
-    pub arrival_event_room : length h < room
-    arrival_event_room =
-        let fewer = actions_fewer plans (arrival_of plans keys h y) h m.actions coming in
-        omega (arith, fewer, m.roomy)
 
     pub arrival_counted : length h < length (operations plans)
     arrival_counted =
@@ -384,7 +373,7 @@ module _ (plans : List Plan) (keys : List Pattern) (lists : List PatternLists) (
       pub arrival_met_exists : IfSome met (λ (e : MatchEntry). IsOp plans e.op)
       arrival_met_exists = met_exists plans (entries_of Post h) _ met arrival_met (posted_exist plans h m.actions)
 
-      pub arrival_keeps : (marks' : List Bool) → ArePaired (operations plans) y met marks marks' → length marks' ≡ length marks → Mirrors plans keys after marks' (arrival_of plans keys h y ∷ h) room
+      pub arrival_keeps : (marks' : List Bool) → ArePaired (operations plans) y met marks marks' → length marks' ≡ length marks → Mirrors plans keys after marks' (arrival_of plans keys h y ∷ h)
       arrival_keeps marks' changes long = record {
         accepted = m.accepted;
         actions = (m.actions, coming);
@@ -396,5 +385,4 @@ module _ (plans : List Plan) (keys : List Pattern) (lists : List PatternLists) (
         };
         marked = paired_after plans (arrival_of plans keys h y) h marks marks' met (λ (z : OpId). pair_of y z) (λ z x. refl) arrival_makes m.marked changes;
         all_marks = omega (arith, m.all_marks, long);
-        roomy = m.roomy;
       }

@@ -1,5 +1,5 @@
 -- What a matcher keeps of posts and arrivals.
-use Rattle.std.specs.Prelude.{ℕ, ◌≡◌, ◌<◌, ◌≤◌, ◌+◌, ◌*◌, ◌^◌, ◌&&◌, ◌||◌, not, Bool, true, false, List, [], ◌∷◌, ◌++◌, length, reverse, map, filter, find, take, Option, Some, None, All, slice_get, count_by, vec_capacity, if◌then◌else◌}
+use Rattle.std.specs.Prelude.{ℕ, ◌≡◌, ◌<◌, ◌≤◌, ◌+◌, ◌*◌, ◌^◌, ◌&&◌, ◌||◌, not, Bool, true, false, List, [], ◌∷◌, ◌++◌, length, reverse, map, filter, find, take, Option, Some, None, All, slice_get, count_by, if◌then◌else◌}
 use Rattle.std.specs.Option.{MatchOption}
 use Rattle.std.specs.List.{list_any}
 use Rattle.goal_graph.specs.declared.action.OpId.{OpId}
@@ -16,7 +16,6 @@ use Rattle.sim_match.specs.declared.match_table.MatchTable.{MatchTable}
 use Rattle.sim_match.specs.declared.pattern.Pattern.{Pattern}
 use Rattle.sim_match.specs.declared.match_list.MatchEntry.{MatchEntry}
 use Rattle.sim_match.specs.PostsAndArrivals.{is_post_or_arrival}
-use Rattle.sim_match.specs.Waiting.{is_message}
 use Rattle.sim_match.specs.Patterns.{same_number, list_of, in_list, for_list, AreListed}
 use Rattle.sim_match.specs.ListNumbers.{AreNumbered}
 use Rattle.sim_match.specs.MatchLists.{MatchList, is_marked, entries_of}
@@ -83,9 +82,8 @@ module _ (plans : List Plan) (keys : List Pattern) where
     pub receives : IsMatchList posted paired (count_by (in_list plans keys list) (operations plans)) w.receives
     pub sends : IsMatchList arrived paired (count_by (for_list plans keys list) (operations plans)) w.sends
 
-  -- what is kept after h: each pattern has its lists, what is paired is marked, and the events have room for each
-  -- receive and each send
-  pub record Mirrors (lists : List PatternLists) (marks : List Bool) (h : List Act) (room : ℕ) : Type 0 where
+  -- what is kept after h: each pattern has its lists, and what is paired is marked
+  pub record Mirrors (lists : List PatternLists) (marks : List Bool) (h : List Act) : Type 0 where
     pub accepted : IsAccepted plans
     pub actions : ArePostsAndArrivals plans h
     pub listed : AreListed plans keys
@@ -93,7 +91,6 @@ module _ (plans : List Plan) (keys : List Pattern) where
     pub each : (list : ℕ) (w : PatternLists) → slice_get lists list ≡ Some w → AreLists (is_paired (pairs plans h)) list (receives_of h list) (sends_of h list) w
     pub marked : (x : OpId) → is_marked (operations plans) marks x ≡ is_paired (pairs plans h) x
     pub all_marks : length (operations plans) ≤ length marks
-    pub roomy : count_by (is_message plans) (operations plans) ≤ room
 
   -- After h the send m stands last in the lists of these numbers too. It has met the first receive of these lists that
   -- waits.
@@ -109,7 +106,8 @@ pub record IsKept (plans : List Plan) (table : MatchTable) : Type 0 where
   pub few : length (operations plans) < 2 ^ 32
   pub as_many : length table.receives ≡ length table.sends
   pub numbered : AreNumbered plans table.numbers
-  pub mirrors : Mirrors plans numbered.keys (side_by_side table.receives table.sends) table.marks.items (actions_of plans table.events.items) (vec_capacity table.events)
+  pub mirrors : Mirrors plans numbered.keys (side_by_side table.receives table.sends) table.marks.items (actions_of plans table.events.items)
+  pub count : table.count ≡ length table.events.items
   -- for each entry that no look has passed a look is counted already, and no event counted more than eight
   pub covered : unseen table.receives + unseen table.sends ≤ table.credit
   pub bounded : table.credit ≤ 8 * length table.events.items

@@ -1,5 +1,5 @@
 -- Queues of the operations that wait, one a pattern, where each pattern names a source and a tag.
-use Rattle.std.specs.Prelude.{ℕ, ◌≡◌, ◌≢◌, ◌≤◌, ◌&&◌, not, Bool, true, false, List, [], ◌∷◌, length, filter, Option, Some, None, slice_get, count_by, vec_capacity}
+use Rattle.std.specs.Prelude.{ℕ, ◌≡◌, ◌≢◌, ◌≤◌, ◌&&◌, not, Bool, true, false, List, [], ◌∷◌, length, filter, Option, Some, None, slice_get}
 use Rattle.goal_graph.specs.declared.action.OpId.{OpId}
 use Rattle.goal_graph.specs.declared.action.Class.{Class}
 use Rattle.goal_graph.specs.declared.action.Class.TheVariants.{Arrive, Post}
@@ -12,7 +12,7 @@ use Rattle.sim_match.specs.declared.pattern.Pattern.{Pattern}
 use Rattle.sim_match.specs.declared.queues.Queue.{Queue}
 use Rattle.sim_match.specs.declared.queues.Queues.{Queues}
 use Rattle.sim_match.specs.PostsAndArrivals.{send_for, receive_for}
-use Rattle.sim_match.specs.Waiting.{ops_of, is_message}
+use Rattle.sim_match.specs.Waiting.{ops_of}
 use Rattle.sim_match.specs.Patterns.{same_number, own_list}
 use Rattle.sim_match.specs.ListNumbers.{AreNamed, AreNumbered}
 use Rattle.sim_match.specs.Matcher.{ArePostsAndArrivals, actions_of}
@@ -87,4 +87,3 @@ pub record AreKept (plans : List Plan) (kept : Queues) : Type 0 where
   pub named : AreNamed numbered.keys
   pub actions : ArePostsAndArrivals plans (actions_of plans kept.events.items)
   pub queues : AreQueues plans numbered.keys kept.queues.items kept.next.items (actions_of plans kept.events.items)
-  pub roomy : count_by (is_message plans) (operations plans) ≤ vec_capacity kept.events

@@ -18,20 +18,21 @@ use crate::match_list::{MatchEntry, earlier, mark};
 use crate::match_lists::MatchLists;
 use goal_base::NoMemory;
 use goal_graph::{OpId, Sched};
-use sim_order::Steps;
+use sim_order::{Past, Steps};
 use std::alloc::Global;
 use std::sync::ledger::Ledger;
 
-/// The receives that were posted and the sends that have arrived, in this order, and for each pattern of the schedule its
-/// lists: the receives of the pattern, and the sends that they fit. An operation is marked once it is paired. For each
-/// entry that no look has passed a look is counted already.
+/// For each pattern of the schedule its lists: the receives of the pattern, and the sends that they fit. An operation is
+/// marked once it is paired. For each entry that no look has passed a look is counted already. The receives that were
+/// posted and the sends that have arrived, in this order, stand in proofs alone; how many they are is counted.
 #[derive(Drop)]
 pub struct MatchTable {
     pub numbers: ListNumbers,
     pub receives: MatchLists,
     pub sends: MatchLists,
     pub marks: Vec<bool>,
-    pub events: Vec<OpId>,
+    pub events: Past<OpId>,
+    pub count: u32,
     pub credit: Credit,
 }
 
@@ -66,13 +67,13 @@ impl MatchTable {
         let receives = MatchLists::new(alloc, &capacities, Side::Receives)?;
         let sends = MatchLists::new(alloc, &capacities, Side::Sends)?;
         let marks = vec![in alloc; false; sched.count() as usize]?;
-        let events = Vec::with_capacity(alloc, sched.count() as usize)?;
         Ok(MatchTable {
             numbers,
             receives,
             sends,
             marks,
-            events,
+            events: Past::new(),
+            count: 0,
             credit: Credit::none(),
         })
     }
@@ -95,14 +96,15 @@ impl MatchTable {
     {
         let entry = MatchEntry {
             op: recv,
-            at: self.events.len() as u32,
+            at: self.count,
         };
-        self.events.push_reserved(recv);
         let list = self.numbers.list_of_receive(sched, recv);
         self.credit.count(steps);
         self.credit.count(steps);
         self.receives.push(list, entry);
         let met = self.sends.first(list, sched, &self.marks, &mut self.credit);
+        self.events.push(&recv);
+        self.count += 1;
         pair(sched, &mut self.marks, recv, met)
     }
 
@@ -122,13 +124,14 @@ impl MatchTable {
         ensures as_many { length self.new.receives ≡ length self.new.sends }
         ensures marks { self.new.marks ≡ self.old.marks }
         ensures events { self.new.events ≡ self.old.events }
+        ensures count { self.new.count ≡ self.old.count }
         ensures covered { unseen self.new.receives + unseen self.new.sends ≤ self.new.credit }
         ensures bounded { self.new.credit ≤ self.old.credit + 8 }
         ensures counted { steps.new ≤ steps.old + 8 }
     {
         let entry = MatchEntry {
             op: send,
-            at: self.events.len() as u32,
+            at: self.count,
         };
         let mut met = None;
         for number in self.numbers.lists_of_send(sched, send) {
@@ -165,7 +168,8 @@ impl MatchTable {
         ensures counted { steps.new ≤ steps.old + 8 }
     {
         let met = self.join(sched, send, steps);
-        self.events.push_reserved(send);
+        self.events.push(&send);
+        self.count += 1;
         pair(sched, &mut self.marks, send, met)
     }
 }

@@ -16,7 +16,7 @@ use crate::capacities::Side;
 use crate::list_numbers::ListNumbers;
 use goal_base::NoMemory;
 use goal_graph::{OpId, Sched};
-use sim_order::Steps;
+use sim_order::{Past, Steps};
 use std::alloc::Global;
 use std::sync::ledger::Ledger;
 
@@ -37,14 +37,14 @@ impl Queue {
     };
 }
 
-/// The receives that were posted and the sends that have arrived, in this order, and for each pattern the queue of those
-/// that wait. To what stands at a place the next links that stands behind it in its queue.
+/// For each pattern the queue of those that wait. To what stands at a place the next links that stands behind it in its
+/// queue. The receives that were posted and the sends that have arrived, in this order, stand in proofs alone.
 #[derive(Drop)]
 pub struct Queues {
     pub numbers: ListNumbers,
     pub queues: Vec<Queue>,
     pub next: Vec<u32>,
-    pub events: Vec<OpId>,
+    pub events: Past<OpId>,
 }
 
 // A queue in which one operation waits.
@@ -97,7 +97,7 @@ fn without_first(sched: &Sched, queue: Queue, next: &[u32]) -> Queue
 }
 
 impl Queues {
-    /// Nothing was posted or has arrived, and there is room for each send and each receive once.
+    /// Nothing was posted or has arrived.
     pub fn new(alloc: Global, sched: &Sched, numbers: ListNumbers) -> Result<Queues, NoMemory>
         requires numbered { AreNumbered sched.now numbers }
         requires named { numbers.patterns ≡ None }
@@ -107,12 +107,11 @@ impl Queues {
         let count = sched.count() as usize;
         let queues = vec![in alloc; Queue::NONE; numbers.count]?;
         let next = vec![in alloc; 0_u32; count]?;
-        let events = Vec::with_capacity(alloc, count)?;
         Ok(Queues {
             numbers,
             queues,
             next,
-            events,
+            events: Past::new(),
         })
     }
 
@@ -126,7 +125,7 @@ impl Queues {
         ensures events { self.new.events.items ≡ self.old.events.items ++ id ∷ [] }
         ensures taken { result ≡ taken_by side sched.now (actions_of sched.now self.old.events.items) id }
     {
-        self.events.push_reserved(id);
+        self.events.push(&id);
         let queue = self.queues[list];
         match queue.waits {
             None => {
@@ -187,7 +186,7 @@ impl Queues {
         match self.numbers.own_list(sched, send) {
             Some(list) => self.come(sched, list, send, Side::Sends),
             None => {
-                self.events.push_reserved(send);
+                self.events.push(&send);
                 None
             }
         }

@@ -11,6 +11,7 @@ invariant-loop-number g l = record {
   numbers : l.self.numbers ≡ l.fn.self.numbers;
   marks : l.self.marks ≡ l.fn.self.marks;
   events : l.self.events ≡ l.fn.self.events;
+  count : l.self.count ≡ l.fn.self.count;
   covered : unseen l.self.receives + unseen l.self.sends ≤ l.self.credit;
   bounded : l.self.credit ≤ l.fn.self.credit + 2 * l.number-index;
   counted : l.steps ≤ l.fn.steps + 2 * l.number-index;

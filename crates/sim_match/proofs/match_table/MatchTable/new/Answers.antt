@@ -1,8 +1,6 @@
-use Rattle.std.proofs.Common.{◌≡◌, ◌∙◌, false, length, replicate, rules, arith, ap, sym}
+use Rattle.std.proofs.Common.{◌≡◌, ◌∙◌, false, length, replicate, rules, arith, refl, ap, sym}
 use Rattle.std.proofs.lemmas.List.{length-map}
 use Rattle.sim_match.specs.declared.capacities.Side.TheVariants.{Receives, Sends}
-use Rattle.std.proofs.lemmas.List.Sums.{count_by-le-length}
-use Rattle.sim_match.specs.Waiting.{is_message}
 use Rattle.sim_match.specs.Capacities.{empty_list}
 use Rattle.goal_graph.specs.Schedule.{operations}
 use Rattle.sim_match.proofs.Begun.{begins}
@@ -12,7 +10,7 @@ use Rattle.sim_match.proofs.match_table.MatchTable.new.Goals as goal
 pub returns-clause-kept : goal.returns-clause-kept
 returns-clause-kept c =
     let unmarked : c.in_ok-marks.marks.items ≡ replicate (length (operations c.args.sched.now)) false = rw c.count.ensures.count at (c.in_ok-marks.ensures.items_if_clones_equal (search rules)) in
-    let kept = begins _ _ _ _ _ c.known.ensures.accepted c.requires.listed (c.in_ok-capacities.ensures c.requires) unmarked (let few = count_by-le-length (is_message c.args.sched.now) (operations c.args.sched.now) in omega (arith, few, c.count-2.ensures.count, c.in_ok-events.ensures.exact)) in
+    let kept = begins _ _ _ _ c.known.ensures.accepted c.requires.listed (c.in_ok-capacities.ensures c.requires) unmarked in
     let receives = ap length (rw c.deref.ensures.value at c.in_ok-receives.ensures) ∙ length-map c.in_ok-capacities.capacities.items (empty_list Receives) in
     let sends = ap length (rw c.deref-2.ensures.value at c.in_ok-sends.ensures) ∙ length-map c.in_ok-capacities.capacities.items (empty_list Sends) in
     record {
@@ -21,5 +19,6 @@ returns-clause-kept c =
       numbered = c.requires;
       covered = rw (c.in_ok-receives.ensures, c.in_ok-sends.ensures, c.deref.ensures.value, c.deref-2.ensures.value) (omega (arith, unseen_empty Receives c.in_ok-capacities.capacities.items, unseen_empty Sends c.in_ok-capacities.capacities.items));
       bounded = omega arith;
-      mirrors = rw (c.in_ok-events.ensures.items, c.in_ok-receives.ensures, c.in_ok-sends.ensures, c.deref.ensures.value, c.deref-2.ensures.value) kept;
+      count = rw c.new-3.ensures refl;
+      mirrors = rw (c.new-3.ensures, c.in_ok-receives.ensures, c.in_ok-sends.ensures, c.deref.ensures.value, c.deref-2.ensures.value) kept;
     }

@@ -1,18 +1,13 @@
-use Rattle.std.proofs.Common.{refl, arith, sym, ◌∙◌}
+use Rattle.std.proofs.Common.{refl, sym, ◌∙◌}
 use Rattle.sim_match.specs.Matcher.{actions_of}
-use Rattle.sim_match.proofs.Ops.{actions_fewer, arrival_suits}
-use Rattle.sim_match.proofs.Kept.{length-actions_of, actions_of-arrival}
+use Rattle.sim_match.proofs.Ops.{arrival_suits}
+use Rattle.sim_match.proofs.Kept.{actions_of-arrival}
 use Rattle.sim_match.proofs.Queued.{come_nowhere}
 use Rattle.sim_match.proofs.queues.Queues.arrive.Goals as goal
 use Rattle.goal_graph.proofs.ForCallers.{op_of_kind}
 
 pub own_list-requires-clause-op : goal.own_list-requires-clause-op
 own_list-requires-clause-op g c = op_of_kind _ c.args.send _ c.requires.send.kind
-
-pub push_reserved-requires : goal.push_reserved-requires
-push_reserved-requires g c =
-    let fewer = actions_fewer c.args.sched.now _ _ c.requires.kept.actions (record { class = refl; suited = arrival_suits _ c.args.send c.requires.send; fresh = c.requires.fresh }) in
-    omega (arith, fewer, length-actions_of c.args.sched.now c.args.self.now.events.items, c.args.self.now.events.ok.0, c.requires.kept.roomy)
 
 pub returns-in-None-clause-kept : goal.returns-in-None-clause-kept
 returns-in-None-clause-kept g c =
@@ -21,9 +16,8 @@ returns-in-None-clause-kept g c =
     record {
       numbered = c.requires.kept.numbered;
       named = c.requires.kept.named;
-      actions = rw (c.push_reserved.ensures.items, actions_of-arrival _ _ c.args.send c.requires.send) (c.requires.kept.actions, record { class = refl; suited = arrival_suits _ c.args.send c.requires.send; fresh = c.requires.fresh });
-      queues = rw (c.push_reserved.ensures.items, actions_of-arrival _ _ c.args.send c.requires.send) nowhere.0;
-      roomy = omega (arith, c.push_reserved.ensures.capacity, c.requires.kept.roomy);
+      actions = rw (c.push.ensures, actions_of-arrival _ _ c.args.send c.requires.send) (c.requires.kept.actions, record { class = refl; suited = arrival_suits _ c.args.send c.requires.send; fresh = c.requires.fresh });
+      queues = rw (c.push.ensures, actions_of-arrival _ _ c.args.send c.requires.send) nowhere.0;
     }
 
 pub returns-in-None-clause-taken : goal.returns-in-None-clause-taken

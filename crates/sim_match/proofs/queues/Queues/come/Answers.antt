@@ -3,16 +3,9 @@ use Rattle.std.proofs.lemmas.Option.{slice_get_read}
 use Rattle.std.proofs.lemmas.List.{length-set}
 use Rattle.sim_match.specs.Matcher.{actions_of}
 use Rattle.sim_match.specs.Queues.{waits_as}
-use Rattle.sim_match.proofs.Ops.{actions_fewer}
-use Rattle.sim_match.proofs.Kept.{length-actions_of}
 use Rattle.sim_match.proofs.Queued.{come_within, come_alone, come_behind, come_meets, none_taken, in_line, last_within, same_sides, other_sides, waits_itself, waits_not, comes_next, comes_exists, other_side}
 use Rattle.sim_match.proofs.queues.Queues.come.Goals as goal
 use Rattle.goal_graph.proofs.ForCallers.{whole_back}
-
-pub push_reserved-requires : goal.push_reserved-requires
-push_reserved-requires c =
-    let fewer = actions_fewer c.args.sched.now _ _ c.requires.kept.actions c.requires.fresh in
-    omega (arith, fewer, length-actions_of c.args.sched.now c.args.self.now.events.items, c.args.self.now.events.ok.0, c.requires.kept.roomy)
 
 pub index-queue-requires : goal.index-queue-requires
 index-queue-requires c =
@@ -58,9 +51,8 @@ returns-in-None-clause-kept c =
     record {
       numbered = c.requires.kept.numbered;
       named = c.requires.kept.named;
-      actions = rw (c.push_reserved.ensures.items, comes_next c.args.sched.now c.args.self.now.events.items c.args.side c.args.id c.requires.fresh.suited) (c.requires.kept.actions, c.requires.fresh);
-      queues = rw (c.push_reserved.ensures.items, comes_next c.args.sched.now c.args.self.now.events.items c.args.side c.args.id c.requires.fresh.suited) queues;
-      roomy = omega (arith, c.push_reserved.ensures.capacity, c.requires.kept.roomy);
+      actions = rw (c.push.ensures, comes_next c.args.sched.now c.args.self.now.events.items c.args.side c.args.id c.requires.fresh.suited) (c.requires.kept.actions, c.requires.fresh);
+      queues = rw (c.push.ensures, comes_next c.args.sched.now c.args.self.now.events.items c.args.side c.args.id c.requires.fresh.suited) queues;
     }
 
 pub returns-in-None-clause-taken : goal.returns-in-None-clause-taken
@@ -78,9 +70,8 @@ returns-then-is-clause-kept c =
     record {
       numbered = c.requires.kept.numbered;
       named = c.requires.kept.named;
-      actions = rw (c.push_reserved.ensures.items, comes_next c.args.sched.now c.args.self.now.events.items c.args.side c.args.id c.requires.fresh.suited) (c.requires.kept.actions, c.requires.fresh);
-      queues = rw (back, linked, c.push_reserved.ensures.items, comes_next c.args.sched.now c.args.self.now.events.items c.args.side c.args.id c.requires.fresh.suited) queues;
-      roomy = omega (arith, c.push_reserved.ensures.capacity, c.requires.kept.roomy);
+      actions = rw (c.push.ensures, comes_next c.args.sched.now c.args.self.now.events.items c.args.side c.args.id c.requires.fresh.suited) (c.requires.kept.actions, c.requires.fresh);
+      queues = rw (back, linked, c.push.ensures, comes_next c.args.sched.now c.args.self.now.events.items c.args.side c.args.id c.requires.fresh.suited) queues;
     }
 
 pub returns-then-is-clause-taken : goal.returns-then-is-clause-taken
@@ -95,9 +86,8 @@ returns-else-is-clause-kept c =
     record {
       numbered = c.requires.kept.numbered;
       named = c.requires.kept.named;
-      actions = rw (c.push_reserved.ensures.items, comes_next c.args.sched.now c.args.self.now.events.items c.args.side c.args.id c.requires.fresh.suited) (c.requires.kept.actions, c.requires.fresh);
-      queues = rw (c.push_reserved.ensures.items, comes_next c.args.sched.now c.args.self.now.events.items c.args.side c.args.id c.requires.fresh.suited) meets.0;
-      roomy = omega (arith, c.push_reserved.ensures.capacity, c.requires.kept.roomy);
+      actions = rw (c.push.ensures, comes_next c.args.sched.now c.args.self.now.events.items c.args.side c.args.id c.requires.fresh.suited) (c.requires.kept.actions, c.requires.fresh);
+      queues = rw (c.push.ensures, comes_next c.args.sched.now c.args.self.now.events.items c.args.side c.args.id c.requires.fresh.suited) meets.0;
     }
 
 pub returns-else-is-clause-taken : goal.returns-else-is-clause-taken

@@ -1,9 +1,6 @@
 use Rattle.std.proofs.Common.{◌∙◌, length, rules, arith, refl, ap, subst}
 use Rattle.std.proofs.lemmas.List.{length-replicate}
-use Rattle.std.proofs.lemmas.List.Sums.{count_by-le-length}
-use Rattle.goal_graph.specs.Schedule.{operations}
 use Rattle.sim_match.specs.ListNumbers.{AreSought}
-use Rattle.sim_match.specs.Waiting.{is_message}
 use Rattle.sim_match.proofs.Queued.{queues_begin}
 use Rattle.sim_match.proofs.queues.Queues.new.Goals as goal
 
@@ -14,7 +11,6 @@ returns-clause-kept c =
     record {
       numbered = c.requires.numbered;
       named = subst (AreSought c.requires.numbered.keys) c.requires.named c.requires.numbered.sought;
-      actions = rw c.in_ok-events.ensures.items tt;
-      queues = rw c.in_ok-events.ensures.items (queues_begin c.args.sched.now c.requires.numbered.keys _ _ _ refl queues (omega (arith, next, c.count-count.ensures.count)));
-      roomy = let few = count_by-le-length (is_message c.args.sched.now) (operations c.args.sched.now) in omega (arith, few, c.count-count.ensures.count, c.in_ok-events.ensures.exact);
+      actions = rw c.new.ensures tt;
+      queues = rw c.new.ensures (queues_begin c.args.sched.now c.requires.numbered.keys _ _ _ refl queues (omega (arith, next, c.count-count.ensures.count)));
     }
