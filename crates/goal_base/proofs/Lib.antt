@@ -1,3 +1,4 @@
 pub mod DeviceLemmas
 pub mod FilesLemmas
+pub mod ForCallers
 pub mod TextLemmas

@@ -6,3 +6,4 @@ pub mod DeviceCalls
 pub mod Calls
 pub mod Memory
 pub mod NamedFiles
+pub mod Digits

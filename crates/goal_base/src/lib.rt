@@ -7,6 +7,7 @@ mod device;
 mod files;
 mod laws;
 mod limits;
+mod line;
 mod mem_host;
 mod mem_sink;
 mod output;
@@ -20,6 +21,7 @@ pub use limits::{
     MAX_BUDGET, MAX_BYTES, MAX_DEPS, MAX_INPUT, MAX_NANOS, MAX_NOTES, MAX_OPS, MAX_PARAM,
     MAX_PER_BYTE, MAX_RANKS,
 };
+pub use line::{put_long, put_number, put_pair, put_time, put_word};
 pub use mem_host::MemHost;
 pub use mem_sink::MemSink;
 pub use output::write_file;

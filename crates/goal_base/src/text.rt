@@ -1,7 +1,8 @@
 //! Text that is made piece by piece.
-ghost use Rattle.std.specs.Prelude.{◌≡◌, ◌+◌, ◌<◌, ◌≤◌, [], ◌++◌, decimal, vec_len, vec_capacity, OnOk, OnErr};
+ghost use Rattle.std.specs.Prelude.{◌≡◌, ◌+◌, ◌≤◌, [], ◌++◌, length, take, decimal, IfOk, OnOk, OnErr};
 
 use crate::device::NoMemory;
+use crate::line::put_long;
 use itoa::Buffer;
 use std::alloc::Global;
 use std::marker::Model;
@@ -33,6 +34,31 @@ impl TextOut {
         }
     }
 
+    /// An empty text with room for so many bytes: it takes no more memory before it has more.
+    pub fn with_room(alloc: Global, bytes: usize) -> Result<TextOut, NoMemory>
+        ensures { IfOk result (λ text. text ≡ []) }
+    {
+        Ok(TextOut {
+            bytes: Vec::with_capacity(alloc, bytes)?,
+        })
+    }
+
+    /// Makes room for a line of so many bytes behind the lines that stand in an array, and says where it begins. Where
+    /// there is too little, they are appended to the text, and it begins the array.
+    #[inline(always)]
+    pub fn room_for(&mut self, line: usize, lines: &[u8], end: usize) -> Result<usize, NoMemory>
+        requires some { line ≤ length lines.now }
+        requires within { end ≤ length lines.now }
+        ensures text { IfOk result (λ at. self.new ++ take at lines.now ≡ self.old ++ take end lines.now) }
+        ensures room { IfOk result (λ at. at + line ≤ length lines.now) }
+    {
+        if line <= lines.len() - end {
+            return Ok(end);
+        }
+        self.piece(&lines[..end])?;
+        Ok(0)
+    }
+
     /// Appends a word. The text is as it was where there was no memory left.
     #[inline(always)]
     pub fn word(&mut self, text: &str) -> Result<(), NoMemory>
@@ -43,45 +69,30 @@ impl TextOut {
         Ok(())
     }
 
+    /// Appends a piece of text. The text is as it was where there was no memory left.
+    pub fn piece(&mut self, piece: &[u8]) -> Result<(), NoMemory>
+        ensures ok { OnOk result (self.new ≡ self.old ++ piece.now) }
+        ensures err { OnErr result (self.new ≡ self.old) }
+    {
+        self.bytes.extend_from_slice(piece)?;
+        Ok(())
+    }
+
     /// Appends a number in decimal. The text is as it was where there was no memory left.
-    #[inline(always)]
     pub fn number(&mut self, n: u128) -> Result<(), NoMemory>
         ensures ok { OnOk result (self.new ≡ self.old ++ decimal n) }
         ensures err { OnErr result (self.new ≡ self.old) }
     {
-        if n < 10_000 {
-            return self.short(n as u32);
+        if n > u64::MAX as u128 {
+            return self.wide(n);
         }
-        if n < 100_000_000 {
-            return self.middle(n as u32);
-        }
-        self.long(n)
+        let mut line = [0; 20];
+        let end = put_long(&mut line, 0, n as u64);
+        self.piece(&line[..end])
     }
 
-    // Most numbers are short, and so written without a buffer.
-    fn short(&mut self, n: u32) -> Result<(), NoMemory>
-        requires { n < 10000 }
-        ensures ok { OnOk result (self.new ≡ self.old ++ decimal n) }
-        ensures err { OnErr result (self.new ≡ self.old) }
-    {
-        self.bytes.reserve(4)?;
-        four_digits(&mut self.bytes, n);
-        Ok(())
-    }
-
-    // Most times have five to eight digits, and are written without a buffer too.
-    fn middle(&mut self, n: u32) -> Result<(), NoMemory>
-        requires long { 10000 ≤ n }
-        requires short { n < 100000000 }
-        ensures ok { OnOk result (self.new ≡ self.old ++ decimal n) }
-        ensures err { OnErr result (self.new ≡ self.old) }
-    {
-        self.bytes.reserve(8)?;
-        eight_digits(&mut self.bytes, n);
-        Ok(())
-    }
-
-    fn long(&mut self, n: u128) -> Result<(), NoMemory>
+    // A number of more than 64 bits.
+    fn wide(&mut self, n: u128) -> Result<(), NoMemory>
         ensures ok { OnOk result (self.new ≡ self.old ++ decimal n) }
         ensures err { OnErr result (self.new ≡ self.old) }
     {
@@ -133,86 +144,4 @@ impl TextOut {
     {
         self.bytes
     }
-}
-
-// Appends a digit.
-#[inline(always)]
-#[tactic(auto, using(std::proofs::lemmas::Fmt::decimal_digit))]
-fn one_digit(bytes: &mut Vec<u8>, n: u32)
-    requires small { n < 10 }
-    requires room { vec_len bytes.old + 1 ≤ vec_capacity bytes.old }
-    ensures items { bytes.new.items ≡ bytes.old.items ++ decimal n }
-    ensures len { vec_len bytes.new ≤ vec_len bytes.old + 1 }
-    ensures capacity { vec_capacity bytes.new ≡ vec_capacity bytes.old }
-{
-    bytes.push_reserved(b'0' + n as u8);
-}
-
-// Appends a number of at most two digits.
-#[inline(always)]
-#[tactic(auto, using(crate::proofs::TextLemmas::last_digit))]
-fn two_digits(bytes: &mut Vec<u8>, n: u32)
-    requires small { n < 100 }
-    requires room { vec_len bytes.old + 2 ≤ vec_capacity bytes.old }
-    ensures items { bytes.new.items ≡ bytes.old.items ++ decimal n }
-    ensures len { vec_len bytes.new ≤ vec_len bytes.old + 2 }
-    ensures capacity { vec_capacity bytes.new ≡ vec_capacity bytes.old }
-{
-    if n >= 10 {
-        one_digit(bytes, n / 10);
-    }
-    one_digit(bytes, n % 10);
-}
-
-// Appends a number of at most three digits.
-#[inline(always)]
-#[tactic(auto, using(crate::proofs::TextLemmas::last_digit))]
-fn three_digits(bytes: &mut Vec<u8>, n: u32)
-    requires small { n < 1000 }
-    requires room { vec_len bytes.old + 3 ≤ vec_capacity bytes.old }
-    ensures items { bytes.new.items ≡ bytes.old.items ++ decimal n }
-    ensures len { vec_len bytes.new ≤ vec_len bytes.old + 3 }
-    ensures capacity { vec_capacity bytes.new ≡ vec_capacity bytes.old }
-{
-    if n >= 10 {
-        two_digits(bytes, n / 10);
-    }
-    one_digit(bytes, n % 10);
-}
-
-// Appends a number of at most four digits.
-#[inline(always)]
-#[tactic(auto, using(crate::proofs::TextLemmas::last_digit))]
-fn four_digits(bytes: &mut Vec<u8>, n: u32)
-    requires small { n < 10000 }
-    requires room { vec_len bytes.old + 4 ≤ vec_capacity bytes.old }
-    ensures items { bytes.new.items ≡ bytes.old.items ++ decimal n }
-    ensures len { vec_len bytes.new ≤ vec_len bytes.old + 4 }
-    ensures capacity { vec_capacity bytes.new ≡ vec_capacity bytes.old }
-{
-    if n >= 10 {
-        three_digits(bytes, n / 10);
-    }
-    one_digit(bytes, n % 10);
-}
-
-// Appends a number of five to eight digits.
-#[inline(always)]
-#[tactic(auto, using(crate::proofs::TextLemmas::last_digit))]
-fn eight_digits(bytes: &mut Vec<u8>, n: u32)
-    requires long { 10000 ≤ n }
-    requires short { n < 100000000 }
-    requires room { vec_len bytes.old + 8 ≤ vec_capacity bytes.old }
-    ensures items { bytes.new.items ≡ bytes.old.items ++ decimal n }
-    ensures len { vec_len bytes.new ≤ vec_len bytes.old + 8 }
-    ensures capacity { vec_capacity bytes.new ≡ vec_capacity bytes.old }
-{
-    let tens = n / 10;
-    let hundreds = tens / 10;
-    let thousands = hundreds / 10;
-    four_digits(bytes, thousands / 10);
-    one_digit(bytes, thousands % 10);
-    one_digit(bytes, hundreds % 10);
-    one_digit(bytes, tens % 10);
-    one_digit(bytes, n % 10);
 }

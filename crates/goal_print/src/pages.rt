@@ -11,6 +11,9 @@ use std::marker::Model;
 // A page ends with the rank whose block brings its operations to so many.
 const PAGE: usize = 1024;
 
+// So many bytes the lines of an operation, its dependencies and its notes mostly have at most.
+const ROOM: usize = 112;
+
 /// The blocks of the canonical text of a schedule, by rank, as far as they are still to come. Contracts see their text.
 #[derive(Drop)]
 pub struct Blocks<'a> {
@@ -47,7 +50,7 @@ impl<'a> Blocks<'a> {
         ensures same { OnErr result (self.new ≡ self.old) }
     {
         let plans = self.sched.plans();
-        let mut out = TextOut::new(alloc);
+        let mut out = TextOut::with_room(alloc, (self.sched.count() as usize).min(PAGE) * ROOM)?;
         let mut rank = self.done;
         let mut operations: usize = 0;
         while rank < plans.len() && operations < PAGE {

@@ -1,12 +1,18 @@
 // From a schedule to its canonical text.
-ghost use Rattle.std.specs.Prelude.{◌≡◌, ◌++◌, decimal, codes, IfOk, OnOk};
+ghost use Rattle.std.specs.Prelude.{◌≡◌, ◌+◌, ◌-◌, ◌^◌, ◌<◌, ◌≤◌, ◌++◌, length, take, decimal, codes, IfOk, OnOk};
 ghost use Rattle.std.specs.List.{flat_map};
 ghost use Rattle.goal_parser.specs.Reads.{reads, plans};
 ghost use Rattle.goal_print.specs.Canonical.{label, number_or_any, action, op_line, op_lines, verb, dep_line, note_line, heading, block, unless_empty, blocks, canonical};
 
-use goal_base::{NoMemory, TextOut};
+use goal_base::{NoMemory, TextOut, put_long, put_number, put_word};
 use goal_graph::{Dep, Kind, Note, Op, RankPlan, Sched, When};
 use std::alloc::Global;
+
+// A line of an operation, a dependency or a note has at most so many bytes.
+const LINE: usize = 112;
+
+// So many bytes of lines are made before they are appended to a text.
+const LINES: usize = 1024;
 
 /// The canonical text of a schedule.
 ///
@@ -68,184 +74,228 @@ pub fn put_rank(out: &mut TextOut, rank: u64, plan: &RankPlan) -> Result<(), NoM
 fn put_block(out: &mut TextOut, rank: u64, plan: &RankPlan) -> Result<(), NoMemory>
     ensures { OnOk result (out.new ≡ out.old ++ block rank plan.now) }
 {
+    let mut lines = [0; LINES];
     out.word("rank ")?;
     out.number(u128::from(rank))?;
     out.word(" {\n")?;
-    put_ops(out, &plan.ops)?;
-    put_deps(out, &plan.deps)?;
-    put_notes(out, &plan.notes)?;
+    put_ops(out, &mut lines, &plan.ops)?;
+    put_deps(out, &mut lines, &plan.deps)?;
+    put_notes(out, &mut lines, &plan.notes)?;
     out.word("}\n")
 }
 
 // Appends the lines of a rank's operations.
-fn put_ops(out: &mut TextOut, ops: &[Op]) -> Result<(), NoMemory>
+fn put_ops(out: &mut TextOut, lines: &mut [u8], ops: &[Op]) -> Result<(), NoMemory>
+    requires { LINE ≤ length lines.old }
     ensures { OnOk result (out.new ≡ out.old ++ op_lines 0 ops.now) }
 {
+    let mut end = 0;
     for (number, op) in ops.iter().enumerate() {
-        put_op(out, number as u64, *op)?;
+        let at = out.room_for(LINE, lines, end)?;
+        end = put_op(lines, at, number as u64, *op);
     }
-    Ok(())
+    out.piece(&lines[..end])
 }
 
 // Appends the lines of a rank's dependencies.
-fn put_deps(out: &mut TextOut, deps: &[Dep]) -> Result<(), NoMemory>
+fn put_deps(out: &mut TextOut, lines: &mut [u8], deps: &[Dep]) -> Result<(), NoMemory>
+    requires { LINE ≤ length lines.old }
     ensures { OnOk result (out.new ≡ out.old ++ flat_map dep_line deps.now) }
 {
+    let mut end = 0;
     for dep in deps {
-        put_dep(out, *dep)?;
+        let at = out.room_for(LINE, lines, end)?;
+        end = put_dep(lines, at, *dep);
     }
-    Ok(())
+    out.piece(&lines[..end])
 }
 
 // Appends the lines of a rank's notes.
-fn put_notes(out: &mut TextOut, notes: &[Note]) -> Result<(), NoMemory>
+fn put_notes(out: &mut TextOut, lines: &mut [u8], notes: &[Note]) -> Result<(), NoMemory>
+    requires { LINE ≤ length lines.old }
     ensures { OnOk result (out.new ≡ out.old ++ flat_map note_line notes.now) }
 {
+    let mut end = 0;
     for note in notes {
-        put_note(out, *note)?;
+        let at = out.room_for(LINE, lines, end)?;
+        end = put_note(lines, at, *note);
     }
-    Ok(())
+    out.piece(&lines[..end])
 }
 
-// Appends the line of the operation with this number.
-fn put_op(out: &mut TextOut, number: u64, op: Op) -> Result<(), NoMemory>
-    ensures { OnOk result (out.new ≡ out.old ++ op_line number op) }
+// Writes the line of the operation with this number, and says where it ends, as all that follow here do.
+#[inline(always)]
+fn put_op(line: &mut [u8], at: usize, number: u64, op: Op) -> usize
+    requires fits { number < 2 ^ 64 - 1 }
+    requires room { at + LINE ≤ length line.old }
+    ensures text { take result line.new ≡ take at line.old ++ op_line number op }
+    ensures end { result ≤ at + LINE }
 {
-    put_label(out, number)?;
-    out.word(": ")?;
+    let at = put_label(line, at, number);
+    let at = put_word(line, at, ": ");
+    put_action(line, at, op)
+}
+
+// Writes the label of the operation with this number.
+#[inline(always)]
+fn put_label(line: &mut [u8], at: usize, number: u64) -> usize
+    requires fits { number < 2 ^ 64 - 1 }
+    requires room { at + 21 ≤ length line.old }
+    ensures text { take result line.new ≡ take at line.old ++ label number }
+    ensures end { result ≤ at + 21 }
+{
+    let at = put_word(line, at, "l");
+    put_long(line, at, number + 1)
+}
+
+// Writes what stands behind the label of an operation.
+#[inline(always)]
+fn put_action(line: &mut [u8], at: usize, op: Op) -> usize
+    requires room { at + 88 ≤ length line.old }
+    ensures text { take result line.new ≡ take at line.old ++ action op.kind op.cpu op.nic }
+    ensures end { result ≤ at + 88 }
+{
     match op.kind {
-        Kind::Calc { nanos } => put_calc(out, nanos, op.cpu),
-        Kind::Send { bytes, to, tag } => put_send(out, bytes, to, tag, op.cpu, op.nic),
-        Kind::Recv { bytes, from, tag } => put_recv(out, bytes, from, tag, op.cpu, op.nic),
+        Kind::Calc { nanos } => put_calc(line, at, nanos, op.cpu),
+        Kind::Send { bytes, to, tag } => put_send(line, at, bytes, to, tag, op.cpu, op.nic),
+        Kind::Recv { bytes, from, tag } => put_recv(line, at, bytes, from, tag, op.cpu, op.nic),
     }
 }
 
-// Appends the label of the operation with this number.
-fn put_label(out: &mut TextOut, number: u64) -> Result<(), NoMemory>
-    ensures { OnOk result (out.new ≡ out.old ++ label number) }
-{
-    out.word("l")?;
-    out.number(u128::from(number) + 1)
-}
-
-// Appends a source or a tag, which may be any.
-fn put_number_or_any(out: &mut TextOut, number: Option<u32>) -> Result<(), NoMemory>
-    ensures { OnOk result (out.new ≡ out.old ++ number_or_any number) }
+// Writes a source or a tag, which may be any.
+#[inline(always)]
+fn put_number_or_any(line: &mut [u8], at: usize, number: Option<u32>) -> usize
+    requires room { at + 10 ≤ length line.old }
+    ensures text { take result line.new ≡ take at line.old ++ number_or_any number }
+    ensures end { result ≤ at + 10 }
 {
     match number {
-        None => out.word("any"),
-        Some(n) => out.number(u128::from(n)),
+        None => put_word(line, at, "any"),
+        Some(n) => put_number(line, at, n),
     }
 }
 
-// Appends what stands behind the label of a calculation.
-fn put_calc(out: &mut TextOut, nanos: u64, cpu: u8) -> Result<(), NoMemory>
-    ensures { OnOk result (out.new ≡ out.old ++ action (Kind.Calc nanos) cpu 0) }
+// Writes what stands behind the label of a calculation.
+#[inline(always)]
+fn put_calc(line: &mut [u8], at: usize, nanos: u64, cpu: u8) -> usize
+    requires room { at + 41 ≤ length line.old }
+    ensures text { take result line.new ≡ take at line.old ++ action (Kind.Calc nanos) cpu 0 }
+    ensures end { result ≤ at + 41 }
 {
-    out.word("calc ")?;
-    out.number(u128::from(nanos))?;
-    out.word(" cpu ")?;
-    out.number(u128::from(cpu))?;
-    out.word("\n")
+    let at = put_word(line, at, "calc ");
+    let at = put_long(line, at, nanos);
+    let at = put_word(line, at, " cpu ");
+    let at = put_number(line, at, u32::from(cpu));
+    put_word(line, at, "\n")
 }
 
-// Appends what stands behind the label of a message.
-fn put_send(
-    out: &mut TextOut,
-    bytes: u64,
-    to: u32,
-    tag: u32,
-    cpu: u8,
-    nic: u8,
-) -> Result<(), NoMemory>
-    ensures { OnOk result (out.new ≡ out.old ++ action (Kind.Send bytes to tag) cpu nic) }
+// Writes what stands behind the label of a message.
+#[inline(always)]
+fn put_send(line: &mut [u8], at: usize, bytes: u64, to: u32, tag: u32, cpu: u8, nic: u8) -> usize
+    requires room { at + 86 ≤ length line.old }
+    ensures text { take result line.new ≡ take at line.old ++ action (Kind.Send bytes to tag) cpu nic }
+    ensures end { result ≤ at + 86 }
 {
-    out.word("send ")?;
-    out.number(u128::from(bytes))?;
-    out.word("b to ")?;
-    out.number(u128::from(to))?;
-    out.word(" tag ")?;
-    out.number(u128::from(tag))?;
-    put_place(out, cpu, nic)
+    let at = put_word(line, at, "send ");
+    let at = put_long(line, at, bytes);
+    let at = put_word(line, at, "b to ");
+    let at = put_number(line, at, to);
+    let at = put_word(line, at, " tag ");
+    let at = put_number(line, at, tag);
+    put_place(line, at, cpu, nic)
 }
 
-// Appends what stands behind the label of a receive.
+// Writes what stands behind the label of a receive.
+#[inline(always)]
 fn put_recv(
-    out: &mut TextOut,
+    line: &mut [u8],
+    at: usize,
     bytes: u64,
     from: Option<u32>,
     tag: Option<u32>,
     cpu: u8,
     nic: u8,
-) -> Result<(), NoMemory>
-    ensures { OnOk result (out.new ≡ out.old ++ action (Kind.Recv bytes from tag) cpu nic) }
+) -> usize
+    requires room { at + 88 ≤ length line.old }
+    ensures text { take result line.new ≡ take at line.old ++ action (Kind.Recv bytes from tag) cpu nic }
+    ensures end { result ≤ at + 88 }
 {
-    out.word("recv ")?;
-    out.number(u128::from(bytes))?;
-    out.word("b from ")?;
-    put_number_or_any(out, from)?;
-    out.word(" tag ")?;
-    put_number_or_any(out, tag)?;
-    put_place(out, cpu, nic)
+    let at = put_word(line, at, "recv ");
+    let at = put_long(line, at, bytes);
+    let at = put_word(line, at, "b from ");
+    let at = put_number_or_any(line, at, from);
+    let at = put_word(line, at, " tag ");
+    let at = put_number_or_any(line, at, tag);
+    put_place(line, at, cpu, nic)
 }
 
-// Appends the cpu and the interface of a message or a receive, and the end of its line.
-fn put_place(out: &mut TextOut, cpu: u8, nic: u8) -> Result<(), NoMemory>
-    ensures { OnOk result (out.new
-        ≡ out.old ++ (codes " cpu " ++ decimal cpu ++ codes " nic " ++ decimal nic ++ codes "\n")) }
+// Writes the cpu and the interface of a message or a receive, and the end of its line.
+#[inline(always)]
+fn put_place(line: &mut [u8], at: usize, cpu: u8, nic: u8) -> usize
+    requires room { at + 31 ≤ length line.old }
+    ensures text { take result line.new
+        ≡ take at line.old ++ (codes " cpu " ++ decimal cpu ++ codes " nic " ++ decimal nic ++ codes "\n") }
+    ensures end { result ≤ at + 31 }
 {
-    out.word(" cpu ")?;
-    out.number(u128::from(cpu))?;
-    out.word(" nic ")?;
-    out.number(u128::from(nic))?;
-    out.word("\n")
+    let at = put_word(line, at, " cpu ");
+    let at = put_number(line, at, u32::from(cpu));
+    let at = put_word(line, at, " nic ");
+    let at = put_number(line, at, u32::from(nic));
+    put_word(line, at, "\n")
 }
 
-// Appends the line of a dependency.
-fn put_dep(out: &mut TextOut, dep: Dep) -> Result<(), NoMemory>
-    ensures { OnOk result (out.new ≡ out.old ++ dep_line dep) }
+// Writes the line of a dependency.
+#[inline(always)]
+fn put_dep(line: &mut [u8], at: usize, dep: Dep) -> usize
+    requires room { at + LINE ≤ length line.old }
+    ensures text { take result line.new ≡ take at line.old ++ dep_line dep }
+    ensures end { result ≤ at + LINE }
 {
-    put_label(out, u64::from(dep.later))?;
-    out.word(verb_of(dep.when))?;
-    put_label(out, u64::from(dep.earlier))?;
-    out.word("\n")
+    let at = put_label(line, at, u64::from(dep.later));
+    let at = put_verb(line, at, dep.when);
+    let at = put_label(line, at, u64::from(dep.earlier));
+    put_word(line, at, "\n")
 }
 
-// The verb of a dependency, between blanks.
-fn verb_of(when: When) -> &'static str
-    ensures { result.now ≡ verb when }
+// Writes the verb of a dependency, between blanks.
+#[inline(always)]
+fn put_verb(line: &mut [u8], at: usize, when: When) -> usize
+    requires room { at + 11 ≤ length line.old }
+    ensures text { take result line.new ≡ take at line.old ++ verb when }
+    ensures end { result ≤ at + 11 }
 {
     match when {
-        When::AfterEnd => " requires ",
-        When::AfterStart => " irequires ",
+        When::AfterEnd => put_word(line, at, " requires "),
+        When::AfterStart => put_word(line, at, " irequires "),
     }
 }
 
-// Appends the line of a note.
-fn put_note(out: &mut TextOut, note: Note) -> Result<(), NoMemory>
-    ensures { OnOk result (out.new ≡ out.old ++ note_line note) }
+// Writes the line of a note.
+#[inline(always)]
+fn put_note(line: &mut [u8], at: usize, note: Note) -> usize
+    requires room { at + LINE ≤ length line.old }
+    ensures text { take result line.new ≡ take at line.old ++ note_line note }
+    ensures end { result ≤ at + LINE }
 {
     match note {
-        Note::Moves { op, lo, hi } => put_slots(out, op, " moves ", lo, hi),
-        Note::Adds { op, from, to } => put_slots(out, op, " adds ", from, to),
+        Note::Moves { op, lo, hi } => put_slots(line, at, op, " moves ", lo, hi),
+        Note::Adds { op, from, to } => put_slots(line, at, op, " adds ", from, to),
     }
 }
 
-// Appends the label of an operation, a verb between blanks, and two slots.
-fn put_slots(
-    out: &mut TextOut,
-    op: u32,
-    word: &str,
-    first: u32,
-    second: u32,
-) -> Result<(), NoMemory>
-    ensures { OnOk result (out.new
-        ≡ out.old ++ (label op ++ word.now ++ decimal first ++ codes " to " ++ decimal second ++ codes "\n")) }
+// Writes the label of an operation, a verb between blanks, and two slots.
+#[inline(always)]
+fn put_slots(line: &mut [u8], at: usize, op: u32, word: &str, first: u32, second: u32) -> usize
+    requires short { length word.now ≤ 10 }
+    requires room { at + 60 ≤ length line.old }
+    ensures text { take result line.new ≡ take at line.old
+        ++ (label op ++ word.now ++ decimal first ++ codes " to " ++ decimal second ++ codes "\n") }
+    ensures end { result ≤ at + 60 }
 {
-    put_label(out, u64::from(op))?;
-    out.word(word)?;
-    out.number(u128::from(first))?;
-    out.word(" to ")?;
-    out.number(u128::from(second))?;
-    out.word("\n")
+    let at = put_label(line, at, u64::from(op));
+    let at = put_word(line, at, word);
+    let at = put_number(line, at, first);
+    let at = put_word(line, at, " to ");
+    let at = put_number(line, at, second);
+    put_word(line, at, "\n")
 }

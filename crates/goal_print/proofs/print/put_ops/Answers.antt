@@ -1,5 +1,7 @@
-use Rattle.std.proofs.Common.{◌≡◌, ℕ, ◌+◌, ◌<◌, List, [], ◌++◌, length, get_or, drop, sym, ap, ◌∙◌, append_assoc, append-nil, refl}
+use Rattle.std.proofs.Common.{◌≡◌, ℕ, ◌+◌, ◌<◌, ◌≤◌, List, ◌++◌, length, get_or, take, drop, sym, ap, ◌∙◌, arith, rules, append_assoc, append-nil}
 use Rattle.std.proofs.lemmas.List.{at_drop_more, at_drop_all}
+use Rattle.std.proofs.lemmas.Grind.{common_steps}
+use Rattle.goal_base.proofs.ForCallers.{line_behind}
 use Rattle.goal_graph.specs.declared.plan.Op.{Op}
 use Rattle.goal_graph.specs.declared.plan.Kind.TheVariants.{Calc}
 use Rattle.goal_print.specs.Canonical.{op_line, op_lines}
@@ -13,17 +15,27 @@ one_more i os d out all within is =
     append_assoc out (op_line i (get_or os i d)) (op_lines (i + 1) (drop (i + 1) os))
     ∙ ap (λ (l : List ℕ). out ++ l) (sym (at_drop_more (op_lines i) os i d within)) ∙ is
 
-none_left : (i : ℕ) → op_lines i [] ≡ []
+-- none is left
+done : (i : ℕ) (os : List Op) (out all : List ℕ) → length os ≤ i → out ++ op_lines i (drop i os) ≡ all → out ≡ all
 unfolding op_lines
-none_left i = refl
+done i os out all over is = sym (append-nil out) ∙ ap (λ (l : List ℕ). out ++ l) (sym (at_drop_all (op_lines i) os i over)) ∙ is
 
 pub loop-number-preserved : goal.loop-number-preserved
 loop-number-preserved c =
     let none : Op = record { kind = Calc 0; cpu = 0; nic = 0 } in
-    rw c.in_ok-put_op.ensures (one_more c.loop-number.number c.args.ops.now none c.loop-number.out _ c.loop-number-test.true c.loop-number.invariant)
+    let i = c.loop-number.number in
+    let ops = c.args.ops.now in
+    let lines = c.loop-number.out ++ take c.loop-number.end c.loop-number.lines in
+    let more = one_more i ops none lines _ c.loop-number-test.true c.loop-number.invariant.text in
+    record {
+      text =
+          ap (λ (l : List ℕ). l ++ op_lines (i + 1) (drop (i + 1) ops))
+          (line_behind c.loop-number.out _ (take c.loop-number.end c.loop-number.lines) _ _ (op_line i (get_or ops i none)) c.in_ok-at.ensures.text c.put_op-end.ensures.text) ∙ more;
+      within = first_of (grind (arith, common_steps), omega (arith, c.put_op-end.ensures.end, c.in_ok-at.ensures.room));
+    }
 
 pub returns : goal.returns
 returns c =
-    let number = c.loop-number.number in
-    let left = at_drop_all (op_lines number) c.args.ops.now number c.loop-number-test.false ∙ none_left number in
-    sym (append-nil c.loop-number.out) ∙ ap (λ (l : List ℕ). c.loop-number.out ++ l) (sym left) ∙ c.loop-number.invariant
+    let lines = c.loop-number.out ++ take c.loop-number.end c.loop-number.lines in
+    let is = done c.loop-number.number c.args.ops.now lines _ c.loop-number-test.false c.loop-number.invariant.text in
+    first_of (search rules, grind (arith, common_steps))
