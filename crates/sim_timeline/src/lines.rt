@@ -1,14 +1,17 @@
 // The lines of the timeline.
-ghost use Rattle.std.specs.Prelude.{◌≡◌, ◌+◌, ◌-◌, ◌++◌, ◌<◌, ◌^◌, length, OnOk, IfOk, Some, is_some, unwrap_or, max, if◌then◌else◌};
+ghost use Rattle.std.specs.Prelude.{◌≡◌, ◌+◌, ◌-◌, ◌++◌, ◌<◌, ◌≤◌, ◌^◌, length, take, OnOk, IfOk, Some, is_some, unwrap_or, max, if◌then◌else◌};
 ghost use Rattle.goal_graph.specs.Schedule.{operations};
 ghost use Rattle.sim_timeline.specs.Timeline.{operation_line, summary_line, kind_text, partner_text, match_text, first_line};
 ghost use Rattle.sim_timeline.specs.Pages.{IsSummary, is_unread_send};
 
-use goal_base::{NoMemory, TextOut};
+use goal_base::{NoMemory, TextOut, put_pair, put_time, put_word};
 use goal_graph::{Kind, Op, OpId, Sched};
 use sim_events::{Engine, Record};
 use sim_params::Costs;
 use std::alloc::Global;
+
+/// The line of an operation has at most so many bytes.
+pub const LINE: usize = 112;
 
 /// The first line of the timeline of an engine whose run is over: `ranks P ops N stuck K unread U finish T`, how many
 /// operations there are, how many of them have no end, how many messages have begun and are taken by no receive, and the
@@ -108,52 +111,64 @@ fn put_summary(out: &mut TextOut, sched: &Sched, summary: &Summary) -> Result<()
     out.word("\n")
 }
 
-/// Appends the line of an operation of that kind.
-pub fn put_operation(out: &mut TextOut, id: OpId, kind: Kind, times: Record) -> Result<(), NoMemory>
-    ensures { OnOk result (out.new
-        ≡ out.old ++ operation_line id kind times.start times.end times.partner) }
+/// Writes the line of an operation of that kind, and says where it ends.
+#[inline(always)]
+pub fn put_operation(line: &mut [u8], at: usize, id: OpId, kind: Kind, times: Record) -> usize
+    requires room { at + LINE ≤ length line.old }
+    ensures text { take result line.new
+        ≡ take at line.old ++ operation_line id kind times.start times.end times.partner }
+    ensures end { result ≤ at + LINE }
 {
-    out.word("op ")?;
-    out.pair(id.rank, id.op)?;
-    out.word(kind_word(kind))?;
-    out.time(times.start)?;
-    out.word(" end ")?;
-    out.time(times.end)?;
-    put_partner(out, kind, times.partner)?;
-    out.word("\n")
+    let at = put_word(line, at, "op ");
+    let at = put_pair(line, at, id.rank, id.op);
+    let at = put_kind(line, at, kind);
+    let at = put_time(line, at, times.start);
+    let at = put_word(line, at, " end ");
+    let at = put_time(line, at, times.end);
+    let at = put_partner(line, at, kind, times.partner);
+    put_word(line, at, "\n")
 }
 
-// The word of a kind in the line of an operation, and what stands before its start.
-fn kind_word(kind: Kind) -> &'static str
-    ensures { result.now ≡ kind_text kind }
+// Writes the word of a kind in the line of an operation, and what stands before its start.
+#[inline(always)]
+fn put_kind(line: &mut [u8], at: usize, kind: Kind) -> usize
+    requires room { at + 12 ≤ length line.old }
+    ensures text { take result line.new ≡ take at line.old ++ kind_text kind }
+    ensures end { result ≤ at + 12 }
 {
     match kind {
-        Kind::Calc { .. } => " calc start ",
-        Kind::Send { .. } => " send start ",
-        Kind::Recv { .. } => " recv start ",
+        Kind::Calc { .. } => put_word(line, at, " calc start "),
+        Kind::Send { .. } => put_word(line, at, " send start "),
+        Kind::Recv { .. } => put_word(line, at, " recv start "),
     }
 }
 
-// Appends the partner of a send or a receive.
-fn put_match(out: &mut TextOut, partner: Option<OpId>) -> Result<(), NoMemory>
-    ensures { OnOk result (out.new ≡ out.old ++ match_text partner) }
+// Writes what the line of a kind tells of a partner: that of a calc nothing.
+#[inline(always)]
+fn put_partner(line: &mut [u8], at: usize, kind: Kind, partner: Option<OpId>) -> usize
+    requires room { at + 28 ≤ length line.old }
+    ensures text { take result line.new ≡ take at line.old ++ partner_text kind partner }
+    ensures end { result ≤ at + 28 }
+{
+    match kind {
+        Kind::Calc { .. } => at,
+        Kind::Send { .. } => put_match(line, at, partner),
+        Kind::Recv { .. } => put_match(line, at, partner),
+    }
+}
+
+// Writes the partner of a send or a receive.
+#[inline(always)]
+fn put_match(line: &mut [u8], at: usize, partner: Option<OpId>) -> usize
+    requires room { at + 28 ≤ length line.old }
+    ensures text { take result line.new ≡ take at line.old ++ match_text partner }
+    ensures end { result ≤ at + 28 }
 {
     match partner {
-        None => out.word(" match -"),
+        None => put_word(line, at, " match -"),
         Some(id) => {
-            out.word(" match ")?;
-            out.pair(id.rank, id.op)
+            let at = put_word(line, at, " match ");
+            put_pair(line, at, id.rank, id.op)
         }
-    }
-}
-
-// Appends what the line of a kind tells of a partner: that of a calc nothing.
-fn put_partner(out: &mut TextOut, kind: Kind, partner: Option<OpId>) -> Result<(), NoMemory>
-    ensures { OnOk result (out.new ≡ out.old ++ partner_text kind partner) }
-{
-    match kind {
-        Kind::Calc { .. } => Ok(()),
-        Kind::Send { .. } => put_match(out, partner),
-        Kind::Recv { .. } => put_match(out, partner),
     }
 }

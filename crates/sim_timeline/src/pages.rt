@@ -5,7 +5,7 @@ ghost use Rattle.goal_graph.specs.Schedule.{operations};
 ghost use Rattle.goal_graph.specs.Fault.{IsOp};
 ghost use Rattle.sim_timeline.specs.Timeline.{line_of, timeline};
 
-use crate::lines::{put_first_line, put_operation};
+use crate::lines::{LINE, put_first_line, put_operation};
 use goal_base::{NoMemory, TextOut};
 use goal_graph::{OpId, Sched};
 use sim_events::Engine;
@@ -15,6 +15,12 @@ use std::marker::Model;
 
 // So many lines a page has at most.
 const PAGE: usize = 1024;
+
+// So many bytes a line mostly has at most.
+const ROOM: usize = 64;
+
+// So many bytes of lines are made before they are appended to a text.
+const LINES: usize = 1024;
 
 /// The lines of the operations, by rank and number, of an engine whose run is over, as far as they are still to come.
 /// Contracts see their text.
@@ -77,7 +83,7 @@ fn page_of<C: Costs>(
     ensures { IfOk result (λ page.
         page.items ≡ flat_map (line_of engine.now.plans (C.model engine.now.costs) engine.now.history) ids.now) }
 {
-    let mut out = TextOut::new(alloc);
+    let mut out = TextOut::with_room(alloc, ids.len().min(PAGE) * ROOM)?;
     put_lines(&mut out, engine, ids)?;
     Ok(out.into_bytes())
 }
@@ -93,10 +99,13 @@ fn put_lines<C: Costs>(
         ++ flat_map (line_of engine.now.plans (C.model engine.now.costs) engine.now.history) ids.now) }
 {
     let sched = engine.sched();
+    let mut lines = [0; LINES];
+    let mut end = 0;
     for id in ids {
-        put_operation(out, *id, sched.op(*id).kind, engine.record(*id))?;
+        let at = out.room_for(LINE, &lines, end)?;
+        end = put_operation(&mut lines, at, *id, sched.op(*id).kind, engine.record(*id));
     }
-    Ok(())
+    out.piece(&lines[..end])
 }
 
 /// The timeline of an engine whose run is over, whole: the first line, and then the lines of all operations, by rank and

@@ -1,5 +1,7 @@
-use Rattle.std.proofs.Common.{take, get_or, refl, ◌∙◌}
-use Rattle.std.proofs.lemmas.List.{take_more, take_all, flat_map_more}
+use Rattle.std.proofs.Common.{ℕ, List, ◌++◌, take, get_or, ap, ◌∙◌, arith}
+use Rattle.std.proofs.lemmas.Grind.{common_steps}
+use Rattle.std.proofs.lemmas.List.{take_more, flat_map_more}
+use Rattle.goal_base.proofs.ForCallers.{line_behind}
 use Rattle.sim_timeline.specs.Timeline.{line_of}
 use Rattle.sim_timeline.proofs.TimelineLemmas.{line_is}
 use Rattle.sim_timeline.proofs.pages.put_lines.Goals as goal
@@ -14,11 +16,11 @@ loop-id-preserved g c =
     let id = get_or items i (record { rank = 0; op = 0 }) in
     let line = line_is plans costs h id c.op.result.now (rw c.sched-sched.ensures at c.op.ensures.op) in
     let lines = line_of plans costs h in
-    rw (take_more items i (record { rank = 0; op = 0 }) c.loop-id-test.true)
-    (c.in_ok-put_operation.ensures
-    ∙ rw (c.record.ensures.start, c.record.ensures.end, c.record.ensures.partner, line, c.loop-id.invariant)
-    (flat_map_more lines c.args.out.now (take i items) id))
-
-pub returns : goal.returns
-returns g c =
-    rw (c.loop-id.invariant, take_all c.loop-id.id-index c.args.ids.now c.loop-id-test.false) refl
+    let ended = rw (c.record.ensures.start, c.record.ensures.end, c.record.ensures.partner, line) at c.put_operation-end.ensures.text in
+    record {
+      text =
+          rw (take_more items i (record { rank = 0; op = 0 }) c.loop-id-test.true)
+          (line_behind c.loop-id.out _ (take c.loop-id.end c.loop-id.lines) _ _ (lines id) c.in_ok-at.ensures.text ended
+          ∙ ap (λ (l : List ℕ). l ++ lines id) c.loop-id.invariant.text ∙ flat_map_more lines c.args.out.now (take i items) id);
+      within = first_of (grind (arith, common_steps), omega (arith, c.put_operation-end.ensures.end, c.in_ok-at.ensures.room));
+    }
