@@ -1,6 +1,5 @@
 use Rattle.std.proofs.Common.{◌≡◌, ℕ, ◌+◌, ◌<◌, ◌≤◌, List, ◌++◌, length, get_or, take, drop, sym, ap, ◌∙◌, arith, rules, append_assoc, append-nil}
 use Rattle.std.proofs.lemmas.List.{at_drop_more, at_drop_all}
-use Rattle.std.proofs.lemmas.Grind.{common_steps}
 use Rattle.goal_base.proofs.ForCallers.{line_behind}
 use Rattle.goal_graph.specs.declared.plan.Op.{Op}
 use Rattle.goal_graph.specs.declared.plan.Kind.TheVariants.{Calc}
@@ -31,11 +30,11 @@ loop-number-preserved c =
       text =
           ap (λ (l : List ℕ). l ++ op_lines (i + 1) (drop (i + 1) ops))
           (line_behind c.loop-number.out _ (take c.loop-number.end c.loop-number.lines) _ _ (op_line i (get_or ops i none)) c.in_ok-at.ensures.text c.put_op-end.ensures.text) ∙ more;
-      within = first_of (grind (arith, common_steps), omega (arith, c.put_op-end.ensures.end, c.in_ok-at.ensures.room));
+      within = omega (arith, c.put_op-end.ensures.end, c.in_ok-at.ensures.room);
     }
 
 pub returns : goal.returns
 returns c =
     let lines = c.loop-number.out ++ take c.loop-number.end c.loop-number.lines in
     let is = done c.loop-number.number c.args.ops.now lines _ c.loop-number-test.false c.loop-number.invariant.text in
-    first_of (search rules, grind (arith, common_steps))
+    search rules
