@@ -4,7 +4,7 @@ use Rattle.std.proofs.lemmas.Bool.{cases_eq, cases_lt}
 use Rattle.std.proofs.lemmas.List.{get_or-set_same, get_or-set_other, length-set, get_or-map, get_or_read, same_lists}
 use Rattle.std.proofs.lemmas.Option.{slice_get-get_or, slice_get_within, slice_get_past, get_or_from_slice_get, slice_get-map, same_Some}
 use Rattle.std.proofs.lemmas.List.{length-map}
-use Rattle.std.specs.Option.{option_map}
+use Rattle.std.specs.Option.{option_map, IfSome}
 use Rattle.sim_groups.specs.declared.groups.Home.{Home}
 use Rattle.sim_heaps.specs.Map.{key_at, IsLeast, IsSoleLeast, IsEmptyMap}
 use Rattle.sim_groups.specs.Groups.{IsHoused, IsEmptyGroup, IsLeastOf, IsSoleLeastOf, heap_at, key_of_home, group_of_home, grouped}
@@ -148,6 +148,10 @@ module _ {K : Type 0} (homes : List Home) (heaps : List (List (Option K))) (hous
       others : (other : ℕ) (k : K) → ((home : Home) × (slice_get homes other ≡ Some home) × (home.group ≡ group)) → key_at (grouped homes heaps).keys other ≡ Some k → before k key ≡ false
       others other k home has =
           least.least home.0.place k (ap (λ g. key_at (heap_at heaps g) home.0.place) (sym home.2) ∙ sym (key_at_home other home.0 home.1) ∙ has)
+
+  pub least_of_answer : (before : K → K → Bool) (group : ℕ) (answer : Option K) → IfSome answer (λ key. (place : ℕ) × IsLeast before (heap_at heaps group) place key) → IfSome answer (IsLeastOf before (grouped homes heaps) group)
+  least_of_answer before group None least = least
+  least_of_answer before group (Some key) least = least_of_group before group least.0 key least.1
 
   -- a key that is before each other of its group is before each other of the heap of the group
   pub sole_of_heap : (before : K → K → Bool) (slot : ℕ) (home : Home) → slice_get homes slot ≡ Some home → IsSoleLeastOf before (grouped homes heaps) slot → IsSoleLeast before (heap_at heaps home.group) home.place

@@ -1,3 +1,9 @@
 pub mod Grouping
 pub mod Homes
+pub mod InParts
+pub mod ItemParts
+pub mod ItemTable
+pub mod SlotTable
+pub mod SlotParts
+pub mod Fresh
 pub mod ForCallers

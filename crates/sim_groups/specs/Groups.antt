@@ -1,5 +1,5 @@
 -- Slots in groups, each of which knows its least key.
-use Rattle.std.specs.Prelude.{◌≡◌, ◌⊎◌, ◌<◌, ◌≤◌, ◌^◌, ℕ, Bool, true, false, List, [], Option, Some, None, length, map, slice_get, slice_index, slice_index_or}
+use Rattle.std.specs.Prelude.{◌≡◌, ◌⊎◌, ◌<◌, ◌≤◌, ◌^◌, ℕ, Bool, true, false, List, [], Option, Some, None, length, map, slice_get, slice_index, slice_index_or, slice_set}
 use Rattle.sim_groups.specs.declared.groups.Home.{Home}
 use Rattle.sim_heaps.specs.Map.{key_at}
 
@@ -47,6 +47,10 @@ module _ {K : Type 0} where
   -- the key at a home
   abbrev pub key_of_home : List (List (Option K)) → Home → Option K
   key_of_home heaps home = key_at (heap_at heaps home.group) home.place
+
+  -- the maps, where a home has this key or none
+  abbrev pub with_key : List (List (Option K)) → Home → Option K → List (List (Option K))
+  with_key heaps home key = slice_set heaps home.group (slice_set (heap_at heaps home.group) home.place key)
 
   abbrev pub grouped : List Home → List (List (Option K)) → Grouped K
   grouped homes heaps = record { keys = map (key_of_home heaps) homes; groups = map group_of_home homes }

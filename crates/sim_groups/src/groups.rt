@@ -1,12 +1,12 @@
 // Slots in groups.
-ghost use Rattle.std.specs.Prelude.{◌≡◌, ◌+◌, ◌*◌, ◌^◌, ◌<◌, ◌≤◌, ℕ, All, IfOk, IfSome, IsNone, OnOk, Some, None, length, map, replicate, slice_get, slice_set};
+ghost use Rattle.std.specs.Prelude.{◌≡◌, ◌+◌, ◌*◌, ◌^◌, ◌<◌, ◌≤◌, ℕ, All, IfOk, IfSome, IsNone, OnOk, Some, None, length, replicate, slice_get, slice_set, sum};
 ghost use Rattle.goal_base.specs.declared.limits.TheConstants.{MAX_OPS};
 ghost use Rattle.sim_order.specs.Events.{event_before};
-ghost use Rattle.sim_heaps.specs.Map.{key_at, no_keys};
+ghost use Rattle.sim_heaps.specs.Map.{key_at};
 ghost use Rattle.sim_groups.specs.Groups.{IsEmptyGroup, IsLeastOf, IsSoleLeastOf, AreHomes};
 
+use crate::item_heaps::ItemHeaps;
 use goal_base::NoMemory;
-use sim_heaps::{Arrivals, TopHeap};
 use sim_order::{CompactKey, Steps};
 use std::alloc::Global;
 use std::marker::Model;
@@ -24,7 +24,7 @@ pub struct Home {
 #[derive(Drop)]
 pub struct Groups {
     homes: Vec<Home>,
-    heaps: Vec<TopHeap>,
+    heaps: ItemHeaps,
 }
 
 impl Model for Groups {
@@ -33,9 +33,9 @@ impl Model for Groups {
 
     ghost Value = { Grouped Timed };
 
-    ghost view = { λ q. grouped q.homes.items q.heaps.items };
+    ghost view = { λ q. grouped q.homes.items q.heaps };
 
-    ghost invariant = { λ q. IsHoused q.homes.items q.heaps.items };
+    ghost invariant = { λ q. IsHoused q.homes.items q.heaps };
 }
 
 /// Homes for slots whose groups have these numbers: the slots of a group get its places in their order. Counts the slots
@@ -46,6 +46,7 @@ pub fn homes(alloc: Global, numbers: &[u32], counts: &mut [u32]) -> Result<Vec<H
     requires few { length numbers.now < 2 ^ 32 }
     ensures homes { IfOk result (λ homes. AreHomes numbers.now homes.items counts.new) }
     ensures few { OnOk result (All (λ count. count ≤ length numbers.now) counts.new) }
+    ensures all { OnOk result (sum counts.new ≡ length numbers.now) }
 {
     let mut homes = Vec::with_capacity(alloc, numbers.len())?;
     'slots: for number in numbers {
@@ -55,18 +56,6 @@ pub fn homes(alloc: Global, numbers: &[u32], counts: &mut [u32]) -> Result<Vec<H
         counts[group as usize] = place + 1;
     }
     Ok(homes)
-}
-
-// Heaps with so many slots each, none of which has a key.
-fn heaps(alloc: Global, counts: &[u32]) -> Result<Vec<TopHeap>, NoMemory>
-    requires { All (λ count. count ≤ MAX_OPS) counts.now }
-    ensures { IfOk result (λ heaps. heaps.items ≡ map no_keys counts.now) }
-{
-    let mut heaps = Vec::with_capacity(alloc, counts.len())?;
-    'groups: for count in counts {
-        heaps.push(TopHeap::new(alloc, *count)?)?;
-    }
-    Ok(heaps)
 }
 
 impl Groups {
@@ -79,7 +68,7 @@ impl Groups {
     {
         let mut counts = vec![in alloc; 0; groups as usize]?;
         let homes = homes(alloc, numbers, &mut counts)?;
-        let heaps = heaps(alloc, &counts)?;
+        let heaps = ItemHeaps::new(alloc, &counts)?;
         Ok(Groups { homes, heaps })
     }
 
@@ -100,7 +89,7 @@ impl Groups {
         ensures onward { steps.old ≤ steps.new }
     {
         let home = self.homes[slot as usize];
-        self.heaps[home.group as usize].put(home.place, key, steps);
+        self.heaps.put(home, key, steps);
     }
 
     /// Takes out the key of a slot that is before that of each other slot of its group.
@@ -111,7 +100,7 @@ impl Groups {
         ensures onward { steps.old ≤ steps.new }
     {
         let home = self.homes[slot as usize];
-        self.heaps[home.group as usize].take(home.place, Arrivals::InOrder, steps);
+        self.heaps.take(home, steps);
     }
 
     /// The least key of a group. None where no slot of the group has a key, or there is no such group.
@@ -122,7 +111,6 @@ impl Groups {
         if group as usize >= self.heaps.len() {
             return None;
         }
-        let (_, key) = self.heaps[group as usize].least()?;
-        Some(key)
+        self.heaps.least_of(group)
     }
 }

@@ -2,7 +2,10 @@
 #![tactic(auto)]
 
 mod groups;
+mod item_heaps;
+mod parts;
 mod slot_groups;
+mod slot_heaps;
 
 pub use groups::{Groups, Home};
 pub use slot_groups::SlotGroups;

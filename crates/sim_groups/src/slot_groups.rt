@@ -1,13 +1,12 @@
 // Slots in groups, whose keys are changed in place.
-ghost use Rattle.std.specs.Prelude.{◌≡◌, ◌+◌, ◌*◌, ◌^◌, ◌<◌, ◌≤◌, ℕ, All, IfOk, IfSome, IsNone, Some, None, length, map, replicate, slice_set};
+ghost use Rattle.std.specs.Prelude.{◌≡◌, ◌+◌, ◌*◌, ◌^◌, ◌<◌, ◌≤◌, ℕ, All, IfOk, IfSome, IsNone, Some, None, length, replicate, slice_set};
 ghost use Rattle.sim_order.specs.Events.{event_before};
-ghost use Rattle.sim_heaps.specs.Map.{no_keys};
 ghost use Rattle.sim_groups.specs.Groups.{IsEmptyGroup, IsLeastOf};
 
 use crate::Home;
 use crate::groups::homes;
+use crate::slot_heaps::SlotHeaps;
 use goal_base::NoMemory;
-use sim_heaps::{EventQueue, SlotHeap};
 use sim_order::{CompactKey, Steps};
 use std::alloc::Global;
 use std::marker::Model;
@@ -19,7 +18,7 @@ use std::sync::ledger::Ledger;
 #[derive(Drop)]
 pub struct SlotGroups {
     homes: Vec<Home>,
-    heaps: Vec<SlotHeap<CompactKey>>,
+    heaps: SlotHeaps,
 }
 
 impl Model for SlotGroups {
@@ -28,20 +27,9 @@ impl Model for SlotGroups {
 
     ghost Value = { Grouped Timed };
 
-    ghost view = { λ q. grouped q.homes.items q.heaps.items };
+    ghost view = { λ q. grouped q.homes.items q.heaps };
 
-    ghost invariant = { λ q. IsHoused q.homes.items q.heaps.items };
-}
-
-// Heaps with so many slots each, none of which has a key.
-fn heaps(alloc: Global, counts: &[u32]) -> Result<Vec<SlotHeap<CompactKey>>, NoMemory>
-    ensures { IfOk result (λ heaps. heaps.items ≡ map no_keys counts.now) }
-{
-    let mut heaps = Vec::with_capacity(alloc, counts.len())?;
-    'groups: for count in counts {
-        heaps.push(SlotHeap::new(alloc, *count)?)?;
-    }
-    Ok(heaps)
+    ghost invariant = { λ q. IsHoused q.homes.items q.heaps };
 }
 
 impl SlotGroups {
@@ -54,7 +42,7 @@ impl SlotGroups {
     {
         let mut counts = vec![in alloc; 0; groups as usize]?;
         let homes = homes(alloc, numbers, &mut counts)?;
-        let heaps = heaps(alloc, &counts)?;
+        let heaps = SlotHeaps::new(alloc, &counts)?;
         Ok(SlotGroups { homes, heaps })
     }
 
@@ -66,7 +54,7 @@ impl SlotGroups {
         ensures onward { steps.old ≤ steps.new }
     {
         let home = self.homes[slot as usize];
-        self.heaps[home.group as usize].put(home.place, key, steps);
+        self.heaps.put(home, key, steps);
     }
 
     /// Takes the key of a slot out. Where it has none, nothing changes.
@@ -77,7 +65,7 @@ impl SlotGroups {
         ensures onward { steps.old ≤ steps.new }
     {
         let home = self.homes[slot as usize];
-        self.heaps[home.group as usize].drop_slot(home.place, steps);
+        self.heaps.drop_slot(home, steps);
     }
 
     /// The least key of a group. None where no slot of the group has a key, or there is no such group.
@@ -89,7 +77,6 @@ impl SlotGroups {
         if group as usize >= self.heaps.len() {
             return None;
         }
-        let (_, key) = self.heaps[group as usize].least(steps)?;
-        Some(key)
+        self.heaps.least_of(group)
     }
 }

@@ -1,3 +1,9 @@
 -- The lemmas of this crate that upper crates cite: they import this file alone.
 pub use Rattle.sim_heaps.proofs.Weak.{not_both, through}
-pub use Rattle.sim_heaps.proofs.Maps.{key_within, least_is_sole, none_of, same_maps}
+pub use Rattle.sim_heaps.proofs.Maps.{get_added, get_before_added, get_set_other, get_set_same, key_within, least_is_sole, none_of, same_maps}
+pub use Rattle.sim_heaps.proofs.Items.{item_of, items_fit, length-placed}
+pub use Rattle.sim_heaps.proofs.ItemChanges.{added_apart, added_ordered, added_placed, emptied_placed, empty_items, some_items, taken_apart, taken_ordered, taken_placed, top_is_least}
+pub use Rattle.sim_heaps.proofs.Swapping.{length-swapped, swapped_inverse}
+pub use Rattle.sim_heaps.proofs.Changing.{dropped_last, dropped_within, entered, replaced}
+pub use Rattle.sim_heaps.proofs.Placed.{entered_keys, key_of_place, left_keys, moved_keys, none_there, settled, written}
+pub use Rattle.sim_heaps.proofs.Top.{empty_heap, top_of_heap}

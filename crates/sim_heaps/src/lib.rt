@@ -7,6 +7,8 @@ mod sift;
 mod slot_heap;
 mod top_heap;
 
+pub use heap_item::HeapItem;
 pub use queue::EventQueue;
+pub use sift::{settle, swap};
 pub use slot_heap::SlotHeap;
-pub use top_heap::{Arrivals, TopHeap};
+pub use top_heap::{Arrivals, TopHeap, rise, sink};

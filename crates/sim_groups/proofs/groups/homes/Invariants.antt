@@ -1,4 +1,4 @@
-use Rattle.std.proofs.Common.{◌≤◌, ℕ, take, slice_index}
+use Rattle.std.proofs.Common.{◌≡◌, ◌≤◌, ℕ, take, slice_index, sum}
 use Rattle.sim_groups.specs.Groups.{AreHomes}
 use Rattle.sim_groups.proofs.groups.homes.Given as goal
 
@@ -6,4 +6,5 @@ abbrev pub invariant-slots : goal.invariant-slots
 invariant-slots l = record {
   given : AreHomes (take l.number-index l.numbers) l.homes.items l.counts;
   few : (group : ℕ) → slice_index l.counts group ≤ l.number-index;
+  all : sum l.counts ≡ l.number-index;
 }

@@ -1,0 +1,114 @@
+-- A heap whose slots know their places, in which the key of one slot is changed.
+use Rattle.std.proofs.Common.{◌≡◌, ◌<◌, ◌≤◌, ◌+◌, ◌++◌, ◌∷◌, [], ℕ, List, length, set, take, slice_get, slice_index, slice_set, Some, None, sym, ap, ◌∙◌, subst, arith}
+use Rattle.std.proofs.lemmas.List.{length-map, length-set, length-append, length-take-le, take_all, take-take, take_more_set}
+use Rattle.goal_graph.specs.declared.action.Timed.{Timed}
+use Rattle.sim_order.specs.Events.{event_before}
+use Rattle.sim_order.specs.EventLaws.{event_laws}
+use Rattle.sim_heaps.specs.Heap.{AreInverse, swapped, keys_of, IsHeap, IsHeapBut, IsSlotHeap}
+use Rattle.sim_heaps.proofs.ForCallers.{swapped_inverse, length-swapped, replaced, entered, dropped_within, dropped_last, written, entered_keys, moved_keys, left_keys, settled}
+
+-- the last of the first places is written
+pub entered_at : {X : Type 0} (xs : List X) (n : ℕ) (y : X) → n < length xs → set (take (n + 1) xs) n y ≡ take n xs ++ y ∷ []
+entered_at xs n y h =
+    let long : length (take (n + 1) xs) ≡ n + 1 = length-take-le (n + 1) xs (omega (arith, h)) in
+    sym (take_all (n + 1) (set (take (n + 1) xs) n y) (omega (arith, long, length-set (take (n + 1) xs) n y)))
+    ∙ take_more_set (take (n + 1) xs) n y (omega (arith, long))
+    ∙ ap (λ ys. ys ++ y ∷ []) (take-take n (n + 1) xs (omega arith))
+
+-- where the order was settled
+module _ (old : List Timed) (old_places : List ℕ) (slots places : List ℕ) (n : ℕ) (heap : IsHeap event_before (keys_of old old_places) slots places n) where
+  pub settled_slots : length slots ≡ length old_places
+  settled_slots = heap.same_length ∙ length-map old_places (slice_get old)
+
+  pub settled_places : length places ≡ length old_places
+  settled_places = sym heap.inverse.same_length ∙ settled_slots
+
+  pub settled_heap : (new : List Timed) (capacity : ℕ) → length new ≡ n → length old_places ≤ capacity → keys_of new places ≡ keys_of old old_places → IsSlotHeap event_before new slots places capacity
+  settled_heap new capacity each room are =
+      settled event_before (keys_of old old_places) new slots places n capacity each (omega (arith, settled_slots, room)) are heap
+
+module _ (keys : List Timed) (slots places : List ℕ) (capacity : ℕ) (heap : IsSlotHeap event_before keys slots places capacity) (slot : ℕ) (slot_in : slot < length places) where
+  abbrev place : ℕ
+  place = slice_index places slot
+
+  within : slot < length slots
+  within = omega (arith, slot_in, heap.heap.inverse.same_length)
+
+  place_in : place < length slots
+  place_in = heap.heap.inverse.place_in slot within
+
+  pub room_in : place < capacity
+  room_in = omega (arith, place_in, heap.reserved)
+
+  pub places_room : length places ≤ capacity
+  places_room = omega (arith, heap.reserved, heap.heap.inverse.same_length)
+
+  -- a key in place of another
+  module _ (key : Timed) (there : place < length keys) where
+    pub keys_replaced : keys_of (set keys place key) places ≡ slice_set (keys_of keys places) slot (Some key)
+    keys_replaced = written keys slots places heap.heap.inverse slot key there within
+
+    pub but_replaced : IsHeapBut event_before (keys_of (set keys place key) places) slots places (length (set keys place key)) place
+    but_replaced =
+        subst (λ (n : ℕ). IsHeapBut event_before (keys_of (set keys place key) places) slots places n place) (sym (length-set keys place key))
+        (subst (λ ks. IsHeapBut event_before ks slots places (length keys) place) (sym keys_replaced)
+        (replaced event_before event_laws (keys_of keys places) slots places (length keys) slot heap.heap within key there))
+
+  -- a key more
+  module _ (key : Timed) (n : ℕ) (same : n ≡ length keys) (absent : n ≤ place) (new_slots new_places : List ℕ) (slots_are : new_slots ≡ swapped slots place n) (places_are : new_places ≡ slice_set (slice_set places (slice_index slots place) n) (slice_index slots n) place) where
+    pub keys_entered : keys_of (keys ++ key ∷ []) new_places ≡ slice_set (keys_of keys places) slot (Some key)
+    keys_entered = entered_keys keys slots places heap.heap.inverse slot key n new_places within same absent places_are
+
+    inverse : AreInverse (swapped slots place n) new_places
+    inverse =
+        subst (AreInverse (swapped slots place n)) (sym places_are) (swapped_inverse slots places place n heap.heap.inverse place_in (omega (arith, absent, place_in)))
+
+    pub but_entered : IsHeapBut event_before (keys_of (keys ++ key ∷ []) new_places) new_slots new_places (length (keys ++ key ∷ [])) n
+    but_entered =
+        subst (λ (m : ℕ). IsHeapBut event_before (keys_of (keys ++ key ∷ []) new_places) new_slots new_places m n) (sym (length-append keys (key ∷ [])))
+        (subst (λ ks. IsHeapBut event_before ks new_slots new_places (length keys + 1) n) (sym keys_entered)
+        (subst (λ xs. IsHeapBut event_before (slice_set (keys_of keys places) slot (Some key)) xs new_places (length keys + 1) n) (sym slots_are)
+        (subst (λ (m : ℕ). IsHeapBut event_before (slice_set (keys_of keys places) slot (Some key)) (swapped slots place m) new_places (length keys + 1) m) (sym same)
+        (entered event_before event_laws (keys_of keys places) slots places (length keys) slot heap.heap within key new_places (omega (arith, absent, same)) (subst (λ (m : ℕ). AreInverse (swapped slots place m) new_places) same inverse)))))
+
+    pub entered_long : length new_places ≡ length places
+    entered_long = ap length places_are ∙ length-set (slice_set places (slice_index slots place) n) (slice_index slots n) place ∙ length-set places (slice_index slots place) n
+
+  -- a key is gone, and the last one comes to its place
+  module _ (rest : List Timed) (last : Timed) (are : keys ≡ rest ++ last ∷ []) (left : ℕ) (same : left ≡ length rest) (new_slots new_places : List ℕ) (slots_are : new_slots ≡ swapped slots place left) (places_are : new_places ≡ slice_set (slice_set places (slice_index slots place) left) (slice_index slots left) place) where
+    one_less : left + 1 ≡ length keys
+    one_less = omega (arith, same, ap length are, length-append rest (last ∷ []))
+
+    left_in : left < length slots
+    left_in = omega (arith, one_less, heap.heap.room)
+
+    left_inverse : AreInverse (swapped slots place left) new_places
+    left_inverse =
+        subst (AreInverse (swapped slots place left)) (sym places_are) (swapped_inverse slots places place left heap.heap.inverse place_in left_in)
+
+    pub left_long : length new_places ≡ length places
+    left_long = ap length places_are ∙ length-set (slice_set places (slice_index slots place) left) (slice_index slots left) place ∙ length-set places (slice_index slots place) left
+
+    pub left_slots_long : length new_slots ≡ length slots
+    left_slots_long = ap length slots_are ∙ length-swapped slots place left
+
+    module _ (moves : place < left) where
+      pub keys_moved : keys_of (set rest place last) new_places ≡ slice_set (keys_of keys places) slot None
+      keys_moved = moved_keys keys rest last are slots places heap.heap.inverse slot left new_places within same left_in places_are moves
+
+      pub but_moved : IsHeapBut event_before (keys_of (set rest place last) new_places) new_slots new_places (length (set rest place last)) place
+      but_moved =
+          subst (λ (n : ℕ). IsHeapBut event_before (keys_of (set rest place last) new_places) new_slots new_places n place) (same ∙ sym (length-set rest place last))
+          (subst (λ ks. IsHeapBut event_before ks new_slots new_places left place) (sym keys_moved)
+          (subst (λ xs. IsHeapBut event_before (slice_set (keys_of keys places) slot None) xs new_places left place) (sym slots_are)
+          (dropped_within event_before event_laws (keys_of keys places) slots places (length keys) slot heap.heap within left new_places (omega (arith, moves, one_less)) one_less left_inverse moves)))
+
+    module _ (stays : place ≡ left) where
+      pub keys_left : keys_of rest new_places ≡ slice_set (keys_of keys places) slot None
+      keys_left = left_keys keys rest last are slots places heap.heap.inverse slot left new_places within same left_in places_are stays
+
+      pub heap_left : IsSlotHeap event_before rest new_slots new_places capacity
+      heap_left =
+          settled event_before (slice_set (keys_of keys places) slot None) rest new_slots new_places left capacity (sym same) (omega (arith, left_slots_long, heap.reserved)) keys_left
+          (subst (λ xs. IsHeap event_before (slice_set (keys_of keys places) slot None) xs new_places left) (sym slots_are)
+          (dropped_last event_before event_laws (keys_of keys places) slots places (length keys) slot heap.heap within left new_places (omega (arith, stays, one_less)) one_less left_inverse stays))

@@ -1,0 +1,141 @@
+use Rattle.std.proofs.Common.{◌≡◌, ◌<◌, ◌≤◌, ◌+◌, ◌++◌, ℕ, List, length, set, take, drop, slice_index, sym, ap, ◌∙◌, subst, arith}
+use Rattle.std.proofs.lemmas.List.{length-append, length-drop, length-set, length-take-le, take_at}
+use Rattle.goal_graph.specs.declared.action.Timed.{Timed}
+use Rattle.sim_order.specs.Events.{event_before}
+use Rattle.sim_heaps.specs.Heap.{keys_of, IsHeapBut, IsSlotHeap}
+use Rattle.sim_groups.proofs.SlotParts.{entered_at, settled_heap, room_in, places_room, keys_replaced, but_replaced, keys_entered, but_entered, entered_long}
+use Rattle.sim_groups.proofs.slot_heaps.write.Goals as goal
+
+pub settle-requires : goal.settle-requires
+settle-requires g c =
+    let sorted = c.args.sorted.now in
+    let slots = c.args.slots.now in
+    let places = c.args.places.now in
+    let slot = c.args.slot in
+    let count = c.args.count in
+    let size : ℕ = length sorted in
+    let keys = take count sorted in
+    let heap = c.requires.heap in
+    let within : slot < length places = c.requires.slot_in in
+    let many : length keys ≡ count = length-take-le count sorted c.requires.room in
+    let room = places_room keys slots places size heap slot within in
+    let there : slice_index places slot < length keys = omega (arith, c.if-place-count.true, many) in
+    record { but = but_replaced keys slots places size heap slot within c.args.key there }
+
+pub returns-then-place-count-clause-heap : goal.returns-then-place-count-clause-heap
+returns-then-place-count-clause-heap g c =
+    let sorted = c.args.sorted.now in
+    let slots = c.args.slots.now in
+    let places = c.args.places.now in
+    let slot = c.args.slot in
+    let count = c.args.count in
+    let size : ℕ = length sorted in
+    let keys = take count sorted in
+    let heap = c.requires.heap in
+    let within : slot < length places = c.requires.slot_in in
+    let many : length keys ≡ count = length-take-le count sorted c.requires.room in
+    let room = places_room keys slots places size heap slot within in
+    let there : slice_index places slot < length keys = omega (arith, c.if-place-count.true, many) in
+    let old : List Timed = set keys (slice_index places slot) c.args.key in
+    let new = c.settle.new.sorted in
+    let each : length new ≡ count = omega (arith, c.settle.ensures.each, length-set keys (slice_index places slot) c.args.key, many) in
+    let front : take (count) (new ++ drop (count) sorted) ≡ new = take_at new (drop (count) sorted) (count) each in
+    let long : length (new ++ drop (count) sorted) ≡ size = omega (arith, length-append new (drop (count) sorted), length-drop (count) sorted, each, c.requires.room) in
+    subst (λ (xs : List Timed). IsSlotHeap event_before xs c.settle.new.slots c.settle.new.places (length (new ++ drop count sorted))) (sym front)
+    (subst (IsSlotHeap event_before new c.settle.new.slots c.settle.new.places) (sym long)
+    (settled_heap old places c.settle.new.slots c.settle.new.places (length old) c.settle.ensures.heap new size c.settle.ensures.each room c.settle.ensures.keys))
+
+pub returns-then-place-count-clause-put : goal.returns-then-place-count-clause-put
+returns-then-place-count-clause-put g c =
+    let sorted = c.args.sorted.now in
+    let slots = c.args.slots.now in
+    let places = c.args.places.now in
+    let slot = c.args.slot in
+    let count = c.args.count in
+    let size : ℕ = length sorted in
+    let keys = take count sorted in
+    let heap = c.requires.heap in
+    let within : slot < length places = c.requires.slot_in in
+    let many : length keys ≡ count = length-take-le count sorted c.requires.room in
+    let room = places_room keys slots places size heap slot within in
+    let there : slice_index places slot < length keys = omega (arith, c.if-place-count.true, many) in
+    let old : List Timed = set keys (slice_index places slot) c.args.key in
+    let new = c.settle.new.sorted in
+    let each : length new ≡ count = omega (arith, c.settle.ensures.each, length-set keys (slice_index places slot) c.args.key, many) in
+    let front : take (count) (new ++ drop (count) sorted) ≡ new = take_at new (drop (count) sorted) (count) each in
+    let long : length (new ++ drop (count) sorted) ≡ size = omega (arith, length-append new (drop (count) sorted), length-drop (count) sorted, each, c.requires.room) in
+    ap (λ (xs : List Timed). keys_of xs c.settle.new.places) front ∙ c.settle.ensures.keys ∙ keys_replaced keys slots places size heap slot within c.args.key there
+
+pub settle-requires-2 : goal.settle-requires-2
+settle-requires-2 g c =
+    let sorted = c.args.sorted.now in
+    let slots = c.args.slots.now in
+    let places = c.args.places.now in
+    let slot = c.args.slot in
+    let count = c.args.count in
+    let size : ℕ = length sorted in
+    let keys = take count sorted in
+    let heap = c.requires.heap in
+    let within : slot < length places = c.requires.slot_in in
+    let many : length keys ≡ count = length-take-le count sorted c.requires.room in
+    let room = places_room keys slots places size heap slot within in
+    let absent : count ≤ slice_index places slot = omega (arith, c.if-place-count.false) in
+    let count_in : count < size = omega (arith, absent, room_in keys slots places size heap slot within) in
+    let at = entered_at sorted count c.args.key count_in in
+    let same : count ≡ length keys = sym many in
+    record {
+      but = subst (λ (xs : List Timed). IsHeapBut event_before (keys_of xs c.swap.new.places) c.swap.new.slots c.swap.new.places (length xs) count) (sym at)
+          (but_entered keys slots places size heap slot within c.args.key count same absent c.swap.new.slots c.swap.new.places c.swap.ensures.swapped c.swap.ensures.places);
+    }
+
+pub returns-clause-heap : goal.returns-clause-heap
+returns-clause-heap g c =
+    let sorted = c.args.sorted.now in
+    let slots = c.args.slots.now in
+    let places = c.args.places.now in
+    let slot = c.args.slot in
+    let count = c.args.count in
+    let size : ℕ = length sorted in
+    let keys = take count sorted in
+    let heap = c.requires.heap in
+    let within : slot < length places = c.requires.slot_in in
+    let many : length keys ≡ count = length-take-le count sorted c.requires.room in
+    let room = places_room keys slots places size heap slot within in
+    let absent : count ≤ slice_index places slot = omega (arith, c.if-place-count.false) in
+    let count_in : count < size = omega (arith, absent, room_in keys slots places size heap slot within) in
+    let at = entered_at sorted count c.args.key count_in in
+    let same : count ≡ length keys = sym many in
+    let old : List Timed = set (take (count + 1) sorted) count c.args.key in
+    let new = c.settle-2.new.sorted in
+    let each : length new ≡ count + 1 = omega (arith, c.settle-2.ensures.each, length-set (take (count + 1) sorted) count c.args.key, length-take-le (count + 1) sorted (omega (arith, count_in))) in
+    let front : take (count + 1) (new ++ drop (count + 1) sorted) ≡ new = take_at new (drop (count + 1) sorted) (count + 1) each in
+    let long : length (new ++ drop (count + 1) sorted) ≡ size = omega (arith, length-append new (drop (count + 1) sorted), length-drop (count + 1) sorted, each, count_in) in
+    let places_are = entered_long keys slots places size heap slot within c.args.key count same absent c.swap.new.slots c.swap.new.places c.swap.ensures.swapped c.swap.ensures.places in
+    subst (λ (xs : List Timed). IsSlotHeap event_before xs c.settle-2.new.slots c.settle-2.new.places (length (new ++ drop (count + 1) sorted))) (sym front)
+    (subst (IsSlotHeap event_before new c.settle-2.new.slots c.settle-2.new.places) (sym long)
+    (settled_heap old c.swap.new.places c.settle-2.new.slots c.settle-2.new.places (length old) c.settle-2.ensures.heap new size c.settle-2.ensures.each (omega (arith, places_are, room)) c.settle-2.ensures.keys))
+
+pub returns-clause-put : goal.returns-clause-put
+returns-clause-put g c =
+    let sorted = c.args.sorted.now in
+    let slots = c.args.slots.now in
+    let places = c.args.places.now in
+    let slot = c.args.slot in
+    let count = c.args.count in
+    let size : ℕ = length sorted in
+    let keys = take count sorted in
+    let heap = c.requires.heap in
+    let within : slot < length places = c.requires.slot_in in
+    let many : length keys ≡ count = length-take-le count sorted c.requires.room in
+    let room = places_room keys slots places size heap slot within in
+    let absent : count ≤ slice_index places slot = omega (arith, c.if-place-count.false) in
+    let count_in : count < size = omega (arith, absent, room_in keys slots places size heap slot within) in
+    let at = entered_at sorted count c.args.key count_in in
+    let same : count ≡ length keys = sym many in
+    let old : List Timed = set (take (count + 1) sorted) count c.args.key in
+    let new = c.settle-2.new.sorted in
+    let each : length new ≡ count + 1 = omega (arith, c.settle-2.ensures.each, length-set (take (count + 1) sorted) count c.args.key, length-take-le (count + 1) sorted (omega (arith, count_in))) in
+    let front : take (count + 1) (new ++ drop (count + 1) sorted) ≡ new = take_at new (drop (count + 1) sorted) (count + 1) each in
+    let long : length (new ++ drop (count + 1) sorted) ≡ size = omega (arith, length-append new (drop (count + 1) sorted), length-drop (count + 1) sorted, each, count_in) in
+    ap (λ (xs : List Timed). keys_of xs c.settle-2.new.places) front ∙ c.settle-2.ensures.keys ∙ ap (λ (xs : List Timed). keys_of xs c.swap.new.places) at
+    ∙ keys_entered keys slots places size heap slot within c.args.key count same absent c.swap.new.slots c.swap.new.places c.swap.ensures.swapped c.swap.ensures.places
