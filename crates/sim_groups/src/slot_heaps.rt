@@ -1,7 +1,7 @@
 // Heaps whose slots know their places, in one table.
 ghost use Rattle.std.specs.Prelude.{◌≡◌, ◌+◌, ◌*◌, ◌^◌, ◌<◌, ◌≤◌, ℕ, IfOk, IfSome, IsNone, Some, None, length, map, slice_get, slice_set, sum, take};
 ghost use Rattle.sim_order.specs.Events.{event_before};
-ghost use Rattle.sim_heaps.specs.Heap.{keys_of, IsSlotHeap};
+ghost use Rattle.sim_heaps.specs.Heap.{keys_of, IsHeap, IsHeapBut, IsSlotHeap};
 ghost use Rattle.sim_heaps.specs.Map.{no_keys, IsEmptyMap, IsLeast};
 ghost use Rattle.sim_groups.specs.declared.parts.Part.{Part};
 ghost use Rattle.sim_groups.specs.Groups.{heap_at, with_key};
@@ -67,6 +67,28 @@ fn in_order(alloc: Global, parts: &[Part], size: u32) -> Result<Vec<u32>, NoMemo
     Ok(places)
 }
 
+// Moves the slot at a place up or down until the order holds. A key alone stands as it is.
+#[inline(always)]
+fn settle_among<L: Ledger>(
+    sorted: &mut [CompactKey],
+    slots: &mut [u32],
+    places: &mut [u32],
+    place: usize,
+    steps: &mut Steps<L>,
+)
+    requires but { IsHeapBut event_before (keys_of sorted.old places.old) slots.old places.old (length sorted.old) place }
+    ensures each { length sorted.new ≡ length sorted.old }
+    ensures keys { keys_of sorted.new places.new ≡ keys_of sorted.old places.old }
+    ensures heap { IsHeap event_before (keys_of sorted.old places.old) slots.new places.new (length sorted.old) }
+    ensures counted { (k : ℕ) → length sorted.old ≤ 2 ^ k → steps.new ≤ steps.old + (2 * k + 1) }
+    ensures onward { steps.old ≤ steps.new }
+{
+    if sorted.len() <= 1 {
+        return;
+    }
+    settle(sorted, slots, places, place, steps);
+}
+
 // Gives a slot a key, where the first so many places have one. Answers how many have one then.
 #[inline(always)]
 fn write<L: Ledger>(
@@ -94,14 +116,14 @@ fn write<L: Ledger>(
     if place < count {
         let keys = &mut sorted[..count as usize];
         keys[place as usize] = key;
-        settle(keys, slots, places, place as usize, steps);
+        settle_among(keys, slots, places, place as usize, steps);
         return count;
     }
     let last = count as usize;
     let keys = &mut sorted[..last + 1];
     keys[last] = key;
     swap(slots, places, place as usize, last);
-    settle(keys, slots, places, last, steps);
+    settle_among(keys, slots, places, last, steps);
     count + 1
 }
 
@@ -139,7 +161,7 @@ fn erase<L: Ledger>(
     }
     let keys = &mut sorted[..left as usize];
     keys[place as usize] = last;
-    settle(keys, slots, places, place as usize, steps);
+    settle_among(keys, slots, places, place as usize, steps);
     left
 }
 

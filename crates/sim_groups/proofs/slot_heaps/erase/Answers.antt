@@ -57,8 +57,8 @@ returns-then-place-left-clause-dropped g c =
     let stays : slice_index places slot ≡ left = omega (arith, c.if-place-left.true) in
     keys_left keys slots places size heap slot within rest last are left same c.swap.new.slots c.swap.new.places c.swap.ensures.swapped c.swap.ensures.places stays
 
-pub settle-requires : goal.settle-requires
-settle-requires g c =
+pub settle_among-requires : goal.settle_among-requires
+settle_among-requires g c =
     let sorted = c.args.sorted.now in
     let slots = c.args.slots.now in
     let places = c.args.places.now in
@@ -106,13 +106,13 @@ returns-clause-heap g c =
     let same : left ≡ length rest = sym (length-take-le left sorted (omega (arith, left_in))) in
     let moves : slice_index places slot < left = omega (arith, c.if-place-left.false, present, more) in
     let old : List Timed = set rest (slice_index places slot) last in
-    let new = c.settle.new.sorted in
-    let each : length new ≡ left = omega (arith, c.settle.ensures.each, length-set rest (slice_index places slot) last, same) in
+    let new = c.settle_among.new.sorted in
+    let each : length new ≡ left = omega (arith, c.settle_among.ensures.each, length-set rest (slice_index places slot) last, same) in
     let front : take (left) (new ++ drop (left) sorted) ≡ new = take_at new (drop (left) sorted) (left) each in
     let long : length (new ++ drop (left) sorted) ≡ size = omega (arith, length-append new (drop (left) sorted), length-drop (left) sorted, each, left_in) in
-    subst (λ (xs : List Timed). IsSlotHeap event_before xs c.settle.new.slots c.settle.new.places (length (new ++ drop left sorted))) (sym front)
-    (subst (IsSlotHeap event_before new c.settle.new.slots c.settle.new.places) (sym long)
-    (settled_heap old c.swap.new.places c.settle.new.slots c.settle.new.places (length old) c.settle.ensures.heap new size c.settle.ensures.each (omega (arith, left_long keys slots places size heap slot within rest last are left same c.swap.new.slots c.swap.new.places c.swap.ensures.swapped c.swap.ensures.places, room)) c.settle.ensures.keys))
+    subst (λ (xs : List Timed). IsSlotHeap event_before xs c.settle_among.new.slots c.settle_among.new.places (length (new ++ drop left sorted))) (sym front)
+    (subst (IsSlotHeap event_before new c.settle_among.new.slots c.settle_among.new.places) (sym long)
+    (settled_heap old c.swap.new.places c.settle_among.new.slots c.settle_among.new.places (length old) c.settle_among.ensures.heap new size c.settle_among.ensures.each (omega (arith, left_long keys slots places size heap slot within rest last are left same c.swap.new.slots c.swap.new.places c.swap.ensures.swapped c.swap.ensures.places, room)) c.settle_among.ensures.keys))
 
 pub returns-clause-dropped : goal.returns-clause-dropped
 returns-clause-dropped g c =
@@ -138,8 +138,8 @@ returns-clause-dropped g c =
     let same : left ≡ length rest = sym (length-take-le left sorted (omega (arith, left_in))) in
     let moves : slice_index places slot < left = omega (arith, c.if-place-left.false, present, more) in
     let old : List Timed = set rest (slice_index places slot) last in
-    let new = c.settle.new.sorted in
-    let each : length new ≡ left = omega (arith, c.settle.ensures.each, length-set rest (slice_index places slot) last, same) in
+    let new = c.settle_among.new.sorted in
+    let each : length new ≡ left = omega (arith, c.settle_among.ensures.each, length-set rest (slice_index places slot) last, same) in
     let front : take (left) (new ++ drop (left) sorted) ≡ new = take_at new (drop (left) sorted) (left) each in
     let long : length (new ++ drop (left) sorted) ≡ size = omega (arith, length-append new (drop (left) sorted), length-drop (left) sorted, each, left_in) in
-    ap (λ (xs : List Timed). keys_of xs c.settle.new.places) front ∙ c.settle.ensures.keys ∙ keys_moved keys slots places size heap slot within rest last are left same c.swap.new.slots c.swap.new.places c.swap.ensures.swapped c.swap.ensures.places moves
+    ap (λ (xs : List Timed). keys_of xs c.settle_among.new.places) front ∙ c.settle_among.ensures.keys ∙ keys_moved keys slots places size heap slot within rest last are left same c.swap.new.slots c.swap.new.places c.swap.ensures.swapped c.swap.ensures.places moves

@@ -6,8 +6,8 @@ use Rattle.sim_heaps.specs.Heap.{keys_of, IsHeapBut, IsSlotHeap}
 use Rattle.sim_groups.proofs.SlotParts.{entered_at, settled_heap, room_in, places_room, keys_replaced, but_replaced, keys_entered, but_entered, entered_long}
 use Rattle.sim_groups.proofs.slot_heaps.write.Goals as goal
 
-pub settle-requires : goal.settle-requires
-settle-requires g c =
+pub settle_among-requires : goal.settle_among-requires
+settle_among-requires g c =
     let sorted = c.args.sorted.now in
     let slots = c.args.slots.now in
     let places = c.args.places.now in
@@ -37,13 +37,13 @@ returns-then-place-count-clause-heap g c =
     let room = places_room keys slots places size heap slot within in
     let there : slice_index places slot < length keys = omega (arith, c.if-place-count.true, many) in
     let old : List Timed = set keys (slice_index places slot) c.args.key in
-    let new = c.settle.new.sorted in
-    let each : length new ≡ count = omega (arith, c.settle.ensures.each, length-set keys (slice_index places slot) c.args.key, many) in
+    let new = c.settle_among.new.sorted in
+    let each : length new ≡ count = omega (arith, c.settle_among.ensures.each, length-set keys (slice_index places slot) c.args.key, many) in
     let front : take (count) (new ++ drop (count) sorted) ≡ new = take_at new (drop (count) sorted) (count) each in
     let long : length (new ++ drop (count) sorted) ≡ size = omega (arith, length-append new (drop (count) sorted), length-drop (count) sorted, each, c.requires.room) in
-    subst (λ (xs : List Timed). IsSlotHeap event_before xs c.settle.new.slots c.settle.new.places (length (new ++ drop count sorted))) (sym front)
-    (subst (IsSlotHeap event_before new c.settle.new.slots c.settle.new.places) (sym long)
-    (settled_heap old places c.settle.new.slots c.settle.new.places (length old) c.settle.ensures.heap new size c.settle.ensures.each room c.settle.ensures.keys))
+    subst (λ (xs : List Timed). IsSlotHeap event_before xs c.settle_among.new.slots c.settle_among.new.places (length (new ++ drop count sorted))) (sym front)
+    (subst (IsSlotHeap event_before new c.settle_among.new.slots c.settle_among.new.places) (sym long)
+    (settled_heap old places c.settle_among.new.slots c.settle_among.new.places (length old) c.settle_among.ensures.heap new size c.settle_among.ensures.each room c.settle_among.ensures.keys))
 
 pub returns-then-place-count-clause-put : goal.returns-then-place-count-clause-put
 returns-then-place-count-clause-put g c =
@@ -60,14 +60,14 @@ returns-then-place-count-clause-put g c =
     let room = places_room keys slots places size heap slot within in
     let there : slice_index places slot < length keys = omega (arith, c.if-place-count.true, many) in
     let old : List Timed = set keys (slice_index places slot) c.args.key in
-    let new = c.settle.new.sorted in
-    let each : length new ≡ count = omega (arith, c.settle.ensures.each, length-set keys (slice_index places slot) c.args.key, many) in
+    let new = c.settle_among.new.sorted in
+    let each : length new ≡ count = omega (arith, c.settle_among.ensures.each, length-set keys (slice_index places slot) c.args.key, many) in
     let front : take (count) (new ++ drop (count) sorted) ≡ new = take_at new (drop (count) sorted) (count) each in
     let long : length (new ++ drop (count) sorted) ≡ size = omega (arith, length-append new (drop (count) sorted), length-drop (count) sorted, each, c.requires.room) in
-    ap (λ (xs : List Timed). keys_of xs c.settle.new.places) front ∙ c.settle.ensures.keys ∙ keys_replaced keys slots places size heap slot within c.args.key there
+    ap (λ (xs : List Timed). keys_of xs c.settle_among.new.places) front ∙ c.settle_among.ensures.keys ∙ keys_replaced keys slots places size heap slot within c.args.key there
 
-pub settle-requires-2 : goal.settle-requires-2
-settle-requires-2 g c =
+pub settle_among-requires-2 : goal.settle_among-requires-2
+settle_among-requires-2 g c =
     let sorted = c.args.sorted.now in
     let slots = c.args.slots.now in
     let places = c.args.places.now in
@@ -106,14 +106,14 @@ returns-clause-heap g c =
     let at = entered_at sorted count c.args.key count_in in
     let same : count ≡ length keys = sym many in
     let old : List Timed = set (take (count + 1) sorted) count c.args.key in
-    let new = c.settle-2.new.sorted in
-    let each : length new ≡ count + 1 = omega (arith, c.settle-2.ensures.each, length-set (take (count + 1) sorted) count c.args.key, length-take-le (count + 1) sorted (omega (arith, count_in))) in
+    let new = c.settle_among-2.new.sorted in
+    let each : length new ≡ count + 1 = omega (arith, c.settle_among-2.ensures.each, length-set (take (count + 1) sorted) count c.args.key, length-take-le (count + 1) sorted (omega (arith, count_in))) in
     let front : take (count + 1) (new ++ drop (count + 1) sorted) ≡ new = take_at new (drop (count + 1) sorted) (count + 1) each in
     let long : length (new ++ drop (count + 1) sorted) ≡ size = omega (arith, length-append new (drop (count + 1) sorted), length-drop (count + 1) sorted, each, count_in) in
     let places_are = entered_long keys slots places size heap slot within c.args.key count same absent c.swap.new.slots c.swap.new.places c.swap.ensures.swapped c.swap.ensures.places in
-    subst (λ (xs : List Timed). IsSlotHeap event_before xs c.settle-2.new.slots c.settle-2.new.places (length (new ++ drop (count + 1) sorted))) (sym front)
-    (subst (IsSlotHeap event_before new c.settle-2.new.slots c.settle-2.new.places) (sym long)
-    (settled_heap old c.swap.new.places c.settle-2.new.slots c.settle-2.new.places (length old) c.settle-2.ensures.heap new size c.settle-2.ensures.each (omega (arith, places_are, room)) c.settle-2.ensures.keys))
+    subst (λ (xs : List Timed). IsSlotHeap event_before xs c.settle_among-2.new.slots c.settle_among-2.new.places (length (new ++ drop (count + 1) sorted))) (sym front)
+    (subst (IsSlotHeap event_before new c.settle_among-2.new.slots c.settle_among-2.new.places) (sym long)
+    (settled_heap old c.swap.new.places c.settle_among-2.new.slots c.settle_among-2.new.places (length old) c.settle_among-2.ensures.heap new size c.settle_among-2.ensures.each (omega (arith, places_are, room)) c.settle_among-2.ensures.keys))
 
 pub returns-clause-put : goal.returns-clause-put
 returns-clause-put g c =
@@ -133,9 +133,9 @@ returns-clause-put g c =
     let at = entered_at sorted count c.args.key count_in in
     let same : count ≡ length keys = sym many in
     let old : List Timed = set (take (count + 1) sorted) count c.args.key in
-    let new = c.settle-2.new.sorted in
-    let each : length new ≡ count + 1 = omega (arith, c.settle-2.ensures.each, length-set (take (count + 1) sorted) count c.args.key, length-take-le (count + 1) sorted (omega (arith, count_in))) in
+    let new = c.settle_among-2.new.sorted in
+    let each : length new ≡ count + 1 = omega (arith, c.settle_among-2.ensures.each, length-set (take (count + 1) sorted) count c.args.key, length-take-le (count + 1) sorted (omega (arith, count_in))) in
     let front : take (count + 1) (new ++ drop (count + 1) sorted) ≡ new = take_at new (drop (count + 1) sorted) (count + 1) each in
     let long : length (new ++ drop (count + 1) sorted) ≡ size = omega (arith, length-append new (drop (count + 1) sorted), length-drop (count + 1) sorted, each, count_in) in
-    ap (λ (xs : List Timed). keys_of xs c.settle-2.new.places) front ∙ c.settle-2.ensures.keys ∙ ap (λ (xs : List Timed). keys_of xs c.swap.new.places) at
+    ap (λ (xs : List Timed). keys_of xs c.settle_among-2.new.places) front ∙ c.settle_among-2.ensures.keys ∙ ap (λ (xs : List Timed). keys_of xs c.swap.new.places) at
     ∙ keys_entered keys slots places size heap slot within c.args.key count same absent c.swap.new.slots c.swap.new.places c.swap.ensures.swapped c.swap.ensures.places
