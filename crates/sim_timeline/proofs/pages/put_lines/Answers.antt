@@ -1,5 +1,4 @@
 use Rattle.std.proofs.Common.{ℕ, List, ◌++◌, take, get_or, ap, ◌∙◌, arith}
-use Rattle.std.proofs.lemmas.Grind.{common_steps}
 use Rattle.std.proofs.lemmas.List.{take_more, flat_map_more}
 use Rattle.goal_base.proofs.ForCallers.{line_behind}
 use Rattle.sim_timeline.specs.Timeline.{line_of}
@@ -22,5 +21,5 @@ loop-id-preserved g c =
           rw (take_more items i (record { rank = 0; op = 0 }) c.loop-id-test.true)
           (line_behind c.loop-id.out _ (take c.loop-id.end c.loop-id.lines) _ _ (lines id) c.in_ok-at.ensures.text ended
           ∙ ap (λ (l : List ℕ). l ++ lines id) c.loop-id.invariant.text ∙ flat_map_more lines c.args.out.now (take i items) id);
-      within = first_of (grind (arith, common_steps), omega (arith, c.put_operation-end.ensures.end, c.in_ok-at.ensures.room));
+      within = omega (arith, c.put_operation-end.ensures.end, c.in_ok-at.ensures.room);
     }
