@@ -5,6 +5,7 @@ use crate::answer::Ending;
 use goal_base::NoMemory;
 use goal_print::Blocks;
 use sim_classes::Machine;
+use sim_events::Unkept;
 use sim_params::LogGops;
 use sim_timeline::Lines;
 use std::alloc::Global;
@@ -30,9 +31,9 @@ pub enum Pages<'a> {
     // There are none.
     None,
     // The lines of the operations of a run.
-    Run(Lines<'a, LogGops>),
+    Run(Lines<'a, LogGops, Unkept>),
     // The same of a run on a machine.
-    RunOn(Lines<'a, Machine>),
+    RunOn(Lines<'a, Machine, Unkept>),
     // The blocks of a schedule.
     Blocks(Blocks<'a>),
 }
@@ -61,7 +62,7 @@ impl<'a> Pages<'a> {
     ghost use Rattle.goal_cli.specs.Pages.{left_of};
 
     // The lines of a run, where there are any.
-    pub fn of_run(lines: Option<Lines<'a, LogGops>>) -> Pages<'a>
+    pub fn of_run(lines: Option<Lines<'a, LogGops, Unkept>>) -> Pages<'a>
         ensures { left_of result ≡ unwrap_or lines.entry [] }
     {
         match lines {
@@ -71,7 +72,7 @@ impl<'a> Pages<'a> {
     }
 
     // The same of a run on a machine.
-    pub fn of_run_on(lines: Option<Lines<'a, Machine>>) -> Pages<'a>
+    pub fn of_run_on(lines: Option<Lines<'a, Machine, Unkept>>) -> Pages<'a>
         ensures { left_of result ≡ unwrap_or lines.entry [] }
     {
         match lines {

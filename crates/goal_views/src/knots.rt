@@ -6,17 +6,17 @@ ghost use Rattle.goal_views.specs.Views.{knots_shown};
 use goal_base::NoMemory;
 use goal_graph::Sched;
 use sim_cycles::{knots, knots_text};
-use sim_events::Engine;
+use sim_events::{Engine, History};
 use sim_params::Costs;
 use sim_stuck::explain;
 use sim_timeline::first_line;
 use std::alloc::Global;
 
 // The first line of the timeline of a run that is over, and the lines of the knots of its stuck operations.
-pub fn show_knots<C: Costs>(
+pub fn show_knots<C: Costs, H: History>(
     alloc: Global,
     sched: &Sched,
-    engine: &Engine<'_, C>,
+    engine: &Engine<'_, C, H>,
 ) -> Result<Vec<u8>, NoMemory>
     requires same { engine.now.plans ≡ sched.now }
     requires done { IsFinished engine.now.plans (C.model engine.now.costs) engine.now.history }

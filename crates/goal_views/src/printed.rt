@@ -7,7 +7,7 @@ ghost use Rattle.goal_views.specs.Views.{run_text};
 use crate::shown::Shown;
 use goal_base::NoMemory;
 use goal_graph::Sched;
-use sim_events::Engine;
+use sim_events::{Engine, Unkept};
 use sim_params::Costs;
 use sim_stuck::{explain, stuck_text};
 use sim_timeline::{Lines, first_line};
@@ -18,7 +18,7 @@ use std::alloc::Global;
 pub fn print_run<'a, C: Costs + Drop>(
     alloc: Global,
     sched: &'a Sched,
-    engine: Engine<'a, C>,
+    engine: Engine<'a, C, Unkept>,
 ) -> Result<Shown<'a, C>, NoMemory>
     requires same { engine.plans ≡ sched.now }
     requires done { IsFinished engine.plans (C.model engine.costs) engine.history }

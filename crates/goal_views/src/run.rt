@@ -16,7 +16,7 @@ use crate::sum::sum_up;
 use goal_base::NoMemory;
 use goal_graph::Sched;
 use goal_words::RunView;
-use sim_events::{Engine, EngineFault};
+use sim_events::{Engine, EngineFault, Unkept};
 use sim_order::Steps;
 use sim_params::Costs;
 use sim_stuck::is_stuck;
@@ -34,7 +34,7 @@ fn run_counted<'a, C: Costs + Drop, L: Ledger, M: Ledger, N: Ledger>(
     steps: &mut Steps<L>,
     looks: &mut Steps<M>,
     reads: &mut Steps<N>,
-) -> Result<Engine<'a, C>, EngineFault>
+) -> Result<Engine<'a, C, Unkept>, EngineFault>
     ensures fits { OnOk result (budget sched.now (C.model costs) < 2 ^ 63) }
     ensures run { IfOk result (λ engine. IsRunOf (C.model costs) sched.now engine) }
     ensures costs { IfOk result (λ engine. C.model engine.costs ≡ C.model costs) }
@@ -44,7 +44,7 @@ fn run_counted<'a, C: Costs + Drop, L: Ledger, M: Ledger, N: Ledger>(
     ensures looked { IfOk result (λ engine. looks.new ≤ looks.old + 8 * length engine.history) }
     ensures needed { IfOk result (λ engine. reads.new ≤ reads.old + 2 * all_needs sched.now + length (operations sched.now) + most_reads sched.now engine.history) }
 {
-    match Engine::new_counted(alloc, sched, costs, steps, reads) {
+    match Engine::start_counted(alloc, sched, costs, steps, reads) {
         Ok(engine) => {
             let mut engine = engine;
             engine.run_counted(steps, looks, reads);
@@ -62,7 +62,7 @@ fn run<'a, C: Costs + Drop, L: Ledger, M: Ledger, N: Ledger>(
     for_reads: Blank,
     sched: &'a Sched,
     costs: C,
-) -> Result<Engine<'a, C>, EngineFault>
+) -> Result<Engine<'a, C, Unkept>, EngineFault>
     requires name { blank.name ≡ L.name }
     requires parts { blank.parts ≡ L.parts }
     requires some { 0 < blank.parts }
@@ -87,7 +87,7 @@ fn run<'a, C: Costs + Drop, L: Ledger, M: Ledger, N: Ledger>(
 fn text_of<C: Costs>(
     alloc: Global,
     sched: &Sched,
-    engine: &Engine<'_, C>,
+    engine: &Engine<'_, C, Unkept>,
     view: RunView,
 ) -> Result<Vec<u8>, NoMemory>
     requires whole { view ≢ RunView.Printed }
@@ -105,7 +105,7 @@ fn text_of<C: Costs>(
 }
 
 // Gives back the memory of an engine. A function of its own keeps what goes here out of the proofs of its callers.
-fn let_go<C: Costs + Drop>(engine: Engine<'_, C>) {
+fn let_go<C: Costs + Drop>(engine: Engine<'_, C, Unkept>) {
     let _engine = engine;
 }
 
@@ -113,7 +113,7 @@ fn let_go<C: Costs + Drop>(engine: Engine<'_, C>) {
 fn show_whole<'a, C: Costs + Drop>(
     alloc: Global,
     sched: &'a Sched,
-    engine: Engine<'a, C>,
+    engine: Engine<'a, C, Unkept>,
     view: RunView,
 ) -> Result<Shown<'a, C>, NoMemory>
     requires whole { view ≢ RunView.Printed }
@@ -134,7 +134,7 @@ fn show_whole<'a, C: Costs + Drop>(
 fn show<'a, C: Costs + Drop>(
     alloc: Global,
     sched: &'a Sched,
-    engine: Engine<'a, C>,
+    engine: Engine<'a, C, Unkept>,
     view: RunView,
 ) -> Result<Shown<'a, C>, NoMemory>
     requires same { engine.plans ≡ sched.now }

@@ -1,6 +1,7 @@
 // What is shown of a run.
 ghost use Rattle.std.specs.Prelude.{◌≡◌, ◌++◌, [], None, unwrap_or};
 
+use sim_events::Unkept;
 use sim_params::Costs;
 use sim_timeline::Lines;
 use std::alloc::Global;
@@ -10,7 +11,7 @@ use std::alloc::Global;
 #[derive(Drop)]
 pub struct Shown<'a, C: Costs> {
     pub head: Vec<u8>,
-    pub lines: Option<Lines<'a, C>>,
+    pub lines: Option<Lines<'a, C, Unkept>>,
     pub tail: Vec<u8>,
     pub stuck: bool,
 }

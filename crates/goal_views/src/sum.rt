@@ -4,16 +4,16 @@ ghost use Rattle.goal_views.specs.Views.{sum_of_ends, probe_text};
 
 use goal_base::{NoMemory, TextOut};
 use goal_graph::Sched;
-use sim_events::Engine;
+use sim_events::{Engine, History};
 use sim_params::Costs;
 use sim_timeline::first_line;
 use std::alloc::Global;
 
 // The first line of the timeline, and the sum of all ends.
-pub fn sum_up<C: Costs>(
+pub fn sum_up<C: Costs, H: History>(
     alloc: Global,
     sched: &Sched,
-    engine: &Engine<'_, C>,
+    engine: &Engine<'_, C, H>,
 ) -> Result<Vec<u8>, NoMemory>
     requires same { engine.now.plans ≡ sched.now }
     ensures { IfOk result (λ text.
@@ -29,7 +29,7 @@ pub fn sum_up<C: Costs>(
 }
 
 // The sum of the ends of all operations that have one: of at most 2^20 numbers below 2^64.
-fn sum_of_ends<C: Costs>(sched: &Sched, engine: &Engine<'_, C>) -> u128
+fn sum_of_ends<C: Costs, H: History>(sched: &Sched, engine: &Engine<'_, C, H>) -> u128
     requires same { engine.now.plans ≡ sched.now }
     ensures { result ≡ sum_of_ends sched.now (C.model engine.now.costs) engine.now.history }
 {

@@ -8,7 +8,7 @@ use Rattle.sim_params.specs.Run.{IsRun}
 use Rattle.sim_state.specs.declared.cursor.Cursor.{Cursor}
 use Rattle.sim_state.specs.Engine.{View}
 use Rattle.sim_state.specs.Cursors.{IsCursorOf, AreCursors}
-use Rattle.sim_events.proofs.Kept.{all_kept}
+use Rattle.sim_events.proofs.Stays.{all_kept}
 
 module _ (plans : List Plan) (costs : CostModel) (a : Timed) (h : List Timed) (run : IsRun plans costs h) where
   cursor_kept : (x : OpId) (c : Cursor) → IsCursorOf plans costs h x c → IsCursorOf plans costs (a ∷ h) x c

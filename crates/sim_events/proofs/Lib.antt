@@ -1,5 +1,5 @@
 pub mod Keys
-pub mod Kept
+pub mod Stays
 mod Cursors
 pub mod Done
 pub mod Awaited

@@ -35,7 +35,7 @@ use Rattle.sim_events.specs.Queue.{AreFree, IsOfSchedule, IsQueueBut, IsQueue, H
 use Rattle.sim_events.proofs.Awaited.{IsConcerned, newly_allowed}
 use Rattle.sim_events.proofs.Done.{serve_or_not, served_is_done}
 use Rattle.sim_events.proofs.Keys.{before_event}
-use Rattle.sim_events.proofs.Kept.{time_after, free_first}
+use Rattle.sim_events.proofs.Stays.{time_after, free_first}
 use Rattle.sim_events.proofs.FreeAfter.{both_are}
 use Rattle.sim_events.proofs.Held.{free_held, free_at_once}
 

@@ -19,22 +19,22 @@ use crate::outlook::{Outlook, at_the_start, run_on, step_once};
 use goal_graph::{OpId, Sched, Timed};
 use sim_order::{CompactKey, Steps};
 use sim_params::Costs;
-use sim_state::{EngineFault, Record, State};
+use sim_state::{EngineFault, History, Kept, Record, State};
 use std::alloc::Global;
 use std::marker::{Brand, Model};
 use std::sync::ledger::{Blank, Ledger};
 
 /// Runs a schedule. Contracts see it as the plans of the schedule, the costs, and what has happened so far, newest
-/// first.
-pub struct Engine<'a, C: Costs> {
+/// first. Its type says whether the actions are kept that have happened: `Kept`, or `Unkept`, which takes no memory.
+pub struct Engine<'a, C: Costs, H: History = Kept> {
     // what has happened, and what is known of each operation
-    state: State<'a, C>,
+    state: State<'a, C, H>,
     // what may come, given back by a run once nothing may
     outlook: Option<Outlook>,
 }
 
 // It goes by a call, and not field by field: so those that let one go are shorter to prove.
-impl<C: Costs + Drop> Drop for Engine<'_, C> {
+impl<C: Costs + Drop, H: History> Drop for Engine<'_, C, H> {
     fn drop(self) {
         let Engine {
             state: _state,
@@ -43,7 +43,7 @@ impl<C: Costs + Drop> Drop for Engine<'_, C> {
     }
 }
 
-impl<'a, C: Costs> Model for Engine<'a, C> {
+impl<'a, C: Costs, H: History> Model for Engine<'a, C, H> {
     ghost use Rattle.sim_state.specs.Engine.{View};
     ghost use Rattle.sim_events.specs.Outlook.{IsOutlook};
 
@@ -64,7 +64,7 @@ impl<'a, C: Costs + Drop> Engine<'a, C> {
         ensures fits { OnOk result (budget sched.now (C.model costs) < 2 ^ 63) }
         ensures fault { IfErr result (IsEngineFault (budget sched.now (C.model costs))) }
     {
-        new_by::<C, Brand, Brand>(alloc, Blank::new(1), Blank::new(1), sched, costs)
+        Engine::<C, Kept>::start(alloc, sched, costs)
     }
 
     /// The same, with a counter of the comparisons of keys and one of the needs of operations that are looked at.
@@ -86,6 +86,38 @@ impl<'a, C: Costs + Drop> Engine<'a, C> {
         ensures counted { (k : ℕ) → length (operations sched.now) ≤ 2 ^ k → steps.new ≤ steps.old + cost_of_start k sched.now }
         ensures needed { reads.new ≤ reads.old + 2 * all_needs sched.now + length (operations sched.now) }
     {
+        Engine::<C, Kept>::start_counted(alloc, sched, costs, steps, reads)
+    }
+}
+
+impl<'a, C: Costs + Drop, H: History> Engine<'a, C, H> {
+    /// An engine before its first step, which keeps its actions or not, as its type says. Else as `new`.
+    pub fn start(alloc: Global, sched: &'a Sched, costs: C) -> Result<Engine<'a, C, H>, EngineFault>
+        ensures plans { IfOk result (λ e. e.plans ≡ sched.now) }
+        ensures costs { IfOk result (λ e. e.costs ≡ costs) }
+        ensures empty { IfOk result (λ e. e.history ≡ []) }
+        ensures fits { OnOk result (budget sched.now (C.model costs) < 2 ^ 63) }
+        ensures fault { IfErr result (IsEngineFault (budget sched.now (C.model costs))) }
+    {
+        start_by::<C, H, Brand, Brand>(alloc, Blank::new(1), Blank::new(1), sched, costs)
+    }
+
+    /// The same, with the counters of `new_counted`.
+    pub fn start_counted<L: Ledger, N: Ledger>(
+        alloc: Global,
+        sched: &'a Sched,
+        costs: C,
+        steps: &mut Steps<L>,
+        reads: &mut Steps<N>,
+    ) -> Result<Engine<'a, C, H>, EngineFault>
+        ensures plans { IfOk result (λ e. e.plans ≡ sched.now) }
+        ensures costs { IfOk result (λ e. e.costs ≡ costs) }
+        ensures empty { IfOk result (λ e. e.history ≡ []) }
+        ensures fits { OnOk result (budget sched.now (C.model costs) < 2 ^ 63) }
+        ensures fault { IfErr result (IsEngineFault (budget sched.now (C.model costs))) }
+        ensures counted { (k : ℕ) → length (operations sched.now) ≤ 2 ^ k → steps.new ≤ steps.old + cost_of_start k sched.now }
+        ensures needed { reads.new ≤ reads.old + 2 * all_needs sched.now + length (operations sched.now) }
+    {
         let state = State::new(alloc, sched, costs)?;
         let outlook = at_the_start(alloc, &state, steps, reads)?;
         Ok(Engine {
@@ -96,13 +128,13 @@ impl<'a, C: Costs + Drop> Engine<'a, C> {
 }
 
 // An engine before its first step, with a counter of its own.
-fn new_by<'a, C: Costs + Drop, L: Ledger, N: Ledger>(
+fn start_by<'a, C: Costs + Drop, H: History, L: Ledger, N: Ledger>(
     alloc: Global,
     blank: Blank,
     for_reads: Blank,
     sched: &'a Sched,
     costs: C,
-) -> Result<Engine<'a, C>, EngineFault>
+) -> Result<Engine<'a, C, H>, EngineFault>
     requires name { blank.name ≡ L.name }
     requires parts { blank.parts ≡ L.parts }
     requires some { 0 < blank.parts }
@@ -117,10 +149,19 @@ fn new_by<'a, C: Costs + Drop, L: Ledger, N: Ledger>(
 {
     let mut steps = Steps::<L>::new(blank);
     let mut reads = Steps::<N>::new(for_reads);
-    Engine::new_counted(alloc, sched, costs, &mut steps, &mut reads)
+    Engine::start_counted(alloc, sched, costs, &mut steps, &mut reads)
 }
 
 impl<'a, C: Costs> Engine<'a, C> {
+    /// What has happened, oldest first.
+    pub fn trace(&self) -> &[CompactKey]
+        ensures { result.now ≡ reverse self.now.history }
+    {
+        self.state.trace()
+    }
+}
+
+impl<'a, C: Costs, H: History> Engine<'a, C, H> {
     /// Lets the next action happen and answers it: the possible one of the least key. Where nothing is possible it
     /// answers None, and nothing changes.
     pub fn step(&mut self) -> Option<Timed>
@@ -134,7 +175,7 @@ impl<'a, C: Costs> Engine<'a, C> {
         let Some(outlook) = &mut self.outlook else {
             return None;
         };
-        step_once::<C, Brand, Brand, Brand, Brand>(
+        step_once::<C, H, Brand, Brand, Brand, Brand>(
             &mut self.state,
             outlook,
             Blank::new(1),
@@ -186,7 +227,7 @@ impl<'a, C: Costs> Engine<'a, C> {
     {
         self.known();
         if let Some(outlook) = &mut self.outlook {
-            run_on::<C, L, Brand, M, N>(
+            run_on::<C, H, L, Brand, M, N>(
                 &mut self.state,
                 outlook,
                 Blank::new(1),
@@ -233,13 +274,6 @@ impl<'a, C: Costs> Engine<'a, C> {
             Some(outlook) => is_empty::<Brand>(Blank::new(1), &outlook.queue),
             None => true,
         }
-    }
-
-    /// What has happened, oldest first.
-    pub fn trace(&self) -> &[CompactKey]
-        ensures { result.now ≡ reverse self.now.history }
-    {
-        self.state.trace()
     }
 
     /// What is known of an operation.

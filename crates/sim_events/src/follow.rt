@@ -19,7 +19,7 @@ ghost use Rattle.sim_events.specs.Queue.{IsOfSchedule, IsQueue, IsQueueBut, HasP
 use goal_graph::{Class, OpId, Timed, When};
 use sim_order::Steps;
 use sim_params::Costs;
-use sim_state::{Cursor, State, choice_from, compact};
+use sim_state::{Cursor, History, State, choice_from, compact};
 use sim_stations::StationQueue;
 use std::sync::ledger::{Blank, Ledger};
 
@@ -27,8 +27,8 @@ use std::sync::ledger::{Blank, Ledger};
 pub type Queue = StationQueue;
 
 /// Gives each operation its key, where none has one yet.
-pub fn fill<C: Costs, L: Ledger, N: Ledger>(
-    state: &State<C>,
+pub fn fill<C: Costs, H: History, L: Ledger, N: Ledger>(
+    state: &State<C, H>,
     queue: &mut Queue,
     cursors: &mut [Cursor],
     steps: &mut Steps<L>,
@@ -49,8 +49,8 @@ pub fn fill<C: Costs, L: Ledger, N: Ledger>(
 }
 
 /// The action that happens next, and its slot, none where nothing is possible.
-pub fn next<C: Costs, L: Ledger, R: Ledger>(
-    state: &State<C>,
+pub fn next<C: Costs, H: History, L: Ledger, R: Ledger>(
+    state: &State<C, H>,
     queue: &mut Queue,
     steps: &mut Steps<L>,
     moves: &mut Steps<R>,
@@ -79,8 +79,8 @@ pub fn next<C: Costs, L: Ledger, R: Ledger>(
 
 /// Takes out the key of an action that has happened. Where it holds a cpu the keys of all that wait for what it holds are
 /// raised.
-pub fn settle<C: Costs, L: Ledger>(
-    state: &State<C>,
+pub fn settle<C: Costs, H: History, L: Ledger>(
+    state: &State<C, H>,
     queue: &mut Queue,
     slot: u32,
     action: Timed,
@@ -104,8 +104,8 @@ pub fn settle<C: Costs, L: Ledger>(
 
 /// Gives their keys to those whose next action may be possible only since an action: its operation, the partner, and
 /// the operations that need the moment which it gives.
-pub fn follow<C: Costs, L: Ledger, N: Ledger>(
-    state: &State<C>,
+pub fn follow<C: Costs, H: History, L: Ledger, N: Ledger>(
+    state: &State<C, H>,
     queue: &mut Queue,
     cursors: &mut [Cursor],
     action: Timed,
@@ -127,8 +127,8 @@ pub fn follow<C: Costs, L: Ledger, N: Ledger>(
 }
 
 // Gives its key to the partner of the operation of an action, if it has one. After a Serve the partner is done.
-fn follow_partner<C: Costs, L: Ledger, N: Ledger>(
-    state: &State<C>,
+fn follow_partner<C: Costs, H: History, L: Ledger, N: Ledger>(
+    state: &State<C, H>,
     queue: &mut Queue,
     cursors: &mut [Cursor],
     action: Timed,
@@ -166,8 +166,8 @@ fn gives(class: Class, when: When) -> bool
 }
 
 // Gives their keys to the operations that need the moment which an action gives. An Arrive gives none.
-fn follow_waiting<C: Costs, L: Ledger, N: Ledger>(
-    state: &State<C>,
+fn follow_waiting<C: Costs, H: History, L: Ledger, N: Ledger>(
+    state: &State<C, H>,
     queue: &mut Queue,
     cursors: &mut [Cursor],
     action: Timed,
@@ -199,8 +199,8 @@ fn follow_waiting<C: Costs, L: Ledger, N: Ledger>(
 }
 
 // Gives an operation that has no key the one of its possible action, if it has one.
-fn refresh<C: Costs, L: Ledger, N: Ledger>(
-    state: &State<C>,
+fn refresh<C: Costs, H: History, L: Ledger, N: Ledger>(
+    state: &State<C, H>,
     queue: &mut Queue,
     cursors: &mut [Cursor],
     id: OpId,

@@ -9,7 +9,7 @@ mod station;
 
 pub use engine::Engine;
 pub use laws::laws_of_costs;
-pub use sim_state::{EngineFault, Record};
+pub use sim_state::{EngineFault, History, Kept, Record, Unkept};
 
 #[cfg(test)]
 mod tests;

@@ -19,7 +19,7 @@ use goal_base::NoMemory;
 use goal_graph::{Sched, Timed};
 use sim_order::Steps;
 use sim_params::Costs;
-use sim_state::{Cursor, State, at_first};
+use sim_state::{Cursor, History, State, at_first};
 use std::alloc::Global;
 use std::sync::ledger::{Blank, Ledger};
 
@@ -60,9 +60,9 @@ fn blank(alloc: Global, sched: &Sched) -> Result<Outlook, NoMemory>
 }
 
 /// What may come before the first action. Among 2^k operations it compares 10k + 16 times at most for each.
-pub fn at_the_start<C: Costs, L: Ledger, N: Ledger>(
+pub fn at_the_start<C: Costs, H: History, L: Ledger, N: Ledger>(
     alloc: Global,
-    state: &State<C>,
+    state: &State<C, H>,
     steps: &mut Steps<L>,
     reads: &mut Steps<N>,
 ) -> Result<Outlook, NoMemory>
@@ -84,8 +84,8 @@ pub fn at_the_start<C: Costs, L: Ledger, N: Ledger>(
 }
 
 // Lets the next action happen and answers it. What it compares is the cost of the action and of the changes of place.
-fn step<C: Costs, L: Ledger, R: Ledger, M: Ledger, N: Ledger>(
-    state: &mut State<C>,
+fn step<C: Costs, H: History, L: Ledger, R: Ledger, M: Ledger, N: Ledger>(
+    state: &mut State<C, H>,
     outlook: &mut Outlook,
     steps: &mut Steps<L>,
     moves: &mut Steps<R>,
@@ -120,8 +120,8 @@ fn step<C: Costs, L: Ledger, R: Ledger, M: Ledger, N: Ledger>(
 // Lets all that is possible happen. Among 2^k operations each action costs 18k + 29 comparisons at most, and each change of
 // place of a station 8k + 15, what the keys have cost that are there before it included. The matcher looks at eight
 // entries an action at most.
-fn run<C: Costs, L: Ledger, R: Ledger, M: Ledger, N: Ledger>(
-    state: &mut State<C>,
+fn run<C: Costs, H: History, L: Ledger, R: Ledger, M: Ledger, N: Ledger>(
+    state: &mut State<C, H>,
     outlook: &mut Outlook,
     steps: &mut Steps<L>,
     moves: &mut Steps<R>,
@@ -143,8 +143,8 @@ fn run<C: Costs, L: Ledger, R: Ledger, M: Ledger, N: Ledger>(
 
 /// Lets the next action happen and answers it: the possible one of the least key. Where nothing is possible it answers
 /// None, and nothing changes.
-pub fn step_once<C: Costs, L: Ledger, R: Ledger, M: Ledger, N: Ledger>(
-    state: &mut State<C>,
+pub fn step_once<C: Costs, H: History, L: Ledger, R: Ledger, M: Ledger, N: Ledger>(
+    state: &mut State<C, H>,
     outlook: &mut Outlook,
     blank: Blank,
     for_moves: Blank,
@@ -178,8 +178,8 @@ pub fn step_once<C: Costs, L: Ledger, R: Ledger, M: Ledger, N: Ledger>(
 
 /// Lets all that is possible happen, until nothing is. What it compares, and what the matcher looks at, is bounded by what has
 /// happened then.
-pub fn run_on<C: Costs, L: Ledger, R: Ledger, M: Ledger, N: Ledger>(
-    state: &mut State<C>,
+pub fn run_on<C: Costs, H: History, L: Ledger, R: Ledger, M: Ledger, N: Ledger>(
+    state: &mut State<C, H>,
     outlook: &mut Outlook,
     for_moves: Blank,
     steps: &mut Steps<L>,

@@ -1,5 +1,5 @@
 // A run with times worked by hand, and the engine beside a plain evaluator of the rules.
-use super::{Engine, EngineFault, Record};
+use super::{Engine, EngineFault, History, Record, Unkept};
 use goal_graph::{Class, Dep, Kind, Op, OpId, RankPlan, Sched, Timed, When};
 use sim_order::CompactKey;
 use sim_params::{LogGops, Params};
@@ -46,9 +46,9 @@ fn costs() -> Result<LogGops, Fail> {
 }
 
 // When an operation started and when it ends, and its partner.
-fn told(
+fn told<H: History>(
     rt: &impl Abort,
-    engine: &Engine<LogGops>,
+    engine: &Engine<LogGops, H>,
     rank: u32,
     op: u32,
 ) -> (Option<u64>, Option<u64>, Option<OpId>) {
@@ -111,6 +111,9 @@ fn a_large_message(rt: HostRuntime) -> Result<(), Fail> {
         told(&rt, &engine, 1, 0),
         (Some(0), Some(405_210), id(0, 0))
     );
+    let mut unkept = Engine::<LogGops, Unkept>::start(rt.alloc(), &sched, costs()?)?;
+    unkept.run();
+    assert_eq!(rt; told(&rt, &unkept, 1, 0), told(&rt, &engine, 1, 0));
     Ok(())
 }
 

@@ -1,6 +1,6 @@
 -- The fields of an engine after the next action.
-use Rattle.std.proofs.Common.{◌≡◌, ℕ, ◌<◌, ◌≤◌, ◌+◌, ◌*◌, ◌^◌, List, [], ◌∷◌, ◌++◌, length, map, take, drop, reverse, sym, ap, ◌∙◌, subst, arith}
-use Rattle.std.proofs.lemmas.List.{reverse-append, length-reverse, length-map}
+use Rattle.std.proofs.Common.{◌≡◌, ℕ, ◌<◌, ◌+◌, ◌*◌, ◌^◌, List, ◌∷◌, ◌++◌, length, map, take, drop, sym, ap, ◌∙◌, subst, arith}
+use Rattle.std.proofs.lemmas.List.{length-map}
 use Rattle.goal_graph.specs.declared.action.OpId.{OpId}
 use Rattle.goal_graph.specs.declared.action.Timed.{Timed}
 use Rattle.goal_graph.specs.Schedule.{Plan, kind_at, operations}
@@ -20,10 +20,6 @@ use Rattle.sim_state.proofs.Fits.{cpu_fits}
 use Rattle.sim_state.proofs.Places.{possible_exists}
 use Rattle.goal_graph.proofs.ForCallers.{whole_back}
 
--- one more at the end of a list is first in reverse
-reverse_push : {A : Type 0} (xs : List A) (x : A) → reverse (xs ++ x ∷ []) ≡ x ∷ reverse xs
-reverse_push xs x = reverse-append xs (x ∷ [])
-
 -- what is next after one of two views that are equal is next after the other
 pub next_at : {C : Type 0} (model : C → CostModel) (v w : View C) (a : Timed) → v ≡ w → IsNext w.plans (model w.costs) w.history a → IsNext v.plans (model v.costs) v.history a
 next_at {C} model v w a e = subst (λ (u : View C). IsNext u.plans (model u.costs) u.history a) (sym e)
@@ -36,7 +32,7 @@ entry_is {C} model v w x entry e f = f ∙ ap (λ (u : View C). entry_known u.pl
 pub work_is : {C : Type 0} (model : C → CostModel) (v w : View C) (x : OpId) (work : Work) → v ≡ w → work ≡ work_of w.plans (model w.costs) x → work ≡ work_of v.plans (model v.costs) x
 work_is {C} model v w x work e f = f ∙ ap (λ (u : View C). work_of u.plans (model u.costs) x) (sym e)
 
-module _ (plans : List Plan) (costs : CostModel) (h : List Timed) (entries : List Entry) (matcher : PostsAndArrivals) (res : Holds) (room : ℕ) (m : Represents plans costs h entries matcher res room) where
+module _ (plans : List Plan) (costs : CostModel) (h : List Timed) (entries : List Entry) (matcher : PostsAndArrivals) (res : Holds) (has_room : ℕ → Type 0) (m : Represents plans costs h entries matcher res has_room) where
   -- each operation has its entry
   pub each_entry : (lent : List Entry) → lent ≡ entries → length lent ≡ length (operations plans)
   each_entry lent e = ap length (e ∙ m.known) ∙ length-map (operations plans) (entry_known plans costs h)
@@ -55,50 +51,47 @@ module _ (plans : List Plan) (costs : CostModel) (h : List Timed) (entries : Lis
   pub end_fits : (a : Timed) → IsNext plans costs h a → (until : ℕ) → until ≡ a.time + cpu_hold plans costs h a.class a.op (kind_at plans a.op) → until < 2 ^ 63
   end_fits a next until e = omega (arith, e, cpu_fits plans costs h a m.run next.possible, m.within)
 
--- what an engine keeps: its history, oldest first, its tables, its matcher, its free times, and the room of its history
+-- what an engine keeps: its history, its table, its matcher and its free times
 pub record Parts : Type 0 where
-  pub items : List Timed
+  pub history : List Timed
   pub entries : List Entry
   pub matcher : PostsAndArrivals
   pub res : Holds
-  pub room : ℕ
 
 -- what it keeps after one action more, whose key was put to the history; its table of entries was lent to be written
 pub record Change (plans : List Plan) (costs : CostModel) (old : Parts) (a : Timed) : Type 0 where
-  pub items : List Timed
+  pub history : List Timed
   pub lent : List Entry
   pub written : List Entry
   pub count : ℕ
   pub matcher : PostsAndArrivals
   pub res : Holds
-  pub room : ℕ
   pub key : Timed
-  pub pushed : items ≡ old.items ++ key ∷ []
+  pub pushed : history ≡ key ∷ old.history
   pub same_action : key ≡ a
-  pub same_room : room ≡ old.room
   pub whole : count ≡ length old.entries
   pub same_table : lent ≡ old.entries
   pub kept : length written ≡ length lent
-  pub told : written ≡ map (entry_known plans costs (a ∷ reverse old.items)) (operations plans)
-  pub posts_and_arrivals : KnowsPostsAndArrivals plans costs (a ∷ reverse old.items) matcher
-  pub free : AreFreeTimes plans costs (a ∷ reverse old.items) res
+  pub told : written ≡ map (entry_known plans costs (a ∷ old.history)) (operations plans)
+  pub posts_and_arrivals : KnowsPostsAndArrivals plans costs (a ∷ old.history) matcher
+  pub free : AreFreeTimes plans costs (a ∷ old.history) res
 
-module _ (plans : List Plan) (costs : CostModel) (old : Parts) (m : Represents plans costs (reverse old.items) old.entries old.matcher old.res old.room) (a : Timed) (next : IsNext plans costs (reverse old.items) a) where
+module _ (plans : List Plan) (costs : CostModel) (has_room : ℕ → Type 0) (old : Parts) (m : Represents plans costs old.history old.entries old.matcher old.res has_room) (a : Timed) (next : IsNext plans costs old.history a) where
   -- there is room for the next action
-  pub room_left : length old.items < old.room
-  room_left = omega (arith, possible_room plans costs (reverse old.items) a m.run next.possible, length-reverse old.items, m.roomy)
+  pub room_left : (count : ℕ) × has_room count × (length old.history < count)
+  room_left = (3 * length (operations plans), m.roomy, omega (arith, possible_room plans costs old.history a m.run next.possible))
 
-  pub performed : (new : Change plans costs old a) → Represents plans costs (reverse new.items) (take new.count (new.written ++ drop (length new.written) old.entries)) new.matcher new.res new.room
-  performed new =
+  pub performed : (has_room_still : ℕ → Type 0) → ((count : ℕ) → has_room count → has_room_still count) → (new : Change plans costs old a) → Represents plans costs new.history (take new.count (new.written ++ drop (length new.written) old.entries)) new.matcher new.res has_room_still
+  performed has_room_still roomy new =
       let table : take new.count (new.written ++ drop (length new.written) old.entries) ≡ new.written = whole_back new.count new.written old.entries (new.kept ∙ ap length new.same_table) new.whole in
-      let list : a ∷ reverse old.items ≡ reverse new.items = sym (ap reverse new.pushed ∙ reverse_push old.items new.key ∙ ap (λ (b : Timed). b ∷ reverse old.items) new.same_action) in
-      let after : Represents plans costs (a ∷ reverse old.items) (take new.count (new.written ++ drop (length new.written) old.entries)) new.matcher new.res new.room = record {
+      let list : a ∷ old.history ≡ new.history = sym (new.pushed ∙ ap (λ (b : Timed). b ∷ old.history) new.same_action) in
+      let after : Represents plans costs (a ∷ old.history) (take new.count (new.written ++ drop (length new.written) old.entries)) new.matcher new.res has_room_still = record {
         accepted = m.accepted;
         within = m.within;
         run = (m.run, next);
         known = table ∙ new.told;
         posts_and_arrivals = new.posts_and_arrivals;
         free = new.free;
-        roomy = subst (λ (r : ℕ). 3 * length (operations plans) ≤ r) (sym new.same_room) m.roomy;
+        roomy = roomy (3 * length (operations plans)) m.roomy;
       } in
-      subst (λ (h : List Timed). Represents plans costs h (take new.count (new.written ++ drop (length new.written) old.entries)) new.matcher new.res new.room) list after
+      subst (λ (h : List Timed). Represents plans costs h (take new.count (new.written ++ drop (length new.written) old.entries)) new.matcher new.res has_room_still) list after

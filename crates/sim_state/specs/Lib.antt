@@ -3,6 +3,7 @@ pub mod Engine
 -- What only the code keeps.
 pub mod Moments
 pub mod Partners
+pub mod Unkept
 pub mod Tables
 pub mod Enabled
 pub mod Shapes

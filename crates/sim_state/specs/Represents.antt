@@ -1,5 +1,5 @@
 -- What an engine keeps of its history.
-use Rattle.std.specs.Prelude.{ℕ, ◌+◌, ◌≡◌, ◌≤◌, ◌<◌, ◌*◌, ◌^◌, List, filter, map, length, Option, Some, None, if◌then◌else◌}
+use Rattle.std.specs.Prelude.{ℕ, ◌+◌, ◌≡◌, ◌<◌, ◌*◌, ◌^◌, List, filter, map, length, Option, Some, None, if◌then◌else◌}
 use Rattle.std.specs.Option.{option_map}
 use Rattle.goal_graph.specs.declared.action.OpId.{OpId}
 use Rattle.goal_graph.specs.declared.action.Timed.{Timed}
@@ -56,11 +56,11 @@ module _ (plans : List Plan) (costs : CostModel) (h : List Timed) where
     pub events : matcher.actions ≡ filter is_post_or_arrival (plain h)
 
   -- There is an entry for each operation, in their order, and room for every action of a run.
-  pub record Represents (entries : List Entry) (matcher : PostsAndArrivals) (res : Holds) (room : ℕ) : Type 0 where
+  pub record Represents (entries : List Entry) (matcher : PostsAndArrivals) (res : Holds) (has_room : ℕ → Type 0) : Type 0 where
     pub accepted : IsAccepted plans
     pub within : budget plans costs < 2 ^ 63
     pub run : IsRun plans costs h
     pub known : entries ≡ map entry_known (operations plans)
     pub posts_and_arrivals : KnowsPostsAndArrivals matcher
     pub free : AreFreeTimes res
-    pub roomy : 3 * length (operations plans) ≤ room
+    pub roomy : has_room (3 * length (operations plans))

@@ -7,6 +7,7 @@ ghost use Rattle.sim_state.specs.Cursors.{IsCursorOf, AreCursors, cursor_at, IsL
 ghost use Rattle.sim_state.specs.Enabled.{IsEnabledActionOf};
 
 use crate::cursor::Cursor;
+use crate::history::History;
 use crate::state::State;
 use goal_graph::{OpId, Sched, Timed};
 use sim_order::Steps;
@@ -23,7 +24,7 @@ pub fn at_first(alloc: Global, sched: &Sched) -> Result<Vec<Cursor>, AllocError>
 }
 
 // The cursor of an operation.
-fn cursor_of<C: Costs>(state: &State<C>, cursors: &[Cursor], id: OpId) -> Cursor
+fn cursor_of<C: Costs, H: History>(state: &State<C, H>, cursors: &[Cursor], id: OpId) -> Cursor
     requires exists { IsOp state.now.plans id }
     requires cursors { AreCursors state.now.plans (C.model state.now.costs) state.now.history cursors.now }
     ensures is { IsCursorOf state.now.plans (C.model state.now.costs) state.now.history id result }
@@ -35,8 +36,8 @@ fn cursor_of<C: Costs>(state: &State<C>, cursors: &[Cursor], id: OpId) -> Cursor
 /// The possible action of an operation, if it has one. Its needs are looked at from its cursor on, which goes on past
 /// those that are met. A counter tells how many are looked at: as many as the cursor goes on by, one more, before which it may stop,
 /// and all once more where the action starts the operation.
-pub fn choice_from<C: Costs, L: Ledger>(
-    state: &State<C>,
+pub fn choice_from<C: Costs, H: History, L: Ledger>(
+    state: &State<C, H>,
     cursors: &mut [Cursor],
     id: OpId,
     looks: &mut Steps<L>,

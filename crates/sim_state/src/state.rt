@@ -19,6 +19,7 @@ ghost use Rattle.sim_state.specs.Free.{free, side};
 
 use crate::entry::{Entry, first_entries, read};
 use crate::fault::EngineFault;
+use crate::history::{History, Kept};
 use crate::record::Record;
 use crate::shape::Shape;
 use crate::work::Work;
@@ -35,12 +36,12 @@ mod enabled;
 mod perform;
 
 /// A schedule under way. Contracts see it as the plans of the schedule, the costs, and what has happened so far, newest
-/// first.
-pub struct State<'a, C: Costs> {
+/// first. Whether the actions are kept that have happened says its type.
+pub struct State<'a, C: Costs, H: History = Kept> {
     sched: &'a Sched,
     costs: C,
-    // what has happened, oldest first
-    history: Vec<CompactKey>,
+    // what has happened
+    history: H,
     // what is known of each operation, in the order of all
     entries: Vec<Entry>,
     // who is paired with whom
@@ -50,7 +51,7 @@ pub struct State<'a, C: Costs> {
 }
 
 // It goes by a call, and not field by field: so those that let one go are shorter to prove.
-impl<C: Costs + Drop> Drop for State<'_, C> {
+impl<C: Costs + Drop, H: History> Drop for State<'_, C, H> {
     fn drop(self) {
         let State {
             sched: _,
@@ -63,22 +64,21 @@ impl<C: Costs + Drop> Drop for State<'_, C> {
     }
 }
 
-impl<'a, C: Costs> Model for State<'a, C> {
-    ghost use Rattle.std.specs.Prelude.{reverse, vec_capacity};
+impl<'a, C: Costs, H: History> Model for State<'a, C, H> {
     ghost use Rattle.sim_state.specs.Engine.{View};
     ghost use Rattle.sim_state.specs.Represents.{Represents};
 
     ghost Value = { View C };
 
-    ghost view = { λ e. record { plans = e.sched.now; costs = e.costs; history = reverse e.history.items } };
+    ghost view = { λ e. record { plans = e.sched.now; costs = e.costs; history = H.actions e.history } };
 
-    ghost invariant = { λ e. Represents e.sched.now (C.model e.costs) (reverse e.history.items) e.entries.items e.matcher e.resources (vec_capacity e.history) };
+    ghost invariant = { λ e. Represents e.sched.now (C.model e.costs) (H.actions e.history) e.entries.items e.matcher e.resources (H.has_room e.history) };
 }
 
-impl<'a, C: Costs + Drop> State<'a, C> {
+impl<'a, C: Costs + Drop, H: History> State<'a, C, H> {
     /// A schedule before its first action. It takes all memory of the run; no later call takes any. Where the time budget
     /// is over 2^63-1 the fault carries it, whether memory is there or not.
-    pub fn new(alloc: Global, sched: &'a Sched, costs: C) -> Result<State<'a, C>, EngineFault>
+    pub fn new(alloc: Global, sched: &'a Sched, costs: C) -> Result<State<'a, C, H>, EngineFault>
         ensures plans { IfOk result (λ e. e.plans ≡ sched.now) }
         ensures costs { IfOk result (λ e. e.costs ≡ costs) }
         ensures empty { IfOk result (λ e. e.history ≡ []) }
@@ -92,7 +92,7 @@ impl<'a, C: Costs + Drop> State<'a, C> {
         }
         let _plans = sched.plans();
         let count = sched.count() as usize;
-        let history = Vec::with_capacity(alloc, 3 * count)?;
+        let history = H::with_room(alloc, 3 * count)?;
         let entries = first_entries(alloc, sched, &costs)?;
         let matcher = Matcher::new(alloc, sched)?;
         let resources = Resources::new(alloc, sched)?;
@@ -112,9 +112,11 @@ impl<'a, C: Costs> State<'a, C> {
     pub fn trace(&self) -> &[CompactKey]
         ensures { result.now ≡ reverse self.now.history }
     {
-        self.history.as_slice()
+        self.history.keys.as_slice()
     }
+}
 
+impl<'a, C: Costs, H: History> State<'a, C, H> {
     /// What is known of an operation.
     pub fn record(&self, id: OpId) -> Record
         requires { IsOp self.now.plans id }

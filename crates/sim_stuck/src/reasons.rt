@@ -15,7 +15,7 @@ ghost use Rattle.sim_stuck.specs.Laws.{IsInOrder, NamesListed, ListsStuck, Alone
 use crate::partner::Firsts;
 use goal_base::NoMemory;
 use goal_graph::{OpId, Sched, Stuck, When, Why};
-use sim_events::Engine;
+use sim_events::{Engine, History};
 use sim_params::Costs;
 use std::alloc::{AllocError, Global};
 
@@ -31,10 +31,10 @@ use std::alloc::{AllocError, Global};
 /// - `alone`: each operation that fits one that is alone has started, and is paired with another.
 ///
 /// The first operation that fits is found by pattern, in logarithmic time. `NoMemory` where memory ran out.
-pub fn explain<C: Costs>(
+pub fn explain<C: Costs, H: History>(
     alloc: Global,
     sched: &Sched,
-    engine: &Engine<'_, C>,
+    engine: &Engine<'_, C, H>,
 ) -> Result<Vec<Stuck>, NoMemory>
     requires same { engine.now.plans ≡ sched.now }
     requires done { IsFinished engine.now.plans (C.model engine.now.costs) engine.now.history }
@@ -65,7 +65,10 @@ pub fn explain<C: Costs>(
 }
 
 // The operations that have no end, by rank and number.
-fn unended<C: Costs>(alloc: Global, engine: &Engine<'_, C>) -> Result<Vec<OpId>, AllocError>
+fn unended<C: Costs, H: History>(
+    alloc: Global,
+    engine: &Engine<'_, C, H>,
+) -> Result<Vec<OpId>, AllocError>
     ensures { IfOk result (λ ids. ids.items
         ≡ filter (λ x. not (has_ended engine.now.plans (is_eager engine.now.plans (C.model engine.now.costs)) x
         (plain engine.now.history))) (operations engine.now.plans)) }
@@ -80,7 +83,10 @@ fn unended<C: Costs>(alloc: Global, engine: &Engine<'_, C>) -> Result<Vec<OpId>,
 }
 
 // The operations that have not started, by rank and number.
-fn unstarted<C: Costs>(alloc: Global, engine: &Engine<'_, C>) -> Result<Vec<OpId>, AllocError>
+fn unstarted<C: Costs, H: History>(
+    alloc: Global,
+    engine: &Engine<'_, C, H>,
+) -> Result<Vec<OpId>, AllocError>
     ensures { IfOk result (λ ids. ids.items
         ≡ filter (λ x. not (has_started engine.now.plans x (plain engine.now.history))) (operations engine.now.plans)) }
 {
@@ -94,7 +100,7 @@ fn unstarted<C: Costs>(alloc: Global, engine: &Engine<'_, C>) -> Result<Vec<OpId
 }
 
 // The reason of an operation that has no end; `firsts` are of the operations that have not started.
-fn reason<C: Costs>(engine: &Engine<'_, C>, firsts: &Firsts, id: OpId) -> Why
+fn reason<C: Costs, H: History>(engine: &Engine<'_, C, H>, firsts: &Firsts, id: OpId) -> Why
     requires op { IsOp engine.now.plans id }
     requires firsts { AreFirsts engine.now.plans
         (filter (λ x. not (has_started engine.now.plans x (plain engine.now.history))) (operations engine.now.plans))
@@ -111,7 +117,7 @@ fn reason<C: Costs>(engine: &Engine<'_, C>, firsts: &Firsts, id: OpId) -> Why
 }
 
 // The first operation, in the order of the dependencies, that an operation needs and that is not there.
-fn first_unmet<C: Costs>(engine: &Engine<'_, C>, id: OpId) -> Option<OpId>
+fn first_unmet<C: Costs, H: History>(engine: &Engine<'_, C, H>, id: OpId) -> Option<OpId>
     requires { IsOp engine.now.plans id }
     ensures { result ≡ option_map (needed id) (first_unmet engine.now.plans
         (is_eager engine.now.plans (C.model engine.now.costs)) (plain engine.now.history) id) }
@@ -129,7 +135,7 @@ fn first_unmet<C: Costs>(engine: &Engine<'_, C>, id: OpId) -> Option<OpId>
 }
 
 // Whether the moment of an operation that a dependency waits for is there.
-fn is_met<C: Costs>(engine: &Engine<'_, C>, when: When, id: OpId) -> bool
+fn is_met<C: Costs, H: History>(engine: &Engine<'_, C, H>, when: When, id: OpId) -> bool
     requires { IsOp engine.now.plans id }
     ensures { result ≡ is_met engine.now.plans (is_eager engine.now.plans (C.model engine.now.costs))
         (plain engine.now.history) when id }
@@ -141,7 +147,7 @@ fn is_met<C: Costs>(engine: &Engine<'_, C>, when: When, id: OpId) -> bool
 }
 
 /// Whether an operation has an end.
-pub fn has_ended<C: Costs>(engine: &Engine<'_, C>, id: OpId) -> bool
+pub fn has_ended<C: Costs, H: History>(engine: &Engine<'_, C, H>, id: OpId) -> bool
     requires { IsOp engine.now.plans id }
     ensures { result ≡ has_ended engine.now.plans (is_eager engine.now.plans (C.model engine.now.costs)) id
         (plain engine.now.history) }
@@ -150,7 +156,7 @@ pub fn has_ended<C: Costs>(engine: &Engine<'_, C>, id: OpId) -> bool
 }
 
 // Whether an operation has started.
-fn has_started<C: Costs>(engine: &Engine<'_, C>, id: OpId) -> bool
+fn has_started<C: Costs, H: History>(engine: &Engine<'_, C, H>, id: OpId) -> bool
     requires { IsOp engine.now.plans id }
     ensures { result ≡ has_started engine.now.plans id (plain engine.now.history) }
 {

@@ -6,7 +6,7 @@ ghost use Rattle.sim_timeline.specs.Pages.{IsSummary, is_unread_send};
 
 use goal_base::{NoMemory, TextOut, put_pair, put_time, put_word};
 use goal_graph::{Kind, Op, OpId, Sched};
-use sim_events::{Engine, Record};
+use sim_events::{Engine, History, Record};
 use sim_params::Costs;
 use std::alloc::Global;
 
@@ -16,10 +16,10 @@ pub const LINE: usize = 112;
 /// The first line of the timeline of an engine whose run is over: `ranks P ops N stuck K unread U finish T`, how many
 /// operations there are, how many of them have no end, how many messages have begun and are taken by no receive, and the
 /// last end, in nanoseconds. `NoMemory` where memory ran out.
-pub fn first_line<C: Costs>(
+pub fn first_line<C: Costs, H: History>(
     alloc: Global,
     sched: &Sched,
-    engine: &Engine<'_, C>,
+    engine: &Engine<'_, C, H>,
 ) -> Result<Vec<u8>, NoMemory>
     requires same { engine.now.plans ≡ sched.now }
     ensures { IfOk result (λ text.
@@ -31,10 +31,10 @@ pub fn first_line<C: Costs>(
 }
 
 /// Appends the first line.
-pub fn put_first_line<C: Costs>(
+pub fn put_first_line<C: Costs, H: History>(
     out: &mut TextOut,
     sched: &Sched,
-    engine: &Engine<'_, C>,
+    engine: &Engine<'_, C, H>,
 ) -> Result<(), NoMemory>
     requires same { engine.now.plans ≡ sched.now }
     ensures { OnOk result (out.new
@@ -70,7 +70,7 @@ impl Summary {
 }
 
 // The summary of all operations, of an engine whose run is over.
-fn sum_up<C: Costs>(sched: &Sched, engine: &Engine<'_, C>) -> Summary
+fn sum_up<C: Costs, H: History>(sched: &Sched, engine: &Engine<'_, C, H>) -> Summary
     requires same { engine.now.plans ≡ sched.now }
     ensures { IsSummary sched.now (C.model engine.now.costs) engine.now.history (operations sched.now)
         result.stuck result.unread result.finish }

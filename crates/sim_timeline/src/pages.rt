@@ -8,7 +8,7 @@ ghost use Rattle.sim_timeline.specs.Timeline.{line_of, timeline};
 use crate::lines::{LINE, put_first_line, put_operation};
 use goal_base::{NoMemory, TextOut};
 use goal_graph::{OpId, Sched};
-use sim_events::Engine;
+use sim_events::{Engine, History, Kept};
 use sim_params::Costs;
 use std::alloc::Global;
 use std::marker::Model;
@@ -28,13 +28,13 @@ const LINES: usize = 1024;
 /// The line of an operation is `op R I calc start A end B`, `op R I send start A end B match Q J`, or the same with `recv`;
 /// times are in nanoseconds, and what is absent is a dash.
 #[derive(Drop)]
-pub struct Lines<'a, C: Costs> {
-    engine: Engine<'a, C>,
+pub struct Lines<'a, C: Costs, H: History = Kept> {
+    engine: Engine<'a, C, H>,
     // of how many operations the lines have come
     done: usize,
 }
 
-impl<'a, C: Costs> Model for Lines<'a, C> {
+impl<'a, C: Costs, H: History> Model for Lines<'a, C, H> {
     ghost use Rattle.std.specs.Prelude.{ℕ, List, ◌≤◌, length};
     ghost use Rattle.goal_graph.specs.Schedule.{operations};
     ghost use Rattle.sim_timeline.specs.Pages.{lines_from};
@@ -46,9 +46,9 @@ impl<'a, C: Costs> Model for Lines<'a, C> {
     ghost invariant = { λ l. l.done ≤ length (operations l.engine.plans) };
 }
 
-impl<'a, C: Costs> Lines<'a, C> {
+impl<'a, C: Costs, H: History> Lines<'a, C, H> {
     /// The lines of all operations.
-    pub fn new(engine: Engine<'a, C>) -> Lines<'a, C>
+    pub fn new(engine: Engine<'a, C, H>) -> Lines<'a, C, H>
         ensures { result ≡ flat_map (line_of engine.entry.plans (C.model engine.entry.costs) engine.entry.history)
             (operations engine.entry.plans) }
     {
@@ -74,9 +74,9 @@ impl<'a, C: Costs> Lines<'a, C> {
 }
 
 // The lines of these operations.
-fn page_of<C: Costs>(
+fn page_of<C: Costs, H: History>(
     alloc: Global,
-    engine: &Engine<'_, C>,
+    engine: &Engine<'_, C, H>,
     ids: &[OpId],
 ) -> Result<Vec<u8>, NoMemory>
     requires { All (IsOp engine.now.plans) ids.now }
@@ -89,9 +89,9 @@ fn page_of<C: Costs>(
 }
 
 // Appends the lines of these operations.
-fn put_lines<C: Costs>(
+fn put_lines<C: Costs, H: History>(
     out: &mut TextOut,
-    engine: &Engine<'_, C>,
+    engine: &Engine<'_, C, H>,
     ids: &[OpId],
 ) -> Result<(), NoMemory>
     requires { All (IsOp engine.now.plans) ids.now }
@@ -110,10 +110,10 @@ fn put_lines<C: Costs>(
 
 /// The timeline of an engine whose run is over, whole: the first line, and then the lines of all operations, by rank and
 /// number. `Lines` gives what follows the first line page by page. `NoMemory` where memory ran out.
-pub fn timeline<C: Costs>(
+pub fn timeline<C: Costs, H: History>(
     alloc: Global,
     sched: &Sched,
-    engine: &Engine<'_, C>,
+    engine: &Engine<'_, C, H>,
 ) -> Result<Vec<u8>, NoMemory>
     requires same { engine.now.plans ≡ sched.now }
     ensures { IfOk result (λ text.

@@ -8,11 +8,14 @@ ghost use Rattle.sim_waits.specs.WaitsText.{oversize_by, oversize_line, oversize
 
 use goal_base::{NoMemory, TextOut};
 use goal_graph::{Kind, OpId};
-use sim_events::Engine;
+use sim_events::{Engine, History};
 use sim_params::Costs;
 
 /// Appends the lines of the receives that take a message with more bytes than they have, by rank and number.
-pub fn put_oversize<C: Costs>(out: &mut TextOut, engine: &Engine<'_, C>) -> Result<(), NoMemory>
+pub fn put_oversize<C: Costs, H: History>(
+    out: &mut TextOut,
+    engine: &Engine<'_, C, H>,
+) -> Result<(), NoMemory>
     ensures { OnOk result (out.new ≡ out.old ++ flat_map
         (oversize_of engine.now.plans (C.model engine.now.costs) engine.now.history) (operations engine.now.plans)) }
 {
@@ -23,7 +26,7 @@ pub fn put_oversize<C: Costs>(out: &mut TextOut, engine: &Engine<'_, C>) -> Resu
 }
 
 // What the partner of an operation does, if it has one.
-fn message<C: Costs>(engine: &Engine<'_, C>, id: OpId) -> Option<Kind>
+fn message<C: Costs, H: History>(engine: &Engine<'_, C, H>, id: OpId) -> Option<Kind>
     requires { IsOp engine.now.plans id }
     ensures { result ≡ kind_of_partner engine.now.plans
         (mate engine.now.plans (C.model engine.now.costs) engine.now.history id) }

@@ -8,11 +8,14 @@ ghost use Rattle.sim_waits.specs.WaitKeys.{places_at};
 use crate::wait::wait;
 use goal_base::{NoMemory, TextOut};
 use goal_graph::OpId;
-use sim_events::Engine;
+use sim_events::{Engine, History};
 use sim_params::Costs;
 
 /// Appends the line of each rank, in order.
-pub fn put_ranks<C: Costs>(out: &mut TextOut, engine: &Engine<'_, C>) -> Result<(), NoMemory>
+pub fn put_ranks<C: Costs, H: History>(
+    out: &mut TextOut,
+    engine: &Engine<'_, C, H>,
+) -> Result<(), NoMemory>
     ensures { OnOk result (out.new ≡ out.old ++ rank_lines engine.now.plans (C.model engine.now.costs)
         engine.now.history 0 engine.now.plans) }
 {
@@ -50,7 +53,7 @@ impl RankWaits {
 }
 
 // What the line of a rank tells.
-fn rank_waits<C: Costs>(engine: &Engine<'_, C>, rank: u32) -> RankWaits
+fn rank_waits<C: Costs, H: History>(engine: &Engine<'_, C, H>, rank: u32) -> RankWaits
     requires { rank < length engine.now.plans }
     ensures ended { result.ended ≡ count_by (ended engine.now.plans (C.model engine.now.costs) engine.now.history)
         (places_at engine.now.plans rank) }

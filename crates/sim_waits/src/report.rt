@@ -7,7 +7,7 @@ use crate::oversize::put_oversize;
 use crate::ranks::put_ranks;
 use goal_base::{NoMemory, TextOut};
 use goal_graph::Sched;
-use sim_events::Engine;
+use sim_events::{Engine, History};
 use sim_params::Costs;
 use std::alloc::Global;
 use std::marker::Brand;
@@ -20,10 +20,10 @@ use std::sync::ledger::Blank;
 ///
 /// The wait of an operation that has ended is the time of its last action less its ready time. `NoMemory` where memory
 /// ran out.
-pub fn waits<C: Costs>(
+pub fn waits<C: Costs, H: History>(
     alloc: Global,
     sched: &Sched,
-    engine: &Engine<'_, C>,
+    engine: &Engine<'_, C, H>,
 ) -> Result<Vec<u8>, NoMemory>
     requires same { engine.now.plans ≡ sched.now }
     ensures { IfOk result (λ text.
@@ -31,7 +31,7 @@ pub fn waits<C: Costs>(
 {
     let mut out = TextOut::new(alloc);
     put_ranks(&mut out, engine)?;
-    put_longest::<C, Brand>(alloc, Blank::new(1), &mut out, engine)?;
+    put_longest::<C, H, Brand>(alloc, Blank::new(1), &mut out, engine)?;
     put_oversize(&mut out, engine)?;
     Ok(out.into_bytes())
 }

@@ -10,11 +10,11 @@ ghost use Rattle.sim_waits.specs.WaitKeys.{wait_told};
 
 use crate::laws::laws_of_waits;
 use goal_graph::{Kind, OpId, When};
-use sim_events::Engine;
+use sim_events::{Engine, History};
 use sim_params::Costs;
 
 /// How long an operation waited, in nanoseconds, once it has ended: from when it was ready to its last action.
-pub fn wait<C: Costs>(engine: &Engine<'_, C>, id: OpId) -> Option<u64>
+pub fn wait<C: Costs, H: History>(engine: &Engine<'_, C, H>, id: OpId) -> Option<u64>
     requires { IsOp engine.now.plans id }
     ensures { result ≡ wait_told engine.now.plans (C.model engine.now.costs) engine.now.history id }
 {
@@ -26,7 +26,7 @@ pub fn wait<C: Costs>(engine: &Engine<'_, C>, id: OpId) -> Option<u64>
 }
 
 // How long the last action of an operation holds its cpu.
-fn last_hold<C: Costs>(engine: &Engine<'_, C>, id: OpId) -> u64
+fn last_hold<C: Costs, H: History>(engine: &Engine<'_, C, H>, id: OpId) -> u64
     requires { IsOp engine.now.plans id }
     ensures { result ≡ cpu_hold engine.now.plans (C.model engine.now.costs) engine.now.history
         (last_class (is_eager engine.now.plans (C.model engine.now.costs) id) (kind_at engine.now.plans id))
@@ -43,7 +43,7 @@ fn last_hold<C: Costs>(engine: &Engine<'_, C>, id: OpId) -> u64
 }
 
 // How long the message of a send holds a cpu; 0 where the operation is none.
-fn over<C: Costs>(engine: &Engine<'_, C>, id: OpId) -> u64
+fn over<C: Costs, H: History>(engine: &Engine<'_, C, H>, id: OpId) -> u64
     requires { IsOp engine.now.plans id }
     ensures { result ≡ over engine.now.plans (C.model engine.now.costs) id }
 {
@@ -55,7 +55,7 @@ fn over<C: Costs>(engine: &Engine<'_, C>, id: OpId) -> u64
 }
 
 // When all that an operation needs is there, once it is.
-fn ready<C: Costs>(engine: &Engine<'_, C>, id: OpId) -> Option<u64>
+fn ready<C: Costs, H: History>(engine: &Engine<'_, C, H>, id: OpId) -> Option<u64>
     requires { IsOp engine.now.plans id }
     ensures { result ≡ ready_known engine.now.plans (C.model engine.now.costs) engine.now.history id }
 {
@@ -74,7 +74,7 @@ fn ready<C: Costs>(engine: &Engine<'_, C>, id: OpId) -> Option<u64>
 }
 
 // The moment of an operation that a dependency waits for, once it is there.
-fn moment<C: Costs>(engine: &Engine<'_, C>, when: When, id: OpId) -> Option<u64>
+fn moment<C: Costs, H: History>(engine: &Engine<'_, C, H>, when: When, id: OpId) -> Option<u64>
     requires { IsOp engine.now.plans id }
     ensures { result ≡ moment_known engine.now.plans (C.model engine.now.costs) engine.now.history when id }
 {

@@ -12,6 +12,7 @@ ghost use Rattle.sim_state.specs.Enabled.{moment_known, ready_known, enabled_act
 
 use super::State;
 use crate::cursor::Cursor;
+use crate::history::History;
 use crate::pairing::Pairing;
 use crate::shape::Shape;
 use goal_graph::{Class, OpId, Timed, When};
@@ -21,7 +22,7 @@ use sim_params::Costs;
 use sim_rendezvous::{clear, data_at};
 use std::sync::ledger::Ledger;
 
-impl<'a, C: Costs> State<'a, C> {
+impl<'a, C: Costs, H: History> State<'a, C, H> {
     /// The possible action of an operation, if it has one. While it has not started its cursor goes on to the first need
     /// that is not met, or past all: the next call looks from there on. A counter tells how many needs are looked at: as many as the
     /// cursor goes on by, one more, and all once more where the action starts the operation.

@@ -9,6 +9,7 @@ ghost use Rattle.sim_eager.specs.Messages.{IsMessage};
 
 use super::State;
 use crate::entry::{write_met, write_sent, write_times};
+use crate::history::History;
 use crate::key::compact;
 use crate::moment::Moment;
 use crate::shape::Shape;
@@ -20,7 +21,7 @@ use sim_params::Costs;
 use sim_rendezvous::{data, request};
 use std::sync::ledger::Ledger;
 
-impl<'a, C: Costs> State<'a, C> {
+impl<'a, C: Costs, H: History> State<'a, C, H> {
     /// Lets the next action happen. For it the matcher looks at eight entries of match lists at most, those that are passed
     /// counted when they came (`Matcher::post_counted`).
     pub fn perform<M: Ledger>(&mut self, action: Timed, looks: &mut Steps<M>)
@@ -66,7 +67,7 @@ impl<'a, C: Costs> State<'a, C> {
         let entries = &mut self.entries;
         let start = Moment::at(action.time);
         write_times(sched, entries, action.op, start, Moment::at(end), arriving);
-        self.history.push_reserved(compact(sched, action));
+        self.history.push(compact(sched, action));
     }
 
     // An eager send begins.
@@ -92,7 +93,7 @@ impl<'a, C: Costs> State<'a, C> {
         let end = Moment::at(begun.end);
         let arriving = Moment::at(begun.arrive);
         write_times(sched, entries, action.op, start, end, arriving);
-        self.history.push_reserved(compact(sched, action));
+        self.history.push(compact(sched, action));
     }
 
     // A large send begins: its request goes out.
@@ -116,7 +117,7 @@ impl<'a, C: Costs> State<'a, C> {
         let entries = &mut self.entries;
         let start = Moment::at(action.time);
         write_times(sched, entries, action.op, start, end, Moment::at(arrive));
-        self.history.push_reserved(compact(sched, action));
+        self.history.push(compact(sched, action));
     }
 
     // A receive is posted, and takes the first message that it fits.
@@ -139,7 +140,7 @@ impl<'a, C: Costs> State<'a, C> {
             partner,
             action.time,
         );
-        self.history.push_reserved(compact(sched, action));
+        self.history.push(compact(sched, action));
     }
 
     // A message or a request arrives, and is taken by the first receive that fits it.
@@ -161,7 +162,7 @@ impl<'a, C: Costs> State<'a, C> {
             partner,
             action.time,
         );
-        self.history.push_reserved(compact(sched, action));
+        self.history.push(compact(sched, action));
     }
 
     // A large send hands over its bytes.
@@ -184,7 +185,7 @@ impl<'a, C: Costs> State<'a, C> {
         let entries = &mut self.entries;
         let there = Moment::at(sent.arrive);
         write_sent(sched, entries, action.op, Moment::at(sent.end), there);
-        self.history.push_reserved(compact(sched, action));
+        self.history.push(compact(sched, action));
     }
 
     // A receive takes the message of its partner.
@@ -212,6 +213,6 @@ impl<'a, C: Costs> State<'a, C> {
         let entries = &mut self.entries;
         let end = Moment::at(end);
         write_times(sched, entries, action.op, entry.start, end, entry.arriving);
-        self.history.push_reserved(compact(sched, action));
+        self.history.push(compact(sched, action));
     }
 }

@@ -13,10 +13,10 @@ complete : (g : Over) (c : Joined-self-2 g) → IsCompleteRun c.match-self.self-
 complete g c =
     let model = g.C.Costs.model in
     elim c.match-self.branch [
-      | in-Some w ↦ subst (λ (v : View _). IsCompleteRun v.plans (model v.costs) v.history) (sym (ap (λ (e : Inside _). e.state) w.self-inside-is)) w.run_on.ensures.complete
+      | in-Some w ↦ subst (λ (v : View _). IsCompleteRun v.plans (model v.costs) v.history) (sym (ap (λ (e : Inside _ _). e.state) w.self-inside-is)) w.run_on.ensures.complete
       | in_default w ↦
           let state = c.self.inside.state in
-          subst (λ (v : View _). IsCompleteRun v.plans (model v.costs) v.history) (sym (ap (λ (e : Inside _). e.state) w.self-inside-is)) (record {
+          subst (λ (v : View _). IsCompleteRun v.plans (model v.costs) v.history) (sym (ap (λ (e : Inside _ _). e.state) w.self-inside-is)) (record {
             run = subst (λ (v : View _). IsRun v.plans (model v.costs) v.history) (sym c.self.view_is) c.known.ensures.run;
             finished = subst (IsOutlook state.plans (model state.costs) state.history) w.in_default.is c.self.invariant;
           })

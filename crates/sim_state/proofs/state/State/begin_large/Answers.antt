@@ -25,7 +25,7 @@ pub request-arrive-requires : goal.request-arrive-requires
 request-arrive-requires g c =
     let plans = c.self.inside.sched.now in
     let costs = g.C.Costs.model c.self.inside.costs in
-    let h = reverse c.self.inside.history.items in
+    let h = g.H.History.actions c.self.inside.history in
     let a = c.args.action in
     let m = c.self.invariant in
     let next = next_at g.C.Costs.model _ _ a c.self.view_is c.requires.next in
@@ -49,7 +49,7 @@ pub at-requires : goal.at-requires
 at-requires g c =
     let plans = c.self.inside.sched.now in
     let costs = g.C.Costs.model c.self.inside.costs in
-    let h = reverse c.self.inside.history.items in
+    let h = g.H.History.actions c.self.inside.history in
     let a = c.args.action in
     let m = c.self.invariant in
     let next = next_at g.C.Costs.model _ _ a c.self.view_is c.requires.next in
@@ -70,17 +70,16 @@ compact-requires g c =
     let next = next_at g.C.Costs.model _ _ c.args.action c.self.view_is c.requires.next in
     is_op _ _ _ _ _ _ _ c.self.invariant c.args.action next
 
-pub push_reserved-requires : goal.push_reserved-requires
-push_reserved-requires g c =
+pub push-requires : goal.push-requires
+push-requires g c =
     let next = next_at g.C.Costs.model _ _ c.args.action c.self.view_is c.requires.next in
-    let room : length c.self.inside.history.items < vec_capacity c.self.inside.history = room_left _ _ (record { items = c.self.inside.history.items; entries = c.self.inside.entries.items; matcher = c.self.inside.matcher; res = c.self.inside.resources; room = vec_capacity c.self.inside.history }) c.self.invariant c.args.action next in
-    omega (arith, c.self.inside.history.ok.0, room)
+    record { room = room_left _ _ _ (record { history = g.H.History.actions c.self.inside.history; entries = c.self.inside.entries.items; matcher = c.self.inside.matcher; res = c.self.inside.resources }) c.self.invariant c.args.action next }
 
 pub invariant_of-self : goal.invariant_of-self
 invariant_of-self g c =
     let plans = c.self.inside.sched.now in
     let costs = g.C.Costs.model c.self.inside.costs in
-    let h = reverse c.self.inside.history.items in
+    let h = g.H.History.actions c.self.inside.history in
     let a = c.args.action in
     let m = c.self.invariant in
     let next = next_at g.C.Costs.model _ _ a c.self.view_is c.requires.next in
@@ -92,19 +91,17 @@ invariant_of-self g c =
     let told = c.write_times.ensures (entry_known plans costs h) (c.deref_mut.ensures.value ∙ m.known) ∙ (λ i. map (with_entry a.op (record (entry_known plans costs h a.op) { start = c.at-start.ensures i; end = (was i).end; arriving = c.at.ensures i }) (entry_known plans costs h)) (operations plans)) ∙ request_begun plans costs h a m.run next.possible (entry_known plans costs h a.op) refl c.request-arrive.result c.requires.class send large c.request-arrive.ensures.arrive in
     let posts_and_arrivals = other_action plans costs h a c.self.inside.matcher m.posts_and_arrivals (ap is_post_or_arrival_class c.requires.class) in
     let free = free_send plans costs h a c.self.inside.resources m.free c.request-arrive.new.res _ (ap holds_cpu c.requires.class) until _ c.request-arrive.ensures.holds (sends_at_begin plans costs h a.class a.op send c.requires.class) sent (ap holds_rx c.requires.class) in
-    let parts : Parts = record { items = c.self.inside.history.items; entries = c.self.inside.entries.items; matcher = c.self.inside.matcher; res = c.self.inside.resources; room = vec_capacity c.self.inside.history } in
-    performed plans costs parts m a next (record {
-      items = c.push_reserved.new.self.items;
+    let parts : Parts = record { history = g.H.History.actions c.self.inside.history; entries = c.self.inside.entries.items; matcher = c.self.inside.matcher; res = c.self.inside.resources } in
+    performed plans costs _ parts m a next _ c.push.ensures.roomy (record {
+      history = g.H.History.actions c.push.new.self;
       lent = c.deref_mut.result.now;
       written = c.write_times.new.entries;
       count = c.self.inside.entries.len;
       matcher = c.self.inside.matcher;
       res = c.request-arrive.new.res;
-      room = vec_capacity c.push_reserved.new.self;
       key = c.compact.result;
-      pushed = c.push_reserved.ensures.items;
+      pushed = c.push.ensures.pushed;
       same_action = c.compact.ensures;
-      same_room = c.push_reserved.ensures.capacity;
       whole = c.self.inside.entries.ok.0;
       same_table = c.deref_mut.ensures.value;
       kept = c.write_times.auto.entries;

@@ -28,7 +28,7 @@ pub post_counted-partner-requires : goal.post_counted-partner-requires
 post_counted-partner-requires g c =
     let plans = c.self.inside.sched.now in
     let costs = g.C.Costs.model c.self.inside.costs in
-    let h = reverse c.self.inside.history.items in
+    let h = g.H.History.actions c.self.inside.history in
     let a = c.args.action in
     let m = c.self.invariant in
     let next = next_at g.C.Costs.model _ _ a c.self.view_is c.requires.next in
@@ -41,7 +41,7 @@ pub write_met-requires : goal.write_met-requires
 write_met-requires g c =
     let plans = c.self.inside.sched.now in
     let costs = g.C.Costs.model c.self.inside.costs in
-    let h = reverse c.self.inside.history.items in
+    let h = g.H.History.actions c.self.inside.history in
     let a = c.args.action in
     let m = c.self.invariant in
     let next = next_at g.C.Costs.model _ _ a c.self.view_is c.requires.next in
@@ -58,17 +58,16 @@ compact-requires g c =
     let next = next_at g.C.Costs.model _ _ c.args.action c.self.view_is c.requires.next in
     is_op _ _ _ _ _ _ _ c.self.invariant c.args.action next
 
-pub push_reserved-requires : goal.push_reserved-requires
-push_reserved-requires g c =
+pub push-requires : goal.push-requires
+push-requires g c =
     let next = next_at g.C.Costs.model _ _ c.args.action c.self.view_is c.requires.next in
-    let room : length c.self.inside.history.items < vec_capacity c.self.inside.history = room_left _ _ (record { items = c.self.inside.history.items; entries = c.self.inside.entries.items; matcher = c.self.inside.matcher; res = c.self.inside.resources; room = vec_capacity c.self.inside.history }) c.self.invariant c.args.action next in
-    omega (arith, c.self.inside.history.ok.0, room)
+    record { room = room_left _ _ _ (record { history = g.H.History.actions c.self.inside.history; entries = c.self.inside.entries.items; matcher = c.self.inside.matcher; res = c.self.inside.resources }) c.self.invariant c.args.action next }
 
 pub invariant_of-self : goal.invariant_of-self
 invariant_of-self g c =
     let plans = c.self.inside.sched.now in
     let costs = g.C.Costs.model c.self.inside.costs in
-    let h = reverse c.self.inside.history.items in
+    let h = g.H.History.actions c.self.inside.history in
     let a = c.args.action in
     let m = c.self.invariant in
     let next = next_at g.C.Costs.model _ _ a c.self.view_is c.requires.next in
@@ -78,19 +77,17 @@ invariant_of-self g c =
     let told = c.write_met.ensures (entry_known plans costs h) (c.deref_mut.ensures.value ∙ m.known) ∙ (λ i. map (with_partner a.op c.post_counted-partner.result a.time (with_entry a.op (record (entry_known plans costs h a.op) { start = c.at-start.ensures i; arriving = (was i).arriving }) (entry_known plans costs h))) (operations plans)) ∙ posted plans costs h a m.run next.possible (entry_known plans costs h a.op) refl c.post_counted-partner.result c.requires.class kind taken in
     let posts_and_arrivals = post_known plans costs h a c.self.inside.matcher m.posts_and_arrivals c.post_counted-partner.new.self c.requires.class c.post_counted-partner.ensures.actions in
     let free = free_same plans costs h a c.self.inside.resources m.free (ap holds_cpu c.requires.class) (ap (λ (k : Class). holds_tx k (kind_at plans a.op)) c.requires.class) (ap holds_rx c.requires.class) in
-    let parts : Parts = record { items = c.self.inside.history.items; entries = c.self.inside.entries.items; matcher = c.self.inside.matcher; res = c.self.inside.resources; room = vec_capacity c.self.inside.history } in
-    performed plans costs parts m a next (record {
-      items = c.push_reserved.new.self.items;
+    let parts : Parts = record { history = g.H.History.actions c.self.inside.history; entries = c.self.inside.entries.items; matcher = c.self.inside.matcher; res = c.self.inside.resources } in
+    performed plans costs _ parts m a next _ c.push.ensures.roomy (record {
+      history = g.H.History.actions c.push.new.self;
       lent = c.deref_mut.result.now;
       written = c.write_met.new.entries;
       count = c.self.inside.entries.len;
       matcher = c.post_counted-partner.new.self;
       res = c.self.inside.resources;
-      room = vec_capacity c.push_reserved.new.self;
       key = c.compact.result;
-      pushed = c.push_reserved.ensures.items;
+      pushed = c.push.ensures.pushed;
       same_action = c.compact.ensures;
-      same_room = c.push_reserved.ensures.capacity;
       whole = c.self.inside.entries.ok.0;
       same_table = c.deref_mut.ensures.value;
       kept = c.write_met.auto.entries;

@@ -29,7 +29,7 @@ pub unreachable-requires : goal.unreachable-requires
 unreachable-requires g c =
     let plans = c.self.inside.sched.now in
     let costs = g.C.Costs.model c.self.inside.costs in
-    let h = reverse c.self.inside.history.items in
+    let h = g.H.History.actions c.self.inside.history in
     let a = c.args.action in
     let next = next_at g.C.Costs.model _ _ a c.self.view_is c.requires.next in
     let was = entry_is g.C.Costs.model _ _ a.op c.entry-entry.result.now c.self.view_is c.entry-entry.ensures in
@@ -40,7 +40,7 @@ pub work-work-requires : goal.work-work-requires
 work-work-requires g c =
     let plans = c.self.inside.sched.now in
     let costs = g.C.Costs.model c.self.inside.costs in
-    let h = reverse c.self.inside.history.items in
+    let h = g.H.History.actions c.self.inside.history in
     let a = c.args.action in
     let next = next_at g.C.Costs.model _ _ a c.self.view_is c.requires.next in
     let was = entry_is g.C.Costs.model _ _ a.op c.entry-entry.result.now c.self.view_is c.entry-entry.ensures in
@@ -52,7 +52,7 @@ pub serve-end-requires : goal.serve-end-requires
 serve-end-requires g c =
     let plans = c.self.inside.sched.now in
     let costs = g.C.Costs.model c.self.inside.costs in
-    let h = reverse c.self.inside.history.items in
+    let h = g.H.History.actions c.self.inside.history in
     let a = c.args.action in
     let m = c.self.invariant in
     let next = next_at g.C.Costs.model _ _ a c.self.view_is c.requires.next in
@@ -72,7 +72,7 @@ pub at-end-requires : goal.at-end-requires
 at-end-requires g c =
     let plans = c.self.inside.sched.now in
     let costs = g.C.Costs.model c.self.inside.costs in
-    let h = reverse c.self.inside.history.items in
+    let h = g.H.History.actions c.self.inside.history in
     let a = c.args.action in
     let m = c.self.invariant in
     let next = next_at g.C.Costs.model _ _ a c.self.view_is c.requires.next in
@@ -94,17 +94,16 @@ compact-requires g c =
     let next = next_at g.C.Costs.model _ _ c.args.action c.self.view_is c.requires.next in
     is_op _ _ _ _ _ _ _ c.self.invariant c.args.action next
 
-pub push_reserved-requires : goal.push_reserved-requires
-push_reserved-requires g c =
+pub push-requires : goal.push-requires
+push-requires g c =
     let next = next_at g.C.Costs.model _ _ c.args.action c.self.view_is c.requires.next in
-    let room : length c.self.inside.history.items < vec_capacity c.self.inside.history = room_left _ _ (record { items = c.self.inside.history.items; entries = c.self.inside.entries.items; matcher = c.self.inside.matcher; res = c.self.inside.resources; room = vec_capacity c.self.inside.history }) c.self.invariant c.args.action next in
-    omega (arith, c.self.inside.history.ok.0, room)
+    record { room = room_left _ _ _ (record { history = g.H.History.actions c.self.inside.history; entries = c.self.inside.entries.items; matcher = c.self.inside.matcher; res = c.self.inside.resources }) c.self.invariant c.args.action next }
 
 pub invariant_of-self : goal.invariant_of-self
 invariant_of-self g c =
     let plans = c.self.inside.sched.now in
     let costs = g.C.Costs.model c.self.inside.costs in
-    let h = reverse c.self.inside.history.items in
+    let h = g.H.History.actions c.self.inside.history in
     let a = c.args.action in
     let m = c.self.invariant in
     let next = next_at g.C.Costs.model _ _ a c.self.view_is c.requires.next in
@@ -116,19 +115,17 @@ invariant_of-self g c =
     let told = c.write_times.ensures (entry_known plans costs h) (c.deref_mut.ensures.value ∙ m.known) ∙ (λ i. map (with_entry a.op (record (entry_known plans costs h a.op) { start = (was i).start; end = c.at-end.ensures i; arriving = (was i).arriving }) (entry_known plans costs h)) (operations plans)) ∙ message_taken plans costs h a m.run next.possible (entry_known plans costs h a.op) refl _ until c.requires.class receive in
     let posts_and_arrivals = other_action plans costs h a c.self.inside.matcher m.posts_and_arrivals (ap is_post_or_arrival_class c.requires.class) in
     let free = free_serve plans costs h a c.self.inside.resources m.free c.serve-end.new.res _ (ap holds_cpu c.requires.class) until _ c.serve-end.ensures.holds (ap (λ (k : Class). holds_tx k (kind_at plans a.op)) c.requires.class) (ap holds_rx c.requires.class) received in
-    let parts : Parts = record { items = c.self.inside.history.items; entries = c.self.inside.entries.items; matcher = c.self.inside.matcher; res = c.self.inside.resources; room = vec_capacity c.self.inside.history } in
-    performed plans costs parts m a next (record {
-      items = c.push_reserved.new.self.items;
+    let parts : Parts = record { history = g.H.History.actions c.self.inside.history; entries = c.self.inside.entries.items; matcher = c.self.inside.matcher; res = c.self.inside.resources } in
+    performed plans costs _ parts m a next _ c.push.ensures.roomy (record {
+      history = g.H.History.actions c.push.new.self;
       lent = c.deref_mut.result.now;
       written = c.write_times.new.entries;
       count = c.self.inside.entries.len;
       matcher = c.self.inside.matcher;
       res = c.serve-end.new.res;
-      room = vec_capacity c.push_reserved.new.self;
       key = c.compact.result;
-      pushed = c.push_reserved.ensures.items;
+      pushed = c.push.ensures.pushed;
       same_action = c.compact.ensures;
-      same_room = c.push_reserved.ensures.capacity;
       whole = c.self.inside.entries.ok.0;
       same_table = c.deref_mut.ensures.value;
       kept = c.write_times.auto.entries;

@@ -2,7 +2,7 @@ use Rattle.std.proofs.Common.{◌≡◌, ◌<◌, ◌^◌, ℕ, Result, Ok, Err,
 use Rattle.sim_state.specs.declared.fault.EngineFault.{EngineFault}
 use Rattle.sim_state.specs.declared.fault.EngineFault.TheVariants.{NoMemory}
 use Rattle.sim_state.specs.Engine.{IsEngineFault}
-use Rattle.sim_events.proofs.engine.Engine.new_counted.Goals as goal
+use Rattle.sim_events.proofs.engine.Engine.start_counted.Goals as goal
 
 -- want of memory, where the budget fits
 no_memory : {T : Type 0} (total : ℕ) → total < 2 ^ 63 → (r : Result T EngineFault) → IsErrAnd r (λ fault. fault ≡ NoMemory) → IfErr r (IsEngineFault total)

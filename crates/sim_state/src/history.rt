@@ -1,0 +1,50 @@
+// What is kept of the actions that have happened.
+ghost use Rattle.std.specs.Prelude.{◌≡◌, ◌+◌, ◌<◌, ℕ, List, [], ◌∷◌, IfOk, length};
+ghost use Rattle.goal_graph.specs.declared.action.Timed.{Timed};
+
+use sim_order::CompactKey;
+use std::alloc::{AllocError, Global};
+
+/// The actions that have happened, as a state has them. Contracts see them all, whether they are kept or not.
+pub trait History: Drop {
+    /// The actions, newest first.
+    ghost actions: { Self → List Timed };
+
+    /// Whether it has room for so many actions in all.
+    ghost has_room: { Self → ℕ → Type 0 };
+
+    /// No action, and room for so many.
+    fn with_room(alloc: Global, count: usize) -> Result<Self, AllocError>
+        ensures empty { IfOk result (λ h. actions h ≡ []) }
+        ensures roomy { IfOk result (λ h. has_room h count) };
+
+    /// One action more.
+    fn push(&mut self, key: CompactKey)
+        requires room { (count : ℕ) × has_room self.old count × (length (actions self.old) < count) }
+        ensures pushed { actions self.new ≡ key ∷ actions self.old }
+        ensures roomy { (count : ℕ) → has_room self.old count → has_room self.new count };
+}
+
+/// Each action is kept, in 16 bytes.
+#[derive(Drop)]
+pub struct Kept {
+    // oldest first
+    pub(crate) keys: Vec<CompactKey>,
+}
+
+impl History for Kept {
+    ghost use Rattle.std.specs.Prelude.{◌≤◌, reverse, vec_capacity};
+
+    ghost actions = { λ h. reverse h.keys.items };
+
+    ghost has_room = { λ h count. count ≤ vec_capacity h.keys };
+
+    fn with_room(alloc: Global, count: usize) -> Result<Kept, AllocError> {
+        let keys = Vec::with_capacity(alloc, count)?;
+        Ok(Kept { keys })
+    }
+
+    fn push(&mut self, key: CompactKey) {
+        self.keys.push_reserved(key);
+    }
+}
