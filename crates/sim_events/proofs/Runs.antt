@@ -7,7 +7,7 @@ use Rattle.sim_params.specs.Run.{IsRun, IsFinished}
 use Rattle.sim_params.proofs.ForCallers.{run_length}
 use Rattle.sim_events.specs.Comparisons.{count_of, last_look}
 use Rattle.sim_state.specs.Engine.{View}
-use Rattle.sim_events.specs.Outlook.{IsStepped}
+use Rattle.sim_events.specs.Pending.{IsStepped}
 
 module _ {C : Type 0} (model : C → CostModel) (old new : View C) where
   -- a step changes the history alone

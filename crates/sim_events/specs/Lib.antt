@@ -6,7 +6,7 @@ pub mod Needs
 pub mod Stations
 pub mod Queue
 pub mod Changes
-pub mod Outlook
+pub mod Pending
 -- Laws.
 pub mod Laws
 -- What the clauses cite of lower crates.

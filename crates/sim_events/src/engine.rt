@@ -15,7 +15,7 @@ ghost use Rattle.sim_state.specs.Engine.{IsEngineFault, start_known, end_known};
 ghost use Rattle.sim_events.specs.Cost.{cost_of_start, cost_of_run, all_needs, most_reads};
 
 use crate::follow::is_empty;
-use crate::outlook::{Outlook, at_the_start, run_on, step_once};
+use crate::pending::{Pending, at_the_start, run_on, step_once};
 use goal_graph::{OpId, Sched, Timed};
 use sim_order::{CompactKey, Steps};
 use sim_params::Costs;
@@ -30,7 +30,7 @@ pub struct Engine<'a, C: Costs, H: History = Kept> {
     // what has happened, and what is known of each operation
     state: State<'a, C, H>,
     // what may come, given back by a run once nothing may
-    outlook: Option<Outlook>,
+    pending: Option<Pending>,
 }
 
 // It goes by a call, and not field by field: so those that let one go are shorter to prove.
@@ -38,20 +38,20 @@ impl<C: Costs + Drop, H: History> Drop for Engine<'_, C, H> {
     fn drop(self) {
         let Engine {
             state: _state,
-            outlook: _outlook,
+            pending: _pending,
         } = self;
     }
 }
 
 impl<'a, C: Costs, H: History> Model for Engine<'a, C, H> {
     ghost use Rattle.sim_state.specs.Engine.{View};
-    ghost use Rattle.sim_events.specs.Outlook.{IsOutlook};
+    ghost use Rattle.sim_events.specs.Pending.{IsPending};
 
     ghost Value = { View C };
 
     ghost view = { λ e. e.state };
 
-    ghost invariant = { λ e. IsOutlook e.state.plans (C.model e.state.costs) e.state.history e.outlook };
+    ghost invariant = { λ e. IsPending e.state.plans (C.model e.state.costs) e.state.history e.pending };
 }
 
 impl<'a, C: Costs + Drop> Engine<'a, C> {
@@ -119,10 +119,10 @@ impl<'a, C: Costs + Drop, H: History> Engine<'a, C, H> {
         ensures needed { reads.new ≤ reads.old + 2 * all_needs sched.now + length (operations sched.now) }
     {
         let state = State::new(alloc, sched, costs)?;
-        let outlook = at_the_start(alloc, &state, steps, reads)?;
+        let pending = at_the_start(alloc, &state, steps, reads)?;
         Ok(Engine {
             state,
-            outlook: Some(outlook),
+            pending: Some(pending),
         })
     }
 }
@@ -172,12 +172,12 @@ impl<'a, C: Costs, H: History> Engine<'a, C, H> {
         ensures run { IsRun self.new.plans (C.model self.new.costs) self.new.history }
     {
         self.known();
-        let Some(outlook) = &mut self.outlook else {
+        let Some(pending) = &mut self.pending else {
             return None;
         };
         step_once::<C, H, Brand, Brand, Brand, Brand>(
             &mut self.state,
-            outlook,
+            pending,
             Blank::new(1),
             Blank::new(1),
             Blank::new(1),
@@ -226,17 +226,17 @@ impl<'a, C: Costs, H: History> Engine<'a, C, H> {
         ensures needed { reads.new ≤ reads.old + most_reads self.new.plans self.new.history }
     {
         self.known();
-        if let Some(outlook) = &mut self.outlook {
+        if let Some(pending) = &mut self.pending {
             run_on::<C, H, L, Brand, M, N>(
                 &mut self.state,
-                outlook,
+                pending,
                 Blank::new(1),
                 steps,
                 looks,
                 reads,
             );
         }
-        self.outlook = None;
+        self.pending = None;
     }
 
     // Lets all that is possible happen, with counters of its own.
@@ -270,8 +270,8 @@ impl<'a, C: Costs, H: History> Engine<'a, C, H> {
         ensures { IsTrue result ↔ IsFinished self.now.plans (C.model self.now.costs) self.now.history }
     {
         self.known();
-        match &self.outlook {
-            Some(outlook) => is_empty::<Brand>(Blank::new(1), &outlook.queue),
+        match &self.pending {
+            Some(pending) => is_empty::<Brand>(Blank::new(1), &pending.queue),
             None => true,
         }
     }

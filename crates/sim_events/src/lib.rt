@@ -4,7 +4,7 @@
 mod engine;
 mod follow;
 mod laws;
-mod outlook;
+mod pending;
 mod station;
 
 pub use engine::Engine;

@@ -9,6 +9,6 @@ no_memory : {T : Type 0} (total : ℕ) → total < 2 ^ 63 → (r : Result T Engi
 no_memory total fits (Ok x) e = absurd e
 no_memory total fits (Err fault) e = subst (IsEngineFault total) (sym e) fits
 
-pub returns-in_err-outlook-clause-fault : goal.returns-in_err-outlook-clause-fault
-returns-in_err-outlook-clause-fault g c =
-    no_memory _ c.in_ok-state.ensures.fits c.from_residual-in_err-outlook.result c.from_residual-in_err-outlook.ensures.1
+pub returns-in_err-pending-clause-fault : goal.returns-in_err-pending-clause-fault
+returns-in_err-pending-clause-fault g c =
+    no_memory _ c.in_ok-state.ensures.fits c.from_residual-in_err-pending.result c.from_residual-in_err-pending.ensures.1

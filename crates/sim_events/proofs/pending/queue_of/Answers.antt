@@ -9,7 +9,7 @@ use Rattle.sim_stations.specs.Moves.{HaveReturned}
 use Rattle.sim_events.specs.Changes.{HaveChanged}
 use Rattle.sim_events.proofs.Changes.{changed_none}
 use Rattle.sim_events.proofs.Queue.{new_queue}
-use Rattle.sim_events.proofs.outlook.queue_of.Goals as goal
+use Rattle.sim_events.proofs.pending.queue_of.Goals as goal
 
 -- what holds of a value that was made for another reason
 if_ok : {T E : Type 0} (P Q : T → Type 0) (r : Result T E) → IfOk r P → ((q : T) → P q → Q q) → IfOk r Q

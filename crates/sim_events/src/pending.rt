@@ -11,7 +11,7 @@ ghost use Rattle.sim_events.specs.Comparisons.{spent, count_of, last_look};
 ghost use Rattle.sim_events.specs.Cost.{cost_of_actions, cost_of_start, cost_of_run, most_moves, all_needs, all_looked_after, most_reads};
 ghost use Rattle.sim_events.specs.Needs.{read_so_far};
 ghost use Rattle.sim_events.specs.Changes.{HaveChanged, HaveChangedOn};
-ghost use Rattle.sim_events.specs.Outlook.{IsOutlookOf, IsStepped};
+ghost use Rattle.sim_events.specs.Pending.{IsPendingOf, IsStepped};
 
 use crate::follow::{Queue, fill, follow, next, settle};
 use crate::station::number_stations;
@@ -25,7 +25,7 @@ use std::sync::ledger::{Blank, Ledger};
 
 /// What may come.
 #[derive(Drop)]
-pub struct Outlook {
+pub struct Pending {
     /// The possible actions, each at a time that is never too late.
     pub queue: Queue,
     /// How far the needs of each operation have been looked at.
@@ -48,7 +48,7 @@ fn queue_of(alloc: Global, sched: &Sched) -> Result<Queue, NoMemory>
 }
 
 // What may come of a schedule, before anything is known to.
-fn blank(alloc: Global, sched: &Sched) -> Result<Outlook, NoMemory>
+fn blank(alloc: Global, sched: &Sched) -> Result<Pending, NoMemory>
     ensures of_it { IfOk result (λ o. (costs : CostModel) → IsOfSchedule sched.now costs [] o.queue) }
     ensures empty { IfOk result (λ o. IsEmptyMap o.queue.keys) }
     ensures changed { IfOk result (λ o. (all : ℕ) × HaveChanged sched.now [] o.queue all) }
@@ -56,7 +56,7 @@ fn blank(alloc: Global, sched: &Sched) -> Result<Outlook, NoMemory>
 {
     let queue = queue_of(alloc, sched)?;
     let cursors = at_first(alloc, sched)?;
-    Ok(Outlook { queue, cursors })
+    Ok(Pending { queue, cursors })
 }
 
 /// What may come before the first action. Among 2^k operations it compares 10k + 16 times at most for each.
@@ -65,51 +65,51 @@ pub fn at_the_start<C: Costs, H: History, L: Ledger, N: Ledger>(
     state: &State<C, H>,
     steps: &mut Steps<L>,
     reads: &mut Steps<N>,
-) -> Result<Outlook, NoMemory>
+) -> Result<Pending, NoMemory>
     requires empty { state.now.history ≡ [] }
-    ensures outlook { IfOk result (IsOutlookOf C.model state.now) }
+    ensures pending { IfOk result (IsPendingOf C.model state.now) }
     ensures counted { (k : ℕ) → length (operations state.now.plans) ≤ 2 ^ k → steps.new ≤ steps.old + cost_of_start k state.now.plans }
     ensures needed { reads.new ≤ reads.old + 2 * all_needs state.now.plans + length (operations state.now.plans) }
 {
-    let mut outlook = blank(alloc, state.sched())?;
-    outlook.queue.known();
+    let mut pending = blank(alloc, state.sched())?;
+    pending.queue.known();
     fill(
         state,
-        &mut outlook.queue,
-        &mut outlook.cursors,
+        &mut pending.queue,
+        &mut pending.cursors,
         steps,
         reads,
     );
-    Ok(outlook)
+    Ok(pending)
 }
 
 // Lets the next action happen and answers it. What it compares is the cost of the action and of the changes of place.
 fn step<C: Costs, H: History, L: Ledger, R: Ledger, M: Ledger, N: Ledger>(
     state: &mut State<C, H>,
-    outlook: &mut Outlook,
+    pending: &mut Pending,
     steps: &mut Steps<L>,
     moves: &mut Steps<R>,
     looks: &mut Steps<M>,
     reads: &mut Steps<N>,
 ) -> Option<Timed>
-    requires outlook { IsOutlookOf C.model state.old outlook.old }
-    ensures outlook { IsOutlookOf C.model state.new outlook.new }
+    requires pending { IsPendingOf C.model state.old pending.old }
+    ensures pending { IsPendingOf C.model state.new pending.new }
     ensures stepped { IsStepped C.model state.old state.new result }
     ensures run { IsRun state.new.plans (C.model state.new.costs) state.new.history }
     ensures counted { (k : ℕ) → length (operations state.old.plans) ≤ 2 ^ k
-        → steps.new + cost_of_waiting k outlook.new.queue.stands + spent k outlook.old.queue + cost_of_actions k 0 moves.old ≤ steps.old + cost_of_waiting k outlook.old.queue.stands + spent k outlook.new.queue + cost_of_actions k (count_of result) moves.new + last_look result }
-    ensures moved { (all : ℕ) → HaveChanged state.old.plans state.old.history outlook.old.queue all → HaveChangedOn state.new.plans state.new.history outlook.new.queue all moves.old moves.new }
-    ensures needed { reads.new + read_so_far state.old.plans state.old.history outlook.old.queue outlook.old.cursors.items + all_looked_after state.old.plans state.old.history ≤ reads.old + read_so_far state.new.plans state.new.history outlook.new.queue outlook.new.cursors.items + all_looked_after state.new.plans state.new.history }
+        → steps.new + cost_of_waiting k pending.new.queue.stands + spent k pending.old.queue + cost_of_actions k 0 moves.old ≤ steps.old + cost_of_waiting k pending.old.queue.stands + spent k pending.new.queue + cost_of_actions k (count_of result) moves.new + last_look result }
+    ensures moved { (all : ℕ) → HaveChanged state.old.plans state.old.history pending.old.queue all → HaveChangedOn state.new.plans state.new.history pending.new.queue all moves.old moves.new }
+    ensures needed { reads.new + read_so_far state.old.plans state.old.history pending.old.queue pending.old.cursors.items + all_looked_after state.old.plans state.old.history ≤ reads.old + read_so_far state.new.plans state.new.history pending.new.queue pending.new.cursors.items + all_looked_after state.new.plans state.new.history }
     ensures looked { looks.new ≤ looks.old + 8 * count_of result }
 {
     state.known();
-    let (slot, action) = next(state, &mut outlook.queue, steps, moves)?;
+    let (slot, action) = next(state, &mut pending.queue, steps, moves)?;
     state.perform(action, looks);
-    settle(state, &mut outlook.queue, slot, action, steps);
+    settle(state, &mut pending.queue, slot, action, steps);
     follow(
         state,
-        &mut outlook.queue,
-        &mut outlook.cursors,
+        &mut pending.queue,
+        &mut pending.cursors,
         action,
         steps,
         reads,
@@ -122,30 +122,30 @@ fn step<C: Costs, H: History, L: Ledger, R: Ledger, M: Ledger, N: Ledger>(
 // entries an action at most.
 fn run<C: Costs, H: History, L: Ledger, R: Ledger, M: Ledger, N: Ledger>(
     state: &mut State<C, H>,
-    outlook: &mut Outlook,
+    pending: &mut Pending,
     steps: &mut Steps<L>,
     moves: &mut Steps<R>,
     looks: &mut Steps<M>,
     reads: &mut Steps<N>,
 )
-    requires outlook { IsOutlookOf C.model state.old outlook.old }
+    requires pending { IsPendingOf C.model state.old pending.old }
     ensures plans { state.new.plans ≡ state.old.plans }
     ensures costs { state.new.costs ≡ state.old.costs }
     ensures complete { IsCompleteRun state.new.plans (C.model state.new.costs) state.new.history }
     ensures counted { (k : ℕ) → length (operations state.old.plans) ≤ 2 ^ k
-        → steps.new + spent k outlook.old.queue + cost_of_actions k (length state.old.history) moves.old ≤ steps.old + cost_of_waiting k outlook.old.queue.stands + cost_of_actions k (length state.new.history) moves.new + 3 }
+        → steps.new + spent k pending.old.queue + cost_of_actions k (length state.old.history) moves.old ≤ steps.old + cost_of_waiting k pending.old.queue.stands + cost_of_actions k (length state.new.history) moves.new + 3 }
     ensures moved { moves.new ≤ moves.old + most_moves state.new.plans state.new.history }
     ensures needed { reads.new ≤ reads.old + most_reads state.new.plans state.new.history }
     ensures looked { looks.new + 8 * length state.old.history ≤ looks.old + 8 * length state.new.history }
 {
-    'steps: while step(state, outlook, steps, moves, looks, reads).is_some() {}
+    'steps: while step(state, pending, steps, moves, looks, reads).is_some() {}
 }
 
 /// Lets the next action happen and answers it: the possible one of the least key. Where nothing is possible it answers
 /// None, and nothing changes.
 pub fn step_once<C: Costs, H: History, L: Ledger, R: Ledger, M: Ledger, N: Ledger>(
     state: &mut State<C, H>,
-    outlook: &mut Outlook,
+    pending: &mut Pending,
     blank: Blank,
     for_moves: Blank,
     for_looks: Blank,
@@ -163,8 +163,8 @@ pub fn step_once<C: Costs, H: History, L: Ledger, R: Ledger, M: Ledger, N: Ledge
     requires reads_name { for_reads.name ≡ N.name }
     requires reads_parts { for_reads.parts ≡ N.parts }
     requires reads_some { 0 < for_reads.parts }
-    requires outlook { IsOutlookOf C.model state.old outlook.old }
-    ensures outlook { IsOutlookOf C.model state.new outlook.new }
+    requires pending { IsPendingOf C.model state.old pending.old }
+    ensures pending { IsPendingOf C.model state.new pending.new }
     ensures stepped { IsStepped C.model state.old state.new result }
 {
     let mut steps = Steps::<L>::new(blank);
@@ -172,7 +172,7 @@ pub fn step_once<C: Costs, H: History, L: Ledger, R: Ledger, M: Ledger, N: Ledge
     let mut looks = Steps::<M>::new(for_looks);
     let mut reads = Steps::<N>::new(for_reads);
     step(
-        state, outlook, &mut steps, &mut moves, &mut looks, &mut reads,
+        state, pending, &mut steps, &mut moves, &mut looks, &mut reads,
     )
 }
 
@@ -180,7 +180,7 @@ pub fn step_once<C: Costs, H: History, L: Ledger, R: Ledger, M: Ledger, N: Ledge
 /// happened then.
 pub fn run_on<C: Costs, H: History, L: Ledger, R: Ledger, M: Ledger, N: Ledger>(
     state: &mut State<C, H>,
-    outlook: &mut Outlook,
+    pending: &mut Pending,
     for_moves: Blank,
     steps: &mut Steps<L>,
     looks: &mut Steps<M>,
@@ -189,7 +189,7 @@ pub fn run_on<C: Costs, H: History, L: Ledger, R: Ledger, M: Ledger, N: Ledger>(
     requires moves_name { for_moves.name ≡ R.name }
     requires moves_parts { for_moves.parts ≡ R.parts }
     requires moves_some { 0 < for_moves.parts }
-    requires outlook { IsOutlookOf C.model state.old outlook.old }
+    requires pending { IsPendingOf C.model state.old pending.old }
     ensures plans { state.new.plans ≡ state.old.plans }
     ensures costs { state.new.costs ≡ state.old.costs }
     ensures complete { IsCompleteRun state.new.plans (C.model state.new.costs) state.new.history }
@@ -197,7 +197,7 @@ pub fn run_on<C: Costs, H: History, L: Ledger, R: Ledger, M: Ledger, N: Ledger>(
     ensures needed { reads.new ≤ reads.old + most_reads state.new.plans state.new.history }
     ensures looked { looks.new ≤ looks.old + 8 * length state.new.history }
 {
-    outlook.queue.known();
+    pending.queue.known();
     let mut moves = Steps::<R>::new(for_moves);
-    run(state, outlook, steps, &mut moves, looks, reads);
+    run(state, pending, steps, &mut moves, looks, reads);
 }

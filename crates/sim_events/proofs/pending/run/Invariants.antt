@@ -5,21 +5,21 @@ use Rattle.sim_events.specs.Comparisons.{spent}
 use Rattle.sim_events.specs.Cost.{cost_of_actions, all_looked_after}
 use Rattle.sim_events.specs.Needs.{read_so_far}
 use Rattle.sim_events.specs.Changes.{HaveChanged, HaveChangedOn}
-use Rattle.sim_events.specs.Outlook.{IsOutlookOf}
-use Rattle.sim_events.proofs.outlook.run.Given as goal
+use Rattle.sim_events.specs.Pending.{IsPendingOf}
+use Rattle.sim_events.proofs.pending.run.Given as goal
 
 -- what has been compared is paid by the actions, the changes of place, and the keys that are there
 abbrev pub invariant-steps : goal.invariant-steps
 invariant-steps g l =
-    IsOutlookOf g.C.Costs.model l.state l.outlook
+    IsPendingOf g.C.Costs.model l.state l.pending
     × (l.state.plans ≡ l.fn.state.plans)
     × (l.state.costs ≡ l.fn.state.costs)
     × ((k : ℕ) → length (operations l.fn.state.plans) ≤ 2 ^ k
-    → l.steps + cost_of_waiting k l.outlook.queue.stands + spent k l.fn.outlook.queue + cost_of_actions k (length l.fn.state.history) l.fn.moves
-    ≤ l.fn.steps + cost_of_waiting k l.fn.outlook.queue.stands + spent k l.outlook.queue + cost_of_actions k (length l.state.history) l.moves)
-    × ((all : ℕ) → HaveChanged l.fn.state.plans l.fn.state.history l.fn.outlook.queue all → HaveChangedOn l.state.plans l.state.history l.outlook.queue all l.fn.moves l.moves)
+    → l.steps + cost_of_waiting k l.pending.queue.stands + spent k l.fn.pending.queue + cost_of_actions k (length l.fn.state.history) l.fn.moves
+    ≤ l.fn.steps + cost_of_waiting k l.fn.pending.queue.stands + spent k l.pending.queue + cost_of_actions k (length l.state.history) l.moves)
+    × ((all : ℕ) → HaveChanged l.fn.state.plans l.fn.state.history l.fn.pending.queue all → HaveChangedOn l.state.plans l.state.history l.pending.queue all l.fn.moves l.moves)
     × (l.looks + 8 * length l.fn.state.history ≤ l.fn.looks + 8 * length l.state.history)
-    × (l.reads + read_so_far l.fn.state.plans l.fn.state.history l.fn.outlook.queue l.fn.outlook.cursors.items + all_looked_after l.fn.state.plans l.fn.state.history ≤ l.fn.reads + read_so_far l.state.plans l.state.history l.outlook.queue l.outlook.cursors.items + all_looked_after l.state.plans l.state.history)
+    × (l.reads + read_so_far l.fn.state.plans l.fn.state.history l.fn.pending.queue l.fn.pending.cursors.items + all_looked_after l.fn.state.plans l.fn.state.history ≤ l.fn.reads + read_so_far l.state.plans l.state.history l.pending.queue l.pending.cursors.items + all_looked_after l.state.plans l.state.history)
 
 abbrev pub decreases-steps : goal.decreases-steps
 decreases-steps g l = 3 * length (operations l.state.plans) - length l.state.history
