@@ -20,7 +20,7 @@ use Rattle.sim_params.specs.Run.{IsRun}
 use Rattle.sim_params.proofs.ForCallers.{start_kept, start_now, end_kept, end_last, paired_at_kept, since_kept, since_new, run_each, run_interleaving}
 use Rattle.sim_state.specs.Engine.{start_known, end_known}
 use Rattle.sim_state.specs.Enabled.{time_known}
-use Rattle.sim_state.specs.Represents.{paired_known, there_known}
+use Rattle.sim_state.specs.Represents.{paired_known, delivered_known}
 
 -- a number that is known alike
 known_alike : (b c : Bool) (m n : ℕ) → c ≡ b → (b ≡ true → n ≡ m) → (if c then Some n else None) ≡ (if b then Some m else None)
@@ -114,11 +114,11 @@ module _ (plans : List Plan) (costs : CostModel) (h : List Timed) (a : Timed) wh
       arriving_is (a ∷ h) a.op (kind_at plans a.op) refl ∙ cond-false _ _ _ (and_left _ _ (ap not (happened_this Arrive e)))
 
   -- the bytes that are handed over
-  pub there_same : (x : OpId) → is_act Data x (plain_act a) ≡ false → there_known plans costs (a ∷ h) x ≡ there_known plans costs h x
+  pub there_same : (x : OpId) → is_act Data x (plain_act a) ≡ false → delivered_known plans costs (a ∷ h) x ≡ delivered_known plans costs h x
   there_same x e =
       known_alike _ _ _ _ (happened_same Data x e) (λ t. ap (λ (n : ℕ). n + flight plans costs x) (since_kept (happened Data x) a h t))
 
-  pub there_new : Possible plans costs h a → a.class ≡ Data → there_known plans costs (a ∷ h) a.op ≡ Some (a.time + flight plans costs a.op)
+  pub there_new : Possible plans costs h a → a.class ≡ Data → delivered_known plans costs (a ∷ h) a.op ≡ Some (a.time + flight plans costs a.op)
   there_new p e =
       cond-true _ _ _ (happened_this Data e) ∙ ap (λ (n : ℕ). Some (n + flight plans costs a.op)) (since_new (happened Data a.op) a h (fresh Data p e) (happened_this Data e))
 

@@ -14,9 +14,9 @@ use Rattle.sim_match.specs.PostsAndArrivals.{PostsAndArrivals}
 use Rattle.sim_resources.specs.FreeTimes.{Holds, free_at, cpu_free, tx_free, rx_free, unheld, SameFreeTimes}
 use Rattle.sim_state.specs.Engine.{start_known, end_known}
 use Rattle.sim_state.specs.Enabled.{time_known}
-use Rattle.sim_state.specs.Shapes.{work_of}
+use Rattle.sim_state.specs.Tasks.{work_of}
 use Rattle.sim_state.specs.Tables.{fresh_entry}
-use Rattle.sim_state.specs.Represents.{paired_known, there_known, entry_known, AreFreeTimes, KnowsPostsAndArrivals}
+use Rattle.sim_state.specs.Represents.{paired_known, delivered_known, entry_known, AreFreeTimes, KnowsPostsAndArrivals}
 
 module _ (plans : List Plan) (costs : CostModel) where
   module _ (x : OpId) where
@@ -42,14 +42,14 @@ module _ (plans : List Plan) (costs : CostModel) where
     unfolding plain pairs partner
     no_partner = refl
 
-    no_bytes : there_known plans costs [] x ≡ None
+    no_bytes : delivered_known plans costs [] x ≡ None
     unfolding plain happened
     no_bytes = refl
 
     -- nothing is known of any operation but what it does
     pub nothing_known : fresh_entry (work_of plans costs x) ≡ entry_known plans costs [] x
     nothing_known =
-        sym (λ i. record { work = work_of plans costs x; start = no_start i; end = no_end i; arriving = no_arrival i; paired = no_partner i; there = no_bytes i })
+        sym (λ i. record { work = work_of plans costs x; times = record { start = no_start i; end = no_end i; arriving = no_arrival i }; paired = no_partner i; delivered = no_bytes i })
 
     cpu_first : cpu_free (unheld plans) x ≡ cpu plans costs [] x
     unfolding free_at cpu

@@ -78,12 +78,12 @@ module _ (plans : List Plan) (costs : CostModel) (h : List Timed) (x : OpId) whe
     once_ready = ap (may plans (is_eager plans costs) (plain h) Post x) k.kind;
   }
 
-  first_happened : (c : Class) → BeginsBy c → (e : Entry) → e ≡ entry_known plans costs h x → happened c x (plain h) ≡ is_some e.start
+  first_happened : (c : Class) → BeginsBy c → (e : Entry) → e ≡ entry_known plans costs h x → happened c x (plain h) ≡ is_some e.times.start
   first_happened c b e told =
-      ap (λ (d : Class). happened d x (plain h)) (sym b.first) ∙ sym (is_known (has_started plans x (plain h)) _) ∙ sym (ap (λ (e : Entry). is_some e.start) told)
+      ap (λ (d : Class). happened d x (plain h)) (sym b.first) ∙ sym (is_known (has_started plans x (plain h)) _) ∙ sym (ap (λ (e : Entry). is_some e.times.start) told)
 
   -- nothing more of that class once it has started, nor while something that it needs is not there
-  pub begun_not_enabled : (c : Class) → BeginsBy c → (e : Entry) → e ≡ entry_known plans costs h x → is_some e.start ≡ true → None ≡ enabled_action plans costs h c x
+  pub begun_not_enabled : (c : Class) → BeginsBy c → (e : Entry) → e ≡ entry_known plans costs h x → is_some e.times.start ≡ true → None ≡ enabled_action plans costs h c x
   begun_not_enabled c b e told s = past_not_enabled c (first_happened c b e told ∙ s)
 
   pub unready_not_enabled : (c : Class) → BeginsBy c → (r : Option ℕ) → r ≡ ready_known plans costs h x → r ≡ None → None ≡ enabled_action plans costs h c x
@@ -91,7 +91,7 @@ module _ (plans : List Plan) (costs : CostModel) (h : List Timed) (x : OpId) whe
       barred_not_enabled c (b.once_ready ∙ sym (is_known (is_ready plans (is_eager plans costs) (plain h) x) _) ∙ ap is_some (sym told ∙ n))
 
   -- else its action is enabled
-  pub ready_enabled : (c : Class) → BeginsBy c → (e : Entry) → e ≡ entry_known plans costs h x → is_some e.start ≡ false → (r : Option ℕ) (n t : ℕ) → r ≡ ready_known plans costs h x → r ≡ Some n → (ready plans costs h x ≡ n → t ≡ time plans costs h c x) → Some (record { time = t; class = c; op = x }) ≡ enabled_action plans costs h c x
+  pub ready_enabled : (c : Class) → BeginsBy c → (e : Entry) → e ≡ entry_known plans costs h x → is_some e.times.start ≡ false → (r : Option ℕ) (n t : ℕ) → r ≡ ready_known plans costs h x → r ≡ Some n → (ready plans costs h x ≡ n → t ≡ time plans costs h c x) → Some (record { time = t; class = c; op = x }) ≡ enabled_action plans costs h c x
   ready_enabled c b e told s r n t r_known r_is at =
       let q = known_some (is_ready plans (is_eager plans costs) (plain h) x) (ready plans costs h x) n (sym r_known ∙ r_is) in
       comes_enabled c t (first_happened c b e told ∙ s) (b.once_ready ∙ q.0) (at q.1)
@@ -151,11 +151,11 @@ module _ (plans : List Plan) (costs : CostModel) (h : List Timed) (x : OpId) whe
   eager_data e =
       not_enabled Data (λ p. both_ways _ (allowed_data plans (is_eager plans costs) (plain h) x p).1 e)
 
-  handed : (e : Entry) → e ≡ entry_known plans costs h x → happened Data x (plain h) ≡ is_some e.there
+  handed : (e : Entry) → e ≡ entry_known plans costs h x → happened Data x (plain h) ≡ is_some e.delivered
   handed e told =
-      sym (is_known (happened Data x (plain h)) _) ∙ sym (ap (λ (e : Entry). is_some e.there) told)
+      sym (is_known (happened Data x (plain h)) _) ∙ sym (ap (λ (e : Entry). is_some e.delivered) told)
 
-  pub handed_data : (e : Entry) → e ≡ entry_known plans costs h x → is_some e.there ≡ true → None ≡ enabled_action plans costs h Data x
+  pub handed_data : (e : Entry) → e ≡ entry_known plans costs h x → is_some e.delivered ≡ true → None ≡ enabled_action plans costs h Data x
   handed_data e told s = past_not_enabled Data (handed e told ∙ s)
 
   pub unpaired_data : (e : Entry) → e ≡ entry_known plans costs h x → e.paired ≡ None → None ≡ enabled_action plans costs h Data x
@@ -166,21 +166,21 @@ module _ (plans : List Plan) (costs : CostModel) (h : List Timed) (x : OpId) whe
   may_data k large p is =
       ap (may plans (is_eager plans costs) (plain h) Data x) k.kind ∙ and_from (not (is_eager plans costs x)) (is_paired (pairs plans (plain h)) x) (not_from_false _ large) (ap is_some is.mate_is)
 
-  pub data_enabled : IsSend plans x → is_eager plans costs x ≡ false → (e : Entry) → e ≡ entry_known plans costs h x → is_some e.there ≡ false → (p : Pairing) → IsPairing p → (t : ℕ) → t ≡ time plans costs h Data x → Some (record { time = t; class = Data; op = x }) ≡ enabled_action plans costs h Data x
+  pub data_enabled : IsSend plans x → is_eager plans costs x ≡ false → (e : Entry) → e ≡ entry_known plans costs h x → is_some e.delivered ≡ false → (p : Pairing) → IsPairing p → (t : ℕ) → t ≡ time plans costs h Data x → Some (record { time = t; class = Data; op = x }) ≡ enabled_action plans costs h Data x
   data_enabled k large e told s p is t at = comes_enabled Data t (handed e told ∙ s) (may_data k large p is) at
 
   -- its clearance is back within the budget
-  pub clears : IsRun plans costs h → IsSend plans x → is_eager plans costs x ≡ false → (e : Entry) → e ≡ entry_known plans costs h x → is_some e.there ≡ false → (p : Pairing) → IsPairing p → p.at + latency plans costs x ≤ budget plans costs
+  pub clears : IsRun plans costs h → IsSend plans x → is_eager plans costs x ≡ false → (e : Entry) → e ≡ entry_known plans costs h x → is_some e.delivered ≡ false → (p : Pairing) → IsPairing p → p.at + latency plans costs x ≤ budget plans costs
   clears run k large e told s p is =
       let can = allowed_from plans (is_eager plans costs) (plain h) Data x (handed e told ∙ s) (may_data k large p is) in
       omega (arith, possible_budget plans costs h (at_its_time plans costs h Data x) (run_each plans costs h run) (possible_at plans costs h Data x can), data_time k, is.at_is)
 
   -- no Serve of a receive that has ended, that is not paired, or whose message is not there
-  ended : IsReceive plans x → (e : Entry) → e ≡ entry_known plans costs h x → happened Serve x (plain h) ≡ is_some e.end
+  ended : IsReceive plans x → (e : Entry) → e ≡ entry_known plans costs h x → happened Serve x (plain h) ≡ is_some e.times.end
   ended k e told =
-      sym (ended_receive plans (is_eager plans costs) (plain h) x k) ∙ sym (is_known (has_ended plans (is_eager plans costs) x (plain h)) _) ∙ sym (ap (λ (e : Entry). is_some e.end) told)
+      sym (ended_receive plans (is_eager plans costs) (plain h) x k) ∙ sym (is_known (has_ended plans (is_eager plans costs) x (plain h)) _) ∙ sym (ap (λ (e : Entry). is_some e.times.end) told)
 
-  pub ended_serve : IsReceive plans x → (e : Entry) → e ≡ entry_known plans costs h x → is_some e.end ≡ true → None ≡ enabled_action plans costs h Serve x
+  pub ended_serve : IsReceive plans x → (e : Entry) → e ≡ entry_known plans costs h x → is_some e.times.end ≡ true → None ≡ enabled_action plans costs h Serve x
   ended_serve k e told s = past_not_enabled Serve (ended k e told ∙ s)
 
   unserved : is_served plans (is_eager plans costs) (plain h) (mate plans costs h x) ≡ false → None ≡ enabled_action plans costs h Serve x
@@ -224,7 +224,7 @@ module _ (plans : List Plan) (costs : CostModel) (h : List Timed) (x : OpId) whe
       go false true f = (refl, same_Some later n f)
       go false false f = absurd (cc)
 
-  pub serve_enabled : IsReceive plans x → (e : Entry) → e ≡ entry_known plans costs h x → is_some e.end ≡ false → (n t : ℕ) → IsThere n → t ≡ time plans costs h Serve x → Some (record { time = t; class = Serve; op = x }) ≡ enabled_action plans costs h Serve x
+  pub serve_enabled : IsReceive plans x → (e : Entry) → e ≡ entry_known plans costs h x → is_some e.times.end ≡ false → (n t : ℕ) → IsThere n → t ≡ time plans costs h Serve x → Some (record { time = t; class = Serve; op = x }) ≡ enabled_action plans costs h Serve x
   serve_enabled k e told s n t there at =
       comes_enabled Serve t (ended k e told ∙ s) (ap (may plans (is_eager plans costs) (plain h) Serve x) k.kind ∙ there.served) at
 

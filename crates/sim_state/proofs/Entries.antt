@@ -19,15 +19,15 @@ use Rattle.sim_state.specs.declared.entry.Entry.{Entry}
 use Rattle.sim_state.specs.declared.pairing.Pairing.{Pairing}
 use Rattle.sim_state.specs.Engine.{start_known, end_known}
 use Rattle.sim_state.specs.Enabled.{time_known}
-use Rattle.sim_state.specs.Shapes.{work_of}
+use Rattle.sim_state.specs.Tasks.{work_of}
 use Rattle.sim_state.specs.Tables.{with_entry, with_pairing, with_partner}
-use Rattle.sim_state.specs.Represents.{entry_known, paired_known, there_known}
+use Rattle.sim_state.specs.Represents.{entry_known, paired_known, delivered_known}
 use Rattle.sim_state.proofs.After.{other_op, other_class, start_same, start_new, end_same, end_new, arriving_same, arriving_calc, arriving_begun, arriving_arrived, there_same, there_new, paired_same, paired_new}
 use Rattle.sim_state.proofs.Pairings.{none_made, other_makes_none, post_none, post_some, arrive_none, arrive_some}
 
-same_entry : (d e : Entry) → d.work ≡ e.work → d.start ≡ e.start → d.end ≡ e.end → d.arriving ≡ e.arriving → d.paired ≡ e.paired → d.there ≡ e.there → d ≡ e
+same_entry : (d e : Entry) → d.work ≡ e.work → d.times.start ≡ e.times.start → d.times.end ≡ e.times.end → d.times.arriving ≡ e.times.arriving → d.paired ≡ e.paired → d.delivered ≡ e.delivered → d ≡ e
 same_entry d e w s n a p t =
-    λ i. record { work = w i; start = s i; end = n i; arriving = a i; paired = p i; there = t i }
+    λ i. record { work = w i; times = record { start = s i; end = n i; arriving = a i }; paired = p i; delivered = t i }
 
 -- an entry is written, and two entries get their partners
 pair_written : (y m : OpId) (at : ℕ) (e : Entry) (f g : OpId → Entry) → same_op y m ≡ false → g y ≡ record e { paired = Some (record { with = m; at = at }) } → g m ≡ record (f m) { paired = Some (record { with = y; at = at }) } → ((x : OpId) → same_op y x ≡ false → same_op m x ≡ false → g x ≡ f x) → (x : OpId) → with_pairing m y at (with_pairing y m at (with_entry y e f)) x ≡ g x
@@ -71,24 +71,24 @@ module _ (plans : List Plan) (costs : CostModel) (h : List Timed) (a : Timed) (r
     work_was : work_of plans costs a.op ≡ e.work
     work_was = ap (λ (d : Entry). d.work) (sym was)
 
-    start_was : (c : Class) → a.class ≡ c → (c ≡ first_class (kind_at plans a.op) → ⊥) → start_known plans costs (a ∷ h) a.op ≡ e.start
+    start_was : (c : Class) → a.class ≡ c → (c ≡ first_class (kind_at plans a.op) → ⊥) → start_known plans costs (a ∷ h) a.op ≡ e.times.start
     start_was c same other =
-        start_same plans costs h a a.op (another c (first_class (kind_at plans a.op)) a.op same other) ∙ ap (λ (d : Entry). d.start) (sym was)
+        start_same plans costs h a a.op (another c (first_class (kind_at plans a.op)) a.op same other) ∙ ap (λ (d : Entry). d.times.start) (sym was)
 
-    end_was : (c : Class) → a.class ≡ c → (c ≡ last_class (is_eager plans costs a.op) (kind_at plans a.op) → ⊥) → end_known plans costs (a ∷ h) a.op ≡ e.end
+    end_was : (c : Class) → a.class ≡ c → (c ≡ last_class (is_eager plans costs a.op) (kind_at plans a.op) → ⊥) → end_known plans costs (a ∷ h) a.op ≡ e.times.end
     end_was c same other =
-        end_same plans costs h a run a.op (another c (last_class (is_eager plans costs a.op) (kind_at plans a.op)) a.op same other) ∙ ap (λ (d : Entry). d.end) (sym was)
+        end_same plans costs h a run a.op (another c (last_class (is_eager plans costs a.op) (kind_at plans a.op)) a.op same other) ∙ ap (λ (d : Entry). d.times.end) (sym was)
 
-    arriving_was : (c : Class) → a.class ≡ c → (place c == 0) ≡ false → (place c == 4) ≡ false → time_known plans costs (a ∷ h) Arrive a.op ≡ e.arriving
+    arriving_was : (c : Class) → a.class ≡ c → (place c == 0) ≡ false → (place c == 4) ≡ false → time_known plans costs (a ∷ h) Arrive a.op ≡ e.times.arriving
     arriving_was c same f g =
-        arriving_same plans costs h a a.op (not_class c Arrive a.op same f) (not_class c Begin a.op same g) ∙ ap (λ (d : Entry). d.arriving) (sym was)
+        arriving_same plans costs h a a.op (not_class c Arrive a.op same f) (not_class c Begin a.op same g) ∙ ap (λ (d : Entry). d.times.arriving) (sym was)
 
     paired_was : mate plans costs (a ∷ h) a.op ≡ mate plans costs h a.op → paired_known plans costs (a ∷ h) a.op ≡ e.paired
     paired_was m = paired_same plans costs h a a.op m ∙ ap (λ (d : Entry). d.paired) (sym was)
 
-    there_was : (c : Class) → a.class ≡ c → (place c == 2) ≡ false → there_known plans costs (a ∷ h) a.op ≡ e.there
+    there_was : (c : Class) → a.class ≡ c → (place c == 2) ≡ false → delivered_known plans costs (a ∷ h) a.op ≡ e.delivered
     there_was c same f =
-        there_same plans costs h a a.op (not_class c Data a.op same f) ∙ ap (λ (d : Entry). d.there) (sym was)
+        there_same plans costs h a a.op (not_class c Data a.op same f) ∙ ap (λ (d : Entry). d.delivered) (sym was)
 
     -- the table after an action that pairs no one
     abbrev Becomes : Entry → Type 0
@@ -106,19 +106,19 @@ module _ (plans : List Plan) (costs : CostModel) (h : List Timed) (a : Timed) (r
       end_now last = end_new plans costs h a possible last ∙ ap Some (sym ends)
 
       -- a calc begins
-      pub calc_begun : a.class ≡ Begin → IsCalc plans a.op → Becomes (record e { start = Some a.time; end = Some until })
+      pub calc_begun : a.class ≡ Begin → IsCalc plans a.op → Becomes (record e { times = record e.times { start = Some a.time; end = Some until } })
       calc_begun c k =
           let mates = unpaired Begin c refl in
-          one_written _ mates (same_entry _ _ work_was (start_new plans costs h a possible (c ∙ sym (first_of_calc plans a.op k))) (end_now (c ∙ sym (last_of_calc plans (is_eager plans costs) a.op k))) (arriving_calc plans costs h a a.op k ∙ ap (λ (d : Entry). d.arriving) (sym was)) (paired_was (mates a.op)) (there_was Begin c refl))
+          one_written _ mates (same_entry _ _ work_was (start_new plans costs h a possible (c ∙ sym (first_of_calc plans a.op k))) (end_now (c ∙ sym (last_of_calc plans (is_eager plans costs) a.op k))) (arriving_calc plans costs h a a.op k ∙ ap (λ (d : Entry). d.times.arriving) (sym was)) (paired_was (mates a.op)) (there_was Begin c refl))
 
       -- an eager send begins
-      pub eager_begun : (arrive : ℕ) → a.class ≡ Begin → IsSend plans a.op → is_eager plans costs a.op ≡ true → arrive ≡ a.time + flight plans costs a.op → Becomes (record e { start = Some a.time; end = Some until; arriving = Some arrive })
+      pub eager_begun : (arrive : ℕ) → a.class ≡ Begin → IsSend plans a.op → is_eager plans costs a.op ≡ true → arrive ≡ a.time + flight plans costs a.op → Becomes (record e { times = record e.times { start = Some a.time; end = Some until; arriving = Some arrive } })
       eager_begun arrive c k eager at =
           let mates = unpaired Begin c refl in
           one_written _ mates (same_entry _ _ work_was (start_new plans costs h a possible (c ∙ sym (first_of_send plans a.op k))) (end_now (c ∙ sym (last_of_eager plans (is_eager plans costs) a.op k eager))) (arriving_begun plans costs h a run possible c k ∙ ap (λ (b : Bool). Some (a.time + (if b then flight plans costs a.op else flight_one plans costs a.op))) eager ∙ ap Some (sym at)) (paired_was (mates a.op)) (there_was Begin c refl))
 
       -- a large send hands over its bytes
-      pub data_sent : (there : ℕ) → a.class ≡ Data → IsSend plans a.op → is_eager plans costs a.op ≡ false → there ≡ a.time + flight plans costs a.op → Becomes (record e { end = Some until; there = Some there })
+      pub data_sent : (there : ℕ) → a.class ≡ Data → IsSend plans a.op → is_eager plans costs a.op ≡ false → there ≡ a.time + flight plans costs a.op → Becomes (record e { times = record e.times { end = Some until }; delivered = Some there })
       data_sent there c k large at =
           let mates = unpaired Data c refl in
           one_written _ mates (same_entry _ _ work_was (start_was Data c (λ f. let g = f ∙ first_of_send plans a.op k in differ g)) (end_now (c ∙ sym (last_of_large plans (is_eager plans costs) a.op k large))) (arriving_was Data c refl refl) (paired_was (mates a.op)) (there_new plans costs h a possible c ∙ ap Some (sym at)))
@@ -127,7 +127,7 @@ module _ (plans : List Plan) (costs : CostModel) (h : List Timed) (a : Timed) (r
           differ f = cc
 
       -- a receive takes its message
-      pub message_taken : a.class ≡ Serve → IsReceive plans a.op → Becomes (record e { end = Some until })
+      pub message_taken : a.class ≡ Serve → IsReceive plans a.op → Becomes (record e { times = record e.times { end = Some until } })
       message_taken c k =
           let mates = unpaired Serve c refl in
           one_written _ mates (same_entry _ _ work_was (start_was Serve c (λ f. differ (f ∙ first_of_receive plans a.op k))) (end_now (c ∙ sym (last_of_receive plans (is_eager plans costs) a.op k))) (arriving_was Serve c refl refl) (paired_was (mates a.op)) (there_was Serve c refl))
@@ -136,7 +136,7 @@ module _ (plans : List Plan) (costs : CostModel) (h : List Timed) (a : Timed) (r
           differ f = cc
 
     -- a large send begins
-    pub request_begun : (arrive : ℕ) → a.class ≡ Begin → IsSend plans a.op → is_eager plans costs a.op ≡ false → arrive ≡ a.time + flight_one plans costs a.op → Becomes (record e { start = Some a.time; arriving = Some arrive })
+    pub request_begun : (arrive : ℕ) → a.class ≡ Begin → IsSend plans a.op → is_eager plans costs a.op ≡ false → arrive ≡ a.time + flight_one plans costs a.op → Becomes (record e { times = record e.times { start = Some a.time; arriving = Some arrive } })
     request_begun arrive c k large at =
         let mates = unpaired Begin c refl in
         one_written _ mates (same_entry _ _ work_was (start_new plans costs h a possible (c ∙ sym (first_of_send plans a.op k))) (end_was Begin c (λ f. differ (f ∙ last_of_large plans (is_eager plans costs) a.op k large))) (arriving_begun plans costs h a run possible c k ∙ ap (λ (b : Bool). Some (a.time + (if b then flight plans costs a.op else flight_one plans costs a.op))) large ∙ ap Some (sym at)) (paired_was (mates a.op)) (there_was Begin c refl))
@@ -145,7 +145,7 @@ module _ (plans : List Plan) (costs : CostModel) (h : List Timed) (a : Timed) (r
         differ f = cc
 
     -- a receive is posted: what is known of it but its partner
-    posted_entry : (p : Option Pairing) → a.class ≡ Post → IsReceive plans a.op → paired_known plans costs (a ∷ h) a.op ≡ p → after a.op ≡ record e { start = Some a.time; paired = p }
+    posted_entry : (p : Option Pairing) → a.class ≡ Post → IsReceive plans a.op → paired_known plans costs (a ∷ h) a.op ≡ p → after a.op ≡ record e { times = record e.times { start = Some a.time }; paired = p }
     posted_entry p c k pair =
         same_entry _ _ work_was (start_new plans costs h a possible (c ∙ sym (first_of_receive plans a.op k))) (end_was Post c (λ f. differ (f ∙ last_of_receive plans (is_eager plans costs) a.op k))) (arriving_was Post c refl refl) pair (there_was Post c refl)
       where
@@ -153,7 +153,7 @@ module _ (plans : List Plan) (costs : CostModel) (h : List Timed) (a : Timed) (r
         differ f = cc
 
     -- a message or a request arrives: what is known of its send but its partner
-    arrived_entry : (p : Option Pairing) → a.class ≡ Arrive → IsSend plans a.op → paired_known plans costs (a ∷ h) a.op ≡ p → after a.op ≡ record e { arriving = None; paired = p }
+    arrived_entry : (p : Option Pairing) → a.class ≡ Arrive → IsSend plans a.op → paired_known plans costs (a ∷ h) a.op ≡ p → after a.op ≡ record e { times = record e.times { arriving = None }; paired = p }
     arrived_entry p c k pair =
         same_entry _ _ work_was (start_was Arrive c (λ f. differ (f ∙ first_of_send plans a.op k))) (end_was Arrive c last) (arriving_arrived plans costs h a c) pair (there_was Arrive c refl)
       where
@@ -168,12 +168,12 @@ module _ (plans : List Plan) (costs : CostModel) (h : List Timed) (a : Timed) (r
             elim (cases_Bool (is_eager plans costs a.op)) [ inl t ↦ differ (f ∙ last_of_eager plans (is_eager plans costs) a.op k t) | inr t ↦ differ_too (f ∙ last_of_large plans (is_eager plans costs) a.op k t) ]
 
     -- where no one is paired
-    posted_alone : a.class ≡ Post → IsReceive plans a.op → send_for plans (filter is_post_or_arrival (plain h)) a.op ≡ None → Becomes (record e { start = Some a.time })
+    posted_alone : a.class ≡ Post → IsReceive plans a.op → send_for plans (filter is_post_or_arrival (plain h)) a.op ≡ None → Becomes (record e { times = record e.times { start = Some a.time } })
     posted_alone c k none =
         let mates = post_none plans costs h a run possible c none in
         one_written _ mates (posted_entry e.paired c k (paired_was (mates a.op)))
 
-    arrived_alone : a.class ≡ Arrive → IsSend plans a.op → receive_for plans (filter is_post_or_arrival (plain h)) a.op ≡ None → Becomes (record e { arriving = None })
+    arrived_alone : a.class ≡ Arrive → IsSend plans a.op → receive_for plans (filter is_post_or_arrival (plain h)) a.op ≡ None → Becomes (record e { times = record e.times { arriving = None } })
     arrived_alone c k none =
         let mates = arrive_none plans costs h a run possible c none in
         one_written _ mates (arrived_entry e.paired c k (paired_was (mates a.op)))
@@ -190,14 +190,14 @@ module _ (plans : List Plan) (costs : CostModel) (h : List Timed) (a : Timed) (r
     apart m x s r =
         false_from_ne_true _ (λ t. not_send_receive plans x (subst (λ (y : OpId). IsSend plans y) (same_op_true m x t) s) r)
 
-    posted_pair : (m : OpId) → a.class ≡ Post → send_for plans (filter is_post_or_arrival (plain h)) a.op ≡ Some m → BecomePaired m (record e { start = Some a.time })
+    posted_pair : (m : OpId) → a.class ≡ Post → send_for plans (filter is_post_or_arrival (plain h)) a.op ≡ Some m → BecomePaired m (record e { times = record e.times { start = Some a.time } })
     posted_pair m c some =
         let p = post_some plans costs h a run possible c m some in
         let differ = same_op_swapped m a.op (apart m a.op p.send p.receive) in
         let here = posted_entry (Some (record { with = m; at = a.time })) c p.receive (paired_new plans costs h a a.op m p.free_receive p.receive_taken) in
         same_tables _ _ (operations plans) (λ i x s. pair_written a.op m a.time _ before after differ here (partner_entry m differ p.free_send p.send_taken) (λ x d f. other_same x (p.others x f d) d) x)
 
-    arrived_pair : (x : OpId) → a.class ≡ Arrive → receive_for plans (filter is_post_or_arrival (plain h)) a.op ≡ Some x → BecomePaired x (record e { arriving = None })
+    arrived_pair : (x : OpId) → a.class ≡ Arrive → receive_for plans (filter is_post_or_arrival (plain h)) a.op ≡ Some x → BecomePaired x (record e { times = record e.times { arriving = None } })
     arrived_pair x c some =
         let p = arrive_some plans costs h a run possible c x some in
         let differ = apart a.op x p.send p.receive in
@@ -205,11 +205,11 @@ module _ (plans : List Plan) (costs : CostModel) (h : List Timed) (a : Timed) (r
         same_tables _ _ (operations plans) (λ i y s. pair_written a.op x a.time _ before after differ here (partner_entry x differ p.free_receive p.receive_taken) (λ y d f. other_same y (p.others y d f) d) y)
 
     -- whether someone is paired or not
-    pub posted : (partner : Option OpId) → a.class ≡ Post → IsReceive plans a.op → partner ≡ send_for plans (filter is_post_or_arrival (plain h)) a.op → map (with_partner a.op partner a.time (with_entry a.op (record e { start = Some a.time }) before)) (operations plans) ≡ map after (operations plans)
+    pub posted : (partner : Option OpId) → a.class ≡ Post → IsReceive plans a.op → partner ≡ send_for plans (filter is_post_or_arrival (plain h)) a.op → map (with_partner a.op partner a.time (with_entry a.op (record e { times = record e.times { start = Some a.time } }) before)) (operations plans) ≡ map after (operations plans)
     posted None c k is = posted_alone c k (sym is)
     posted (Some m) c k is = posted_pair m c (sym is)
 
-    pub arrived : (partner : Option OpId) → a.class ≡ Arrive → IsSend plans a.op → partner ≡ receive_for plans (filter is_post_or_arrival (plain h)) a.op → map (with_partner a.op partner a.time (with_entry a.op (record e { arriving = None }) before)) (operations plans) ≡ map after (operations plans)
+    pub arrived : (partner : Option OpId) → a.class ≡ Arrive → IsSend plans a.op → partner ≡ receive_for plans (filter is_post_or_arrival (plain h)) a.op → map (with_partner a.op partner a.time (with_entry a.op (record e { times = record e.times { arriving = None } }) before)) (operations plans) ≡ map after (operations plans)
     arrived None c k is = arrived_alone c k (sym is)
     arrived (Some m) c k is = arrived_pair m c (sym is)
 

@@ -1,5 +1,5 @@
 -- The table of entries, after one of them is changed.
-use Rattle.std.proofs.Common.{◌≡◌, ℕ, List, map, get_or, slice_get, slice_set, Some, ap, ◌∙◌}
+use Rattle.std.proofs.Common.{◌≡◌, ℕ, List, map, get_or, slice_get, slice_set, Option, Some, None, refl, ap, ◌∙◌}
 use Rattle.goal_graph.specs.declared.action.OpId.{OpId}
 use Rattle.goal_graph.specs.Schedule.{Plan, operations}
 use Rattle.goal_graph.proofs.ForCallers.{entry_of, written_entry}
@@ -9,3 +9,8 @@ use Rattle.sim_state.specs.Tables.{with_entry}
 pub entry_changed : (plans : List Plan) (i : ℕ) (x : OpId) (entries : List Entry) (f : OpId → Entry) (change : Entry → Entry) (d : Entry) → entries ≡ map f (operations plans) → slice_get (operations plans) i ≡ Some x → slice_set entries i (change (get_or entries i d)) ≡ map (with_entry x (change (f x)) f) (operations plans)
 entry_changed plans i x entries f change d table is =
     ap (λ (es : List Entry). slice_set es i (change (get_or es i d))) table ∙ ap (λ (e : Entry). slice_set (map f (operations plans)) i (change e)) (entry_of f (operations plans) i x d is) ∙ written_entry plans i x (change (f x)) f is
+
+-- what is no time is none
+pub absent : (o : Option ℕ) → ((n : ℕ) → o ≡ Some n → ⊥) → o ≡ None
+absent None never = refl
+absent (Some n) never = absurd (never n refl)

@@ -12,9 +12,11 @@ pub mod Fits
 pub mod HoldTimes
 pub mod Entries
 pub mod EntryTable
+pub mod Begun
+pub mod Changed
 pub mod Performed
 pub mod Views
 pub mod EnabledLemmas
-pub mod Shapes
+pub mod Tasks
 pub mod Choice
 pub mod ForCallers

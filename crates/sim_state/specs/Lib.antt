@@ -6,8 +6,9 @@ pub mod Partners
 pub mod Unkept
 pub mod Tables
 pub mod Enabled
-pub mod Shapes
+pub mod Tasks
 pub mod Represents
+pub mod Changes
 pub mod Free
 pub mod Cursors
 -- What the clauses cite of lower crates.

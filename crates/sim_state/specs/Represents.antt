@@ -14,33 +14,40 @@ use Rattle.sim_params.specs.Budget.{budget}
 use Rattle.sim_match.specs.PostsAndArrivals.{PostsAndArrivals, is_post_or_arrival}
 use Rattle.sim_resources.specs.FreeTimes.{Holds, cpu_free, tx_free, rx_free}
 use Rattle.sim_state.specs.declared.entry.Entry.{Entry}
+use Rattle.sim_state.specs.declared.entry.Times.{Times}
 use Rattle.sim_state.specs.declared.pairing.Pairing.{Pairing}
 use Rattle.sim_state.specs.Engine.{start_known, end_known}
 use Rattle.sim_state.specs.Enabled.{time_known}
-use Rattle.sim_state.specs.Shapes.{work_of}
+use Rattle.sim_state.specs.Tasks.{work_of}
 
 module _ (plans : List Plan) (costs : CostModel) (h : List Timed) where
   -- the operation that x is paired with, and since when, once it is
   abbrev pub paired_known : OpId → Option Pairing
   paired_known x = option_map (λ (y : OpId). record { with = y; at = paired_at plans costs h x }) (mate plans costs h x)
 
-  -- when the bytes that x hands over are at its receive, once it has handed them over
-  abbrev pub there_known : OpId → Option ℕ
-  there_known x = if happened Data x (plain h) then Some (since (happened Data x) h + flight plans costs x) else None
+  -- when the bytes that x hands over are delivered to its receive, once it has handed them over
+  abbrev pub delivered_known : OpId → Option ℕ
+  delivered_known x = if happened Data x (plain h) then Some (since (happened Data x) h + flight plans costs x) else None
 
   -- when the message of its partner is there for a receive, once it is
   abbrev pub message_known : Pairing → Option ℕ
-  message_known p = if is_eager plans costs p.with then Some p.at else there_known p.with
+  message_known p = if is_eager plans costs p.with then Some p.at else delivered_known p.with
+
+  -- what is known of the times of x
+  abbrev pub times_known : OpId → Times
+  times_known x = record {
+    start = start_known plans costs h x;
+    end = end_known plans costs h x;
+    arriving = time_known plans costs h Arrive x;
+  }
 
   -- what is kept of x
   abbrev pub entry_known : OpId → Entry
   entry_known x = record {
     work = work_of plans costs x;
-    start = start_known plans costs h x;
-    end = end_known plans costs h x;
-    arriving = time_known plans costs h Arrive x;
+    times = times_known x;
     paired = paired_known x;
-    there = there_known x;
+    delivered = delivered_known x;
   }
 
   -- the cpus and interfaces of the schedule are free when the history says so

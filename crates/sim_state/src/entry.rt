@@ -1,11 +1,11 @@
 // What an engine keeps of each operation, in a table in the order of all operations.
-ghost use Rattle.std.specs.Prelude.{◌≡◌, ◌<◌, ◌^◌, List, length, map, [], IfSome, IfOk};
+ghost use Rattle.std.specs.Prelude.{◌≡◌, ◌<◌, ◌^◌, List, length, map, [], Some, None, IfSome, IfOk};
 ghost use Rattle.goal_graph.specs.declared.action.OpId.{OpId};
 ghost use Rattle.goal_graph.specs.Schedule.{operations};
 ghost use Rattle.goal_graph.specs.Fault.{IsOp};
 ghost use Rattle.sim_state.specs.declared.entry.Entry.{Entry};
 ghost use Rattle.sim_state.specs.Represents.{entry_known};
-ghost use Rattle.sim_state.specs.Tables.{fresh_entry, with_entry, with_pairing, with_partner};
+ghost use Rattle.sim_state.specs.Tables.{fresh_entry, with_times, with_pairing, with_change};
 
 use crate::moment::Moment;
 use crate::pairing::Partner;
@@ -14,21 +14,102 @@ use goal_graph::{OpId, Sched};
 use sim_params::Costs;
 use std::alloc::{AllocError, Global};
 
-/// What is known of an operation, in 64 bytes: a run waits most for its tables to come from memory.
+/// What is known of the times of an operation.
 #[derive(Clone, Copy)]
-pub struct Entry {
-    /// What it does.
-    pub work: Work,
+pub struct Times {
     /// When it started.
     pub start: Moment,
     /// When it ends.
     pub end: Moment,
     /// When the message of a send, or its request, arrives, while it is under way.
     pub arriving: Moment,
+}
+
+impl Times {
+    /// Nothing is known.
+    const NONE: Times = Times {
+        start: Moment::NONE,
+        end: Moment::NONE,
+        arriving: Moment::NONE,
+    };
+
+    /// With this start, in nanoseconds.
+    pub fn with_start(self, at: u64) -> Times
+        requires { at < 2 ^ 63 }
+        ensures { result ≡ record self { start = Some at } }
+    {
+        Times {
+            start: Moment::at(at),
+            ..self
+        }
+    }
+
+    /// With this end, in nanoseconds.
+    pub fn with_end(self, at: u64) -> Times
+        requires { at < 2 ^ 63 }
+        ensures { result ≡ record self { end = Some at } }
+    {
+        Times {
+            end: Moment::at(at),
+            ..self
+        }
+    }
+
+    /// Under way, until it arrives at this time in nanoseconds.
+    pub fn with_arrival(self, at: u64) -> Times
+        requires { at < 2 ^ 63 }
+        ensures { result ≡ record self { arriving = Some at } }
+    {
+        Times {
+            arriving: Moment::at(at),
+            ..self
+        }
+    }
+
+    /// No longer under way.
+    pub fn with_no_arrival(self) -> Times
+        ensures { result ≡ record self { arriving = None } }
+    {
+        Times {
+            arriving: Moment::NONE,
+            ..self
+        }
+    }
+}
+
+/// What is known of an operation, in 64 bytes: a run waits most for its tables to come from memory.
+#[derive(Clone, Copy)]
+pub struct Entry {
+    /// What it does.
+    pub work: Work,
+    /// Its times.
+    pub times: Times,
     /// The operation that it is paired with.
     pub paired: Partner,
-    /// When the bytes of a large send are at its receive, once they are handed over.
-    pub there: Moment,
+    /// When the bytes of a large send are delivered to its receive, once they are handed over.
+    pub delivered: Moment,
+}
+
+/// What an action changes of what is known of its operation: its times, its partner where the action pairs it, and when its
+/// bytes are delivered, where the action hands them over.
+#[derive(Clone, Copy)]
+pub struct Change {
+    pub times: Times,
+    pub partner: Option<OpId>,
+    pub delivered: Moment,
+}
+
+impl Change {
+    /// Of times alone.
+    pub fn of_times(times: Times) -> Change
+        ensures { result ≡ record { times = times; partner = None; delivered = None } }
+    {
+        Change {
+            times,
+            partner: None,
+            delivered: Moment::NONE,
+        }
+    }
 }
 
 impl Entry {
@@ -38,11 +119,9 @@ impl Entry {
     {
         Entry {
             work,
-            start: Moment::NONE,
-            end: Moment::NONE,
-            arriving: Moment::NONE,
+            times: Times::NONE,
             paired: Partner::NONE,
-            there: Moment::NONE,
+            delivered: Moment::NONE,
         }
     }
 }
@@ -71,45 +150,18 @@ pub fn read<'e>(sched: &Sched, entries: &'e [Entry], id: OpId) -> &'e Entry
     &entries[sched.index(id) as usize]
 }
 
-/// Writes when an operation started, when it ends, and when what it has sent arrives.
-pub fn write_times(
-    sched: &Sched,
-    entries: &mut [Entry],
-    id: OpId,
-    start: Moment,
-    end: Moment,
-    arriving: Moment,
-)
+// Writes the times of an operation and, where it is known, when its bytes are delivered.
+fn write_times(sched: &Sched, entries: &mut [Entry], id: OpId, times: Times, delivered: Moment)
     requires exists { IsOp sched.now id }
     requires each { length entries.old ≡ length (operations sched.now) }
-    ensures { (f : OpId → Entry) → entries.old ≡ map f (operations sched.now) → entries.new ≡ map (with_entry id (record (f id) { start = start; end = end; arriving = arriving }) f) (operations sched.now) }
+    ensures { (f : OpId → Entry) → entries.old ≡ map f (operations sched.now) → entries.new ≡ map (with_times id times delivered f) (operations sched.now) }
 {
     let kept = &mut entries[sched.index(id) as usize];
-    kept.start = start;
-    kept.end = end;
-    kept.arriving = arriving;
-}
-
-/// Writes when an operation ends, and when the bytes that it has handed over are at its receive.
-pub fn write_sent(sched: &Sched, entries: &mut [Entry], id: OpId, end: Moment, there: Moment)
-    requires exists { IsOp sched.now id }
-    requires each { length entries.old ≡ length (operations sched.now) }
-    ensures { (f : OpId → Entry) → entries.old ≡ map f (operations sched.now) → entries.new ≡ map (with_entry id (record (f id) { end = end; there = there }) f) (operations sched.now) }
-{
-    let kept = &mut entries[sched.index(id) as usize];
-    kept.end = end;
-    kept.there = there;
-}
-
-// Writes when an operation started, and when what it has sent arrives.
-fn write_started(sched: &Sched, entries: &mut [Entry], id: OpId, start: Moment, arriving: Moment)
-    requires exists { IsOp sched.now id }
-    requires each { length entries.old ≡ length (operations sched.now) }
-    ensures { (f : OpId → Entry) → entries.old ≡ map f (operations sched.now) → entries.new ≡ map (with_entry id (record (f id) { start = start; arriving = arriving }) f) (operations sched.now) }
-{
-    let kept = &mut entries[sched.index(id) as usize];
-    kept.start = start;
-    kept.arriving = arriving;
+    kept.times = times;
+    let Some(_) = delivered.get() else {
+        return;
+    };
+    kept.delivered = delivered;
 }
 
 // Writes that an operation is paired with another since a time.
@@ -123,25 +175,16 @@ fn write_paired(sched: &Sched, entries: &mut [Entry], id: OpId, with: OpId, at: 
     kept.paired = Partner::new(with, at);
 }
 
-/// Writes when an operation started, when what it has sent arrives and, where it has a partner, that the two are paired
-/// since a time.
-pub fn write_met(
-    sched: &Sched,
-    entries: &mut [Entry],
-    id: OpId,
-    start: Moment,
-    arriving: Moment,
-    partner: Option<OpId>,
-    at: u64,
-)
+/// Writes what an action of an operation changes, at its time: where it pairs the operation, the two are paired since then.
+pub fn write_change(sched: &Sched, entries: &mut [Entry], id: OpId, change: Change, at: u64)
     requires exists { IsOp sched.now id }
-    requires other { IfSome partner (IsOp sched.now) }
+    requires other { IfSome change.partner (IsOp sched.now) }
     requires fits { at < 2 ^ 63 }
     requires each { length entries.old ≡ length (operations sched.now) }
-    ensures { (f : OpId → Entry) → entries.old ≡ map f (operations sched.now) → entries.new ≡ map (with_partner id partner at (with_entry id (record (f id) { start = start; arriving = arriving }) f)) (operations sched.now) }
+    ensures { (f : OpId → Entry) → entries.old ≡ map f (operations sched.now) → entries.new ≡ map (with_change id change at f) (operations sched.now) }
 {
-    write_started(sched, entries, id, start, arriving);
-    let Some(with) = partner else {
+    write_times(sched, entries, id, change.times, change.delivered);
+    let Some(with) = change.partner else {
         return;
     };
     write_paired(sched, entries, id, with, at);

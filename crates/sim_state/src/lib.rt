@@ -10,8 +10,8 @@ mod key;
 mod moment;
 mod pairing;
 mod record;
-mod shape;
 mod state;
+mod task;
 mod unkept;
 mod work;
 

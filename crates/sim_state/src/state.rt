@@ -14,14 +14,14 @@ ghost use Rattle.sim_params.specs.Run.{IsNext, IsRun, IsFinished, IsCompleteRun}
 ghost use Rattle.sim_params.specs.Laws.{IsWithin};
 ghost use Rattle.sim_state.specs.Engine.{IsEngineFault, start_known, end_known};
 ghost use Rattle.sim_state.specs.Represents.{entry_known};
-ghost use Rattle.sim_state.specs.Shapes.{shape_of, work_of};
+ghost use Rattle.sim_state.specs.Tasks.{task_of, work_of};
 ghost use Rattle.sim_state.specs.Free.{free, side};
 
 use crate::entry::{Entry, first_entries, read};
 use crate::fault::EngineFault;
 use crate::history::{History, Kept};
 use crate::record::Record;
-use crate::shape::Shape;
+use crate::task::Task;
 use crate::work::Work;
 use goal_base::MAX_BUDGET;
 use goal_graph::{Need, OpId, Sched};
@@ -126,8 +126,8 @@ impl<'a, C: Costs, H: History> State<'a, C, H> {
     {
         let entry = self.entry(id);
         Record {
-            start: entry.start.get(),
-            end: entry.end.get(),
+            start: entry.times.start.get(),
+            end: entry.times.end.get(),
             partner: self.partner(id),
         }
     }
@@ -148,10 +148,10 @@ impl<'a, C: Costs, H: History> State<'a, C, H> {
         requires { IsOp self.now.plans id }
         ensures { result ≡ free self.now.plans (C.model self.now.costs) self.now.history id }
     {
-        match self.shape(id) {
-            Shape::Calc => self.resources.cpu(id),
-            Shape::Eager | Shape::Large => self.resources.cpu(id).max(self.resources.tx(id)),
-            Shape::Receive => self.resources.cpu(id).max(self.resources.rx(id)),
+        match self.task(id) {
+            Task::Calc => self.resources.cpu(id),
+            Task::Eager | Task::Large => self.resources.cpu(id).max(self.resources.tx(id)),
+            Task::Receive => self.resources.cpu(id).max(self.resources.rx(id)),
         }
     }
 
@@ -168,10 +168,10 @@ impl<'a, C: Costs, H: History> State<'a, C, H> {
         requires { IsOp self.now.plans id }
         ensures { result ≡ side self.now.plans (C.model self.now.costs) self.now.history id }
     {
-        match self.shape(id) {
-            Shape::Calc => self.resources.cpu(id),
-            Shape::Eager | Shape::Large => self.resources.tx(id),
-            Shape::Receive => self.resources.rx(id),
+        match self.task(id) {
+            Task::Calc => self.resources.cpu(id),
+            Task::Eager | Task::Large => self.resources.tx(id),
+            Task::Receive => self.resources.rx(id),
         }
     }
 
@@ -233,11 +233,11 @@ impl<'a, C: Costs, H: History> State<'a, C, H> {
     }
 
     // What an operation is, and whether a send goes out whole.
-    fn shape(&self, id: OpId) -> Shape
+    fn task(&self, id: OpId) -> Task
         requires { IsOp self.now.plans id }
-        ensures { result ≡ shape_of self.now.plans (C.model self.now.costs) id }
+        ensures { result ≡ task_of self.now.plans (C.model self.now.costs) id }
     {
-        self.work(id).shape
+        self.work(id).task
     }
 
     // What an operation does.

@@ -2,9 +2,9 @@
 ghost use Rattle.std.specs.Prelude.{◌≡◌};
 ghost use Rattle.goal_graph.specs.Schedule.{IsSend};
 ghost use Rattle.goal_graph.specs.Fault.{IsOp};
-ghost use Rattle.sim_state.specs.Shapes.{shape_of, ties_of, work_of};
+ghost use Rattle.sim_state.specs.Tasks.{task_of, ties_of, work_of};
 
-use crate::shape::Shape;
+use crate::task::Task;
 use goal_graph::{Kind, OpId, Sched};
 use sim_params::Costs;
 
@@ -24,21 +24,21 @@ pub struct Work {
     /// The rank that a send goes to; 0 of what is no send.
     pub to: u32,
     /// What it is.
-    pub shape: Shape,
+    pub task: Task,
     /// What it needs, and what needs it.
     pub ties: Ties,
 }
 
 // Whether a send goes out whole, or has a request before it.
-fn shape_of_send<C: Costs>(sched: &Sched, costs: &C, send: OpId) -> Shape
+fn task_of_send<C: Costs>(sched: &Sched, costs: &C, send: OpId) -> Task
     requires { IsSend sched.now send }
-    ensures { result ≡ shape_of sched.now (C.model costs.now) send }
+    ensures { result ≡ task_of sched.now (C.model costs.now) send }
 {
     let message = sched.message(send);
     if costs.eager(send.rank, message.to, message.bytes) {
-        Shape::Eager
+        Task::Eager
     } else {
-        Shape::Large
+        Task::Large
     }
 }
 
@@ -63,19 +63,19 @@ pub fn work_of<C: Costs>(sched: &Sched, costs: &C, id: OpId) -> Work
         Kind::Calc { nanos } => Work {
             amount: nanos,
             to: 0,
-            shape: Shape::Calc,
+            task: Task::Calc,
             ties,
         },
         Kind::Send { bytes, to, .. } => Work {
             amount: bytes,
             to,
-            shape: shape_of_send(sched, costs, id),
+            task: task_of_send(sched, costs, id),
             ties,
         },
         Kind::Recv { .. } => Work {
             amount: 0,
             to: 0,
-            shape: Shape::Receive,
+            task: Task::Receive,
             ties,
         },
     }

@@ -14,7 +14,7 @@ use super::State;
 use crate::cursor::Cursor;
 use crate::history::History;
 use crate::pairing::Pairing;
-use crate::shape::Shape;
+use crate::task::Task;
 use goal_graph::{Class, OpId, Timed, When};
 use sim_eager::{begin_at, serve_at};
 use sim_order::Steps;
@@ -38,10 +38,10 @@ impl<'a, C: Costs, H: History> State<'a, C, H> {
         ensures cursor { IsCursorOf self.now.plans (C.model self.now.costs) self.now.history id cursor.new }
         ensures looked { looks.new + cursor.old.at ≤ looks.old + cursor.new.at + 1 + looked_again self.now.plans id result }
     {
-        match self.shape(id) {
-            Shape::Calc => self.begin_of_calc(id, cursor, looks),
-            Shape::Eager | Shape::Large => self.choice_of_send(id, cursor, looks),
-            Shape::Receive => self.choice_of_receive(id, cursor, looks),
+        match self.task(id) {
+            Task::Calc => self.begin_of_calc(id, cursor, looks),
+            Task::Eager | Task::Large => self.choice_of_send(id, cursor, looks),
+            Task::Receive => self.choice_of_receive(id, cursor, looks),
         }
     }
 
@@ -102,7 +102,7 @@ impl<'a, C: Costs, H: History> State<'a, C, H> {
         ensures cursor { IsCursorOf self.now.plans (C.model self.now.costs) self.now.history calc cursor.new }
         ensures looked { looks.new + cursor.old.at ≤ looks.old + cursor.new.at + 1 + looked_again self.now.plans calc result }
     {
-        if self.entry(calc).start.get().is_some() {
+        if self.entry(calc).times.start.get().is_some() {
             return None;
         }
         let ready = self.ready(calc, cursor, looks)?;
@@ -126,7 +126,7 @@ impl<'a, C: Costs, H: History> State<'a, C, H> {
         ensures cursor { IsCursorOf self.now.plans (C.model self.now.costs) self.now.history send cursor.new }
         ensures looked { looks.new + cursor.old.at ≤ looks.old + cursor.new.at + 1 + looked_again self.now.plans send result }
     {
-        if self.entry(send).start.get().is_some() {
+        if self.entry(send).times.start.get().is_some() {
             return None;
         }
         let ready = self.ready(send, cursor, looks)?;
@@ -142,7 +142,7 @@ impl<'a, C: Costs, H: History> State<'a, C, H> {
         requires { IsOp self.now.plans send }
         ensures { result ≡ enabled_action self.now.plans (C.model self.now.costs) self.now.history Arrive send }
     {
-        let time = self.entry(send).arriving.get()?;
+        let time = self.entry(send).times.arriving.get()?;
         Some(Timed {
             time,
             class: Class::Arrive,
@@ -156,7 +156,7 @@ impl<'a, C: Costs, H: History> State<'a, C, H> {
         ensures { result ≡ enabled_action self.now.plans (C.model self.now.costs) self.now.history Data send }
     {
         let entry = self.entry(send);
-        if self.is_eager(send) || entry.there.get().is_some() {
+        if self.is_eager(send) || entry.delivered.get().is_some() {
             return None;
         }
         let Pairing { at, .. } = entry.paired.get()?;
@@ -181,7 +181,7 @@ impl<'a, C: Costs, H: History> State<'a, C, H> {
         ensures cursor { IsCursorOf self.now.plans (C.model self.now.costs) self.now.history recv cursor.new }
         ensures looked { looks.new + cursor.old.at ≤ looks.old + cursor.new.at + 1 + looked_again self.now.plans recv result }
     {
-        if self.entry(recv).start.get().is_some() {
+        if self.entry(recv).times.start.get().is_some() {
             return None;
         }
         let time = self.ready(recv, cursor, looks)?;
@@ -198,7 +198,7 @@ impl<'a, C: Costs, H: History> State<'a, C, H> {
         ensures { result ≡ enabled_action self.now.plans (C.model self.now.costs) self.now.history Serve recv }
     {
         let entry = self.entry(recv);
-        if entry.end.get().is_some() {
+        if entry.times.end.get().is_some() {
             return None;
         }
         let pairing = entry.paired.get()?;
@@ -218,7 +218,7 @@ impl<'a, C: Costs, H: History> State<'a, C, H> {
         if self.is_eager(pairing.with) {
             return Some(pairing.at);
         }
-        self.entry(pairing.with).there.get()
+        self.entry(pairing.with).delivered.get()
     }
 
     // Whether a send goes out whole, with no request before it.
@@ -226,7 +226,7 @@ impl<'a, C: Costs, H: History> State<'a, C, H> {
         requires { IsSend self.now.plans send }
         ensures { result ≡ is_eager self.now.plans (C.model self.now.costs) send }
     {
-        self.shape(send) == Shape::Eager
+        self.task(send) == Task::Eager
     }
 
     // When all that an operation needs is there, once it is. Its cursor goes on as far as needs are met.
@@ -289,8 +289,8 @@ impl<'a, C: Costs, H: History> State<'a, C, H> {
     {
         let entry = self.entry(id);
         match when {
-            When::AfterEnd => entry.end.get(),
-            When::AfterStart => entry.start.get(),
+            When::AfterEnd => entry.times.end.get(),
+            When::AfterStart => entry.times.start.get(),
         }
     }
 }

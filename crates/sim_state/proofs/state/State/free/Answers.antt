@@ -1,34 +1,34 @@
 use Rattle.std.proofs.Common.{max, sym, ap, ap₂, ◌∙◌, subst}
 use Rattle.goal_graph.specs.Schedule.{IsSend, IsReceive}
 use Rattle.sim_state.specs.Free.{free_of}
-use Rattle.sim_state.proofs.Shapes.{calc_of, send_of, receive_of}
+use Rattle.sim_state.proofs.Tasks.{calc_of, send_of, receive_of}
 use Rattle.sim_state.proofs.Views.{free_at_view}
 use Rattle.sim_state.proofs.state.State.free.Goals as goal
 
 pub tx-requires : goal.tx-requires
 tx-requires g c =
     let free = free_at_view g.C.Costs.model _ _ _ c.self.view_is c.self.invariant.free in
-    subst (λ plans. IsSend plans c.args.id) (sym free.same_plans) (send_of _ _ c.args.id c.shape.result c.shape.ensures c.in-Eager.is)
+    subst (λ plans. IsSend plans c.args.id) (sym free.same_plans) (send_of _ _ c.args.id c.task.result c.task.ensures c.in-Eager.is)
 
 pub rx-requires : goal.rx-requires
 rx-requires g c =
     let free = free_at_view g.C.Costs.model _ _ _ c.self.view_is c.self.invariant.free in
-    subst (λ plans. IsReceive plans c.args.id) (sym free.same_plans) (receive_of _ _ c.args.id c.shape.result c.shape.ensures c.in-Receive.is)
+    subst (λ plans. IsReceive plans c.args.id) (sym free.same_plans) (receive_of _ _ c.args.id c.task.result c.task.ensures c.in-Receive.is)
 
 pub returns-in-Calc : goal.returns-in-Calc
 returns-in-Calc g c =
     let free = free_at_view g.C.Costs.model _ _ _ c.self.view_is c.self.invariant.free in
-    let calc = calc_of _ _ c.args.id c.shape.result c.shape.ensures c.in-Calc.is c.requires in
+    let calc = calc_of _ _ c.args.id c.task.result c.task.ensures c.in-Calc.is c.requires in
     c.cpu.ensures ∙ free.cpus c.args.id ∙ sym (ap (free_of c.args.self.now.plans (g.C.Costs.model c.args.self.now.costs) c.args.self.now.history c.args.id) calc.kind)
 
 pub returns-in-Eager : goal.returns-in-Eager
 returns-in-Eager g c =
     let free = free_at_view g.C.Costs.model _ _ _ c.self.view_is c.self.invariant.free in
-    let send = send_of _ _ c.args.id c.shape.result c.shape.ensures c.in-Eager.is in
+    let send = send_of _ _ c.args.id c.task.result c.task.ensures c.in-Eager.is in
     c.max.ensures ∙ ap₂ max (c.cpu-in-Eager.ensures ∙ free.cpus c.args.id) (c.tx.ensures ∙ free.senders c.args.id) ∙ sym (ap (free_of c.args.self.now.plans (g.C.Costs.model c.args.self.now.costs) c.args.self.now.history c.args.id) send.kind)
 
 pub returns-in-Receive : goal.returns-in-Receive
 returns-in-Receive g c =
     let free = free_at_view g.C.Costs.model _ _ _ c.self.view_is c.self.invariant.free in
-    let receive = receive_of _ _ c.args.id c.shape.result c.shape.ensures c.in-Receive.is in
+    let receive = receive_of _ _ c.args.id c.task.result c.task.ensures c.in-Receive.is in
     c.max-in-Receive.ensures ∙ ap₂ max (c.cpu-in-Receive.ensures ∙ free.cpus c.args.id) (c.rx.ensures ∙ free.receivers c.args.id) ∙ sym (ap (free_of c.args.self.now.plans (g.C.Costs.model c.args.self.now.costs) c.args.self.now.history c.args.id) receive.kind)

@@ -4,7 +4,7 @@ use Rattle.sim_eager.specs.Messages.{IsMessage}
 use Rattle.sim_state.specs.Engine.{View}
 use Rattle.sim_state.proofs.Views.{free_at_view, run_at_view, within_at_view}
 use Rattle.sim_state.proofs.EnabledLemmas.{eager_data, handed_data, unpaired_data, paired_some, clears, data_enabled, data_time}
-use Rattle.sim_state.proofs.Shapes.{is_message}
+use Rattle.sim_state.proofs.Tasks.{is_message}
 use Rattle.sim_state.proofs.state.State.hand_over_of.Goals.{then-is_eager-via-then-is_eager, then-is_eager-via-else-is_eager+then-is_some}
 use Rattle.sim_state.proofs.state.State.hand_over_of.Goals as goal
 use Rattle.goal_graph.proofs.ForCallers.{send_is_op}

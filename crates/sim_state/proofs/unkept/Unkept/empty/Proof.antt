@@ -1,5 +1,5 @@
 -- `empty` tells of no action: the struct has no bytes, so the walk may say of what it tells.
-use Rattle.std.proofs.Common.{[], ◌∷◌, Some, refl}
+use Rattle.std.proofs.Common.{[], ◌∷◌, refl}
 use seplogic.Ra.Ura.{Ura}
 use mir.Syntax.{Fn}
 use mir.Val.{Val}

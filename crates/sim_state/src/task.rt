@@ -2,7 +2,7 @@
 
 /// What an operation is, and whether a send goes out whole.
 #[derive(Clone, Copy, PartialEq, Eq)]
-pub enum Shape {
+pub enum Task {
     /// A calc.
     Calc,
     /// A send that goes out whole.

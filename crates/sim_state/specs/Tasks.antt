@@ -7,8 +7,8 @@ use Rattle.goal_graph.specs.declared.plan.Need.{Need}
 use Rattle.goal_graph.specs.Schedule.{Plan, kind_at, needs}
 use Rattle.goal_graph.specs.Concerned.{waiting_on}
 use Rattle.sim_params.specs.Costs.{CostModel, is_eager}
-use Rattle.sim_state.specs.declared.shape.Shape.{Shape}
-use Rattle.sim_state.specs.declared.shape.Shape.TheVariants as shape
+use Rattle.sim_state.specs.declared.task.Task.{Task}
+use Rattle.sim_state.specs.declared.task.Task.TheVariants as task
 use Rattle.sim_state.specs.declared.work.Ties.{Ties}
 use Rattle.sim_state.specs.declared.work.Work.{Work}
 
@@ -20,21 +20,21 @@ abbrev pub ties_of : List Plan → OpId → Ties
 ties_of plans x = record { needs = has_any (needs plans x); needed = has_any (waiting_on plans x) }
 
 module _ (plans : List Plan) (costs : CostModel) (x : OpId) where
-  -- what x does, where it is of that kind: its nanoseconds or its bytes, the rank that it sends them to, its shape, and
+  -- what x does, where it is of that kind: its nanoseconds or its bytes, the rank that it sends them to, its task, and
   -- its ties; what is no operation is told as a calc of no time
   abbrev pub work_by : Option Kind → Work
-  work_by (Some (Calc nanos)) = record { amount = nanos; to = 0; shape = shape.Calc; ties = ties_of plans x }
+  work_by (Some (Calc nanos)) = record { amount = nanos; to = 0; task = task.Calc; ties = ties_of plans x }
   work_by (Some (Send bytes to tag)) = record {
     amount = bytes;
     to = to;
-    shape = if is_eager plans costs x then shape.Eager else shape.Large;
+    task = if is_eager plans costs x then task.Eager else task.Large;
     ties = ties_of plans x;
   }
-  work_by (Some (Recv room from tag)) = record { amount = 0; to = 0; shape = shape.Receive; ties = ties_of plans x }
-  work_by None = record { amount = 0; to = 0; shape = shape.Calc; ties = ties_of plans x }
+  work_by (Some (Recv room from tag)) = record { amount = 0; to = 0; task = task.Receive; ties = ties_of plans x }
+  work_by None = record { amount = 0; to = 0; task = task.Calc; ties = ties_of plans x }
 
   abbrev pub work_of : Work
   work_of = work_by (kind_at plans x)
 
-  abbrev pub shape_of : Shape
-  shape_of = work_of.shape
+  abbrev pub task_of : Task
+  task_of = work_of.task

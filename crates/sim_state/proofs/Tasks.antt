@@ -10,19 +10,19 @@ use Rattle.goal_graph.specs.Laws.{IsCalc}
 use Rattle.goal_graph.proofs.ForCallers.{kind_from_op}
 use Rattle.sim_params.specs.Costs.{CostModel, is_eager}
 use Rattle.sim_eager.specs.Messages.{IsMessage}
-use Rattle.sim_state.specs.declared.shape.Shape.{Shape}
-use Rattle.sim_state.specs.declared.shape.Shape.TheVariants as shape
+use Rattle.sim_state.specs.declared.task.Task.{Task}
+use Rattle.sim_state.specs.declared.task.Task.TheVariants as task
 use Rattle.sim_state.specs.declared.work.Work.{Work}
-use Rattle.sim_state.specs.Shapes.{work_by, work_of, shape_of}
+use Rattle.sim_state.specs.Tasks.{work_by, work_of, task_of}
 
 module _ (plans : List Plan) (costs : CostModel) (x : OpId) where
-  abbrev shape_by : Option Kind → Shape
-  shape_by k = (work_by plans costs x k).shape
+  abbrev task_by : Option Kind → Task
+  task_by k = (work_by plans costs x k).task
 
-  -- the shape of a send
-  pub send_shape : (b : Bool) → IsSend plans x → b ≡ is_eager plans costs x → (if b then shape.Eager else shape.Large) ≡ shape_of plans costs x
-  send_shape b send e =
-      ap (λ (b : Bool). if b then shape.Eager else shape.Large) e ∙ sym (ap shape_by send.kind)
+  -- the task of a send
+  pub send_task : (b : Bool) → IsSend plans x → b ≡ is_eager plans costs x → (if b then task.Eager else task.Large) ≡ task_of plans costs x
+  send_task b send e =
+      ap (λ (b : Bool). if b then task.Eager else task.Large) e ∙ sym (ap task_by send.kind)
 
   -- an operation has a kind
   has_kind : IsOp plans x → kind_at plans x ≡ None → ⊥
@@ -35,57 +35,57 @@ module _ (plans : List Plan) (costs : CostModel) (x : OpId) where
           differ : Some o.kind ≡ None → ⊥
           differ f = cc
 
-  calc_not_send : (b : Bool) → shape.Calc ≡ (if b then shape.Eager else shape.Large) → ⊥
+  calc_not_send : (b : Bool) → task.Calc ≡ (if b then task.Eager else task.Large) → ⊥
   calc_not_send true e = cc
   calc_not_send false e = cc
 
-  receive_not_send : (b : Bool) → shape.Receive ≡ (if b then shape.Eager else shape.Large) → ⊥
+  receive_not_send : (b : Bool) → task.Receive ≡ (if b then task.Eager else task.Large) → ⊥
   receive_not_send true e = cc
   receive_not_send false e = cc
 
-  -- what is of the shape of a calc, of a send, of a receive
-  pub calc_of : (s : Shape) → s ≡ shape_of plans costs x → s ≡ shape.Calc → IsOp plans x → IsCalc plans x
+  -- what is of the task of a calc, of a send, of a receive
+  pub calc_of : (s : Task) → s ≡ task_of plans costs x → s ≡ task.Calc → IsOp plans x → IsCalc plans x
   calc_of s e f is_op = go (kind_at plans x) refl (sym f ∙ e)
     where
-      go : (k : Option Kind) → kind_at plans x ≡ k → shape.Calc ≡ shape_by k → IsCalc plans x
+      go : (k : Option Kind) → kind_at plans x ≡ k → task.Calc ≡ task_by k → IsCalc plans x
       go None k s = absurd (has_kind is_op k)
       go (Some (Calc nanos)) k s = record { nanos = nanos; kind = k }
       go (Some (Send bytes to tag)) k s = absurd (calc_not_send (is_eager plans costs x) s)
       go (Some (Recv room from tag)) k s = absurd (cc)
 
-  pub receive_of : (s : Shape) → s ≡ shape_of plans costs x → s ≡ shape.Receive → IsReceive plans x
+  pub receive_of : (s : Task) → s ≡ task_of plans costs x → s ≡ task.Receive → IsReceive plans x
   receive_of s e f = go (kind_at plans x) refl (sym f ∙ e)
     where
-      go : (k : Option Kind) → kind_at plans x ≡ k → shape.Receive ≡ shape_by k → IsReceive plans x
+      go : (k : Option Kind) → kind_at plans x ≡ k → task.Receive ≡ task_by k → IsReceive plans x
       go None k s = absurd (cc)
       go (Some (Calc nanos)) k s = absurd (cc)
       go (Some (Send bytes to tag)) k s = absurd (receive_not_send (is_eager plans costs x) s)
       go (Some (Recv room from tag)) k s = record { room = room; from = from; tag = tag; kind = k }
 
-  pub send_of : (s : Shape) → s ≡ shape_of plans costs x → (s ≡ shape.Eager) ⊎ (s ≡ shape.Large) → IsSend plans x
+  pub send_of : (s : Task) → s ≡ task_of plans costs x → (s ≡ task.Eager) ⊎ (s ≡ task.Large) → IsSend plans x
   send_of s e f = go (kind_at plans x) refl f
     where
-      go : (k : Option Kind) → kind_at plans x ≡ k → (s ≡ shape.Eager) ⊎ (s ≡ shape.Large) → IsSend plans x
-      go None k (inl f) = let d = sym f ∙ e ∙ ap shape_by k in absurd (cc d)
-      go None k (inr f) = let d = sym f ∙ e ∙ ap shape_by k in absurd (cc d)
-      go (Some (Calc nanos)) k (inl f) = let d = sym f ∙ e ∙ ap shape_by k in absurd (cc d)
-      go (Some (Calc nanos)) k (inr f) = let d = sym f ∙ e ∙ ap shape_by k in absurd (cc d)
+      go : (k : Option Kind) → kind_at plans x ≡ k → (s ≡ task.Eager) ⊎ (s ≡ task.Large) → IsSend plans x
+      go None k (inl f) = let d = sym f ∙ e ∙ ap task_by k in absurd (cc d)
+      go None k (inr f) = let d = sym f ∙ e ∙ ap task_by k in absurd (cc d)
+      go (Some (Calc nanos)) k (inl f) = let d = sym f ∙ e ∙ ap task_by k in absurd (cc d)
+      go (Some (Calc nanos)) k (inr f) = let d = sym f ∙ e ∙ ap task_by k in absurd (cc d)
       go (Some (Send bytes to tag)) k f = record { bytes = bytes; to = to; tag = tag; kind = k }
-      go (Some (Recv room from tag)) k (inl f) = let d = sym f ∙ e ∙ ap shape_by k in absurd (cc d)
-      go (Some (Recv room from tag)) k (inr f) = let d = sym f ∙ e ∙ ap shape_by k in absurd (cc d)
+      go (Some (Recv room from tag)) k (inl f) = let d = sym f ∙ e ∙ ap task_by k in absurd (cc d)
+      go (Some (Recv room from tag)) k (inr f) = let d = sym f ∙ e ∙ ap task_by k in absurd (cc d)
 
-  -- a send of the one shape goes out whole, and one of the other does not
-  pub eager_of : (s : Shape) → s ≡ shape_of plans costs x → s ≡ shape.Eager → is_eager plans costs x ≡ true
-  eager_of s e f = go (is_eager plans costs x) (send_shape _ (send_of s e (inl f)) refl ∙ sym e ∙ f)
+  -- a send of the one task goes out whole, and one of the other does not
+  pub eager_of : (s : Task) → s ≡ task_of plans costs x → s ≡ task.Eager → is_eager plans costs x ≡ true
+  eager_of s e f = go (is_eager plans costs x) (send_task _ (send_of s e (inl f)) refl ∙ sym e ∙ f)
     where
-      go : (b : Bool) → (if b then shape.Eager else shape.Large) ≡ shape.Eager → b ≡ true
+      go : (b : Bool) → (if b then task.Eager else task.Large) ≡ task.Eager → b ≡ true
       go true d = refl
       go false d = absurd (cc)
 
-  pub large_of : (s : Shape) → s ≡ shape_of plans costs x → s ≡ shape.Large → is_eager plans costs x ≡ false
-  large_of s e f = go (is_eager plans costs x) (send_shape _ (send_of s e (inr f)) refl ∙ sym e ∙ f)
+  pub large_of : (s : Task) → s ≡ task_of plans costs x → s ≡ task.Large → is_eager plans costs x ≡ false
+  large_of s e f = go (is_eager plans costs x) (send_task _ (send_of s e (inr f)) refl ∙ sym e ∙ f)
     where
-      go : (b : Bool) → (if b then shape.Eager else shape.Large) ≡ shape.Large → b ≡ false
+      go : (b : Bool) → (if b then task.Eager else task.Large) ≡ task.Large → b ≡ false
       go true d = absurd (cc)
       go false d = refl
 

@@ -1,7 +1,0 @@
-use Rattle.sim_state.specs.declared.entry.Entry.{Entry}
-use Rattle.sim_state.proofs.EntryTable.{entry_changed}
-use Rattle.sim_state.proofs.entry.write_started.Goals as goal
-
-pub returns : goal.returns
-returns c f table =
-    entry_changed c.args.sched.now c.index.result c.args.id c.args.entries.now f (λ (e : Entry). record e { start = c.args.start; arriving = c.args.arriving }) _ table c.index.ensures.index
