@@ -12,4 +12,6 @@ pub mod Bounds
 pub mod Items
 pub mod ItemSteps
 pub mod ItemChanges
+pub mod Joined
+pub mod Runs
 pub mod ForCallers

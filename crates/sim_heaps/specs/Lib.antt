@@ -4,5 +4,6 @@ pub mod Places
 pub mod Heap
 pub mod Item
 pub mod TopHeap
+pub mod RunHeap
 -- What the clauses cite of lower crates.
 pub use Rattle.sim_order.specs.Events

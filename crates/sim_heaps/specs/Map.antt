@@ -2,6 +2,11 @@
 use Rattle.std.specs.Prelude.{◌≡◌, ◌⊎◌, ℕ, Bool, true, false, List, Option, Some, None, replicate, slice_index_or}
 
 module _ {K : Type 0} where
+  -- what a slot has in one of two maps
+  abbrev pub either : Option K → Option K → Option K
+  either (Some k) other = Some k
+  either None other = other
+
   -- the key of a slot, if it has one
   abbrev pub key_at : List (Option K) → ℕ → Option K
   key_at keys slot = slice_index_or keys slot None

@@ -3,12 +3,14 @@
 
 mod heap_item;
 mod queue;
+mod run_heap;
 mod sift;
 mod slot_heap;
 mod top_heap;
 
 pub use heap_item::HeapItem;
 pub use queue::EventQueue;
+pub use run_heap::RunHeap;
 pub use sift::{settle, swap};
 pub use slot_heap::SlotHeap;
 pub use top_heap::{Arrivals, TopHeap, rise, sink};

@@ -6,7 +6,7 @@ use Rattle.std.proofs.lemmas.List.{length-replicate, get_or-replicate, get_or_pa
 use Rattle.std.proofs.lemmas.List.Elements.{All-get_or}
 use Rattle.std.proofs.lemmas.Option.{slice_get_within, get_or_from_slice_get}
 use Rattle.goal_graph.specs.declared.action.Timed.{Timed}
-use Rattle.sim_heaps.specs.Map.{key_at, no_keys}
+use Rattle.sim_heaps.specs.Map.{either, key_at, no_keys}
 use Rattle.sim_heaps.proofs.ForCallers.{none_of, same_maps}
 use Rattle.sim_groups.specs.Groups.{Grouped}
 use Rattle.sim_stations.specs.declared.pair.Pair.{Pair}
@@ -15,7 +15,7 @@ use Rattle.sim_stations.specs.declared.stand.Stand.TheVariants.{Nowhere}
 use Rattle.sim_stations.specs.Stations.{DoExist, when_free, pair_at}
 use Rattle.sim_stations.specs.Moves.{one_if, HaveReturned, HasReturned}
 use Rattle.sim_stations.specs.Rows.{Rowed, IsHead}
-use Rattle.sim_stations.specs.Kept.{either, seen_of, stand_of, IsKept}
+use Rattle.sim_stations.specs.Kept.{seen_of, stand_of, IsKept}
 use Rattle.sim_stations.proofs.Heads.{no_key}
 use Rattle.sim_stations.proofs.Slots.{seen_at, seen_length}
 use Rattle.sim_stations.proofs.Changed.{view}

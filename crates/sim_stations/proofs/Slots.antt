@@ -5,14 +5,14 @@ use Rattle.std.proofs.lemmas.Bool.{cases_eq}
 use Rattle.std.proofs.lemmas.List.{get_or-set_same, get_or-set_other, length-set}
 use Rattle.std.proofs.lemmas.Option.{slice_get-get_or}
 use Rattle.goal_graph.specs.declared.action.Timed.{Timed}
-use Rattle.sim_heaps.specs.Map.{key_at}
+use Rattle.sim_heaps.specs.Map.{either, key_at}
 use Rattle.sim_heaps.proofs.ForCallers.{same_maps}
 use Rattle.sim_groups.specs.Groups.{Grouped}
 use Rattle.sim_stations.specs.declared.pair.Pair.{Pair}
 use Rattle.sim_stations.specs.declared.stand.Stand.{Stand}
 use Rattle.sim_stations.specs.declared.stand.Stand.TheVariants.{Nowhere}
 use Rattle.sim_stations.specs.Stations.{waits_for_room, when_free, pair_at}
-use Rattle.sim_stations.specs.Kept.{either, seen_keys, stand_of, AreMapped, AreStands}
+use Rattle.sim_stations.specs.Kept.{seen_keys, stand_of, AreMapped, AreStands}
 use Rattle.sim_stations.proofs.Heads.{no_key}
 
 -- what a slot has

@@ -4,7 +4,7 @@ use Rattle.std.specs.Prelude.{◌≡◌, ◌≢◌, ◌⊎◌, ◌<◌, ◌≤�
 use Rattle.std.specs.Option.{option_map}
 use Rattle.goal_graph.specs.declared.action.Timed.{Timed}
 use Rattle.sim_order.specs.Events.{event_before}
-use Rattle.sim_heaps.specs.Map.{key_at, IsSoleLeast}
+use Rattle.sim_heaps.specs.Map.{either, key_at, IsSoleLeast}
 use Rattle.sim_groups.specs.Groups.{Grouped, IsLeastOf, IsSoleLeastOf}
 use Rattle.sim_stations.specs.declared.pair.Pair.{Pair}
 use Rattle.sim_stations.specs.declared.stand.Stand.{Stand}
@@ -12,11 +12,6 @@ use Rattle.sim_stations.specs.declared.stand.Stand.TheVariants.{Nowhere, Ahead, 
 use Rattle.sim_stations.specs.Stations.{waits_for_room, when_free, pair_at, held}
 use Rattle.sim_stations.specs.Moves.{one_if}
 use Rattle.sim_stations.specs.Rows.{Rowed, IsHead, side_of, shown}
-
--- what a slot has in one of two maps
-abbrev pub either : Option Timed → Option Timed → Option Timed
-either (Some k) waiting = Some k
-either None waiting = waiting
 
 -- the keys of the slots, at the earliest times that their stations allow
 unfoldable pub seen_keys : List ℕ → List Pair → List (Option Timed) → List (Option Timed) → List ℕ → List (Option Timed)

@@ -17,7 +17,7 @@ use crate::{Pair, Stand};
 use goal_base::NoMemory;
 use goal_graph::{Class, Sched};
 use sim_groups::Groups;
-use sim_heaps::{Arrivals, TopHeap};
+use sim_heaps::RunHeap;
 use sim_order::{CompactKey, EventOrder, Steps};
 use std::alloc::Global;
 use std::marker::Model;
@@ -64,7 +64,7 @@ fn slot_of(least: &Option<(u32, CompactKey)>) -> Option<u32>
 }
 
 // The least key of those that are ahead.
-fn first_ahead(ahead: &TopHeap) -> Option<CompactKey>
+fn first_ahead(ahead: &RunHeap) -> Option<CompactKey>
     ensures none { IsNone result ↔ IsEmptyMap ahead.now }
     ensures least { IfSome result (λ key. (slot : ℕ) × IsLeast event_before ahead.now slot key) }
 {
@@ -81,7 +81,7 @@ struct Look {
 }
 
 // The key that is looked at first: that of a slot that is ahead, or one that a station shows.
-fn first<L: Ledger>(ahead: &TopHeap, rows: &Rows, steps: &mut Steps<L>) -> Option<Look>
+fn first<L: Ledger>(ahead: &RunHeap, rows: &Rows, steps: &mut Steps<L>) -> Option<Look>
     ensures none { IsNone result ↔ (IsEmptyMap ahead.now × IsEmptyMap rows.now.keys) }
     ensures first { IfSome result (λ r. IsFirstOfAll ahead.now rows.now r.key r.is_ahead) }
     ensures counted { steps.new ≤ steps.old + 1 }
@@ -210,7 +210,7 @@ fn join<L: Ledger>(
 
 // Lets a slot whose key is before each other that is ahead wait with its station, where its action could happen later only.
 fn begin_to_wait<L: Ledger>(
-    ahead: &mut TopHeap,
+    ahead: &mut RunHeap,
     waiting: &mut Groups,
     rows: &mut Rows,
     stands: &mut [Stand],
@@ -233,7 +233,7 @@ fn begin_to_wait<L: Ledger>(
     ensures counted { (k : ℕ) → length waiting.old.keys ≤ 2 ^ k → steps.new ≤ steps.old + (8 * k + 9) }
     ensures onward { steps.old ≤ steps.new }
 {
-    ahead.take(slot, Arrivals::Mixed, steps);
+    ahead.take(slot, steps);
     join(waiting, rows, slot, key, steps);
     stands[slot as usize] = Stand::Waiting;
 }
@@ -241,7 +241,7 @@ fn begin_to_wait<L: Ledger>(
 // Lets slots wait and stations go over until the key that is looked at first is at the earliest time at which its action can
 // happen. That is the least key, and is answered with its slot.
 fn settle<L: Ledger, R: Ledger>(
-    ahead: &mut TopHeap,
+    ahead: &mut RunHeap,
     waiting: &mut Groups,
     rows: &mut Rows,
     stands: &mut [Stand],
@@ -283,7 +283,7 @@ fn settle<L: Ledger, R: Ledger>(
 
 // Takes out the key of the slot that was found; the resources of its station are free at these times from now on.
 fn depart<L: Ledger>(
-    ahead: &mut TopHeap,
+    ahead: &mut RunHeap,
     waiting: &mut Groups,
     rows: &mut Rows,
     stands: &[Stand],
@@ -306,7 +306,7 @@ fn depart<L: Ledger>(
         let least = waiting.least_of(station);
         rows.leave(station, least, cpu, side, steps);
     } else {
-        ahead.take(slot, Arrivals::Mixed, steps);
+        ahead.take(slot, steps);
         rows.hold(station, cpu, side, steps);
     }
 }
@@ -322,7 +322,7 @@ fn depart<L: Ledger>(
 #[derive(Drop)]
 pub struct StationQueue {
     // keys that stand for themselves, at their own moments
-    ahead: TopHeap,
+    ahead: RunHeap,
     // keys that wait, at time 0
     waiting: Groups,
     // the least key of each station, where it waits
@@ -362,7 +362,7 @@ impl StationQueue {
         ensures returned { IfOk result (λ q. HaveReturned q.pairs q.turned q.free (replicate resources 0) (replicate (length pairs.now) 0)) }
     {
         Ok(StationQueue {
-            ahead: TopHeap::new(alloc, numbers.len() as u32)?,
+            ahead: RunHeap::new(alloc, numbers.len() as u32)?,
             waiting: Groups::new(alloc, numbers, pairs.len() as u32)?,
             rows: Rows::new(alloc, pairs, resources)?,
             stands: vec![in alloc; Stand::Nowhere; numbers.len()]?,
@@ -463,7 +463,7 @@ impl StationQueue {
         ensures counted { (k : ℕ) → length self.old.keys ≤ 2 ^ k → steps.new + cost_of_waiting k self.new.stands ≤ steps.old + cost_of_waiting k self.old.stands + (2 * k + 1) }
     {
         self.found = None;
-        self.ahead.take(slot, Arrivals::Mixed, steps);
+        self.ahead.take(slot, steps);
         self.stands[slot as usize] = Stand::Nowhere;
     }
 

@@ -3,12 +3,12 @@ use Rattle.std.specs.List.{sum_by, count_by}
 use Rattle.std.specs.Option.{option_map}
 use Rattle.std.proofs.lemmas.List.Sums.{sum_by-cons}
 use Rattle.goal_graph.specs.declared.action.Timed.{Timed}
-use Rattle.sim_heaps.specs.Map.{key_at}
+use Rattle.sim_heaps.specs.Map.{either, key_at}
 use Rattle.sim_stations.specs.declared.pair.Pair.{Pair}
 use Rattle.sim_stations.specs.declared.stand.Stand.{Stand}
 use Rattle.sim_stations.specs.declared.stand.Stand.TheVariants.{Nowhere}
 use Rattle.sim_stations.specs.Stations.{Stationed, when_free, pair_at, one_ahead, count_ahead}
-use Rattle.sim_stations.specs.Kept.{either, seen_keys, stand_of}
+use Rattle.sim_stations.specs.Kept.{seen_keys, stand_of}
 use Rattle.sim_stations.proofs.station_queue.StationQueue.known.Goals as goal
 
 -- a slot that stands for itself has a key
