@@ -1,5 +1,5 @@
 -- Tokens that are found ahead.
-use Rattle.std.proofs.Common.{◌≡◌, ℕ, ◌+◌, ◌-◌, ◌<◌, ◌≤◌, Bool, true, false, List, [], ◌∷◌, length, take, drop, get_or, nat_eq, refl, sym, ap, subst, ◌∙◌, arith, length-drop}
+use Rattle.std.proofs.Common.{◌≡◌, ℕ, zero, suc, ◌+◌, ◌-◌, ◌*◌, ◌<◌, ◌≤◌, Bool, true, false, List, [], ◌∷◌, length, take, drop, get_or, nat_eq, refl, sym, ap, subst, ◌∙◌, arith, length-drop}
 use Rattle.std.proofs.lemmas.Bool.{false≢true, and_parts}
 use Rattle.std.proofs.lemmas.Bool.Decides.{nat_tests}
 use Rattle.std.proofs.lemmas.List.{take_rest, get_or-drop, get_or-take, drop_more, length-take-le}
@@ -72,6 +72,12 @@ digits_ahead place blanks count value piece are some inside few each ends is =
 value_of_one : (b : ℕ) → b ≤ 57 → number_value (b ∷ []) ≡ b - 48
 value_of_one b most = omega (arith, most)
 
+value_of_two : (b c : ℕ) → b ≤ 57 → c ≤ 57 → number_value (b ∷ c ∷ []) ≡ (b - 48) * 10 + (c - 48)
+value_of_two b c one two = omega (arith, one, two)
+
+value_of_three : (b c d : ℕ) → b ≤ 57 → c ≤ 57 → d ≤ 57 → number_value (b ∷ c ∷ d ∷ []) ≡ ((b - 48) * 10 + (c - 48)) * 10 + (d - 48)
+value_of_three b c d one two three = omega (arith, one, two, three)
+
 -- the value of a digit
 digit_value : (piece : List ℕ) → 2 ≤ length piece → get_or piece 1 0 ≤ 57 → get_or piece 1 0 - 48 ≡ number_value (take 1 (behind 1 piece))
 digit_value [] long most = absurd (omega (arith, long))
@@ -98,6 +104,65 @@ one_digit_ahead place value piece long blank digit most ends is =
     ends
     (is ∙ digit_value piece (omega (arith, long)) most)
 
+-- the value of two digits, and that of three
+digits_value_2 : (piece : List ℕ) → 3 ≤ length piece → get_or piece 1 0 ≤ 57 → get_or piece 2 0 ≤ 57 →
+    (get_or piece 1 0 - 48) * 10 + (get_or piece 2 0 - 48) ≡ number_value (take 2 (behind 1 piece))
+digits_value_2 [] long one two = absurd (omega (arith, long))
+digits_value_2 (a ∷ []) long one two = absurd (omega (arith, long))
+digits_value_2 (a ∷ b ∷ []) long one two = absurd (omega (arith, long))
+digits_value_2 (a ∷ b ∷ c ∷ ds) long one two =
+    sym (ap (λ (ys : List ℕ). number_value (take 2 ys)) (take_rest (a ∷ b ∷ c ∷ ds) 1) ∙ value_of_two b c one two)
+
+digits_value_3 : (piece : List ℕ) → 4 ≤ length piece → get_or piece 1 0 ≤ 57 → get_or piece 2 0 ≤ 57 → get_or piece 3 0 ≤ 57 →
+    ((get_or piece 1 0 - 48) * 10 + (get_or piece 2 0 - 48)) * 10 + (get_or piece 3 0 - 48) ≡ number_value (take 3 (behind 1 piece))
+digits_value_3 [] long one two three = absurd (omega (arith, long))
+digits_value_3 (a ∷ []) long one two three = absurd (omega (arith, long))
+digits_value_3 (a ∷ b ∷ []) long one two three = absurd (omega (arith, long))
+digits_value_3 (a ∷ b ∷ c ∷ []) long one two three = absurd (omega (arith, long))
+digits_value_3 (a ∷ b ∷ c ∷ d ∷ es) long one two three =
+    sym (ap (λ (ys : List ℕ). number_value (take 3 ys)) (take_rest (a ∷ b ∷ c ∷ d ∷ es) 1) ∙ value_of_three b c d one two three)
+
+-- what holds at each of two places, or of three
+each_of_2 : (P : ℕ → Type 0) → P 0 → P 1 → (k : ℕ) → k < 2 → P k
+each_of_2 P one two zero few = one
+each_of_2 P one two (suc zero) few = two
+each_of_2 P one two (suc (suc k)) few = absurd (omega (arith, few))
+
+each_of_3 : (P : ℕ → Type 0) → P 0 → P 1 → P 2 → (k : ℕ) → k < 3 → P k
+each_of_3 P one two three zero few = one
+each_of_3 P one two three (suc zero) few = two
+each_of_3 P one two three (suc (suc zero)) few = three
+each_of_3 P one two three (suc (suc (suc k))) few = absurd (omega (arith, few))
+
+-- one space is a blank
+one_space : (piece : List ℕ) → 1 ≤ length piece → get_or piece 0 0 ≡ 32 → AreBlanks piece 1
+one_space piece long blank =
+    (long, λ k few. subst (λ (j : ℕ). is_blank (get_or piece j 0) ≡ true) (first k few) (ap is_blank blank))
+
+-- the digit at that place behind a space
+digit_there : (piece : List ℕ) (k : ℕ) → is_digit (get_or piece (1 + k) 0) ≡ true → is_digit (get_or (behind 1 piece) k 0) ≡ true
+digit_there piece k is = ap is_digit (get_or-behind piece 1 k) ∙ is
+
+-- two digits behind a space, and three
+pub two_digits_ahead : (place value : ℕ) (piece : List ℕ) → 3 < length piece → get_or piece 0 0 ≡ 32 →
+    is_digit (get_or piece 1 0) ≡ true → is_digit (get_or piece 2 0) ≡ true → is_run_byte (get_or piece 3 0) ≡ false →
+    value ≡ (get_or piece 1 0 - 48) * 10 + (get_or piece 2 0 - 48) →
+    IsAhead place piece 3 true (record { kind = Number value; start = place + 1; end = place + 3 } ∷ [])
+two_digits_ahead place value piece long blank one two ends is =
+    digits_ahead place 1 2 value piece (one_space piece (omega (arith, long)) blank) (omega arith) long (omega arith)
+    (each_of_2 (λ (k : ℕ). is_digit (get_or (behind 1 piece) k 0) ≡ true) (digit_there piece 0 one) (digit_there piece 1 two)) ends
+    (is ∙ digits_value_2 piece (omega (arith, long)) (most_of_digit _ one) (most_of_digit _ two))
+
+pub three_digits_ahead : (place value : ℕ) (piece : List ℕ) → 4 < length piece → get_or piece 0 0 ≡ 32 →
+    is_digit (get_or piece 1 0) ≡ true → is_digit (get_or piece 2 0) ≡ true → is_digit (get_or piece 3 0) ≡ true →
+    is_run_byte (get_or piece 4 0) ≡ false →
+    value ≡ ((get_or piece 1 0 - 48) * 10 + (get_or piece 2 0 - 48)) * 10 + (get_or piece 3 0 - 48) →
+    IsAhead place piece 4 true (record { kind = Number value; start = place + 1; end = place + 4 } ∷ [])
+three_digits_ahead place value piece long blank one two three ends is =
+    digits_ahead place 1 3 value piece (one_space piece (omega (arith, long)) blank) (omega arith) long (omega arith)
+    (each_of_3 (λ (k : ℕ). is_digit (get_or (behind 1 piece) k 0) ≡ true) (digit_there piece 0 one) (digit_there piece 1 two) (digit_there piece 2 three)) ends
+    (is ∙ digits_value_3 piece (omega (arith, long)) (most_of_digit _ one) (most_of_digit _ two) (most_of_digit _ three))
+
 -- a size behind blanks
 pub size_found : (place blanks count value : ℕ) (piece : List ℕ) → AreBlanks piece blanks → 0 < count →
     blanks + count + 1 < length piece → count < 64 →
@@ -111,6 +176,15 @@ size_found place blanks count value piece are some inside few each mark ends is 
     (whole_size (place + blanks) count value run some (omega (arith, length-behind piece blanks)) few each
     (get_or-behind piece blanks count ∙ mark)
     (ap is_run_byte (get_or-behind piece blanks (count + 1)) ∙ ap (λ (k : ℕ). is_run_byte (get_or piece k 0)) (sym at) ∙ ends) is)
+
+-- a size of one digit behind a space
+pub one_digit_size : (place value : ℕ) (piece : List ℕ) → 3 < length piece → get_or piece 0 0 ≡ 32 → is_digit (get_or piece 1 0) ≡ true →
+    get_or piece 2 0 ≡ 98 → is_run_byte (get_or piece 3 0) ≡ false → value ≡ get_or piece 1 0 - 48 →
+    IsAhead place piece 3 true (record { kind = Size value; start = place + 1; end = place + 3 } ∷ [])
+one_digit_size place value piece long blank digit mark ends is =
+    size_found place 1 1 value piece (one_space piece (omega (arith, long)) blank) (omega arith) long (omega arith)
+    (λ k few. subst (λ (j : ℕ). is_digit (get_or (behind 1 piece) j 0) ≡ true) (first k few) (digit_there piece 0 digit)) mark ends
+    (is ∙ digit_value piece (omega (arith, long)) (most_of_digit _ digit))
 
 -- a word that ends with a digit, behind blanks
 pub label_found : (place blanks count : ℕ) (piece : List ℕ) → AreBlanks piece blanks → 0 < count → count < length (behind blanks piece) →

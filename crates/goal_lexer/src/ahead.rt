@@ -35,7 +35,7 @@ fn many_blanks(rest: &[u8]) -> usize
 pub fn blanks_ahead(rest: &[u8]) -> usize
     ensures { AreBlanks rest.now result }
 {
-    if rest.len() >= 2 && is_blank(rest[0]) && !is_blank(rest[1]) {
+    if rest.len() >= 2 && (rest[0] == b' ' || rest[0] == b'\n') && !is_blank(rest[1]) {
         return 1;
     }
     many_blanks(rest)
@@ -88,22 +88,43 @@ fn long_number_ahead(rest: &[u8]) -> Amount
     Amount { count: end, value }
 }
 
-/// The number that stands ahead, where it ends inside the piece and has few digits. Most numbers are a digit behind a space.
+/// The number that stands ahead, where it ends inside the piece and has few digits. Most numbers are one to three digits behind
+/// a space.
 #[inline(always)]
 pub fn number_ahead(rest: &[u8]) -> Amount
     ensures within { result.count ≤ length rest.now }
     ensures ahead { 0 < result.count → (place : ℕ) → (start : ℕ) × IsAhead place rest.now result.count true (record { kind = TokenKind.Number result.value; start = start; end = place + result.count } ∷ []) }
 {
-    if rest.len() >= 3 && rest[0] == b' ' && is_digit(rest[1]) && !is_run_byte(rest[2]) {
-        let value = u64::from(rest[1] - b'0');
-        return Amount { count: 2, value };
+    if rest.len() < 5 || rest[0] != b' ' || !is_digit(rest[1]) {
+        return long_number_ahead(rest);
     }
-    long_number_ahead(rest)
+    let ones = u64::from(rest[1] - b'0');
+    if !is_run_byte(rest[2]) {
+        return Amount {
+            count: 2,
+            value: ones,
+        };
+    }
+    if !is_digit(rest[2]) {
+        return long_number_ahead(rest);
+    }
+    let tens = ones * 10 + u64::from(rest[2] - b'0');
+    if !is_run_byte(rest[3]) {
+        return Amount {
+            count: 3,
+            value: tens,
+        };
+    }
+    if !is_digit(rest[3]) || is_run_byte(rest[4]) {
+        return long_number_ahead(rest);
+    }
+    let value = tens * 10 + u64::from(rest[3] - b'0');
+    Amount { count: 4, value }
 }
 
 /// The size that stands ahead, where it ends inside the piece and has few digits.
 #[inline(never)]
-pub fn size_ahead(rest: &[u8]) -> Amount
+fn long_size_ahead(rest: &[u8]) -> Amount
     ensures within { result.count ≤ length rest.now }
     ensures ahead { 0 < result.count → (place : ℕ) → (start : ℕ) × IsAhead place rest.now result.count true (record { kind = TokenKind.Size result.value; start = start; end = place + result.count } ∷ []) }
 {
@@ -115,6 +136,24 @@ pub fn size_ahead(rest: &[u8]) -> Amount
         return Amount { count: 0, value: 0 };
     }
     Amount { count: end, value }
+}
+
+/// The size that stands ahead, where it ends inside the piece and has few digits. Many sizes are a digit behind a space.
+#[inline(always)]
+pub fn size_ahead(rest: &[u8]) -> Amount
+    ensures within { result.count ≤ length rest.now }
+    ensures ahead { 0 < result.count → (place : ℕ) → (start : ℕ) × IsAhead place rest.now result.count true (record { kind = TokenKind.Size result.value; start = start; end = place + result.count } ∷ []) }
+{
+    if rest.len() >= 4
+        && rest[0] == b' '
+        && is_digit(rest[1])
+        && rest[2] == b'b'
+        && !is_run_byte(rest[3])
+    {
+        let value = u64::from(rest[1] - b'0');
+        return Amount { count: 3, value };
+    }
+    long_size_ahead(rest)
 }
 
 /// How many bytes so many blanks and the label behind them take, where the label ends inside the piece and no reserved word

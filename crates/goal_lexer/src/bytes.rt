@@ -39,10 +39,12 @@ pub(crate) fn is_digit(byte: u8) -> bool
 pub(crate) fn ends_reserved(byte: u8) -> bool
     ensures { result ≡ ends_reserved byte }
 {
-    matches!(
-        byte,
-        b'c' | b'd' | b'g' | b'k' | b'm' | b'o' | b's' | b'u' | b'v' | b'y'
-    )
+    // most labels end with a digit
+    byte > b'9'
+        && matches!(
+            byte,
+            b'c' | b'd' | b'g' | b'k' | b'm' | b'o' | b's' | b'u' | b'v' | b'y'
+        )
 }
 
 /// Whether the byte is a letter, a digit or `_`.

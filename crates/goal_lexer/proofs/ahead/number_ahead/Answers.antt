@@ -1,10 +1,26 @@
-use Rattle.std.proofs.Common.{◌+◌, sym, arith}
-use Rattle.goal_lexer.proofs.FoundAheadLaws.{one_digit_ahead, most_of_digit}
+use Rattle.std.proofs.Common.{◌+◌, ◌*◌, sym, arith}
+use Rattle.goal_lexer.proofs.FoundAheadLaws.{one_digit_ahead, two_digits_ahead, three_digits_ahead, most_of_digit}
 use Rattle.goal_lexer.proofs.ahead.number_ahead.Goals as goal
 
 pub returns-then-not-is_run_byte-clause-ahead : goal.returns-then-not-is_run_byte-clause-ahead
 returns-then-not-is_run_byte-clause-ahead c some place = (
   place + 1,
-  one_digit_ahead place c.from-value.result c.args.rest.now (omega arith) c.if-rest-eq32.true (sym c.if-is_digit.ensures)
-      (most_of_digit _ (sym c.if-is_digit.ensures)) (sym c.if-not-is_run_byte.ensures) (omega (arith, c.from-value.ensures)),
+  one_digit_ahead place c.from-ones.result c.args.rest.now (omega arith) c.if-rest-ne32.false (sym c.if-not-is_digit.ensures)
+      (most_of_digit _ (sym c.if-not-is_digit.ensures)) (sym c.if-not-is_run_byte.ensures) (omega (arith, c.from-ones.ensures)),
+)
+
+pub returns-then-not-is_run_byte-2-clause-ahead : goal.returns-then-not-is_run_byte-2-clause-ahead
+returns-then-not-is_run_byte-2-clause-ahead c some place = (
+  place + 1,
+  two_digits_ahead place (c.from-ones.result * 10 + c.from.result) c.args.rest.now (omega arith) c.if-rest-ne32.false
+      (sym c.if-not-is_digit.ensures) (sym c.if-not-is_digit-2.ensures) (sym c.if-not-is_run_byte-2.ensures)
+      (omega (arith, c.from-ones.ensures, c.from.ensures)),
+)
+
+pub returns-clause-ahead : goal.returns-clause-ahead
+returns-clause-ahead c some place = (
+  place + 1,
+  three_digits_ahead place ((c.from-ones.result * 10 + c.from.result) * 10 + c.from-2.result) c.args.rest.now (omega arith)
+      c.if-rest-ne32.false (sym c.if-not-is_digit.ensures) (sym c.if-not-is_digit-2.ensures) (sym c.if-not-is_digit-3.ensures)
+      (sym c.if-is_run_byte.ensures) (omega (arith, c.from-ones.ensures, c.from.ensures, c.from-2.ensures)),
 )

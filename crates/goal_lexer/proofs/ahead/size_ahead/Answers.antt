@@ -1,13 +1,10 @@
 use Rattle.std.proofs.Common.{◌+◌, sym, arith}
-use Rattle.goal_lexer.proofs.FoundAheadLaws.{size_found}
+use Rattle.goal_lexer.proofs.FoundAheadLaws.{one_digit_size}
 use Rattle.goal_lexer.proofs.ahead.size_ahead.Goals as goal
 
-pub returns-clause-ahead : goal.returns-clause-ahead
-returns-clause-ahead c some place =
-    let blanks = c.blanks_ahead-blanks.result in
-    let found = c.leading_digits-count in (
-      place + blanks,
-      size_found place blanks found.result.count found.result.value c.args.rest.now c.blanks_ahead-blanks.ensures (omega arith)
-          c.if-end-rest.false (omega (arith, found.ensures.few)) found.ensures.digits (omega arith)
-          (sym c.if-is_run_byte.ensures) found.ensures.value,
-    )
+pub returns-then-not-is_run_byte-clause-ahead : goal.returns-then-not-is_run_byte-clause-ahead
+returns-then-not-is_run_byte-clause-ahead c some place = (
+  place + 1,
+  one_digit_size place c.from-value.result c.args.rest.now (omega arith) c.if-rest-eq32.true (sym c.if-is_digit.ensures)
+      c.if-rest-eq98.true (sym c.if-not-is_run_byte.ensures) (omega (arith, c.from-value.ensures)),
+)
