@@ -1,0 +1,4 @@
+pub mod Written
+pub mod Needs
+pub mod Cursors
+pub mod ForCallers

@@ -1,0 +1,3 @@
+-- What only the code keeps.
+pub mod Cursors
+pub mod Entries
