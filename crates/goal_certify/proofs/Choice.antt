@@ -12,7 +12,7 @@ use Rattle.goal_graph.specs.Matching.{pairs, partner, is_paired}
 use Rattle.goal_graph.specs.declared.plan.When.{When}
 use Rattle.goal_graph.specs.declared.plan.When.TheVariants.{AfterEnd, AfterStart}
 use Rattle.goal_graph.specs.Allowed.{first_class, last_class, is_met, is_ready, is_served, may, allowed}
-use Rattle.goal_certify.specs.Walked.{is_done, entry_known}
+use Rattle.goal_certify.specs.WalkSoFar.{is_done, entry_known}
 use Rattle.goal_graph.specs.Laws.{IsCalc}
 use Rattle.goal_graph.proofs.ForCallers.{not_send_receive, not_receive_calc, not_send_calc, allowed_arrive, allowed_data, allowed_serve, allowed_post, allowed_begin}
 use Rattle.goal_blocks.specs.Walk.{no_send}

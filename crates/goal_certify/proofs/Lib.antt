@@ -6,9 +6,8 @@ pub mod EndSearch
 pub mod Passes
 pub mod Counting
 pub mod Places
-pub mod Walked
+pub mod AfterAction
 pub mod Performed
-pub mod Cursors
 pub mod Choice
 pub mod Queue
 pub mod Steps

@@ -14,9 +14,9 @@ use Rattle.sim_match.specs.PostsAndArrivals.{PostsAndArrivals, is_post_or_arriva
 use Rattle.sim_match.proofs.ForCallers.{happened_filtered}
 use Rattle.goal_certify.specs.declared.walk.action.Action.{Action}
 use Rattle.goal_certify.specs.declared.walk.entry.Entry.{Entry}
-use Rattle.goal_certify.specs.Walked.{Walked, act_of, acts, with_class, with_entry, with_partner, met, more_met, entry_known, Represents}
+use Rattle.goal_certify.specs.WalkSoFar.{WalkSoFar, act_of, acts, with_class, with_entry, with_partner, met, more_met, entry_known, Represents}
 use Rattle.goal_certify.specs.WalkQueue.{may_act}
-use Rattle.goal_certify.proofs.Walked.{AfterMet, after_met, table_known, partner_there}
+use Rattle.goal_certify.proofs.AfterAction.{AfterMet, after_met, table_known, partner_there}
 
 -- one action more is the newest
 acts_push : (items : List Action) (a : Action) → acts (items ++ a ∷ []) ≡ act_of a ∷ acts items
@@ -26,11 +26,11 @@ pub length-acts : (items : List Action) → length (acts items) ≡ length items
 length-acts items = length-map (reverse items) act_of ∙ length-reverse items
 
 -- of two views that are equal
-pub may_at : (v w : Walked) (c : Class) (x : OpId) → v ≡ w → may_act w.plans w.history c x ≡ true → may_act v.plans v.history c x ≡ true
-may_at v w c x e = subst (λ (u : Walked). may_act u.plans u.history c x ≡ true) (sym e)
+pub may_at : (v w : WalkSoFar) (c : Class) (x : OpId) → v ≡ w → may_act w.plans w.history c x ≡ true → may_act v.plans v.history c x ≡ true
+may_at v w c x e = subst (λ (u : WalkSoFar). may_act u.plans u.history c x ≡ true) (sym e)
 
-pub entry_is : (v w : Walked) (x : OpId) (entry : Entry) → v ≡ w → entry ≡ entry_known w.plans w.history x → entry ≡ entry_known v.plans v.history x
-entry_is v w x entry e f = f ∙ ap (λ (u : Walked). entry_known u.plans u.history x) (sym e)
+pub entry_is : (v w : WalkSoFar) (x : OpId) (entry : Entry) → v ≡ w → entry ≡ entry_known w.plans w.history x → entry ≡ entry_known v.plans v.history x
+entry_is v w x entry e f = f ∙ ap (λ (u : WalkSoFar). entry_known u.plans u.history x) (sym e)
 
 -- nothing has happened
 pub nothing_known : (plans : List Plan) (x : OpId) → entry_known plans [] x ≡ record { arrived = false; served = false; sent = false; posted = false; begun = false; paired = None }

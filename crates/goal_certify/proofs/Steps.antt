@@ -7,50 +7,57 @@ use Rattle.goal_graph.specs.Fault.{IsOp}
 use Rattle.goal_graph.specs.Interleaving.{IsInterleaving}
 use Rattle.goal_blocks.specs.Walk.{no_send, ComesFirst, TakesFirst, IsWalk}
 use Rattle.goal_certify.specs.declared.walk.action.Action.{Action}
-use Rattle.goal_certify.specs.Walked.{Walked, act_of, with_action, IsLater}
-use Rattle.goal_certify.specs.WalkQueue.{may_act, IsQueue, IsQueueBut, IsConcerned}
+use Rattle.goal_certify.specs.WalkSoFar.{WalkSoFar, act_of, with_action, IsLater}
+use Rattle.goal_certify.specs.WalkQueue.{may_act, IsQueue, IsQueueBut, IsConcerned, AreCursors}
+use Rattle.goal_progress.specs.declared.cursor.Cursor.{Cursor}
+use Rattle.goal_progress.proofs.ForCallers.{cursors_kept}
 use Rattle.goal_certify.proofs.Places.{allowed_exists}
 use Rattle.goal_certify.proofs.Queue.{queue_after}
 
-module _ (old new : Walked) (a : Action) (after : new ≡ with_action old a) (may : may_act old.plans old.history a.class a.op ≡ true) where
+module _ (old new : WalkSoFar) (a : Action) (after : new ≡ with_action old a) (may : may_act old.plans old.history a.class a.op ≡ true) where
   -- the action is one of an operation
   pub op_after : IsOp new.plans a.op
   op_after =
-      subst (λ (v : Walked). IsOp v.plans a.op) (sym after) (allowed_exists old.plans old.history a.class a.op may)
+      subst (λ (v : WalkSoFar). IsOp v.plans a.op) (sym after) (allowed_exists old.plans old.history a.class a.op may)
 
   -- after it those are due that it concerns
   pub due_after : (keys : List (Option ℕ)) → IsInterleaving old.plans no_send old.history → IsQueue old.plans old.history keys → IsQueueBut new.plans new.history (λ slot. IsConcerned new.plans new.history a.op) keys
   due_after keys each q =
-      subst (λ (v : Walked). IsQueueBut v.plans v.history (λ slot. IsConcerned v.plans v.history a.op) keys) (sym after) (queue_after old.plans old.history (act_of a) (each, may) keys q)
+      subst (λ (v : WalkSoFar). IsQueueBut v.plans v.history (λ slot. IsConcerned v.plans v.history a.op) keys) (sym after) (queue_after old.plans old.history (act_of a) (each, may) keys q)
 
   -- each action was the first of those that might happen
   pub first_after : TakesFirst old.plans old.history → ((b : Act) → may_act old.plans old.history b.class b.op ≡ true → ComesFirst (act_of a) b) → TakesFirst new.plans new.history
-  first_after before first = subst (λ (v : Walked). TakesFirst v.plans v.history) (sym after) (before, first)
+  first_after before first = subst (λ (v : WalkSoFar). TakesFirst v.plans v.history) (sym after) (before, first)
+
+  -- the cursors stay
+  pub cursors_after : (cursors : List Cursor) → AreCursors old.plans old.history cursors → AreCursors new.plans new.history cursors
+  cursors_after cursors cur =
+      subst (λ (v : WalkSoFar). AreCursors v.plans v.history cursors) (sym after) (cursors_kept old.plans no_send (act_of a) old.history cursors cur)
 
 -- with each step fewer are left
-pub fewer_left : (old new : Walked) (r : Option Action) → is_some r ≡ true → IfSome r (λ a. new ≡ with_action old a) → IsInterleaving new.plans no_send new.history → 3 * length (operations new.plans) - length new.history < 3 * length (operations old.plans) - length old.history
+pub fewer_left : (old new : WalkSoFar) (r : Option Action) → is_some r ≡ true → IfSome r (λ a. new ≡ with_action old a) → IsInterleaving new.plans no_send new.history → 3 * length (operations new.plans) - length new.history < 3 * length (operations old.plans) - length old.history
 fewer_left old new None t after each = absurd (cc)
 fewer_left old new (Some a) t after each =
     let most = happened_and_left new.plans no_send new.history each in
-    let plans = ap (λ (v : Walked). length (operations v.plans)) after in
-    let history = ap (λ (v : Walked). length v.history) after in
+    let plans = ap (λ (v : WalkSoFar). length (operations v.plans)) after in
+    let history = ap (λ (v : WalkSoFar). length v.history) after in
     omega (arith, most, plans, history)
 
 -- and more has happened
-pub later_after : (old new : Walked) (r : Option Action) (h : List Act) → is_some r ≡ true → IfSome r (λ a. new ≡ with_action old a) → IsLater h old.history → IsLater h new.history
+pub later_after : (old new : WalkSoFar) (r : Option Action) (h : List Act) → is_some r ≡ true → IfSome r (λ a. new ≡ with_action old a) → IsLater h old.history → IsLater h new.history
 later_after old new None h t after later = absurd (cc)
 later_after old new (Some a) h t after later =
-    (act_of a ∷ later.0, ap (λ (v : Walked). v.history) after ∙ ap (λ (l : List Act). act_of a ∷ l) later.1)
+    (act_of a ∷ later.0, ap (λ (v : WalkSoFar). v.history) after ∙ ap (λ (l : List Act). act_of a ∷ l) later.1)
 
-pub plans_after : (old new : Walked) (r : Option Action) → is_some r ≡ true → IfSome r (λ a. new ≡ with_action old a) → new.plans ≡ old.plans
+pub plans_after : (old new : WalkSoFar) (r : Option Action) → is_some r ≡ true → IfSome r (λ a. new ≡ with_action old a) → new.plans ≡ old.plans
 plans_after old new None t after = absurd (cc)
-plans_after old new (Some a) t after = ap (λ (v : Walked). v.plans) after
+plans_after old new (Some a) t after = ap (λ (v : WalkSoFar). v.plans) after
 
 -- where nothing happens any more
-pub walk_at : (old new : Walked) (r : Option Action) → is_some r ≡ false → IfNone r (IsWalk old.plans old.history) → IfNone r (new ≡ old) → IsWalk new.plans new.history
+pub walk_at : (old new : WalkSoFar) (r : Option Action) → is_some r ≡ false → IfNone r (IsWalk old.plans old.history) → IfNone r (new ≡ old) → IsWalk new.plans new.history
 walk_at old new (Some a) t walk same = absurd (cc)
-walk_at old new None t walk same = subst (λ (v : Walked). IsWalk v.plans v.history) (sym same) walk
+walk_at old new None t walk same = subst (λ (v : WalkSoFar). IsWalk v.plans v.history) (sym same) walk
 
-pub same_at : (old new : Walked) (r : Option Action) → is_some r ≡ false → IfNone r (new ≡ old) → new ≡ old
+pub same_at : (old new : WalkSoFar) (r : Option Action) → is_some r ≡ false → IfNone r (new ≡ old) → new ≡ old
 same_at old new (Some a) t same = absurd (cc)
 same_at old new None t same = same

@@ -19,7 +19,7 @@ use Rattle.goal_values.specs.Summed.{Summed, lent_values, IsLent}
 use Rattle.goal_certify.specs.declared.walk.action.Action.{Action}
 use Rattle.goal_certify.specs.declared.walk.parcel.Parcel.{Parcel}
 use Rattle.goal_certify.specs.declared.walk.parcel.Holdings.{Holdings}
-use Rattle.goal_certify.specs.Walked.{Walked, act_of}
+use Rattle.goal_certify.specs.WalkSoFar.{WalkSoFar, act_of}
 
 -- what is told of a parcel: the values that are under way, and how many contributions these are
 pub record Told : Type 0 where
@@ -77,17 +77,17 @@ abbrev pub Holds : List Plan → Store → List Act → Holdings → Type 0
 Holds plans first h held = IsHolding plans first h held.store held.parcels.items held.carried
 
 -- what was held before the last action is held after it, as that action changes it
-abbrev pub FollowsOn : Walked → Holdings → Holdings → Type 0
+abbrev pub FollowsOn : WalkSoFar → Holdings → Holdings → Type 0
 FollowsOn w old new = (first : Store) → Holds w.plans first (drop 1 w.history) old → Holds w.plans first w.history new
 
 -- the last action makes it too much
-abbrev pub GrowsTooHeavy : Walked → Holdings → CertFault → Type 0
+abbrev pub GrowsTooHeavy : WalkSoFar → Holdings → CertFault → Type 0
 GrowsTooHeavy w old fault =
     (first : Store) → Holds w.plans first (drop 1 w.history) old → IsOver (λ total. IsFirstTooHeavy w.plans first w.history total) fault
 
 -- what is asked of an action that has just happened: the walk is that of a small schedule, the table that of its notes, and before it
 -- this was held
-pub record IsTaken (w : Walked) (table : List Plan) (a : Action) (old : Holdings) : Type 0 where
+pub record IsTaken (w : WalkSoFar) (table : List Plan) (a : Action) (old : Holdings) : Type 0 where
   pub small : IsSmall w.plans
   pub table_is : table ≡ w.plans
   pub newest : w.history ≡ act_of a ∷ drop 1 w.history

@@ -4,7 +4,7 @@ pub mod Segments
 -- What only the code keeps.
 pub mod Stages
 pub mod Ends
-pub mod Walked
+pub mod WalkSoFar
 pub mod WalkQueue
 pub mod Turns
 pub mod Rows

@@ -1,16 +1,16 @@
 -- Which operations may act next, in a queue by their places in the order of all, and how far their needs have been
 -- looked at.
-use Rattle.std.specs.Prelude.{ℕ, ◌≡◌, ◌≤◌, ◌⊎◌, Bool, true, false, List, length, take, Option, Some, None, slice_get, slice_set}
-use Rattle.std.specs.List.{list_all}
+use Rattle.std.specs.Prelude.{ℕ, ◌≡◌, ◌⊎◌, Bool, true, false, List, length, Option, Some, None, slice_get, slice_set}
 use Rattle.goal_graph.specs.declared.action.OpId.{OpId}
 use Rattle.goal_graph.specs.declared.action.Class.{Class}
-use Rattle.goal_graph.specs.declared.plan.Need.{Need}
-use Rattle.goal_graph.specs.Schedule.{Plan, needs, needed, operations}
+use Rattle.goal_graph.specs.Schedule.{Plan, operations}
 use Rattle.goal_graph.specs.Action.{Act}
 pub use Rattle.goal_graph.specs.Concerned.{IsNamedIn, Waits, IsConcerned}
-use Rattle.goal_graph.specs.Allowed.{is_met, allowed}
+use Rattle.goal_graph.specs.Allowed.{allowed}
 use Rattle.goal_blocks.specs.Walk.{no_send, TakesFirst}
 use Rattle.sim_heaps.specs.Map.{key_at}
+use Rattle.goal_progress.specs.declared.cursor.Cursor.{Cursor}
+use Rattle.goal_progress.specs.Cursors as progress
 
 module _ (plans : List Plan) where
   module _ (h : List Act) where
@@ -48,22 +48,16 @@ module _ (plans : List Plan) where
       pub bound : IsKeyOf slot x key
       pub put : new ≡ slice_set old slot key
 
-    -- whether the moment that x waits for by this need is there
-    abbrev pub is_there : OpId → Need → Bool
-    is_there x d = is_met plans no_send h d.when (needed x d)
-
     -- the needs of x before the cursor are met
-    pub record IsCursorOf (x : OpId) (cursor : ℕ) : Type 0 where
-      pub within : cursor ≤ length (needs plans x)
-      pub met : list_all (is_there x) (take cursor (needs plans x)) ≡ true
+    abbrev pub IsCursorOf : OpId → Cursor → Type 0
+    IsCursorOf = progress.IsCursorOf plans no_send h
 
     -- there is a cursor for each operation, in their order
-    pub record AreCursors (cursors : List ℕ) : Type 0 where
-      pub each : length cursors ≡ length (operations plans)
-      pub are : (slot : ℕ) (x : OpId) (c : ℕ) → slice_get (operations plans) slot ≡ Some x → slice_get cursors slot ≡ Some c → IsCursorOf x c
+    abbrev pub AreCursors : List Cursor → Type 0
+    AreCursors = progress.AreCursors plans no_send h
 
     -- what a walker keeps of its history, each action of which was the first of those that might happen
-    pub record Follows (keys : List (Option ℕ)) (cursors : List ℕ) : Type 0 where
+    pub record Follows (keys : List (Option ℕ)) (cursors : List Cursor) : Type 0 where
       pub queue : IsQueue keys
       pub are_cursors : AreCursors cursors
       pub in_order : TakesFirst plans h

@@ -7,10 +7,11 @@ ghost use Rattle.goal_graph.specs.Allowed.{allowed, has_ended};
 ghost use Rattle.goal_graph.specs.Fault.{IsOp, IsAccepted};
 ghost use Rattle.goal_graph.specs.Interleaving.{IsInterleaving};
 ghost use Rattle.goal_blocks.specs.Walk.{no_send, ComesFirst, TakesFirst, IsWalk};
-ghost use Rattle.goal_certify.specs.Walked.{act_of, with_action, IsLater};
+ghost use Rattle.goal_certify.specs.WalkSoFar.{act_of, with_action, IsLater};
 
 use goal_base::NoMemory;
 use goal_graph::{OpId, Sched, When};
+use goal_progress::{Cursor, Progress, at_first};
 use std::alloc::Global;
 use std::marker::Model;
 
@@ -37,7 +38,7 @@ pub struct Walker<'a> {
     // which operations may act
     queue: Turns,
     // how far the needs of each operation have been looked at
-    cursors: Vec<usize>,
+    cursors: Vec<Cursor>,
 }
 
 // It goes by a call, and not field by field: so those that let one go are shorter to prove.
@@ -52,10 +53,10 @@ impl Drop for Walker<'_> {
 }
 
 impl<'a> Model for Walker<'a> {
-    ghost use Rattle.goal_certify.specs.Walked.{Walked};
+    ghost use Rattle.goal_certify.specs.WalkSoFar.{WalkSoFar};
     ghost use Rattle.goal_certify.specs.WalkQueue.{Follows};
 
-    ghost Value = { Walked };
+    ghost Value = { WalkSoFar };
 
     ghost view = { λ w. w.state };
 
@@ -70,7 +71,7 @@ impl<'a> Walker<'a> {
     {
         let state = State::new(alloc, sched)?;
         let mut queue = Turns::new(alloc, sched.count())?;
-        let mut cursors = vec![in alloc; 0; sched.count() as usize]?;
+        let mut cursors = at_first(alloc, sched)?;
         fill(&state, &mut queue, &mut cursors);
         Ok(Walker {
             state,

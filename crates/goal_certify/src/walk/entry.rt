@@ -4,9 +4,10 @@ ghost use Rattle.goal_graph.specs.declared.action.OpId.{OpId};
 ghost use Rattle.goal_graph.specs.Schedule.{operations};
 ghost use Rattle.goal_graph.specs.Fault.{IsOp};
 ghost use Rattle.goal_certify.specs.declared.walk.entry.Entry.{Entry};
-ghost use Rattle.goal_certify.specs.Walked.{is_done, with_class, with_entry, with_pairing, with_partner};
+ghost use Rattle.goal_certify.specs.WalkSoFar.{is_done, with_class, with_entry, with_pairing, with_partner};
 
 use goal_graph::{Class, OpId, Sched};
+use goal_progress::entry_of_mut;
 
 /// Which actions of an operation have happened, and the operation that it is paired with.
 #[derive(Clone, Copy, Debug, PartialEq, Eq)]
@@ -57,37 +58,15 @@ pub fn with_class(entry: Entry, class: Class) -> Entry
     entry
 }
 
-/// The entry of an operation.
-pub fn read(sched: &Sched, entries: &[Entry], id: OpId) -> Entry
-    requires exists { IsOp sched.now id }
-    requires each { length entries.now ≡ length (operations sched.now) }
-    ensures { (f : OpId → Entry) → entries.now ≡ map f (operations sched.now) → result ≡ f id }
-{
-    entries[sched.index(id) as usize]
-}
-
-/// Writes the entry of an operation.
-pub fn write(sched: &Sched, entries: &mut [Entry], id: OpId, entry: Entry)
-    requires exists { IsOp sched.now id }
-    requires each { length entries.old ≡ length (operations sched.now) }
-    ensures { (f : OpId → Entry) → entries.old ≡ map f (operations sched.now) → entries.new ≡ map (with_entry id entry f) (operations sched.now) }
-{
-    entries[sched.index(id) as usize] = entry;
-}
-
-/// Writes that two operations are paired.
-pub fn pair(sched: &Sched, entries: &mut [Entry], id: OpId, with: OpId)
+// Writes that two operations are paired.
+fn pair(sched: &Sched, entries: &mut [Entry], id: OpId, with: OpId)
     requires exists { IsOp sched.now id }
     requires other { IsOp sched.now with }
     requires each { length entries.old ≡ length (operations sched.now) }
     ensures { (f : OpId → Entry) → entries.old ≡ map f (operations sched.now) → entries.new ≡ map (with_pairing with id (with_pairing id with f)) (operations sched.now) }
 {
-    let first = read(sched, entries, id);
-    let paired = Some(with);
-    write(sched, entries, id, Entry { paired, ..first });
-    let second = read(sched, entries, with);
-    let paired = Some(id);
-    write(sched, entries, with, Entry { paired, ..second });
+    entry_of_mut(entries, sched, id).paired = Some(with);
+    entry_of_mut(entries, sched, with).paired = Some(id);
 }
 
 /// Writes the entry of an operation and, where it has a partner, that the two are paired.
@@ -103,7 +82,7 @@ pub fn write_met(
     requires each { length entries.old ≡ length (operations sched.now) }
     ensures { (f : OpId → Entry) → entries.old ≡ map f (operations sched.now) → entries.new ≡ map (with_partner id partner (with_entry id entry f)) (operations sched.now) }
 {
-    write(sched, entries, id, entry);
+    *entry_of_mut(entries, sched, id) = entry;
     let Some(with) = partner else {
         return;
     };

@@ -8,16 +8,17 @@ ghost use Rattle.goal_graph.specs.Matching.{pairs, partner};
 ghost use Rattle.goal_graph.specs.Fault.{IsOp};
 ghost use Rattle.goal_graph.specs.Interleaving.{IsCompleteInterleaving};
 ghost use Rattle.goal_blocks.specs.Walk.{no_send, ComesFirst};
-ghost use Rattle.goal_certify.specs.Walked.{act_of};
+ghost use Rattle.goal_certify.specs.WalkSoFar.{act_of};
 ghost use Rattle.goal_certify.specs.WalkQueue.{may_act, IsChoice, IsQueue, IsQueueBut, IsRefreshed, IsConcerned, Waits, IsCursorOf, AreCursors};
 
 use super::action::Action;
 use super::state::State;
 use super::turns::Turns;
 use goal_graph::{Class, OpId};
+use goal_progress::{Cursor, entry_of_mut};
 
 /// Gives each operation its key.
-pub fn fill(state: &State, queue: &mut Turns, cursors: &mut [usize])
+pub fn fill(state: &State, queue: &mut Turns, cursors: &mut [Cursor])
     requires each { length queue.old ≡ length (operations state.now.plans) }
     requires cursors { AreCursors state.now.plans state.now.history cursors.old }
     ensures queue { IsQueue state.now.plans state.now.history queue.new }
@@ -29,7 +30,7 @@ pub fn fill(state: &State, queue: &mut Turns, cursors: &mut [usize])
 }
 
 /// The action that happens next, none where none may happen.
-pub fn next(state: &State, queue: &Turns, cursors: &[usize]) -> Option<Action>
+pub fn next(state: &State, queue: &Turns, cursors: &[Cursor]) -> Option<Action>
     requires queue { IsQueue state.now.plans state.now.history queue.now }
     requires cursors { AreCursors state.now.plans state.now.history cursors.now }
     ensures may { IfSome result (λ a. may_act state.now.plans state.now.history a.class a.op ≡ true) }
@@ -50,7 +51,7 @@ pub fn next(state: &State, queue: &Turns, cursors: &[usize]) -> Option<Action>
 
 /// Gives their keys to those whose next action may be another after an action of this operation: it, its partner, and
 /// the operations that need it.
-pub fn follow(state: &State, queue: &mut Turns, cursors: &mut [usize], id: OpId)
+pub fn follow(state: &State, queue: &mut Turns, cursors: &mut [Cursor], id: OpId)
     requires exists { IsOp state.now.plans id }
     requires rest { IsQueueBut state.now.plans state.now.history (λ slot. IsConcerned state.now.plans state.now.history id) queue.old }
     requires cursors { AreCursors state.now.plans state.now.history cursors.old }
@@ -63,7 +64,7 @@ pub fn follow(state: &State, queue: &mut Turns, cursors: &mut [usize], id: OpId)
 }
 
 // Gives its key to the partner of an operation, if it has one.
-fn follow_partner(state: &State, queue: &mut Turns, cursors: &mut [usize], id: OpId)
+fn follow_partner(state: &State, queue: &mut Turns, cursors: &mut [Cursor], id: OpId)
     requires exists { IsOp state.now.plans id }
     requires rest { IsQueueBut state.now.plans state.now.history (λ slot y. (partner (pairs state.now.plans state.now.history) id ≡ Some y) ⊎ Waits state.now.plans id y) queue.old }
     requires cursors { AreCursors state.now.plans state.now.history cursors.old }
@@ -77,7 +78,7 @@ fn follow_partner(state: &State, queue: &mut Turns, cursors: &mut [usize], id: O
 }
 
 // Gives their keys to the operations that need this one.
-fn follow_waiting(state: &State, queue: &mut Turns, cursors: &mut [usize], id: OpId)
+fn follow_waiting(state: &State, queue: &mut Turns, cursors: &mut [Cursor], id: OpId)
     requires exists { IsOp state.now.plans id }
     requires rest { IsQueueBut state.now.plans state.now.history (λ slot. Waits state.now.plans id) queue.old }
     requires cursors { AreCursors state.now.plans state.now.history cursors.old }
@@ -94,21 +95,18 @@ fn follow_waiting(state: &State, queue: &mut Turns, cursors: &mut [usize], id: O
 }
 
 // The class of the action of an operation that may happen, if one may. Its needs are looked at from its cursor on.
-fn choice_from(state: &State, cursors: &mut [usize], id: OpId) -> Option<Class>
+fn choice_from(state: &State, cursors: &mut [Cursor], id: OpId) -> Option<Class>
     requires exists { IsOp state.now.plans id }
     requires cursors { AreCursors state.now.plans state.now.history cursors.old }
     ensures choice { IsChoice state.now.plans state.now.history id result }
     ensures cursors { AreCursors state.now.plans state.now.history cursors.new }
 {
-    let place = state.sched().index(id) as usize;
-    let mut cursor = cursors[place];
-    let class = state.choice(id, &mut cursor);
-    cursors[place] = cursor;
-    class
+    let cursor = entry_of_mut(cursors, state.sched(), id);
+    state.choice(id, cursor)
 }
 
 // Gives an operation its key where it may act, and takes the key where it may not.
-fn refresh(state: &State, queue: &mut Turns, cursors: &mut [usize], id: OpId)
+fn refresh(state: &State, queue: &mut Turns, cursors: &mut [Cursor], id: OpId)
     requires exists { IsOp state.now.plans id }
     requires each { length queue.old ≡ length (operations state.now.plans) }
     requires cursors { AreCursors state.now.plans state.now.history cursors.old }

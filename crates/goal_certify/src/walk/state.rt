@@ -4,18 +4,19 @@ ghost use Rattle.goal_graph.specs.declared.action.Class.TheVariants.{Arrive, Ser
 ghost use Rattle.goal_graph.specs.Action.{happened};
 ghost use Rattle.goal_graph.specs.Schedule.{kind_at, IsSend, IsReceive};
 ghost use Rattle.goal_graph.specs.Matching.{pairs, partner};
-ghost use Rattle.goal_graph.specs.Allowed.{first_class, last_class, is_met, is_ready};
+ghost use Rattle.goal_graph.specs.Allowed.{first_class, last_class};
 ghost use Rattle.goal_graph.specs.Fault.{IsOp, IsAccepted};
 ghost use Rattle.goal_graph.specs.Interleaving.{IsInterleaving};
 ghost use Rattle.goal_blocks.specs.Walk.{no_send};
 ghost use Rattle.sim_match.specs.PostsAndArrivals.{is_post_or_arrival_class};
-ghost use Rattle.goal_certify.specs.Walked.{entry_known, with_action, met, more_met};
+ghost use Rattle.goal_certify.specs.WalkSoFar.{entry_known, with_action, met, more_met};
 ghost use Rattle.goal_certify.specs.WalkQueue.{may_act, IsChoice, IsCursorOf};
 
 use super::action::Action;
-use super::entry::{BLANK, Entry, is_done, read, with_class, write_met};
+use super::entry::{BLANK, Entry, is_done, with_class, write_met};
 use goal_base::NoMemory;
-use goal_graph::{Class, Kind, OpId, Sched, When};
+use goal_graph::{Class, Kind, Need, OpId, Sched, When};
+use goal_progress::{Cursor, Progress, entry_of, is_ready_uncounted};
 use sim_match::Matcher;
 use std::alloc::Global;
 use std::marker::Model;
@@ -46,9 +47,9 @@ impl Drop for State<'_> {
 
 impl<'a> Model for State<'a> {
     ghost use Rattle.std.specs.Prelude.{vec_capacity};
-    ghost use Rattle.goal_certify.specs.Walked.{Walked, acts, Represents};
+    ghost use Rattle.goal_certify.specs.WalkSoFar.{WalkSoFar, acts, Represents};
 
-    ghost Value = { Walked };
+    ghost Value = { WalkSoFar };
 
     ghost view = { λ s. record { plans = s.sched.now; history = acts s.history.items } };
 
@@ -94,7 +95,7 @@ impl<'a> State<'a> {
         requires { IsOp self.now.plans id }
         ensures { result ≡ entry_known self.now.plans self.now.history id }
     {
-        read(self.sched, &self.entries, id)
+        *entry_of(&self.entries, self.sched, id)
     }
 
     /// The operation that another is paired with, once it is.
@@ -105,22 +106,9 @@ impl<'a> State<'a> {
         self.entry(id).paired
     }
 
-    /// Whether the moment of an operation that a dependency waits for is there.
-    pub fn is_met(&self, when: When, id: OpId) -> bool
-        requires { IsOp self.now.plans id }
-        ensures { result ≡ is_met self.now.plans no_send self.now.history when id }
-    {
-        let kind = self.sched().op(id).kind;
-        let class = match when {
-            When::AfterEnd => last_class(kind),
-            When::AfterStart => first_class(kind),
-        };
-        is_done(self.entry(id), class)
-    }
-
     /// The class of the action of an operation that may happen next, if one may. While it has not started its cursor
     /// goes on to the first need that is not met, or past all: the next call looks from there on.
-    pub fn choice(&self, id: OpId, cursor: &mut usize) -> Option<Class>
+    pub fn choice(&self, id: OpId, cursor: &mut Cursor) -> Option<Class>
         requires op { IsOp self.now.plans id }
         requires cursor { IsCursorOf self.now.plans self.now.history id cursor.old }
         ensures choice { IsChoice self.now.plans self.now.history id result }
@@ -166,7 +154,7 @@ impl<'a> State<'a> {
     }
 
     // Whether an operation may start: once it is ready, and only once.
-    fn may_start(&self, id: OpId, first: Class, cursor: &mut usize) -> bool
+    fn may_start(&self, id: OpId, first: Class, cursor: &mut Cursor) -> bool
         requires op { IsOp self.now.plans id }
         requires first { first ≡ first_class (kind_at self.now.plans id) }
         requires cursor { IsCursorOf self.now.plans self.now.history id cursor.old }
@@ -176,7 +164,7 @@ impl<'a> State<'a> {
         if is_done(self.entry(id), first) {
             return false;
         }
-        self.is_ready(id, cursor)
+        is_ready_uncounted(self, id, cursor)
     }
 
     // Whether a send may arrive: once it has begun.
@@ -209,28 +197,6 @@ impl<'a> State<'a> {
         !entry.served && self.entry(send).sent
     }
 
-    // Whether all that an operation needs is there. Its cursor goes on as far as needs are met.
-    fn is_ready(&self, id: OpId, cursor: &mut usize) -> bool
-        requires op { IsOp self.now.plans id }
-        requires cursor { IsCursorOf self.now.plans self.now.history id cursor.old }
-        ensures ready { result ≡ is_ready self.now.plans no_send self.now.history id }
-        ensures cursor { IsCursorOf self.now.plans self.now.history id cursor.new }
-    {
-        let needs = self.sched.needs(id);
-        for at in *cursor..needs.len() {
-            let need = needs[at];
-            let needed = OpId {
-                rank: id.rank,
-                op: need.op,
-            };
-            if !self.is_met(need.when, needed) {
-                return false;
-            }
-            *cursor = at + 1;
-        }
-        true
-    }
-
     /// Lets an action happen.
     pub fn perform(&mut self, action: Action)
         requires { may_act self.old.plans self.old.history action.class action.op ≡ true }
@@ -242,6 +208,33 @@ impl<'a> State<'a> {
         let done = with_class(entry, action.class);
         write_met(sched, &mut self.entries, action.op, done, partner);
         self.history.push_reserved(action);
+    }
+}
+
+impl Progress for State<'_> {
+    ghost use Rattle.goal_blocks.specs.Walk.{no_send};
+
+    ghost plans = { λ s. s.plans };
+
+    ghost eager = { λ s. no_send };
+
+    ghost actions = { λ s. s.history };
+
+    fn sched(&self) -> &Sched {
+        self.sched
+    }
+
+    fn needs(&self, id: OpId) -> &[Need] {
+        self.sched.needs(id)
+    }
+
+    fn is_met(&self, when: When, id: OpId) -> bool {
+        let kind = self.sched().op(id).kind;
+        let class = match when {
+            When::AfterEnd => last_class(kind),
+            When::AfterStart => first_class(kind),
+        };
+        is_done(self.entry(id), class)
     }
 }
 

@@ -16,7 +16,7 @@ ghost use Rattle.goal_values.specs.Kept.{values};
 ghost use Rattle.goal_values.specs.Sums.{HasGrown};
 ghost use Rattle.goal_values.specs.Summed.{lent_values, IsLent};
 ghost use Rattle.goal_certify.specs.Carried.{size_of, told_of, parcel_of, IsOver, AddsOver, AddsWithin, Holds, FollowsOn, GrowsTooHeavy, IsTaken, HasEqualEnds};
-ghost use Rattle.goal_certify.specs.Walked.{act_of};
+ghost use Rattle.goal_certify.specs.WalkSoFar.{act_of};
 
 use super::Walker;
 use super::action::Action;

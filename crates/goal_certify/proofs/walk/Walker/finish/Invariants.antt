@@ -1,6 +1,6 @@
 use Rattle.std.proofs.Common.{◌≡◌, ◌*◌, ◌-◌, length}
 use Rattle.goal_graph.specs.Schedule.{operations}
-use Rattle.goal_certify.specs.Walked.{IsLater}
+use Rattle.goal_certify.specs.WalkSoFar.{IsLater}
 use Rattle.goal_certify.proofs.walk.Walker.finish.Given as goal
 
 abbrev pub invariant-steps : goal.invariant-steps

@@ -1,10 +1,9 @@
 use Rattle.std.proofs.Common.{length, ap, sym, ◌∙◌, subst}
 use Rattle.goal_graph.specs.Interleaving.{IsInterleaving}
 use Rattle.goal_blocks.specs.Walk.{no_send}
-use Rattle.goal_certify.specs.Walked.{Walked}
+use Rattle.goal_certify.specs.WalkSoFar.{WalkSoFar}
 use Rattle.goal_certify.specs.WalkQueue.{AreCursors}
-use Rattle.goal_certify.proofs.Cursors.{cursors_after}
-use Rattle.goal_certify.proofs.Steps.{op_after, due_after, first_after}
+use Rattle.goal_certify.proofs.Steps.{op_after, due_after, first_after, cursors_after}
 use Rattle.goal_certify.proofs.walk.Walker.next.Goals as goal
 use Rattle.goal_graph.proofs.ForCallers.{whole_back}
 
@@ -14,13 +13,13 @@ follow-requires-clause-exists c =
 
 pub follow-requires-clause-rest : goal.follow-requires-clause-rest
 follow-requires-clause-rest c =
-    let each = subst (λ (v : Walked). IsInterleaving v.plans no_send v.history) (sym c.self.view_is) c.known.ensures.each in
+    let each = subst (λ (v : WalkSoFar). IsInterleaving v.plans no_send v.history) (sym c.self.view_is) c.known.ensures.each in
     due_after c.self.inside.state c.perform.new.self c.in_ok-action.action c.perform.ensures c.in_ok-action.ensures.may c.self.inside.queue each c.self.invariant.queue
 
 pub follow-requires-clause-cursors : goal.follow-requires-clause-cursors
 follow-requires-clause-cursors c =
     let after = c.perform.new.self in
-    subst (AreCursors after.plans after.history) (sym c.deref_mut.ensures.value) (cursors_after c.self.inside.state after c.in_ok-action.action c.self.inside.cursors.items c.perform.ensures c.self.invariant.are_cursors)
+    subst (AreCursors after.plans after.history) (sym c.deref_mut.ensures.value) (cursors_after c.self.inside.state after c.in_ok-action.action c.perform.ensures c.in_ok-action.ensures.may c.self.inside.cursors.items c.self.invariant.are_cursors)
 
 pub invariant_of-self : goal.invariant_of-self
 invariant_of-self c =

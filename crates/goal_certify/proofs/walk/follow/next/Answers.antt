@@ -1,7 +1,8 @@
-use Rattle.std.proofs.Common.{List, get_or, is_some, refl, ap, ◌∙◌}
+use Rattle.std.proofs.Common.{List, get_or, ap, ◌∙◌}
 use Rattle.goal_graph.specs.declared.action.OpId.{OpId}
 use Rattle.goal_graph.specs.Schedule.{Plan, operations}
-use Rattle.goal_certify.proofs.Cursors.{cursor_read}
+use Rattle.goal_progress.proofs.ForCallers.{cursor_in_slot}
+use Rattle.goal_blocks.specs.Walk.{no_send}
 use Rattle.goal_certify.proofs.Queue.{complete, found_at, not_idle, comes_first, choice_none, choice_some}
 use Rattle.goal_certify.proofs.walk.follow.next.Goals as goal
 
@@ -18,7 +19,7 @@ choice-requires-clause-cursor c =
     let h = c.args.state.now.history in
     let items = c.operations.ensures.all ∙ ap (λ (ps : List Plan). operations ps) c.sched.ensures in
     let at = found_at plans h c.known.ensures.each c.args.queue.now c.requires.queue c.operations.result.now items c.in-Some.slot c.in-Some.slot none c.in-Some.ensures.least.has in
-    cursor_read plans h _ plans c.args.cursors.now c.in-Some.slot _ c.requires.cursors refl at
+    cursor_in_slot plans no_send h _ c.args.cursors.now c.in-Some.slot _ c.requires.cursors at
 
 pub unreachable-requires : goal.unreachable-requires
 unreachable-requires c =

@@ -1,4 +1,4 @@
-use Rattle.goal_certify.specs.Walked.{act_of}
+use Rattle.goal_certify.specs.WalkSoFar.{act_of}
 use Rattle.goal_certify.specs.Carried.{told_in}
 use Rattle.goal_certify.proofs.Applied.{arrived, posted}
 use Rattle.goal_certify.proofs.walk.values.apply.Goals as goal

@@ -9,7 +9,7 @@ use Rattle.goal_blocks.specs.Walk.{no_send}
 use Rattle.goal_blocks.specs.Slots.{adds}
 use Rattle.goal_blocks.specs.Values.{add_all}
 use Rattle.goal_values.specs.Kept.{values}
-use Rattle.goal_certify.specs.Walked.{act_of}
+use Rattle.goal_certify.specs.WalkSoFar.{act_of}
 use Rattle.goal_certify.proofs.Holding.{holding_grown}
 use Rattle.goal_certify.specs.Carried.{told_in, AddsOver, AddsWithin}
 use Rattle.goal_certify.proofs.Applied.{both_ok, err_map, over_map, now, op_there, light_before, begun_calc, begun_over, begun_send}

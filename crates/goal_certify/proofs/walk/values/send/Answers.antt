@@ -8,7 +8,7 @@ use Rattle.goal_certify.specs.Carried.{size_of, told_of, told_in, parcel_of}
 use Rattle.goal_certify.proofs.Holding.{holding_set}
 use Rattle.goal_graph.specs.Schedule.{Plan}
 use Rattle.goal_graph.specs.Fault.{IsOp}
-use Rattle.goal_certify.specs.Walked.{act_of}
+use Rattle.goal_certify.specs.WalkSoFar.{act_of}
 use Rattle.goal_certify.proofs.Applied.{over_map, op_there, slot_there, light_before, sent, sent_over}
 use Rattle.goal_certify.proofs.walk.values.send.Goals as goal
 

@@ -1,4 +1,4 @@
-use Rattle.std.proofs.Common.{None, ◌<◌, slice_set, refl, drop, List, Option, slice_get, length, sym, ap, ◌∙◌, subst, arith}
+use Rattle.std.proofs.Common.{None, ◌<◌, refl, drop, List, slice_get, length, sym, ap, ◌∙◌, subst, arith}
 use Rattle.goal_graph.specs.Schedule.{Plan, operations}
 use Rattle.goal_graph.specs.Fault.{IsOp}
 use Rattle.goal_blocks.specs.Slots.{slots}
@@ -6,14 +6,12 @@ use Rattle.goal_blocks.specs.Values.{write}
 use Rattle.goal_values.specs.Kept.{values}
 use Rattle.goal_certify.proofs.Places.{rank_below}
 use Rattle.goal_certify.proofs.SlotFacts.{slots_low}
-use Rattle.goal_certify.specs.declared.walk.parcel.Parcel.{Parcel}
-use Rattle.goal_certify.specs.Walked.{act_of}
+use Rattle.goal_certify.specs.WalkSoFar.{act_of}
 use Rattle.std.proofs.Math.ListN.{length-map}
-use Rattle.std.specs.Option.{option_map}
 use Rattle.goal_values.specs.Sums.{meaning}
 use Rattle.goal_values.specs.Summed.{lent_values}
-use Rattle.goal_certify.specs.Carried.{Told, told_of, told_in, IsKnown}
-use Rattle.goal_certify.proofs.Holding.{raw_at, told_at, known_at, one_there, holding_set}
+use Rattle.goal_certify.specs.Carried.{Told, told_of, told_in}
+use Rattle.goal_certify.proofs.Holding.{told_at, known_at, one_there, holding_set}
 use Rattle.goal_certify.proofs.Applied.{there_within, op_there, light_before, partner_then, pair_from, as_many, parcel_is, parcel_known, size_within, size_told, received}
 use Rattle.goal_certify.proofs.walk.values.serve.Goals as goal
 use Rattle.goal_graph.proofs.ForCallers.{partner_exists}

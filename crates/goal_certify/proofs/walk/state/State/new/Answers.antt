@@ -2,7 +2,7 @@ use Rattle.std.proofs.Common.{ap, sym, subst, arith}
 use Rattle.std.specs.Vec.{vec_capacity}
 use Rattle.goal_graph.specs.Schedule.{operations}
 use Rattle.sim_match.specs.PostsAndArrivals.{PostsAndArrivals}
-use Rattle.goal_certify.specs.Walked.{acts, Represents}
+use Rattle.goal_certify.specs.WalkSoFar.{acts, Represents}
 use Rattle.goal_certify.proofs.Performed.{nothing_known}
 use Rattle.goal_certify.proofs.walk.state.State.new.Goals as goal
 use Rattle.goal_graph.proofs.ForCallers.{fresh_table}

@@ -1,5 +1,5 @@
 use Rattle.std.proofs.Common.{◌∙◌, ◌<◌, length, vec_capacity, arith}
-use Rattle.goal_certify.specs.Walked.{act_of, acts, entry_known}
+use Rattle.goal_certify.specs.WalkSoFar.{act_of, acts, entry_known}
 use Rattle.goal_certify.proofs.Places.{allowed_exists}
 use Rattle.goal_certify.proofs.Performed.{may_at, entry_is, posts, arrives, fresh, partner_exists, room_left, length-acts, performed}
 use Rattle.goal_certify.proofs.walk.state.State.perform.Goals as goal

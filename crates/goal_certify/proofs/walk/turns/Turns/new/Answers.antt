@@ -1,5 +1,5 @@
 use Rattle.std.proofs.Common.{arith}
-use Rattle.goal_certify.proofs.Turns.{no_bits, turns_none, sound_none}
+use Rattle.goal_certify.proofs.Turns.{turns_none, sound_none}
 use Rattle.goal_certify.proofs.walk.turns.Turns.new.Goals as goal
 
 pub invariant_of-result : goal.invariant_of-result

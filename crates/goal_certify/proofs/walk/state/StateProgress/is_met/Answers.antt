@@ -3,10 +3,10 @@ use Rattle.goal_graph.specs.Schedule.{Plan, op_at}
 use Rattle.goal_graph.specs.Action.{happened}
 use Rattle.goal_graph.proofs.ForCallers.{kind_from_op}
 use Rattle.goal_certify.specs.declared.walk.entry.Entry.{Entry}
-use Rattle.goal_certify.specs.Walked.{is_done}
+use Rattle.goal_certify.specs.WalkSoFar.{is_done}
 use Rattle.goal_certify.proofs.Choice.{done_known, met_end, met_start}
-use Rattle.goal_certify.proofs.walk.state.State.is_met.Goals as goal
-use Rattle.goal_certify.proofs.walk.state.State.is_met.Goals.{in-AfterEnd, in-AfterStart}
+use Rattle.goal_certify.proofs.walk.state.StateProgress.is_met.Goals as goal
+use Rattle.goal_certify.proofs.walk.state.StateProgress.is_met.Goals.{in-AfterEnd, in-AfterStart}
 
 pub returns : goal.returns
 returns c =

@@ -15,7 +15,7 @@ use Rattle.goal_blocks.specs.Walk.{no_send}
 use Rattle.sim_match.specs.PostsAndArrivals.{is_post_or_arrival}
 use Rattle.sim_match.proofs.ForCallers.{send_for_filtered, receive_for_filtered}
 use Rattle.goal_certify.specs.declared.walk.entry.Entry.{Entry}
-use Rattle.goal_certify.specs.Walked.{with_class, with_entry, with_pairing, with_partner, met, entry_known}
+use Rattle.goal_certify.specs.WalkSoFar.{with_class, with_entry, with_pairing, with_partner, met, entry_known}
 
 -- an entry is written, and two entries get their partners
 pair_written : (y m : OpId) (e : Entry) (f g : OpId → Entry) → same_op y m ≡ false → g y ≡ record e { paired = Some m } → g m ≡ record (f m) { paired = Some y } → ((x : OpId) → same_op y x ≡ false → same_op m x ≡ false → g x ≡ f x) → (x : OpId) → with_pairing m y (with_pairing y m (with_entry y e f)) x ≡ g x

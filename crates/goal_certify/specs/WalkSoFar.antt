@@ -15,7 +15,7 @@ use Rattle.goal_certify.specs.declared.walk.action.Action.{Action}
 use Rattle.goal_certify.specs.declared.walk.entry.Entry.{Entry}
 
 -- the plans of the schedule, and what has happened so far, newest first
-pub record Walked : Type 0 where
+pub record WalkSoFar : Type 0 where
   pub plans : List Plan
   pub history : List Act
 
@@ -23,7 +23,7 @@ abbrev pub act_of : Action → Act
 act_of a = record { class = a.class; op = a.op }
 
 -- after one action more
-abbrev pub with_action : Walked → Action → Walked
+abbrev pub with_action : WalkSoFar → Action → WalkSoFar
 with_action w a = record { plans = w.plans; history = act_of a ∷ w.history }
 
 -- the later list of actions begins with the other: it is that, and then more
