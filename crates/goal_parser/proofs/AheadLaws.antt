@@ -1,5 +1,5 @@
 -- What stands ahead, one after another, and a reader that goes on by it.
-use Rattle.std.proofs.Common.{◌≡◌, ℕ, ◌+◌, ◌-◌, ◌<◌, ◌⊎◌, inl, inr, true, false, List, [], ◌∷◌, ◌++◌, length, take, drop, reverse, Option, Some, None, refl, sym, ap, subst, ◌∙◌, arith, append_assoc, take-append-drop}
+use Rattle.std.proofs.Common.{◌≡◌, ℕ, zero, suc, ◌+◌, ◌-◌, ◌<◌, ◌⊎◌, inl, inr, true, false, List, [], ◌∷◌, ◌++◌, length, take, drop, reverse, Option, Some, None, refl, sym, ap, subst, ◌∙◌, arith, length-drop, append_assoc, take-append-drop}
 use Rattle.std.specs.Option.{option_or, IfSome}
 use Rattle.std.proofs.lemmas.Bool.{lt-leb}
 use Rattle.std.proofs.lemmas.List.{append-nil, reverse-append, take_rest}
@@ -15,11 +15,13 @@ use Rattle.goal_parser.specs.declared.counts.Counts.{Counts}
 use Rattle.goal_parser.specs.declared.head.Verb.{Verb}
 use Rattle.goal_parser.specs.declared.head.Verb.TheVariants as verb
 use Rattle.goal_parser.specs.declared.faults.TextFault.{TextFault}
+use Rattle.goal_parser.specs.declared.token_faults.TokenFault.{TokenFault}
+use Rattle.goal_parser.specs.FaultInText.{fault_in_text}
 use Rattle.goal_parser.specs.declared.parser.Parser.{Parser}
 use Rattle.goal_parser.specs.declared.reader.Reader.{Reader}
 use Rattle.goal_parser.specs.declared.sentence.State.{State}
 use Rattle.goal_parser.specs.declared.sentence.State.TheVariants as state
-use Rattle.goal_parser.specs.Ahead.{MayGoOn, AwaitsAction, AwaitsItem, IsRunAhead, AreTokens, IsLabelAhead, IsSmallAhead, IsPeerAhead, IsMessageAhead}
+use Rattle.goal_parser.specs.Ahead.{MayGoOn, GoesAhead, IsFaultAhead, AreNext, IsOptionsAhead, AwaitsAction, AwaitsItem, IsRunAhead, AreTokens, IsLabelAhead, IsSmallAhead, IsPeerAhead, IsMessageAhead}
 use Rattle.goal_parser.specs.Counts.{is_too_many}
 use Rattle.goal_parser.specs.Reader.{StandsFor}
 use Rattle.goal_parser.specs.Reads.{first_fault, last_fault, text_fault}
@@ -300,3 +302,75 @@ fault_in_piece piece text more at f is =
     (ap (λ (l : List ℕ). text ++ l) (sym (take-append-drop at piece) ∙ ap (λ (l : List ℕ). take at piece ++ l) (sym (take_rest piece at)))
     ∙ sym (append_assoc text (take at piece) (take (length piece - at) (drop at piece))))
     ∙ is
+
+-- what is ahead, and what stands next
+pub next_whole : (place : ℕ) (piece : List ℕ) (n end : ℕ) (ts us : List Token) → IsAhead place piece n true ts →
+    AreNext place piece n end us → IsAhead place piece end true (ts ++ us)
+next_whole place piece n end ts us first (inl next) = ahead_then place piece n end ts us first next
+next_whole place piece n end ts us first (inr none) =
+    subst (λ (k : ℕ). IsAhead place piece k true (ts ++ us)) (sym none.0)
+    (subst (λ (l : List Token). IsAhead place piece n true l)
+    (sym (ap (λ (l : List Token). ts ++ l) none.1 ∙ append-nil ts)) first)
+
+-- no token stands next, and none is taken
+pub nothing_next : (parser : Parser) (piece : List ℕ) (at place : ℕ) →
+    (tokens : List Token) × AreNext place piece at at tokens × TakesAll parser tokens parser
+unfolding first_fault
+nothing_next parser piece at place = ([], inr (refl, refl), λ before taken. (refl, taken))
+
+left_both : (old mid new : Reader) (piece : List ℕ) (n m : ℕ) → GoesAhead old piece mid n →
+    GoesAhead mid (take (length piece - n) (drop n piece)) new m → 0 < n + m → new.lexer.ends_run ≡ true → n + m < length piece
+left_both old mid new piece n zero first second some ends =
+    let same : new ≡ mid = second.none refl in
+    let left : n < length piece = first.left (omega (arith, some)) (subst (λ (r : Reader). r.lexer.ends_run ≡ true) same ends) in
+    omega (arith, left)
+left_both old mid new piece n (suc m) first second some ends =
+    let long = ap length (take_rest piece n) ∙ length-drop n piece in
+    let left = second.left (omega arith) ends in
+    omega (arith, left, long, first.taken)
+
+-- a reader that took bytes, and then more
+pub goes_both : (old mid new : Reader) (piece : List ℕ) (n m : ℕ) → GoesAhead old piece mid n →
+    GoesAhead mid (take (length piece - n) (drop n piece)) new m → GoesAhead old piece new (n + m)
+goes_both old mid new piece n m first second =
+    let long = ap length (take_rest piece n) ∙ length-drop n piece in
+    let front = first.taken in
+    let back = second.taken in
+    record {
+      taken = omega (arith, long, front, back);
+      place = omega (arith, first.place, second.place);
+      same = second.same;
+      apart = λ ends. apart_in_piece piece n m (second.apart ends);
+      left = λ some ends. left_both old mid new piece n m first second some ends;
+      stands = stands_on_piece old mid new piece n m first.stands second.stands;
+      none = λ is. second.none (omega (arith, is)) ∙ first.none (omega (arith, is));
+    }
+
+-- and a fault of what stands behind bytes that it took
+pub fault_behind_ahead : (old mid : Reader) (piece : List ℕ) (n : ℕ) (f : TokenFault) → GoesAhead old piece mid n →
+    IsFaultAhead mid (take (length piece - n) (drop n piece)) f → IsFaultAhead old piece f
+fault_behind_ahead old mid piece n f first fault memory text more stood =
+    fault_in_piece piece text more n (fault_in_text f) (fault memory (text ++ take n piece) more (first.stands text stood))
+
+-- the options of a message, each with its number
+pub options_whole : (piece : List ℕ) (at one two end tag cpu nic : ℕ) → IsPeerAhead piece at token.Tag tag one →
+    IsPeerAhead piece one token.Cpu cpu two → IsPeerAhead piece two token.Nic nic end → IsOptionsAhead piece at tag cpu nic end
+options_whole piece at one two end tag cpu nic first second third place =
+    let a = first place in
+    let b = second place in
+    let c = third place in (
+      a.0,
+      a.1,
+      b.0,
+      b.1,
+      c.0,
+      c.1,
+      a.2,
+      a.3,
+      b.2,
+      b.3,
+      c.2,
+      c.3,
+      tokens_on place piece at one end (a.0 ∷ a.1 ∷ []) (b.0 ∷ b.1 ∷ c.0 ∷ c.1 ∷ []) a.4
+          (tokens_on place piece one two end (b.0 ∷ b.1 ∷ []) (c.0 ∷ c.1 ∷ []) b.4 c.4),
+    )

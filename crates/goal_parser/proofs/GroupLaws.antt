@@ -36,6 +36,7 @@ use Rattle.goal_parser.specs.Plans.{plans_with, plans_of}
 use Rattle.goal_parser.specs.Faults.{fault_if, fault_by, token_fault, syntax_fault, number_fault, rank_fault, option_fault, label_fault, count_fault, unknown_fault, defined_fault}
 use Rattle.goal_parser.specs.Reads.{first_fault}
 use Rattle.goal_parser.specs.FaultInText.{fault_in_text}
+use Rattle.goal_parser.proofs.ReaderLaws.{first_fault-append}
 use Rattle.goal_parser.specs.Slots.{Keeps, NamesHold}
 use Rattle.goal_parser.specs.Taken.{HasTaken, KeepsHead, TakesAll, RefusesAll, IsAmount, verb_kind, IsOfDeps, IsOfNotes}
 
@@ -608,6 +609,36 @@ takes_option old n o may fresh fits word number is_word is_number =
     free state.Send4 o may head given = tt
     free state.Recv4 o may head given = tt
     free _ _ may head given = absurd may
+
+-- tokens that a parser takes one after another
+pub takes_both : (a b c : Parser) (ts us : List Token) → TakesAll a ts b → TakesAll b us c → TakesAll a (ts ++ us) c
+takes_both a b c ts us first second before taken =
+    let one = first before taken in
+    let two = second (reverse ts ++ before) one.1 in (
+      first_fault-append before ts us
+          ∙ ap (λ (o : Option TextFault). option_or o (first_fault (reverse ts ++ before) us)) one.0
+          ∙ two.0,
+      subst (λ (l : List Token). HasTaken c l)
+          (sym (append_assoc (reverse us) (reverse ts) before) ∙ ap (λ (l : List Token). l ++ before) (sym (reverse-append ts us))) two.1,
+    )
+
+-- the three options of a message, where it has none before
+pub takes_options : (old : Parser) (tag cpu nic : ℕ) → (old.state ≡ state.Send4) ⊎ (old.state ≡ state.Recv4) →
+    (old.draft.has_tag ≡ false) × (old.draft.has_cpu ≡ false) × (old.draft.has_nic ≡ false) →
+    tag ≤ option_most option.Tag → cpu ≤ option_most option.Cpu → nic ≤ option_most option.Nic →
+    (a one b two c three : Token) → a.kind ≡ token.Tag → one.kind ≡ token.Number tag → b.kind ≡ token.Cpu → two.kind ≡ token.Number cpu →
+    c.kind ≡ token.Nic → three.kind ≡ token.Number nic →
+    TakesAll old (a ∷ one ∷ b ∷ two ∷ c ∷ three ∷ [])
+    (record old { draft = record old.draft { has_tag = true; tag = Some tag; has_cpu = true; cpu = cpu; has_nic = true; nic = nic; option = option.Nic } })
+takes_options old tag cpu nic here fresh tag_fits cpu_fits nic_fits a one b two c three is_a is_one is_b is_two is_c is_three =
+    let first : Parser = record old { draft = option_with option.Tag tag (opened option.Tag old.draft) } in
+    let second : Parser = record first { draft = option_with option.Cpu cpu (opened option.Cpu first.draft) } in
+    let third : Parser = record second { draft = option_with option.Nic nic (opened option.Nic second.draft) } in
+    takes_both old first third (a ∷ one ∷ []) (b ∷ two ∷ c ∷ three ∷ [])
+    (takes_option old tag option.Tag (in_message old.state option.Tag here) fresh.0 tag_fits a one is_a is_one)
+    (takes_both first second third (b ∷ two ∷ []) (c ∷ three ∷ [])
+    (takes_option first cpu option.Cpu (in_message old.state option.Cpu here) fresh.1 cpu_fits b two is_b is_two)
+    (takes_option second nic option.Nic (in_message old.state option.Nic here) fresh.2 nic_fits c three is_c is_three))
 
 -- A definition, a dependency and a note.
 

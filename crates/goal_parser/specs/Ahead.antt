@@ -1,5 +1,5 @@
 -- What a reader takes of the tokens that stand ahead in a piece.
-use Rattle.std.specs.Prelude.{◌≡◌, ◌≢◌, ℕ, ◌+◌, ◌-◌, ◌<◌, ◌≤◌, ◌^◌, true, false, List, [], ◌∷◌, ◌++◌, Some, length, take, drop}
+use Rattle.std.specs.Prelude.{◌≡◌, ◌≢◌, ℕ, ◌+◌, ◌-◌, ◌<◌, ◌≤◌, ◌^◌, ◌⊎◌, true, false, List, [], ◌∷◌, ◌++◌, Some, length, take, drop}
 use Rattle.goal_lexer.specs.declared.mode.Mode.TheVariants.{Between}
 use Rattle.goal_lexer.specs.declared.tokens.Token.{Token}
 use Rattle.goal_lexer.specs.declared.tokens.TokenKind.{TokenKind}
@@ -87,3 +87,16 @@ abbrev pub IsMessageAhead : List ℕ → ℕ → TokenKind → ℕ → ℕ → �
 IsMessageAhead piece from word bytes value end =
     (place : ℕ) → (size w number : Token) × IsAmount size.kind bytes × (w.kind ≡ word) × (number.kind ≡ token.Number value)
     × AreTokens place piece from end (size ∷ w ∷ number ∷ [])
+
+-- the options of a message, from one index to another
+abbrev pub IsOptionsAhead : List ℕ → ℕ → ℕ → ℕ → ℕ → ℕ → Type 0
+IsOptionsAhead piece from tag cpu nic end =
+    (place : ℕ) → (a one b two c three : Token)
+    × (a.kind ≡ token.Tag) × (one.kind ≡ token.Number tag)
+    × (b.kind ≡ token.Cpu) × (two.kind ≡ token.Number cpu)
+    × (c.kind ≡ token.Nic) × (three.kind ≡ token.Number nic)
+    × AreTokens place piece from end (a ∷ one ∷ b ∷ two ∷ c ∷ three ∷ [])
+
+-- the bytes of a piece from one index to another are these tokens, of which the last is a run, or there are none
+abbrev pub AreNext : ℕ → List ℕ → ℕ → ℕ → List Token → Type 0
+AreNext start piece from end tokens = AreTokens start piece from end tokens ⊎ ((end ≡ from) × (tokens ≡ []))

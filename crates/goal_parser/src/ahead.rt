@@ -6,10 +6,11 @@ ghost use Rattle.goal_lexer.specs.Ahead.{AreBlanks, is_word, IsAhead};
 ghost use Rattle.goal_lexer.specs.Stands.{begins_run};
 ghost use Rattle.goal_lexer.specs.Words.{word_kind};
 ghost use Rattle.goal_parser.specs.declared.parser.Parser.{Parser};
-ghost use Rattle.goal_parser.specs.Ahead.{MayGoOn, GoesAhead, IsFaultAhead, AwaitsAction, AwaitsItem, IsRunAhead, IsSmallAhead, IsPeerAhead, IsMessageAhead, IsLabelAhead};
+ghost use Rattle.goal_parser.specs.Ahead.{MayGoOn, GoesAhead, IsFaultAhead, AwaitsAction, AwaitsItem, IsRunAhead, IsSmallAhead, IsPeerAhead, IsMessageAhead, IsOptionsAhead, AreNext, IsLabelAhead};
 ghost use Rattle.goal_parser.specs.Taken.{TakesAll, verb_kind, IsOfDeps, IsOfNotes, IsAmount};
 
 use crate::head::Verb;
+use crate::parser::Parser;
 use crate::reader::Reader;
 use crate::sentence::State;
 use crate::token_faults::TokenFault;
@@ -31,6 +32,15 @@ struct Small {
 struct MessageAhead {
     bytes: u64,
     peer: u32,
+    end: usize,
+}
+
+/// The options of a message as they stand ahead, `tag`, `cpu` and `nic` in this order, and the index behind them.
+#[derive(Clone, Copy)]
+struct OptionsAhead {
+    tag: u32,
+    cpu: u8,
+    nic: u8,
     end: usize,
 }
 
@@ -74,6 +84,7 @@ fn peer_ahead(rest: &[u8], at: usize, word: &[u8]) -> Option<Small>
     requires word { is_word word.now ≡ true }
     requires short { length word.now ≤ 64 }
     ensures within { IfSome result (λ n. at < n.end) }
+    ensures inside { IfSome result (λ n. n.end ≤ length rest.now) }
     ensures ahead { IfSome result (λ n. IsPeerAhead rest.now at (word_kind word.now) n.value n.end) }
 {
     let count = word_ahead(&rest[at..], blanks_ahead(&rest[at..]), word);
@@ -107,6 +118,37 @@ fn message_ahead(rest: &[u8], at: usize, word: &[u8]) -> Option<MessageAhead>
     }
 }
 
+/// What stands at this index of a message behind its peer: its options, where it has all three, in the order in which most
+/// texts have them.
+#[inline(always)]
+fn options_ahead(rest: &[u8], at: usize) -> Option<OptionsAhead>
+    requires { at ≤ length rest.now }
+    ensures within { IfSome result (λ o. at < o.end) }
+    ensures ahead { IfSome result (λ o. IsOptionsAhead rest.now at o.tag o.cpu o.nic o.end) }
+{
+    let Some(tag) = peer_ahead(rest, at, b"tag") else {
+        return None;
+    };
+    let Some(cpu) = peer_ahead(rest, tag.end, b"cpu") else {
+        return None;
+    };
+    let Some(nic) = peer_ahead(rest, cpu.end, b"nic") else {
+        return None;
+    };
+    let Ok(cpu_value) = u8::try_from(cpu.value) else {
+        return None;
+    };
+    let Ok(nic_value) = u8::try_from(nic.value) else {
+        return None;
+    };
+    Some(OptionsAhead {
+        tag: tag.value,
+        cpu: cpu_value,
+        nic: nic_value,
+        end: nic.end,
+    })
+}
+
 /// How many bytes so many blanks and the word of an option behind them take, by the word's first byte, and 0 where no such
 /// word stands there.
 #[inline(always)]
@@ -129,6 +171,77 @@ fn option_ahead(rest: &[u8], blanks: usize) -> usize
 #[inline(always)]
 fn begins_as_action(rest: &[u8], blanks: usize) -> bool {
     blanks < rest.len() && matches!(rest[blanks], b'c' | b's' | b'r')
+}
+
+impl Parser {
+    /// Whether a send or a receive without an option is open.
+    #[inline(always)]
+    fn is_bare_message(&self) -> bool
+        ensures here { result ≡ true → (self.now.state ≡ State.Send4) ⊎ (self.now.state ≡ State.Recv4) }
+        ensures new { result ≡ true → (self.now.draft.has_tag ≡ false) × (self.now.draft.has_cpu ≡ false) × (self.now.draft.has_nic ≡ false) }
+    {
+        match self.state {
+            State::Send4 | State::Recv4 => !self.draft.has_tag
+                && !self.draft.has_cpu
+                && !self.draft.has_nic,
+            _ => false,
+        }
+    }
+
+    /// Whether a calc without an option is open.
+    #[inline(always)]
+    fn is_bare_calc(&self) -> bool
+        ensures here { result ≡ true → self.now.state ≡ State.Calc2 }
+        ensures new { result ≡ true → self.now.draft.has_cpu ≡ false }
+    {
+        match self.state {
+            State::Calc2 => !self.draft.has_cpu,
+            _ => false,
+        }
+    }
+
+    /// Takes the options of a message that stand at this index, where all three do, and answers the index behind them.
+    #[inline(always)]
+    #[tactic(auto, using(crate::proofs::AheadLaws::nothing_next))]
+    fn take_options_ahead(&mut self, rest: &[u8], at: usize) -> usize
+        requires { at ≤ length rest.now }
+        ensures from { at ≤ result }
+        ensures next { (place : ℕ) → (tokens : List Token) × AreNext place rest.now at result tokens × TakesAll self.old tokens self.new }
+    {
+        if !self.is_bare_message() || at == rest.len() || rest[at] != b' ' {
+            return at;
+        }
+        match options_ahead(rest, at) {
+            Some(options) => {
+                self.take_options(options.tag, options.cpu, options.nic);
+                options.end
+            }
+            None => at,
+        }
+    }
+
+    /// Takes the cpu of a calc that stands at this index, where it does, and answers the index behind it.
+    #[inline(always)]
+    #[tactic(auto, using(crate::proofs::AheadLaws::nothing_next))]
+    fn take_cpu_ahead(&mut self, rest: &[u8], at: usize) -> usize
+        requires { at ≤ length rest.now }
+        ensures from { at ≤ result }
+        ensures next { (place : ℕ) → (tokens : List Token) × AreNext place rest.now at result tokens × TakesAll self.old tokens self.new }
+    {
+        if !self.is_bare_calc() || at == rest.len() || rest[at] != b' ' {
+            return at;
+        }
+        let Some(cpu) = peer_ahead(rest, at, b"cpu") else {
+            return at;
+        };
+        match u8::try_from(cpu.value) {
+            Ok(value) => {
+                self.take_cpu(value);
+                cpu.end
+            }
+            Err(_) => at,
+        }
+    }
 }
 
 impl Reader {
@@ -290,45 +403,7 @@ impl Reader {
         }
     }
 
-    /// Takes an item that begins with a label, before which so many blanks stand.
-    #[inline(always)]
-    fn take_label(&mut self, rest: &[u8], blanks: usize) -> Result<usize, TokenFault>
-        requires ready { MayGoOn self.old.lexer self.old.place rest.now }
-        requires state { AwaitsItem self.old.parser.state }
-        requires blanks { AreBlanks rest.now blanks }
-        ensures ahead { IfOk result (λ n. GoesAhead self.old rest.now self.new n) }
-        ensures fault { IfErr result (λ f. IsFaultAhead self.old rest.now f) }
-    {
-        let label = label_ahead(rest, blanks);
-        if label == 0 {
-            return Ok(0);
-        }
-        if begins_with_colon(&rest[label..]) {
-            return self.take_definition(rest, blanks, label);
-        }
-        self.take_labelled(rest, blanks, label)
-    }
-
-    /// Takes an item, before which so many blanks stand. An action is looked for first where its word may stand there.
-    #[inline(always)]
-    fn take_item(&mut self, rest: &[u8], blanks: usize) -> Result<usize, TokenFault>
-        requires ready { MayGoOn self.old.lexer self.old.place rest.now }
-        requires state { AwaitsItem self.old.parser.state }
-        requires blanks { AreBlanks rest.now blanks }
-        ensures ahead { IfOk result (λ n. GoesAhead self.old rest.now self.new n) }
-        ensures fault { IfErr result (λ f. IsFaultAhead self.old rest.now f) }
-    {
-        if !begins_as_action(rest, blanks) {
-            return self.take_label(rest, blanks);
-        }
-        match self.take_action(rest, blanks) {
-            Ok(0) => self.take_label(rest, blanks),
-            Ok(taken) => Ok(taken),
-            Err(fault) => Err(fault),
-        }
-    }
-
-    /// Takes a calc, of which the bytes of the word are known; 0 where the word isn't there.
+    /// Takes a calc with its cpu, of which the bytes of the word are known; 0 where the word isn't there.
     #[inline(always)]
     fn take_calc(&mut self, rest: &[u8], word: usize) -> Result<usize, TokenFault>
         requires ready { MayGoOn self.old.lexer self.old.place rest.now }
@@ -346,12 +421,12 @@ impl Reader {
             return Ok(0);
         }
         self.parser.take_calc(nanos.value)?;
-        let end = word + nanos.count;
+        let end = self.parser.take_cpu_ahead(rest, word + nanos.count);
         self.go_on(rest, end, true);
         Ok(end)
     }
 
-    /// Takes a send, of which the bytes of the word are known; 0 where the word isn't there.
+    /// Takes a send with its options, of which the bytes of the word are known; 0 where the word isn't there.
     #[inline(always)]
     fn take_send(&mut self, rest: &[u8], word: usize) -> Result<usize, TokenFault>
         requires ready { MayGoOn self.old.lexer self.old.place rest.now }
@@ -368,11 +443,12 @@ impl Reader {
             return Ok(0);
         };
         self.parser.take_send(message.bytes, message.peer)?;
-        self.go_on(rest, message.end, true);
-        Ok(message.end)
+        let end = self.parser.take_options_ahead(rest, message.end);
+        self.go_on(rest, end, true);
+        Ok(end)
     }
 
-    /// Takes a receive, of which the bytes of the word are known; 0 where the word isn't there.
+    /// Takes a receive with its options, of which the bytes of the word are known; 0 where the word isn't there.
     #[inline(always)]
     fn take_recv(&mut self, rest: &[u8], word: usize) -> Result<usize, TokenFault>
         requires ready { MayGoOn self.old.lexer self.old.place rest.now }
@@ -389,13 +465,14 @@ impl Reader {
             return Ok(0);
         };
         self.parser.take_recv(message.bytes, message.peer)?;
-        self.go_on(rest, message.end, true);
-        Ok(message.end)
+        let end = self.parser.take_options_ahead(rest, message.end);
+        self.go_on(rest, end, true);
+        Ok(end)
     }
 
-    /// Takes an action up to its options, before which so many blanks stand.
+    /// Takes an action, before which so many blanks stand, with the options behind it that most texts have.
     #[inline(always)]
-    fn take_action(&mut self, rest: &[u8], blanks: usize) -> Result<usize, TokenFault>
+    fn take_whole_action(&mut self, rest: &[u8], blanks: usize) -> Result<usize, TokenFault>
         requires ready { MayGoOn self.old.lexer self.old.place rest.now }
         requires state { AwaitsAction self.old.parser.state }
         requires blanks { AreBlanks rest.now blanks }
@@ -501,8 +578,90 @@ impl Reader {
         }
     }
 
-    /// Takes bytes from the front of `rest` that are several whole tokens: a definition, a dependency, a note, an action up
-    /// to its options, or an option. The answer is how many; it is 0, and nothing is taken, where other tokens stand
+    /// Takes the action that is awaited, where it stands ahead.
+    #[inline(always)]
+    fn take_action_ahead(&mut self, rest: &[u8]) -> Result<usize, TokenFault>
+        requires place { self.old.place + length rest.now < 2 ^ 64 }
+        requires same { self.old.lexer.place ≡ self.old.place }
+        requires apart { self.old.lexer.ends_run ≡ true → begins_run rest.now ≡ false }
+        ensures ahead { IfOk result (λ n. GoesAhead self.old rest.now self.new n) }
+        ensures fault { IfErr result (λ f. IsFaultAhead self.old rest.now f) }
+    {
+        if !self.lexer.is_between() {
+            return Ok(0);
+        }
+        match self.parser.state {
+            State::Action => self.take_whole_action(rest, blanks_ahead(rest)),
+            _ => Ok(0),
+        }
+    }
+
+    /// Takes a label, of which the bytes are known, the colon behind it, and the action that it defines as far as that stands
+    /// ahead.
+    #[inline(always)]
+    fn take_defined(
+        &mut self,
+        rest: &[u8],
+        blanks: usize,
+        label: usize,
+    ) -> Result<usize, TokenFault>
+        requires ready { MayGoOn self.old.lexer self.old.place rest.now }
+        requires state { AwaitsItem self.old.parser.state }
+        requires label { IsLabelAhead self.old.place rest.now blanks label }
+        requires colon { (place : ℕ) → IsAhead place (drop label rest.now) 1 false (record { kind = TokenKind.Colon; start = place; end = place + 1 } ∷ []) }
+        ensures ahead { IfOk result (λ n. GoesAhead self.old rest.now self.new n) }
+        ensures fault { IfErr result (λ f. IsFaultAhead self.old rest.now f) }
+    {
+        let definition = match self.take_definition(rest, blanks, label) {
+            Ok(definition) => definition,
+            Err(fault) => return Err(fault),
+        };
+        match self.take_action_ahead(&rest[definition..]) {
+            Ok(action) => Ok(definition + action),
+            Err(fault) => Err(fault),
+        }
+    }
+
+    /// Takes an item that begins with a label, before which so many blanks stand.
+    #[inline(always)]
+    fn take_label(&mut self, rest: &[u8], blanks: usize) -> Result<usize, TokenFault>
+        requires ready { MayGoOn self.old.lexer self.old.place rest.now }
+        requires state { AwaitsItem self.old.parser.state }
+        requires blanks { AreBlanks rest.now blanks }
+        ensures ahead { IfOk result (λ n. GoesAhead self.old rest.now self.new n) }
+        ensures fault { IfErr result (λ f. IsFaultAhead self.old rest.now f) }
+    {
+        let label = label_ahead(rest, blanks);
+        if label == 0 {
+            return Ok(0);
+        }
+        if begins_with_colon(&rest[label..]) {
+            return self.take_defined(rest, blanks, label);
+        }
+        self.take_labelled(rest, blanks, label)
+    }
+
+    /// Takes an item, before which so many blanks stand. An action is looked for first where its word may stand there.
+    #[inline(always)]
+    fn take_item(&mut self, rest: &[u8], blanks: usize) -> Result<usize, TokenFault>
+        requires ready { MayGoOn self.old.lexer self.old.place rest.now }
+        requires state { AwaitsItem self.old.parser.state }
+        requires blanks { AreBlanks rest.now blanks }
+        ensures ahead { IfOk result (λ n. GoesAhead self.old rest.now self.new n) }
+        ensures fault { IfErr result (λ f. IsFaultAhead self.old rest.now f) }
+    {
+        if !begins_as_action(rest, blanks) {
+            return self.take_label(rest, blanks);
+        }
+        match self.take_whole_action(rest, blanks) {
+            Ok(0) => self.take_label(rest, blanks),
+            Ok(taken) => Ok(taken),
+            Err(fault) => Err(fault),
+        }
+    }
+
+    /// Takes bytes from the front of `rest` that are several whole tokens: a definition with its action, a dependency, a note, an
+    /// action with its options, or an option. The answer is how many; it is 0, and nothing is taken, where other tokens stand
     /// ahead, where they go on behind the piece, or where one of them fails a test that is made before it is taken.
     #[inline(always)]
     pub fn take_ahead(&mut self, rest: &[u8]) -> Result<usize, TokenFault>
@@ -518,7 +677,7 @@ impl Reader {
         let blanks = blanks_ahead(rest);
         match self.parser.state {
             State::Item => {}
-            State::Action => return self.take_action(rest, blanks),
+            State::Action => return self.take_whole_action(rest, blanks),
             State::Calc2 | State::Send4 | State::Recv4 => match self.take_option(rest, blanks) {
                 Ok(0) => {}
                 Ok(taken) => return Ok(taken),

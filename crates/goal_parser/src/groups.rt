@@ -1,4 +1,4 @@
-//! Tokens that are taken several at once: a definition, a dependency, a note, an action up to its options, an option.
+//! Tokens that are taken several at once: a definition, a dependency, a note, an action up to its options, its options or one.
 //!
 //! The parser keeps then what it keeps where it takes them one by one.
 ghost use Rattle.std.specs.Prelude.{◌≡◌, ◌≢◌, ℕ, ◌<◌, ◌≤◌, ◌⊎◌, ◌++◌, false, List, [], ◌∷◌, Some, OnOk, IfErr, length, if◌then◌else◌};
@@ -221,5 +221,23 @@ impl Parser {
         self.draft.has_nic = true;
         self.draft.option = OptionWord::Nic;
         self.draft.nic = nic;
+    }
+
+    /// Takes `tag`, `cpu` and `nic` with their numbers, for a send or a receive that has no option.
+    #[inline(always)]
+    pub fn take_options(&mut self, tag: u32, cpu: u8, nic: u8)
+        requires here { (self.old.state ≡ State.Send4) ⊎ (self.old.state ≡ State.Recv4) }
+        requires new { (self.old.draft.has_tag ≡ false) × (self.old.draft.has_cpu ≡ false) × (self.old.draft.has_nic ≡ false) }
+        ensures { (a one b two c three : Token) → a.kind ≡ TokenKind.Tag → one.kind ≡ TokenKind.Number tag
+            → b.kind ≡ TokenKind.Cpu → two.kind ≡ TokenKind.Number cpu → c.kind ≡ TokenKind.Nic → three.kind ≡ TokenKind.Number nic
+            → TakesAll self.old (a ∷ one ∷ b ∷ two ∷ c ∷ three ∷ []) self.new }
+    {
+        self.draft.has_tag = true;
+        self.draft.tag = Some(tag);
+        self.draft.has_cpu = true;
+        self.draft.cpu = cpu;
+        self.draft.has_nic = true;
+        self.draft.nic = nic;
+        self.draft.option = OptionWord::Nic;
     }
 }

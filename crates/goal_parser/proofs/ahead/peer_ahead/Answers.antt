@@ -13,6 +13,13 @@ returns-clause-within c =
     IfSome-map (λ (n : Small). (at + count < n.end) × (n.end ≤ length c.args.rest.now)) (λ (n : Small). at < n.end) c.small_ahead.result
     (λ n known. omega (arith, known.0)) c.small_ahead.ensures.within
 
+pub returns-clause-inside : goal.returns-clause-inside
+returns-clause-inside c =
+    let at = c.args.at in
+    let count = c.word_ahead-count.result in
+    IfSome-map (λ (n : Small). (at + count < n.end) × (n.end ≤ length c.args.rest.now)) (λ (n : Small). n.end ≤ length c.args.rest.now) c.small_ahead.result
+    (λ n known. known.1) c.small_ahead.ensures.within
+
 pub returns-clause-ahead : goal.returns-clause-ahead
 returns-clause-ahead c =
     let rest = c.args.rest.now in

@@ -12,5 +12,5 @@ take_item-requires-clause-state c = elim c.match-self.branch [
   | in-Calc2+in-Ok-eq0 w ↦ subst (λ (r : Reader). AwaitsItem r.parser.state) (sym w.self-is) (subst (λ (r : Reader). AwaitsItem r.parser.state) (sym (w.in-Ok-eq0.ensures.ahead.none (omega (arith, w.in-Ok-eq0.field-0-test)))) (option_awaits _ w.in-Calc2.is))
 ]
 
-pub take_action-requires-clause-state : goal.take_action-requires-clause-state
-take_action-requires-clause-state c = subst (λ (s : State). AwaitsAction s) (sym c.in-Action.is) action_awaits
+pub take_whole_action-requires-clause-state : goal.take_whole_action-requires-clause-state
+take_whole_action-requires-clause-state c = subst (λ (s : State). AwaitsAction s) (sym c.in-Action.is) action_awaits

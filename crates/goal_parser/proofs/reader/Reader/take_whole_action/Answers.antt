@@ -1,5 +1,5 @@
 use Rattle.std.proofs.Common.{refl}
-use Rattle.goal_parser.proofs.reader.Reader.take_action.Goals as goal
+use Rattle.goal_parser.proofs.reader.Reader.take_whole_action.Goals as goal
 
 pub take_calc-requires-clause-word : goal.take_calc-requires-clause-word
 take_calc-requires-clause-word c some = record { run = _; is = refl; ahead = c.word_ahead.ensures.ahead some c.args.self.now.place }

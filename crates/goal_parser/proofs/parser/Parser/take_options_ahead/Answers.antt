@@ -1,0 +1,8 @@
+use Rattle.std.proofs.Common.{[], ◌∷◌, inl}
+use Rattle.goal_parser.proofs.parser.Parser.take_options_ahead.Goals as goal
+
+pub returns-in-Some-clause-next : goal.returns-in-Some-clause-next
+returns-in-Some-clause-next c place =
+    let found = c.in-Some.ensures.ahead place in
+    let tokens = found.0 ∷ found.1 ∷ found.2 ∷ found.3 ∷ found.4 ∷ found.5 ∷ [] in
+    (tokens, inl found.12, c.take_options.ensures found.0 found.1 found.2 found.3 found.4 found.5 found.6 found.7 found.8 found.9 found.10 found.11)
