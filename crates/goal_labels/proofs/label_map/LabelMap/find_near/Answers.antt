@@ -5,7 +5,7 @@ use Rattle.goal_labels.specs.Indexed.{IsFinding}
 use Rattle.goal_labels.proofs.EntryLemmas.{is_at-guess}
 use Rattle.goal_labels.proofs.HeldLemmas.{entries_of-read}
 use Rattle.goal_labels.proofs.label_map.LabelMap.find_near.Goals as goal
-use Rattle.goal_labels.proofs.label_map.LabelMap.find_near.Goals.{then-is_at, else-is_at+then-is_at-2, else-is_at+else-is_at-2}
+use Rattle.goal_labels.proofs.label_map.LabelMap.find_near.Goals.{then-is_at, else-is_at}
 
 pub returns-in-At-clause-found : goal.returns-in-At-clause-found
 returns-in-At-clause-found c =
@@ -21,16 +21,8 @@ returns-in-At-clause-found c =
           subst (λ (ds : Entries). IsAt ds label c.in-At.i) (sym w.self-is)
           (is_at-guess (entries_of read seen) es label _ c.in-At.i (sym c.is_at.ensures ∙ w.if-is_at.true) same
           (sym w.found-is ∙ c.in-At.is))
-      | else-is_at+then-is_at-2 w ↦
-          let read = w.deref-else-is_at-2.result.now in
-          let seen = w.deref-else-is_at.result.now in
-          let same_bytes = w.deref-else-is_at-2.ensures.value in
-          let same = entries_of-read read bytes seen held same_bytes w.deref-else-is_at.ensures.value ∙ c.self.view_is in
-          subst (λ (ds : Entries). IsAt ds label c.in-At.i) (sym w.self-is)
-          (is_at-guess (entries_of read seen) es label _ c.in-At.i (sym w.is_at-else-is_at.ensures ∙ w.if-is_at-2.true) same
-          (sym w.found-is ∙ c.in-At.is))
-      | else-is_at+else-is_at-2 w ↦ subst (λ (ds : Entries). IsAt ds label c.in-At.i) (sym w.self-is)
-          (subst (λ (f : Found). IsFinding w.find.new.self label f) (sym w.found-is ∙ c.in-At.is) w.find.ensures.found)
+      | else-is_at w ↦ subst (λ (ds : Entries). IsAt ds label c.in-At.i) (sym w.self-is)
+          (subst (λ (f : Found). IsFinding w.find_numbered-found.new.self label f) (sym w.found-is ∙ c.in-At.is) w.find_numbered-found.ensures.found)
     ] in
     subst (λ (ds : Entries). IsAt ds label c.in-At.i) (sym c.self-2.view_is) at
 
