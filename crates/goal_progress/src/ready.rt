@@ -29,6 +29,9 @@ pub fn is_ready<P: Progress, L: Ledger>(
     // a schedule has so few dependencies that a place among them fits 32 bits
     let _plans = progress.sched().plans();
     let needs = progress.needs(id);
+    if needs.is_empty() {
+        return true;
+    }
     for at in cursor.at as usize..needs.len() {
         let need = needs[at];
         let needed = OpId {

@@ -1,4 +1,5 @@
 use Rattle.std.proofs.Common.{◌∙◌, List, length, ap, sym, arith}
+use Rattle.std.proofs.lemmas.Bool.{eqb-true}
 use Rattle.goal_graph.specs.declared.plan.Need.{Need}
 use Rattle.goal_graph.specs.declared.plan.When.TheVariants.{AfterEnd}
 use Rattle.goal_graph.specs.Schedule.{Plan, needs}
@@ -19,6 +20,10 @@ overflow_cast-cursor g c =
 pub overflow_cast-cursor-2 : goal.overflow_cast-cursor-2
 overflow_cast-cursor-2 g c =
     omega (arith, few_needs c.sched.result.now c.args.id c.plans-plans.ensures.counts, ap length (c.needs-needs.ensures.needs ∙ ap (λ (ps : List Plan). needs ps c.args.id) (sym c.sched.ensures)))
+
+pub returns-then-is_empty-clause-ready : goal.returns-then-is_empty-clause-ready
+returns-then-is_empty-clause-ready g c =
+    sym (cursor_ready _ _ _ c.args.id c.needs-needs.result.now c.needs-needs.ensures.needs _ c.requires.cursor (omega (arith, eqb-true (length c.needs-needs.result.now) 0 (sym c.is_empty.ensures ∙ c.if-is_empty.true))))
 
 pub returns-then-not-is_met-clause-ready : goal.returns-then-not-is_met-clause-ready
 returns-then-not-is_met-clause-ready g c =
