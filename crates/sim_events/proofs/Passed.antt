@@ -18,7 +18,7 @@ use Rattle.sim_params.specs.Costs.{CostModel, is_eager}
 use Rattle.sim_params.specs.Times.{Possible}
 use Rattle.sim_heaps.specs.Map.{key_at}
 use Rattle.sim_stations.specs.Stations.{Stationed, waits_for_room, when_free, pair_of}
-use Rattle.sim_state.specs.declared.cursor.Cursor.{Cursor}
+use Rattle.goal_progress.specs.declared.cursor.Cursor.{Cursor}
 use Rattle.sim_state.specs.Cursors.{AreCursors, IsLookedAt, starts, cursor_at, looked_again}
 use Rattle.sim_state.proofs.ForCallers.{happened_this}
 use Rattle.sim_events.specs.Needs.{starts_by, read_of, read_so_far}

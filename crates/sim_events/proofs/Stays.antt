@@ -1,6 +1,6 @@
 -- What operations wait for stays as it is once it is there. So the time of an allowed action rises only with that at which
 -- its station is free.
-use Rattle.std.proofs.Common.{◌≡◌, ◌≤◌, ◌+◌, ◌||◌, ◌&&◌, ℕ, max, Bool, true, false, not, List, [], ◌∷◌, Option, Some, None, if◌then◌else◌, refl, ap, ap₂, ◌∙◌, arith}
+use Rattle.std.proofs.Common.{◌≡◌, ◌≤◌, ◌+◌, ◌||◌, ℕ, max, Bool, true, false, not, List, [], ◌∷◌, Option, Some, None, if◌then◌else◌, refl, ap, ap₂, ◌∙◌, arith}
 use Rattle.std.specs.List.{list_all}
 use Rattle.std.proofs.lemmas.Bool.{and_parts, both_ways}
 use Rattle.goal_graph.specs.declared.action.OpId.{OpId}
@@ -13,10 +13,10 @@ use Rattle.goal_graph.specs.declared.plan.Need.{Need}
 use Rattle.goal_graph.specs.declared.plan.When.{When}
 use Rattle.goal_graph.specs.declared.plan.When.TheVariants.{AfterEnd, AfterStart}
 use Rattle.goal_graph.specs.Schedule.{Plan, kind_at, needs, needed, IsSend}
-use Rattle.goal_graph.specs.Action.{happened, plain, plain_act}
+use Rattle.goal_graph.specs.Action.{happened, plain}
 use Rattle.goal_graph.specs.Matching.{pairs, is_paired}
 use Rattle.goal_graph.specs.Allowed.{is_met, is_ready, is_served, may, allowed}
-use Rattle.goal_graph.proofs.ForCallers.{and_left, and_right, started_send, started_stays, ended_stays, is_some_from}
+use Rattle.goal_graph.proofs.ForCallers.{and_left, and_right, started_send, is_some_from}
 use Rattle.sim_params.specs.Costs.{CostModel, flight, is_eager}
 use Rattle.sim_params.specs.Times.{since, mate, greatest, met_at, ready, cpu, tx, rx, paired_at, there_at, time_of, time}
 use Rattle.sim_params.specs.Run.{IsRun}
@@ -61,23 +61,20 @@ module _ (plans : List Plan) (costs : CostModel) (a : Timed) (h : List Timed) wh
   free_grows x = free_of_grows x (kind_at plans x)
 
   module _ (run : IsRun plans costs h) where
-    -- a moment that is there stays
-    met_kept : (w : When) (y : OpId) → is_met plans (is_eager plans costs) (plain h) w y ≡ true → (is_met plans (is_eager plans costs) (plain (a ∷ h)) w y ≡ true) × (met_at plans costs (a ∷ h) w y ≡ met_at plans costs h w y)
-    unfolding plain
-    met_kept AfterEnd y e = (ended_stays plans (is_eager plans costs) (plain_act a) (plain h) y e, end_kept plans costs a h y (run_each plans costs h run) e)
-    met_kept AfterStart y e = (started_stays plans (plain_act a) (plain h) y e, start_kept plans costs a h y e)
+    -- a moment that is there stays the same
+    moment_kept : (w : When) (y : OpId) → is_met plans (is_eager plans costs) (plain h) w y ≡ true → met_at plans costs (a ∷ h) w y ≡ met_at plans costs h w y
+    moment_kept AfterEnd y e = end_kept plans costs a h y (run_each plans costs h run) e
+    moment_kept AfterStart y e = start_kept plans costs a h y e
 
-    pub all_kept : (x : OpId) (ds : List Need) → list_all (is_there plans costs h x) ds ≡ true → (list_all (is_there plans costs (a ∷ h) x) ds ≡ true) × (greatest (moment_at plans costs (a ∷ h) x) ds ≡ greatest (moment_at plans costs h x) ds)
+    greatest_kept : (x : OpId) (ds : List Need) → list_all (is_there plans costs h x) ds ≡ true → greatest (moment_at plans costs (a ∷ h) x) ds ≡ greatest (moment_at plans costs h x) ds
     unfolding greatest
-    all_kept x [] e = (refl, refl)
-    all_kept x (d ∷ ds) e =
-        let this = met_kept d.when (needed x d) (and_left _ _ e) in
-        let rest = all_kept x ds (and_right _ _ e) in
-        (ap₂ (λ (s t : Bool). s && t) this.0 rest.0, ap₂ max this.1 rest.1)
+    greatest_kept x [] e = refl
+    greatest_kept x (d ∷ ds) e =
+        ap₂ max (moment_kept d.when (needed x d) (and_left _ _ e)) (greatest_kept x ds (and_right _ _ e))
 
     ready_kept : (x : OpId) → is_ready plans (is_eager plans costs) (plain h) x ≡ true → ready plans costs (a ∷ h) x ≡ ready plans costs h x
     unfolding is_ready ready
-    ready_kept x e = (all_kept x (needs plans x) e).1
+    ready_kept x e = greatest_kept x (needs plans x) e
 
     -- a message that is there is there since the same time
     message_kept : (x : OpId) → is_served plans (is_eager plans costs) (plain h) (mate plans costs h x) ≡ true → there_at plans costs (a ∷ h) x (mate plans costs (a ∷ h) x) ≡ there_at plans costs h x (mate plans costs h x)

@@ -16,7 +16,7 @@ use Rattle.sim_events.proofs.Held.{later}
 use Rattle.sim_events.proofs.Queue.{listed_kind, finished, empty_from}
 use Rattle.sim_events.specs.Changes.{HaveChanged}
 use Rattle.std.proofs.lemmas.List.Sums.{sum_by-cons}
-use Rattle.sim_state.specs.declared.cursor.Cursor.{Cursor}
+use Rattle.goal_progress.specs.declared.cursor.Cursor.{Cursor}
 use Rattle.sim_events.specs.Needs.{read_so_far}
 use Rattle.sim_events.specs.Cost.{looked_after, all_looked_after}
 use Rattle.sim_events.proofs.Changes.{changed_settled}

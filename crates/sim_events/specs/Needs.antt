@@ -8,7 +8,7 @@ use Rattle.goal_graph.specs.Action.{plain}
 use Rattle.goal_graph.specs.Allowed.{has_started}
 use Rattle.sim_heaps.specs.Map.{key_at}
 use Rattle.sim_stations.specs.Stations.{Stationed}
-use Rattle.sim_state.specs.declared.cursor.Cursor.{Cursor}
+use Rattle.goal_progress.specs.declared.cursor.Cursor.{Cursor}
 use Rattle.sim_state.specs.Cursors.{starts, cursor_at}
 
 -- a key is that of the first action of its operation

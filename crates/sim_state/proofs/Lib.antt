@@ -1,8 +1,6 @@
 pub mod Walks
 pub mod Places
 pub mod Ready
-pub mod Needs
-pub mod CursorTable
 pub mod Empty
 pub mod After
 pub mod Pairings

@@ -15,12 +15,25 @@ use Rattle.goal_graph.specs.Action.{plain}
 use Rattle.goal_graph.specs.Allowed.{is_met, is_ready}
 use Rattle.sim_params.specs.Costs.{CostModel, is_eager}
 use Rattle.sim_params.specs.Times.{greatest, met_at, ready}
+use Rattle.sim_state.specs.Cursors as cursors
 use Rattle.sim_state.specs.Enabled.{moment_known, ready_known}
+
+-- a moment is known where it is there
+pub met_known : (plans : List Plan) (costs : CostModel) (h : List Timed) (w : When) (y : OpId) → is_some (moment_known plans costs h w y) ≡ is_met plans (is_eager plans costs) (plain h) w y
+met_known plans costs h w y = go w
+  where
+    some_if : (b : Bool) (n : ℕ) → is_some (if b then Some n else None) ≡ b
+    some_if true n = refl
+    some_if false n = refl
+
+    go : (v : When) → is_some (moment_known plans costs h v y) ≡ is_met plans (is_eager plans costs) (plain h) v y
+    go AfterEnd = some_if _ _
+    go AfterStart = some_if _ _
 
 module _ (plans : List Plan) (costs : CostModel) (h : List Timed) (x : OpId) where
   -- the moment of a need, whether it is there, and both
   abbrev pub is_there : Need → Bool
-  is_there d = is_met plans (is_eager plans costs) (plain h) d.when (needed x d)
+  is_there = cursors.is_there plans costs h x
 
   abbrev pub there_at : Need → ℕ
   there_at d = met_at plans costs h d.when (needed x d)
@@ -36,11 +49,6 @@ module _ (plans : List Plan) (costs : CostModel) (h : List Timed) (x : OpId) whe
   pub ready_end : (n : ℕ) → ready_from n [] ≡ Some n
   unfolding ready_from greatest
   ready_end n = ap Some (omega arith)
-
-  -- with no need it is ready at 0
-  pub ready_at_once : (items : List Need) → items ≡ needs plans x → (length items == 0) ≡ true → Some 0 ≡ ready_known plans costs h x
-  ready_at_once [] are none = sym (ready_end 0) ∙ ap (ready_from 0) are ∙ ready_start
-  ready_at_once (d ∷ ds) are none = absurd (omega (arith, eqb-true (length (d ∷ ds)) 0 none))
 
   pub moment_is : (d : Need) → moment_known plans costs h d.when (needed x d) ≡ (if is_there d then Some (there_at d) else None)
   moment_is d = go d.when
@@ -69,24 +77,12 @@ module _ (plans : List Plan) (costs : CostModel) (h : List Timed) (x : OpId) whe
       go true f = absurd (cc)
       go false f = refl
 
-  -- with a need that is not met it is not ready
-  pub missing_unready : (items : List Need) → items ≡ needs plans x → (k : ℕ) (d : Need) → k < length items → (r : Option ℕ) → r ≡ moment_known plans costs h (get_or items k d).when (needed x (get_or items k d)) → is_some r ≡ false → ready_known plans costs h x ≡ None
-  unfolding is_ready
-  missing_unready items are k d l r e none =
-      let absent : is_there (get_or items k d) ≡ false = go (is_there (get_or items k d)) (ap is_some (sym (moment_is (get_or items k d)) ∙ sym e) ∙ none) in
-      let all : list_all is_there (needs plans x) ≡ false = subst (λ ds. list_all is_there ds ≡ false) are (list_all_at is_there items k d l absent) in
-      ap (λ b. if b then Some (ready plans costs h x) else None) all
-    where
-      go : (b : Bool) → is_some (if b then Some (there_at (get_or items k d)) else None) ≡ false → b ≡ false
-      go true f = absurd (cc)
-      go false f = refl
+  -- whether it is ready tells whether the moment is known
+  pub unready_known : is_ready plans (is_eager plans costs) (plain h) x ≡ false → ready_known plans costs h x ≡ None
+  unready_known e = ap (λ b. if b then Some (ready plans costs h x) else None) e
 
-  -- where the needs before a place are met, and there are no more, it is ready
-  pub all_met_known : (n : ℕ) → length (needs plans x) ≤ n → list_all is_there (take n (needs plans x)) ≡ true → is_some (ready_known plans costs h x) ≡ true
-  unfolding is_ready
-  all_met_known n l met =
-      let all : list_all is_there (needs plans x) ≡ true = subst (λ ds. list_all is_there ds ≡ true) (take_all n (needs plans x) l) met in
-      ap (λ b. is_some (if b then Some (ready plans costs h x) else None)) all
+  pub all_met_known : is_ready plans (is_eager plans costs) (plain h) x ≡ true → is_some (ready_known plans costs h x) ≡ true
+  all_met_known e = ap (λ b. is_some (if b then Some (ready plans costs h x) else None)) e
 
   -- the needs as they are read, one after another
   module _ (items : List Need) (are_needs : items ≡ needs plans x) (k : ℕ) (n : ℕ) (whole : Option ℕ) (so_far : ready_from n (drop k (needs plans x)) ≡ whole) where

@@ -1,16 +1,15 @@
 -- How far the needs of operations have been looked at.
 use Rattle.std.specs.Prelude.{ℕ, ◌≡◌, ◌≢◌, ◌≤◌, ◌+◌, Bool, true, false, List, length, take, Option, Some, None, slice_get, slice_index_or, if◌then◌else◌}
-use Rattle.std.specs.List.{list_all}
 use Rattle.goal_graph.specs.declared.action.OpId.{OpId}
 use Rattle.goal_graph.specs.declared.action.Timed.{Timed}
 use Rattle.goal_graph.specs.declared.action.Class.{Class}
 use Rattle.goal_graph.specs.declared.action.Class.TheVariants.{Post, Begin}
 use Rattle.goal_graph.specs.declared.plan.Need.{Need}
-use Rattle.goal_graph.specs.Schedule.{Plan, needs, needed, operations}
+use Rattle.goal_graph.specs.Schedule.{Plan, needs, operations}
 use Rattle.goal_graph.specs.Action.{plain}
-use Rattle.goal_graph.specs.Allowed.{is_met}
 use Rattle.sim_params.specs.Costs.{CostModel, is_eager}
-use Rattle.sim_state.specs.declared.cursor.Cursor.{Cursor}
+use Rattle.goal_progress.specs.declared.cursor.Cursor.{Cursor}
+use Rattle.goal_progress.specs.Cursors as progress
 
 -- all of so many needs, where they are found to be met
 abbrev pub all_if_met : ℕ → Option ℕ → ℕ
@@ -31,17 +30,15 @@ looked_again plans x (Some a) = if starts a.class then length (needs plans x) el
 module _ (plans : List Plan) (costs : CostModel) (h : List Timed) where
   -- whether the moment that x waits for by this need is there
   abbrev pub is_there : OpId → Need → Bool
-  is_there x d = is_met plans (is_eager plans costs) (plain h) d.when (needed x d)
+  is_there = progress.is_there plans (is_eager plans costs) (plain h)
 
   -- the needs of x before the cursor are met
-  pub record IsCursorOf (x : OpId) (c : Cursor) : Type 0 where
-    pub within : c.at ≤ length (needs plans x)
-    pub met : list_all (is_there x) (take c.at (needs plans x)) ≡ true
+  abbrev pub IsCursorOf : OpId → Cursor → Type 0
+  IsCursorOf = progress.IsCursorOf plans (is_eager plans costs) (plain h)
 
   -- there is a cursor for each operation, in their order
-  pub record AreCursors (cursors : List Cursor) : Type 0 where
-    pub each : length cursors ≡ length (operations plans)
-    pub are : (slot : ℕ) (x : OpId) (c : Cursor) → slice_get (operations plans) slot ≡ Some x → slice_get cursors slot ≡ Some c → IsCursorOf x c
+  abbrev pub AreCursors : List Cursor → Type 0
+  AreCursors = progress.AreCursors plans (is_eager plans costs) (plain h)
 
 -- the cursor of a slot
 abbrev pub cursor_at : List Cursor → ℕ → Cursor

@@ -11,6 +11,7 @@ use crate::moment::Moment;
 use crate::pairing::Partner;
 use crate::work::{Work, work_of};
 use goal_graph::{OpId, Sched};
+use goal_progress::entry_of;
 use sim_params::Costs;
 use std::alloc::{AllocError, Global};
 
@@ -147,7 +148,7 @@ pub fn read<'e>(sched: &Sched, entries: &'e [Entry], id: OpId) -> &'e Entry
     requires each { length entries.now ≡ length (operations sched.now) }
     ensures { (f : OpId → Entry) → entries.now ≡ map f (operations sched.now) → result.now ≡ f id }
 {
-    &entries[sched.index(id) as usize]
+    entry_of(entries, sched, id)
 }
 
 // Writes the times of an operation and, where it is known, when its bytes are delivered.

@@ -1,7 +1,6 @@
 //! A schedule under way: what has happened, what is known of each operation, what may happen next and what it changes.
 #![tactic(auto)]
 
-mod cursor;
 mod cursors;
 mod entry;
 mod fault;
@@ -15,9 +14,9 @@ mod task;
 mod unkept;
 mod work;
 
-pub use cursor::Cursor;
-pub use cursors::{at_first, choice_from};
+pub use cursors::choice_from;
 pub use fault::EngineFault;
+pub use goal_progress::{Cursor, at_first};
 pub use history::{History, Kept};
 pub use key::compact;
 pub use record::Record;

@@ -11,11 +11,11 @@ ghost use Rattle.sim_state.specs.Cursors.{IsCursorOf, all_if_met, looked_again};
 ghost use Rattle.sim_state.specs.Enabled.{moment_known, ready_known, enabled_action, IsEnabledActionOf};
 
 use super::State;
-use crate::cursor::Cursor;
 use crate::history::History;
 use crate::pairing::Pairing;
 use crate::task::Task;
-use goal_graph::{Class, OpId, Timed, When};
+use goal_graph::{Class, Need, OpId, Sched, Timed, When};
+use goal_progress::{Cursor, Progress, is_ready};
 use sim_eager::{begin_at, serve_at};
 use sim_order::Steps;
 use sim_params::Costs;
@@ -237,27 +237,9 @@ impl<'a, C: Costs, H: History> State<'a, C, H> {
         ensures cursor { IsCursorOf self.now.plans (C.model self.now.costs) self.now.history id cursor.new }
         ensures looked { looks.new + cursor.old.at ≤ looks.old + cursor.new.at + 1 + all_if_met (length (needs self.now.plans id)) result }
     {
-        // a schedule has so few dependencies that a place among them fits 32 bits
-        let _plans = self.sched.plans();
-        let needs = self.needs(id);
-        if needs.is_empty() {
-            return Some(0);
+        if !is_ready(self, id, cursor, looks) {
+            return None;
         }
-        for at in cursor.at as usize..needs.len() {
-            let need = needs[at];
-            let needed = OpId {
-                rank: id.rank,
-                op: need.op,
-            };
-            looks.tick();
-            if self.moment(need.when, needed).is_none() {
-                *cursor = Cursor { at: at as u32 };
-                return None;
-            }
-        }
-        *cursor = Cursor {
-            at: needs.len() as u32,
-        };
         self.last_moment(id, looks)
     }
 
@@ -292,5 +274,28 @@ impl<'a, C: Costs, H: History> State<'a, C, H> {
             When::AfterEnd => entry.times.end.get(),
             When::AfterStart => entry.times.start.get(),
         }
+    }
+}
+
+impl<'a, C: Costs, H: History> Progress for State<'a, C, H> {
+    ghost use Rattle.goal_graph.specs.Action.{plain};
+    ghost use Rattle.sim_params.specs.Costs.{is_eager};
+
+    ghost plans = { λ s. s.plans };
+
+    ghost eager = { λ s. is_eager s.plans (C.model s.costs) };
+
+    ghost actions = { λ s. plain s.history };
+
+    fn sched(&self) -> &Sched {
+        self.sched
+    }
+
+    fn needs(&self, id: OpId) -> &[Need] {
+        self.needs(id)
+    }
+
+    fn is_met(&self, when: When, id: OpId) -> bool {
+        self.moment(when, id).is_some()
     }
 }

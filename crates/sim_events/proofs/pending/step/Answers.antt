@@ -40,7 +40,7 @@ follow-requires-clause-cursors g c =
     let model = g.C.Costs.model in
     let state = c.args.state.now in
     let after = c.perform.new.self in
-    subst (AreCursors after.plans (model after.costs) after.history) (sym c.deref_mut.ensures.value) (cursors_after model state after c.in_ok-slot.action _ c.perform.ensures.performed c.known.ensures.run c.requires.pending.1)
+    subst (AreCursors after.plans (model after.costs) after.history) (sym c.deref_mut.ensures.value) (cursors_after model state after c.in_ok-slot.action _ c.perform.ensures.performed c.requires.pending.1)
 
 pub returns-clause-counted : goal.returns-clause-counted
 returns-clause-counted g c =
