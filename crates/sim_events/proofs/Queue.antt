@@ -26,7 +26,7 @@ use Rattle.sim_order.specs.Events.{event_before}
 use Rattle.sim_heaps.specs.Map.{key_at, IsEmptyMap, IsLeast}
 use Rattle.sim_stations.specs.Stations.{Stationed, waits_for_room, pair_at, pair_of, held, when_free, both_free, at_time, DoExist, AreOfSlots}
 use Rattle.sim_stations.specs.declared.pair.Pair.{Pair}
-use Rattle.sim_stations.specs.declared.stand.Stand.TheVariants.{Nowhere}
+use Rattle.sim_stations.specs.declared.key_place.KeyPlace.TheVariants.{Nowhere}
 use Rattle.sim_state.specs.Enabled.{IsIdle, IsEnabledActionOf}
 use Rattle.sim_state.specs.Free.{free, side, side_of}
 use Rattle.sim_state.proofs.ForCallers.{other_op, happened_this, listed_exists}

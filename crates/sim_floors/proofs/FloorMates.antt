@@ -4,15 +4,15 @@ use Rattle.std.proofs.Math.ListN.{get_or-map}
 use Rattle.std.proofs.lemmas.Bool.{cases_eq, ltb-true, lt-ltb}
 use Rattle.std.proofs.lemmas.Option.{same_Some, get_or_from_slice_get}
 use Rattle.goal_graph.specs.declared.action.Timed.{Timed}
-use Rattle.sim_floors.specs.declared.floor_queue.Stand.{Stand}
-use Rattle.sim_floors.specs.declared.floor_queue.Stand.TheVariants.{Nowhere}
+use Rattle.sim_floors.specs.declared.floor_queue.KeyPlace.{KeyPlace}
+use Rattle.sim_floors.specs.declared.floor_queue.KeyPlace.TheVariants.{Nowhere}
 use Rattle.sim_heaps.specs.Map.{key_at}
 use Rattle.sim_groups.specs.Groups.{Grouped}
-use Rattle.sim_floors.specs.Floors.{Floored, waits_at, at_time, IsMate, IsFloorBy, HasLowFloor, HasFloor, IsRaised, IsLifted, IsLiftCounted, floor_of, is_low, IsHead, IsFloored, stand_of, is_waiting, AreStands, IsRenewed, IsStep}
+use Rattle.sim_floors.specs.Floors.{Floored, waits_at, at_time, WaitsInGroupOf, IsFloorBy, HasLowFloor, HasFloor, IsRaised, IsLifted, IsLiftCounted, floor_of, is_low, IsHead, IsFloored, stand_of, is_waiting, AreStands, IsRenewed, IsStep}
 use Rattle.sim_floors.proofs.Floors.{effective_at, seen_here, seen_long, here_waiting, IsWith, with_it, there, still_floored}
 use Rattle.sim_floors.proofs.FloorSteps.{no_key, not_ahead, at_the_floor, seen_waiting, seen_queue}
 
-module _ (stands : List Stand) (ahead : List (Option Timed)) (waiting : Grouped Timed) (heads : List (Option Timed)) (floored : IsFloored ahead waiting heads) (told : AreStands stands ahead waiting) where
+module _ (stands : List KeyPlace) (ahead : List (Option Timed)) (waiting : Grouped Timed) (heads : List (Option Timed)) (floored : IsFloored ahead waiting heads) (told : AreStands stands ahead waiting) where
   abbrev queue : Floored
   queue = seen_queue stands ahead waiting heads
 
@@ -47,11 +47,11 @@ module _ (stands : List Stand) (ahead : List (Option Timed)) (waiting : Grouped 
 
   module _ (slot group : ℕ) (member : slice_get waiting.groups slot ≡ Some group) where
     -- what waits in the group has a key at the floor
-    pub mate_at : (other : ℕ) (k : Timed) → IsMate queue slot other k → (w : Timed) × (key_at waiting.keys other ≡ Some w) × (k ≡ at_time (floor_of (key_at heads group)) w)
+    pub mate_at : (other : ℕ) (k : Timed) → WaitsInGroupOf queue slot other k → (w : Timed) × (key_at waiting.keys other ≡ Some w) × (k ≡ at_time (floor_of (key_at heads group)) w)
     mate_at other k mate =
         at_the_floor ahead waiting heads floored other group (mate.group ∙ member) (waits_has other mate.waits).1 k mate.has
 
-    pub mate_of : (other : ℕ) (w : Timed) → slice_get waiting.groups other ≡ Some group → key_at waiting.keys other ≡ Some w → IsMate queue slot other (at_time (floor_of (key_at heads group)) w)
+    pub mate_of : (other : ℕ) (w : Timed) → slice_get waiting.groups other ≡ Some group → key_at waiting.keys other ≡ Some w → WaitsInGroupOf queue slot other (at_time (floor_of (key_at heads group)) w)
     mate_of other w of_group has = record {
       group = of_group ∙ sym member;
       waits = has_waits other w has;
@@ -59,13 +59,13 @@ module _ (stands : List Stand) (ahead : List (Option Timed)) (waiting : Grouped 
     }
 
     -- the head of the group is the key of a slot that waits in it
-    pub head_mate : (h : Timed) → key_at heads group ≡ Some h → (other : ℕ) × IsMate queue slot other h
+    pub head_mate : (h : Timed) → key_at heads group ≡ Some h → (other : ℕ) × WaitsInGroupOf queue slot other h
     head_mate h e = go (subst (IsHead waiting group) e (floored.headed group))
       where
-        go : IsHead waiting group (Some h) → (other : ℕ) × IsMate queue slot other h
+        go : IsHead waiting group (Some h) → (other : ℕ) × WaitsInGroupOf queue slot other h
         go least =
             let is : at_time (floor_of (key_at heads group)) (at_time 0 h) ≡ h = ap (λ o. at_time (floor_of o) h) e in
-            (least.slot, subst (IsMate queue slot least.slot) is (mate_of least.slot (at_time 0 h) least.member least.has))
+            (least.slot, subst (WaitsInGroupOf queue slot least.slot) is (mate_of least.slot (at_time 0 h) least.member least.has))
 
     -- the floor is no later than what nothing that waits there is later than
     pub floor_by : (time : ℕ) → IsFloorBy queue slot time → floor_of (key_at heads group) ≤ time
@@ -121,7 +121,7 @@ module _ (stands : List Stand) (ahead : List (Option Timed)) (waiting : Grouped 
         inr (λ has. let not : is_low (key_at heads group) time ≡ true = has_low time has in absurd (cc), is)
 
     -- the keys of all that wait in the group are raised with that of the slot
-    module _ (time : ℕ) (later : floor_of (key_at heads group) ≤ time) (new_stands : List Stand) (new_ahead : List (Option Timed)) (new_waiting : Grouped Timed) (new_heads : List (Option Timed)) (step : IsStep slot ahead new_ahead waiting new_waiting) (renewed : IsRenewed new_waiting heads new_heads group time) where
+    module _ (time : ℕ) (later : floor_of (key_at heads group) ≤ time) (new_stands : List KeyPlace) (new_ahead : List (Option Timed)) (new_waiting : Grouped Timed) (new_heads : List (Option Timed)) (step : IsStep slot ahead new_ahead waiting new_waiting) (renewed : IsRenewed new_waiting heads new_heads group time) where
       abbrev new_queue : Floored
       new_queue = seen_queue new_stands new_ahead new_waiting new_heads
 
@@ -141,7 +141,7 @@ module _ (stands : List Stand) (ahead : List (Option Timed)) (waiting : Grouped 
               let w = waits k e in
               seen_here new_ahead new_waiting new_heads now_floored slot ∙ here_waiting ahead waiting heads floored slot group member new_ahead new_waiting new_heads time step renewed w.0 w.1 w.2 ∙ ap Some w.3
 
-          raised : (other : ℕ) (k : Timed) → IsMate queue slot other k → (other ≡ slot) ⊎ (other ≢ slot) → key_at new_queue.keys other ≡ Some (at_time time k)
+          raised : (other : ℕ) (k : Timed) → WaitsInGroupOf queue slot other k → (other ≡ slot) ⊎ (other ≢ slot) → key_at new_queue.keys other ≡ Some (at_time time k)
           raised other k mate (inl s) =
               ap (key_at new_queue.keys) s ∙ here k (sym (ap (key_at queue.keys) s) ∙ mate.has)
           raised other k mate (inr n) =

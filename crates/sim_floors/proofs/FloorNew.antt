@@ -5,8 +5,8 @@ use Rattle.std.proofs.lemmas.List.{length-replicate, get_or-replicate, get_or_pa
 use Rattle.std.proofs.lemmas.List.Elements.{All-get_or}
 use Rattle.std.proofs.lemmas.Option.{slice_get_within, get_or_from_slice_get}
 use Rattle.goal_graph.specs.declared.action.Timed.{Timed}
-use Rattle.sim_floors.specs.declared.floor_queue.Stand.{Stand}
-use Rattle.sim_floors.specs.declared.floor_queue.Stand.TheVariants.{Nowhere}
+use Rattle.sim_floors.specs.declared.floor_queue.KeyPlace.{KeyPlace}
+use Rattle.sim_floors.specs.declared.floor_queue.KeyPlace.TheVariants.{Nowhere}
 use Rattle.sim_heaps.specs.Map.{key_at}
 use Rattle.sim_groups.specs.Groups.{Grouped}
 use Rattle.sim_floors.specs.Floors.{seen_keys, stand_of, is_waiting, AreStands, IsFloored, IsHead}
@@ -20,7 +20,7 @@ nowhere count slot = go (cases_lt slot count)
     go : (slot < count) ⊎ (count ≤ slot) → slice_index_or (replicate count Nowhere) slot Nowhere ≡ Nowhere
     go (inl l) = get_or-replicate count slot Nowhere Nowhere l
     go (inr l) =
-        get_or_past (replicate count Nowhere) slot Nowhere (omega (arith, l, length-replicate {A = Stand} count Nowhere))
+        get_or_past (replicate count Nowhere) slot Nowhere (omega (arith, l, length-replicate {A = KeyPlace} count Nowhere))
 
 -- a slot that stands nowhere does not wait
 none_wait : (count : ℕ) → map is_waiting (replicate count Nowhere) ≡ replicate count false
@@ -63,16 +63,16 @@ module _ (numbers : List ℕ) (groups : ℕ) (within : All (λ g. g < groups) nu
     new_floored =
         subst (λ x. IsFloored x waiting heads) (sym a) (subst (λ x. IsFloored none x heads) (sym w) (subst (IsFloored none idle) (sym h) headless))
 
-    pub new_seen : (stands : List Stand) → stands ≡ replicate (length numbers) Nowhere → seen_queue stands ahead waiting heads ≡ record { keys = none; groups = numbers; waits = replicate (length numbers) false }
+    pub new_seen : (stands : List KeyPlace) → stands ≡ replicate (length numbers) Nowhere → seen_queue stands ahead waiting heads ≡ record { keys = none; groups = numbers; waits = replicate (length numbers) false }
     new_seen stands s =
         let keys = ap (λ x. seen_keys x ahead waiting.keys waiting.groups) h ∙ ap (λ x. seen_keys no_heads x waiting.keys waiting.groups) a ∙ ap (λ (x : Grouped Timed). seen_keys no_heads none x.keys x.groups) w ∙ seen_none in
         let same = ap (λ (x : Grouped Timed). x.groups) w in
         let waits = ap (map is_waiting) s ∙ none_wait (length numbers) in
         λ i. record { keys = keys i; groups = same i; waits = waits i }
 
-    pub new_stands : (stands : List Stand) → stands ≡ replicate (length numbers) Nowhere → AreStands stands ahead waiting
+    pub new_stands : (stands : List KeyPlace) → stands ≡ replicate (length numbers) Nowhere → AreStands stands ahead waiting
     new_stands stands s = record {
-      each = ap length s ∙ length-replicate {A = Stand} (length numbers) Nowhere ∙ long ∙ sym (ap (λ (q : Grouped Timed). length q.keys) w);
+      each = ap length s ∙ length-replicate {A = KeyPlace} (length numbers) Nowhere ∙ long ∙ sym (ap (λ (q : Grouped Timed). length q.keys) w);
       tells =
           λ slot.
           let idle_ahead = ap (λ x. key_at x slot) a ∙ none_of (length numbers) slot in

@@ -6,8 +6,8 @@ use Rattle.std.proofs.lemmas.List.{get_or-set_same, get_or-set_other, length-set
 use Rattle.std.proofs.lemmas.Option.{same_Some}
 use Rattle.goal_graph.specs.declared.action.Timed.{Timed}
 use Rattle.sim_order.specs.Events.{event_before}
-use Rattle.sim_floors.specs.declared.floor_queue.Stand.{Stand}
-use Rattle.sim_floors.specs.declared.floor_queue.Stand.TheVariants.{Nowhere}
+use Rattle.sim_floors.specs.declared.floor_queue.KeyPlace.{KeyPlace}
+use Rattle.sim_floors.specs.declared.floor_queue.KeyPlace.TheVariants.{Nowhere}
 use Rattle.sim_heaps.specs.Map.{key_at, IsSoleLeast}
 use Rattle.sim_groups.specs.Groups.{Grouped, IsSoleLeastOf}
 use Rattle.sim_floors.specs.Floors.{at_time, floor_of, seen_keys, stand_of, is_waiting, has_key, AreStands, IsFloored, IsStep}
@@ -17,18 +17,18 @@ use Rattle.sim_floors.proofs.FloorSteps.{no_key, at_the_floor, seen_waiting}
 use Rattle.sim_floors.proofs.FloorLeast.{at_one_time}
 
 -- whether a slot waits is read as it was written
-pub waits_now : (stands : List Stand) (slot : ℕ) (stand : Stand) → slot < length stands → slice_index_or (map is_waiting (set stands slot stand)) slot false ≡ is_waiting stand
+pub waits_now : (stands : List KeyPlace) (slot : ℕ) (stand : KeyPlace) → slot < length stands → slice_index_or (map is_waiting (set stands slot stand)) slot false ≡ is_waiting stand
 waits_now stands slot stand l =
     get_or-map is_waiting (set stands slot stand) slot Nowhere ∙ ap is_waiting (get_or-set_same stands slot stand Nowhere l)
 
 -- One slot is changed.
-module _ (stands : List Stand) (ahead : List (Option Timed)) (waiting : Grouped Timed) (told : AreStands stands ahead waiting) (slot : ℕ) (new_ahead : List (Option Timed)) (new_waiting : Grouped Timed) (step : IsStep slot ahead new_ahead waiting new_waiting) where
+module _ (stands : List KeyPlace) (ahead : List (Option Timed)) (waiting : Grouped Timed) (told : AreStands stands ahead waiting) (slot : ℕ) (new_ahead : List (Option Timed)) (new_waiting : Grouped Timed) (step : IsStep slot ahead new_ahead waiting new_waiting) where
   stays : (other : ℕ) → other ≢ slot → slice_index_or stands other Nowhere ≡ stand_of (key_at new_ahead other) (key_at new_waiting.keys other)
   stays other n =
       told.tells other ∙ ap (λ o. stand_of o (key_at waiting.keys other)) (sym (step.ahead_stays other n)) ∙ ap (stand_of (key_at new_ahead other)) (sym (step.waiting_stays other n))
 
   -- it is written where the slot stands
-  pub stands_step : slot < length waiting.keys → (stand : Stand) → stand_of (key_at new_ahead slot) (key_at new_waiting.keys slot) ≡ stand → AreStands (set stands slot stand) new_ahead new_waiting
+  pub stands_step : slot < length waiting.keys → (stand : KeyPlace) → stand_of (key_at new_ahead slot) (key_at new_waiting.keys slot) ≡ stand → AreStands (set stands slot stand) new_ahead new_waiting
   stands_step l stand is = record {
     each = length-set stands slot stand ∙ told.each ∙ sym step.each_waiting;
     tells = λ other. go other (cases_eq other slot);
@@ -102,7 +102,7 @@ module _ (ahead : List (Option Timed)) (waiting : Grouped Timed) (heads : List (
     sole_waiting = record { key = here.0; has = here.1; first = others }
 
   -- what the code reads of a slot
-  module _ (stands : List Stand) (told : AreStands stands ahead waiting) (slot : ℕ) (stand : Stand) (read : stand ≡ slice_index_or stands slot stand) where
+  module _ (stands : List KeyPlace) (told : AreStands stands ahead waiting) (slot : ℕ) (stand : KeyPlace) (read : stand ≡ slice_index_or stands slot stand) where
     stand_is : slot < length waiting.keys → stand ≡ stand_of (key_at ahead slot) (key_at waiting.keys slot)
     stand_is l = get_or_read stands slot stand (omega (arith, l, told.each)) read Nowhere ∙ told.tells slot
 

@@ -4,7 +4,7 @@ use Rattle.std.proofs.lemmas.Bool.{cases_eq}
 use Rattle.std.proofs.lemmas.List.{get_or-set_same, get_or-set_other, length-set, map-set}
 use Rattle.std.proofs.lemmas.Option.{same_Some, slice_get_within, get_or_from_slice_get}
 use Rattle.goal_graph.specs.declared.action.Timed.{Timed}
-use Rattle.sim_floors.specs.declared.floor_queue.Stand.{Stand}
+use Rattle.sim_floors.specs.declared.floor_queue.KeyPlace.{KeyPlace}
 use Rattle.sim_heaps.specs.Map.{key_at}
 use Rattle.sim_groups.specs.Groups.{Grouped}
 use Rattle.sim_floors.specs.Floors.{Floored, waits_at, is_waiting, waits_for_room, at_time, floor_of, seen_keys, IsFloored, IsRenewed, IsStep}
@@ -183,7 +183,7 @@ parked ahead waiting heads floored slot time key has new_ahead gone new_waiting 
     (at_time 0 key, gone, waits, ap (at_time time) same)
 
 -- what a queue with floors is seen as
-abbrev pub seen_queue : List Stand → List (Option Timed) → Grouped Timed → List (Option Timed) → Floored
+abbrev pub seen_queue : List KeyPlace → List (Option Timed) → Grouped Timed → List (Option Timed) → Floored
 seen_queue stands ahead waiting heads = record {
   keys = seen_keys heads ahead waiting.keys waiting.groups;
   groups = waiting.groups;
@@ -191,21 +191,21 @@ seen_queue stands ahead waiting heads = record {
 }
 
 -- what one slot has is changed
-pub changed_keys : (stands : List Stand) (ahead : List (Option Timed)) (waiting : Grouped Timed) (heads : List (Option Timed)) (slot : ℕ) (value : Option Timed) (new_keys : List (Option Timed)) → new_keys ≡ set (seen_keys heads ahead waiting.keys waiting.groups) slot value → (now : Floored) → seen_queue stands ahead waiting heads ≡ now → new_keys ≡ set now.keys slot value
+pub changed_keys : (stands : List KeyPlace) (ahead : List (Option Timed)) (waiting : Grouped Timed) (heads : List (Option Timed)) (slot : ℕ) (value : Option Timed) (new_keys : List (Option Timed)) → new_keys ≡ set (seen_keys heads ahead waiting.keys waiting.groups) slot value → (now : Floored) → seen_queue stands ahead waiting heads ≡ now → new_keys ≡ set now.keys slot value
 changed_keys stands ahead waiting heads slot value new_keys seen now view = seen ∙ ap (λ (q : Floored). set q.keys slot value) view
 
 -- where one slot stands is changed
-pub changed_waits : (stands : List Stand) (ahead : List (Option Timed)) (waiting : Grouped Timed) (heads : List (Option Timed)) (slot : ℕ) (stand : Stand) (now : Floored) → seen_queue stands ahead waiting heads ≡ now → map is_waiting (set stands slot stand) ≡ set now.waits slot (is_waiting stand)
+pub changed_waits : (stands : List KeyPlace) (ahead : List (Option Timed)) (waiting : Grouped Timed) (heads : List (Option Timed)) (slot : ℕ) (stand : KeyPlace) (now : Floored) → seen_queue stands ahead waiting heads ≡ now → map is_waiting (set stands slot stand) ≡ set now.waits slot (is_waiting stand)
 changed_waits stands ahead waiting heads slot stand now view =
     map-set is_waiting stands slot stand ∙ ap (λ (q : Floored). set q.waits slot (is_waiting stand)) view
 
 -- another waits as it did
-pub waits_as : (stands : List Stand) (ahead : List (Option Timed)) (waiting : Grouped Timed) (heads : List (Option Timed)) (slot : ℕ) (stand : Stand) (now : Floored) → seen_queue stands ahead waiting heads ≡ now → (other : ℕ) → other ≢ slot → slice_index_or (map is_waiting (set stands slot stand)) other false ≡ waits_at now other
+pub waits_as : (stands : List KeyPlace) (ahead : List (Option Timed)) (waiting : Grouped Timed) (heads : List (Option Timed)) (slot : ℕ) (stand : KeyPlace) (now : Floored) → seen_queue stands ahead waiting heads ≡ now → (other : ℕ) → other ≢ slot → slice_index_or (map is_waiting (set stands slot stand)) other false ≡ waits_at now other
 waits_as stands ahead waiting heads slot stand now view other n =
     ap (λ ws. slice_index_or ws other false) (changed_waits stands ahead waiting heads slot stand now view) ∙ get_or-set_other now.waits slot other (is_waiting stand) false n
 
 -- both are
-pub changed_queue : (stands : List Stand) (ahead new_ahead : List (Option Timed)) (waiting new_waiting : Grouped Timed) (heads new_heads : List (Option Timed)) (slot : ℕ) (stand : Stand) (value : Option Timed) → new_waiting.groups ≡ waiting.groups → seen_keys new_heads new_ahead new_waiting.keys new_waiting.groups ≡ set (seen_keys heads ahead waiting.keys waiting.groups) slot value → (now : Floored) → seen_queue stands ahead waiting heads ≡ now → seen_queue (set stands slot stand) new_ahead new_waiting new_heads ≡ record { keys = set now.keys slot value; groups = now.groups; waits = set now.waits slot (is_waiting stand) }
+pub changed_queue : (stands : List KeyPlace) (ahead new_ahead : List (Option Timed)) (waiting new_waiting : Grouped Timed) (heads new_heads : List (Option Timed)) (slot : ℕ) (stand : KeyPlace) (value : Option Timed) → new_waiting.groups ≡ waiting.groups → seen_keys new_heads new_ahead new_waiting.keys new_waiting.groups ≡ set (seen_keys heads ahead waiting.keys waiting.groups) slot value → (now : Floored) → seen_queue stands ahead waiting heads ≡ now → seen_queue (set stands slot stand) new_ahead new_waiting new_heads ≡ record { keys = set now.keys slot value; groups = now.groups; waits = set now.waits slot (is_waiting stand) }
 changed_queue stands ahead new_ahead waiting new_waiting heads new_heads slot stand value groups seen now view =
     let keys = changed_keys stands ahead waiting heads slot value (seen_keys new_heads new_ahead new_waiting.keys new_waiting.groups) seen now view in
     let same = groups ∙ ap (λ (q : Floored). q.groups) view in
@@ -236,13 +236,13 @@ module _ (ahead : List (Option Timed)) (waiting : Grouped Timed) (heads : List (
     waits = λ k e. absurd (no_key k (sym idle ∙ e));
   }
 
-pub slot_within : (stands : List Stand) (ahead : List (Option Timed)) (waiting : Grouped Timed) (heads : List (Option Timed)) → IsFloored ahead waiting heads → (now : Floored) → seen_queue stands ahead waiting heads ≡ now → (slot : ℕ) → slot < length now.keys → slot < length waiting.keys
+pub slot_within : (stands : List KeyPlace) (ahead : List (Option Timed)) (waiting : Grouped Timed) (heads : List (Option Timed)) → IsFloored ahead waiting heads → (now : Floored) → seen_queue stands ahead waiting heads ≡ now → (slot : ℕ) → slot < length now.keys → slot < length waiting.keys
 slot_within stands ahead waiting heads floored now view slot l =
     omega (arith, l, ap (λ (q : Floored). length q.keys) view, seen_long ahead waiting heads floored)
 
 -- a queue with floors is seen with as many slots as it has
 pub slots_seen :
-    {ahead heads : List (Option Timed)} {waiting : Grouped Timed} {now : Floored} (stands : List Stand)
+    {ahead heads : List (Option Timed)} {waiting : Grouped Timed} {now : Floored} (stands : List KeyPlace)
     → IsFloored ahead waiting heads → seen_queue stands ahead waiting heads ≡ now → length now.keys ≡ length waiting.keys
 slots_seen {ahead = ahead} {heads = heads} {waiting = waiting} {now = now} stands floored view =
     sym (ap (λ (q : Floored). length q.keys) view) ∙ seen_long ahead waiting heads floored

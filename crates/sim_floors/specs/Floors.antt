@@ -6,8 +6,8 @@ use Rattle.goal_graph.specs.declared.action.Timed.{Timed}
 use Rattle.goal_graph.specs.declared.action.Class.{Class}
 use Rattle.goal_graph.specs.declared.action.Class.TheVariants.{Arrive, Serve, Data, Post, Begin}
 use Rattle.sim_order.specs.Events.{event_before}
-use Rattle.sim_floors.specs.declared.floor_queue.Stand.{Stand}
-use Rattle.sim_floors.specs.declared.floor_queue.Stand.TheVariants.{Nowhere, Ahead, Waiting}
+use Rattle.sim_floors.specs.declared.floor_queue.KeyPlace.{KeyPlace}
+use Rattle.sim_floors.specs.declared.floor_queue.KeyPlace.TheVariants.{Nowhere, Ahead, Waiting}
 use Rattle.sim_heaps.specs.Map.{key_at}
 use Rattle.sim_groups.specs.Groups.{Grouped, IsEmptyGroup, IsLeastOf}
 
@@ -42,33 +42,33 @@ pub record IsLate (keys : List (Option Timed)) (slot time : ℕ) : Type 0 where
   pub before : key.time < time
 
 -- A slot of the group of a slot, this one or another, waits with a key.
-pub record IsMate (q : Floored) (slot other : ℕ) (key : Timed) : Type 0 where
+pub record WaitsInGroupOf (q : Floored) (slot other : ℕ) (key : Timed) : Type 0 where
   pub group : slice_get q.groups other ≡ slice_get q.groups slot
   pub waits : waits_at q other ≡ true
   pub has : key_at q.keys other ≡ Some key
 
 -- nothing that waits in the group of a slot has a later key
 pub record IsFloorBy (q : Floored) (slot time : ℕ) : Type 0 where
-  pub each : (other : ℕ) (key : Timed) → IsMate q slot other key → key.time ≤ time
+  pub each : (other : ℕ) (key : Timed) → WaitsInGroupOf q slot other key → key.time ≤ time
 
 -- something that waits in the group of a slot has an earlier key
 pub record HasLowFloor (q : Floored) (slot time : ℕ) : Type 0 where
   pub other : ℕ
   pub key : Timed
-  pub mate : IsMate q slot other key
+  pub mate : WaitsInGroupOf q slot other key
   pub before : key.time < time
 
 -- something that waits in the group of a slot has a key at this time
 pub record HasFloor (q : Floored) (slot time : ℕ) : Type 0 where
   pub other : ℕ
   pub key : Timed
-  pub mate : IsMate q slot other key
+  pub mate : WaitsInGroupOf q slot other key
   pub at : key.time ≡ time
 
 -- The key of another slot, which waits in the group of a slot, is raised to a time with it.
 pub record IsRaised (old new : Floored) (slot time other : ℕ) : Type 0 where
   pub key : Timed
-  pub mate : IsMate old slot other key
+  pub mate : WaitsInGroupOf old slot other key
   pub has : key_at new.keys other ≡ Some (at_time time key)
   pub not_later : key.time ≤ time
   pub waits : waits_for_room key.class ≡ true
@@ -77,7 +77,7 @@ pub record IsRaised (old new : Floored) (slot time other : ℕ) : Type 0 where
 pub record IsLifted (old new : Floored) (slot time : ℕ) : Type 0 where
   pub each : length new.keys ≡ length old.keys
   pub here : (k : Timed) → key_at old.keys slot ≡ Some k → key_at new.keys slot ≡ Some (at_time time k)
-  pub together : (other : ℕ) (k : Timed) → IsMate old slot other k → key_at new.keys other ≡ Some (at_time time k)
+  pub together : (other : ℕ) (k : Timed) → WaitsInGroupOf old slot other k → key_at new.keys other ≡ Some (at_time time k)
   pub others : (other : ℕ) → (other ≡ slot) ⊎ (key_at new.keys other ≡ key_at old.keys other) ⊎ IsRaised old new slot time other
 
 -- A lift is counted where it raises something that waits.
@@ -120,25 +120,25 @@ pub record IsFloored (ahead : List (Option Timed)) (waiting : Grouped Timed) (he
   pub headed : (group : ℕ) → IsHead waiting group (key_at heads group)
 
 -- where a slot has its key, by what it has ahead and what it has waiting
-abbrev pub stand_of : Option Timed → Option Timed → Stand
+abbrev pub stand_of : Option Timed → Option Timed → KeyPlace
 stand_of (Some _) waiting = Ahead
 stand_of None (Some _) = Waiting
 stand_of None None = Nowhere
 
 -- a slot that stands there waits
-abbrev pub is_waiting : Stand → Bool
+abbrev pub is_waiting : KeyPlace → Bool
 is_waiting Nowhere = false
 is_waiting Ahead = false
 is_waiting Waiting = true
 
 -- a slot that stands there has a key
-abbrev pub has_key : Stand → Bool
+abbrev pub has_key : KeyPlace → Bool
 has_key Nowhere = false
 has_key Ahead = true
 has_key Waiting = true
 
 -- it is known where each slot has its key
-pub record AreStands (stands : List Stand) (ahead : List (Option Timed)) (waiting : Grouped Timed) : Type 0 where
+pub record AreStands (stands : List KeyPlace) (ahead : List (Option Timed)) (waiting : Grouped Timed) : Type 0 where
   pub each : length stands ≡ length waiting.keys
   pub tells : (slot : ℕ) → slice_index_or stands slot Nowhere ≡ stand_of (key_at ahead slot) (key_at waiting.keys slot)
 

@@ -18,29 +18,29 @@ use std::sync::ledger::Ledger;
 
 // Where a slot has its key.
 #[derive(Clone, Copy, Debug)]
-enum Stand {
+enum KeyPlace {
     Nowhere,
     Ahead,
     Waiting,
 }
 
 // Whether a slot that stands there waits.
-fn is_waiting(stand: Stand) -> bool
+fn is_waiting(stand: KeyPlace) -> bool
     ensures { result ≡ is_waiting stand }
 {
     match stand {
-        Stand::Waiting => true,
-        Stand::Nowhere | Stand::Ahead => false,
+        KeyPlace::Waiting => true,
+        KeyPlace::Nowhere | KeyPlace::Ahead => false,
     }
 }
 
 // Whether a slot that stands there has a key.
-fn has_key(stand: Stand) -> bool
+fn has_key(stand: KeyPlace) -> bool
     ensures { result ≡ has_key stand }
 {
     match stand {
-        Stand::Nowhere => false,
-        Stand::Ahead | Stand::Waiting => true,
+        KeyPlace::Nowhere => false,
+        KeyPlace::Ahead | KeyPlace::Waiting => true,
     }
 }
 
@@ -215,7 +215,7 @@ pub struct FloorQueue {
     // the least of each group that waits, at the time of the floor
     heads: SlotHeap<CompactKey>,
     // where each slot has its key
-    stands: Vec<Stand>,
+    stands: Vec<KeyPlace>,
 }
 
 impl Model for FloorQueue {
@@ -241,7 +241,7 @@ impl FloorQueue {
             ahead: TopHeap::new(alloc, numbers.len() as u32)?,
             waiting: Groups::new(alloc, numbers, groups)?,
             heads: SlotHeap::new(alloc, groups)?,
-            stands: vec![in alloc; Stand::Nowhere; numbers.len()]?,
+            stands: vec![in alloc; KeyPlace::Nowhere; numbers.len()]?,
         })
     }
 
@@ -267,7 +267,7 @@ impl FloorQueue {
         let group = self.waiting.group(slot);
         if !waits_for_room(key.class()) || floor(&self.heads, group) != key.time() {
             self.ahead.put(slot, key, steps);
-            self.stands[slot as usize] = Stand::Ahead;
+            self.stands[slot as usize] = KeyPlace::Ahead;
             return;
         }
         join(
@@ -278,7 +278,7 @@ impl FloorQueue {
             key,
             steps,
         );
-        self.stands[slot as usize] = Stand::Waiting;
+        self.stands[slot as usize] = KeyPlace::Waiting;
     }
 
     /// Takes out the key of a slot that is before that of each other slot.
@@ -289,7 +289,7 @@ impl FloorQueue {
         ensures onward { steps.old ≤ steps.new }
     {
         let waits = is_waiting(self.stands[slot as usize]);
-        self.stands[slot as usize] = Stand::Nowhere;
+        self.stands[slot as usize] = KeyPlace::Nowhere;
         if waits {
             leave(&self.ahead, &mut self.waiting, &mut self.heads, slot, steps);
             return;
@@ -340,7 +340,7 @@ impl FloorQueue {
             time,
             steps,
         );
-        self.stands[slot as usize] = Stand::Waiting;
+        self.stands[slot as usize] = KeyPlace::Waiting;
     }
 
     /// A key such that no key of the map is before it. None where the map is empty.

@@ -5,36 +5,36 @@ use Rattle.std.proofs.lemmas.List.{get_or-set_same, get_or-set_other, length-set
 use Rattle.std.proofs.lemmas.Option.{slice_get-get_or, slice_get_within, slice_get_past, get_or_from_slice_get, slice_get-map, same_Some}
 use Rattle.std.proofs.lemmas.List.{length-map}
 use Rattle.std.specs.Option.{option_map, IfSome}
-use Rattle.sim_groups.specs.declared.groups.Home.{Home}
+use Rattle.sim_groups.specs.declared.groups.PlaceInGroup.{PlaceInGroup}
 use Rattle.sim_heaps.specs.Map.{key_at, IsLeast, IsSoleLeast, IsEmptyMap}
 use Rattle.sim_groups.specs.Groups.{IsHoused, IsEmptyGroup, IsLeastOf, IsSoleLeastOf, heap_at, key_of_home, group_of_home, grouped}
 
-pub same_home : (a b : Home) → a.group ≡ b.group → a.place ≡ b.place → a ≡ b
+pub same_home : (a b : PlaceInGroup) → a.group ≡ b.group → a.place ≡ b.place → a ≡ b
 same_home a b e f i = record { group = e i; place = f i }
 
-module _ {K : Type 0} (homes : List Home) (heaps : List (List (Option K))) (housed : IsHoused homes heaps) where
+module _ {K : Type 0} (homes : List PlaceInGroup) (heaps : List (List (Option K))) (housed : IsHoused homes heaps) where
   -- the home of a slot, as the code reads it
-  pub home_read : (slot : ℕ) (home : Home) → slot < length homes → home ≡ get_or homes slot home → slice_get homes slot ≡ Some home
+  pub home_read : (slot : ℕ) (home : PlaceInGroup) → slot < length homes → home ≡ get_or homes slot home → slice_get homes slot ≡ Some home
   home_read slot home l e = slice_get-get_or homes slot home l ∙ ap Some (sym e)
 
   pub heap_read : (group : ℕ) (heap : List (Option K)) → group < length heaps → heap ≡ get_or heaps group heap → heap ≡ heap_at heaps group
   heap_read group heap l e = get_or_read heaps group heap l e []
 
   -- the key of a slot is what its home has
-  pub key_at_home : (slot : ℕ) (home : Home) → slice_get homes slot ≡ Some home → key_at (grouped homes heaps).keys slot ≡ key_of_home heaps home
+  pub key_at_home : (slot : ℕ) (home : PlaceInGroup) → slice_get homes slot ≡ Some home → key_at (grouped homes heaps).keys slot ≡ key_of_home heaps home
   key_at_home slot home at =
       get_or-map (key_of_home heaps) homes slot home None (slice_get_within homes slot home at) ∙ ap (key_of_home heaps) (get_or_from_slice_get homes slot home home at)
 
-  pub group_at_home : (slot : ℕ) (home : Home) → slice_get homes slot ≡ Some home → slice_get (grouped homes heaps).groups slot ≡ Some home.group
+  pub group_at_home : (slot : ℕ) (home : PlaceInGroup) → slice_get homes slot ≡ Some home → slice_get (grouped homes heaps).groups slot ≡ Some home.group
   group_at_home slot home at = slice_get-map group_of_home homes slot ∙ ap (option_map group_of_home) at
 
   -- a slot of a group has its home there
-  pub home_of_member : (slot group : ℕ) → slice_get (grouped homes heaps).groups slot ≡ Some group → (home : Home) × (slice_get homes slot ≡ Some home) × (home.group ≡ group)
+  pub home_of_member : (slot group : ℕ) → slice_get (grouped homes heaps).groups slot ≡ Some group → (home : PlaceInGroup) × (slice_get homes slot ≡ Some home) × (home.group ≡ group)
   home_of_member slot group e = go (cases_lt slot (length homes))
     where
-      go : (slot < length homes) ⊎ (length homes ≤ slot) → (home : Home) × (slice_get homes slot ≡ Some home) × (home.group ≡ group)
+      go : (slot < length homes) ⊎ (length homes ≤ slot) → (home : PlaceInGroup) × (slice_get homes slot ≡ Some home) × (home.group ≡ group)
       go (inl l) =
-          let home : Home = get_or homes slot (record { group = 0; place = 0 }) in
+          let home : PlaceInGroup = get_or homes slot (record { group = 0; place = 0 }) in
           let at : slice_get homes slot ≡ Some home = slice_get-get_or homes slot (record { group = 0; place = 0 }) l in
           (home, at, same_Some home.group group (sym (group_at_home slot home at) ∙ e))
       go (inr l) =
@@ -42,7 +42,7 @@ module _ {K : Type 0} (homes : List Home) (heaps : List (List (Option K))) (hous
           absurd (cc)
 
   -- The key of one slot is changed.
-  module _ (slot : ℕ) (home : Home) (at : slice_get homes slot ≡ Some home) (value : Option K) (heap new : List (Option K)) (is_heap : heap ≡ heap_at heaps home.group) (is_new : new ≡ set heap home.place value) where
+  module _ (slot : ℕ) (home : PlaceInGroup) (at : slice_get homes slot ≡ Some home) (value : Option K) (heap new : List (Option K)) (is_heap : heap ≡ heap_at heaps home.group) (is_new : new ≡ set heap home.place value) where
     abbrev after : List (List (Option K))
     after = set heaps home.group new
 
@@ -66,7 +66,7 @@ module _ {K : Type 0} (homes : List Home) (heaps : List (List (Option K))) (hous
     key_here =
         ap (λ h. key_at h home.place) heap_now ∙ get_or-set_same (heap_at heaps home.group) home.place value None (housed.place_in slot home at)
 
-    key_there : (other : Home) → ¬ (other ≡ home) → key_of_home after other ≡ key_of_home heaps other
+    key_there : (other : PlaceInGroup) → ¬ (other ≡ home) → key_of_home after other ≡ key_of_home heaps other
     key_there other n = go (cases_eq other.group home.group) (cases_eq other.place home.place)
       where
         go : (other.group ≡ home.group) ⊎ (other.group ≢ home.group) → (other.place ≡ home.place) ⊎ (other.place ≢ home.place) → key_of_home after other ≡ key_of_home heaps other
@@ -85,7 +85,7 @@ module _ {K : Type 0} (homes : List Home) (heaps : List (List (Option K))) (hous
         each : (k : ℕ) (d : Option K) → k < length homes → get_or (map (key_of_home after) homes) k d ≡ get_or (set (map (key_of_home heaps) homes) slot value) k d
         each k d l = go (cases_eq k slot)
           where
-            other : Home
+            other : PlaceInGroup
             other = get_or homes k home
 
             old : get_or (map (key_of_home heaps) homes) k d ≡ key_of_home heaps (get_or homes k home)
@@ -119,9 +119,9 @@ module _ {K : Type 0} (homes : List Home) (heaps : List (List (Option K))) (hous
         inside : (group place : ℕ) (key : K) → key_at (heap_at after group) place ≡ Some key → (group ≡ home.group) ⊎ (group ≢ home.group) → (place ≡ home.place) ⊎ (place ≢ home.place) → (s : ℕ) × (slice_get homes s ≡ Some (record { group = group; place = place }))
         inside group place key e (inl f) (inl p) = (slot, at ∙ ap Some (same_home home (record { group = group; place = place }) (sym f) (sym p)))
         inside group place key e (inl f) (inr d) =
-            housed.inhabited group place key (sym (key_there (record { group = group; place = place }) (λ s. d (ap (λ (h : Home). h.place) s))) ∙ e)
+            housed.inhabited group place key (sym (key_there (record { group = group; place = place }) (λ s. d (ap (λ (h : PlaceInGroup). h.place) s))) ∙ e)
         inside group place key e (inr d) p =
-            housed.inhabited group place key (sym (key_there (record { group = group; place = place }) (λ s. d (ap (λ (h : Home). h.group) s))) ∙ e)
+            housed.inhabited group place key (sym (key_there (record { group = group; place = place }) (λ s. d (ap (λ (h : PlaceInGroup). h.group) s))) ∙ e)
 
   -- where the heap of a group is empty no slot of it has a key
   pub empty_group : (group : ℕ) → IsEmptyMap (heap_at heaps group) → IsEmptyGroup (grouped homes heaps) group
@@ -145,7 +145,7 @@ module _ {K : Type 0} (homes : List Home) (heaps : List (List (Option K))) (hous
         least = λ other k member has. others other k (home_of_member other group member) has;
       }
     where
-      others : (other : ℕ) (k : K) → ((home : Home) × (slice_get homes other ≡ Some home) × (home.group ≡ group)) → key_at (grouped homes heaps).keys other ≡ Some k → before k key ≡ false
+      others : (other : ℕ) (k : K) → ((home : PlaceInGroup) × (slice_get homes other ≡ Some home) × (home.group ≡ group)) → key_at (grouped homes heaps).keys other ≡ Some k → before k key ≡ false
       others other k home has =
           least.least home.0.place k (ap (λ g. key_at (heap_at heaps g) home.0.place) (sym home.2) ∙ sym (key_at_home other home.0 home.1) ∙ has)
 
@@ -154,7 +154,7 @@ module _ {K : Type 0} (homes : List Home) (heaps : List (List (Option K))) (hous
   least_of_answer before group (Some key) least = least_of_group before group least.0 key least.1
 
   -- a key that is before each other of its group is before each other of the heap of the group
-  pub sole_of_heap : (before : K → K → Bool) (slot : ℕ) (home : Home) → slice_get homes slot ≡ Some home → IsSoleLeastOf before (grouped homes heaps) slot → IsSoleLeast before (heap_at heaps home.group) home.place
+  pub sole_of_heap : (before : K → K → Bool) (slot : ℕ) (home : PlaceInGroup) → slice_get homes slot ≡ Some home → IsSoleLeastOf before (grouped homes heaps) slot → IsSoleLeast before (heap_at heaps home.group) home.place
   sole_of_heap before slot home at sole = record {
     key = sole.key;
     has = sym (key_at_home slot home at) ∙ sole.has;
@@ -164,10 +164,10 @@ module _ {K : Type 0} (homes : List Home) (heaps : List (List (Option K))) (hous
       others : (place : ℕ) (k : K) → key_at (heap_at heaps home.group) place ≡ Some k → ((s : ℕ) × (slice_get homes s ≡ Some (record { group = home.group; place = place }))) → (place ≡ home.place) ⊎ (before sole.key k ≡ true)
       others place k e lives = go (sole.first lives.0 k (group_at_home lives.0 there lives.1 ∙ sym (group_at_home slot home at)) (key_at_home lives.0 there lives.1 ∙ e))
         where
-          there : Home
+          there : PlaceInGroup
           there = record { group = home.group; place = place }
 
           go : (lives.0 ≡ slot) ⊎ (before sole.key k ≡ true) → (place ≡ home.place) ⊎ (before sole.key k ≡ true)
           go (inl s) =
-              inl (ap (λ (h : Home). h.place) (same_Some there home (sym lives.1 ∙ ap (slice_get homes) s ∙ at)))
+              inl (ap (λ (h : PlaceInGroup). h.place) (same_Some there home (sym lives.1 ∙ ap (slice_get homes) s ∙ at)))
           go (inr b) = inr b

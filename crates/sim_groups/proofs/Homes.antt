@@ -5,7 +5,7 @@ use Rattle.std.proofs.lemmas.List.{get_or-set_same, get_or-set_other, length-set
 use Rattle.std.proofs.lemmas.List.Elements.{All-get_or}
 use Rattle.std.proofs.lemmas.Option.{slice_get-get_or, slice_get_within, get_or_from_slice_get}
 use Rattle.std.proofs.Math.Seq.{get_or-append_seam}
-use Rattle.sim_groups.specs.declared.groups.Home.{Home}
+use Rattle.sim_groups.specs.declared.groups.PlaceInGroup.{PlaceInGroup}
 use Rattle.sim_heaps.specs.Map.{key_at, no_keys}
 use Rattle.sim_heaps.proofs.ForCallers.{none_of}
 use Rattle.sim_groups.specs.Groups.{IsHoused, AreHomes, heap_at, key_of_home, group_of_home, grouped}
@@ -46,11 +46,11 @@ module _ (counts : List ℕ) (group : ℕ) (exists : group < length counts) wher
       go (inr d) = omega (arith, get_or-set_other counts group other (slice_index counts group + 1) 0 d, within other)
 
   -- the home of a slot among those that are given out, or the new one
-  abbrev Stands : List Home → ℕ → Home → Type 0
+  abbrev Stands : List PlaceInGroup → ℕ → PlaceInGroup → Type 0
   Stands homes slot home =
       (slice_get homes slot ≡ Some home) ⊎ ((slot ≡ length homes) × (home ≡ record { group = group; place = slice_index counts group }))
 
-  pub home_given : (numbers : List ℕ) (homes : List Home) → AreHomes numbers homes counts → AreHomes (numbers ++ group ∷ []) (homes ++ record { group = group; place = slice_index counts group } ∷ []) counted
+  pub home_given : (numbers : List ℕ) (homes : List PlaceInGroup) → AreHomes numbers homes counts → AreHomes (numbers ++ group ∷ []) (homes ++ record { group = group; place = slice_index counts group } ∷ []) counted
   home_given numbers homes given = record {
     groups = map-append group_of_home homes (record { group = group; place = slice_index counts group } ∷ []) ∙ ap (λ ns. ns ++ group ∷ []) given.groups;
     group_in = λ slot home e. rw (length-set counts group (slice_index counts group + 1)) (group_of slot home (at_end homes _ home slot e));
@@ -58,22 +58,22 @@ module _ (counts : List ℕ) (group : ℕ) (exists : group < length counts) wher
     apart = λ slot other home e f. differ slot other home (at_end homes _ home slot e) (at_end homes _ home other f);
   }
     where
-      group_of : (slot : ℕ) (home : Home) → Stands homes slot home → home.group < length counts
+      group_of : (slot : ℕ) (home : PlaceInGroup) → Stands homes slot home → home.group < length counts
       group_of slot home (inl e) = given.group_in slot home e
-      group_of slot home (inr e) = rw (ap (λ (h : Home). h.group) e.1) exists
+      group_of slot home (inr e) = rw (ap (λ (h : PlaceInGroup). h.group) e.1) exists
 
-      place_of : (slot : ℕ) (home : Home) → Stands homes slot home → home.place < slice_index counted home.group
+      place_of : (slot : ℕ) (home : PlaceInGroup) → Stands homes slot home → home.place < slice_index counted home.group
       place_of slot home (inl e) = omega (arith, given.place_in slot home e, counted_more home.group)
       place_of slot home (inr e) =
-          let group_is : slice_index counted home.group ≡ slice_index counted group = ap (λ (h : Home). slice_index counted h.group) e.1 in
-          omega (arith, ap (λ (h : Home). h.place) e.1, group_is, counted_here)
+          let group_is : slice_index counted home.group ≡ slice_index counted group = ap (λ (h : PlaceInGroup). slice_index counted h.group) e.1 in
+          omega (arith, ap (λ (h : PlaceInGroup). h.place) e.1, group_is, counted_here)
 
-      clash : (slot : ℕ) (home : Home) → slice_get homes slot ≡ Some home → home ≡ record { group = group; place = slice_index counts group } → ⊥
+      clash : (slot : ℕ) (home : PlaceInGroup) → slice_get homes slot ≡ Some home → home ≡ record { group = group; place = slice_index counts group } → ⊥
       clash slot home e f =
-          let group_is : slice_index counts home.group ≡ slice_index counts group = ap (λ (h : Home). slice_index counts h.group) f in
-          omega (arith, ap (λ (h : Home). h.place) f, group_is, given.place_in slot home e)
+          let group_is : slice_index counts home.group ≡ slice_index counts group = ap (λ (h : PlaceInGroup). slice_index counts h.group) f in
+          omega (arith, ap (λ (h : PlaceInGroup). h.place) f, group_is, given.place_in slot home e)
 
-      differ : (slot other : ℕ) (home : Home) → Stands homes slot home → Stands homes other home → slot ≡ other
+      differ : (slot other : ℕ) (home : PlaceInGroup) → Stands homes slot home → Stands homes other home → slot ≡ other
       differ slot other home (inl e) (inl f) = given.apart slot other home e f
       differ slot other home (inl e) (inr f) = absurd (clash slot home e f.1)
       differ slot other home (inr e) (inl f) = absurd (clash other home f e.1)
@@ -87,19 +87,19 @@ no_homes counts = record {
   apart = λ slot other home e f. absurd (nothing slot home e);
 }
   where
-    nothing : (slot : ℕ) (home : Home) → slice_get [] slot ≡ Some home → ⊥
+    nothing : (slot : ℕ) (home : PlaceInGroup) → slice_get [] slot ≡ Some home → ⊥
     nothing slot home e = omega (arith, slice_get_within [] slot home e)
 
-pub homes_length : (numbers : List ℕ) (homes : List Home) (counts : List ℕ) → AreHomes numbers homes counts → length homes ≡ length numbers
+pub homes_length : (numbers : List ℕ) (homes : List PlaceInGroup) (counts : List ℕ) → AreHomes numbers homes counts → length homes ≡ length numbers
 homes_length numbers homes counts given = sym (length-map homes group_of_home) ∙ ap length given.groups
 
 -- no key in any group
 module _ {K : Type 0} where
-  all_none : (f : Home → Option K) → ((home : Home) → f home ≡ None) → (homes : List Home) → map f homes ≡ replicate (length homes) None
+  all_none : (f : PlaceInGroup → Option K) → ((home : PlaceInGroup) → f home ≡ None) → (homes : List PlaceInGroup) → map f homes ≡ replicate (length homes) None
   all_none f e [] = refl
   all_none f e (home ∷ homes) = rw (e home) (ap (λ ks. None ∷ ks) (all_none f e homes))
 
-  module _ (numbers : List ℕ) (homes : List Home) (counts : List ℕ) (given : AreHomes numbers homes counts) where
+  module _ (numbers : List ℕ) (homes : List PlaceInGroup) (counts : List ℕ) (given : AreHomes numbers homes counts) where
     heap_empty : (group : ℕ) → group < length counts → heap_at (map (no_keys {K = K}) counts) group ≡ no_keys {K = K} (slice_index counts group)
     heap_empty group l = get_or-map (no_keys {K = K}) counts group 0 [] l
 

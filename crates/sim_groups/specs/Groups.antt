@@ -1,6 +1,6 @@
 -- Slots in groups, each of which knows its least key.
 use Rattle.std.specs.Prelude.{◌≡◌, ◌⊎◌, ◌<◌, ◌≤◌, ◌^◌, ℕ, Bool, true, false, List, [], Option, Some, None, length, map, slice_get, slice_index, slice_index_or, slice_set}
-use Rattle.sim_groups.specs.declared.groups.Home.{Home}
+use Rattle.sim_groups.specs.declared.groups.PlaceInGroup.{PlaceInGroup}
 use Rattle.sim_heaps.specs.Map.{key_at}
 
 -- what each slot has, a key or none, and the group that it is in
@@ -8,15 +8,15 @@ pub record Grouped (K : Type 0) : Type 0 where
   pub keys : List (Option K)
   pub groups : List ℕ
 
-abbrev pub group_of_home : Home → ℕ
+abbrev pub group_of_home : PlaceInGroup → ℕ
 group_of_home home = home.group
 
 -- homes for slots of these groups, of which so many are in each group: none is given twice
-pub record AreHomes (numbers : List ℕ) (homes : List Home) (counts : List ℕ) : Type 0 where
+pub record AreHomes (numbers : List ℕ) (homes : List PlaceInGroup) (counts : List ℕ) : Type 0 where
   pub groups : map group_of_home homes ≡ numbers
-  pub group_in : (slot : ℕ) (home : Home) → slice_get homes slot ≡ Some home → home.group < length counts
-  pub place_in : (slot : ℕ) (home : Home) → slice_get homes slot ≡ Some home → home.place < slice_index counts home.group
-  pub apart : (slot other : ℕ) (home : Home) → slice_get homes slot ≡ Some home → slice_get homes other ≡ Some home → slot ≡ other
+  pub group_in : (slot : ℕ) (home : PlaceInGroup) → slice_get homes slot ≡ Some home → home.group < length counts
+  pub place_in : (slot : ℕ) (home : PlaceInGroup) → slice_get homes slot ≡ Some home → home.place < slice_index counts home.group
+  pub apart : (slot other : ℕ) (home : PlaceInGroup) → slice_get homes slot ≡ Some home → slice_get homes other ≡ Some home → slot ≡ other
 
 module _ {K : Type 0} where
   -- no slot of the group has a key
@@ -45,24 +45,24 @@ module _ {K : Type 0} where
   heap_at heaps group = slice_index_or heaps group []
 
   -- the key at a home
-  abbrev pub key_of_home : List (List (Option K)) → Home → Option K
+  abbrev pub key_of_home : List (List (Option K)) → PlaceInGroup → Option K
   key_of_home heaps home = key_at (heap_at heaps home.group) home.place
 
   -- the maps, where a home has this key or none
-  abbrev pub with_key : List (List (Option K)) → Home → Option K → List (List (Option K))
+  abbrev pub with_key : List (List (Option K)) → PlaceInGroup → Option K → List (List (Option K))
   with_key heaps home key = slice_set heaps home.group (slice_set (heap_at heaps home.group) home.place key)
 
-  abbrev pub grouped : List Home → List (List (Option K)) → Grouped K
+  abbrev pub grouped : List PlaceInGroup → List (List (Option K)) → Grouped K
   grouped homes heaps = record { keys = map (key_of_home heaps) homes; groups = map group_of_home homes }
 
   -- Each slot has a home of its own in the heap of its group, and each key is at the home of a slot. No heap has more slots
   -- than there are.
-  pub record IsHoused (homes : List Home) (heaps : List (List (Option K))) : Type 0 where
+  pub record IsHoused (homes : List PlaceInGroup) (heaps : List (List (Option K))) : Type 0 where
     pub few : length homes < 2 ^ 32
-    pub group_in : (slot : ℕ) (home : Home) → slice_get homes slot ≡ Some home → home.group < length heaps
-    pub place_in : (slot : ℕ) (home : Home) → slice_get homes slot ≡ Some home → home.place < length (heap_at heaps home.group)
+    pub group_in : (slot : ℕ) (home : PlaceInGroup) → slice_get homes slot ≡ Some home → home.group < length heaps
+    pub place_in : (slot : ℕ) (home : PlaceInGroup) → slice_get homes slot ≡ Some home → home.place < length (heap_at heaps home.group)
     pub sized : (group : ℕ) → length (heap_at heaps group) ≤ length homes
-    pub apart : (slot other : ℕ) (home : Home) → slice_get homes slot ≡ Some home → slice_get homes other ≡ Some home → slot ≡ other
+    pub apart : (slot other : ℕ) (home : PlaceInGroup) → slice_get homes slot ≡ Some home → slice_get homes other ≡ Some home → slot ≡ other
     pub inhabited :
         (group place : ℕ) (key : K)
         → key_at (heap_at heaps group) place ≡ Some key

@@ -14,7 +14,7 @@ use std::sync::ledger::Ledger;
 
 /// Where a slot has its key: in the heap of its group, at a place there.
 #[derive(Clone, Copy, Debug, PartialEq, Eq)]
-pub struct Home {
+pub struct PlaceInGroup {
     pub group: u32,
     pub place: u32,
 }
@@ -23,7 +23,7 @@ pub struct Home {
 /// slots a put or a take compares 2k + 1 times at most, and asking for the least compares nothing.
 #[derive(Drop)]
 pub struct Groups {
-    homes: Vec<Home>,
+    homes: Vec<PlaceInGroup>,
     heaps: ItemHeaps,
 }
 
@@ -40,7 +40,11 @@ impl Model for Groups {
 
 /// Homes for slots whose groups have these numbers: the slots of a group get its places in their order. Counts the slots
 /// of each group.
-pub fn homes(alloc: Global, numbers: &[u32], counts: &mut [u32]) -> Result<Vec<Home>, NoMemory>
+pub fn homes(
+    alloc: Global,
+    numbers: &[u32],
+    counts: &mut [u32],
+) -> Result<Vec<PlaceInGroup>, NoMemory>
     requires within { All (λ group. group < length counts.old) numbers.now }
     requires zero { All (λ count. count ≡ 0) counts.old }
     requires few { length numbers.now < 2 ^ 32 }
@@ -52,7 +56,7 @@ pub fn homes(alloc: Global, numbers: &[u32], counts: &mut [u32]) -> Result<Vec<H
     'slots: for number in numbers {
         let group = *number;
         let place = counts[group as usize];
-        homes.push(Home { group, place })?;
+        homes.push(PlaceInGroup { group, place })?;
         counts[group as usize] = place + 1;
     }
     Ok(homes)

@@ -7,7 +7,7 @@ ghost use Rattle.sim_heaps.specs.TopHeap.{placed, IsTopHeap};
 ghost use Rattle.sim_groups.specs.Groups.{heap_at, key_of_home, with_key};
 ghost use Rattle.sim_groups.specs.Parts.{all_but_last};
 
-use crate::Home;
+use crate::PlaceInGroup;
 use crate::parts::{Part, parts};
 use goal_base::NoMemory;
 use sim_heaps::{Arrivals, HeapItem, rise, sink};
@@ -111,7 +111,7 @@ impl ItemHeaps {
     }
 
     /// Gives a home that has no key one.
-    pub fn put<L: Ledger>(&mut self, home: Home, key: CompactKey, steps: &mut Steps<L>)
+    pub fn put<L: Ledger>(&mut self, home: PlaceInGroup, key: CompactKey, steps: &mut Steps<L>)
         requires group_in { home.group < length self.old }
         requires place_in { home.place < length (heap_at self.old home.group) }
         requires free { key_of_home self.old home ≡ None }
@@ -136,7 +136,7 @@ impl ItemHeaps {
     }
 
     /// Takes out the least key of a group, that of this home: it is before each other.
-    pub fn take<L: Ledger>(&mut self, home: Home, steps: &mut Steps<L>)
+    pub fn take<L: Ledger>(&mut self, home: PlaceInGroup, steps: &mut Steps<L>)
         requires group_in { home.group < length self.old }
         requires least { IsSoleLeast event_before (heap_at self.old home.group) home.place }
         ensures taken { self.new ≡ with_key self.old home None }

@@ -7,5 +7,5 @@ mod parts;
 mod slot_groups;
 mod slot_heaps;
 
-pub use groups::{Groups, Home};
+pub use groups::{Groups, PlaceInGroup};
 pub use slot_groups::SlotGroups;

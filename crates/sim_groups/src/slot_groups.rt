@@ -3,7 +3,7 @@ ghost use Rattle.std.specs.Prelude.{◌≡◌, ◌+◌, ◌*◌, ◌^◌, ◌<�
 ghost use Rattle.sim_order.specs.Events.{event_before};
 ghost use Rattle.sim_groups.specs.Groups.{IsEmptyGroup, IsLeastOf};
 
-use crate::Home;
+use crate::PlaceInGroup;
 use crate::groups::homes;
 use crate::slot_heaps::SlotHeaps;
 use goal_base::NoMemory;
@@ -17,7 +17,7 @@ use std::sync::ledger::Ledger;
 /// and asking for the least compares nothing.
 #[derive(Drop)]
 pub struct SlotGroups {
-    homes: Vec<Home>,
+    homes: Vec<PlaceInGroup>,
     heaps: SlotHeaps,
 }
 

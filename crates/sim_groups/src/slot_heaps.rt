@@ -7,7 +7,7 @@ ghost use Rattle.sim_groups.specs.declared.parts.Part.{Part};
 ghost use Rattle.sim_groups.specs.Groups.{heap_at, with_key};
 ghost use Rattle.sim_groups.specs.Parts.{places_of, ArePacked, IsInOrder};
 
-use crate::Home;
+use crate::PlaceInGroup;
 use crate::parts::{Part, parts};
 use goal_base::NoMemory;
 use sim_heaps::{settle, swap};
@@ -192,7 +192,7 @@ impl SlotHeaps {
     }
 
     /// Gives a home a key, in place of the one that it had if it had one.
-    pub fn put<L: Ledger>(&mut self, home: Home, key: CompactKey, steps: &mut Steps<L>)
+    pub fn put<L: Ledger>(&mut self, home: PlaceInGroup, key: CompactKey, steps: &mut Steps<L>)
         requires group_in { home.group < length self.old }
         requires place_in { home.place < length (heap_at self.old home.group) }
         ensures put { self.new ≡ with_key self.old home (Some key) }
@@ -215,7 +215,7 @@ impl SlotHeaps {
     }
 
     /// Takes the key of a home out. Where it has none, nothing changes.
-    pub fn drop_slot<L: Ledger>(&mut self, home: Home, steps: &mut Steps<L>)
+    pub fn drop_slot<L: Ledger>(&mut self, home: PlaceInGroup, steps: &mut Steps<L>)
         requires group_in { home.group < length self.old }
         requires place_in { home.place < length (heap_at self.old home.group) }
         ensures dropped { self.new ≡ with_key self.old home None }

@@ -13,7 +13,7 @@ use Rattle.goal_graph.specs.Fault.{op_count}
 use Rattle.goal_graph.specs.Limits.{AreCountsWithin}
 use Rattle.goal_graph.proofs.ForCallers.{ops_at_some, length-places_of_rank}
 use Rattle.sim_order.specs.Order.{IsOrder}
-use Rattle.sim_groups.specs.declared.groups.Home.{Home}
+use Rattle.sim_groups.specs.declared.groups.PlaceInGroup.{PlaceInGroup}
 use Rattle.sim_heaps.specs.Map.{key_at, IsEmptyMap, IsLeast, no_keys}
 use Rattle.sim_groups.specs.Groups.{Grouped, AreHomes, heap_at, key_of_home, group_of_home}
 use Rattle.sim_queue.specs.Ranked.{size_of}
@@ -121,7 +121,7 @@ starts_more sizes starts new i next each is old e rank l =
         get_or_push starts next 0 rank (omega (arith, same, each)) ∙ is ∙ ap (λ k. sum (take k sizes)) same
 
 -- homes of all operations, and a queue in which none has a key
-module _ (plans : List Plan) (homes : List Home) (are : homes ≡ map home_of (operations plans)) where
+module _ (plans : List Plan) (homes : List PlaceInGroup) (are : homes ≡ map home_of (operations plans)) where
   homes_in_all : length homes ≡ sum (map size_of plans)
   homes_in_all = omega (arith, ap length are, length-map (operations plans) home_of, length-places 0 plans)
 
@@ -135,7 +135,7 @@ module _ (plans : List Plan) (homes : List Home) (are : homes ≡ map home_of (o
       each : (rank : ℕ) → rank < length (map size_of plans) → slice_index (map size_of plans) rank ≤ length homes
       each rank l = omega (arith, get_or-le-sum_by (λ n. n) (map size_of plans) rank 0 l, homes_in_all)
 
-  placed : (slot : ℕ) (home : Home) → slice_get homes slot ≡ Some home → IsPlaced plans 0 slot (place home.group home.place)
+  placed : (slot : ℕ) (home : PlaceInGroup) → slice_get homes slot ≡ Some home → IsPlaced plans 0 slot (place home.group home.place)
   placed slot home e = go (slice_get (operations plans) slot) refl
     where
       at : slice_get (map home_of (operations plans)) slot ≡ Some home
@@ -147,9 +147,9 @@ module _ (plans : List Plan) (homes : List Home) (are : homes ≡ map home_of (o
           absurd (cc)
       go (Some x) f =
           let same : home_of x ≡ home = same_Some (home_of x) home (sym (slice_get-map home_of (operations plans) slot ∙ ap (option_map home_of) f) ∙ at) in
-          subst (λ (h : Home). IsPlaced plans 0 slot (place h.group h.place)) same (place_from 0 plans slot x f)
+          subst (λ (h : PlaceInGroup). IsPlaced plans 0 slot (place h.group h.place)) same (place_from 0 plans slot x f)
 
-  stands : (slot : ℕ) (home : Home) → slice_get homes slot ≡ Some home → slot ≡ sum (take home.group (map size_of plans)) + home.place
+  stands : (slot : ℕ) (home : PlaceInGroup) → slice_get homes slot ≡ Some home → slot ≡ sum (take home.group (map size_of plans)) + home.place
   stands slot home e =
       let p = placed slot home e in
       let rank : p.rank ≡ home.group = omega (arith, p.is_rank) in
@@ -228,9 +228,9 @@ module _ {K : Type 0} where
   no_key : (k : K) → None ≡ Some k → ⊥
   no_key k e = absurd (cc)
 
-  module _ (before : K → K → Bool) (homes : List Home) (starts : List ℕ) (heaps : List (List (Option K))) (heads : List (Option K)) (is : IsRanked before homes starts heaps heads) where
+  module _ (before : K → K → Bool) (homes : List PlaceInGroup) (starts : List ℕ) (heaps : List (List (Option K))) (heads : List (Option K)) (is : IsRanked before homes starts heaps heads) where
     -- the key of one slot is changed, and the head of its rank told anew
-    module _ (slot : ℕ) (home : Home) (at : slice_get homes slot ≡ Some home) (value : Option K) (heap new : List (Option K)) (is_heap : heap ≡ heap_at heaps home.group) (is_new : new ≡ set heap home.place value) where
+    module _ (slot : ℕ) (home : PlaceInGroup) (at : slice_get homes slot ≡ Some home) (value : Option K) (heap new : List (Option K)) (is_heap : heap ≡ heap_at heaps home.group) (is_new : new ≡ set heap home.place value) where
       abbrev after : List (List (Option K))
       after = set heaps home.group new
 
@@ -281,7 +281,7 @@ module _ {K : Type 0} where
     has_head : (slot : ℕ) (k : K) → key_at (ranked homes heaps).keys slot ≡ Some k → HasHead k
     has_head slot k e = go (cases_lt slot (length homes))
       where
-        told : (home : Home) → slice_get homes slot ≡ Some home → (head : Option K) → key_at heads home.group ≡ head → IsHeadOf before (heap_at heaps home.group) head → HasHead k
+        told : (home : PlaceInGroup) → slice_get homes slot ≡ Some home → (head : Option K) → key_at heads home.group ≡ head → IsHeadOf before (heap_at heaps home.group) head → HasHead k
         told home at None f empty =
             absurd (no_key k (sym (empty home.place) ∙ sym (key_at_home homes heaps is.housed slot home at) ∙ e))
         told home at (Some head) f least =
@@ -290,7 +290,7 @@ module _ {K : Type 0} where
 
         go : (slot < length homes) ⊎ (length homes ≤ slot) → HasHead k
         go (inl l) =
-            let home : Home = get_or homes slot (record { group = 0; place = 0 }) in
+            let home : PlaceInGroup = get_or homes slot (record { group = 0; place = 0 }) in
             let at : slice_get homes slot ≡ Some home = slice_get-get_or homes slot (record { group = 0; place = 0 }) l in
             told home at (key_at heads home.group) refl (is.headed home.group (is.housed.group_in slot home at))
         go (inr l) =

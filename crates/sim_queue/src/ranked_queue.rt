@@ -8,7 +8,7 @@ ghost use Rattle.sim_groups.specs.Groups.{heap_at};
 
 use goal_base::NoMemory;
 use goal_graph::Sched;
-use sim_groups::Home;
+use sim_groups::PlaceInGroup;
 use sim_heaps::{EventQueue, SlotHeap};
 use sim_order::{EventOrder, Steps};
 use std::alloc::Global;
@@ -21,7 +21,7 @@ use std::sync::ledger::Ledger;
 #[derive(Drop)]
 pub struct RankedQueue<K: EventOrder> {
     // where each operation has its key
-    homes: Vec<Home>,
+    homes: Vec<PlaceInGroup>,
     // the slot of the first operation of each rank
     starts: Vec<u32>,
     heaps: Vec<SlotHeap<K>>,
@@ -40,10 +40,10 @@ impl<K: EventOrder> Model for RankedQueue<K> {
 }
 
 // The homes of all operations.
-fn homes_of(alloc: Global, sched: &Sched) -> Result<Vec<Home>, NoMemory>
+fn homes_of(alloc: Global, sched: &Sched) -> Result<Vec<PlaceInGroup>, NoMemory>
     ensures { IfOk result (λ homes. homes.items ≡ map home_of (operations sched.now)) }
 {
-    let homes = sched.operations().iter().map(|id| Home {
+    let homes = sched.operations().iter().map(|id| PlaceInGroup {
         group: id.rank,
         place: id.op,
     });

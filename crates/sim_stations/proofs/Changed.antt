@@ -11,8 +11,8 @@ use Rattle.sim_heaps.specs.Map.{key_at, IsSoleLeast}
 use Rattle.sim_heaps.proofs.ForCallers.{key_within}
 use Rattle.sim_groups.specs.Groups.{Grouped, IsEmptyGroup, IsLeastOf, IsSoleLeastOf}
 use Rattle.sim_stations.specs.declared.pair.Pair.{Pair}
-use Rattle.sim_stations.specs.declared.stand.Stand.{Stand}
-use Rattle.sim_stations.specs.declared.stand.Stand.TheVariants.{Nowhere, Ahead, Waiting}
+use Rattle.sim_stations.specs.declared.key_place.KeyPlace.{KeyPlace}
+use Rattle.sim_stations.specs.declared.key_place.KeyPlace.TheVariants.{Nowhere, Ahead, Waiting}
 use Rattle.sim_stations.specs.Stations.{Stationed, waits_for_room, at_time, both_free, when_free, pair_at, held, IsLater, count_ahead, cost_of_waiting}
 use Rattle.sim_stations.specs.Rows.{Rowed, IsHead}
 use Rattle.sim_stations.specs.Kept.{seen_keys, seen_of, stand_of, has_key, is_waiting, AreShown, IsKept, IsFound, IsDeparted}
@@ -24,7 +24,7 @@ use Rattle.sim_stations.proofs.Shown.{told_station}
 use Rattle.sim_stations.proofs.Joined.{kept_now, stands_ahead}
 
 -- fewer keys ahead cost less
-pub cost_falls : (k : ℕ) (new old : List Stand) → count_ahead new ≤ count_ahead old → cost_of_waiting k new ≤ cost_of_waiting k old
+pub cost_falls : (k : ℕ) (new old : List KeyPlace) → count_ahead new ≤ count_ahead old → cost_of_waiting k new ≤ cost_of_waiting k old
 cost_falls k new old l = mul-le-mul_right (8 * k + 12) l
 
 -- what is held is not free before it was
@@ -40,10 +40,10 @@ both_later free p cpu side later q =
     omega (arith, later_each free p cpu side later q.cpu, later_each free p cpu side later q.side)
 
 -- the queue as it is seen
-abbrev pub view : List (Option Timed) → Grouped Timed → Rowed → List Stand → Option ℕ → Stationed
+abbrev pub view : List (Option Timed) → Grouped Timed → Rowed → List KeyPlace → Option ℕ → Stationed
 view ahead waiting rows stands found = record { keys = seen_of ahead waiting rows; stations = waiting.groups; stands = stands; pairs = rows.pairs; turned = rows.turned; free = rows.free; found = found }
 
-module _ (ahead : List (Option Timed)) (waiting : Grouped Timed) (rows : Rowed) (stands : List Stand) (kept : IsKept ahead waiting rows stands) where
+module _ (ahead : List (Option Timed)) (waiting : Grouped Timed) (rows : Rowed) (stands : List KeyPlace) (kept : IsKept ahead waiting rows stands) where
   abbrev seen : List (Option Timed)
   seen = seen_of ahead waiting rows
 
@@ -135,7 +135,7 @@ module _ (ahead : List (Option Timed)) (waiting : Grouped Timed) (rows : Rowed) 
               ap is_waiting (kept.stood.tells slot ∙ ap (λ o. stand_of o (key_at waiting.keys slot)) e ∙ ap (stand_of None) f)
 
   -- what one slot has is changed, and maybe the rows with it
-  module _ (slot : ℕ) (within : slot < length waiting.keys) (new_ahead : List (Option Timed)) (new_waiting : Grouped Timed) (step : IsStep slot ahead new_ahead waiting new_waiting) (new_rows : Rowed) (shown : AreShown new_waiting new_rows.keys (length new_rows.pairs)) (keyed : length new_rows.keys ≡ length new_rows.pairs) (pairs : new_rows.pairs ≡ rows.pairs) (turned : new_rows.turned ≡ rows.turned) (stand : Stand) (is : stand ≡ stand_of (key_at new_ahead slot) (key_at new_waiting.keys slot)) where
+  module _ (slot : ℕ) (within : slot < length waiting.keys) (new_ahead : List (Option Timed)) (new_waiting : Grouped Timed) (step : IsStep slot ahead new_ahead waiting new_waiting) (new_rows : Rowed) (shown : AreShown new_waiting new_rows.keys (length new_rows.pairs)) (keyed : length new_rows.keys ≡ length new_rows.pairs) (pairs : new_rows.pairs ≡ rows.pairs) (turned : new_rows.turned ≡ rows.turned) (stand : KeyPlace) (is : stand ≡ stand_of (key_at new_ahead slot) (key_at new_waiting.keys slot)) where
     pub changed_kept : length new_rows.free ≡ length rows.free → IsKept new_ahead new_waiting new_rows (set stands slot stand)
     changed_kept free = kept_now ahead waiting rows stands new_ahead new_waiting new_rows (set stands slot stand) kept step.each_waiting (still_mapped ahead waiting rows.pairs kept.mapped slot new_ahead new_waiting step) shown keyed (stood_now ahead waiting rows.pairs kept.mapped slot new_ahead new_waiting step stands kept.stood within stand is) pairs (ap length turned) free
 

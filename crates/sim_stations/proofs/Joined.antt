@@ -10,8 +10,8 @@ use Rattle.sim_heaps.specs.Map.{key_at}
 use Rattle.sim_heaps.proofs.ForCallers.{same_maps, key_within}
 use Rattle.sim_groups.specs.Groups.{Grouped}
 use Rattle.sim_stations.specs.declared.pair.Pair.{Pair}
-use Rattle.sim_stations.specs.declared.stand.Stand.{Stand}
-use Rattle.sim_stations.specs.declared.stand.Stand.TheVariants.{Nowhere, Ahead, Waiting}
+use Rattle.sim_stations.specs.declared.key_place.KeyPlace.{KeyPlace}
+use Rattle.sim_stations.specs.declared.key_place.KeyPlace.TheVariants.{Nowhere, Ahead, Waiting}
 use Rattle.sim_stations.specs.Stations.{waits_for_room, at_time, one_ahead, count_ahead, both_free, when_free, pair_at}
 use Rattle.sim_stations.specs.Rows.{Rowed}
 use Rattle.sim_stations.specs.Kept.{seen_keys, seen_of, stand_of, AreMapped, AreShown, AreStands, IsKept}
@@ -20,8 +20,8 @@ use Rattle.sim_stations.proofs.Slots.{IsStep, merged, merged_ahead, merged_waiti
 
 -- the resources are the same, and the least keys of the stations are those of the slots that wait now
 pub kept_now :
-    (ahead : List (Option Timed)) (waiting : Grouped Timed) (rows : Rowed) (stands : List Stand)
-    → (new_ahead : List (Option Timed)) (new_waiting : Grouped Timed) (new_rows : Rowed) (new_stands : List Stand)
+    (ahead : List (Option Timed)) (waiting : Grouped Timed) (rows : Rowed) (stands : List KeyPlace)
+    → (new_ahead : List (Option Timed)) (new_waiting : Grouped Timed) (new_rows : Rowed) (new_stands : List KeyPlace)
     → IsKept ahead waiting rows stands
     → length new_waiting.keys ≡ length waiting.keys
     → AreMapped new_ahead new_waiting rows.pairs
@@ -43,11 +43,11 @@ kept_now ahead waiting rows stands new_ahead new_waiting new_rows new_stands kep
 }
 
 -- one slot stands elsewhere
-pub stands_ahead : (stands : List Stand) (slot : ℕ) (was now : Stand) → slot < length stands → slice_index_or stands slot Nowhere ≡ was → count_ahead (set stands slot now) + one_ahead was ≡ count_ahead stands + one_ahead now
+pub stands_ahead : (stands : List KeyPlace) (slot : ℕ) (was now : KeyPlace) → slot < length stands → slice_index_or stands slot Nowhere ≡ was → count_ahead (set stands slot now) + one_ahead was ≡ count_ahead stands + one_ahead now
 stands_ahead stands slot was now l e =
     ap (λ s. count_ahead (set stands slot now) + one_ahead s) (sym e) ∙ sum_by-set one_ahead stands slot now Nowhere l
 
-module _ (ahead : List (Option Timed)) (waiting : Grouped Timed) (rows : Rowed) (stands : List Stand) (kept : IsKept ahead waiting rows stands) (slot : ℕ) (key : Timed) (has : key_at ahead slot ≡ Some key) where
+module _ (ahead : List (Option Timed)) (waiting : Grouped Timed) (rows : Rowed) (stands : List KeyPlace) (kept : IsKept ahead waiting rows stands) (slot : ℕ) (key : Timed) (has : key_at ahead slot ≡ Some key) where
   within : slot < length waiting.keys
   within = omega (arith, key_within ahead slot key has, kept.mapped.each)
 

@@ -13,7 +13,7 @@ use Rattle.sim_heaps.specs.Map.{key_at, IsEmptyMap, IsLeast, IsSoleLeast}
 use Rattle.sim_heaps.proofs.ForCallers.{through, key_within}
 use Rattle.sim_groups.specs.Groups.{Grouped, IsLeastOf, IsSoleLeastOf}
 use Rattle.sim_stations.specs.declared.pair.Pair.{Pair}
-use Rattle.sim_stations.specs.declared.stand.Stand.{Stand}
+use Rattle.sim_stations.specs.declared.key_place.KeyPlace.{KeyPlace}
 use Rattle.sim_stations.specs.Stations.{waits_for_room, at_time, both_free, earliest, when_free, pair_at, AreOfSlots}
 use Rattle.sim_stations.specs.Rows.{Rowed, side_of, turned_at, shown, IsHead}
 use Rattle.sim_stations.specs.Kept.{IsKept, seen_of, IsFound, IsSeenFirst, IsFirstOfAll}
@@ -31,7 +31,7 @@ pub other_later : (free : List ℕ) (p : Pair) (b : Bool) → slice_index free (
 other_later free p false l = omega (arith, l)
 other_later free p true l = omega (arith, l)
 
-module _ (ahead : List (Option Timed)) (waiting : Grouped Timed) (rows : Rowed) (stands : List Stand) (kept : IsKept ahead waiting rows stands) where
+module _ (ahead : List (Option Timed)) (waiting : Grouped Timed) (rows : Rowed) (stands : List KeyPlace) (kept : IsKept ahead waiting rows stands) where
   abbrev seen : List (Option Timed)
   seen = seen_of ahead waiting rows
 

@@ -10,8 +10,8 @@ use Rattle.sim_heaps.specs.Map.{either, key_at, no_keys}
 use Rattle.sim_heaps.proofs.ForCallers.{none_of, same_maps}
 use Rattle.sim_groups.specs.Groups.{Grouped}
 use Rattle.sim_stations.specs.declared.pair.Pair.{Pair}
-use Rattle.sim_stations.specs.declared.stand.Stand.{Stand}
-use Rattle.sim_stations.specs.declared.stand.Stand.TheVariants.{Nowhere}
+use Rattle.sim_stations.specs.declared.key_place.KeyPlace.{KeyPlace}
+use Rattle.sim_stations.specs.declared.key_place.KeyPlace.TheVariants.{Nowhere}
 use Rattle.sim_stations.specs.Stations.{DoExist, when_free, pair_at}
 use Rattle.sim_stations.specs.Moves.{one_if, HaveReturned, HasReturned}
 use Rattle.sim_stations.specs.Rows.{Rowed, IsHead}
@@ -58,7 +58,7 @@ module _ (numbers : List ℕ) (pairs : List Pair) (resources : ℕ) (few_station
     };
     shown = λ s l. subst (IsHead idle s 0) (sym (none_of (length pairs) s)) (λ slot e. none_of n slot);
     stood = record {
-      each = length-replicate {A = Stand} n Nowhere ∙ sym long;
+      each = length-replicate {A = KeyPlace} n Nowhere ∙ sym long;
       tells = λ slot. alike n slot Nowhere ∙ sym (ap (λ o. stand_of o (key_at none slot)) (none_of n slot) ∙ ap (stand_of None) (none_of n slot));
     };
     keyed = length-replicate {A = Option Timed} (length pairs) None;
@@ -92,7 +92,7 @@ module _ (numbers : List ℕ) (pairs : List Pair) (resources : ℕ) (few_station
             may_return = λ e l. absurd (omega (arith, l, cpu));
           }
 
-  module _ (ahead : List (Option Timed)) (waiting : Grouped Timed) (rows : Rowed) (stands : List Stand) (a : ahead ≡ none) (w : waiting ≡ idle) (r : rows ≡ at_first) (t : stands ≡ replicate n Nowhere) where
+  module _ (ahead : List (Option Timed)) (waiting : Grouped Timed) (rows : Rowed) (stands : List KeyPlace) (a : ahead ≡ none) (w : waiting ≡ idle) (r : rows ≡ at_first) (t : stands ≡ replicate n Nowhere) where
     pub new_kept : IsKept ahead waiting rows stands
     new_kept =
         subst (λ x. IsKept x waiting rows stands) (sym a) (subst (λ x. IsKept none x rows stands) (sym w) (subst (λ x. IsKept none idle x stands) (sym r) (subst (IsKept none idle at_first) (sym t) kept)))

@@ -7,7 +7,7 @@ use Rattle.std.proofs.lemmas.Option.{same_Some, slice_get_within, slice_get-get_
 use Rattle.goal_graph.specs.declared.action.Timed.{Timed}
 use Rattle.sim_groups.specs.Groups.{Grouped}
 use Rattle.sim_stations.specs.declared.pair.Pair.{Pair}
-use Rattle.sim_stations.specs.declared.stand.Stand.{Stand}
+use Rattle.sim_stations.specs.declared.key_place.KeyPlace.{KeyPlace}
 use Rattle.sim_stations.specs.Stations.{pair_at, count_ahead, cost_of_waiting, cost_of_moves}
 use Rattle.sim_stations.specs.Moves.{one_if, HaveReturned, HaveMoved}
 use Rattle.sim_stations.specs.Rows.{Rowed, side_of, turned_at}
@@ -22,7 +22,7 @@ pub twice : (k : ℕ) → 2 ^ (k + 1) ≡ 2 * 2 ^ k
 twice k = ap (λ n. 2 ^ n) (add-one k) ∙ pow-succ' 2 k
 
 -- what has changed since it was begun
-pub record IsSettling (ahead : List (Option Timed)) (waiting : Grouped Timed) (rows : Rowed) (stands : List Stand) (steps moves : ℕ) (new_ahead : List (Option Timed)) (new_waiting : Grouped Timed) (new_rows : Rowed) (new_stands : List Stand) (now moves_now : ℕ) : Type 0 where
+pub record IsSettling (ahead : List (Option Timed)) (waiting : Grouped Timed) (rows : Rowed) (stands : List KeyPlace) (steps moves : ℕ) (new_ahead : List (Option Timed)) (new_waiting : Grouped Timed) (new_rows : Rowed) (new_stands : List KeyPlace) (now moves_now : ℕ) : Type 0 where
   pub kept : IsKept new_ahead new_waiting new_rows new_stands
   pub seen : seen_of new_ahead new_waiting new_rows ≡ seen_of ahead waiting rows
   pub groups : new_waiting.groups ≡ waiting.groups
@@ -36,7 +36,7 @@ pub record IsSettling (ahead : List (Option Timed)) (waiting : Grouped Timed) (r
       (holds returns : List ℕ) → HaveReturned rows.pairs rows.turned rows.free holds returns
       → HaveMoved rows.pairs rows.free holds rows.turned new_rows.turned returns moves moves_now
 
-pub settling : (ahead : List (Option Timed)) (waiting : Grouped Timed) (rows : Rowed) (stands : List Stand) (steps moves : ℕ) → IsKept ahead waiting rows stands → IsSettling ahead waiting rows stands steps moves ahead waiting rows stands steps moves
+pub settling : (ahead : List (Option Timed)) (waiting : Grouped Timed) (rows : Rowed) (stands : List KeyPlace) (steps moves : ℕ) → IsKept ahead waiting rows stands → IsSettling ahead waiting rows stands steps moves ahead waiting rows stands steps moves
 settling ahead waiting rows stands steps moves kept = record {
   kept = kept;
   seen = refl;
@@ -68,9 +68,9 @@ late_set free (q ∷ pairs) (b ∷ turned) zero p e l h =
 late_set free (q ∷ pairs) (b ∷ turned) (suc s) p e l h =
     let rest = late_set free pairs turned s p e (omega (arith, l)) h in omega (arith, rest)
 
-module _ (ahead : List (Option Timed)) (waiting : Grouped Timed) (rows : Rowed) (stands : List Stand) (steps moves : ℕ) (mid_ahead : List (Option Timed)) (mid_waiting : Grouped Timed) (mid_rows : Rowed) (mid_stands : List Stand) (then moves_then : ℕ) (so_far : IsSettling ahead waiting rows stands steps moves mid_ahead mid_waiting mid_rows mid_stands then moves_then) where
+module _ (ahead : List (Option Timed)) (waiting : Grouped Timed) (rows : Rowed) (stands : List KeyPlace) (steps moves : ℕ) (mid_ahead : List (Option Timed)) (mid_waiting : Grouped Timed) (mid_rows : Rowed) (mid_stands : List KeyPlace) (then moves_then : ℕ) (so_far : IsSettling ahead waiting rows stands steps moves mid_ahead mid_waiting mid_rows mid_stands then moves_then) where
   -- a slot has begun to wait
-  module _ (new_ahead : List (Option Timed)) (new_waiting : Grouped Timed) (new_rows : Rowed) (new_stands : List Stand) (looked now : ℕ) (kept : IsKept new_ahead new_waiting new_rows new_stands) (seen : seen_of new_ahead new_waiting new_rows ≡ seen_of mid_ahead mid_waiting mid_rows) (groups : new_waiting.groups ≡ mid_waiting.groups) (pairs : new_rows.pairs ≡ mid_rows.pairs) (turned : new_rows.turned ≡ mid_rows.turned) (free : new_rows.free ≡ mid_rows.free) (fewer : count_ahead new_stands + 1 ≡ count_ahead mid_stands) (look : looked ≤ then + 3) (counted : (k : ℕ) → length mid_waiting.keys ≤ 2 ^ k → now ≤ looked + (8 * k + 9)) where
+  module _ (new_ahead : List (Option Timed)) (new_waiting : Grouped Timed) (new_rows : Rowed) (new_stands : List KeyPlace) (looked now : ℕ) (kept : IsKept new_ahead new_waiting new_rows new_stands) (seen : seen_of new_ahead new_waiting new_rows ≡ seen_of mid_ahead mid_waiting mid_rows) (groups : new_waiting.groups ≡ mid_waiting.groups) (pairs : new_rows.pairs ≡ mid_rows.pairs) (turned : new_rows.turned ≡ mid_rows.turned) (free : new_rows.free ≡ mid_rows.free) (fewer : count_ahead new_stands + 1 ≡ count_ahead mid_stands) (look : looked ≤ then + 3) (counted : (k : ℕ) → length mid_waiting.keys ≤ 2 ^ k → now ≤ looked + (8 * k + 9)) where
     pub waited : IsSettling ahead waiting rows stands steps moves new_ahead new_waiting new_rows new_stands now moves_then
     waited = record {
       kept = kept;

@@ -9,8 +9,8 @@ use Rattle.sim_heaps.specs.Map.{either, key_at}
 use Rattle.sim_heaps.proofs.ForCallers.{same_maps}
 use Rattle.sim_groups.specs.Groups.{Grouped}
 use Rattle.sim_stations.specs.declared.pair.Pair.{Pair}
-use Rattle.sim_stations.specs.declared.stand.Stand.{Stand}
-use Rattle.sim_stations.specs.declared.stand.Stand.TheVariants.{Nowhere}
+use Rattle.sim_stations.specs.declared.key_place.KeyPlace.{KeyPlace}
+use Rattle.sim_stations.specs.declared.key_place.KeyPlace.TheVariants.{Nowhere}
 use Rattle.sim_stations.specs.Stations.{waits_for_room, when_free, pair_at}
 use Rattle.sim_stations.specs.Kept.{seen_keys, stand_of, AreMapped, AreStands}
 use Rattle.sim_stations.proofs.Heads.{no_key}
@@ -132,7 +132,7 @@ module _ (ahead : List (Option Timed)) (waiting : Grouped Timed) (pairs : List P
         each i (inr n) = seen_there free i n ∙ sym (seen_here free i) ∙ sym (get_or-set_other old slot i value None n)
 
     -- it is known where each slot has its key
-    pub stood_now : (stands : List Stand) → AreStands stands ahead waiting → slot < length waiting.keys → (stand : Stand) → stand ≡ stand_of (key_at new_ahead slot) (key_at new_waiting.keys slot) → AreStands (set stands slot stand) new_ahead new_waiting
+    pub stood_now : (stands : List KeyPlace) → AreStands stands ahead waiting → slot < length waiting.keys → (stand : KeyPlace) → stand ≡ stand_of (key_at new_ahead slot) (key_at new_waiting.keys slot) → AreStands (set stands slot stand) new_ahead new_waiting
     stood_now stands stood within stand is = record {
       each = length-set stands slot stand ∙ stood.each ∙ sym step.each_waiting;
       tells = λ i. go i (cases_eq i slot);

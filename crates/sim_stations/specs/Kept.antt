@@ -7,8 +7,8 @@ use Rattle.sim_order.specs.Events.{event_before}
 use Rattle.sim_heaps.specs.Map.{either, key_at, IsSoleLeast}
 use Rattle.sim_groups.specs.Groups.{Grouped, IsLeastOf, IsSoleLeastOf}
 use Rattle.sim_stations.specs.declared.pair.Pair.{Pair}
-use Rattle.sim_stations.specs.declared.stand.Stand.{Stand}
-use Rattle.sim_stations.specs.declared.stand.Stand.TheVariants.{Nowhere, Ahead, Waiting}
+use Rattle.sim_stations.specs.declared.key_place.KeyPlace.{KeyPlace}
+use Rattle.sim_stations.specs.declared.key_place.KeyPlace.TheVariants.{Nowhere, Ahead, Waiting}
 use Rattle.sim_stations.specs.Stations.{waits_for_room, when_free, pair_at, held}
 use Rattle.sim_stations.specs.Moves.{one_if}
 use Rattle.sim_stations.specs.Rows.{Rowed, IsHead, side_of, shown}
@@ -42,30 +42,30 @@ pub record HasOneBefore (waiting : Grouped Timed) (station : ℕ) (key : Timed) 
   pub before : event_before key first ≡ false
 
 -- where a slot has its key, by what it has ahead and what it has waiting
-abbrev pub stand_of : Option Timed → Option Timed → Stand
+abbrev pub stand_of : Option Timed → Option Timed → KeyPlace
 stand_of (Some _) waiting = Ahead
 stand_of None (Some _) = Waiting
 stand_of None None = Nowhere
 
 -- a slot that stands there has a key
-abbrev pub has_key : Stand → Bool
+abbrev pub has_key : KeyPlace → Bool
 has_key Nowhere = false
 has_key Ahead = true
 has_key Waiting = true
 
 -- a slot that stands there waits
-abbrev pub is_waiting : Stand → Bool
+abbrev pub is_waiting : KeyPlace → Bool
 is_waiting Nowhere = false
 is_waiting Ahead = false
 is_waiting Waiting = true
 
 -- it is known where each slot has its key
-pub record AreStands (stands : List Stand) (ahead : List (Option Timed)) (waiting : Grouped Timed) : Type 0 where
+pub record AreStands (stands : List KeyPlace) (ahead : List (Option Timed)) (waiting : Grouped Timed) : Type 0 where
   pub each : length stands ≡ length waiting.keys
   pub tells : (slot : ℕ) → slice_index_or stands slot Nowhere ≡ stand_of (key_at ahead slot) (key_at waiting.keys slot)
 
 -- all of it: the stations' least keys, and the resources, are not many
-pub record IsKept (ahead : List (Option Timed)) (waiting : Grouped Timed) (rows : Rowed) (stands : List Stand) : Type 0 where
+pub record IsKept (ahead : List (Option Timed)) (waiting : Grouped Timed) (rows : Rowed) (stands : List KeyPlace) : Type 0 where
   pub mapped : AreMapped ahead waiting rows.pairs
   pub shown : AreShown waiting rows.keys (length rows.pairs)
   pub stood : AreStands stands ahead waiting
@@ -84,7 +84,7 @@ IsFound ahead waiting None = Unit {0}
 IsFound ahead waiting (Some slot) = IsSoleLeast event_before ahead slot ⊎ IsSoleLeastOf event_before waiting slot
 
 -- a slot has left, whose station's resources are free at these times from now on
-pub record IsDeparted (ahead : List (Option Timed)) (waiting : Grouped Timed) (rows : Rowed) (stands : List Stand) (slot cpu side : ℕ) (new_ahead : List (Option Timed)) (new_waiting : Grouped Timed) (new_rows : Rowed) : Type 0 where
+pub record IsDeparted (ahead : List (Option Timed)) (waiting : Grouped Timed) (rows : Rowed) (stands : List KeyPlace) (slot cpu side : ℕ) (new_ahead : List (Option Timed)) (new_waiting : Grouped Timed) (new_rows : Rowed) : Type 0 where
   pub kept : IsKept new_ahead new_waiting new_rows (slice_set stands slot Nowhere)
   pub each : length (seen_of new_ahead new_waiting new_rows) ≡ length (seen_of ahead waiting rows)
   pub gone : key_at (seen_of new_ahead new_waiting new_rows) slot ≡ None

@@ -8,15 +8,15 @@ use Rattle.goal_graph.specs.declared.action.Class.{Class}
 use Rattle.goal_graph.specs.declared.action.Class.TheVariants.{Arrive, Serve, Data, Post, Begin}
 use Rattle.sim_heaps.specs.Map.{key_at}
 use Rattle.sim_stations.specs.declared.pair.Pair.{Pair}
-use Rattle.sim_stations.specs.declared.stand.Stand.{Stand}
-use Rattle.sim_stations.specs.declared.stand.Stand.TheVariants.{Nowhere, Ahead, Waiting}
+use Rattle.sim_stations.specs.declared.key_place.KeyPlace.{KeyPlace}
+use Rattle.sim_stations.specs.declared.key_place.KeyPlace.TheVariants.{Nowhere, Ahead, Waiting}
 
 -- What each slot has, a key or none, its station, and where its key stands; the two resources of each station, and whether
 -- what waits there waits at the second; when each resource is free; and the slot that was found to have the least key.
 pub record Stationed : Type 0 where
   pub keys : List (Option Timed)
   pub stations : List ℕ
-  pub stands : List Stand
+  pub stands : List KeyPlace
   pub pairs : List Pair
   pub turned : List Bool
   pub free : List ℕ
@@ -70,16 +70,16 @@ abbrev pub AreOfSlots : List OpId → List (Option Timed) → Type 0
 AreOfSlots operations keys = (slot : ℕ) (k : Timed) → key_at keys slot ≡ Some k → slice_get operations slot ≡ Some k.op
 
 -- how many keys stand for themselves
-abbrev pub one_ahead : Stand → ℕ
+abbrev pub one_ahead : KeyPlace → ℕ
 one_ahead Nowhere = 0
 one_ahead Ahead = 1
 one_ahead Waiting = 0
 
-abbrev pub count_ahead : List Stand → ℕ
+abbrev pub count_ahead : List KeyPlace → ℕ
 count_ahead stands = sum_by one_ahead stands
 
 -- what it costs at most, among 2^k slots, that these keys begin to wait, and that stations change their places so often
-abbrev pub cost_of_waiting : ℕ → List Stand → ℕ
+abbrev pub cost_of_waiting : ℕ → List KeyPlace → ℕ
 cost_of_waiting k stands = count_ahead stands * (8 * k + 12)
 
 abbrev pub cost_of_moves : ℕ → ℕ → ℕ

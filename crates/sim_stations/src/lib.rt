@@ -1,13 +1,13 @@
 //! A queue of events whose slots wait with their stations: a station waits at that of its two resources which is free later.
 #![tactic(auto)]
 
+mod key_place;
 mod laws;
 mod pair;
 mod rows;
-mod stand;
 mod station_queue;
 
+pub use key_place::KeyPlace;
 pub use laws::laws_of_changes;
 pub use pair::Pair;
-pub use stand::Stand;
 pub use station_queue::{StationQueue, waits_for_room};

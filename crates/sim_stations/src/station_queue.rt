@@ -6,14 +6,14 @@ ghost use Rattle.goal_graph.specs.Schedule.{operations};
 ghost use Rattle.sim_order.specs.Events.{event_before};
 ghost use Rattle.sim_heaps.specs.Map.{key_at, IsEmptyMap, IsLeast, IsSoleLeast};
 ghost use Rattle.goal_graph.specs.declared.action.Timed.{Timed};
-ghost use Rattle.sim_stations.specs.declared.stand.Stand.TheVariants.{Nowhere};
+ghost use Rattle.sim_stations.specs.declared.key_place.KeyPlace.TheVariants.{Nowhere};
 ghost use Rattle.sim_stations.specs.Stations.{waits_for_room, at_time, both_free, earliest, when_free, pair_at, pair_of, held, DoExist, IsLater, AreOfSlots, count_ahead, cost_of_waiting, cost_of_moves};
 ghost use Rattle.sim_stations.specs.Moves.{HaveReturned, HaveMoved, held_once_more};
 ghost use Rattle.sim_stations.specs.Rows.{IsFirst};
 ghost use Rattle.sim_stations.specs.Kept.{has_key, is_waiting, seen_of, AreShown, IsKept, IsFound, IsFirstOfAll, IsDeparted, IsBeforeAll, HasOneBefore};
 
 use crate::rows::Rows;
-use crate::{Pair, Stand};
+use crate::{KeyPlace, Pair};
 use goal_base::NoMemory;
 use goal_graph::{Class, Sched};
 use sim_groups::Groups;
@@ -34,22 +34,22 @@ pub fn waits_for_room(class: Class) -> bool
 }
 
 // Whether a slot that stands there has a key.
-fn has_key(stand: Stand) -> bool
+fn has_key(stand: KeyPlace) -> bool
     ensures { result ≡ has_key stand }
 {
     match stand {
-        Stand::Nowhere => false,
-        Stand::Ahead | Stand::Waiting => true,
+        KeyPlace::Nowhere => false,
+        KeyPlace::Ahead | KeyPlace::Waiting => true,
     }
 }
 
 // Whether a slot that stands there waits.
-fn is_waiting(stand: Stand) -> bool
+fn is_waiting(stand: KeyPlace) -> bool
     ensures { result ≡ is_waiting stand }
 {
     match stand {
-        Stand::Waiting => true,
-        Stand::Nowhere | Stand::Ahead => false,
+        KeyPlace::Waiting => true,
+        KeyPlace::Nowhere | KeyPlace::Ahead => false,
     }
 }
 
@@ -213,7 +213,7 @@ fn begin_to_wait<L: Ledger>(
     ahead: &mut RunHeap,
     waiting: &mut Groups,
     rows: &mut Rows,
-    stands: &mut [Stand],
+    stands: &mut [KeyPlace],
     slot: u32,
     key: CompactKey,
     steps: &mut Steps<L>,
@@ -235,7 +235,7 @@ fn begin_to_wait<L: Ledger>(
 {
     ahead.take(slot, steps);
     join(waiting, rows, slot, key, steps);
-    stands[slot as usize] = Stand::Waiting;
+    stands[slot as usize] = KeyPlace::Waiting;
 }
 
 // Lets slots wait and stations go over until the key that is looked at first is at the earliest time at which its action can
@@ -244,7 +244,7 @@ fn settle<L: Ledger, R: Ledger>(
     ahead: &mut RunHeap,
     waiting: &mut Groups,
     rows: &mut Rows,
-    stands: &mut [Stand],
+    stands: &mut [KeyPlace],
     sched: &Sched,
     steps: &mut Steps<L>,
     moves: &mut Steps<R>,
@@ -286,7 +286,7 @@ fn depart<L: Ledger>(
     ahead: &mut RunHeap,
     waiting: &mut Groups,
     rows: &mut Rows,
-    stands: &[Stand],
+    stands: &[KeyPlace],
     slot: u32,
     cpu: u64,
     side: u64,
@@ -328,7 +328,7 @@ pub struct StationQueue {
     // the least key of each station, where it waits
     rows: Rows,
     // where each slot has its key
-    stands: Vec<Stand>,
+    stands: Vec<KeyPlace>,
     // the slot of the least key, where it is known
     found: Option<u32>,
 }
@@ -365,7 +365,7 @@ impl StationQueue {
             ahead: RunHeap::new(alloc, numbers.len() as u32)?,
             waiting: Groups::new(alloc, numbers, pairs.len() as u32)?,
             rows: Rows::new(alloc, pairs, resources)?,
-            stands: vec![in alloc; Stand::Nowhere; numbers.len()]?,
+            stands: vec![in alloc; KeyPlace::Nowhere; numbers.len()]?,
             found: None,
         })
     }
@@ -408,10 +408,10 @@ impl StationQueue {
         let station = self.waiting.group(slot);
         if may_wait(&self.waiting, &self.rows, station, key, steps) {
             join(&mut self.waiting, &mut self.rows, slot, key, steps);
-            self.stands[slot as usize] = Stand::Waiting;
+            self.stands[slot as usize] = KeyPlace::Waiting;
         } else {
             self.ahead.put(slot, key, steps);
-            self.stands[slot as usize] = Stand::Ahead;
+            self.stands[slot as usize] = KeyPlace::Ahead;
         }
     }
 
@@ -464,7 +464,7 @@ impl StationQueue {
     {
         self.found = None;
         self.ahead.take(slot, steps);
-        self.stands[slot as usize] = Stand::Nowhere;
+        self.stands[slot as usize] = KeyPlace::Nowhere;
     }
 
     /// Takes out the key that was found to be the least, whose action holds the resources of its slot: they are free at these
@@ -493,6 +493,6 @@ impl StationQueue {
             side,
             steps,
         );
-        self.stands[slot as usize] = Stand::Nowhere;
+        self.stands[slot as usize] = KeyPlace::Nowhere;
     }
 }

@@ -1,7 +1,7 @@
 use Rattle.std.proofs.Common.{◌≡◌, ℕ, List, Result, Ok, Err, IfOk, None, replicate, false, length, [], sym, subst}
 use Rattle.sim_params.specs.Costs.{CostModel}
 use Rattle.sim_stations.specs.declared.pair.Pair.{Pair}
-use Rattle.sim_stations.specs.declared.stand.Stand.TheVariants.{Nowhere}
+use Rattle.sim_stations.specs.declared.key_place.KeyPlace.TheVariants.{Nowhere}
 use Rattle.sim_stations.specs.Stations.{DoExist}
 use Rattle.sim_events.specs.Stations.{AreStationed}
 use Rattle.sim_events.specs.Queue.{IsOfSchedule}

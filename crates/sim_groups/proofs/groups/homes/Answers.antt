@@ -3,14 +3,14 @@ use Rattle.std.proofs.lemmas.Bool.{cases_lt}
 use Rattle.std.proofs.lemmas.List.{take_more, take_all, get_or_past}
 use Rattle.std.proofs.lemmas.List.Elements.{All-get_or, All-from_get_or}
 use Rattle.std.proofs.lemmas.List.Sums.{sum_by-le, sum_by-set}
-use Rattle.sim_groups.specs.declared.groups.Home.{Home}
+use Rattle.sim_groups.specs.declared.groups.PlaceInGroup.{PlaceInGroup}
 use Rattle.sim_groups.specs.Groups.{AreHomes}
 use Rattle.sim_groups.proofs.Homes.{no_homes, home_given, counted, counted_within}
 use Rattle.sim_groups.proofs.groups.homes.Goals as goal
 
 pub slots-init : goal.slots-init
 slots-init c = record {
-  given = subst (λ (hs : List Home). AreHomes [] hs c.args.counts.now) (sym c.in_ok-homes.ensures.items) (no_homes c.args.counts.now);
+  given = subst (λ (hs : List PlaceInGroup). AreHomes [] hs c.args.counts.now) (sym c.in_ok-homes.ensures.items) (no_homes c.args.counts.now);
   few = zeros;
   all = omega (arith, sum_by-le (λ n. n) 0 c.args.counts.now (All-from_get_or (λ n. n ≤ 0) c.args.counts.now 0 (λ group h. zeros group)));
 }
@@ -32,7 +32,7 @@ slots-preserved c =
     let exists : group < length c.slots.counts = omega (arith, All-get_or (λ n. n < length c.args.counts.now) c.args.numbers.now c.slots.number-index 0 c.slots-test.true c.requires.within, c.slots.auto.counts) in
     let given = home_given c.slots.counts group exists (take c.slots.number-index c.args.numbers.now) c.slots.homes.items c.slots.invariant.given in
     record {
-      given = subst (λ (ns : List ℕ). AreHomes ns c.push.new.self.items (counted c.slots.counts group exists)) (sym (take_more c.args.numbers.now c.slots.number-index 0 c.slots-test.true)) (subst (λ (hs : List Home). AreHomes (take c.slots.number-index c.args.numbers.now ++ group ∷ []) hs (counted c.slots.counts group exists)) (sym c.in_ok-push.ensures.items) given);
+      given = subst (λ (ns : List ℕ). AreHomes ns c.push.new.self.items (counted c.slots.counts group exists)) (sym (take_more c.args.numbers.now c.slots.number-index 0 c.slots-test.true)) (subst (λ (hs : List PlaceInGroup). AreHomes (take c.slots.number-index c.args.numbers.now ++ group ∷ []) hs (counted c.slots.counts group exists)) (sym c.in_ok-push.ensures.items) given);
       few = counted_within c.slots.counts group exists c.slots.number-index c.slots.invariant.few;
       all = omega (arith, sum_by-set (λ n. n) c.slots.counts group (slice_index c.slots.counts group + 1) 0 exists, c.slots.invariant.all);
     }

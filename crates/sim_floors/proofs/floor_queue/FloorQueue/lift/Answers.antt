@@ -2,7 +2,7 @@ use Rattle.std.proofs.Common.{◌≡◌, set, Some, None, true, is_some, sym, ap
 use Rattle.std.proofs.lemmas.Option.{same_Some}
 use Rattle.goal_graph.specs.declared.action.Timed.{Timed}
 use Rattle.sim_order.specs.Events.{event_before}
-use Rattle.sim_floors.specs.declared.floor_queue.Stand.TheVariants.{Waiting}
+use Rattle.sim_floors.specs.declared.floor_queue.KeyPlace.TheVariants.{Waiting}
 use Rattle.sim_heaps.specs.Map.{key_at, IsSoleLeast}
 use Rattle.sim_floors.specs.Floors.{Floored, waits_at, waits_for_room, at_time, IsFloorBy, IsLifted, IsLiftCounted, seen_keys, stand_of}
 use Rattle.sim_heaps.proofs.ForCallers.{key_within, least_is_sole}

@@ -1,7 +1,7 @@
 use Rattle.std.proofs.Common.{◌<◌, length, is_some, ap, ◌∙◌, arith}
 use Rattle.std.proofs.lemmas.List.{get_or_read}
 use Rattle.sim_heaps.specs.Map.{key_at}
-use Rattle.sim_stations.specs.declared.stand.Stand.TheVariants.{Nowhere}
+use Rattle.sim_stations.specs.declared.key_place.KeyPlace.TheVariants.{Nowhere}
 use Rattle.sim_stations.specs.Stations.{Stationed}
 use Rattle.sim_stations.specs.Kept.{has_key}
 use Rattle.sim_stations.proofs.Changed.{seen_size, stand_key}

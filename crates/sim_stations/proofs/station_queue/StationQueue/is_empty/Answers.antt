@@ -2,7 +2,7 @@ use Rattle.std.proofs.Common.{◌≡◌, Bool, true, false, not, List, Option, S
 use Rattle.goal_graph.specs.declared.action.Timed.{Timed}
 use Rattle.sim_heaps.specs.Map.{IsEmptyMap}
 use Rattle.sim_groups.specs.Groups.{Grouped}
-use Rattle.sim_stations.specs.declared.stand.Stand.{Stand}
+use Rattle.sim_stations.specs.declared.key_place.KeyPlace.{KeyPlace}
 use Rattle.sim_stations.specs.declared.station_queue.Look.{Look}
 use Rattle.sim_stations.specs.Stations.{Stationed}
 use Rattle.sim_stations.specs.Rows.{Rowed}
@@ -11,7 +11,7 @@ use Rattle.sim_stations.proofs.Least.{not_empty, empty_both}
 use Rattle.sim_stations.proofs.station_queue.StationQueue.is_empty.Goals as goal
 
 -- whether a first key is told
-told : (ahead : List (Option Timed)) (waiting : Grouped Timed) (rows : Rowed) (stands : List Stand) → IsKept ahead waiting rows stands → (r : Option Look) → (is_some r ≡ false → IsEmptyMap ahead × IsEmptyMap rows.keys) → IfSome r (λ f. IsFirstOfAll ahead rows f.key f.is_ahead) → (b : Bool) → is_some r ≡ not b → (IsTrue b → IsEmptyMap (seen_of ahead waiting rows)) × (IsEmptyMap (seen_of ahead waiting rows) → IsTrue b)
+told : (ahead : List (Option Timed)) (waiting : Grouped Timed) (rows : Rowed) (stands : List KeyPlace) → IsKept ahead waiting rows stands → (r : Option Look) → (is_some r ≡ false → IsEmptyMap ahead × IsEmptyMap rows.keys) → IfSome r (λ f. IsFirstOfAll ahead rows f.key f.is_ahead) → (b : Bool) → is_some r ≡ not b → (IsTrue b → IsEmptyMap (seen_of ahead waiting rows)) × (IsEmptyMap (seen_of ahead waiting rows) → IsTrue b)
 told ahead waiting rows stands kept None none first true e = (λ t. let both = none refl in empty_both ahead waiting rows stands kept both.0 both.1, λ empty. refl)
 told ahead waiting rows stands kept None none first false e = absurd (cc)
 told ahead waiting rows stands kept (Some f) none first true e = absurd (cc)

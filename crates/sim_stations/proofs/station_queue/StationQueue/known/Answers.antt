@@ -5,19 +5,19 @@ use Rattle.std.proofs.lemmas.List.Sums.{sum_by-cons}
 use Rattle.goal_graph.specs.declared.action.Timed.{Timed}
 use Rattle.sim_heaps.specs.Map.{either, key_at}
 use Rattle.sim_stations.specs.declared.pair.Pair.{Pair}
-use Rattle.sim_stations.specs.declared.stand.Stand.{Stand}
-use Rattle.sim_stations.specs.declared.stand.Stand.TheVariants.{Nowhere}
+use Rattle.sim_stations.specs.declared.key_place.KeyPlace.{KeyPlace}
+use Rattle.sim_stations.specs.declared.key_place.KeyPlace.TheVariants.{Nowhere}
 use Rattle.sim_stations.specs.Stations.{Stationed, when_free, pair_at, one_ahead, count_ahead}
 use Rattle.sim_stations.specs.Kept.{seen_keys, stand_of}
 use Rattle.sim_stations.proofs.station_queue.StationQueue.known.Goals as goal
 
 -- a slot that stands for itself has a key
-one_has : (f : Timed → Timed) (s : Stand) (a w : Option Timed) → s ≡ stand_of a w → one_ahead s ≤ cond (is_some (option_map f (either a w))) 1 0
+one_has : (f : Timed → Timed) (s : KeyPlace) (a w : Option Timed) → s ≡ stand_of a w → one_ahead s ≤ cond (is_some (option_map f (either a w))) 1 0
 one_has f s (Some k) w e = omega (arith, ap one_ahead e)
 one_has f s None (Some k) e = omega (arith, ap one_ahead e)
 one_has f s None None e = omega (arith, ap one_ahead e)
 
-all_have : (free : List ℕ) (pairs : List Pair) (ahead waiting : List (Option Timed)) (groups : List ℕ) (stands : List Stand) → length ahead ≡ length waiting → length groups ≡ length waiting → length stands ≡ length waiting → ((slot : ℕ) → slice_index_or stands slot Nowhere ≡ stand_of (key_at ahead slot) (key_at waiting slot)) → sum_by one_ahead stands ≤ count_by is_some (seen_keys free pairs ahead waiting groups)
+all_have : (free : List ℕ) (pairs : List Pair) (ahead waiting : List (Option Timed)) (groups : List ℕ) (stands : List KeyPlace) → length ahead ≡ length waiting → length groups ≡ length waiting → length stands ≡ length waiting → ((slot : ℕ) → slice_index_or stands slot Nowhere ≡ stand_of (key_at ahead slot) (key_at waiting slot)) → sum_by one_ahead stands ≤ count_by is_some (seen_keys free pairs ahead waiting groups)
 unfolding seen_keys
 all_have free pairs ahead waiting groups [] d e f tells = omega arith
 all_have free pairs (a ∷ ahead) (w ∷ waiting) (g ∷ groups) (s ∷ stands) d e f tells =

@@ -1,6 +1,6 @@
 use Rattle.std.proofs.Common.{◌≡◌, ◌≤◌, ◌<◌, ◌+◌, ◌*◌, ◌^◌, Some, None, length, set, slice_index, sym, ap, ◌∙◌, subst, arith}
 use Rattle.sim_heaps.specs.Map.{key_at}
-use Rattle.sim_stations.specs.declared.stand.Stand.TheVariants.{Ahead, Waiting}
+use Rattle.sim_stations.specs.declared.key_place.KeyPlace.TheVariants.{Ahead, Waiting}
 use Rattle.sim_stations.specs.Stations.{Stationed, both_free, when_free, pair_at, pair_of, count_ahead, cost_of_waiting}
 use Rattle.sim_stations.specs.Kept.{seen_of}
 use Rattle.std.proofs.lemmas.Option.{same_Some, slice_get-get_or}

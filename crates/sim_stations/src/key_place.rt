@@ -2,7 +2,7 @@
 
 /// Where a slot has its key.
 #[derive(Clone, Copy, Debug)]
-pub enum Stand {
+pub enum KeyPlace {
     /// It has none.
     Nowhere,
     /// It has one for itself.
