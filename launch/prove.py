@@ -151,7 +151,9 @@ def fail(why):
 def prove_libraries(rt, log, crates):
     """Proves and builds the libraries; whether all are proved."""
     rt.rtlib.guarded()
-    rt.share_work(True)
+    # (a kit of before 13f has no work that checkouts share)
+    if hasattr(rt, "share_work"):
+        rt.share_work(True)
     locks = rt.rtlib.lock(crates)
 
     def prove(crate, jobs):

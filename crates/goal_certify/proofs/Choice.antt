@@ -1,6 +1,6 @@
 -- Which action of one operation may happen, class by class.
-use Rattle.std.proofs.Common.{◌≡◌, ◌&&◌, Bool, true, false, not, List, Option, Some, None, inl, inr, refl, sym, ap, ◌∙◌, subst}
-use Rattle.std.proofs.lemmas.Bool.{both_ways, false_from_ne_true}
+use Rattle.std.proofs.Common.{⊎_elim, ◌≡◌, ◌&&◌, Bool, true, false, not, List, Option, Some, None, inl, inr, refl, sym, ap, ◌∙◌, subst}
+use Rattle.std.proofs.lemmas.Bool.{cases_Bool, both_ways, false_from_ne_true}
 use Rattle.goal_graph.specs.declared.action.OpId.{OpId}
 use Rattle.goal_graph.specs.declared.action.Class.{Class}
 use Rattle.goal_graph.specs.declared.action.Class.TheVariants.{Arrive, Serve, Data, Post, Begin}
@@ -66,6 +66,23 @@ module _ (plans : List Plan) (h : List Act) (x : OpId) where
       only Data e = absurd (not_send_receive plans x (allowed_data plans no_send h x e).0 k)
       only Post e = absurd (not_true Post p e)
       only Serve e = refl
+
+  -- where an action may happen, and none of the others
+  abbrev MayAct : Type 0
+  MayAct = (c : Class) × (may_act plans h c x ≡ true)
+
+  the_other : (c : Class) → (may_act plans h c x ≡ false → IsIdle plans h x) → MayAct → may_act plans h c x ≡ true
+  the_other c idle some =
+      ⊎_elim (λ yes. yes) (λ no. absurd (both_ways _ (idle no some.0) some.1)) (cases_Bool (may_act plans h c x))
+
+  pub calc_begins : IsCalc plans x → MayAct → may_act plans h Begin x ≡ true
+  calc_begins k = the_other Begin (calc_idle k)
+
+  pub send_begins : IsSend plans x → may_act plans h Arrive x ≡ false → may_act plans h Data x ≡ false → MayAct → may_act plans h Begin x ≡ true
+  send_begins k a d = the_other Begin (λ b. send_idle k b a d)
+
+  pub receive_posts : IsReceive plans x → may_act plans h Serve x ≡ false → MayAct → may_act plans h Post x ≡ true
+  receive_posts k s = the_other Post (λ p. receive_idle k p s)
 
   -- what may happen, by the kind
   of_kind : (c : Class) (k : Kind) → kind_at plans x ≡ Some k → may_act plans h c x ≡ (not (happened c x h) && may plans no_send h c x (Some k))

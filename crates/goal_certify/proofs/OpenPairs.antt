@@ -3,7 +3,7 @@ use Rattle.std.proofs.Common.{⊎_elim, ℕ, ◌≡◌, ◌<◌, ◌≤◌, ◌�
 use Rattle.std.specs.Option.{option_map, option_and_then}
 use Rattle.std.proofs.lemmas.Bool.{cases_lt, and_parts, cases_Bool}
 use Rattle.std.proofs.lemmas.Option.{slice_get_within, slice_get_read}
-use Rattle.std.proofs.lemmas.List.Elements.{Contains-get_or}
+use Rattle.std.proofs.lemmas.List.Elements.{All-contains, Contains-get_or}
 use Rattle.goal_graph.specs.declared.action.OpId.{OpId}
 use Rattle.goal_graph.specs.declared.plan.Op.{Op}
 use Rattle.goal_graph.specs.Schedule.{Plan, op_at, kind_at, ops_at}
@@ -21,7 +21,7 @@ use Rattle.goal_certify.specs.Before.{op_id, AreRows}
 use Rattle.goal_certify.specs.Touches.{touches_of, AreTouches}
 use Rattle.goal_certify.proofs.Touches.{are_touches}
 use Rattle.goal_certify.specs.Table.{AreMarked, meets, AreShared}
-use Rattle.goal_certify.specs.Races.{is_open, IsMutual, IsFirstOpen, IsLeastSlot, race_at, IsFirstOfRank}
+use Rattle.goal_certify.specs.Races.{is_open, IsMutual, IsOrdered, IsFirstOpen, IsLeastSlot, race_at, IsFirstOfRank}
 
 -- what is open shares a slot
 open_shared : (before shared : List ℕ) (x y : ℕ) → is_open before shared x y ≡ true → has shared x y ≡ false → ⊥
@@ -102,6 +102,19 @@ module _ (plans : List Plan) (rank : ℕ) (touches : List Touch) (touchers write
       let s : Share x y t.0.slot = subst (λ (k : ℕ). Share k y t.0.slot) t.2 (meets_sound t.0 t.1 y high t.3) in
       let other : Met y x t.0.slot = meets_all y x t.0.slot (s.1, s.0, ⊎_elim inr inl s.2) in
       subst (λ (k : ℕ). has shared k x ≡ true) other.2 (sharing.has_all other.0 other.1 x low other.4)
+
+  -- where all that shares a slot is in the order of the numbers there is no race
+  pub ordered_no_race : (before : List ℕ) → AreRows plans rank before (λ op. op < length (ops_at plans rank)) → length (ops_at plans rank) ≤ 2048 → All (IsOrdered before touchers writers) touches → IsFirstOfRank plans rank None
+  ordered_no_race before rows few ordered a e r =
+      let x = a.first in
+      let y = a.second in
+      let here : IsRace plans (record { rank = rank; first = x; second = y; slot = a.slot }) = subst (λ (k : ℕ). IsRace plans (record { rank = k; first = x; second = y; slot = a.slot })) e r in
+      let met : Met y x a.slot = meets_all y x a.slot (here.second_touches, here.first_touches, ⊎_elim inr inl here.one_writes) in
+      let inside : met.0.op < length (ops_at plans rank) = known.op_below met.0 met.1 in
+      let lower : x < y = here.in_order in
+      let own : IsOrdered before touchers writers met.0 = All-contains (IsOrdered before touchers writers) touches met.0 ordered met.1 in
+      let there : has before y x ≡ true = subst (λ (k : ℕ). has before k x ≡ true) met.2 (own x (omega (arith, lower, met.2)) met.4) in
+      here.not_before (rows.sound y x (omega (arith, lower, inside, met.2, few)) there)
 
   module _ (before shared : List ℕ) (rows : AreRows plans rank before (λ op. op < length (ops_at plans rank))) (sharing : AreShared touchers writers touches shared) (few : length (ops_at plans rank) ≤ 2048) where
     open_parts : (x y : ℕ) → is_open before shared x y ≡ true → (has shared x y ≡ true) × (has before y x ≡ false) × (has before x y ≡ false)

@@ -118,10 +118,9 @@ module _ (plans : List Plan) (h : List Act) where
     found_at items are slot k d has =
         slice_get-get_or (operations plans) slot d (within slot k has) ∙ ap (λ (xs : List OpId). Some (get_or xs slot d)) (sym are)
 
-    pub not_idle : (slot : ℕ) (k : ℕ) (x : OpId) → key_at keys slot ≡ Some k → slice_get (operations plans) slot ≡ Some x → IsIdle plans h x → ⊥
-    not_idle slot k x has at idle =
-        let is = subst (λ (o : Option ℕ). IsKeyOf plans h slot x o) has (bound slot x at) in
-        both_ways _ (idle is.1.0) is.1.1
+    -- an action of it may happen
+    pub may_some : (slot : ℕ) (k : ℕ) (x : OpId) → key_at keys slot ≡ Some k → slice_get (operations plans) slot ≡ Some x → (class : Class) × (may_act plans h class x ≡ true)
+    may_some slot k x has at = (subst (λ (o : Option ℕ). IsKeyOf plans h slot x o) has (bound slot x at)).1
 
     own_place : (slot : ℕ) (k : ℕ) (x : OpId) → key_at keys slot ≡ Some k → slice_get (operations plans) slot ≡ Some x → k ≡ slot
     own_place slot k x has at = (subst (λ (o : Option ℕ). IsKeyOf plans h slot x o) has (bound slot x at)).0

@@ -1,8 +1,9 @@
 -- What writes of words do to rows of bits.
-use Rattle.std.proofs.Common.{◌≡◌, ◌≢◌, ℕ, ◌+◌, ◌*◌, ◌/◌, ◌%◌, ◌^◌, ◌-◌, ◌<◌, ◌≤◌, ◌⊎◌, Bool, true, false, eqb, List, ◌++◌, length, replicate, get_or, set, refl, sym, ap, ◌∙◌, inl, inr, ⊎_elim, arith, w64, eq-eqb, ne_eqb, get_or-set_same, get_or-set_other, true≢false}
-use Rattle.std.proofs.lemmas.Bool.{cases_eq, cases_lt}
+use Rattle.std.proofs.Common.{◌≡◌, ◌≢◌, ℕ, ◌+◌, ◌*◌, ◌/◌, ◌%◌, ◌^◌, ◌-◌, ◌<◌, ◌≤◌, ◌⊎◌, Bool, true, false, eqb, List, ◌++◌, length, replicate, get_or, set, refl, sym, ap, ◌∙◌, subst, inl, inr, ⊎_elim, arith, w64, eq-eqb, ne_eqb, get_or-set_same, get_or-set_other, true≢false}
+use Rattle.std.proofs.lemmas.Bool.{cases_eq, cases_lt, cases_Bool}
 use Rattle.std.proofs.Math.ListN.{get_or-append}
 use Rattle.std.proofs.Math.Seq.{get_or-append_right}
+use Rattle.std.proofs.lemmas.Nat.{and_le_l}
 use Rattle.std.proofs.lemmas.List.{get_or-replicate, get_or_past, length-replicate}
 use Rattle.std.proofs.lemmas.Nat.Bits.{bit_at_set_same, bit_at_set_other, bit_at-zero, bit_at-trailing_zeros, bit_at_or, bit_at-lt, bit_at_and, bit_at_not}
 use Rattle.std.specs.Prelude.{bit_or, bit_and}
@@ -219,11 +220,26 @@ below_lowest word i fits low =
     ]
 
 -- where the bit is not one of those that the one row has without the other, the other has it too
-pub none_alone : (these others : List ℕ) (row k : ℕ) → k < 2048 → get_or others (32 * row + k / 64) 0 < 2 ^ 64 → bit_at (bit_and (get_or these (32 * row + k / 64) 0) (bit_not w64 (get_or others (32 * row + k / 64) 0))) (k % 64) ≡ 0 → has these row k ≡ true → has others row k ≡ false → ⊥
+pub none_beside : (these : List ℕ) (row : ℕ) (others : List ℕ) (other k : ℕ) → k < 2048 → get_or others (32 * other + k / 64) 0 < 2 ^ 64 → bit_at (bit_and (get_or these (32 * row + k / 64) 0) (bit_not w64 (get_or others (32 * other + k / 64) 0))) (k % 64) ≡ 0 → has these row k ≡ true → has others other k ≡ false → ⊥
 unfolding has
-none_alone these others row k small fits none h alone =
+none_beside these row others other k small fits none h alone =
     let x : bit_at (get_or these (32 * row + k / 64) 0) (k % 64) ≡ 1 = is_one _ h in
-    let y : bit_at (get_or others (32 * row + k / 64) 0) (k % 64) ≢ 1 = λ e. true≢false (sym (eq-eqb _ 1 e) ∙ alone) in
-    let z : bit_at (get_or others (32 * row + k / 64) 0) (k % 64) < 2 = bit_at-lt _ (k % 64) in
-    let n : bit_at (bit_not w64 (get_or others (32 * row + k / 64) 0)) (k % 64) ≡ 1 - bit_at (get_or others (32 * row + k / 64) 0) (k % 64) = bit_at_not w64 _ (k % 64) fits (omega arith) in
-    omega (arith, none, n, x, y, z, bit_at_and (get_or these (32 * row + k / 64) 0) (bit_not w64 (get_or others (32 * row + k / 64) 0)) (k % 64))
+    let y : bit_at (get_or others (32 * other + k / 64) 0) (k % 64) ≢ 1 = λ e. true≢false (sym (eq-eqb _ 1 e) ∙ alone) in
+    let z : bit_at (get_or others (32 * other + k / 64) 0) (k % 64) < 2 = bit_at-lt _ (k % 64) in
+    let n : bit_at (bit_not w64 (get_or others (32 * other + k / 64) 0)) (k % 64) ≡ 1 - bit_at (get_or others (32 * other + k / 64) 0) (k % 64) = bit_at_not w64 _ (k % 64) fits (omega arith) in
+    omega (arith, none, n, x, y, z, bit_at_and (get_or these (32 * row + k / 64) 0) (bit_not w64 (get_or others (32 * other + k / 64) 0)) (k % 64))
+
+pub none_alone : (these others : List ℕ) (row k : ℕ) → k < 2048 → get_or others (32 * row + k / 64) 0 < 2 ^ 64 → bit_at (bit_and (get_or these (32 * row + k / 64) 0) (bit_not w64 (get_or others (32 * row + k / 64) 0))) (k % 64) ≡ 0 → has these row k ≡ true → has others row k ≡ false → ⊥
+none_alone these others row k = none_beside these row others row k
+
+-- the words of two rows at one place, where the first has no number below a bound without the other
+module _ (these : List ℕ) (row : ℕ) (others : List ℕ) (other place bound : ℕ) where
+  abbrev alone : ℕ
+  alone = bit_and (get_or these (32 * row + place) 0) (bit_not w64 (get_or others (32 * other + place) 0))
+
+  pub covered_word : bound ≤ 2048 → get_or these (32 * row + place) 0 < 2 ^ 64 → get_or others (32 * other + place) 0 < 2 ^ 64 → (alone ≡ 0) ⊎ (bound ≤ 64 * place + trailing_zeros w64 alone) → (k : ℕ) → k < bound → k / 64 ≡ place → has these row k ≡ true → has others other k ≡ true
+  covered_word few fits_these fits_others none k low here h =
+      let zero_bit : bit_at alone (k % 64) ≡ 0 = ⊎_elim (λ e. ap (λ w. bit_at w (k % 64)) e ∙ bit_at-zero (k % 64)) (λ above. below_lowest alone (k % 64) (omega (arith, and_le_l (get_or these (32 * row + place) 0) (bit_not w64 (get_or others (32 * other + place) 0)), fits_these)) (omega (arith, above, low, here))) none in
+      let read : bit_at (bit_and (get_or these (32 * row + k / 64) 0) (bit_not w64 (get_or others (32 * other + k / 64) 0))) (k % 64) ≡ 0 = ap (λ (p : ℕ). bit_at (bit_and (get_or these (32 * row + p) 0) (bit_not w64 (get_or others (32 * other + p) 0))) (k % 64)) here ∙ zero_bit in
+      let fits : get_or others (32 * other + k / 64) 0 < 2 ^ 64 = subst (λ (p : ℕ). get_or others (32 * other + p) 0 < 2 ^ 64) (sym here) fits_others in
+      ⊎_elim (λ yes. yes) (λ no. absurd (none_beside these row others other k (omega (arith, low, few)) fits read h no)) (cases_Bool (has others other k))

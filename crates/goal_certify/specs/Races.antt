@@ -17,6 +17,11 @@ is_open before shared x y = has shared x y && (not (has before y x) && not (has 
 abbrev pub IsMutual : List ℕ → Type 0
 IsMutual rows = (x y : ℕ) → x < 2048 → y < 2048 → has rows x y ≡ true → has rows y x ≡ true
 
+-- what the touch meets of lesser numbers ends before its operation starts
+abbrev pub IsOrdered : List ℕ → List ℕ → List ℕ → Touch → Type 0
+IsOrdered before touchers writers t =
+    (k : ℕ) → k < t.op → meets touchers writers t k ≡ true → has before t.op k ≡ true
+
 -- the least operation y above x, of the first `count`, with which x is open
 abbrev pub IsNextOpen : List ℕ → List ℕ → ℕ → ℕ → Option ℕ → Type 0
 IsNextOpen before shared x count None = (y : ℕ) → x < y → y < count → is_open before shared x y ≡ true → ⊥

@@ -95,7 +95,7 @@ impl Ends {
     pub fn of(alloc: Global, sched: &Sched) -> Result<Ends, AllocError>
         ensures { IfOk result (λ ends. AreEndsOf sched.now ends) }
     {
-        let mut sorted = Vec::new(alloc);
+        let mut sorted = Vec::with_capacity(alloc, sched.count() as usize)?;
         for id in sched.operations() {
             match End::of(*id, sched.op(*id).kind) {
                 Some(end) => sorted.push(Entry { end, op: *id })?,

@@ -1,9 +1,10 @@
 // Races: two operations of a rank touch one slot, one of them writes it, and neither is before the other.
 //
 // Needs never leave a rank, so it goes rank by rank. `before` makes for each operation a row of bits: those that end
-// before it starts. `table` makes for each slot the row of the operations that touch it and of those that write it, and
-// from these for each operation the row of those with which it shares a slot that one of the two writes. `search` takes
-// the least pair in these rows, and its least slot.
+// before it starts. `table` makes for each slot the row of the operations that touch it and of those that write it. In most
+// ranks what shares a slot is in the order of the numbers, which `ordered` sees touch by touch. In the others `table` makes
+// from its rows for each operation the row of those with which it shares a slot that one of the two writes, and `search`
+// takes the least pair in these rows, and its least slot.
 ghost use Rattle.std.specs.Prelude.{◌≡◌, ◌<◌, ◌≤◌, true, false, length, OnOk, IfOk, IfErr};
 ghost use Rattle.goal_graph.specs.Schedule.{ops_at};
 ghost use Rattle.goal_blocks.specs.Certification.{IsSmall};
@@ -13,6 +14,7 @@ ghost use Rattle.goal_certify.specs.Table.{AreEmpty, AreMarked};
 ghost use Rattle.goal_certify.specs.Races.{IsFirstOfRank};
 
 mod before;
+mod ordered;
 mod rows;
 mod search;
 mod table;
@@ -21,6 +23,7 @@ mod touches;
 use before::rows_before;
 use goal_blocks::CertFault;
 use goal_graph::Sched;
+use ordered::are_ordered;
 use search::{first_open, least_slot};
 use std::alloc::{AllocError, Global};
 use table::{mark, shared_rows, wipe};
@@ -112,6 +115,9 @@ fn find_race(
 {
     let count = sched.op_count(rank);
     let before = rows_before(alloc, sched, rank)?;
+    if are_ordered(&before, touches, touchers, writers) {
+        return Ok(None);
+    }
     let shared = shared_rows(alloc, touches, touchers, writers, count as usize)?;
     let Some(pair) = first_open(&before, &shared, count) else {
         return Ok(None);

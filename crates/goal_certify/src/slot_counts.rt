@@ -12,7 +12,7 @@ use std::alloc::{AllocError, Global};
 pub fn slot_counts(alloc: Global, sched: &Sched) -> Result<Vec<u64>, AllocError>
     ensures { IfOk result (λ counts. counts.items ≡ map (λ x. length (slots sched.now x)) (operations sched.now)) }
 {
-    let mut counts = Vec::new(alloc);
+    let mut counts = Vec::with_capacity(alloc, sched.count() as usize)?;
     for plan in sched.plans() {
         let of_rank = counts_of_rank(alloc, &plan.notes, plan.ops.len())?;
         counts.extend_from_slice(&of_rank)?;

@@ -91,7 +91,7 @@ impl<'a> Walker<'a> {
         ensures each { IsInterleaving self.new.plans no_send self.new.history }
     {
         self.known();
-        let action = next(&self.state, &self.queue, &self.cursors)?;
+        let action = next(&self.state, &self.queue)?;
         self.state.perform(action);
         follow(&self.state, &mut self.queue, &mut self.cursors, action.op);
         Some(action)

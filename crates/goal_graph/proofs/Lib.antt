@@ -18,11 +18,13 @@ pub mod Eager
 pub mod Numbers
 pub mod Flat
 pub mod Links
+pub mod InOrder
 pub mod Plain
 pub mod Places
 pub mod Ranges
 pub mod Counts
 pub mod Depths
+pub mod Backwards
 pub mod Searching
 pub mod Faults
 pub mod ListingLemmas

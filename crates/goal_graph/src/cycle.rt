@@ -1,9 +1,10 @@
 // The first operation without a depth: one that waits for itself, or only follows one that does.
-ghost use Rattle.std.specs.Prelude.{◌≡◌, ◌+◌, ◌-◌, ◌<◌, ◌≤◌, ◌↔◌, [], length, sum, None, IsTrue, IfOk, OnOk, slice_index, slice_set};
+ghost use Rattle.std.specs.Prelude.{◌≡◌, ◌+◌, ◌-◌, ◌<◌, ◌≤◌, ◌↔◌, [], length, All, sum, None, IsTrue, IfOk, OnOk, slice_index, slice_set};
 ghost use Rattle.goal_graph.specs.Fault.{plain_fault};
 ghost use Rattle.goal_graph.specs.Search.{IsSearch, CoversRank, IsFirstMissing, IsFirstInRank, IsFirstOfAll};
 
 use crate::action::OpId;
+use crate::plan::Dep;
 use crate::tables::Tables;
 use std::alloc::{AllocError, Global};
 
@@ -34,6 +35,46 @@ fn first_in_rank(alloc: Global, tables: &Tables, rank: u32) -> Result<Option<u32
     requires rank { rank < length tables.now }
     ensures { IfOk result (IsFirstInRank tables.now rank) }
 {
+    let plan = &tables.plans()[rank as usize];
+    if all_go_back(&plan.deps) {
+        return Ok(None);
+    }
+    if all_go_ahead(&plan.deps) {
+        return Ok(None);
+    }
+    search_rank(alloc, tables, rank)
+}
+
+// Each operation needs only ones of lesser numbers.
+fn all_go_back(deps: &[Dep]) -> bool
+    ensures { IsTrue result → All (λ d. d.earlier < d.later) deps.now }
+{
+    for dep in deps {
+        if dep.later <= dep.earlier {
+            return false;
+        }
+    }
+    true
+}
+
+// Each operation needs only ones of greater numbers.
+fn all_go_ahead(deps: &[Dep]) -> bool
+    ensures { IsTrue result → All (λ d. d.later < d.earlier) deps.now }
+{
+    for dep in deps {
+        if dep.earlier <= dep.later {
+            return false;
+        }
+    }
+    true
+}
+
+// The first operation of a rank that has no depth, by a search.
+fn search_rank(alloc: Global, tables: &Tables, rank: u32) -> Result<Option<u32>, AllocError>
+    requires plain { plain_fault tables.now ≡ None }
+    requires rank { rank < length tables.now }
+    ensures { IfOk result (IsFirstInRank tables.now rank) }
+{
     let mut search = begin(alloc, tables, rank)?;
     let mut done = 0;
     while done < search.order.len() {
@@ -52,8 +93,8 @@ fn begin(alloc: Global, tables: &Tables, rank: u32) -> Result<Search, AllocError
 {
     let plan = &tables.plans()[rank as usize];
     let ops = plan.ops.len() as u32;
-    let mut missing = Vec::new(alloc);
-    let mut order = Vec::new(alloc);
+    let mut missing = Vec::with_capacity(alloc, ops as usize)?;
+    let mut order = Vec::with_capacity(alloc, ops as usize)?;
     for op in 0..ops {
         let count = tables.needs(OpId { rank, op }).len() as u32;
         missing.push(count)?;

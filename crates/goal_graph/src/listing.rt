@@ -7,13 +7,17 @@ use crate::action::OpId;
 use crate::plan::{Op, RankPlan};
 use std::alloc::{AllocError, Global};
 
-/// Every operation of the plans, by rank and number.
-pub fn list_operations(alloc: Global, plans: &[RankPlan]) -> Result<Vec<OpId>, AllocError>
+/// Every operation of the plans, by rank and number. Room is made for `count` of them at once.
+pub fn list_operations(
+    alloc: Global,
+    plans: &[RankPlan],
+    count: u32,
+) -> Result<Vec<OpId>, AllocError>
     requires ranks { length plans.now < 2 ^ 32 }
     requires few { op_count plans.now < 2 ^ 32 }
     ensures { IfOk result (λ ids. ids.items ≡ operations plans.now) }
 {
-    let mut ids = Vec::new(alloc);
+    let mut ids = Vec::with_capacity(alloc, count as usize)?;
     for (rank, plan) in plans.iter().enumerate() {
         list_rank(&mut ids, rank as u32, &plan.ops)?;
     }
@@ -25,11 +29,12 @@ fn list_rank(ids: &mut Vec<OpId>, rank: u32, ops: &[Op]) -> Result<(), AllocErro
     requires { length ops.now < 2 ^ 32 }
     ensures { OnOk result (ids.new.items ≡ ids.old.items ++ places_of_rank rank 0 ops.now) }
 {
+    ids.reserve(ops.len())?;
     for op in 0..ops.len() {
-        ids.push(OpId {
+        ids.push_reserved(OpId {
             rank,
             op: op as u32,
-        })?;
+        });
     }
     Ok(())
 }

@@ -57,7 +57,7 @@ impl Sched {
         if let Some(OpId { rank, op }) = first_cycle(alloc, &tables)? {
             return Err(PlanFault::Cycle { rank, op });
         }
-        let operations = list_operations(alloc, tables.plans())?;
+        let operations = list_operations(alloc, tables.plans(), tables.count())?;
         Ok(Sched { tables, operations })
     }
 

@@ -94,7 +94,7 @@ fn starts_of(alloc: Global, plans: &[RankPlan]) -> Result<Vec<u32>, AllocError>
     requires { op_count plans.now < 2 ^ 32 }
     ensures { IfOk result (λ starts. AreStarts plans.now starts.items) }
 {
-    let mut starts = Vec::new(alloc);
+    let mut starts = Vec::with_capacity(alloc, plans.len() + 1)?;
     let mut count = 0u32;
     starts.push(count)?;
     for plan in plans {

@@ -1,4 +1,5 @@
 mod ChainLemmas
+mod EndsLemmas
 mod EntryLemmas
 mod HeldLemmas
 mod OrderedLemmas

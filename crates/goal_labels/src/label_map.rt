@@ -1,5 +1,5 @@
 //! A map from labels to slots, in the order in which the labels came.
-ghost use Rattle.std.specs.Prelude.{◌≡◌, ℕ, ◌+◌, ◌*◌, ◌^◌, ◌<◌, ◌≤◌, ◌⊎◌, List, [], ◌∷◌, ◌++◌, Some, None, length, slice_get, bytes_eq, IfSome, IfNone, IfOk, OnOk, MatchOption};
+ghost use Rattle.std.specs.Prelude.{◌≡◌, ℕ, ◌+◌, ◌*◌, ◌^◌, ◌<◌, ◌≤◌, ◌⊎◌, true, List, [], ◌∷◌, ◌++◌, Some, None, length, slice_get, bytes_eq, IfSome, IfNone, IfOk, OnOk, MatchOption};
 ghost use Rattle.std.specs.Map.{lookup};
 ghost use Rattle.goal_labels.specs.declared.chains.Link.{Link};
 ghost use Rattle.goal_labels.specs.Chains.{Leads, head_of};
@@ -9,6 +9,7 @@ ghost use Rattle.goal_labels.specs.Indexed.{ending_number, label_hash, unchained
 
 use crate::chains::{Chains, Link};
 use crate::sorted::Sorted;
+use goal_lexer::begin_alike;
 use std::alloc::{AllocError, Global};
 use std::cmp::Ordering;
 use std::collections::BTreeMap;
@@ -130,13 +131,33 @@ fn label_of<'a>(bytes: &'a [u8], entry: &Entry) -> &'a [u8]
     &bytes[from..from + entry.len as usize]
 }
 
+// Whether two labels of one length are the same. Most have few bytes: of these some are compared at once, from both ends.
+#[inline(always)]
+fn are_same(one: &[u8], other: &[u8]) -> bool
+    requires { length one.now ≡ length other.now }
+    ensures { result ≡ bytes_eq one.now other.now }
+{
+    let count = one.len();
+    if 4 <= count && count <= 8 {
+        let far = count - 4;
+        return begin_alike(&one[far..], &other[far..]) && begin_alike(one, other);
+    }
+    if 0 < count && count < 4 {
+        let last = count - 1;
+        let middle = count / 2;
+        return one[last] == other[last] && one[middle] == other[middle] && one[0] == other[0];
+    }
+    one == other
+}
+
 // Whether the entry of that number is the label's. The lengths are compared first, since that takes least.
+#[inline(always)]
 fn is_at(entries: &[Entry], bytes: &[u8], label: &[u8], i: usize) -> bool
     requires held { AreHeld bytes.now entries.now }
     ensures { result ≡ is_at (entries_of bytes.now entries.now) label.now i }
 {
     match entries.get(i) {
-        Some(entry) => entry.len as usize == label.len() && label_of(bytes, entry) == label,
+        Some(entry) => entry.len as usize == label.len() && are_same(label_of(bytes, entry), label),
         None => false,
     }
 }
@@ -181,6 +202,22 @@ fn order(one: &[u8], other: &[u8]) -> Ordering
     }
 }
 
+// Whether two labels differ in their last bytes alone, and the first goes before the other, as l8 goes before l9.
+#[inline(always)]
+fn is_just_before(one: &[u8], other: &[u8]) -> bool
+    ensures { result ≡ true → label_cmp one.now other.now ≡ Ordering.Less }
+{
+    let count = one.len();
+    if count == 0 || count != other.len() {
+        return false;
+    }
+    let last = count - 1;
+    if one[last] >= other[last] {
+        return false;
+    }
+    are_same(&one[..last], &other[..last])
+}
+
 // The number of a label among labels that ascend.
 fn search(entries: &[Entry], bytes: &[u8], label: &[u8]) -> Option<usize>
     requires held { AreHeld bytes.now entries.now }
@@ -211,7 +248,11 @@ fn find_at_end(entries: &[Entry], bytes: &[u8], label: &[u8]) -> Option<Found>
     let Some(last) = entries.last() else {
         return Some(Found::Behind);
     };
-    match order(label_of(bytes, last), label) {
+    let before = label_of(bytes, last);
+    if is_just_before(before, label) {
+        return Some(Found::Behind);
+    }
+    match order(before, label) {
         Ordering::Less => Some(Found::Behind),
         Ordering::Equal => Some(Found::At(entries.len() - 1)),
         Ordering::Greater => None,
@@ -585,9 +626,25 @@ impl LabelMap {
         self.find(label)
     }
 
-    // What is found of a label that is mentioned. Mentions mostly go on as they did, each second one with a step of its own, as
-    // in `l4 requires l3` behind `l2 requires l1`: so the label is looked at first to which this leads, and then the one that
-    // stands as far behind that found last as their endings are apart.
+    // The number of a label to which the numbers found last lead: mentions mostly go on as they did, each second one with a step
+    // of its own, as in `l4 requires l3` behind `l2 requires l1`.
+    #[inline(always)]
+    fn find_onward(&mut self, label: &[u8]) -> Option<usize>
+        ensures found { IfSome result (IsAt self.new label.now) }
+        ensures unique { AreUnique self.new }
+        ensures kept { self.new ≡ self.old }
+    {
+        let [newest, second, third, fourth] = self.recent;
+        let onward = second.wrapping_add(second).wrapping_sub(fourth);
+        if !is_at(&self.entries, &self.bytes, label, onward) {
+            return None;
+        }
+        self.recent = [onward, newest, second, third];
+        Some(onward)
+    }
+
+    // What is found of a label that is mentioned, which is looked at first as far behind that found last as their endings are
+    // apart.
     fn find_near(&mut self, label: &[u8]) -> Found
         requires some { 0 < length label.now }
         requires short { length label.now ≤ 64 }
@@ -595,13 +652,8 @@ impl LabelMap {
         ensures unique { AreUnique self.new }
         ensures kept { self.new ≡ self.old }
     {
-        let [newest, second, third, fourth] = self.recent;
-        let onward = second.saturating_add(second).saturating_sub(fourth);
-        let found = if is_at(&self.entries, &self.bytes, label, onward) {
-            Found::At(onward)
-        } else {
-            self.find_numbered(label, newest)
-        };
+        let [newest, second, third, _] = self.recent;
+        let found = self.find_numbered(label, newest);
         if let Found::At(i) = found {
             self.recent = [i, newest, second, third];
         }
@@ -662,8 +714,9 @@ impl LabelMap {
         }
     }
 
-    /// The number of a label. Where it is new, it gets this slot. Where there is no memory left, the map may lose its labels.
-    pub fn number(&mut self, label: &[u8], slot: Slot) -> Result<usize, AllocError>
+    // The number of a label, wherever it stands. Where it is new, it gets this slot.
+    #[inline(never)]
+    fn number_anywhere(&mut self, label: &[u8], slot: Slot) -> Result<usize, AllocError>
         requires some { 0 < length label.now }
         requires short { length label.now ≤ 64 }
         ensures old { OnOk result ((there : Slot) → lookup (bytes_eq label.now) self.old ≡ Some there → self.new ≡ self.old) }
@@ -684,5 +737,19 @@ impl LabelMap {
                 Ok(number)
             }
         }
+    }
+
+    /// The number of a label. Where it is new, it gets this slot. Where there is no memory left, the map may lose its labels.
+    pub fn number(&mut self, label: &[u8], slot: Slot) -> Result<usize, AllocError>
+        requires some { 0 < length label.now }
+        requires short { length label.now ≤ 64 }
+        ensures old { OnOk result ((there : Slot) → lookup (bytes_eq label.now) self.old ≡ Some there → self.new ≡ self.old) }
+        ensures new { OnOk result (lookup (bytes_eq label.now) self.old ≡ None → self.new ≡ put self.old label.now slot) }
+        ensures number { IfOk result (IsAt self.new label.now) }
+    {
+        if let Some(i) = self.find_onward(label) {
+            return Ok(i);
+        }
+        self.number_anywhere(label, slot)
     }
 }

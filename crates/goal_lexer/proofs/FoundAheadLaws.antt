@@ -1,5 +1,7 @@
 -- Tokens that are found ahead.
-use Rattle.std.proofs.Common.{◌≡◌, ℕ, zero, suc, ◌+◌, ◌-◌, ◌*◌, ◌<◌, ◌≤◌, Bool, true, false, List, [], ◌∷◌, length, take, drop, get_or, nat_eq, refl, sym, ap, subst, ◌∙◌, arith, length-drop}
+use Rattle.std.proofs.Common.{◌≡◌, ℕ, zero, suc, ◌+◌, ◌-◌, ◌*◌, ◌<◌, ◌≤◌, Bool, true, false, List, [], ◌∷◌, ◌++◌, length, take, drop, bytes_eq, get_or, nat_eq, refl, sym, ap, subst, ◌∙◌, arith, length-drop}
+use Rattle.std.proofs.Math.Seq.{take-add}
+use Rattle.std.proofs.lemmas.Slice.Eq.{bytes_eq-Decides}
 use Rattle.std.proofs.lemmas.Bool.{false≢true, and_parts}
 use Rattle.std.proofs.lemmas.Bool.Decides.{nat_tests}
 use Rattle.std.proofs.lemmas.List.{take_rest, get_or-drop, get_or-take, drop_more, length-take-le}
@@ -259,3 +261,35 @@ colon_found (c ∷ cs) some is place =
       scan_one Between place c
           ∙ subst (λ (b : ℕ). next Between place b ≡ (Between, record { kind = Colon; start = place; end = place + 1 } ∷ [])) (sym same) refl,
     )
+
+-- four bytes more that are the same in both
+pub four_more : (xs ys : List ℕ) (n : ℕ) → take n xs ≡ take n ys → bytes_eq (take 4 (behind n xs)) (take 4 (behind n ys)) ≡ true →
+    take (n + 4) xs ≡ take (n + 4) ys
+four_more xs ys n same alike =
+    let front : take 4 (behind n xs) ≡ take 4 (behind n ys) = same_bytes (take 4 (behind n xs)) (take 4 (behind n ys)) alike in
+    let xs_is = take-add n 4 xs in
+    let ys_is = take-add n 4 ys in
+    let one : take 4 (drop n xs) ≡ take 4 (drop n ys) =
+    ap (take 4) (sym (take_rest xs n)) ∙ front ∙ ap (take 4) (take_rest ys n) in
+    xs_is ∙ ap (λ (l : List ℕ). l ++ take 4 (drop n xs)) same ∙ ap (λ (l : List ℕ). take n ys ++ l) one ∙ sym ys_is
+  where
+    same_bytes : (us vs : List ℕ) → bytes_eq us vs ≡ true → us ≡ vs
+    same_bytes us vs alike = (bytes_eq-Decides us vs).0 alike
+
+-- a space and the word behind it
+pub spaced_found : (place : ℕ) (piece spaced : List ℕ) → take 1 spaced ≡ 32 ∷ [] → is_word (drop 1 spaced) ≡ true →
+    length spaced ≤ 65 → length spaced < length piece → take (length spaced) piece ≡ spaced →
+    is_run_byte (get_or piece (length spaced) 0) ≡ false →
+    IsAhead place piece (length spaced) true
+    (record { kind = word_kind (drop 1 spaced); start = place + 1; end = place + length spaced } ∷ [])
+spaced_found place piece [] space is short inside same ends = absurd cc
+spaced_found place [] (s ∷ ss) space is short inside same ends = absurd (omega arith)
+spaced_found place (c ∷ cs) (s ∷ ss) space is short inside same ends =
+    let space_first : c ≡ 32 = cc in
+    let behind_first : take (length ss) cs ≡ ss = cc in
+    let long : 1 + length ss ≡ length (s ∷ ss) = omega arith in
+    subst (λ (n : ℕ). IsAhead place (c ∷ cs) n true (record { kind = word_kind ss; start = place + 1; end = place + n } ∷ [])) long
+    (word_found place 1 (c ∷ cs) ss
+    (omega arith, λ k few. subst (λ (j : ℕ). is_blank (get_or (c ∷ cs) j 0) ≡ true) (first k few) (ap is_blank space_first))
+    is (omega (arith, short)) (omega (arith, inside)) behind_first
+    (subst (λ (n : ℕ). is_run_byte (get_or (c ∷ cs) n 0) ≡ false) (sym long) ends))

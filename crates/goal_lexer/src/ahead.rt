@@ -3,7 +3,7 @@
 //! These look at tokens without taking them: a caller that finds what it waits for takes all of it by one
 //! [`crate::Lexer::go_on`]. Each finds less than a text may have: a token that isn't found so is taken by
 //! [`crate::Lexer::next_token_into`].
-ghost use Rattle.std.specs.Prelude.{◌≡◌, ℕ, ◌+◌, ◌-◌, ◌<◌, ◌≤◌, true, false, [], ◌∷◌, length, take, drop};
+ghost use Rattle.std.specs.Prelude.{◌≡◌, ℕ, ◌+◌, ◌-◌, ◌<◌, ◌≤◌, true, false, [], ◌∷◌, length, take, drop, bytes_eq};
 ghost use Rattle.goal_lexer.specs.Ahead.{AreBlanks, is_word, IsAhead};
 ghost use Rattle.goal_lexer.specs.Words.{word_kind};
 
@@ -41,6 +41,39 @@ pub fn blanks_ahead(rest: &[u8]) -> usize
     many_blanks(rest)
 }
 
+/// Whether two pieces begin with the same four bytes.
+#[inline(always)]
+pub fn begin_alike(one: &[u8], other: &[u8]) -> bool
+    requires one { 4 ≤ length one.now }
+    requires other { 4 ≤ length other.now }
+    ensures { result ≡ bytes_eq (take 4 one.now) (take 4 other.now) }
+{
+    u32::from_le_bytes([one[0], one[1], one[2], one[3]])
+        == u32::from_le_bytes([other[0], other[1], other[2], other[3]])
+}
+
+/// Whether a piece begins with a word.
+#[inline(always)]
+fn begins_with(rest: &[u8], word: &[u8]) -> bool
+    requires { length word.now ≤ length rest.now }
+    ensures { result ≡ true → take (length word.now) rest.now ≡ word.now }
+{
+    let mut at = 0;
+    while word.len() - at >= 4 {
+        if !begin_alike(&rest[at..], &word[at..]) {
+            return false;
+        }
+        at += 4;
+    }
+    while at < word.len() {
+        if rest[at] != word[at] {
+            return false;
+        }
+        at += 1;
+    }
+    true
+}
+
 /// How many bytes so many blanks and the word behind them take, where it ends inside the piece, and else 0.
 #[inline(always)]
 pub fn word_ahead(rest: &[u8], blanks: usize, word: &[u8]) -> usize
@@ -51,15 +84,30 @@ pub fn word_ahead(rest: &[u8], blanks: usize, word: &[u8]) -> usize
     ensures ahead { 0 < result → (place : ℕ) → IsAhead place rest.now result true (record { kind = word_kind word.now; start = place + blanks; end = place + result } ∷ []) }
 {
     let end = blanks + word.len();
-    if end >= rest.len() {
+    if end >= rest.len() || !begins_with(&rest[blanks..], word) {
         return 0;
     }
-    for (k, byte) in word.iter().enumerate() {
-        if rest[blanks + k] != *byte {
-            return 0;
-        }
-    }
     if is_run_byte(rest[end]) {
+        return 0;
+    }
+    end
+}
+
+/// How many bytes a space and the word behind it take, which are given as one, where the word ends inside the piece, and else 0.
+#[inline(always)]
+pub fn spaced_word_ahead(rest: &[u8], spaced: &[u8]) -> usize
+    requires space { take 1 spaced.now ≡ 32 ∷ [] }
+    requires word { is_word (drop 1 spaced.now) ≡ true }
+    requires short { length spaced.now ≤ 65 }
+    ensures within { result ≤ length rest.now }
+    ensures ahead { 0 < result → (place : ℕ) → IsAhead place rest.now result true (record { kind = word_kind (drop 1 spaced.now); start = place + 1; end = place + result } ∷ []) }
+{
+    let end = spaced.len();
+    if end >= rest.len() || !begins_with(rest, spaced) {
+        return 0;
+    }
+    // most words stand before a space
+    if rest[end] != b' ' && is_run_byte(rest[end]) {
         return 0;
     }
     end

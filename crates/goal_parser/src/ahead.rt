@@ -1,5 +1,5 @@
 //! Tokens that are taken several at once, where they stand in the piece as most texts have them.
-ghost use Rattle.std.specs.Prelude.{◌≡◌, ◌≢◌, ℕ, ◌+◌, ◌-◌, ◌<◌, ◌≤◌, ◌⊎◌, ◌^◌, true, false, List, [], ◌∷◌, length, drop, Some, IfOk, IfErr, IfSome, slice_index};
+ghost use Rattle.std.specs.Prelude.{◌≡◌, ◌≢◌, ℕ, ◌+◌, ◌-◌, ◌<◌, ◌≤◌, ◌⊎◌, ◌^◌, true, false, List, [], ◌∷◌, length, take, drop, Some, IfOk, IfErr, IfSome, slice_index};
 ghost use Rattle.goal_base.specs.declared.limits.TheConstants.{MAX_BYTES, MAX_OPS};
 ghost use Rattle.goal_lexer.specs.declared.tokens.Token.{Token};
 ghost use Rattle.goal_lexer.specs.Ahead.{AreBlanks, is_word, IsAhead};
@@ -17,7 +17,7 @@ use crate::token_faults::TokenFault;
 use goal_base::{MAX_BYTES, MAX_DEPS, MAX_NANOS, MAX_NOTES, MAX_OPS};
 use goal_lexer::{
     Amount, TokenKind, begins_with_colon, blanks_ahead, label_ahead, number_ahead, size_ahead,
-    word_ahead,
+    spaced_word_ahead, word_ahead,
 };
 
 /// A number below 2^32 that stands ahead, and the index behind it.
@@ -77,9 +77,9 @@ fn small_ahead(rest: &[u8], at: usize) -> Option<Small>
     })
 }
 
-/// The word and the number below 2^32 that stand at this index.
-#[inline(always)]
-fn peer_ahead(rest: &[u8], at: usize, word: &[u8]) -> Option<Small>
+/// The word and the number below 2^32 that stand at this index, behind any blanks.
+#[inline(never)]
+fn blank_peer_ahead(rest: &[u8], at: usize, word: &[u8]) -> Option<Small>
     requires at { at ≤ length rest.now }
     requires word { is_word word.now ≡ true }
     requires short { length word.now ≤ 64 }
@@ -94,21 +94,41 @@ fn peer_ahead(rest: &[u8], at: usize, word: &[u8]) -> Option<Small>
     small_ahead(rest, at + count)
 }
 
-/// What stands at this index of a message behind its first word: its size, a word and its peer.
+/// A space, the word and the number below 2^32 that stand at this index. The space and the word are given as one.
 #[inline(always)]
-fn message_ahead(rest: &[u8], at: usize, word: &[u8]) -> Option<MessageAhead>
+fn peer_ahead(rest: &[u8], at: usize, spaced: &[u8]) -> Option<Small>
     requires at { at ≤ length rest.now }
-    requires word { is_word word.now ≡ true }
-    requires short { length word.now ≤ 64 }
+    requires space { take 1 spaced.now ≡ 32 ∷ [] }
+    requires word { is_word (drop 1 spaced.now) ≡ true }
+    requires short { length spaced.now ≤ 65 }
+    ensures within { IfSome result (λ n. at < n.end) }
+    ensures inside { IfSome result (λ n. n.end ≤ length rest.now) }
+    ensures ahead { IfSome result (λ n. IsPeerAhead rest.now at (word_kind (drop 1 spaced.now)) n.value n.end) }
+{
+    let count = spaced_word_ahead(&rest[at..], spaced);
+    if count == 0 {
+        return blank_peer_ahead(rest, at, &spaced[1..]);
+    }
+    small_ahead(rest, at + count)
+}
+
+/// What stands at this index of a message behind its first word: its size, a word, which is given with the space before it,
+/// and its peer.
+#[inline(always)]
+fn message_ahead(rest: &[u8], at: usize, spaced: &[u8]) -> Option<MessageAhead>
+    requires at { at ≤ length rest.now }
+    requires space { take 1 spaced.now ≡ 32 ∷ [] }
+    requires word { is_word (drop 1 spaced.now) ≡ true }
+    requires short { length spaced.now ≤ 65 }
     ensures within { IfSome result (λ m. at < m.end) }
     ensures bytes { IfSome result (λ m. m.bytes ≤ MAX_BYTES) }
-    ensures ahead { IfSome result (λ m. IsMessageAhead rest.now at (word_kind word.now) m.bytes m.peer m.end) }
+    ensures ahead { IfSome result (λ m. IsMessageAhead rest.now at (word_kind (drop 1 spaced.now)) m.bytes m.peer m.end) }
 {
     let size = amount_ahead(&rest[at..]);
     if size.count == 0 || size.value > MAX_BYTES {
         return None;
     }
-    match peer_ahead(rest, at + size.count, word) {
+    match peer_ahead(rest, at + size.count, spaced) {
         None => None,
         Some(peer) => Some(MessageAhead {
             bytes: size.value,
@@ -126,13 +146,13 @@ fn options_ahead(rest: &[u8], at: usize) -> Option<OptionsAhead>
     ensures within { IfSome result (λ o. at < o.end) }
     ensures ahead { IfSome result (λ o. IsOptionsAhead rest.now at o.tag o.cpu o.nic o.end) }
 {
-    let Some(tag) = peer_ahead(rest, at, b"tag") else {
+    let Some(tag) = peer_ahead(rest, at, b" tag") else {
         return None;
     };
-    let Some(cpu) = peer_ahead(rest, tag.end, b"cpu") else {
+    let Some(cpu) = peer_ahead(rest, tag.end, b" cpu") else {
         return None;
     };
-    let Some(nic) = peer_ahead(rest, cpu.end, b"nic") else {
+    let Some(nic) = peer_ahead(rest, cpu.end, b" nic") else {
         return None;
     };
     let Ok(cpu_value) = u8::try_from(cpu.value) else {
@@ -231,7 +251,7 @@ impl Parser {
         if !self.is_bare_calc() || at == rest.len() || rest[at] != b' ' {
             return at;
         }
-        let Some(cpu) = peer_ahead(rest, at, b"cpu") else {
+        let Some(cpu) = peer_ahead(rest, at, b" cpu") else {
             return at;
         };
         match u8::try_from(cpu.value) {
@@ -349,7 +369,7 @@ impl Reader {
         let Some(first) = small_ahead(rest, label + word) else {
             return Ok(0);
         };
-        let Some(second) = peer_ahead(rest, first.end, b"to") else {
+        let Some(second) = peer_ahead(rest, first.end, b" to") else {
             return Ok(0);
         };
         self.parser.take_note(
@@ -439,7 +459,7 @@ impl Reader {
         if word == 0 {
             return Ok(0);
         }
-        let Some(message) = message_ahead(rest, word, b"to") else {
+        let Some(message) = message_ahead(rest, word, b" to") else {
             return Ok(0);
         };
         self.parser.take_send(message.bytes, message.peer)?;
@@ -461,7 +481,7 @@ impl Reader {
         if word == 0 {
             return Ok(0);
         }
-        let Some(message) = message_ahead(rest, word, b"from") else {
+        let Some(message) = message_ahead(rest, word, b" from") else {
             return Ok(0);
         };
         self.parser.take_recv(message.bytes, message.peer)?;

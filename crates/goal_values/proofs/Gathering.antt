@@ -1,34 +1,41 @@
 -- A value is listed by its parts: each part is a contribution, or two parts.
-use Rattle.std.proofs.Common.{Bool, true, false, if◌then◌else◌, ℕ, ◌≡◌, ◌+◌, ◌*◌, ◌-◌, ◌<◌, List, [], ◌∷◌, ◌++◌, length, get_or, All, ap, ◌∙◌, subst, arith}
+use Rattle.std.proofs.Common.{Bool, true, false, if◌then◌else◌, ℕ, ◌≡◌, ◌+◌, ◌*◌, ◌-◌, ◌<◌, List, [], ◌∷◌, ◌++◌, length, get_or, All, sym, ap, ◌∙◌, subst, arith}
 use Rattle.std.proofs.Common.{length-append}
 use Rattle.std.proofs.Math.ListN.{get_or-append}
 use Rattle.std.proofs.Math.Seq.{get_or-append_seam}
 use Rattle.std.specs.List.{sum_by}
+use Rattle.std.proofs.lemmas.Option.{slice_get-get_or}
 use Rattle.std.proofs.lemmas.List.Sums.{sum_by-append, sum_by-cons}
 use Rattle.std.proofs.lemmas.List.Elements.{All-append, All-cons, All-nil}
 use Rattle.goal_blocks.specs.declared.collective.Contribution.{Contribution}
 use Rattle.goal_blocks.specs.Values.{Value, is_lower, merge, insert_one}
 use Rattle.goal_blocks.proofs.ForCallers.{length_merge}
 use Rattle.goal_values.specs.declared.sums.Term.{Term}
-use Rattle.goal_values.specs.declared.sums.Term.TheVariants.{Made}
+use Rattle.goal_values.specs.declared.sums.Term.TheVariants.{Nothing, Made}
 use Rattle.goal_values.specs.declared.sums.Sum.{Sum}
 use Rattle.goal_values.specs.Sums.{meaning, IsBelow}
-use Rattle.goal_values.specs.Parts.{IsSum}
+use Rattle.goal_values.specs.Parts.{told, IsSum, AreSums}
 use Rattle.goal_values.proofs.Told.{below_more}
 
 -- how much is left to do for a part: it falls where a part is opened
 abbrev pub weight : List Value → Term → ℕ
 weight sums t = 2 * length (meaning sums t) - 1 + (1 - length (meaning sums t))
 
--- the sum of f over all contributions of these parts
-abbrev pub shares : List Value → (Contribution → ℕ) → List Term → ℕ
-shares sums f parts = sum_by (λ t. sum_by f (meaning sums t)) parts
+-- what is read where there is no sum
+abbrev none : Sum
+none = record { left = Nothing; right = Nothing; size = 0 }
 
--- one part more
-pub with_part : (sums : List Value) (f : Contribution → ℕ) (parts : List Term) (t : Term) → shares sums f (parts ++ t ∷ []) ≡ shares sums f parts + sum_by f (meaning sums t)
-with_part sums f parts t =
-    let g : Term → ℕ = λ u. sum_by f (meaning sums u) in
-    omega (arith, sum_by-append g parts (t ∷ []), sum_by-cons g t [])
+-- the left part of the sum of a number
+abbrev pub left_of : List Sum → ℕ → Term
+left_of sums n = (get_or sums n none).left
+
+-- the sum of f over all contributions of the left parts of the sums of these numbers
+abbrev pub shares : List Sum → (Contribution → ℕ) → List ℕ → ℕ
+shares sums f numbers = sum_by (λ n. sum_by f (meaning (told [] sums) (left_of sums n))) numbers
+
+-- how much is left to do for these left parts
+abbrev pub weights : List Sum → List ℕ → ℕ
+weights sums numbers = sum_by (λ n. weight (told [] sums) (left_of sums n)) numbers
 
 -- one contribution more
 pub with_one : (f : Contribution → ℕ) (v : Value) (c : Contribution) → sum_by f (v ++ c ∷ []) ≡ sum_by f v + sum_by f (c ∷ [])
@@ -50,35 +57,57 @@ merge_sum f [] w = omega arith
 merge_sum f (c ∷ v) w =
     omega (arith, insert_sum f c (merge v w), merge_sum f v w, sum_by-cons f c v)
 
--- a part that is a sum gives way to its two parts
-module _ (known : List Value) (front : List Term) (i : ℕ) (s : Sum) (is : IsSum known i s) where
-  two : (f : Term → ℕ) → sum_by f ((front ++ s.left ∷ []) ++ s.right ∷ []) ≡ sum_by f front + f s.left + f s.right
-  two f =
-      omega (arith, sum_by-append f (front ++ s.left ∷ []) (s.right ∷ []), sum_by-append f front (s.left ∷ []), sum_by-cons f s.left [], sum_by-cons f s.right [])
+-- a sum is opened: its number is kept, and its right part is at hand
+module _ (sums : List Sum) (are : AreSums sums) (i : ℕ) (inside : i < length (told [] sums)) where
+  abbrev known : List Value
+  known = told [] sums
 
-  one : (f : Term → ℕ) → sum_by f (front ++ Made i ∷ []) ≡ sum_by f front + f (Made i)
-  one f = omega (arith, sum_by-append f front (Made i ∷ []), sum_by-cons f (Made i) [])
+  abbrev s : Sum
+  s = get_or sums i none
 
-  pub same_shares : (f : Contribution → ℕ) → shares known f ((front ++ s.left ∷ []) ++ s.right ∷ []) ≡ shares known f (front ++ Made i ∷ [])
-  same_shares f =
-      let g : Term → ℕ = λ t. sum_by f (meaning known t) in
+  is : IsSum known i s
+  is = are.each i s (slice_get-get_or sums i none (omega (arith, inside, are.many)))
+
+  pub left_below : IsBelow (length known) s.left
+  left_below = below_more i (length known) s.left (omega (arith, inside)) is.left
+
+  pub right_below : IsBelow (length known) s.right
+  right_below = below_more i (length known) s.right (omega (arith, inside)) is.right
+
+  pub opened_shares : (f : Contribution → ℕ) (numbers new : List ℕ) (part : Term) → part ≡ Made i → new ≡ numbers ++ i ∷ [] → shares sums f new + sum_by f (meaning known s.right) ≡ shares sums f numbers + sum_by f (meaning known part)
+  opened_shares f numbers new part e g =
+      let h : ℕ → ℕ = λ n. sum_by f (meaning known (left_of sums n)) in
       let value : sum_by f (get_or known i []) ≡ sum_by f (meaning known s.left) + sum_by f (meaning known s.right) = ap (sum_by f) is.value ∙ merge_sum f (meaning known s.left) (meaning known s.right) in
-      omega (arith, two g, one g, value)
+      omega (arith, ap (shares sums f) g, sum_by-append h numbers (i ∷ []), sum_by-cons h i [], value, ap (λ t. sum_by f (meaning known t)) e)
 
-  pub smaller : sum_by (weight known) ((front ++ s.left ∷ []) ++ s.right ∷ []) < sum_by (weight known) (front ++ Made i ∷ [])
-  smaller =
-      omega (arith, two (weight known), one (weight known), is.some_left, is.some_right, ap length is.value, length_merge (meaning known s.left) (meaning known s.right))
+  pub opened_weight : (numbers new : List ℕ) (part : Term) → part ≡ Made i → new ≡ numbers ++ i ∷ [] → weights sums new + weight known s.right < weights sums numbers + weight known part
+  opened_weight numbers new part e g =
+      let h : ℕ → ℕ = λ n. weight known (left_of sums n) in
+      omega (arith, ap (weights sums) g, sum_by-append h numbers (i ∷ []), sum_by-cons h i [], is.some_left, is.some_right, ap length is.value, length_merge (meaning known s.left) (meaning known s.right), ap (weight known) e)
 
-  pub parts_below : i < length known → All (IsBelow (length known)) front → All (IsBelow (length known)) ((front ++ s.left ∷ []) ++ s.right ∷ [])
-  parts_below inside below =
-      let P : Term → Type 0 = IsBelow (length known) in
-      All-append P (front ++ s.left ∷ []) (s.right ∷ []) (All-append P front (s.left ∷ []) below (All-cons P s.left [] (below_more i (length known) s.left (omega arith) is.left) (All-nil P))) (All-cons P s.right [] (below_more i (length known) s.right (omega arith) is.right) (All-nil P))
+  pub opened_numbers : (numbers new : List ℕ) → new ≡ numbers ++ i ∷ [] → All (λ n. n < length known) numbers → All (λ n. n < length known) new
+  opened_numbers numbers new g all =
+      let P : ℕ → Type 0 = λ n. n < length known in
+      subst (All P) (sym g) (All-append P numbers (i ∷ []) all (All-cons P i [] inside (All-nil P)))
 
--- what is true of all is true of the last one and of those before it
-pub last_of : (P : Term → Type 0) (front : List Term) (t : Term) → All P (front ++ t ∷ []) → P t
-last_of P front t all =
-    subst P (get_or-append_seam front t [] t) (all (length front) t (omega (arith, length-append front (t ∷ []))))
+-- the last number is taken
+module _ (sums : List Sum) (i : ℕ) (numbers rest : List ℕ) (g : numbers ≡ rest ++ i ∷ []) where
+  pub taken_shares : (f : Contribution → ℕ) → shares sums f numbers ≡ shares sums f rest + sum_by f (meaning (told [] sums) (left_of sums i))
+  taken_shares f =
+      let h : ℕ → ℕ = λ n. sum_by f (meaning (told [] sums) (left_of sums n)) in
+      omega (arith, ap (shares sums f) g, sum_by-append h rest (i ∷ []), sum_by-cons h i [])
 
-pub front_of : (P : Term → Type 0) (front : List Term) (t : Term) → All P (front ++ t ∷ []) → All P front
-front_of P front t all k d inside =
-    subst P (get_or-append front (t ∷ []) d k inside) (all k d (omega (arith, inside, length-append front (t ∷ []))))
+  pub taken_weights : weights sums numbers ≡ weights sums rest + weight (told [] sums) (left_of sums i)
+  taken_weights =
+      let h : ℕ → ℕ = λ n. weight (told [] sums) (left_of sums n) in
+      omega (arith, ap (weights sums) g, sum_by-append h rest (i ∷ []), sum_by-cons h i [])
+
+  pub taken_last : (P : ℕ → Type 0) → All P numbers → P i
+  taken_last P all =
+      let whole = subst (All P) g all in
+      subst P (get_or-append_seam rest i [] i) (whole (length rest) i (omega (arith, length-append rest (i ∷ []))))
+
+  pub taken_front : (P : ℕ → Type 0) → All P numbers → All P rest
+  taken_front P all k d inside =
+      let whole = subst (All P) g all in
+      subst P (get_or-append rest (i ∷ []) d k inside) (whole k d (omega (arith, inside, length-append rest (i ∷ []))))

@@ -1,9 +1,9 @@
 // Values that are told by what they were made of.
-ghost use Rattle.std.specs.Prelude.{ℕ, ◌≡◌, ◌+◌, ◌^◌, ◌<◌, [], length, IfOk};
+ghost use Rattle.std.specs.Prelude.{ℕ, ◌≡◌, ◌+◌, ◌^◌, ◌<◌, ◌++◌, [], length, IfOk, OnOk};
 ghost use Rattle.goal_blocks.specs.Values.{merge};
 ghost use Rattle.goal_blocks.specs.Stored.{IsSorted};
 ghost use Rattle.goal_values.specs.Sums.{meaning, IsBelow, HasGrown};
-ghost use Rattle.goal_values.specs.Parts.{HasSame};
+ghost use Rattle.goal_values.specs.Parts.{HasSame, AreSums, told};
 
 use goal_base::NoMemory;
 use goal_blocks::Contribution;
@@ -110,28 +110,43 @@ impl Sums {
         ensures { IfOk result (λ v. HasSame v.items (meaning self.now term)) }
     {
         let mut list = Vec::with_capacity(alloc, self.size(term) as usize)?;
-        let mut open = Vec::new(alloc);
-        let mut part = term;
-        'parts: loop {
-            match part {
-                Term::Made(number) => {
-                    let Sum { left, right, .. } = self.list[number];
-                    open.push(left)?;
-                    part = right;
-                }
-                Term::One(contribution) => {
-                    list.push(contribution)?;
-                    let Some(next) = open.pop() else {
-                        return Ok(list);
-                    };
-                    part = next;
-                }
-                Term::Nothing => {
-                    let Some(next) = open.pop() else {
-                        return Ok(list);
-                    };
-                    part = next;
-                }
+        gather(alloc, &self.list, term, &mut list)?;
+        Ok(list)
+    }
+}
+
+// The list gets the contributions of a value. Of each sum that is opened it goes on with the right part, and keeps the number:
+// the left part is looked up once the right one is listed.
+fn gather(
+    alloc: Global,
+    sums: &[Sum],
+    term: Term,
+    list: &mut Vec<Contribution>,
+) -> Result<(), AllocError>
+    requires sums { AreSums sums.now }
+    requires below { IsBelow (length (told [] sums.now)) term }
+    ensures { OnOk result (HasSame list.new.items (list.old.items ++ meaning (told [] sums.now) term)) }
+{
+    let mut opened = Vec::new(alloc);
+    let mut part = &term;
+    'parts: loop {
+        match *part {
+            Term::Made(number) => {
+                opened.push(number)?;
+                part = &sums[number].right;
+            }
+            Term::One(contribution) => {
+                list.push(contribution)?;
+                let Some(number) = opened.pop() else {
+                    return Ok(());
+                };
+                part = &sums[number].left;
+            }
+            Term::Nothing => {
+                let Some(number) = opened.pop() else {
+                    return Ok(());
+                };
+                part = &sums[number].left;
             }
         }
     }

@@ -1,6 +1,5 @@
 -- What the search for knots asks of stuck operations.
-use Rattle.std.proofs.Common.{◌≡◌, ℕ, not, eqb, nat_lt, ◌≤◌, ◌⊎◌, inl, inr, List, length, filter, count_by, Some, ap, ◌∙◌, arith}
-use Rattle.std.proofs.lemmas.Bool.Decides.{nat_tests}
+use Rattle.std.proofs.Common.{◌≡◌, ◌≤◌, ◌⊎◌, inl, inr, List, [], ◌∷◌, length, filter, count_by, Some, refl, ap, ◌∙◌, arith}
 use Rattle.std.proofs.lemmas.List.{length-map}
 use Rattle.std.proofs.lemmas.List.Sums.{length-filter, count_by-le-length}
 use Rattle.goal_graph.specs.declared.action.OpId.{OpId}
@@ -12,6 +11,7 @@ use Rattle.goal_graph.specs.Schedule.{Plan, operations}
 use Rattle.sim_params.specs.Costs.{CostModel}
 use Rattle.sim_params.specs.Stuck.{lacks_end}
 use Rattle.sim_stuck.specs.StuckList.{stuck_list, with_reason}
+use Rattle.sim_stuck.specs.StuckText.{stuck_text}
 use Rattle.sim_stuck.specs.Laws.{NamesListed}
 use Rattle.sim_cycles.specs.Knots.{named}
 use Rattle.sim_cycles.specs.Laws.{NamesListed as NamesAreListed}
@@ -29,9 +29,16 @@ unfolding stuck_list
 count_stuck plans costs h =
     length-map (filter (lacks_end plans costs h) (operations plans)) (with_reason plans costs h) ∙ length-filter (lacks_end plans costs h) (operations plans)
 
--- there are some exactly where there are not none
-pub stuck_if_some : (n m : ℕ) → n ≡ m → not (eqb n 0) ≡ nat_lt 0 m
-stuck_if_some n m same = grind (arith, nat_tests, same)
+-- the text of an empty list of stuck operations is empty
+no_line : (list : List Stuck) → length list ≡ 0 → [] ≡ stuck_text list
+unfolding stuck_text
+no_line [] is = refl
+no_line (s ∷ list) is = absurd (omega (arith, is))
+
+-- where no operation lacks its end, there is no line of a stuck one
+pub no_stuck_line : (plans : List Plan) (costs : CostModel) (h : List Timed) → count_by (lacks_end plans costs h) (operations plans) ≡ 0
+    → [] ≡ stuck_text (stuck_list plans costs h)
+no_stuck_line plans costs h none = no_line (stuck_list plans costs h) (count_stuck plans costs h ∙ none)
 
 -- an operation that a reason names is one of those that it names as one or the other
 named_cases : (w : Why) (y : OpId) → named w ≡ Some y → (w ≡ Op y) ⊎ (w ≡ Partner y)

@@ -83,23 +83,25 @@ fn run<'a, C: Costs + Drop, L: Ledger, M: Ledger, N: Ledger>(
     run_counted(alloc, sched, costs, &mut steps, &mut looks, &mut reads)
 }
 
-// What a view other than the printed run shows of an engine whose run is over, a row for each.
+// What a view other than the printed run shows of an engine whose run is over, a row for each; and whether an operation has no end.
 fn text_of<C: Costs>(
     alloc: Global,
     sched: &Sched,
     engine: &Engine<'_, C, Unkept>,
     view: RunView,
-) -> Result<Vec<u8>, NoMemory>
+) -> Result<(Vec<u8>, bool), NoMemory>
     requires whole { view ≢ RunView.Printed }
     requires same { engine.now.plans ≡ sched.now }
     requires done { IsFinished engine.now.plans (C.model engine.now.costs) engine.now.history }
-    ensures { IfOk result (λ text.
-        Shows view sched.now (C.model engine.now.costs) engine.now.history text.items) }
+    ensures shown { IfOk result (λ both.
+        Shows view sched.now (C.model engine.now.costs) engine.now.history both.0.items) }
+    ensures stuck { IfOk result (λ both.
+        both.1 ≡ is_stuck sched.now (C.model engine.now.costs) engine.now.history) }
 {
     match view {
         RunView::Printed => unreachable!(),
-        RunView::Waits => waits(alloc, sched, engine),
-        RunView::Knots => show_knots(alloc, sched, engine),
+        RunView::Waits => Ok((waits(alloc, sched, engine)?, is_stuck(engine))),
+        RunView::Knots => Ok((show_knots(alloc, sched, engine)?, is_stuck(engine))),
         RunView::Sum => sum_up(alloc, sched, engine),
     }
 }
@@ -124,10 +126,10 @@ fn show_whole<'a, C: Costs + Drop>(
     ensures stuck { IfOk result (λ run.
         run.stuck ≡ is_stuck sched.now (C.model engine.entry.costs) engine.entry.history) }
 {
-    let stuck = is_stuck(&engine);
-    let text = text_of(alloc, sched, &engine, view);
+    let both = text_of(alloc, sched, &engine, view);
     let_go(engine);
-    Ok(Shown::whole(alloc, text?, stuck))
+    let (text, stuck) = both?;
+    Ok(Shown::whole(alloc, text, stuck))
 }
 
 // What a view shows of an engine whose run is over.

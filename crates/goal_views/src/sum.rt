@@ -1,31 +1,35 @@
 // The sum of a run.
 ghost use Rattle.std.specs.Prelude.{◌≡◌, IfOk};
+ghost use Rattle.sim_params.specs.Stuck.{is_stuck};
 ghost use Rattle.goal_views.specs.Views.{sum_of_ends, probe_text};
 
 use goal_base::{NoMemory, TextOut};
 use goal_graph::Sched;
 use sim_events::{Engine, History};
 use sim_params::Costs;
-use sim_timeline::first_line;
+use sim_timeline::first_line_counted;
 use std::alloc::Global;
 
-// The first line of the timeline, and the sum of all ends.
+// The first line of the timeline, and the sum of all ends; and whether an operation has no end.
 pub fn sum_up<C: Costs, H: History>(
     alloc: Global,
     sched: &Sched,
     engine: &Engine<'_, C, H>,
-) -> Result<Vec<u8>, NoMemory>
+) -> Result<(Vec<u8>, bool), NoMemory>
     requires same { engine.now.plans ≡ sched.now }
-    ensures { IfOk result (λ text.
-        text.items ≡ probe_text sched.now (C.model engine.now.costs) engine.now.history) }
+    ensures text { IfOk result (λ both.
+        both.0.items ≡ probe_text sched.now (C.model engine.now.costs) engine.now.history) }
+    ensures stuck { IfOk result (λ both.
+        both.1 ≡ is_stuck sched.now (C.model engine.now.costs) engine.now.history) }
 {
-    let mut text = first_line(alloc, sched, engine)?;
+    let (line, stuck) = first_line_counted(alloc, sched, engine)?;
+    let mut text = line;
     let mut out = TextOut::new(alloc);
     out.word("ends ")?;
     out.number(sum_of_ends(sched, engine))?;
     out.word("\n")?;
     text.extend_from_slice(&out.into_bytes())?;
-    Ok(text)
+    Ok((text, 0 < stuck))
 }
 
 // The sum of the ends of all operations that have one: of at most 2^20 numbers below 2^64.

@@ -1,7 +1,7 @@
 -- Stations have their numbers at places of their own.
 use Rattle.std.proofs.Common.{◌≡◌, ◌≢◌, ◌⊎◌, ◌<◌, ◌≤◌, ◌==◌, ◌&&◌, ◌++◌, ℕ, Bool, true, List, [], ◌∷◌, length, get_or, Option, Some, None, slice_get, slice_index, slice_set, append-nil, eq-eqb, refl, sym, ap, ap₂, ◌∙◌, subst, arith, inl, inr}
 use Rattle.std.proofs.lemmas.Bool.{and_parts, eqb-true}
-use Rattle.std.proofs.lemmas.List.{length-set, get_or-set_same, get_or-set_other}
+use Rattle.std.proofs.lemmas.List.{get_or-set_same, get_or-set_other}
 use Rattle.std.proofs.lemmas.Option.{slice_get-get_or, slice_get_within, get_or_from_slice_get}
 use Rattle.goal_graph.proofs.ForCallers.{same_choice_true, get_last}
 use Rattle.sim_resources.proofs.ForCallers.{get_kept, get_either}
@@ -72,10 +72,17 @@ place_same s t p q rank e =
     let sides = side_same s.sends s.receives t.sends t.receives p.side q.side side in
     λ i. record { rank = rank i; cpu = cpu i; sends = sides.0 i; receives = sides.1 i }
 
+-- where no number has changed
+pub placed_as : (seen : List Station) (places more : List ℕ) → ((n : ℕ) → slice_index more n ≡ slice_index places n) → ArePlaced seen places → ArePlaced seen more
+placed_as seen places more same placed = record {
+  plain = placed.plain;
+  placed = λ i s e last. same (place s) ∙ placed.placed i s e last;
+  once = placed.once;
+}
+
 -- before any is seen
-pub placed_none : (places : List ℕ) → length places ≡ 131841 → ArePlaced [] places
-placed_none places all = record {
-  all = all;
+pub placed_none : (places : List ℕ) → ArePlaced [] places
+placed_none places = record {
   plain = λ i s e. absurd (nothing i s e);
   placed = λ i s e n. absurd (nothing i s e);
   once = λ i j s e f. absurd (nothing i s e);
@@ -84,7 +91,7 @@ placed_none places all = record {
     nothing : (i : ℕ) (s : Station) → slice_get [] i ≡ Some s → ⊥
     nothing i s e = omega (arith, slice_get_within [] i s e)
 
-module _ (seen : List Station) (places : List ℕ) (placed : ArePlaced seen places) (station : Station) (plain : IsPlain station) (by_rank : IsNotAfter seen station.rank) (no : slice_get seen (slice_index places (place station)) ≡ Some station → ⊥) (below : place station < 131841) where
+module _ (seen : List Station) (places : List ℕ) (placed : ArePlaced seen places) (station : Station) (plain : IsPlain station) (by_rank : IsNotAfter seen station.rank) (no : slice_get seen (slice_index places (place station)) ≡ Some station → ⊥) (within : place station < length places) where
   -- a station that is not at its place was not seen
   pub not_seen : (i : ℕ) → slice_get seen i ≡ Some station → ⊥
   not_seen i e =
@@ -93,15 +100,11 @@ module _ (seen : List Station) (places : List ℕ) (placed : ArePlaced seen plac
   -- one more
   pub placed_more : ArePlaced (seen ++ station ∷ []) (slice_set places (place station) (length seen))
   placed_more = record {
-    all = length-set places (place station) (length seen) ∙ placed.all;
     plain = λ i s e. elim (get_either seen station i s e) [ inl was ↦ placed.plain i s was | inr new ↦ subst IsPlain (sym new.1) plain ];
     placed = λ i s e last. elim (get_either seen station i s e) [ inl was ↦ kept i s was last | inr new ↦ here i s new ];
     once = λ i j s e f. once i j s (get_either seen station i s e) (get_either seen station j s f);
   }
     where
-      within : place station < length places
-      within = omega (arith, below, placed.all)
-
       here : (i : ℕ) (s : Station) → (i ≡ length seen) × (s ≡ station) → slice_index (slice_set places (place station) (length seen)) (place s) ≡ i
       here i s new =
           ap (λ (t : Station). slice_index (slice_set places (place station) (length seen)) (place t)) new.1 ∙ get_or-set_same places (place station) (length seen) 0 within ∙ sym new.0
@@ -120,11 +123,10 @@ module _ (seen : List Station) (places : List ℕ) (placed : ArePlaced seen plac
       once i j s (inr e) (inr f) = e.0 ∙ sym f.0
 
 -- the same, where its place was read
-pub placed_at : (seen : List Station) (places : List ℕ) (station : Station) (at number : ℕ) → ArePlaced seen places → IsPlain station → IsNotAfter seen station.rank → at ≡ place station → at < 131841 → number ≡ get_or places at number → (slice_get seen number ≡ Some station → ⊥) → ArePlaced (seen ++ station ∷ []) (slice_set places at (length seen))
-placed_at seen places station at number placed plain by_rank is below read apart =
-    let within : at < length places = omega (arith, below, placed.all) in
+pub placed_at : (seen : List Station) (places : List ℕ) (station : Station) (at number : ℕ) → ArePlaced seen places → IsPlain station → IsNotAfter seen station.rank → at ≡ place station → at < length places → number ≡ get_or places at number → (slice_get seen number ≡ Some station → ⊥) → ArePlaced (seen ++ station ∷ []) (slice_set places at (length seen))
+placed_at seen places station at number placed plain by_rank is within read apart =
     let here : slice_index places (place station) ≡ number = ap (slice_index places) (sym is) ∙ get_or_from_slice_get places at number 0 (slice_get-get_or places at number within ∙ ap Some (sym read)) in
-    let more = placed_more seen places placed station plain by_rank (λ e. apart (ap (slice_get seen) (sym here) ∙ e)) (omega (arith, is, below)) in
+    let more = placed_more seen places placed station plain by_rank (λ e. apart (ap (slice_get seen) (sym here) ∙ e)) (omega (arith, is, within)) in
     subst (λ (n : ℕ). ArePlaced (seen ++ station ∷ []) (slice_set places n (length seen))) (sym is) more
 
 -- the parts of a plain station

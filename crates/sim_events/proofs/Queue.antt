@@ -7,7 +7,7 @@ use Rattle.std.proofs.lemmas.Option.{same_Some, slice_get-get_or, slice_get_with
 use Rattle.goal_graph.specs.declared.action.OpId.{OpId}
 use Rattle.goal_graph.specs.declared.action.Timed.{Timed}
 use Rattle.goal_graph.specs.declared.action.Class.{Class}
-use Rattle.goal_graph.specs.declared.action.Class.TheVariants.{Serve}
+use Rattle.goal_graph.specs.declared.action.Class.TheVariants.{Arrive, Serve, Begin}
 use Rattle.goal_graph.specs.declared.plan.Kind.{Kind}
 use Rattle.goal_graph.specs.declared.plan.Kind.TheVariants.{Calc, Send, Recv}
 use Rattle.goal_graph.specs.declared.plan.Op.{Op}
@@ -16,7 +16,7 @@ use Rattle.goal_graph.specs.Action.{plain, plain_act}
 use Rattle.goal_graph.specs.Allowed.{allowed}
 use Rattle.goal_graph.specs.Fault.{IsOp}
 use Rattle.goal_graph.specs.Interleaving.{IsInterleaving}
-use Rattle.goal_graph.proofs.ForCallers.{cases_op, allowed_listed, allowed_stays, one_allowed, other_place, find_class, allowed_serve, listed_op, kind_from_op}
+use Rattle.goal_graph.proofs.ForCallers.{cases_op, allowed_arrive, allowed_listed, allowed_stays, one_allowed, other_place, find_class, allowed_serve, listed_op, kind_from_op}
 use Rattle.sim_params.specs.Costs.{CostModel, is_eager}
 use Rattle.sim_params.specs.Times.{time, cpu, tx, rx, Possible}
 use Rattle.sim_params.specs.Run.{IsNext, IsRun, IsFinished}
@@ -33,7 +33,8 @@ use Rattle.sim_state.proofs.ForCallers.{other_op, happened_this, listed_exists}
 use Rattle.sim_events.specs.Stations.{AreStationed}
 use Rattle.sim_events.specs.Queue.{AreFree, IsOfSchedule, IsQueueBut, IsQueue, HasPossibleKeys, IsRefreshed, IsDueAfter}
 use Rattle.sim_events.proofs.Awaited.{IsConcerned, newly_allowed}
-use Rattle.sim_events.proofs.Done.{serve_or_not, served_is_done}
+use Rattle.sim_events.proofs.Done.{serve_or_not, served_is_done, begun_calc_is_done, arrived_is_done, received_is_done}
+use Rattle.sim_state.specs.Tasks.{IsLast}
 use Rattle.sim_events.proofs.Keys.{before_event}
 use Rattle.sim_events.proofs.Stays.{time_after, free_first}
 use Rattle.sim_events.proofs.FreeAfter.{both_are}
@@ -75,9 +76,25 @@ module _ (plans : List Plan) (costs : CostModel) where
     stays c x d e =
         elim (cases_op a.op x) [ inl s ↦ absurd (d (sym s)) | inr o ↦ allowed_stays plans (is_eager plans costs) (plain_act a) (plain h) c x (other_op plans costs h a c x o) e ]
 
+    -- its operation is done, where it is the last of that
+    own_is_done : (c : Class) (x : OpId) → x ≡ a.op → allowed plans (is_eager plans costs) (plain (a ∷ h)) c x ≡ true → IsLast plans costs a → ⊥
+    own_is_done c x e t last = go last (subst (λ (y : OpId). allowed plans (is_eager plans costs) (plain (a ∷ h)) c y ≡ true) e t)
+      where
+        -- it was allowed as an action of its class, and has happened now
+        was : (d : Class) → a.class ≡ d → allowed plans (is_eager plans costs) (plain h) d a.op ≡ true
+        was d is = subst (λ (k : Class). allowed plans (is_eager plans costs) (plain h) k a.op ≡ true) is possible.allowed
+
+        go : IsLast plans costs a → allowed plans (is_eager plans costs) (plain (a ∷ h)) c a.op ≡ true → ⊥
+        go (inl (is, calc)) may =
+            begun_calc_is_done plans (is_eager plans costs) (plain (a ∷ h)) a.op calc (happened_this plans costs h a Begin is) c may
+        go (inr (inl (is, whole))) may =
+            arrived_is_done plans (is_eager plans costs) (plain (a ∷ h)) a.op interleaving (allowed_arrive plans (is_eager plans costs) (plain h) a.op (was Arrive is)).0 whole (happened_this plans costs h a Arrive is) c may
+        go (inr (inr is)) may =
+            received_is_done plans (is_eager plans costs) (plain (a ∷ h)) a.op interleaving (allowed_serve plans (is_eager plans costs) (plain h) a.op (was Serve is)).0 (happened_this plans costs h a Serve is) c may
+
     -- what it concerns is due, but a send whose message is taken, which is done
     due : (c : Class) (x : OpId) → allowed plans (is_eager plans costs) (plain (a ∷ h)) c x ≡ true → IsConcerned plans (plain (a ∷ h)) (plain_act a) x → IsDueAfter plans costs (a ∷ h) a x
-    due c x t (inl e) = inl e
+    due c x t (inl e) = inl ((λ last. own_is_done c x e t last), e)
     due c x t (inr (inr w)) = inr (inr w)
     due c x t (inr (inl p)) = elim (serve_or_not a.class) [ inl e ↦ absurd (taken e) | inr n ↦ inr (inl (n, p)) ]
       where
@@ -93,6 +110,14 @@ module _ (plans : List Plan) (costs : CostModel) where
         go : ((c : Class) × (allowed plans (is_eager plans costs) (plain (a ∷ h)) c x ≡ true)) ⊎ ((c : Class) → allowed plans (is_eager plans costs) (plain (a ∷ h)) c x ≡ false) → IsIdle plans costs (a ∷ h) x ⊎ IsDueAfter plans costs (a ∷ h) a x
         go (inr none) = inl none
         go (inl (c, t)) = elim (newly c x t) [ inl was ↦ absurd (both_ways _ (idle c) was) | inr new ↦ inr (due c x t new) ]
+
+    -- its operation is idle, or it is due
+    own_after : (x : OpId) → x ≡ a.op → IsIdle plans costs (a ∷ h) x ⊎ IsDueAfter plans costs (a ∷ h) a x
+    own_after x e = go (find_class (λ c. allowed plans (is_eager plans costs) (plain (a ∷ h)) c x))
+      where
+        go : ((c : Class) × (allowed plans (is_eager plans costs) (plain (a ∷ h)) c x ≡ true)) ⊎ ((c : Class) → allowed plans (is_eager plans costs) (plain (a ∷ h)) c x ≡ false) → IsIdle plans costs (a ∷ h) x ⊎ IsDueAfter plans costs (a ∷ h) a x
+        go (inr none) = inl none
+        go (inl (c, t)) = inr (due c x t (inl e))
 
     -- the possible action of another operation, once it knows when room is free
     possible_then : (x : OpId) (k : Timed) (f : ℕ) → ¬ (x ≡ a.op) → k.op ≡ x → Possible plans costs h k → f ≡ free plans costs (a ∷ h) x → Possible plans costs (a ∷ h) (at_time (time_then f k) k)
@@ -135,7 +160,7 @@ module _ (plans : List Plan) (costs : CostModel) where
         idle_then i x None at was is = elim (q.idle i x at was) [ inl idle ↦ idle_stays x idle | inr never ↦ absurd never ]
 
         is_idle : (i : ℕ) (x : OpId) → slice_get (operations plans) i ≡ Some x → key_at new.keys i ≡ None → (i ≡ slot) ⊎ (i ≢ slot) → IsIdle plans costs (a ∷ h) x ⊎ IsDueAfter plans costs (a ∷ h) a x
-        is_idle i x at none (inl s) = inr (inl (same_Some x a.op (sym at ∙ ap (slice_get (operations plans)) s ∙ here)))
+        is_idle i x at none (inl s) = own_after x (same_Some x a.op (sym at ∙ ap (slice_get (operations plans)) s ∙ here))
         is_idle i x at none (inr d) = idle_then i x (key_at old.keys i) at refl (sym (settled.others i x d at) ∙ none)
 
     -- where it waited for nothing the others are as they were

@@ -15,6 +15,7 @@ use Rattle.sim_stations.specs.Stations.{Stationed, waits_for_room, when_free, he
 use Rattle.sim_stations.specs.Moves.{HaveReturned, held_once_more}
 use Rattle.sim_state.specs.Enabled.{IsIdle, IsEnabledActionOf}
 use Rattle.sim_state.specs.Free.{side}
+use Rattle.sim_state.specs.Tasks.{IsLast}
 use Rattle.sim_events.specs.Stations.{AreStationed}
 use Rattle.sim_events.specs.Cost.{gives}
 
@@ -90,6 +91,7 @@ module _ (plans : List Plan) where
       pub turned : new.turned ≡ old.turned
       pub free : new.free ≡ old.free
 
-    -- after an action y is due where it is its operation, or its partner, but after a Serve, or needs the moment that it gives
+    -- after an action y is due where it is its operation, but after its last, or its partner, but after a Serve, or needs the
+    -- moment that it gives
     abbrev pub IsDueAfter : Timed → OpId → Type 0
-    IsDueAfter a y = (y ≡ a.op) ⊎ (((a.class ≢ Serve) × (mate plans costs h a.op ≡ Some y)) ⊎ Awaits a.class a.op y)
+    IsDueAfter a y = ((IsLast plans costs a → ⊥) × (y ≡ a.op)) ⊎ (((a.class ≢ Serve) × (mate plans costs h a.op ≡ Some y)) ⊎ Awaits a.class a.op y)

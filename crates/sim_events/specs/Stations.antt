@@ -44,7 +44,6 @@ AreOnce seen = (i j : ℕ) (s : Station) → slice_get seen i ≡ Some s → sli
 
 -- the stations of the last rank have their numbers at their places
 pub record ArePlaced (seen : List Station) (places : List ℕ) : Type 0 where
-  pub all : length places ≡ 131841
   pub plain : (i : ℕ) (s : Station) → slice_get seen i ≡ Some s → IsPlain s
   pub placed : (i : ℕ) (s : Station) → slice_get seen i ≡ Some s → IsNotAfter seen s.rank → slice_index places (place s) ≡ i
   pub once : AreOnce seen

@@ -121,9 +121,33 @@ pub fn follow<C: Costs, H: History, L: Ledger, N: Ledger>(
     ensures looked { reads.new + read_so_far state.now.plans state.now.history queue.old cursors.old ≤ reads.old + read_so_far state.now.plans state.now.history queue.new cursors.new + looked_after state.now.plans action }
     ensures counted { (k : ℕ) → length queue.old.keys ≤ 2 ^ k → steps.new + cost_of_waiting k queue.new.stands + spent k queue.old ≤ steps.old + cost_of_waiting k queue.old.stands + spent k queue.new }
 {
-    refresh(state, queue, cursors, action.op, steps, reads);
+    follow_own(state, queue, cursors, action, steps, reads);
     follow_partner(state, queue, cursors, action, steps, reads);
     follow_waiting(state, queue, cursors, action, steps, reads);
+}
+
+// Gives its key to the operation of an action, unless that was its last.
+fn follow_own<C: Costs, H: History, L: Ledger, N: Ledger>(
+    state: &State<C, H>,
+    queue: &mut Queue,
+    cursors: &mut [Cursor],
+    action: Timed,
+    steps: &mut Steps<L>,
+    reads: &mut Steps<N>,
+)
+    requires exists { IsOp state.now.plans action.op }
+    requires rest { IsQueueBut state.now.plans (C.model state.now.costs) state.now.history (IsDueAfter state.now.plans (C.model state.now.costs) state.now.history action) queue.old }
+    requires cursors { AreCursors state.now.plans (C.model state.now.costs) state.now.history cursors.old }
+    ensures queue { IsQueueBut state.now.plans (C.model state.now.costs) state.now.history (λ y. ((action.class ≢ Serve) × (mate state.now.plans (C.model state.now.costs) state.now.history action.op ≡ Some y)) ⊎ Awaits state.now.plans action.class action.op y) queue.new }
+    ensures cursors { AreCursors state.now.plans (C.model state.now.costs) state.now.history cursors.new }
+    ensures placed { AreAtPlaces queue.old queue.new }
+    ensures looked { reads.new + read_so_far state.now.plans state.now.history queue.old cursors.old ≤ reads.old + read_so_far state.now.plans state.now.history queue.new cursors.new + 1 }
+    ensures counted { (k : ℕ) → length queue.old.keys ≤ 2 ^ k → steps.new + cost_of_waiting k queue.new.stands + spent k queue.old ≤ steps.old + cost_of_waiting k queue.old.stands + spent k queue.new }
+{
+    if state.is_last(action) {
+        return;
+    }
+    refresh(state, queue, cursors, action.op, steps, reads);
 }
 
 // Gives its key to the partner of the operation of an action, if it has one. After a Serve the partner is done.

@@ -1,5 +1,5 @@
 // What operations wait for.
-ghost use Rattle.std.specs.Prelude.{◌≡◌, ◌<◌, ◌≤◌, ◌+◌, ◌*◌, ◌^◌, ◌↔◌, [], All, IfOk, OnOk, IsTrue, Some, length, slice_get};
+ghost use Rattle.std.specs.Prelude.{◌≡◌, ℕ, ◌<◌, ◌≤◌, ◌+◌, ◌*◌, ◌^◌, ◌↔◌, [], All, IfOk, OnOk, IsTrue, Some, length, slice_get, slice_index};
 ghost use Rattle.goal_base.specs.declared.limits.TheConstants.{MAX_OPS};
 ghost use Rattle.goal_graph.specs.Schedule.{operations};
 ghost use Rattle.sim_stations.specs.Stations.{DoExist};
@@ -11,9 +11,6 @@ use goal_graph::{Kind, Op, OpId, Sched};
 use sim_stations::Pair;
 use std::alloc::Global;
 use std::marker::Model;
-
-// So many stations a rank has at most: each of 256 cpus or none, alone or with one side of one of 256 interfaces.
-const PLACES: usize = 131_841;
 
 /// What an operation waits for before it works: its cpu and, where it sends or receives, that side of its interface.
 /// A cpu alone and a side alone are stations too.
@@ -103,12 +100,24 @@ impl Model for Stations {
     ghost invariant = { λ s. ArePlaced s.seen.items s.places.items };
 }
 
+// Makes the table long enough for a place, where it is not.
+fn make_place(places: &mut Vec<u32>, place: usize) -> Result<(), NoMemory>
+    requires { place < 131841 }
+    ensures there { OnOk result (place < length places.new.items) }
+    ensures same { (n : ℕ) → slice_index places.new.items n ≡ slice_index places.old.items n }
+{
+    if place >= places.len() {
+        places.resize(place + 1, 0)?;
+    }
+    Ok(())
+}
+
 impl Stations {
     // None.
     fn new(alloc: Global) -> Result<Stations, NoMemory>
         ensures { IfOk result (λ s. s ≡ []) }
     {
-        let places = vec![in alloc; 0; PLACES]?;
+        let places = Vec::new(alloc);
         let seen = Vec::new(alloc);
         Ok(Stations { seen, places })
     }
@@ -129,6 +138,7 @@ impl Stations {
         ensures once { IfOk result (λ n. AreOnce self.new) }
     {
         let place = station.place();
+        make_place(&mut self.places, place)?;
         let number = self.places[place];
         if self.has(number, station) {
             return Ok(number);

@@ -1,5 +1,5 @@
 -- Heaps in parts of a table, none of which has a key.
-use Rattle.std.proofs.Common.{◌≡◌, ◌≢◌, ◌⊎◌, ◌<◌, ◌≤◌, ◌+◌, ◌-◌, ◌^◌, ℕ, suc, List, [], ◌∷◌, length, map, take, drop, slice_get, slice_index, Option, Some, refl, sym, ap, ap₂, ◌∙◌, subst, arith, All, inl, inr}
+use Rattle.std.proofs.Common.{◌≡◌, ◌≢◌, ◌⊎◌, ◌<◌, ◌≤◌, ◌+◌, ◌-◌, ◌^◌, ◌++◌, true, ℕ, suc, List, [], ◌∷◌, length, map, take, drop, slice_get, slice_index, Option, Some, refl, sym, ap, ap₂, ◌∙◌, subst, arith, All, inl, inr}
 use Rattle.std.proofs.lemmas.Bool.{cases_eq}
 use Rattle.std.proofs.lemmas.List.{length-map, take_all}
 use Rattle.std.proofs.lemmas.List.Elements.{All-get_or}
@@ -12,11 +12,14 @@ use Rattle.sim_heaps.specs.Heap.{keys_of, IsSlotHeap}
 use Rattle.sim_heaps.specs.Item.{Item}
 use Rattle.sim_heaps.specs.Map.{key_at, no_keys}
 use Rattle.sim_heaps.specs.TopHeap.{placed}
-use Rattle.sim_heaps.proofs.ForCallers.{none_of, none_there}
+use Rattle.sim_heaps.proofs.ForCallers.{get_added, get_before_added, none_of, none_there}
+use Rattle.sim_groups.specs.declared.item_heaps.Plot.{Plot}
 use Rattle.sim_groups.specs.declared.parts.Part.{Part}
-use Rattle.sim_groups.specs.Parts.{room_of, places_of, keyed_of, map_of_items, maps_of_items, map_of_slots, maps_of_slots, ArePacked, AreWithoutKeys, IsInOrder, AreItemHeaps, AreSlotHeaps}
+use Rattle.sim_groups.specs.declared.stretch.Stretch.{Stretch}
+use Rattle.sim_groups.specs.Parts.{room_of, places_of, keyed_of, map_of_slots, maps_of_slots, ArePacked, AreWithoutKeys, IsInOrder, AreSlotHeaps}
+use Rattle.sim_groups.specs.Stretches.{map_on, part_of_plot, map_of_items, maps_of_items, AreFresh, IsStretch, AreItemHeaps}
 use Rattle.sim_groups.proofs.InParts.{put_mid, length-places, part_written, places_elsewhere}
-use Rattle.sim_groups.proofs.ItemParts.{no_items_heap}
+use Rattle.sim_groups.proofs.StretchSteps.{empty_stretch}
 
 -- where no place has a key
 keyed_none : {X : Type 0} (table : List X) (part : Part) → part.count ≡ 0 → keyed_of table part ≡ []
@@ -24,15 +27,38 @@ keyed_none table part e =
     let none : part.start + part.count - part.start ≡ 0 = omega (arith, e) in
     ap (λ n. take n (drop part.start table)) none
 
-placed_none : (slots : ℕ) (items : List (Item Timed)) → items ≡ [] → placed slots items ≡ no_keys slots
-unfolding placed
-placed_none slots items e = ap (placed slots) e
-
 -- the maps of parts, each without a key
 maps_none : (f : Part → List (Option Timed)) (parts : List Part) → ((group : ℕ) (part : Part) → slice_get parts group ≡ Some part → f part ≡ no_keys part.room) → map f parts ≡ map (no_keys {K = Timed}) (map room_of parts)
 maps_none f [] each = refl
 maps_none f (part ∷ parts) each =
     ap₂ (λ (h : List (Option Timed)) hs. h ∷ hs) (each 0 part refl) (maps_none f parts (λ group p e. each (suc group) p e))
+
+-- the same of plots
+maps_unset : (f : Plot → List (Option Timed)) (plots : List Plot) → ((group : ℕ) (plot : Plot) → slice_get plots group ≡ Some plot → f plot ≡ no_keys plot.room) → map f plots ≡ map (no_keys {K = Timed}) (map room_of (map part_of_plot plots))
+maps_unset f [] each = refl
+maps_unset f (plot ∷ plots) each =
+    ap₂ (λ (h : List (Option Timed)) hs. h ∷ hs) (each 0 plot refl) (maps_unset f plots (λ group q e. each (suc group) q e))
+
+placed_none : (slots : ℕ) → placed {K = Timed} slots [] ≡ no_keys slots
+unfolding placed
+placed_none slots = refl
+
+abbrev counted : Part → ℕ → Part
+counted part n = record { start = part.start; room = part.room; count = n }
+
+-- a plot more, on the next of some parts, none of which has a key
+pub plot_more : (parts : List Part) (none : AreWithoutKeys parts) (index : ℕ) (part : Part) (at : slice_get parts index ≡ Some part) → part_of_plot (record { start = part.start; room = part.room; stretch = record { first = 0; end = 0; in_order = true } }) ≡ part
+plot_more parts none index part at =
+    ap (counted part) (sym (none index part at))
+
+pub fresh_more : (plots : List Plot) (plot : Plot) → AreFresh plots → plot.stretch ≡ (record { first = 0; end = 0; in_order = true }) → AreFresh (plots ++ plot ∷ [])
+fresh_more plots plot fresh empty group q e = go (cases_eq group (length plots))
+  where
+    go : (group ≡ length plots) ⊎ (group ≢ length plots) → q.stretch ≡ (record { first = 0; end = 0; in_order = true })
+    go (inl s) =
+        let same : plot ≡ q = same_Some plot q (sym (get_added plots plot) ∙ ap (slice_get (plots ++ plot ∷ [])) (sym s) ∙ e) in
+        ap (λ (u : Plot). u.stretch) (sym same) ∙ empty
+    go (inr n) = fresh group q (sym (get_before_added plots plot group n) ∙ e)
 
 module _ (parts : List Part) (size : ℕ) (packed : ArePacked parts size) (none : AreWithoutKeys parts) (counts : List ℕ) (rooms : map room_of parts ≡ counts) where
   -- the room of a part is counted
@@ -41,17 +67,28 @@ module _ (parts : List Part) (size : ℕ) (packed : ArePacked parts size) (none 
       let counted : slice_get counts group ≡ Some part.room = ap (λ ns. slice_get ns group) (sym rooms) ∙ slice_get-map room_of parts group ∙ ap (option_map room_of) at in
       subst P (get_or_from_slice_get counts group part.room 0 counted) (All-get_or P counts group 0 (slice_get_within counts group part.room counted) all)
 
-  pub items_begun : (items : List (Item Timed)) → length items ≡ size → All (λ count. count ≤ MAX_OPS) counts → AreItemHeaps event_before parts items
-  items_begun items each few = record {
-    packed = subst (ArePacked parts) (sym each) packed;
-    heap =
-        λ group part at.
-        no_items_heap (keyed_of items part) part.room (ap length (keyed_none items part (none group part at))) (room_counted group part at (λ count. count ≤ MAX_OPS) few);
-  }
+  -- plots on these parts, none of which has an item
+  module _ (plots : List Plot) (are : map part_of_plot plots ≡ parts) (fresh : AreFresh plots) (items : List (Item Timed)) (long : length items ≡ size) where
+    plot_at : (group : ℕ) (plot : Plot) → slice_get plots group ≡ Some plot → slice_get parts group ≡ Some (part_of_plot plot)
+    plot_at group plot at = ap (λ ps. slice_get ps group) (sym are) ∙ slice_get-map part_of_plot plots group ∙ ap (option_map part_of_plot) at
 
-  pub items_none : (items : List (Item Timed)) → maps_of_items parts items ≡ map (no_keys {K = Timed}) counts
-  items_none items =
-      maps_none (map_of_items items) parts (λ group part at. placed_none part.room (keyed_of items part) (keyed_none items part (none group part at))) ∙ ap (map (no_keys {K = Timed})) rooms
+    length_plot : (group : ℕ) (plot : Plot) → slice_get plots group ≡ Some plot → length (places_of items (part_of_plot plot)) ≡ plot.room
+    length_plot group plot at =
+        length-places items (part_of_plot plot) (omega (arith, packed.within group (part_of_plot plot) (plot_at group plot at), long))
+
+    pub items_begun : All (λ count. count ≤ MAX_OPS) counts → AreItemHeaps event_before plots items
+    items_begun few = record {
+      packed = subst (λ (ps : List Part). ArePacked ps (length items)) (sym are) (subst (ArePacked parts) (sym long) packed);
+      heap =
+          λ group plot at.
+          subst (λ (s : Stretch). IsStretch event_before (places_of items (part_of_plot plot)) s) (sym (fresh group plot at))
+          (empty_stretch (places_of items (part_of_plot plot)) (omega (arith, length_plot group plot at, room_counted group (part_of_plot plot) (plot_at group plot at) (λ count. count ≤ MAX_OPS) few)));
+    }
+
+    pub items_none : maps_of_items plots items ≡ map (no_keys {K = Timed}) counts
+    items_none =
+        maps_unset (map_of_items items) plots (λ group plot at. ap (λ (s : Stretch). map_on (places_of items (part_of_plot plot)) s) (fresh group plot at) ∙ placed_none (length (places_of items (part_of_plot plot))) ∙ ap (no_keys {K = Timed}) (length_plot group plot at))
+        ∙ ap (λ ps. map (no_keys {K = Timed}) (map room_of ps)) are ∙ ap (map (no_keys {K = Timed})) rooms
 
   module _ (sorted : List Timed) (slots places : List ℕ) (each : length sorted ≡ size) (slots_each : length slots ≡ size) (places_each : length places ≡ size) where
     places_long : (group : ℕ) (part : Part) → slice_get parts group ≡ Some part → (table : List ℕ) → length table ≡ size → length (places_of table part) ≡ part.room

@@ -63,7 +63,7 @@ map_written {X} {Y} f g (x ∷ xs) (suc l) z agree =
     ap₂ (λ (y : Y) (ys : List Y). y ∷ ys) (agree 0 x refl (λ n. omega (arith, n))) (map_written f g xs l z (λ k t e n. agree (suc k) t e (λ same. n (omega (arith, same)))))
 
 -- the part that is read
-pub part_read : (parts : List Part) (group : ℕ) (part : Part) → group < length parts → part ≡ get_or parts group part → slice_get parts group ≡ Some part
+pub part_read : {X : Type 0} (parts : List X) (group : ℕ) (part : X) → group < length parts → part ≡ get_or parts group part → slice_get parts group ≡ Some part
 part_read parts group part l e = slice_get-get_or parts group part l ∙ ap Some (sym e)
 
 -- A part is written.

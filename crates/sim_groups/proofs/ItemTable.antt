@@ -1,98 +1,123 @@
 -- Heaps of items in one table, of which one is written.
-use Rattle.std.proofs.Common.{◌≡◌, ◌≢◌, ◌⊎◌, ◌<◌, ◌≤◌, ◌+◌, ◌-◌, ◌++◌, ◌∷◌, [], ℕ, List, length, set, take, drop, slice_get, slice_set, Option, Some, None, refl, sym, ap, ◌∙◌, subst, arith, inl, inr}
-use Rattle.std.specs.List.{between}
-use Rattle.std.proofs.lemmas.List.{length-append, length-drop, length-take-le, take-take, get_or-map}
-use Rattle.std.proofs.lemmas.Option.{slice_get_within, get_or_from_slice_get}
+use Rattle.std.proofs.Common.{◌≡◌, ◌≢◌, ◌⊎◌, ◌<◌, ◌≤◌, ◌+◌, ◌-◌, [], ℕ, List, length, map, set, take, drop, get_or, slice_get, slice_set, Option, Some, refl, sym, ap, ◌∙◌, subst, arith, inl, inr}
+use Rattle.std.specs.Option.{option_map}
+use Rattle.std.proofs.Math.Seq.{map-set_same}
+use Rattle.std.proofs.lemmas.Bool.{cases_eq}
+use Rattle.std.proofs.lemmas.List.{get_or-map, get_or-take, get_or-drop, take_all}
+use Rattle.std.proofs.lemmas.Option.{same_Some, slice_get-map, slice_get-get_or, slice_get_within, get_or_from_slice_get}
 use Rattle.goal_graph.specs.declared.action.Timed.{Timed}
 use Rattle.sim_order.specs.Events.{event_before}
-use Rattle.sim_heaps.specs.Item.{Item}
 use Rattle.sim_order.specs.EventLaws.{event_laws}
-use Rattle.sim_heaps.specs.Map.{key_at, IsEmptyMap, IsLeast}
-use Rattle.sim_heaps.specs.TopHeap.{placed, IsTopHeap}
-use Rattle.sim_heaps.proofs.ForCallers.{item_of, items_fit, length-placed, added_apart, empty_items, top_is_least}
+use Rattle.sim_heaps.specs.Item.{Item}
+use Rattle.sim_heaps.specs.Map.{IsEmptyMap, IsLeast}
+use Rattle.sim_heaps.proofs.ForCallers.{get_set_same, get_set_other, length-placed, empty_items, top_is_least}
+use Rattle.sim_groups.specs.declared.item_heaps.Plot.{Plot}
 use Rattle.sim_groups.specs.declared.parts.Part.{Part}
+use Rattle.sim_groups.specs.declared.stretch.Stretch.{Stretch}
 use Rattle.sim_groups.specs.Groups.{heap_at, with_key}
-use Rattle.sim_groups.specs.Parts.{all_but_last, keyed_of, map_of_items, maps_of_items, ArePacked, AreItemHeaps}
-use Rattle.sim_groups.proofs.InParts.{put_mid, part_written, length-keyed, first_keyed, map_written, counting, part_after, packed_after, length-written, keyed_elsewhere}
+use Rattle.sim_groups.specs.Parts.{places_of, ArePacked}
+use Rattle.sim_groups.specs.Stretches.{standing, map_on, part_of_plot, map_of_items, maps_of_items, IsStretch, AreItemHeaps}
+use Rattle.sim_groups.proofs.InParts.{put_mid, part_written, length-places, map_written, length-written, places_elsewhere}
+use Rattle.sim_groups.proofs.Stretching.{length-standing}
 
-module _ (parts : List Part) (items : List (Item Timed)) (heaps : AreItemHeaps event_before parts items) (group : ℕ) (part : Part) (at : slice_get parts group ≡ Some part) where
-  -- what is known of its part
-  pub part_in : part.start + part.room ≤ length items
-  part_in = heaps.packed.within group part at
+module _ (plots : List Plot) (items : List (Item Timed)) (heaps : AreItemHeaps event_before plots items) (group : ℕ) (plot : Plot) (at : slice_get plots group ≡ Some plot) where
+  -- what is known of its plot
+  abbrev part : Part
+  part = part_of_plot plot
 
-  pub part_fits : part.count ≤ part.room
-  part_fits = heaps.packed.fits group part at
+  abbrev parts : List Part
+  parts = map part_of_plot plots
 
-  pub map_there : heap_at (maps_of_items parts items) group ≡ map_of_items items part
+  abbrev places : List (Item Timed)
+  places = places_of items part
+
+  part_at : slice_get parts group ≡ Some part
+  part_at = slice_get-map part_of_plot plots group ∙ ap (option_map part_of_plot) at
+
+  pub plot_in : plot.start + plot.room ≤ length items
+  plot_in = heaps.packed.within group part part_at
+
+  pub length_plot : length places ≡ plot.room
+  length_plot = length-places items part plot_in
+
+  pub stands : IsStretch event_before places plot.stretch
+  stands = heaps.heap group plot at
+
+  pub many_stand : length (standing places plot.stretch) ≡ plot.stretch.end - plot.stretch.first
+  many_stand = length-standing places plot.stretch.first plot.stretch.end stands.begins stands.ends
+
+  pub map_there : heap_at (maps_of_items plots items) group ≡ map_of_items items plot
   map_there =
-      get_or-map (map_of_items items) parts group part [] (slice_get_within parts group part at) ∙ ap (map_of_items items) (get_or_from_slice_get parts group part part at)
+      get_or-map (map_of_items items) plots group plot [] (slice_get_within plots group plot at) ∙ ap (map_of_items items) (get_or_from_slice_get plots group plot plot at)
 
-  pub length_there : length (heap_at (maps_of_items parts items) group) ≡ part.room
-  length_there = ap length map_there ∙ length-placed part.room (keyed_of items part)
-
-  pub many_there : length (keyed_of items part) ≡ part.count
-  many_there = length-keyed items part (omega (arith, part_in, part_fits))
+  pub length_there : length (heap_at (maps_of_items plots items) group) ≡ length places
+  length_there = ap length map_there ∙ length-placed (length places) (standing places plot.stretch)
 
   -- its least
-  pub none_of_part : part.count ≡ 0 → IsEmptyMap (heap_at (maps_of_items parts items) group)
-  none_of_part none =
-      let heap = heaps.heap group part at in
-      subst IsEmptyMap (sym map_there) (empty_items event_before event_laws part.room (keyed_of items part) heap.apart heap.ordered (omega (arith, many_there, none)))
+  pub none_of_plot : plot.stretch.end ≤ plot.stretch.first → IsEmptyMap (heap_at (maps_of_items plots items) group)
+  none_of_plot none =
+      subst IsEmptyMap (sym map_there) (empty_items event_before event_laws (length places) (standing places plot.stretch) stands.heap.apart stands.heap.ordered (omega (arith, many_stand, none)))
 
-  pub least_of_part : (top : Item Timed) → 0 < part.count → slice_get items part.start ≡ Some top → IsLeast event_before (heap_at (maps_of_items parts items) group) top.slot top.key
-  least_of_part top some e =
-      let heap = heaps.heap group part at in
+  first_stands : (top : Item Timed) → plot.stretch.first < plot.stretch.end → slice_get items (plot.start + plot.stretch.first) ≡ Some top → slice_get (standing places plot.stretch) 0 ≡ Some top
+  first_stands top some e =
+      let first = plot.stretch.first in
+      let end = plot.stretch.end in
+      let same : plot.start + (first + 0) ≡ plot.start + first = omega arith in
+      slice_get-get_or (standing places plot.stretch) 0 top (omega (arith, many_stand, some))
+      ∙ ap Some
+      (get_or-drop first (take end places) 0 top
+      ∙ get_or-take end places (first + 0) top (omega (arith, some))
+      ∙ get_or-take (plot.start + plot.room - plot.start) (drop plot.start items) (first + 0) top (omega (arith, some, stands.ends, length_plot))
+      ∙ get_or-drop plot.start items (first + 0) top
+      ∙ ap (λ n. get_or items n top) same
+      ∙ get_or_from_slice_get items (plot.start + first) top top e)
+
+  pub least_of_plot : (top : Item Timed) → plot.stretch.first < plot.stretch.end → slice_get items (plot.start + plot.stretch.first) ≡ Some top → IsLeast event_before (heap_at (maps_of_items plots items) group) top.slot top.key
+  least_of_plot top some e =
       subst (λ h. IsLeast event_before h top.slot top.key) (sym map_there)
-      (top_is_least event_before event_laws part.room (keyed_of items part) heap.apart heap.ordered top (first_keyed items part top (omega (arith, part_in, part_fits)) some e))
+      (top_is_least event_before event_laws (length places) (standing places plot.stretch) stands.heap.apart stands.heap.ordered top (first_stands top some e))
 
-  -- there is room for one more
-  pub room_for : (slot : ℕ) (key : Timed) → slot < part.room → key_at (map_of_items items part) slot ≡ None → part.count + 1 ≤ part.room
-  room_for slot key within free =
-      let fit = items_fit part.room (keyed_of items part ++ item_of slot key ∷ []) (added_apart (keyed_of items part) (item_of slot key) part.room (heaps.heap group part at).apart within free) in
-      omega (arith, fit, length-append (keyed_of items part) (item_of slot key ∷ []), many_there)
+  -- its places are written
+  module _ (ys : List (Item Timed)) (k : ℕ) (is_room : k ≡ plot.room) (each : length ys ≡ k) (stretch : Stretch) where
+    abbrev pub plot_now : Plot
+    plot_now = record { start = plot.start; room = plot.room; stretch = stretch }
 
-  -- what stands before a free place
-  pub front_of : part.count + 1 ≤ part.room → all_but_last (between part.start (part.start + part.count + 1) items) ≡ keyed_of items part
-  front_of more =
-      let all : part.start + part.count + 1 - part.start ≡ part.count + 1 = omega arith in
-      let many : part.start + part.count - part.start ≡ part.count = omega arith in
-      let long : length (take (part.count + 1) (drop part.start items)) ≡ part.count + 1 = length-take-le (part.count + 1) (drop part.start items) (omega (arith, part_in, more, length-drop part.start items)) in
-      let less : length (take (part.count + 1) (drop part.start items)) - 1 ≡ part.count = omega (arith, long) in
-      ap (λ n. all_but_last (take n (drop part.start items))) all
-      ∙ ap (λ n. take n (take (part.count + 1) (drop part.start items))) less
-      ∙ take-take part.count (part.count + 1) (drop part.start items) (omega arith)
-      ∙ sym (ap (λ n. take n (drop part.start items)) many)
-
-  -- its first places are written, and so many of them have a key
-  module _ (ys : List (Item Timed)) (k count : ℕ) (in_part : k ≤ part.room) (each : length ys ≡ k) (few : count ≤ k) where
     abbrev pub new_items : List (Item Timed)
-    new_items = put_mid part.start k items ys
+    new_items = put_mid plot.start k items ys
 
-    abbrev pub new_parts : List Part
-    new_parts = set parts group (counting parts (length items) heaps.packed group part at count)
+    abbrev pub new_plots : List Plot
+    new_plots = set plots group plot_now
 
-    abbrev now : Part
-    now = counting parts (length items) heaps.packed group part at count
+    same_parts : map part_of_plot new_plots ≡ parts
+    same_parts =
+        map-set_same part_of_plot plots group plot_now plot (ap part_of_plot (sym (get_or_from_slice_get plots group plot plot at)))
 
-    keyed_now : keyed_of new_items now ≡ take count ys
-    keyed_now =
-        part_written part.start k items ys (omega (arith, part_in)) count (omega (arith, few, each))
+    pub long : length new_items ≡ length items
+    long = length-written parts (length items) heaps.packed group part part_at items ys k refl (omega (arith, is_room)) each
 
-    pub items_after : IsTopHeap event_before (take count ys) part.room part.room → AreItemHeaps event_before new_parts new_items
-    items_after heap = record {
-      packed =
-          subst (λ (n : ℕ). ArePacked new_parts n) (sym (length-written parts (length items) heaps.packed group part at items ys k refl in_part each)) (packed_after parts (length items) heaps.packed group part at count (omega (arith, few, in_part)));
-      heap = λ other q e. there other q e (part_after parts (length items) heaps.packed group part at count other q e);
+    places_now : places_of new_items part ≡ ys
+    places_now =
+        part_written plot.start k items ys (omega (arith, plot_in)) plot.room (omega (arith, is_room, each)) ∙ take_all plot.room ys (omega (arith, is_room, each))
+
+    elsewhere : (other : ℕ) (q : Plot) → slice_get plots other ≡ Some q → other ≢ group → places_of new_items (part_of_plot q) ≡ places_of items (part_of_plot q)
+    elsewhere other q e n =
+        places_elsewhere parts (length items) heaps.packed group part part_at items ys k refl (omega (arith, is_room)) each other (part_of_plot q) (slice_get-map part_of_plot plots other ∙ ap (option_map part_of_plot) e) n
+
+    pub items_after : IsStretch event_before ys stretch → AreItemHeaps event_before new_plots new_items
+    items_after now = record {
+      packed = subst (λ (n : ℕ). ArePacked (map part_of_plot new_plots) n) (sym long) (subst (λ (ps : List Part). ArePacked ps (length items)) (sym same_parts) heaps.packed);
+      heap = λ other q e. there other q e (cases_eq other group);
     }
       where
-        there : (other : ℕ) (q : Part) → slice_get new_parts other ≡ Some q → ((other ≡ group) × (now ≡ q)) ⊎ ((other ≢ group) × (slice_get parts other ≡ Some q)) → IsTopHeap event_before (keyed_of new_items q) q.room q.room
+        there : (other : ℕ) (q : Plot) → slice_get new_plots other ≡ Some q → (other ≡ group) ⊎ (other ≢ group) → IsStretch event_before (places_of new_items (part_of_plot q)) q.stretch
         there other q e (inl s) =
-            subst (λ (u : Part). IsTopHeap event_before (keyed_of new_items u) u.room u.room) s.1 (subst (λ (xs : List (Item Timed)). IsTopHeap event_before xs part.room part.room) (sym keyed_now) heap)
-        there other q e (inr s) =
-            subst (λ (xs : List (Item Timed)). IsTopHeap event_before xs q.room q.room) (sym (keyed_elsewhere parts (length items) heaps.packed group part at items ys k refl in_part each other q s.1 s.0)) (heaps.heap other q s.1)
+            let same : plot_now ≡ q = same_Some plot_now q (sym (get_set_same plots group plot_now (slice_get_within plots group plot at)) ∙ ap (slice_get new_plots) (sym s) ∙ e) in
+            subst (λ (u : Plot). IsStretch event_before (places_of new_items (part_of_plot u)) u.stretch) same (subst (λ (xs : List (Item Timed)). IsStretch event_before xs stretch) (sym places_now) now)
+        there other q e (inr n) =
+            let was : slice_get plots other ≡ Some q = sym (get_set_other plots group other plot_now n) ∙ e in
+            subst (λ (xs : List (Item Timed)). IsStretch event_before xs q.stretch) (sym (elsewhere other q was n)) (heaps.heap other q was)
 
-    pub maps_after : (place : ℕ) (value : Option Timed) → placed part.room (take count ys) ≡ slice_set (map_of_items items part) place value → maps_of_items new_parts new_items ≡ with_key (maps_of_items parts items) (record { group = group; place = place }) value
+    pub maps_after : (place : ℕ) (value : Option Timed) → map_on ys stretch ≡ slice_set (map_of_items items plot) place value → maps_of_items new_plots new_items ≡ with_key (maps_of_items plots items) (record { group = group; place = place }) value
     maps_after place value is =
-        map_written (map_of_items items) (map_of_items new_items) parts group now
-        (λ other q e n. ap (placed q.room) (keyed_elsewhere parts (length items) heaps.packed group part at items ys k refl in_part each other q e n))
-        ∙ ap (set (maps_of_items parts items) group) (ap (placed part.room) keyed_now ∙ is ∙ ap (λ h. slice_set h place value) (sym map_there))
+        map_written (map_of_items items) (map_of_items new_items) plots group plot_now (λ other q e n. ap (λ xs. map_on xs q.stretch) (elsewhere other q e n))
+        ∙ ap (set (maps_of_items plots items) group) (ap (λ xs. map_on xs stretch) places_now ∙ is ∙ ap (λ h. slice_set h place value) (sym map_there))

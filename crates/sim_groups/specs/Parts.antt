@@ -2,8 +2,6 @@
 use Rattle.std.specs.Prelude.{◌≡◌, ◌<◌, ◌≤◌, ◌+◌, ◌-◌, ℕ, Bool, List, Option, Some, length, map, take, slice_get, slice_index, slice_range}
 use Rattle.sim_groups.specs.declared.parts.Part.{Part}
 use Rattle.sim_heaps.specs.Heap.{keys_of, IsSlotHeap}
-use Rattle.sim_heaps.specs.Item.{Item}
-use Rattle.sim_heaps.specs.TopHeap.{placed, IsTopHeap}
 
 abbrev pub room_of : Part → ℕ
 room_of part = part.room
@@ -35,13 +33,6 @@ abbrev pub keyed_of : {X : Type 0} → List X → Part → List X
 keyed_of table part = slice_range table part.start (part.start + part.count)
 
 module _ {K : Type 0} where
-  -- the map of each part, whose items are keys with their slots
-  abbrev pub map_of_items : List (Item K) → Part → List (Option K)
-  map_of_items items part = placed part.room (keyed_of items part)
-
-  abbrev pub maps_of_items : List Part → List (Item K) → List (List (Option K))
-  maps_of_items parts items = map (map_of_items items) parts
-
   -- the map of each part whose slots know their places
   abbrev pub map_of_slots : List K → List ℕ → Part → List (Option K)
   map_of_slots sorted places part = keys_of (keyed_of sorted part) (places_of places part)
@@ -50,11 +41,6 @@ module _ {K : Type 0} where
   maps_of_slots parts sorted places = map (map_of_slots sorted places) parts
 
 module _ {K : Type 0} (before : K → K → Bool) where
-  -- each part is a heap of items
-  pub record AreItemHeaps (parts : List Part) (items : List (Item K)) : Type 0 where
-    pub packed : ArePacked parts (length items)
-    pub heap : (group : ℕ) (part : Part) → slice_get parts group ≡ Some part → IsTopHeap before (keyed_of items part) part.room part.room
-
   -- each part is a heap whose slots know their places
   pub record AreSlotHeaps (parts : List Part) (sorted : List K) (slots places : List ℕ) : Type 0 where
     pub packed : ArePacked parts (length sorted)

@@ -1,26 +1,35 @@
 // Heaps whose keys go from the top, in one table.
-ghost use Rattle.std.specs.Prelude.{◌≡◌, ◌+◌, ◌*◌, ◌^◌, ◌<◌, ◌≤◌, ℕ, All, IfOk, IfSome, IsNone, Some, None, length, map, slice_set, sum};
+ghost use Rattle.std.specs.Prelude.{◌≡◌, ◌+◌, ◌*◌, ◌^◌, ◌<◌, ◌≤◌, ℕ, All, IfOk, IfSome, IsNone, Some, None, length, map, sum};
 ghost use Rattle.goal_base.specs.declared.limits.TheConstants.{MAX_OPS};
 ghost use Rattle.sim_order.specs.Events.{event_before};
-ghost use Rattle.sim_heaps.specs.Map.{key_at, no_keys, IsEmptyMap, IsLeast, IsSoleLeast};
-ghost use Rattle.sim_heaps.specs.TopHeap.{placed, IsTopHeap};
+ghost use Rattle.sim_heaps.specs.Map.{no_keys, IsEmptyMap, IsLeast, IsSoleLeast};
 ghost use Rattle.sim_groups.specs.Groups.{heap_at, key_of_home, with_key};
-ghost use Rattle.sim_groups.specs.Parts.{all_but_last};
+ghost use Rattle.sim_groups.specs.Parts.{AreWithoutKeys};
+ghost use Rattle.sim_groups.specs.Stretches.{part_of_plot, AreFresh};
 
 use crate::PlaceInGroup;
 use crate::parts::{Part, parts};
+use crate::stretch::{Stretch, empty, put, take};
 use goal_base::NoMemory;
-use sim_heaps::{Arrivals, HeapItem, rise, sink};
+use sim_heaps::HeapItem;
 use sim_order::{CompactKey, Steps};
 use std::alloc::Global;
 use std::marker::Model;
 use std::sync::ledger::Ledger;
 
+/// Where a heap has its places in the table, from `start` on, so many, and where its items stand among them.
+#[derive(Clone, Copy, Debug)]
+pub struct Plot {
+    pub start: u32,
+    pub room: u32,
+    pub stretch: Stretch,
+}
+
 /// A heap for each group, whose keys come at any place that has none, and go only from the top. Contracts see the maps of the
 /// groups.
 #[derive(Drop)]
 pub struct ItemHeaps {
-    parts: Vec<Part>,
+    plots: Vec<Plot>,
     items: Vec<HeapItem>,
 }
 
@@ -28,13 +37,13 @@ impl Model for ItemHeaps {
     ghost use Rattle.std.specs.Prelude.{List, Option};
     ghost use Rattle.goal_graph.specs.declared.action.Timed.{Timed};
     ghost use Rattle.sim_order.specs.Events.{event_before};
-    ghost use Rattle.sim_groups.specs.Parts.{maps_of_items, AreItemHeaps};
+    ghost use Rattle.sim_groups.specs.Stretches.{maps_of_items, AreItemHeaps};
 
     ghost Value = { List (List (Option Timed)) };
 
-    ghost view = { λ h. maps_of_items h.parts.items h.items.items };
+    ghost view = { λ h. maps_of_items h.plots.items h.items.items };
 
-    ghost invariant = { λ h. AreItemHeaps event_before h.parts.items h.items.items };
+    ghost invariant = { λ h. AreItemHeaps event_before h.plots.items h.items.items };
 }
 
 // So many items, which no group counts yet.
@@ -46,49 +55,21 @@ fn no_items(alloc: Global, count: usize) -> Result<Vec<HeapItem>, NoMemory>
     Ok(items)
 }
 
-// Gives a slot of so many a key, where the last place is free for it.
-#[inline(always)]
-fn enter<L: Ledger>(
-    items: &mut [HeapItem],
-    slots: u32,
-    slot: u32,
-    key: CompactKey,
-    steps: &mut Steps<L>,
-)
-    requires some { 0 < length items.old }
-    requires heap { IsTopHeap event_before (all_but_last items.old) slots slots }
-    requires slot_in { slot < slots }
-    requires free { key_at (placed slots (all_but_last items.old)) slot ≡ None }
-    ensures each { length items.new ≡ length items.old }
-    ensures heap { IsTopHeap event_before items.new slots slots }
-    ensures put { placed slots items.new ≡ slice_set (placed slots (all_but_last items.old)) slot (Some key) }
-    ensures counted { (k : ℕ) → slots ≤ 2 ^ k → steps.new ≤ steps.old + (2 * k + 1) }
-    ensures onward { steps.old ≤ steps.new }
+// These parts, no place of which has an item.
+fn plots(alloc: Global, parts: &[Part]) -> Result<Vec<Plot>, NoMemory>
+    requires { AreWithoutKeys parts.now }
+    ensures parts { IfOk result (λ plots. map part_of_plot plots.items ≡ parts.now) }
+    ensures fresh { IfOk result (λ plots. AreFresh plots.items) }
 {
-    let last = items.len() - 1;
-    items[last] = HeapItem::new(key, slot);
-    rise(items, last, steps);
-}
-
-// Takes the least key out, that of this slot of so many. Then the last place is free.
-#[inline(always)]
-fn leave<L: Ledger>(items: &mut [HeapItem], slots: u32, slot: u32, steps: &mut Steps<L>)
-    requires heap { IsTopHeap event_before items.old slots slots }
-    requires least { IsSoleLeast event_before (placed slots items.old) slot }
-    ensures each { length items.new ≡ length items.old }
-    ensures heap { IsTopHeap event_before (all_but_last items.new) slots slots }
-    ensures taken { placed slots (all_but_last items.new) ≡ slice_set (placed slots items.old) slot None }
-    ensures counted { (k : ℕ) → slots ≤ 2 ^ k → steps.new ≤ steps.old + (2 * k + 1) }
-    ensures onward { steps.old ≤ steps.new }
-{
-    let left = items.len() - 1;
-    if left == 0 {
-        return;
+    let mut plots = Vec::with_capacity(alloc, parts.len())?;
+    'parts: for part in parts {
+        plots.push(Plot {
+            start: part.start,
+            room: part.room,
+            stretch: empty(),
+        })?;
     }
-    let last = items[left];
-    let front = &mut items[..left];
-    front[0] = last;
-    sink(front, Arrivals::InOrder, steps);
+    Ok(plots)
 }
 
 impl ItemHeaps {
@@ -99,15 +80,16 @@ impl ItemHeaps {
         ensures { IfOk result (λ heaps. heaps ≡ map no_keys counts.now) }
     {
         let (parts, size) = parts(alloc, counts)?;
+        let plots = plots(alloc, &parts)?;
         let items = no_items(alloc, size as usize)?;
-        Ok(ItemHeaps { parts, items })
+        Ok(ItemHeaps { plots, items })
     }
 
     /// How many there are.
     pub fn len(&self) -> usize
         ensures { result ≡ length self.now }
     {
-        self.parts.len()
+        self.plots.len()
     }
 
     /// Gives a home that has no key one.
@@ -119,20 +101,17 @@ impl ItemHeaps {
         ensures counted { (k : ℕ) → length (heap_at self.old home.group) ≤ 2 ^ k → steps.new ≤ steps.old + (2 * k + 1) }
         ensures onward { steps.old ≤ steps.new }
     {
-        let part = self.parts[home.group as usize];
-        let start = part.start as usize;
-        let end = start + part.count as usize + 1;
-        enter(
+        let plot = self.plots[home.group as usize];
+        let start = plot.start as usize;
+        let end = start + plot.room as usize;
+        let stretch = put(
             &mut self.items[start..end],
-            part.room,
+            plot.stretch,
             home.place,
             key,
             steps,
         );
-        self.parts[home.group as usize] = Part {
-            count: part.count + 1,
-            ..part
-        };
+        self.plots[home.group as usize] = Plot { stretch, ..plot };
     }
 
     /// Takes out the least key of a group, that of this home: it is before each other.
@@ -143,14 +122,11 @@ impl ItemHeaps {
         ensures counted { (k : ℕ) → length (heap_at self.old home.group) ≤ 2 ^ k → steps.new ≤ steps.old + (2 * k + 1) }
         ensures onward { steps.old ≤ steps.new }
     {
-        let part = self.parts[home.group as usize];
-        let start = part.start as usize;
-        let end = start + part.count as usize;
-        leave(&mut self.items[start..end], part.room, home.place, steps);
-        self.parts[home.group as usize] = Part {
-            count: part.count - 1,
-            ..part
-        };
+        let plot = self.plots[home.group as usize];
+        let start = plot.start as usize;
+        let end = start + plot.room as usize;
+        let stretch = take(&mut self.items[start..end], plot.stretch, home.place, steps);
+        self.plots[home.group as usize] = Plot { stretch, ..plot };
     }
 
     /// The least key of a group. None where it has none.
@@ -159,10 +135,11 @@ impl ItemHeaps {
         ensures none { IsNone result → IsEmptyMap (heap_at self.now group) }
         ensures least { IfSome result (λ key. (place : ℕ) × IsLeast event_before (heap_at self.now group) place key) }
     {
-        let part = self.parts[group as usize];
-        if part.count == 0 {
+        let plot = self.plots[group as usize];
+        let stretch = plot.stretch;
+        if stretch.first >= stretch.end {
             return None;
         }
-        Some(self.items[part.start as usize].key())
+        Some(self.items[plot.start as usize + stretch.first as usize].key())
     }
 }

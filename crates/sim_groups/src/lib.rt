@@ -6,6 +6,7 @@ mod item_heaps;
 mod parts;
 mod slot_groups;
 mod slot_heaps;
+mod stretch;
 
 pub use groups::{Groups, PlaceInGroup};
 pub use slot_groups::SlotGroups;

@@ -1,13 +1,16 @@
 -- The list of an operation's own pattern: of a receive its list, of a send the first of its lists.
-use Rattle.std.proofs.Common.{ℕ, ◌<◌, ◌≡◌, ◌-◌, ◌^◌, List, [], ◌∷◌, length, Option, Some, None, refl, arith, sym, ap, ◌∙◌, subst}
-use Rattle.std.proofs.lemmas.Option.{none-some}
+use Rattle.std.proofs.Common.{ℕ, ◌<◌, ◌≡◌, ◌-◌, ◌^◌, List, [], ◌∷◌, length, map, slice_get, Option, Some, None, refl, arith, sym, ap, ◌∙◌, subst}
+use Rattle.std.proofs.lemmas.Option.{none-some, same_Some, slice_get-map}
+use Rattle.std.specs.Option.{option_map}
 use Rattle.goal_graph.specs.declared.action.OpId.{OpId}
 use Rattle.goal_graph.specs.declared.plan.Kind.{Kind}
-use Rattle.goal_graph.specs.Schedule.{Plan, kind_at, IsSend, IsReceive}
+use Rattle.goal_graph.specs.declared.plan.Kind.TheVariants.{Send}
+use Rattle.goal_graph.specs.Schedule.{Plan, kind_at, operations, IsSend, IsReceive}
 use Rattle.sim_match.specs.declared.pattern.Pattern.{Pattern}
 use Rattle.sim_match.specs.Patterns.{pattern_of, own_pattern, number, list_number, list_of, own_list, lists_for}
 use Rattle.sim_match.specs.declared.list_numbers.ListNumbers.{ListNumbers}
-use Rattle.sim_match.specs.ListNumbers.{IsCodable, AreNamed, AreSought, AreNumbered}
+use Rattle.sim_match.specs.declared.list_numbers.Others.{Others}
+use Rattle.sim_match.specs.ListNumbers.{others_of, others_at, IsCodable, AreNamed, AreSought, AreNumbered}
 use Rattle.sim_match.proofs.PatternLemmas.{number_within, send_lists, unnamed}
 
 -- numbers that are the same have the same patterns
@@ -18,7 +21,7 @@ same_numbers plans new old same are = record {
   few = are.few;
   own = ap (λ (n : ListNumbers). n.own.items) same ∙ are.own;
   count = ap (λ (n : ListNumbers). n.count) same ∙ are.count;
-  sought = subst (λ (n : ListNumbers). AreSought are.keys n.patterns) (sym same) are.sought;
+  sought = subst (λ (n : ListNumbers). AreSought plans are.keys n.others) (sym same) are.sought;
 }
 
 module _ (plans : List Plan) (keys : List Pattern) (x : OpId) where
@@ -48,3 +51,13 @@ module _ (plans : List Plan) (keys : List Pattern) (x : OpId) where
         let any_source = unnamed (λ (p : Pattern). p.from) keys (record { rank = s.to; from = None; tag = Some s.tag }) named.sources refl in
         let any = unnamed (λ (p : Pattern). p.from) keys (record { rank = s.to; from = None; tag = None }) named.sources refl in
         lists_of_send ∙ (λ i. own_list plans keys x ∷ sym any_tag i ∷ sym any_source i ∷ sym any i ∷ [])
+
+    -- what is kept of its others
+    pub others_of_send : (others : List Others) (place : ℕ) (kept : Others) → others ≡ map (others_at plans keys) (operations plans) → slice_get others place ≡ Some kept → slice_get (operations plans) place ≡ Some x → kept ≡ others_of keys x (Some (Send s.bytes s.to s.tag))
+    others_of_send others place kept all read at =
+        let its = sym read ∙ ap (λ (os : List Others). slice_get os place) all ∙ slice_get-map (others_at plans keys) (operations plans) place ∙ ap (option_map (others_at plans keys)) at in
+        same_Some kept (others_at plans keys x) its ∙ ap (others_of keys x) s.kind
+
+-- the number of a pattern is below that of none
+pub codable : (keys : List Pattern) (p : Pattern) → length keys < 2 ^ 32 - 1 → IsCodable (number keys p)
+codable keys p few list e = let within = number_within keys p list e in omega (arith, within, few)

@@ -1,5 +1,5 @@
 -- The patterns of receives, and the lists in which an operation stands.
-use Rattle.std.specs.Prelude.{ℕ, ◌≡◌, ◌<◌, ◌≤◌, ◌+◌, ◌==◌, ◌&&◌, Bool, true, false, List, [], ◌∷◌, length, map, Option, Some, None, is_some, position, slice_get}
+use Rattle.std.specs.Prelude.{ℕ, ◌≡◌, ◌<◌, ◌≤◌, ◌+◌, ◌==◌, ◌&&◌, Bool, false, List, [], ◌∷◌, length, map, Option, Some, None, is_some, position, slice_get}
 use Rattle.std.specs.List.{list_any, list_all}
 use Rattle.std.specs.List.Sorted.{IsStrictlySortedBy}
 use Rattle.std.specs.Option.{option_cmp}
@@ -11,7 +11,6 @@ use Rattle.goal_graph.specs.declared.plan.Kind.{Kind}
 use Rattle.goal_graph.specs.declared.plan.Kind.TheVariants.{Calc, Send, Recv}
 use Rattle.goal_graph.specs.Schedule.{Plan, kind_at, IsReceive}
 use Rattle.sim_match.specs.declared.pattern.Pattern.{Pattern}
-use Rattle.sim_match.specs.declared.pattern.Seen.{Seen}
 pub use Rattle.goal_graph.specs.Choices.{same_choice}
 
 abbrev pub same_pattern : Pattern → Pattern → Bool
@@ -52,12 +51,6 @@ pub record IsRow (patterns : List Pattern) (rank start end : ℕ) : Type 0 where
 abbrev pub IsBehind : List Pattern → ℕ → Type 0
 IsBehind patterns at =
     (k : ℕ) (p q : Pattern) → k + 1 ≡ at → slice_get patterns k ≡ Some p → slice_get patterns at ≡ Some q → pattern_cmp p q ≡ Less
-
--- what a look through patterns tells
-pub record IsSeen (patterns : List Pattern) (seen : Seen) : Type 0 where
-  pub order : seen.in_order ≡ true → IsStrictlySortedBy pattern_cmp patterns
-  pub sources : seen.sources_named ≡ list_all names_a_source patterns
-  pub tags : seen.tags_named ≡ list_all names_a_tag patterns
 
 -- patterns in their order, each once, where those of each rank begin, and whether each names a source and each a tag
 pub record AreInOrder (patterns : List Pattern) (starts : List ℕ) (sources_named tags_named : Bool) : Type 0 where

@@ -1,22 +1,31 @@
 // The number of each operation's list, found once.
 ghost use Rattle.std.specs.Prelude.{ℕ, ◌≡◌, ◌<◌, ◌≤◌, ◌-◌, ◌^◌, Option, Some, length, map, IfOk, OnOk};
 ghost use Rattle.goal_graph.specs.Schedule.{operations, IsSend, IsReceive};
+ghost use Rattle.std.specs.Option.{IfSome};
 ghost use Rattle.goal_graph.specs.Fault.{IsOp};
-ghost use Rattle.sim_match.specs.Patterns.{own_list, list_of, lists_for, AreListed};
-ghost use Rattle.sim_match.specs.ListNumbers.{coded, IsCodable, AreSought, AreNumbered};
+ghost use Rattle.sim_match.specs.Patterns.{number, own_list, list_of, lists_for, AreListed};
+ghost use Rattle.sim_match.specs.ListNumbers.{coded, IsCodable, others_at, AreSought, AreNumbered};
 
-use crate::pattern::{Pattern, Patterns, own_list};
+use crate::pattern::{Pattern, Patterns};
 use goal_base::NoMemory;
-use goal_graph::{Kind, Message, OpId, Sched};
+use goal_graph::{Kind, OpId, Sched};
 use std::alloc::{AllocError, Global};
+
+/// The numbers of those lists of a send whose patterns take any source or any tag, or `NO_LIST`.
+#[derive(Clone, Copy, Debug)]
+pub struct Others {
+    pub any_tag: u32,
+    pub any_source: u32,
+    pub any: u32,
+}
 
 /// For each operation, in the order of all, the number of the list of its own pattern: of what a receive asks for, and of
 /// what names the source and the tag of a send. `NO_LIST` stands where the schedule doesn't have that pattern. The
-/// patterns are kept only where a run looks for some, and else their count alone.
+/// others of the sends are kept only where a pattern takes any source or any tag.
 #[derive(Drop)]
 pub struct ListNumbers {
-    pub patterns: Option<Patterns>,
     pub own: Vec<u32>,
+    pub others: Option<Vec<Others>>,
     pub count: usize,
 }
 
@@ -44,74 +53,183 @@ fn decoded(kept: u32) -> Option<usize>
     }
 }
 
-// Where the last receive's pattern stands, and how far behind the first of its target's patterns the last send's does. No
-// clause rests on these numbers: they say where to look first.
+// Where a pattern was found last, and how far behind the one before it. No clause rests on these numbers: they say where to
+// look first.
 #[derive(Clone, Copy, Debug)]
-struct Guesses {
-    receive: usize,
-    send: usize,
+struct Trail {
+    last: usize,
+    step: usize,
 }
 
-impl Guesses {
+impl Trail {
+    // One that goes on to that place, and then to those behind it.
+    fn to(place: usize) -> Trail {
+        Trail {
+            last: place.wrapping_sub(1),
+            step: 1,
+        }
+    }
+
+    // The place of a pattern, where it stands where the trail goes on.
+    #[inline(always)]
+    fn next(&mut self, patterns: &Patterns, pattern: Pattern) -> Option<usize>
+        ensures { IfSome result (λ place. number patterns.now pattern ≡ Some place) }
+    {
+        let guess = self.last.wrapping_add(self.step);
+        if patterns.stands_at(guess, pattern) {
+            self.last = guess;
+            Some(guess)
+        } else {
+            None
+        }
+    }
+
+    // It goes on from that place, with as long a step as the last.
+    fn turn(&mut self, place: usize) {
+        self.step = place.wrapping_sub(self.last);
+        self.last = place;
+    }
+
+    // The place of a pattern, which is looked for first where the trail goes on.
+    #[inline(always)]
+    fn find(&mut self, patterns: &Patterns, pattern: Pattern) -> Option<usize>
+        ensures { result ≡ number patterns.now pattern }
+    {
+        if let Some(place) = self.next(patterns, pattern) {
+            return Some(place);
+        }
+        let found = patterns.number_near(pattern, self.last);
+        if let Some(place) = found {
+            self.turn(place);
+        }
+        found
+    }
+}
+
+// The trail of the receives, for each rank that of the sends to it, and that of the receives from it, behind that of those
+// from any. The pattern of a receive mostly stands next to that of the receive before it, or to that of the last from its
+// source. The sends to a rank come in the order of their sources, in which its patterns stand too.
+#[derive(Drop)]
+struct Trails {
+    receives: Trail,
+    sends: Vec<Trail>,
+    sources: Vec<Trail>,
+}
+
+impl Trails {
     // Before the first operation.
-    const FIRST: Guesses = Guesses {
-        receive: 0,
-        send: 0,
-    };
-
-    // Where the pattern of an operation of that kind may stand.
-    fn place(self, patterns: &Patterns, kind: Kind) -> usize {
-        match kind {
-            Kind::Send { to, .. } => patterns.first_of(to).saturating_add(self.send),
-            Kind::Recv { .. } | Kind::Calc { .. } => self.receive,
+    fn of(alloc: Global, sched: &Sched, patterns: &Patterns) -> Result<Trails, AllocError> {
+        let ranks = sched.plans().len();
+        let mut sends = Vec::with_capacity(alloc, ranks)?;
+        for rank in 0..ranks {
+            sends.push_reserved(Trail::to(patterns.first_of(rank as u32)));
         }
+        Ok(Trails {
+            receives: Trail::to(0),
+            sends,
+            sources: vec![in alloc; Trail::to(0); ranks + 1]?,
+        })
     }
 
-    // After an operation of that kind, whose pattern stands at that place.
-    fn after(self, patterns: &Patterns, kind: Kind, place: usize) -> Guesses {
-        match kind {
-            Kind::Send { to, .. } => Guesses {
-                receive: self.receive,
-                send: place.saturating_sub(patterns.first_of(to)),
-            },
-            Kind::Recv { .. } | Kind::Calc { .. } => Guesses {
-                receive: place,
-                send: self.send,
-            },
+    // The place of a receive's pattern, which is looked for first next to that of the last from its source.
+    #[inline(never)]
+    fn find_by_source(&mut self, patterns: &Patterns, pattern: Pattern) -> Option<usize>
+        ensures { result ≡ number patterns.now pattern }
+    {
+        let source = match pattern.from {
+            Some(from) => from as usize + 1,
+            None => 0,
+        };
+        if source >= self.sources.len() {
+            return patterns.number(pattern);
+        }
+        let found = self.sources[source].find(patterns, pattern);
+        if let Some(place) = found {
+            self.receives.turn(place);
+        }
+        found
+    }
+
+    // The number of the list of an operation's own pattern, where the schedule has it.
+    #[inline(always)]
+    fn own_list(&mut self, patterns: &Patterns, sched: &Sched, id: OpId) -> Option<usize>
+        requires { IsOp sched.now id }
+        ensures { result ≡ own_list sched.now patterns.now id }
+    {
+        match sched.op(id).kind {
+            Kind::Calc { .. } => None,
+            Kind::Recv { from, tag, .. } => {
+                let pattern = Pattern::new(id.rank, from, tag);
+                match self.receives.next(patterns, pattern) {
+                    Some(place) => Some(place),
+                    None => self.find_by_source(patterns, pattern),
+                }
+            }
+            Kind::Send { to, tag, .. } => {
+                let pattern = Pattern::new(to, Some(id.rank), Some(tag));
+                let to = to as usize;
+                if to < self.sends.len() {
+                    self.sends[to].find(patterns, pattern)
+                } else {
+                    patterns.number(pattern)
+                }
+            }
         }
     }
 }
 
-// The numbers of all operations. The pattern of a receive mostly stands next to that of the receive before it, and that of
-// a send next to where that of the send before it stands among the patterns of its target, so each is looked for there
-// first.
+// The numbers of all operations.
 fn own_numbers(alloc: Global, sched: &Sched, patterns: &Patterns) -> Result<Vec<u32>, AllocError>
     requires { length patterns.now ≤ length (operations sched.now) }
     ensures few { OnOk result (length patterns.now < 2 ^ 32 - 1) }
     ensures numbers { IfOk result (λ numbers. numbers.items ≡ map (λ x. coded (own_list sched.now patterns.now x)) (operations sched.now)) }
 {
     let mut numbers = Vec::with_capacity(alloc, sched.count() as usize)?;
-    let mut guesses = Guesses::FIRST;
+    let mut trails = Trails::of(alloc, sched, patterns)?;
     for id in sched.operations() {
-        let kind = sched.op(*id).kind;
-        let number = own_list(patterns, sched, *id, guesses.place(patterns, kind));
+        let number = trails.own_list(patterns, sched, *id);
         numbers.push_reserved(coded(number));
-        if let Some(place) = number {
-            guesses = guesses.after(patterns, kind, place);
-        }
     }
     Ok(numbers)
 }
 
-// Patterns, where a run looks for some of them: where one takes any source or any tag.
-fn sought(patterns: Patterns) -> Option<Patterns>
-    ensures { AreSought patterns result }
+// The numbers of a send's other lists, and none of an operation that is no send.
+fn others_of(patterns: &Patterns, sched: &Sched, id: OpId) -> Others
+    requires op { IsOp sched.now id }
+    requires few { length patterns.now < 2 ^ 32 - 1 }
+    ensures { result ≡ others_at sched.now patterns.now id }
+{
+    match sched.op(id).kind {
+        Kind::Send { to, tag, .. } => Others {
+            any_tag: coded(patterns.number(Pattern::new(to, Some(id.rank), None))),
+            any_source: coded(patterns.number(Pattern::new(to, None, Some(tag)))),
+            any: coded(patterns.number(Pattern::new(to, None, None))),
+        },
+        Kind::Recv { .. } | Kind::Calc { .. } => Others {
+            any_tag: NO_LIST,
+            any_source: NO_LIST,
+            any: NO_LIST,
+        },
+    }
+}
+
+// Those of all operations, where a pattern takes any source or any tag: else no send has any.
+fn all_others(
+    alloc: Global,
+    sched: &Sched,
+    patterns: &Patterns,
+) -> Result<Option<Vec<Others>>, AllocError>
+    requires { length patterns.now < 2 ^ 32 - 1 }
+    ensures { IfOk result (λ others. AreSought sched.now patterns.now others) }
 {
     if patterns.name_all() {
-        None
-    } else {
-        Some(patterns)
+        return Ok(None);
     }
+    let mut others = Vec::with_capacity(alloc, sched.count() as usize)?;
+    for id in sched.operations() {
+        others.push_reserved(others_of(patterns, sched, *id));
+    }
+    Ok(Some(others))
 }
 
 impl ListNumbers {
@@ -121,11 +239,11 @@ impl ListNumbers {
     {
         let patterns = Patterns::of(alloc, sched)?;
         let own = own_numbers(alloc, sched, &patterns)?;
-        let count = patterns.len();
+        let others = all_others(alloc, sched, &patterns)?;
         Ok(ListNumbers {
-            patterns: sought(patterns),
             own,
-            count,
+            others,
+            count: patterns.len(),
         })
     }
 
@@ -157,8 +275,7 @@ impl ListNumbers {
         self.own(sched, recv) as usize
     }
 
-    /// The numbers of the lists of a send. Only those of patterns that take any source or any tag are looked up, where
-    /// the schedule has such patterns.
+    /// The numbers of the lists of a send.
     #[inline(always)]
     pub fn lists_of_send(&self, sched: &Sched, send: OpId) -> [Option<usize>; 4]
         requires send { IsSend sched.now send }
@@ -166,15 +283,15 @@ impl ListNumbers {
         ensures { (n : AreNumbered sched.now self.now) → result ≡ lists_for sched.now n.keys send }
     {
         let own = self.own_list(sched, send);
-        match &self.patterns {
+        match &self.others {
             None => [own, None, None, None],
-            Some(patterns) => {
-                let Message { to, tag, .. } = sched.message(send);
+            Some(others) => {
+                let others = others[sched.index(send) as usize];
                 [
                     own,
-                    patterns.number(Pattern::new(to, Some(send.rank), None)),
-                    patterns.number(Pattern::new(to, None, Some(tag))),
-                    patterns.number(Pattern::new(to, None, None)),
+                    decoded(others.any_tag),
+                    decoded(others.any_source),
+                    decoded(others.any),
                 ]
             }
         }

@@ -100,7 +100,7 @@ impl Queues {
     /// Nothing was posted or has arrived.
     pub fn new(alloc: Global, sched: &Sched, numbers: ListNumbers) -> Result<Queues, NoMemory>
         requires numbered { AreNumbered sched.now numbers }
-        requires named { numbers.patterns ≡ None }
+        requires named { numbers.others ≡ None }
         ensures kept { IfOk result (λ queues. AreKept sched.now queues) }
         ensures events { IfOk result (λ queues. queues.events.items ≡ []) }
     {

@@ -30,7 +30,7 @@ impl Table {
         ensures events { IfOk result (λ table. events_of table ≡ []) }
     {
         let numbers = ListNumbers::of(alloc, sched)?;
-        if numbers.patterns.is_none() {
+        if numbers.others.is_none() {
             Ok(Table::Queued(Queues::new(alloc, sched, numbers)?))
         } else {
             Ok(Table::Listed(MatchTable::new(alloc, sched, numbers)?))

@@ -1,11 +1,14 @@
 -- What an operation does, whether a send goes out whole, and whether anything is needed.
-use Rattle.std.specs.Prelude.{◌==◌, Bool, not, List, length, Option, Some, None, if◌then◌else◌}
+use Rattle.std.specs.Prelude.{◌≡◌, ◌⊎◌, ◌==◌, Bool, true, not, List, length, Option, Some, None, if◌then◌else◌}
 use Rattle.goal_graph.specs.declared.action.OpId.{OpId}
+use Rattle.goal_graph.specs.declared.action.Timed.{Timed}
+use Rattle.goal_graph.specs.declared.action.Class.TheVariants.{Arrive, Serve, Begin}
 use Rattle.goal_graph.specs.declared.plan.Kind.{Kind}
 use Rattle.goal_graph.specs.declared.plan.Kind.TheVariants.{Calc, Send, Recv}
 use Rattle.goal_graph.specs.declared.plan.Need.{Need}
 use Rattle.goal_graph.specs.Schedule.{Plan, kind_at, needs}
 use Rattle.goal_graph.specs.Concerned.{waiting_on}
+use Rattle.goal_graph.specs.Laws.{IsCalc}
 use Rattle.sim_params.specs.Costs.{CostModel, is_eager}
 use Rattle.sim_state.specs.declared.task.Task.{Task}
 use Rattle.sim_state.specs.declared.task.Task.TheVariants as task
@@ -38,3 +41,8 @@ module _ (plans : List Plan) (costs : CostModel) (x : OpId) where
 
   abbrev pub task_of : Task
   task_of = work_of.task
+
+-- the action is the last of its operation: a calc has begun, a send that goes out whole has arrived, or a receive took its message
+abbrev pub IsLast : List Plan → CostModel → Timed → Type 0
+IsLast plans costs a =
+    ((a.class ≡ Begin) × IsCalc plans a.op) ⊎ (((a.class ≡ Arrive) × (is_eager plans costs a.op ≡ true)) ⊎ (a.class ≡ Serve))

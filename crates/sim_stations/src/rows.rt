@@ -104,7 +104,9 @@ fn tell_both<L: Ledger>(
     ensures onward { steps.old ≤ steps.new }
 {
     tell(rows, heads, free, pair.cpu, steps);
-    tell(rows, heads, free, pair.side, steps);
+    if pair.side != pair.cpu {
+        tell(rows, heads, free, pair.side, steps);
+    }
 }
 
 // Gives a slot of the rows a key, or none.

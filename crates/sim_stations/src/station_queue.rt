@@ -113,40 +113,49 @@ fn first<L: Ledger>(ahead: &RunHeap, rows: &Rows, steps: &mut Steps<L>) -> Optio
     }
 }
 
-// Whether a key's action can happen later only, since it waits for the resources of its station.
-fn is_held_up<L: Ledger>(rows: &Rows, station: u32, key: CompactKey, steps: &mut Steps<L>) -> bool
-    requires { station < length rows.now.pairs }
-    ensures held_up { result ≡ true → (waits_for_room key.class ≡ true) × (key.time < both_free rows.now.free (pair_at rows.now.pairs station)) }
-    ensures due { result ≡ false → when_free rows.now.free (pair_at rows.now.pairs station) key ≡ key }
+// Whether the action of a slot's key can happen later only, since it waits for the resources of its station.
+fn is_held_up<L: Ledger>(
+    waiting: &Groups,
+    rows: &Rows,
+    slot: u32,
+    key: CompactKey,
+    steps: &mut Steps<L>,
+) -> bool
+    requires slot_in { slot < length waiting.now.groups }
+    requires within { slice_index waiting.now.groups slot < length rows.now.pairs }
+    ensures held_up { result ≡ true → (waits_for_room key.class ≡ true) × (key.time < both_free rows.now.free (pair_at rows.now.pairs (slice_index waiting.now.groups slot))) }
+    ensures due { result ≡ false → when_free rows.now.free (pair_at rows.now.pairs (slice_index waiting.now.groups slot)) key ≡ key }
     ensures counted { steps.new ≤ steps.old + 2 }
     ensures onward { steps.old ≤ steps.new }
 {
     if !waits_for_room(key.class()) {
         return false;
     }
-    let free = rows.free(station, steps);
+    let free = rows.free(waiting.group(slot), steps);
     steps.tick();
     key.time() < free
 }
 
-// Whether a new key is to wait with its station: where it could happen later only, or others of the station wait already at its
-// time, or the time is 0.
+// Whether a slot's new key is to wait with its station: where it could happen later only, or others of the station wait already
+// at its time, or the time is 0.
 fn may_wait<L: Ledger>(
     waiting: &Groups,
     rows: &Rows,
-    station: u32,
+    slot: u32,
     key: CompactKey,
     steps: &mut Steps<L>,
 ) -> bool
-    requires { station < length rows.now.pairs }
+    requires slot_in { slot < length waiting.now.groups }
+    requires within { slice_index waiting.now.groups slot < length rows.now.pairs }
     ensures waits { result ≡ true → waits_for_room key.class ≡ true }
-    ensures late { result ≡ true → key.time ≤ both_free rows.now.free (pair_at rows.now.pairs station) }
+    ensures late { result ≡ true → key.time ≤ both_free rows.now.free (pair_at rows.now.pairs (slice_index waiting.now.groups slot)) }
     ensures counted { steps.new ≤ steps.old + 3 }
     ensures onward { steps.old ≤ steps.new }
 {
     if !waits_for_room(key.class()) {
         return false;
     }
+    let station = waiting.group(slot);
     let free = rows.free(station, steps);
     steps.tick();
     if key.time() < free {
@@ -267,13 +276,13 @@ fn settle<L: Ledger, R: Ledger>(
     'looks: while let Some(look) = first(ahead, rows, steps) {
         let Look { key, is_ahead } = look;
         let slot = sched.index(key.id());
-        let station = waiting.group(slot);
-        if !is_held_up(rows, station, key, steps) {
+        if !is_held_up(waiting, rows, slot, key, steps) {
             return Some((slot, key));
         }
         if is_ahead {
             begin_to_wait(ahead, waiting, rows, stands, slot, key, steps);
         } else {
+            let station = waiting.group(slot);
             rows.turn(station, key.at(0), steps);
             moves.tick();
         }
@@ -405,8 +414,7 @@ impl StationQueue {
         ensures counted { (k : ℕ) → length self.old.keys ≤ 2 ^ k → steps.new + cost_of_waiting k self.new.stands ≤ steps.old + cost_of_waiting k self.old.stands + (10 * k + 16) }
     {
         self.found = None;
-        let station = self.waiting.group(slot);
-        if may_wait(&self.waiting, &self.rows, station, key, steps) {
+        if may_wait(&self.waiting, &self.rows, slot, key, steps) {
             join(&mut self.waiting, &mut self.rows, slot, key, steps);
             self.stands[slot as usize] = KeyPlace::Waiting;
         } else {

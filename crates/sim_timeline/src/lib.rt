@@ -4,5 +4,5 @@
 mod lines;
 mod pages;
 
-pub use lines::first_line;
+pub use lines::{first_line, first_line_counted};
 pub use pages::{Lines, timeline};

@@ -1,6 +1,7 @@
 // The lines of the timeline.
-ghost use Rattle.std.specs.Prelude.{◌≡◌, ◌+◌, ◌-◌, ◌++◌, ◌<◌, ◌≤◌, ◌^◌, length, take, OnOk, IfOk, Some, is_some, unwrap_or, max, if◌then◌else◌};
+ghost use Rattle.std.specs.Prelude.{◌≡◌, ◌+◌, ◌-◌, ◌++◌, ◌<◌, ◌≤◌, ◌^◌, length, take, OnOk, IfOk, Some, is_some, unwrap_or, max, count_by, if◌then◌else◌};
 ghost use Rattle.goal_graph.specs.Schedule.{operations};
+ghost use Rattle.sim_params.specs.Stuck.{lacks_end};
 ghost use Rattle.sim_timeline.specs.Timeline.{operation_line, summary_line, kind_text, partner_text, match_text, first_line};
 ghost use Rattle.sim_timeline.specs.Pages.{IsSummary, is_unread_send};
 
@@ -25,9 +26,26 @@ pub fn first_line<C: Costs, H: History>(
     ensures { IfOk result (λ text.
         text.items ≡ first_line sched.now (C.model engine.now.costs) engine.now.history) }
 {
+    let (line, _) = first_line_counted(alloc, sched, engine)?;
+    Ok(line)
+}
+
+/// The same, and how many operations have no end.
+pub fn first_line_counted<C: Costs, H: History>(
+    alloc: Global,
+    sched: &Sched,
+    engine: &Engine<'_, C, H>,
+) -> Result<(Vec<u8>, u64), NoMemory>
+    requires same { engine.now.plans ≡ sched.now }
+    ensures line { IfOk result (λ both.
+        both.0.items ≡ first_line sched.now (C.model engine.now.costs) engine.now.history) }
+    ensures stuck { IfOk result (λ both.
+        both.1 ≡ count_by (lacks_end sched.now (C.model engine.now.costs) engine.now.history) (operations sched.now)) }
+{
     let mut out = TextOut::new(alloc);
-    put_first_line(&mut out, sched, engine)?;
-    Ok(out.into_bytes())
+    let summary = sum_up(sched, engine);
+    put_summary(&mut out, sched, &summary)?;
+    Ok((out.into_bytes(), summary.stuck))
 }
 
 /// Appends the first line.

@@ -13,8 +13,8 @@ use sim_params::Costs;
 use std::alloc::Global;
 use std::marker::Model;
 
-// So many lines a page has at most.
-const PAGE: usize = 1024;
+// So many lines a page has at most: few, so that a page is still in the nearest cache when it is taken.
+const PAGE: usize = 32;
 
 // So many bytes a line mostly has at most.
 const ROOM: usize = 64;

@@ -30,9 +30,8 @@ pub fn fill(state: &State, queue: &mut Turns, cursors: &mut [Cursor])
 }
 
 /// The action that happens next, none where none may happen.
-pub fn next(state: &State, queue: &Turns, cursors: &[Cursor]) -> Option<Action>
-    requires queue { IsQueue state.now.plans state.now.history queue.now }
-    requires cursors { AreCursors state.now.plans state.now.history cursors.now }
+pub fn next(state: &State, queue: &Turns) -> Option<Action>
+    requires { IsQueue state.now.plans state.now.history queue.now }
     ensures may { IfSome result (λ a. may_act state.now.plans state.now.history a.class a.op ≡ true) }
     ensures first { IfSome result (λ a. (b : Act) → may_act state.now.plans state.now.history b.class b.op ≡ true → ComesFirst (act_of a) b) }
     ensures none { IfNone result (IsCompleteInterleaving state.now.plans no_send state.now.history) }
@@ -42,11 +41,10 @@ pub fn next(state: &State, queue: &Turns, cursors: &[Cursor]) -> Option<Action>
         return None;
     };
     let op = state.sched().operations()[slot as usize];
-    let mut cursor = cursors[slot as usize];
-    let Some(class) = state.choice(op, &mut cursor) else {
-        unreachable!()
-    };
-    Some(Action { class, op })
+    Some(Action {
+        class: state.class_of(op),
+        op,
+    })
 }
 
 /// Gives their keys to those whose next action may be another after an action of this operation: it, its partner, and

@@ -51,7 +51,7 @@ fn walk_values(
 fn no_parcels(alloc: Global, count: u32) -> Result<Vec<Option<Parcel>>, AllocError>
     ensures { IfOk result (λ parcels. parcels.items ≡ replicate count None) }
 {
-    let mut parcels = Vec::new(alloc);
+    let mut parcels = Vec::with_capacity(alloc, count as usize)?;
     for _number in 0..count {
         parcels.push(None)?;
     }

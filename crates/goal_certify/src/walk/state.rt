@@ -1,5 +1,6 @@
 // What has happened so far, and what may happen next of each operation.
 ghost use Rattle.std.specs.Prelude.{◌≡◌, [], true, false, Some, IfOk};
+ghost use Rattle.goal_graph.specs.declared.action.Class.{Class};
 ghost use Rattle.goal_graph.specs.declared.action.Class.TheVariants.{Arrive, Serve, Data, Post, Begin};
 ghost use Rattle.goal_graph.specs.Action.{happened};
 ghost use Rattle.goal_graph.specs.Schedule.{kind_at, IsSend, IsReceive};
@@ -151,6 +152,46 @@ impl<'a> State<'a> {
             return Some(Class::Serve);
         }
         None
+    }
+
+    /// The class of the action of an operation that may happen, where one may. Its needs are not looked at.
+    pub fn class_of(&self, id: OpId) -> Class
+        requires op { IsOp self.now.plans id }
+        requires some { (class : Class) × (may_act self.now.plans self.now.history class id ≡ true) }
+        ensures { may_act self.now.plans self.now.history result id ≡ true }
+    {
+        match self.sched().op(id).kind {
+            Kind::Calc { .. } => Class::Begin,
+            Kind::Send { .. } => self.class_of_send(id),
+            Kind::Recv { .. } => self.class_of_receive(id),
+        }
+    }
+
+    // The same of a send.
+    fn class_of_send(&self, send: OpId) -> Class
+        requires send { IsSend self.now.plans send }
+        requires some { (class : Class) × (may_act self.now.plans self.now.history class send ≡ true) }
+        ensures { may_act self.now.plans self.now.history result send ≡ true }
+    {
+        if self.may_arrive(send) {
+            return Class::Arrive;
+        }
+        if self.may_hand_over(send) {
+            return Class::Data;
+        }
+        Class::Begin
+    }
+
+    // The same of a receive.
+    fn class_of_receive(&self, recv: OpId) -> Class
+        requires receive { IsReceive self.now.plans recv }
+        requires some { (class : Class) × (may_act self.now.plans self.now.history class recv ≡ true) }
+        ensures { may_act self.now.plans self.now.history result recv ≡ true }
+    {
+        if self.may_serve(recv) {
+            return Class::Serve;
+        }
+        Class::Post
     }
 
     // Whether an operation may start: once it is ready, and only once.

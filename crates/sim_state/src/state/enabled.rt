@@ -7,6 +7,7 @@ ghost use Rattle.goal_graph.specs.Laws.{IsCalc};
 ghost use Rattle.goal_graph.specs.Schedule.{IsSend, IsReceive};
 ghost use Rattle.sim_params.specs.Costs.{is_eager};
 ghost use Rattle.sim_state.specs.Represents.{message_known};
+ghost use Rattle.sim_state.specs.Tasks.{IsLast};
 ghost use Rattle.sim_state.specs.Cursors.{IsCursorOf, all_if_met, looked_again};
 ghost use Rattle.sim_state.specs.Enabled.{moment_known, ready_known, enabled_action, IsEnabledActionOf};
 
@@ -219,6 +220,19 @@ impl<'a, C: Costs, H: History> State<'a, C, H> {
             return Some(pairing.at);
         }
         self.entry(pairing.with).delivered.get()
+    }
+
+    /// Whether an action is told to be the last of its operation. The Data of a large send is not.
+    pub fn is_last(&self, action: Timed) -> bool
+        requires { IsOp self.now.plans action.op }
+        ensures { result ≡ true → IsLast self.now.plans (C.model self.now.costs) action }
+    {
+        match action.class {
+            Class::Serve => true,
+            Class::Begin => matches!(self.task(action.op), Task::Calc),
+            Class::Arrive => matches!(self.task(action.op), Task::Eager),
+            Class::Post | Class::Data => false,
+        }
     }
 
     // Whether a send goes out whole, with no request before it.

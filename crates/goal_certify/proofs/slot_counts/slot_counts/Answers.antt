@@ -20,4 +20,4 @@ loop-plan-preserved c =
     counts_more _ _ _ _ _ _ _ _ at notes ops c.loop-plan.invariant c.in_ok-of_rank.ensures.long c.in_ok-of_rank.ensures.counted joined
 
 pub loop-plan-init : goal.loop-plan-init
-loop-plan-init c = c.new-counts.ensures.items ∙ counts_none _
+loop-plan-init c = c.in_ok-counts.ensures.items ∙ counts_none _

@@ -1,28 +1,22 @@
--- What misses nothing in the end has a depth, and what misses something has none.
-use Rattle.std.proofs.Common.{◌≡◌, length, drop, ◌∙◌, arith}
-use Rattle.std.proofs.lemmas.List.{take_at}
-use Rattle.goal_graph.proofs.Plain.{plain-counts}
-use Rattle.goal_graph.proofs.Places.{no_plan, op_count-more_le}
-use Rattle.goal_graph.proofs.Searching.{first_in_rank}
+-- Where all operations need only ones of lesser numbers, or only ones of greater numbers, each has a depth.
+use Rattle.std.proofs.Common.{◌≡◌, sym, ap, ◌∙◌, List, get_or}
+use Rattle.goal_graph.specs.Schedule.{Plan, deps_at}
+use Rattle.goal_graph.proofs.Places.{deps_at-rank}
+use Rattle.goal_graph.proofs.Backwards.{none_in_rank, none_in_rank_ahead}
 use Rattle.goal_graph.proofs.cycle.first_in_rank.Goals as goal
 
-pub loop-done-preserved : goal.loop-done-preserved
-loop-done-preserved c =
-    let size : length c.finish.new.missing ≡ c.loop-done.search.missing.len = c.finish.auto.missing ∙ c.deref_mut.ensures.len in
-    let same = take_at c.finish.new.missing (drop (length c.finish.new.missing) c.loop-done.search.missing.items) c.loop-done.search.missing.len size in
-    record {
-      search = rw same c.in_ok-finish.ensures.search;
-      covers = rw same (λ p. size ∙ c.loop-done.search.missing.ok.0 ∙ c.loop-done.invariant.covers p);
-      found = omega (arith, c.in_ok-finish.ensures.listed);
-    }
+pub returns-then-all_go_back : goal.returns-then-all_go_back
+returns-then-all_go_back c =
+    let plans = c.args.tables.now in
+    let p = c.index-plans-rank.result in
+    let read : c.deref.result.now ≡ deps_at plans c.args.rank =
+    c.deref.ensures.value ∙ ap (λ (q : Plan). q.deps) (c.plan.view_is ∙ c.index-plans-rank.is ∙ ap (λ (ps : List Plan). get_or ps c.args.rank p) c.plans.ensures.plans) ∙ sym (deps_at-rank plans c.args.rank p c.requires.rank) in
+    none_in_rank plans c.args.rank (rw read at (c.all_go_back.ensures c.if-all_go_back.true))
 
-pub first_missing-requires : goal.first_missing-requires
-first_missing-requires c =
-    rw c.deref.ensures.value
-    (omega (arith, c.loop-done.invariant.covers no_plan, op_count-more_le c.args.tables.now c.args.rank no_plan c.requires.rank, (plain-counts c.args.tables.now c.requires.plain).ops))
-
-pub returns : goal.returns
-returns c =
-    let i = c.loop-done.invariant in
-    first_in_rank c.args.tables.now c.requires.plain c.args.rank c.requires.rank _ _ c.loop-done.done i.search i.covers
-    (omega (arith, c.loop-done-test.false, c.len.ensures, c.loop-done.search.order.ok.0)) c.first_missing.result (rw c.deref.ensures.value at c.first_missing.ensures)
+pub returns-then-all_go_ahead : goal.returns-then-all_go_ahead
+returns-then-all_go_ahead c =
+    let plans = c.args.tables.now in
+    let p = c.index-plans-rank.result in
+    let read : c.deref-2.result.now ≡ deps_at plans c.args.rank =
+    c.deref-2.ensures.value ∙ ap (λ (q : Plan). q.deps) (c.plan.view_is ∙ c.index-plans-rank.is ∙ ap (λ (ps : List Plan). get_or ps c.args.rank p) c.plans.ensures.plans) ∙ sym (deps_at-rank plans c.args.rank p c.requires.rank) in
+    none_in_rank_ahead plans c.args.rank c.requires.plain c.requires.rank (rw read at (c.all_go_ahead.ensures c.if-all_go_ahead.true))

@@ -1,8 +1,10 @@
-use Rattle.std.proofs.Common.{◌≡◌, ◌++◌, drop}
+use Rattle.std.proofs.Common.{◌≡◌, ◌+◌, ◌≤◌, ◌++◌, drop, length, vec_len, vec_capacity}
 use Rattle.goal_graph.specs.Schedule.{places_of_rank}
 use Rattle.goal_graph.proofs.listing.list_rank.Given as goal
 
--- what is listed, and then what is left, is what was there and the places of the rank
+-- what is listed, and then what is left, is what was there and the places of the rank; for what is left there is room
 abbrev pub invariant-loop-op : goal.invariant-loop-op
-invariant-loop-op l =
-    l.ids.items ++ places_of_rank l.rank l.op (drop l.op l.ops) ≡ l.initial.ids.items ++ places_of_rank l.rank 0 l.ops
+invariant-loop-op l = record {
+  listed : l.ids.items ++ places_of_rank l.rank l.op (drop l.op l.ops) ≡ l.fn.ids.items ++ places_of_rank l.rank 0 l.ops;
+  room : vec_len l.ids + length l.ops ≤ vec_capacity l.ids + l.op;
+}

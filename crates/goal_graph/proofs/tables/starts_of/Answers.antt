@@ -13,7 +13,7 @@ size c = c.len.ensures ∙ c.plan.inside.ops.ok.0 ∙ ap (λ (p : Plan). length 
 pub loop-plan-init : goal.loop-plan-init
 loop-plan-init c = record {
   counted = sym op_count-nil;
-  starts = rw (c.in_ok-push.ensures.items, c.new-starts.ensures.items) AreStarts-nil;
+  starts = rw (c.in_ok-push.ensures.items, c.in_ok-starts.ensures.items) AreStarts-nil;
 }
 
 pub overflow_cast-count : goal.overflow_cast-count

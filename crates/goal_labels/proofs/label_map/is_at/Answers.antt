@@ -8,7 +8,7 @@ pub returns-then-entry-label : goal.returns-then-entry-label
 returns-then-entry-label c =
     let e = c.in-Some.entry.now in
     let there : slice_get c.args.entries.now c.args.i ≡ Some e = slice_get_read c.args.entries.now _ c.args.i e refl c.in-Some.ensures.lookup.3.0 c.in-Some.ensures.lookup.1 in
-    c.eq.ensures ∙ ap (λ (k : List ℕ). bytes_eq k c.args.label.now) c.label_of.ensures ∙ sym (is_at-entry c.args.bytes.now c.args.entries.now c.args.label.now c.args.i e there)
+    c.are_same.ensures ∙ ap (λ (k : List ℕ). bytes_eq k c.args.label.now) c.label_of.ensures ∙ sym (is_at-entry c.args.bytes.now c.args.entries.now c.args.label.now c.args.i e there)
 
 pub returns-else-entry-label : goal.returns-else-entry-label
 returns-else-entry-label c =

@@ -1,4 +1,5 @@
-use Rattle.std.proofs.Common.{refl, arith, ◌+◌, ◌<◌, ◌≤◌, [], ◌∷◌, length}
+use Rattle.std.proofs.Common.{refl, subst, arith, ℕ, ◌+◌, ◌<◌, ◌≤◌, List, [], ◌∷◌, length, drop, IfSome}
+use Rattle.std.proofs.lemmas.List.{take_rest}
 use Rattle.goal_lexer.specs.declared.tokens.Token.{Token}
 use Rattle.goal_lexer.specs.Words.{word_kind}
 use Rattle.goal_parser.specs.declared.ahead.Small.{Small}
@@ -9,14 +10,14 @@ use Rattle.goal_parser.proofs.ahead.peer_ahead.Goals as goal
 pub returns-clause-within : goal.returns-clause-within
 returns-clause-within c =
     let at = c.args.at in
-    let count = c.word_ahead-count.result in
+    let count = c.spaced_word_ahead-count.result in
     IfSome-map (λ (n : Small). (at + count < n.end) × (n.end ≤ length c.args.rest.now)) (λ (n : Small). at < n.end) c.small_ahead.result
     (λ n known. omega (arith, known.0)) c.small_ahead.ensures.within
 
 pub returns-clause-inside : goal.returns-clause-inside
 returns-clause-inside c =
     let at = c.args.at in
-    let count = c.word_ahead-count.result in
+    let count = c.spaced_word_ahead-count.result in
     IfSome-map (λ (n : Small). (at + count < n.end) × (n.end ≤ length c.args.rest.now)) (λ (n : Small). n.end ≤ length c.args.rest.now) c.small_ahead.result
     (λ n known. known.1) c.small_ahead.ensures.within
 
@@ -24,17 +25,23 @@ pub returns-clause-ahead : goal.returns-clause-ahead
 returns-clause-ahead c =
     let rest = c.args.rest.now in
     let at = c.args.at in
-    let count = c.word_ahead-count.result in
-    let kind = word_kind c.args.word.now in
+    let count = c.spaced_word_ahead-count.result in
+    let kind = word_kind (drop 1 c.args.spaced.now) in
     let some : 0 < count = omega arith in
     IfSome-map (λ (n : Small). IsSmallAhead rest (at + count) n.value n.end) (λ (n : Small). IsPeerAhead rest at kind n.value n.end) c.small_ahead.result
     (λ n known place.
     let number = known place in
-    let w : Token = record { kind = kind; start = place + at + c.blanks_ahead.result; end = place + at + count } in (
+    let w : Token = record { kind = kind; start = place + at + 1; end = place + at + count } in (
       w,
       number.0,
       refl,
       number.1,
       tokens_on place rest at (at + count) n.end (w ∷ []) (number.0 ∷ [])
-          (tokens_of place rest at count (w ∷ []) some (c.word_ahead-count.ensures.ahead some (place + at))) number.2,
+          (tokens_of place rest at count (w ∷ []) some (c.spaced_word_ahead-count.ensures.ahead some (place + at))) number.2,
     )) c.small_ahead.ensures.ahead
+
+pub returns-then-count-eq0-clause-ahead : goal.returns-then-count-eq0-clause-ahead
+returns-then-count-eq0-clause-ahead c =
+    let found = c.blank_peer_ahead in
+    subst (λ (l : List ℕ). IfSome found.result (λ (n : Small). IsPeerAhead c.args.rest.now c.args.at (word_kind l) n.value n.end)) (take_rest c.args.spaced.now 1)
+    found.ensures.ahead

@@ -1,9 +1,10 @@
-use Rattle.std.proofs.Common.{◌≡◌, Some, slice_get, is_some, sym, ap, ◌∙◌, refl, subst, arith}
+use Rattle.std.proofs.Common.{◌≡◌, ◌<◌, Some, slice_get, slice_index, is_some, sym, ap, ◌∙◌, refl, subst, arith}
+use Rattle.std.proofs.lemmas.Option.{slice_get-get_or, get_or_from_slice_get}
 use Rattle.goal_graph.specs.Schedule.{operations}
 use Rattle.goal_graph.specs.Fault.{IsOp}
 use Rattle.sim_order.specs.Events.{event_before}
 use Rattle.sim_heaps.specs.Map.{IsEmptyMap, IsLeast}
-use Rattle.sim_stations.specs.Stations.{AreOfSlots}
+use Rattle.sim_stations.specs.Stations.{both_free, pair_at, AreOfSlots}
 use Rattle.sim_stations.proofs.Listed.{listed_exists}
 use Rattle.sim_stations.proofs.Least.{listed, least_found, found_slot, sole_ahead, ahead_slot, row_key, turn_late, slot_within, not_empty, empty_both}
 use Rattle.sim_stations.proofs.Settling.{settling, went_over, over_less}
@@ -20,13 +21,22 @@ index-slot-requires g c =
     let there = listed c.looks.ahead c.looks.waiting c.looks.rows c.looks.stands c.looks.invariant.kept c.in-Some.look.key c.in-Some.look.is_ahead c.in-Some.ensures.first (operations plans) of_slots in
     subst (IsOp plans) (sym c.id.ensures) (listed_exists plans there.0 c.in-Some.look.key.op there.1)
 
-pub group-station-requires : goal.group-station-requires
-group-station-requires g c =
+pub is_held_up-requires-clause-slot_in : goal.is_held_up-requires-clause-slot_in
+is_held_up-requires-clause-slot_in g c =
     let plans = c.args.sched.now in
     let of_slots = subst (AreOfSlots (operations plans)) (sym c.looks.invariant.seen) c.requires.of_slots in
     let is_slot : slice_get (operations plans) c.index-slot.result ≡ Some c.in-Some.look.key.op = c.index-slot.ensures.index ∙ ap Some c.id.ensures in
     let within = slot_within c.looks.ahead c.looks.waiting c.looks.rows c.looks.stands c.looks.invariant.kept c.in-Some.look.key c.in-Some.look.is_ahead c.in-Some.ensures.first plans of_slots c.index-slot.result is_slot in
     omega (arith, within, c.looks.invariant.kept.mapped.grouped)
+
+pub is_held_up-requires-clause-within : goal.is_held_up-requires-clause-within
+is_held_up-requires-clause-within g c =
+    let plans = c.args.sched.now in
+    let of_slots = subst (AreOfSlots (operations plans)) (sym c.looks.invariant.seen) c.requires.of_slots in
+    let is_slot : slice_get (operations plans) c.index-slot.result ≡ Some c.in-Some.look.key.op = c.index-slot.ensures.index ∙ ap Some c.id.ensures in
+    let within = slot_within c.looks.ahead c.looks.waiting c.looks.rows c.looks.stands c.looks.invariant.kept c.in-Some.look.key c.in-Some.look.is_ahead c.in-Some.ensures.first plans of_slots c.index-slot.result is_slot in
+    let there = slice_get-get_or c.looks.waiting.groups c.index-slot.result 0 (omega (arith, within, c.looks.invariant.kept.mapped.grouped)) in
+    c.looks.invariant.kept.mapped.within c.index-slot.result (slice_index c.looks.waiting.groups c.index-slot.result) there
 
 pub returns-then-not-is_held_up-clause-none : goal.returns-then-not-is_held_up-clause-none
 returns-then-not-is_held_up-clause-none g c =
@@ -39,7 +49,9 @@ returns-then-not-is_held_up-clause-least g c =
     let of_slots = subst (AreOfSlots (operations plans)) (sym c.looks.invariant.seen) c.requires.of_slots in
     let is_slot : slice_get (operations plans) c.index-slot.result ≡ Some c.in-Some.look.key.op = c.index-slot.ensures.index ∙ ap Some c.id.ensures in
     let due = c.is_held_up.ensures.due c.if-not-is_held_up.true in
-    let least = least_found c.looks.ahead c.looks.waiting c.looks.rows c.looks.stands c.looks.invariant.kept c.in-Some.look.key c.in-Some.look.is_ahead c.in-Some.ensures.first plans of_slots c.index-slot.result is_slot c.group-station.result c.group-station.ensures due in
+    let within = slot_within c.looks.ahead c.looks.waiting c.looks.rows c.looks.stands c.looks.invariant.kept c.in-Some.look.key c.in-Some.look.is_ahead c.in-Some.ensures.first plans of_slots c.index-slot.result is_slot in
+    let there = slice_get-get_or c.looks.waiting.groups c.index-slot.result 0 (omega (arith, within, c.looks.invariant.kept.mapped.grouped)) in
+    let least = least_found c.looks.ahead c.looks.waiting c.looks.rows c.looks.stands c.looks.invariant.kept c.in-Some.look.key c.in-Some.look.is_ahead c.in-Some.ensures.first plans of_slots c.index-slot.result is_slot (slice_index c.looks.waiting.groups c.index-slot.result) there due in
     subst (λ keys. IsLeast event_before keys c.index-slot.result c.in-Some.look.key) c.looks.invariant.seen least
 
 pub returns-then-not-is_held_up-clause-found : goal.returns-then-not-is_held_up-clause-found
@@ -63,6 +75,14 @@ begin_to_wait-requires-clause-key g c =
     let is_slot : slice_get (operations plans) c.index-slot.result ≡ Some c.in-Some.look.key.op = c.index-slot.ensures.index ∙ ap Some c.id.ensures in
     ahead_slot c.looks.ahead c.looks.waiting c.looks.rows c.looks.stands c.looks.invariant.kept c.in-Some.look.key c.in-Some.look.is_ahead c.in-Some.ensures.first plans of_slots c.index-slot.result is_slot c.if-is_ahead.true
 
+pub group-station-requires : goal.group-station-requires
+group-station-requires g c =
+    let plans = c.args.sched.now in
+    let of_slots = subst (AreOfSlots (operations plans)) (sym c.looks.invariant.seen) c.requires.of_slots in
+    let is_slot : slice_get (operations plans) c.index-slot.result ≡ Some c.in-Some.look.key.op = c.index-slot.ensures.index ∙ ap Some c.id.ensures in
+    let within = slot_within c.looks.ahead c.looks.waiting c.looks.rows c.looks.stands c.looks.invariant.kept c.in-Some.look.key c.in-Some.look.is_ahead c.in-Some.ensures.first plans of_slots c.index-slot.result is_slot in
+    omega (arith, within, c.looks.invariant.kept.mapped.grouped)
+
 pub turn-requires-clause-has : goal.turn-requires-clause-has
 turn-requires-clause-has g c =
     let plans = c.args.sched.now in
@@ -73,18 +93,22 @@ turn-requires-clause-has g c =
 pub looks-smaller : goal.looks-smaller
 looks-smaller g c =
     let plans = c.args.sched.now in
+    let same = get_or_from_slice_get c.looks.waiting.groups c.index-slot.result c.group-station.result 0 c.group-station.ensures in
+    let held = subst (λ station. c.in-Some.look.key.time < both_free c.looks.rows.free (pair_at c.looks.rows.pairs station)) same (c.is_held_up.ensures.held_up c.if-not-is_held_up.false).1 in
     let of_slots = subst (AreOfSlots (operations plans)) (sym c.looks.invariant.seen) c.requires.of_slots in
     let is_slot : slice_get (operations plans) c.index-slot.result ≡ Some c.in-Some.look.key.op = c.index-slot.ensures.index ∙ ap Some c.id.ensures in
-    let late = turn_late c.looks.ahead c.looks.waiting c.looks.rows c.looks.stands c.looks.invariant.kept c.in-Some.look.key c.in-Some.look.is_ahead c.in-Some.ensures.first plans of_slots c.index-slot.result is_slot c.group-station.result c.group-station.ensures c.if-is_ahead.false (c.is_held_up.ensures.held_up c.if-not-is_held_up.false).1 in
+    let late = turn_late c.looks.ahead c.looks.waiting c.looks.rows c.looks.stands c.looks.invariant.kept c.in-Some.look.key c.in-Some.look.is_ahead c.in-Some.ensures.first plans of_slots c.index-slot.result is_slot c.group-station.result c.group-station.ensures c.if-is_ahead.false held in
     let exists = c.looks.invariant.kept.mapped.within c.index-slot.result c.group-station.result c.group-station.ensures in
     over_less c.args.ahead.now c.args.waiting.now c.args.rows.now c.args.stands.now c.args.steps.now c.args.moves.now c.looks.ahead c.looks.waiting c.looks.rows c.looks.stands c.looks.steps c.looks.moves c.looks.invariant c.group-station.result exists late c.turn.new.self c.turn.ensures.turned c.is_held_up.new.steps c.turn.new.steps c.tick.new.self (omega (arith, c.first.ensures.counted, c.is_held_up.ensures.counted)) c.turn.ensures.counted c.tick.ensures
 
 pub looks-preserved : goal.looks-preserved
 looks-preserved g c =
     let plans = c.args.sched.now in
+    let same = get_or_from_slice_get c.looks.waiting.groups c.index-slot.result c.group-station.result 0 c.group-station.ensures in
+    let held = subst (λ station. c.in-Some.look.key.time < both_free c.looks.rows.free (pair_at c.looks.rows.pairs station)) same (c.is_held_up.ensures.held_up c.if-not-is_held_up.false).1 in
     let of_slots = subst (AreOfSlots (operations plans)) (sym c.looks.invariant.seen) c.requires.of_slots in
     let is_slot : slice_get (operations plans) c.index-slot.result ≡ Some c.in-Some.look.key.op = c.index-slot.ensures.index ∙ ap Some c.id.ensures in
-    let late = turn_late c.looks.ahead c.looks.waiting c.looks.rows c.looks.stands c.looks.invariant.kept c.in-Some.look.key c.in-Some.look.is_ahead c.in-Some.ensures.first plans of_slots c.index-slot.result is_slot c.group-station.result c.group-station.ensures c.if-is_ahead.false (c.is_held_up.ensures.held_up c.if-not-is_held_up.false).1 in
+    let late = turn_late c.looks.ahead c.looks.waiting c.looks.rows c.looks.stands c.looks.invariant.kept c.in-Some.look.key c.in-Some.look.is_ahead c.in-Some.ensures.first plans of_slots c.index-slot.result is_slot c.group-station.result c.group-station.ensures c.if-is_ahead.false held in
     let exists = c.looks.invariant.kept.mapped.within c.index-slot.result c.group-station.result c.group-station.ensures in
     went_over c.args.ahead.now c.args.waiting.now c.args.rows.now c.args.stands.now c.args.steps.now c.args.moves.now c.looks.ahead c.looks.waiting c.looks.rows c.looks.stands c.looks.steps c.looks.moves c.looks.invariant c.group-station.result exists late c.turn.new.self c.turn.ensures.turned c.is_held_up.new.steps c.turn.new.steps c.tick.new.self (omega (arith, c.first.ensures.counted, c.is_held_up.ensures.counted)) c.turn.ensures.counted c.tick.ensures
 

@@ -6,7 +6,7 @@ use Rattle.goal_certify.proofs.ends.Ends.of.Goals as goal
 use Rattle.goal_certify.proofs.ends.Ends.of.Goals.{in-Some+in_ok-push-in-Some, in-None}
 
 pub loop-id-init : goal.loop-id-init
-loop-id-init c = subst (AreCollected _ 0) (sym c.new-sorted.ensures.items) (collected_none _)
+loop-id-init c = subst (AreCollected _ 0) (sym c.in_ok-sorted.ensures.items) (collected_none _)
 
 pub loop-id-preserved : goal.loop-id-preserved
 loop-id-preserved c =

@@ -6,6 +6,6 @@ returns c = record {
   listed = c.in_ok-patterns.ensures.listed;
   few = c.in_ok-own.ensures.few;
   own = c.in_ok-own.ensures.numbers;
-  count = c.len-count.ensures;
-  sought = c.sought.ensures;
+  count = c.len.ensures;
+  sought = c.in_ok-others.ensures;
 }

@@ -10,7 +10,7 @@ returns-clause-kept c =
     let next = ap length (c.in_ok-next.ensures.items_if_clones_equal (search rules)) ∙ length-replicate c.count-count.result 0 in
     record {
       numbered = c.requires.numbered;
-      named = subst (AreSought c.requires.numbered.keys) c.requires.named c.requires.numbered.sought;
+      named = subst (AreSought c.args.sched.now c.requires.numbered.keys) c.requires.named c.requires.numbered.sought;
       actions = rw c.new.ensures tt;
       queues = rw c.new.ensures (queues_begin c.args.sched.now c.requires.numbered.keys _ _ _ refl queues (omega (arith, next, c.count-count.ensures.count)));
     }

@@ -1,20 +1,25 @@
-use Rattle.std.proofs.Common.{◌≡◌, ◌≤◌, ◌<◌, ◌+◌, ◌*◌, ◌^◌, Some, None, length, set, slice_index, sym, ap, ◌∙◌, subst, arith}
+use Rattle.std.proofs.Common.{◌≡◌, ◌≤◌, ◌<◌, ◌+◌, ◌*◌, ◌^◌, Some, None, length, set, slice_index, ap, ◌∙◌, arith}
 use Rattle.sim_heaps.specs.Map.{key_at}
 use Rattle.sim_stations.specs.declared.key_place.KeyPlace.TheVariants.{Ahead, Waiting}
-use Rattle.sim_stations.specs.Stations.{Stationed, both_free, when_free, pair_at, pair_of, count_ahead, cost_of_waiting}
+use Rattle.sim_stations.specs.Stations.{Stationed, when_free, pair_of, count_ahead, cost_of_waiting}
 use Rattle.sim_stations.specs.Kept.{seen_of}
-use Rattle.std.proofs.lemmas.Option.{same_Some, slice_get-get_or}
+use Rattle.std.proofs.lemmas.Option.{slice_get-get_or}
 use Rattle.sim_stations.proofs.Settling.{one_more, twice}
 use Rattle.sim_stations.proofs.Changed.{seen_size, idle_ahead, idle_waiting, put_kept, put_seen, put_more, wait_same, wait_kept, wait_seen}
 use Rattle.sim_stations.proofs.station_queue.StationQueue.put.Goals as goal
 
-pub group-station-requires : goal.group-station-requires
-group-station-requires g c =
+pub may_wait-requires-clause-slot_in : goal.may_wait-requires-clause-slot_in
+may_wait-requires-clause-slot_in g c =
     let q = c.self.inside in
     let size = seen_size q.ahead q.waiting q.rows q.stands.items c.self.invariant.0 in
-    let within : c.args.slot < length q.waiting.keys = omega (arith, c.requires.slot_in, ap (λ (s : Stationed). length s.keys) c.self.view_is, size) in
-    let idle : key_at (seen_of q.ahead q.waiting q.rows) c.args.slot ≡ None = ap (λ (s : Stationed). key_at s.keys c.args.slot) c.self.view_is ∙ c.requires.free in
-    omega (arith, within, c.self.invariant.0.mapped.grouped)
+    omega (arith, c.requires.slot_in, ap (λ (s : Stationed). length s.keys) c.self.view_is, size, c.self.invariant.0.mapped.grouped)
+
+pub may_wait-requires-clause-within : goal.may_wait-requires-clause-within
+may_wait-requires-clause-within g c =
+    let q = c.self.inside in
+    let size = seen_size q.ahead q.waiting q.rows q.stands.items c.self.invariant.0 in
+    let listed : c.args.slot < length q.waiting.groups = omega (arith, c.requires.slot_in, ap (λ (s : Stationed). length s.keys) c.self.view_is, size, c.self.invariant.0.mapped.grouped) in
+    c.self.invariant.0.mapped.within c.args.slot (slice_index q.waiting.groups c.args.slot) (slice_get-get_or q.waiting.groups c.args.slot 0 listed)
 
 pub join-requires-clause-slot_in : goal.join-requires-clause-slot_in
 join-requires-clause-slot_in g c =
@@ -46,9 +51,8 @@ invariant_of-self g c =
     let size = seen_size q.ahead q.waiting q.rows q.stands.items c.self.invariant.0 in
     let within : c.args.slot < length q.waiting.keys = omega (arith, c.requires.slot_in, ap (λ (s : Stationed). length s.keys) c.self.view_is, size) in
     let idle : key_at (seen_of q.ahead q.waiting q.rows) c.args.slot ≡ None = ap (λ (s : Stationed). key_at s.keys c.args.slot) c.self.view_is ∙ c.requires.free in
-    let pair : pair_at q.rows.pairs c.group-station.result ≡ pair_at q.rows.pairs (slice_index q.waiting.groups c.args.slot) = ap (pair_at q.rows.pairs) (same_Some c.group-station.result (slice_index q.waiting.groups c.args.slot) (sym c.group-station.ensures ∙ slice_get-get_or q.waiting.groups c.args.slot 0 (omega (arith, within, c.self.invariant.0.mapped.grouped)))) in
     let waits = c.may_wait.ensures.waits c.if-may_wait.true in
-    let late = subst (λ p. c.args.key.time ≤ both_free q.rows.free p) pair (c.may_wait.ensures.late c.if-may_wait.true) in
+    let late = c.may_wait.ensures.late c.if-may_wait.true in
     (wait_kept q.ahead q.waiting q.rows q.stands.items c.self.invariant.0 c.args.slot within idle c.args.key waits late c.join.new.waiting c.join.ensures.put c.join.new.rows c.join.ensures.shown c.join.ensures.keyed c.join.ensures.pairs c.join.ensures.turned c.join.ensures.free, tt)
 
 pub put-requires-clause-slot_in : goal.put-requires-clause-slot_in
@@ -89,9 +93,8 @@ returns-then-may_wait-clause-put g c =
     let size = seen_size q.ahead q.waiting q.rows q.stands.items c.self.invariant.0 in
     let within : c.args.slot < length q.waiting.keys = omega (arith, c.requires.slot_in, ap (λ (s : Stationed). length s.keys) c.self.view_is, size) in
     let idle : key_at (seen_of q.ahead q.waiting q.rows) c.args.slot ≡ None = ap (λ (s : Stationed). key_at s.keys c.args.slot) c.self.view_is ∙ c.requires.free in
-    let pair : pair_at q.rows.pairs c.group-station.result ≡ pair_at q.rows.pairs (slice_index q.waiting.groups c.args.slot) = ap (pair_at q.rows.pairs) (same_Some c.group-station.result (slice_index q.waiting.groups c.args.slot) (sym c.group-station.ensures ∙ slice_get-get_or q.waiting.groups c.args.slot 0 (omega (arith, within, c.self.invariant.0.mapped.grouped)))) in
     let waits = c.may_wait.ensures.waits c.if-may_wait.true in
-    let late = subst (λ p. c.args.key.time ≤ both_free q.rows.free p) pair (c.may_wait.ensures.late c.if-may_wait.true) in
+    let late = c.may_wait.ensures.late c.if-may_wait.true in
     wait_seen q.ahead q.waiting q.rows q.stands.items c.self.invariant.0 c.args.slot within idle c.args.key waits late c.join.new.waiting c.join.ensures.put c.join.new.rows c.join.ensures.shown c.join.ensures.keyed c.join.ensures.pairs c.join.ensures.turned c.join.ensures.free ∙ ap (λ (s : Stationed). set s.keys c.args.slot (Some (when_free s.free (pair_of s c.args.slot) c.args.key))) c.self.view_is
 
 pub returns-then-may_wait-clause-counted : goal.returns-then-may_wait-clause-counted

@@ -1,0 +1,42 @@
+-- Labels of 4 to 8 bytes are told by their ends.
+use Rattle.std.proofs.Common.{◌≡◌, ℕ, ◌+◌, ◌-◌, ◌≤◌, true, false, List, ◌++◌, length, take, drop, bytes_eq, sym, ap, ◌∙◌, arith, length-drop, take-append-drop}
+use Rattle.std.specs.Bool.{one_answer}
+use Rattle.std.proofs.lemmas.Slice.Eq.{bytes_eq-Decides}
+use Rattle.std.proofs.lemmas.List.{take_rest, take_all, take-take}
+
+-- the last four bytes, as code takes them
+abbrev last_four : List ℕ → ℕ → List ℕ
+last_four xs far = take 4 (take (length xs - far) (drop far xs))
+
+-- these are all bytes behind the first
+behind_far : (xs : List ℕ) (far : ℕ) → far + 4 ≡ length xs → last_four xs far ≡ drop far xs
+behind_far xs far long =
+    let count = length-drop far xs in
+    ap (take 4) (take_rest xs far) ∙ take_all 4 (drop far xs) (omega (arith, count, long))
+
+-- both ends are the same, and so is all between them
+whole_by_ends : (xs ys : List ℕ) (far : ℕ) → far ≤ 4 → take 4 xs ≡ take 4 ys → drop far xs ≡ drop far ys → xs ≡ ys
+whole_by_ends xs ys far few front back =
+    sym (take-append-drop far xs)
+    ∙ ap (λ (l : List ℕ). l ++ drop far xs) (sym (take-take far 4 xs few) ∙ ap (take far) front ∙ take-take far 4 ys few)
+    ∙ ap (λ (l : List ℕ). take far ys ++ l) back
+    ∙ take-append-drop far ys
+
+-- where the last bytes are the same, the first decide
+pub told_by_front : (xs ys : List ℕ) (far : ℕ) → far + 4 ≡ length xs → far + 4 ≡ length ys → far ≤ 4 →
+    bytes_eq (last_four xs far) (last_four ys far) ≡ true → bytes_eq (take 4 xs) (take 4 ys) ≡ bytes_eq xs ys
+told_by_front xs ys far one other few alike =
+    let back : drop far xs ≡ drop far ys =
+    sym (behind_far xs far one) ∙ (bytes_eq-Decides (last_four xs far) (last_four ys far)).0 alike ∙ behind_far ys far other in
+    one_answer {P = xs ≡ ys} (bytes_eq (take 4 xs) (take 4 ys)) (bytes_eq xs ys) (
+      λ told. whole_by_ends xs ys far few ((bytes_eq-Decides (take 4 xs) (take 4 ys)).0 told) back,
+      λ same. (bytes_eq-Decides (take 4 xs) (take 4 ys)).1 (ap (take 4) same),
+    ) (bytes_eq-Decides xs ys)
+
+-- where they are not, nothing is
+pub told_by_back : (xs ys : List ℕ) (far : ℕ) → bytes_eq (last_four xs far) (last_four ys far) ≡ false → false ≡ bytes_eq xs ys
+told_by_back xs ys far other =
+    one_answer {P = xs ≡ ys} false (bytes_eq xs ys) (
+      λ told. absurd cc,
+      λ same. sym other ∙ (bytes_eq-Decides (last_four xs far) (last_four ys far)).1 (ap (λ (l : List ℕ). last_four l far) same),
+    ) (bytes_eq-Decides xs ys)

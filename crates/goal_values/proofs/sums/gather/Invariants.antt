@@ -1,0 +1,18 @@
+use Rattle.std.proofs.Common.{ℕ, ◌≡◌, ◌+◌, ◌<◌, ◌++◌, [], All, length}
+use Rattle.std.specs.List.{sum_by}
+use Rattle.goal_blocks.specs.declared.collective.Contribution.{Contribution}
+use Rattle.goal_values.specs.Sums.{meaning, IsBelow}
+use Rattle.goal_values.specs.Parts.{told}
+use Rattle.goal_values.proofs.Gathering.{weight, weights, shares}
+use Rattle.goal_values.proofs.sums.gather.Given as goal
+
+-- what is listed, the left parts of the opened sums and the part at hand have together what the list and the value had
+abbrev pub invariant-parts : goal.invariant-parts
+invariant-parts l = record {
+  numbers : All (λ (n : ℕ). n < length (told [] l.sums)) l.opened.items;
+  below : IsBelow (length (told [] l.sums)) l.part;
+  same : (f : Contribution → ℕ) → sum_by f l.list.items + shares l.sums f l.opened.items + sum_by f (meaning (told [] l.sums) l.part) ≡ sum_by f (l.fn.list.items ++ meaning (told [] l.sums) l.fn.term);
+}
+
+abbrev pub decreases-parts : goal.decreases-parts
+decreases-parts l = weights l.sums l.opened.items + weight (told [] l.sums) l.part

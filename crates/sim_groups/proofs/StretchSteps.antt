@@ -1,0 +1,207 @@
+-- A stretch of places: one more stands behind it, its first goes, and its items are written as a heap.
+use Rattle.std.proofs.Common.{◌≡◌, ◌<◌, ◌≤◌, ◌+◌, ◌-◌, ◌++◌, ◌∷◌, [], ℕ, Bool, true, false, List, length, set, take, drop, get_or, slice_get, slice_set, Some, None, refl, sym, ap, ◌∙◌, subst, arith}
+use Rattle.std.specs.Prelude.{not}
+use Rattle.std.proofs.lemmas.List.{length-drop, length-set, length-append, length-take-le, take_all, take-take, take-append-le, get_or-take, get_or-drop}
+use Rattle.std.proofs.lemmas.Option.{none-some, slice_get-get_or, get_or_from_slice_get}
+use Rattle.goal_base.specs.declared.limits.TheConstants.{MAX_OPS}
+use Rattle.goal_graph.specs.declared.action.Timed.{Timed}
+use Rattle.sim_order.specs.Events.{event_before}
+use Rattle.sim_heaps.specs.Item.{Item}
+use Rattle.sim_heaps.specs.Map.{key_at, IsSoleLeast}
+use Rattle.sim_heaps.specs.RunHeap.{AreInOrder, IsBehind}
+use Rattle.sim_heaps.specs.TopHeap.{placed, AreApart, IsTopHeap}
+use Rattle.sim_heaps.proofs.ForCallers.{added_apart, added_placed, items_fit}
+use Rattle.sim_groups.specs.declared.stretch.Stretch.{Stretch}
+use Rattle.sim_groups.specs.Parts.{all_but_last}
+use Rattle.sim_groups.specs.Stretches.{standing, map_on, IsStretch}
+use Rattle.sim_groups.proofs.ItemParts.{no_items_heap}
+use Rattle.sim_groups.proofs.Stretching.{sorted_heap, behind_in_order, some_stand, fronted_in_order, fronted_heap, fronted_placed, behind_last, length-standing, standing_more, standing_less}
+
+both : {X : Type 0} (b : Bool) → b ≡ true → b ≡ false → X
+both b e f = absurd (cc)
+
+pub untrue : (b : Bool) → not b ≡ true → b ≡ false
+untrue true e = sym e
+untrue false e = refl
+
+-- a stretch without an item
+pub empty_stretch : (places : List (Item Timed)) → length places ≤ MAX_OPS → IsStretch event_before places (record { first = 0; end = 0; in_order = true })
+empty_stretch places few = record {
+  begins = omega arith;
+  ends = omega arith;
+  heap = no_items_heap [] (length places) refl few;
+  in_order = λ e one other x y h f g. absurd (none-some x f);
+  at_front = λ e. refl;
+}
+
+nothing : {X : Type 0} (xs : List X) → length xs ≡ 0 → xs ≡ []
+nothing [] e = refl
+nothing (x ∷ xs) e = absurd (omega (arith, e))
+
+module _ (places : List (Item Timed)) (s : Stretch) (is : IsStretch event_before places s) where
+  pub many_on : length (standing places s) ≡ s.end - s.first
+  many_on = length-standing places s.first s.end is.begins is.ends
+
+  -- an item that is not before the last
+  last_stands : (last : Item Timed) → s.first < s.end → slice_get places (s.end - 1) ≡ Some last → slice_get (standing places s) (s.end - s.first - 1) ≡ Some last
+  last_stands last some e =
+      let at = s.end - s.first - 1 in
+      let same : s.first + at ≡ s.end - 1 = omega (arith, some) in
+      slice_get-get_or (standing places s) at last (omega (arith, many_on, some))
+      ∙ ap Some
+      (get_or-drop s.first (take s.end places) at last
+      ∙ get_or-take s.end places (s.first + at) last (omega (arith, some))
+      ∙ ap (λ n. get_or places n last) same
+      ∙ get_or_from_slice_get places (s.end - 1) last last e)
+
+  pub behind_on : (x last : Item Timed) → s.in_order ≡ true → s.first < s.end → slice_get places (s.end - 1) ≡ Some last → event_before x.key last.key ≡ false → IsBehind event_before (standing places s) x
+  behind_on x last are some e late =
+      behind_last (standing places s) x last (is.in_order are) (s.end - s.first - 1) (omega (arith, many_on, some)) (last_stands last some e) late
+
+  -- the map where nothing stands
+  pub empty_map : s.end ≤ s.first → map_on places (record { first = 0; end = 0; in_order = true }) ≡ map_on places s
+  empty_map none =
+      ap (placed (length places)) (sym (nothing (standing places s) (omega (arith, many_on, none))))
+
+  -- one more stands behind
+  module _ (x : Item Timed) (are : s.in_order ≡ true) (room : s.end < length places) (behind : IsBehind event_before (standing places s) x) (slot_in : x.slot < length places) (free : key_at (map_on places s) x.slot ≡ None) where
+    abbrev now : Stretch
+    now = record { first = s.first; end = s.end + 1; in_order = s.in_order }
+
+    abbrev new : List (Item Timed)
+    new = set places s.end x
+
+    long : length new ≡ length places
+    long = length-set places s.end x
+
+    grown : standing new now ≡ standing places s ++ x ∷ []
+    grown = standing_more places s.first s.end is.begins is.ends x room
+
+    pub appended : IsStretch event_before new now
+    appended =
+        let in_order : AreInOrder event_before (standing new now) = subst (AreInOrder event_before) (sym grown) (behind_in_order (standing places s) x (is.in_order are) behind) in
+        let apart : AreApart (length new) (standing new now) = subst (λ n. AreApart n (standing new now)) (sym long) (subst (AreApart (length places)) (sym grown) (added_apart (standing places s) x (length places) is.heap.apart slot_in free)) in
+        record {
+          begins = omega (arith, is.begins);
+          ends = omega (arith, room, long);
+          heap = sorted_heap (standing new now) in_order (length new) apart (omega (arith, long, is.heap.few));
+          in_order = λ e. in_order;
+          at_front = λ e. both s.in_order are e;
+        }
+
+    pub appended_map : map_on new now ≡ slice_set (map_on places s) x.slot (Some x.key)
+    appended_map =
+        ap (λ n. placed n (standing new now)) long ∙ ap (placed (length places)) grown ∙ added_placed (standing places s) x (length places) is.heap.apart slot_in free
+
+  -- the least goes
+  module _ (slot : ℕ) (sole : IsSoleLeast event_before (map_on places s) slot) where
+    pub some_on : s.first < s.end
+    some_on = omega (arith, many_on, some_stand (length places) (standing places s) is.heap slot sole)
+
+    -- from the front
+    module _ (are : s.in_order ≡ true) where
+      abbrev rest : Stretch
+      rest = record { first = s.first + 1; end = s.end; in_order = s.in_order }
+
+      less : standing places rest ≡ drop 1 (standing places s)
+      less = standing_less places s.first s.end is.begins is.ends
+
+      pub fronted : IsStretch event_before places rest
+      fronted = record {
+        begins = omega (arith, some_on);
+        ends = is.ends;
+        heap = subst (λ (xs : List (Item Timed)). IsTopHeap event_before xs (length places) (length places)) (sym less) (fronted_heap (length places) (standing places s) is.heap (is.in_order are));
+        in_order = λ e. subst (AreInOrder event_before) (sym less) (fronted_in_order (standing places s) (is.in_order are));
+        at_front = λ e. both s.in_order are e;
+      }
+
+      pub fronted_map : map_on places rest ≡ slice_set (map_on places s) slot None
+      fronted_map =
+          ap (placed (length places)) less ∙ fronted_placed (length places) (standing places s) is.heap (is.in_order are) slot sole
+
+    -- from the top of a heap
+    module _ (are : s.in_order ≡ false) where
+      pub whole : standing places s ≡ take s.end places
+      whole = ap (λ n. drop n (take s.end places)) (is.at_front are)
+
+      module _ (ys : List (Item Timed)) (each : length ys ≡ length (take s.end places)) where
+        abbrev left : Stretch
+        left = record { first = s.first; end = s.end - 1; in_order = s.in_order }
+
+        abbrev written : List (Item Timed)
+        written = ys ++ drop s.end places
+
+        many : length ys ≡ s.end
+        many = each ∙ length-take-le s.end places is.ends
+
+        pub long_left : length written ≡ length places
+        long_left = omega (arith, length-append ys (drop s.end places), many, length-drop s.end places, is.ends)
+
+        stay : standing written left ≡ all_but_last ys
+        stay =
+            let fewer : s.end - 1 ≡ length ys - 1 = omega (arith, many) in
+            ap (λ n. drop n (take (s.end - 1) written)) (is.at_front are)
+            ∙ take-append-le (s.end - 1) ys (drop s.end places) (omega (arith, many))
+            ∙ ap (λ n. take n ys) fewer
+
+        pub left_stretch : IsTopHeap event_before (all_but_last ys) (length places) (length places) → IsStretch event_before written left
+        left_stretch heap = record {
+          begins = omega (arith, is.at_front are);
+          ends = omega (arith, is.ends, long_left);
+          heap = subst (λ (n : ℕ). IsTopHeap event_before (standing written left) n n) (sym long_left) (subst (λ (xs : List (Item Timed)). IsTopHeap event_before xs (length places) (length places)) (sym stay) heap);
+          in_order = λ e. both s.in_order e are;
+          at_front = is.at_front;
+        }
+
+        pub left_map : placed (length places) (all_but_last ys) ≡ slice_set (placed (length places) (take s.end places)) slot None → map_on written left ≡ slice_set (map_on places s) slot None
+        left_map is_left =
+            ap (λ n. placed n (standing written left)) long_left ∙ ap (placed (length places)) stay ∙ is_left ∙ ap (λ xs. slice_set (placed (length places) xs) slot None) (sym whole)
+
+  -- one more stands among the others, which were moved to the front
+  module _ (slot : ℕ) (key : Timed) (slot_in : slot < length places) (free : key_at (map_on places s) slot ≡ None) where
+    abbrev x : Item Timed
+    x = record { key = key; slot = slot }
+
+    pub fit : s.end - s.first + 1 ≤ length places
+    fit =
+        let few = items_fit (length places) (standing places s ++ x ∷ []) (added_apart (standing places s) x (length places) is.heap.apart slot_in free) in
+        omega (arith, few, length-append (standing places s) (x ∷ []), many_on)
+
+    module _ (moved : List (Item Timed)) (same_long : length moved ≡ length places) (count : ℕ) (front : take count moved ≡ standing places s) (fits : count ≤ length moved) where
+      pub count_is : count ≡ s.end - s.first
+      count_is = sym (length-take-le count moved fits) ∙ ap length front ∙ many_on
+
+      pub before_free : all_but_last (take (count + 1) moved) ≡ standing places s
+      before_free =
+          let more : length (take (count + 1) moved) ≡ count + 1 = length-take-le (count + 1) moved (omega (arith, fit, count_is, same_long)) in
+          let one : length (take (count + 1) moved) - 1 ≡ count = omega (arith, more) in
+          ap (λ n. take n (take (count + 1) moved)) one ∙ take-take count (count + 1) moved (omega arith) ∙ front
+
+      module _ (ys : List (Item Timed)) (each : length ys ≡ length (take (count + 1) moved)) where
+        abbrev among : Stretch
+        among = record { first = 0; end = count + 1; in_order = false }
+
+        abbrev entered : List (Item Timed)
+        entered = ys ++ drop (count + 1) moved
+
+        many_entered : length ys ≡ count + 1
+        many_entered = each ∙ length-take-le (count + 1) moved (omega (arith, fit, count_is, same_long))
+
+        pub long_entered : length entered ≡ length places
+        long_entered = omega (arith, length-append ys (drop (count + 1) moved), many_entered, length-drop (count + 1) moved, same_long, fit, count_is)
+
+        are_entered : standing entered among ≡ ys
+        are_entered = take-append-le (count + 1) ys (drop (count + 1) moved) (omega (arith, many_entered)) ∙ take_all (count + 1) ys (omega (arith, many_entered))
+
+        pub among_stretch : IsTopHeap event_before ys (length places) (length places) → IsStretch event_before entered among
+        among_stretch heap = record {
+          begins = omega arith;
+          ends = omega (arith, long_entered, fit, count_is);
+          heap = subst (λ (n : ℕ). IsTopHeap event_before (standing entered among) n n) (sym long_entered) (subst (λ (xs : List (Item Timed)). IsTopHeap event_before xs (length places) (length places)) (sym are_entered) heap);
+          in_order = λ e. both false e refl;
+          at_front = λ e. refl;
+        }
+
+        pub among_map : placed (length places) ys ≡ slice_set (placed (length places) (all_but_last (take (count + 1) moved))) slot (Some key) → map_on entered among ≡ slice_set (map_on places s) slot (Some key)
+        among_map is_put =
+            ap (λ n. placed n (standing entered among)) long_entered ∙ ap (placed (length places)) are_entered ∙ is_put ∙ ap (λ xs. slice_set (placed (length places) xs) slot (Some key)) before_free

@@ -1,0 +1,218 @@
+// Heaps of items, each on a stretch of the places of its group.
+ghost use Rattle.std.specs.Prelude.{◌≡◌, ◌+◌, ◌*◌, ◌^◌, ◌<◌, ◌≤◌, ℕ, Some, None, true, length, slice_set};
+ghost use Rattle.sim_order.specs.Events.{event_before};
+ghost use Rattle.sim_heaps.specs.Map.{key_at, IsSoleLeast};
+ghost use Rattle.sim_heaps.specs.RunHeap.{IsBehind};
+ghost use Rattle.sim_heaps.specs.TopHeap.{placed, IsTopHeap};
+ghost use Rattle.sim_groups.specs.Parts.{all_but_last};
+ghost use Rattle.sim_groups.specs.Stretches.{standing, map_on, IsFront, IsStretch};
+
+use sim_heaps::{Arrivals, HeapItem, rise, sink};
+use sim_order::{CompactKey, Steps};
+use std::sync::ledger::Ledger;
+
+/// Where items stand among the places of their group: from `first` to before `end`. They are a heap. Where they are in their
+/// order besides, the least goes from the front, and nothing else moves; where they may not be, `first` is 0.
+#[derive(Clone, Copy, Debug)]
+pub struct Stretch {
+    pub first: u32,
+    pub end: u32,
+    pub in_order: bool,
+}
+
+// Gives a slot of so many a key, where the last place is free for it.
+#[inline(always)]
+fn enter<L: Ledger>(
+    items: &mut [HeapItem],
+    slots: u32,
+    slot: u32,
+    key: CompactKey,
+    steps: &mut Steps<L>,
+)
+    requires some { 0 < length items.old }
+    requires heap { IsTopHeap event_before (all_but_last items.old) slots slots }
+    requires slot_in { slot < slots }
+    requires free { key_at (placed slots (all_but_last items.old)) slot ≡ None }
+    ensures each { length items.new ≡ length items.old }
+    ensures heap { IsTopHeap event_before items.new slots slots }
+    ensures put { placed slots items.new ≡ slice_set (placed slots (all_but_last items.old)) slot (Some key) }
+    ensures counted { (k : ℕ) → slots ≤ 2 ^ k → steps.new ≤ steps.old + k }
+    ensures onward { steps.old ≤ steps.new }
+{
+    let last = items.len() - 1;
+    items[last] = HeapItem::new(key, slot);
+    rise(items, last, steps);
+}
+
+// Takes the least key out, that of this slot of so many. Then the last place is free.
+#[inline(always)]
+fn leave<L: Ledger>(items: &mut [HeapItem], slots: u32, slot: u32, steps: &mut Steps<L>)
+    requires heap { IsTopHeap event_before items.old slots slots }
+    requires least { IsSoleLeast event_before (placed slots items.old) slot }
+    ensures each { length items.new ≡ length items.old }
+    ensures heap { IsTopHeap event_before (all_but_last items.new) slots slots }
+    ensures taken { placed slots (all_but_last items.new) ≡ slice_set (placed slots items.old) slot None }
+    ensures counted { (k : ℕ) → slots ≤ 2 ^ k → steps.new ≤ steps.old + (2 * k + 1) }
+    ensures onward { steps.old ≤ steps.new }
+{
+    let left = items.len() - 1;
+    if left == 0 {
+        return;
+    }
+    let last = items[left];
+    let front = &mut items[..left];
+    front[0] = last;
+    sink(front, Arrivals::InOrder, steps);
+}
+
+/// A stretch on which nothing stands.
+#[inline(always)]
+pub fn empty() -> Stretch
+    ensures { result ≡ record { first = 0; end = 0; in_order = true } }
+{
+    Stretch {
+        first: 0,
+        end: 0,
+        in_order: true,
+    }
+}
+
+// Whether an item is to stand behind the others: they are in order, there is a place, and it is not before the last.
+#[inline(always)]
+fn follows<L: Ledger>(
+    places: &[HeapItem],
+    stretch: Stretch,
+    item: &HeapItem,
+    steps: &mut Steps<L>,
+) -> bool
+    requires stands { IsStretch event_before places.now stretch }
+    requires some { stretch.first < stretch.end }
+    ensures in_order { result ≡ true → stretch.in_order ≡ true }
+    ensures room { result ≡ true → stretch.end < length places.now }
+    ensures behind { result ≡ true → IsBehind event_before (standing places.now stretch) item.now }
+    ensures counted { steps.new ≤ steps.old + 1 }
+    ensures onward { steps.old ≤ steps.new }
+{
+    let end = stretch.end as usize;
+    stretch.in_order && end < places.len() && !item.before(&places[end - 1], steps)
+}
+
+// An item more, behind the others.
+#[inline(always)]
+fn append(places: &mut [HeapItem], stretch: Stretch, item: HeapItem) -> Stretch
+    requires stands { IsStretch event_before places.old stretch }
+    requires in_order { stretch.in_order ≡ true }
+    requires room { stretch.end < length places.old }
+    requires behind { IsBehind event_before (standing places.old stretch) item }
+    requires slot_in { item.slot < length places.old }
+    requires free { key_at (map_on places.old stretch) item.slot ≡ None }
+    ensures each { length places.new ≡ length places.old }
+    ensures stands { IsStretch event_before places.new result }
+    ensures put { map_on places.new result ≡ slice_set (map_on places.old stretch) item.slot (Some item.key) }
+{
+    places[stretch.end as usize] = item;
+    Stretch {
+        end: stretch.end + 1,
+        ..stretch
+    }
+}
+
+// Moves the items to the first places, and tells how many they are.
+fn to_front(places: &mut [HeapItem], stretch: Stretch) -> u32
+    requires first { stretch.first ≤ stretch.end }
+    requires end { stretch.end ≤ length places.old }
+    ensures each { length places.new ≡ length places.old }
+    ensures fits { result ≤ length places.new }
+    ensures same { IsFront result places.new (standing places.old stretch) }
+{
+    let count = stretch.end - stretch.first;
+    if stretch.first > 0 {
+        places.copy_within(stretch.first as usize..stretch.end as usize, 0);
+    }
+    count
+}
+
+// An item more, among the others: from now on they may be out of order.
+fn put_among<L: Ledger>(
+    places: &mut [HeapItem],
+    stretch: Stretch,
+    slot: u32,
+    key: CompactKey,
+    steps: &mut Steps<L>,
+) -> Stretch
+    requires stands { IsStretch event_before places.old stretch }
+    requires slot_in { slot < length places.old }
+    requires free { key_at (map_on places.old stretch) slot ≡ None }
+    ensures each { length places.new ≡ length places.old }
+    ensures stands { IsStretch event_before places.new result }
+    ensures put { map_on places.new result ≡ slice_set (map_on places.old stretch) slot (Some key) }
+    ensures counted { (k : ℕ) → length places.old ≤ 2 ^ k → steps.new ≤ steps.old + k }
+    ensures onward { steps.old ≤ steps.new }
+{
+    let slots = places.len() as u32;
+    let end = to_front(places, stretch) + 1;
+    enter(&mut places[..end as usize], slots, slot, key, steps);
+    Stretch {
+        first: 0,
+        end,
+        in_order: false,
+    }
+}
+
+/// Gives a slot, of as many as there are places, a key. It has none.
+#[inline(always)]
+pub fn put<L: Ledger>(
+    places: &mut [HeapItem],
+    stretch: Stretch,
+    slot: u32,
+    key: CompactKey,
+    steps: &mut Steps<L>,
+) -> Stretch
+    requires stands { IsStretch event_before places.old stretch }
+    requires slot_in { slot < length places.old }
+    requires free { key_at (map_on places.old stretch) slot ≡ None }
+    ensures each { length places.new ≡ length places.old }
+    ensures stands { IsStretch event_before places.new result }
+    ensures put { map_on places.new result ≡ slice_set (map_on places.old stretch) slot (Some key) }
+    ensures counted { (k : ℕ) → length places.old ≤ 2 ^ k → steps.new ≤ steps.old + (2 * k + 1) }
+    ensures onward { steps.old ≤ steps.new }
+{
+    let item = HeapItem::new(key, slot);
+    if stretch.first >= stretch.end {
+        return append(places, empty(), item);
+    }
+    if follows(places, stretch, &item, steps) {
+        return append(places, stretch, item);
+    }
+    put_among(places, stretch, slot, key, steps)
+}
+
+/// Takes out the least key, that of this slot: it is before each other.
+#[inline(always)]
+pub fn take<L: Ledger>(
+    places: &mut [HeapItem],
+    stretch: Stretch,
+    slot: u32,
+    steps: &mut Steps<L>,
+) -> Stretch
+    requires stands { IsStretch event_before places.old stretch }
+    requires least { IsSoleLeast event_before (map_on places.old stretch) slot }
+    ensures each { length places.new ≡ length places.old }
+    ensures stands { IsStretch event_before places.new result }
+    ensures taken { map_on places.new result ≡ slice_set (map_on places.old stretch) slot None }
+    ensures counted { (k : ℕ) → length places.old ≤ 2 ^ k → steps.new ≤ steps.old + (2 * k + 1) }
+    ensures onward { steps.old ≤ steps.new }
+{
+    if stretch.in_order {
+        return Stretch {
+            first: stretch.first + 1,
+            ..stretch
+        };
+    }
+    let slots = places.len() as u32;
+    leave(&mut places[..stretch.end as usize], slots, slot, steps);
+    Stretch {
+        end: stretch.end - 1,
+        ..stretch
+    }
+}
