@@ -33,6 +33,3 @@ pub use slots::{Adding, Slots};
 pub use steps::{Effect, Formula, Needs, Step, before_round, plans_of};
 pub use store::{Payload, Store};
 pub use wanted::{asked, first_of, initial_size, is_wanted};
-
-#[cfg(test)]
-mod tests;

@@ -8,8 +8,6 @@ mod races;
 mod segments;
 mod sizes;
 mod slot_counts;
-#[cfg(test)]
-mod tests;
 mod walk;
 
 pub use certifier::certify;

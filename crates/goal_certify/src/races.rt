@@ -131,6 +131,3 @@ fn find_race(
         None => unreachable!(),
     }
 }
-
-#[cfg(test)]
-mod tests;

@@ -139,6 +139,3 @@ impl<'a> Walker<'a> {
         self.state.known();
     }
 }
-
-#[cfg(test)]
-mod tests;

@@ -10,6 +10,3 @@ mod steps;
 pub use goal_blocks::GenFault;
 pub use making::generate;
 pub use probe::{MAX_ROUNDS, probe_plan};
-
-#[cfg(test)]
-mod tests;

@@ -153,6 +153,3 @@ impl Sched {
         self.tables.index(id)
     }
 }
-
-#[cfg(test)]
-mod tests;

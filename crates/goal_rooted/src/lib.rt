@@ -8,6 +8,3 @@ mod tree;
 
 pub use goal_blocks::{GenFault, GenFault as RootedFault};
 pub use making::generate_rooted;
-
-#[cfg(test)]
-mod tests;

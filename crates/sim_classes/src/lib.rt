@@ -10,8 +10,6 @@ mod laws;
 mod machine;
 mod messages;
 mod reading;
-#[cfg(test)]
-mod tests;
 mod told;
 mod words;
 

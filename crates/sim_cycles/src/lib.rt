@@ -15,6 +15,3 @@ pub use knot::{Knot, OpList};
 pub use laws::laws_of_knots;
 pub use report::knots;
 pub use text::knots_text;
-
-#[cfg(test)]
-mod tests;

@@ -10,6 +10,3 @@ mod station;
 pub use engine::Engine;
 pub use laws::laws_of_costs;
 pub use sim_state::{EngineFault, History, Kept, Record, Unkept};
-
-#[cfg(test)]
-mod tests;

@@ -12,8 +12,6 @@ mod matcher;
 mod pattern;
 mod queues;
 mod table;
-#[cfg(test)]
-mod tests;
 
 pub use laws::laws_of_posts_and_arrivals;
 pub use matcher::Matcher;

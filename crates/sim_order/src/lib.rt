@@ -8,8 +8,6 @@ mod laws;
 mod order;
 mod past;
 mod steps;
-#[cfg(test)]
-mod tests;
 
 pub use compact::CompactKey;
 pub use event::EventKey;

@@ -3,8 +3,6 @@
 
 mod ranked_queue;
 mod row;
-#[cfg(test)]
-mod tests;
 mod vec_queue;
 
 pub use ranked_queue::RankedQueue;

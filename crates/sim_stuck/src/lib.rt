@@ -11,6 +11,3 @@ mod stuck;
 pub use lines::stuck_text;
 pub use reasons::explain;
 pub use stuck::is_stuck;
-
-#[cfg(test)]
-mod tests;

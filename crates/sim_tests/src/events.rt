@@ -1,0 +1,124 @@
+// A run with times worked by hand, and the engine beside a plain evaluator of the rules.
+use crate::plans::plan;
+use goal_graph::{Class, Kind, OpId, Sched, Timed};
+use sim_events::{Engine, EngineFault, History, Record, Unkept};
+use sim_order::CompactKey;
+use sim_params::{LogGops, Params};
+use std::alloc::{AllocError, Global};
+use std::process::Abort;
+use std::test::Fail;
+
+mod evaluator;
+mod seeded;
+
+fn send(bytes: u64, to: u32) -> Kind {
+    Kind::Send { bytes, to, tag: 0 }
+}
+
+fn recv(bytes: u64, from: Option<u32>) -> Kind {
+    Kind::Recv {
+        bytes,
+        from,
+        tag: Some(0),
+    }
+}
+
+fn costs() -> Result<LogGops, Fail> {
+    Ok(LogGops {
+        params: Params::new(2500, 1500, 1000, 6, 0, 65535)?,
+    })
+}
+
+// When an operation started and when it ends, and its partner.
+fn told<H: History>(
+    rt: &impl Abort,
+    engine: &Engine<LogGops, H>,
+    rank: u32,
+    op: u32,
+) -> (Option<u64>, Option<u64>, Option<OpId>) {
+    let plans = engine.sched().plans();
+    assert!(rt; (rank as usize) < plans.len());
+    let plan = &plans[rank as usize];
+    assert!(rt; (op as usize) < plan.ops.len());
+    let Record {
+        start,
+        end,
+        partner,
+    } = engine.record(OpId { rank, op });
+    (start, end, partner)
+}
+
+// The actions of a trace, which has their keys.
+fn actions(alloc: Global, trace: &[CompactKey]) -> Result<Vec<Timed>, AllocError> {
+    let mut actions = Vec::new(alloc);
+    for key in trace {
+        actions.push(Timed {
+            time: key.time(),
+            class: key.class(),
+            op: key.id(),
+        })?;
+    }
+    Ok(actions)
+}
+
+fn id(rank: u32, op: u32) -> Option<OpId> {
+    Some(OpId { rank, op })
+}
+
+fn at(time: u64, class: Class, rank: u32, op: u32) -> Timed {
+    Timed {
+        time,
+        class,
+        op: OpId { rank, op },
+    }
+}
+
+// A message of one byte more than may be sent at once, by its whole trace.
+#[test]
+fn a_large_message(rt: HostRuntime) -> Result<(), Fail> {
+    let sends = plan(rt.alloc(), &[send(65_536, 1)], &[])?;
+    let receives = plan(rt.alloc(), &[recv(65_536, Some(0))], &[])?;
+    let sched = Sched::build(rt.alloc(), vec![in rt.alloc(); sends, receives]?)?;
+    let mut engine = Engine::new(rt.alloc(), &sched, costs()?)?;
+    engine.run();
+    let trace = [
+        at(0, Class::Post, 1, 0),
+        at(0, Class::Begin, 0, 0),
+        at(4000, Class::Arrive, 0, 0),
+        at(6500, Class::Data, 0, 0),
+        at(403_710, Class::Serve, 1, 0),
+    ];
+    let actions = actions(rt.alloc(), engine.trace())?;
+    assert_eq!(rt; actions.as_slice(), trace.as_slice());
+    assert_eq!(rt; told(&rt, &engine, 0, 0), (Some(0), Some(8000), id(1, 0)));
+    assert_eq!(rt;
+        told(&rt, &engine, 1, 0),
+        (Some(0), Some(405_210), id(0, 0))
+    );
+    let mut unkept = Engine::<LogGops, Unkept>::start(rt.alloc(), &sched, costs()?)?;
+    unkept.run();
+    assert_eq!(rt; told(&rt, &unkept, 1, 0), told(&rt, &engine, 1, 0));
+    Ok(())
+}
+
+// The most bytes of a message.
+const LARGEST: u64 = (1 << 40) - 1;
+
+fn greatest_costs() -> Result<LogGops, Fail> {
+    Ok(LogGops {
+        params: Params::new(2500, 1500, 1000, 1_048_575, 1_048_575, 65535)?,
+    })
+}
+
+// Two messages of the largest size at the greatest costs of a byte.
+#[test]
+fn a_budget_that_is_over(rt: HostRuntime) -> Result<(), Fail> {
+    let kinds = [send(LARGEST, 1), send(LARGEST, 1)];
+    let sends = plan(rt.alloc(), &kinds, &[])?;
+    let receives = plan(rt.alloc(), &[recv(LARGEST, Some(0))], &[])?;
+    let sched = Sched::build(rt.alloc(), vec![in rt.alloc(); sends, receives]?)?;
+    let fault = Engine::new(rt.alloc(), &sched, greatest_costs()?).err();
+    let sum = 11_529_204_050_931_256_500;
+    assert_eq!(rt; fault, Some(EngineFault::Budget { sum }));
+    Ok(())
+}

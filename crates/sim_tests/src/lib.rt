@@ -1,0 +1,29 @@
+//! Tests of the simulator, the certifier and the schedules of collectives, by their public calls. Nothing stands on this crate.
+#![tactic(auto)]
+
+#[cfg(test)]
+mod blocks;
+#[cfg(test)]
+mod certifier;
+#[cfg(test)]
+mod classes;
+#[cfg(test)]
+mod collectives;
+#[cfg(test)]
+mod cycles;
+#[cfg(test)]
+mod events;
+#[cfg(test)]
+mod graph;
+#[cfg(test)]
+mod matching;
+#[cfg(test)]
+mod order;
+#[cfg(test)]
+mod plans;
+#[cfg(test)]
+mod queue;
+#[cfg(test)]
+mod rooted;
+#[cfg(test)]
+mod stuck;

@@ -1,0 +1,62 @@
+// Plans and schedules as several tests make them.
+use goal_graph::{Dep, Kind, Note, Op, PlanFault, RankPlan, Sched, When};
+use std::alloc::{AllocError, Global};
+
+pub const CALC: Op = Op {
+    kind: Kind::Calc { nanos: 1 },
+    cpu: 0,
+    nic: 0,
+};
+
+pub fn dep(later: u32, earlier: u32, when: When) -> Dep {
+    Dep {
+        later,
+        earlier,
+        when,
+    }
+}
+
+/// An operation on the first cpu and the first interface.
+pub fn op(kind: Kind) -> Op {
+    Op {
+        kind,
+        cpu: 0,
+        nic: 0,
+    }
+}
+
+/// What a rank does, all of it on one cpu and one interface.
+pub fn plan(alloc: Global, kinds: &[Kind], deps: &[Dep]) -> Result<RankPlan, AllocError> {
+    let mut ops = Vec::new(alloc);
+    for kind in kinds {
+        ops.push(op(*kind))?;
+    }
+    Ok(RankPlan {
+        ops,
+        deps: deps.to_vec(alloc)?,
+        notes: Vec::new(alloc),
+    })
+}
+
+/// A plan without dependencies.
+pub fn noted_plan(alloc: Global, ops: &[Op], notes: &[Note]) -> Result<RankPlan, AllocError> {
+    Ok(RankPlan {
+        ops: ops.to_vec(alloc)?,
+        deps: Vec::new(alloc),
+        notes: notes.to_vec(alloc)?,
+    })
+}
+
+/// A schedule of one rank, or its fault.
+pub fn one_rank(
+    alloc: Global,
+    ops: &[Op],
+    deps: &[Dep],
+    notes: &[Note],
+) -> Result<Sched, PlanFault> {
+    let ops = ops.to_vec(alloc)?;
+    let deps = deps.to_vec(alloc)?;
+    let notes = notes.to_vec(alloc)?;
+    let plans = vec![in alloc; RankPlan { ops, deps, notes }]?;
+    Sched::build(alloc, plans)
+}
