@@ -1,177 +1,127 @@
--- The free time of an operation is told by the hold of its slot, and a longer hold there is worth one hold more.
-use Rattle.std.proofs.Common.{ℕ, zero, suc, ◌<◌, ◌≡◌, max, Bool, true, false, List, [], ◌∷◌, length, map, Some, slice_get, slice_set, get_or, All, refl, ap, sym, ◌∙◌, subst, arith, if◌then◌else◌}
-use Rattle.std.proofs.lemmas.Bool.{false_from_ne_true}
-use Rattle.std.proofs.lemmas.List.{get_or-map, length-map}
-use Rattle.std.proofs.lemmas.List.Elements.{All-head, All-tail}
-use Rattle.std.proofs.lemmas.Option.{same_Some, slice_get_within, get_or_from_slice_get}
+-- An operation is free at the time of its slot, and a later time there is worth one hold more.
+use Rattle.std.proofs.Common.{ℕ, zero, suc, ◌<◌, ◌≤◌, ◌≡◌, inl, inr, max, Bool, true, false, List, [], ◌∷◌, length, replicate, map, Option, Some, None, slice_get, slice_set, get_or, refl, ap, sym, ◌∙◌, subst, arith, if◌then◌else◌, is_some}
+use Rattle.std.proofs.lemmas.Bool.{both_ways, cases_Bool}
+use Rattle.std.proofs.lemmas.List.{get_or-set_same, get_or-set_other, get_or-replicate, length-set}
+use Rattle.std.proofs.lemmas.Option.{same_Some, slice_get_within, slice_get-get_or, get_or_from_slice_get}
 use Rattle.goal_graph.specs.declared.action.OpId.{OpId}
 use Rattle.goal_graph.specs.declared.plan.Op.{Op}
-use Rattle.goal_graph.specs.Schedule.{Plan, operations}
-use Rattle.sim_resources.specs.declared.holds.Hold.{Hold}
-use Rattle.sim_resources.specs.declared.slots.Slots.{Slots}
-use Rattle.sim_resources.specs.FreeTimes.{shares, free_at, hold}
-use Rattle.sim_resources.specs.Slots.{HasSlot, IsNumbered, users}
-use Rattle.sim_resources.proofs.Shares.{shares_alike, shares_back}
+use Rattle.goal_graph.specs.Schedule.{Plan, op_at, operations}
+use Rattle.goal_graph.specs.Fault.{IsOp}
+use Rattle.goal_graph.proofs.ForCallers.{cases_some, is_some_from}
+use Rattle.sim_resources.specs.FreeTimes.{Hold, shares_place, shares, free_at, hold}
+use Rattle.sim_resources.specs.Slots.{place_among, IsPlaced, held}
+use Rattle.sim_resources.proofs.Placed.{listed}
+use Rattle.sim_resources.proofs.Shares.{shares_itself, shares_back}
 
-suc_zero : {n : ℕ} → suc n ≡ 0 → ⊥
-suc_zero e = absurd (omega arith)
-
-zero_suc : {n : ℕ} → 0 ≡ suc n → ⊥
-zero_suc e = absurd (omega arith)
-
-suc_same : {m n : ℕ} → suc m ≡ suc n → m ≡ n
-suc_same e = omega arith
-
-max_both : (b : Bool) (m n k : ℕ) → max m (if b then max n k else 0) ≡ max (max m (if b then n else 0)) (if b then k else 0)
-max_both true m n k = omega arith
-max_both false m n k = omega arith
-
-max_swap : (m n k : ℕ) → max (max m n) k ≡ max (max m k) n
-max_swap m n k = omega arith
-
-abbrev pub raised : List Hold → ℕ → Hold → ℕ → List Hold
-raised hs s h until = slice_set hs s (record h { until = max h.until until })
-
-max_zero : (b : Bool) (m n : ℕ) → m ≡ 0 → n ≡ 0 → max m (if b then n else 0) ≡ 0
-max_zero true m n p q = omega arith
-max_zero false m n p q = omega arith
-
--- a longer hold is of the same operation
-pub users-raised : (hs : List Hold) (s : ℕ) (h : Hold) (until : ℕ) → slice_get hs s ≡ Some h → users (raised hs s h until) ≡ users hs
-users-raised [] s h until e = refl
-users-raised (g ∷ hs) zero h until e =
-    ap (λ (f : Hold). f.op ∷ users hs) (sym (same_Some g h e))
-users-raised (g ∷ hs) (suc s) h until e =
-    ap (λ (xs : List OpId). g.op ∷ xs) (users-raised hs s h until e)
-
--- the operation of a hold
-user_at : (hs : List Hold) (s : ℕ) (x : OpId) → slice_get (users hs) s ≡ Some x → (h : Hold) × (slice_get hs s ≡ Some h) × (h.op ≡ x)
-user_at [] s x e = absurd (cc e)
-user_at (h ∷ hs) zero x e = (h, refl, same_Some h.op x e)
-user_at (h ∷ hs) (suc s) x e = user_at hs s x e
-
-hold_user : (hs : List Hold) (s : ℕ) (h : Hold) → slice_get hs s ≡ Some h → slice_get (users hs) s ≡ Some h.op
-hold_user [] s h e = absurd (cc e)
-hold_user (g ∷ hs) zero h e = ap (λ (h : Hold). Some h.op) (same_Some g h e)
-hold_user (g ∷ hs) (suc s) h e = hold_user hs s h e
-
--- what shares with one operation shares
-shares_on : (place : Op → ℕ) (plans : List Plan) (x y z : OpId) → shares place plans x y ≡ true → shares place plans x z ≡ true → shares place plans y z ≡ true
-shares_on place plans x y z first second =
-    sym (shares_alike place plans x z y second) ∙ shares_back place plans x y first
+abbrev pub raised : List ℕ → ℕ → ℕ → ℕ → List ℕ
+raised times s t until = slice_set times s (max t until)
 
 module _ (place : Op → ℕ) (plans : List Plan) where
-  -- holds until 0 hold nothing
-  pub free_at-unheld : (hs : List Hold) (x : OpId) → All (λ (h : Hold). h.until ≡ 0) hs → free_at place plans hs x ≡ 0
-  unfolding free_at
-  free_at-unheld [] x all = refl
-  free_at-unheld (h ∷ hs) x all =
-      max_zero (shares place plans x h.op) (free_at place plans hs x) h.until (free_at-unheld hs x (All-tail (λ (h : Hold). h.until ≡ 0) h hs all)) (All-head (λ (h : Hold). h.until ≡ 0) h hs all)
-
   pub free_at-empty : (x : OpId) → free_at place plans [] x ≡ 0
   unfolding free_at
   free_at-empty x = refl
 
-  -- where no hold is on what x uses, it is free at 0
-  free_at-none : (hs : List Hold) (x : OpId) → ((j : ℕ) (g : Hold) → slice_get hs j ≡ Some g → shares place plans x g.op ≡ false) → free_at place plans hs x ≡ 0
+  -- what is no operation is free at 0
+  no_op_shares : (x y : OpId) → op_at plans x ≡ None → shares place plans x y ≡ false
+  no_op_shares x y none = rw none refl
+
+  free_at-no_op : (hs : List Hold) (x : OpId) → op_at plans x ≡ None → free_at place plans hs x ≡ 0
   unfolding free_at
-  free_at-none [] x none = refl
-  free_at-none (h ∷ hs) x none =
-      let rest = free_at-none hs x (λ j g e. none (suc j) g e) in
-      let here = none zero h refl in
-      rw here (omega arith)
+  free_at-no_op [] x none = refl
+  free_at-no_op (h ∷ hs) x none =
+      let rest = free_at-no_op hs x none in
+      rw (no_op_shares x h.op none) (omega (arith, rest))
 
-  -- where one hold is, it is free at its end
-  free_at-one :
-      (hs : List Hold) (s : ℕ) (h : Hold) (x : OpId)
-      → slice_get hs s ≡ Some h → shares place plans x h.op ≡ true
-      → ((j : ℕ) (g : Hold) → slice_get hs j ≡ Some g → shares place plans x g.op ≡ true → j ≡ s)
-      → free_at place plans hs x ≡ h.until
-  unfolding free_at
-  free_at-one [] s h x e mine only = absurd (cc e)
-  free_at-one (g ∷ hs) zero h x e mine only =
-      let same : g ≡ h = same_Some g h e in
-      let first : shares place plans x g.op ≡ true = subst (λ (h : Hold). shares place plans x h.op ≡ true) (sym same) mine in
-      let rest = free_at-none hs x (λ j f at. false_from_ne_true _ (λ shared. absurd (suc_zero (only (suc j) f at shared)))) in
-      rw first (omega (arith, rest, ap (λ (h : Hold). h.until) same))
-  free_at-one (g ∷ hs) (suc s) h x e mine only =
-      let other : shares place plans x g.op ≡ false = false_from_ne_true _ (λ shared. absurd (zero_suc (only zero g refl shared))) in
-      let rest = free_at-one hs s h x e mine (λ j f at shared. suc_same (only (suc j) f at shared)) in
-      rw other (omega (arith, rest))
+  module _ (slot : OpId → ℕ) (count : ℕ) (p : IsPlaced place plans slot count) where
+    module _ (times : List ℕ) where
+      abbrev pub time : OpId → ℕ
+      time x = get_or times (slot x) 0
 
-  -- a longer hold is worth one hold more
-  free_at-raised :
-      (hs : List Hold) (s : ℕ) (h : Hold) (x : OpId)
-      → slice_get hs s ≡ Some h → shares place plans x h.op ≡ true
-      → (until : ℕ) (y : OpId) → free_at place plans (raised hs s h until) y ≡ free_at place plans (hold x until ∷ hs) y
-  unfolding free_at
-  free_at-raised [] s h x e mine until y = absurd (cc e)
-  free_at-raised (g ∷ hs) zero h x e mine until y =
-      let same : g ≡ h = same_Some g h e in
-      let alike : shares place plans y x ≡ shares place plans y g.op = subst (λ (h : Hold). shares place plans y x ≡ shares place plans y h.op) (sym same) (shares_alike place plans x h.op y mine) in
-      let longer = max_both (shares place plans y g.op) (free_at place plans hs y) g.until until in
-      rw (alike, ← same) longer
-  free_at-raised (g ∷ hs) (suc s) h x e mine until y =
-      rw (free_at-raised hs s h x e mine until y) (max_swap (free_at place plans hs y) _ _)
+      abbrev pub holder : OpId → Hold
+      holder x = hold x (time x)
 
-module _ (place : Op → ℕ) (plans : List Plan) (of : Slots → ℕ) (slots : List Slots) (holds : List Hold)
-    (n : IsNumbered place plans (map of slots) (users holds))
-    (i : ℕ) (x : OpId) (at : slice_get (operations plans) i ≡ Some x) where
-  slot : HasSlot place plans (map of slots) (users holds) i x
-  slot = n.each i x at
+      at_most : (xs : List OpId) (x : OpId) → free_at place plans (map holder xs) x ≤ time x
+      unfolding free_at
+      at_most [] x = omega arith
+      at_most (y ∷ xs) x =
+          let rest = at_most xs x in
+          elim (cases_Bool (shares place plans x y)) [
+            | inl shared ↦
+                let same : time x ≡ time y = ap (λ (s : ℕ). get_or times s 0) (p.alike x y shared) in
+                rw shared (omega (arith, rest, same))
+            | inr other ↦ rw other (omega (arith, rest))
+          ]
 
-  pub place_in : i < length slots
-  place_in = omega (arith, slice_get_within (map of slots) i slot.slot slot.slot_is, length-map slots of)
+      at_least : (xs : List OpId) (i : ℕ) (x : OpId) → shares place plans x x ≡ true → slice_get xs i ≡ Some x → time x ≤ free_at place plans (map holder xs) x
+      unfolding free_at
+      at_least [] i x itself e = absurd (cc e)
+      at_least (y ∷ xs) zero x itself e =
+          let same : y ≡ x = same_Some y x e in
+          let shared : shares place plans x y ≡ true = subst (λ (z : OpId). shares place plans x z ≡ true) (sym same) itself in
+          rw shared (omega (arith, ap time same))
+      at_least (y ∷ xs) (suc i) x itself e =
+          let rest = at_least xs i x itself e in
+          omega (arith, rest)
 
-  -- with the slots of the operation
-  module _ (s : Slots) (read : s ≡ get_or slots i s) where
-    slot_is : of s ≡ slot.slot
-    slot_is =
-        ap of read ∙ sym (get_or-map of slots i s 0 place_in)
-        ∙ get_or_from_slice_get (map of slots) i slot.slot 0 slot.slot_is
+      -- an operation is free at the time of its slot
+      pub free_is : (x : OpId) → IsOp plans x → free_at place plans (held plans slot times) x ≡ get_or times (slot x) 0
+      free_is x is_op =
+          let o = cases_some (op_at plans x) is_op in
+          let below : free_at place plans (held plans slot times) x ≤ get_or times (slot x) 0 = at_most (operations plans) x in
+          let above : get_or times (slot x) 0 ≤ free_at place plans (held plans slot times) x = at_least (operations plans) (place_among (operations plans) x) x (shares_itself place plans x o.0 o.1) (listed plans x is_op) in
+          omega (arith, below, above)
 
-    -- the hold of the operation's slot
-    pub record HasHold : Type 0 where
-      pub hold : Hold
-      pub there : slice_get holds (of s) ≡ Some hold
-      pub shared : shares place plans x hold.op ≡ true
+      pub read_free : (x : OpId) → IsOp plans x → length times ≡ count → (r : ℕ) → ((t : ℕ) → slice_get times (slot x) ≡ Some t → r ≡ t) → r ≡ free_at place plans (held plans slot times) x
+      read_free x is_op whole r says =
+          says (get_or times (slot x) 0) (slice_get-get_or times (slot x) 0 (omega (arith, p.within x is_op, whole))) ∙ sym (free_is x is_op)
 
-    pub has_hold : HasHold
-    has_hold =
-        let found = user_at holds slot.slot slot.user slot.user_is in
-        record {
-          hold = found.0;
-          there = rw slot_is found.1;
-          shared = subst (λ (y : OpId). shares place plans x y ≡ true) (sym found.2) slot.shared;
-        }
+    -- where all times are 0, so is each free time
+    pub free_at-unheld : (times : List ℕ) → times ≡ replicate count 0 → (x : OpId) → free_at place plans (held plans slot times) x ≡ 0
+    free_at-unheld times none x = go (op_at plans x) refl
+      where
+        go : (o : Option Op) → op_at plans x ≡ o → free_at place plans (held plans slot times) x ≡ 0
+        go None e = free_at-no_op (held plans slot times) x e
+        go (Some o) e =
+            let is_op = is_some_from (op_at plans x) o e in
+            free_is times x is_op ∙ ap (λ (ts : List ℕ). get_or ts (slot x) 0) none ∙ get_or-replicate count (slot x) 0 0 (p.within x is_op)
 
-    pub slot_in : of s < length holds
-    slot_in = slice_get_within holds (of s) has_hold.hold has_hold.there
+    -- a later time of one slot is worth one hold more
+    module _ (times times' : List ℕ) (whole : length times ≡ count) (x : OpId) (is_op : IsOp plans x) (until : ℕ)
+        (says : (t : ℕ) → slice_get times (slot x) ≡ Some t → times' ≡ raised times (slot x) t until) where
+      abbrev pub was : ℕ
+      was = get_or times (slot x) 0
 
-    -- no other hold is on what the operation uses
-    only : (j : ℕ) (g : Hold) → slice_get holds j ≡ Some g → shares place plans x g.op ≡ true → j ≡ of s
-    only j g e shared =
-        let h = has_hold in
-        n.apart j (of s) g.op h.hold.op (hold_user holds j g e) (hold_user holds (of s) h.hold h.there)
-        (shares_on place plans x g.op h.hold.op shared h.shared)
+      within : slot x < length times
+      within = omega (arith, p.within x is_op, whole)
 
-    pub free_is : (r : ℕ) → ((h : Hold) → slice_get holds (of s) ≡ Some h → r ≡ h.until) → r ≡ free_at place plans holds x
-    free_is r says =
-        let h = has_hold in
-        says h.hold h.there ∙ sym (free_at-one place plans holds (of s) h.hold x h.there h.shared only)
+      is_raised : times' ≡ raised times (slot x) was until
+      is_raised = says was (slice_get-get_or times (slot x) 0 within)
 
-    module _ (holds' : List Hold) (until : ℕ)
-        (says : (h : Hold) → slice_get holds (of s) ≡ Some h → holds' ≡ raised holds (of s) h until) where
-      is_raised : holds' ≡ raised holds (of s) has_hold.hold until
-      is_raised = says has_hold.hold has_hold.there
+      pub same_length : length times' ≡ count
+      same_length = ap length is_raised ∙ length-set times (slot x) (max was until) ∙ whole
 
-      pub free_raised : (y : OpId) → free_at place plans holds' y ≡ free_at place plans (hold x until ∷ holds) y
-      free_raised y =
-          let h = has_hold in
-          ap (λ (hs : List Hold). free_at place plans hs y) is_raised ∙ free_at-raised place plans holds (of s) h.hold x h.there h.shared until y
+      with_hold : (y : OpId) → free_at place plans (hold x until ∷ held plans slot times) y ≡ max (free_at place plans (held plans slot times) y) (if shares place plans y x then until else 0)
+      unfolding free_at
+      with_hold y = refl
 
-      pub numbered_raised : IsNumbered place plans (map of slots) (users holds')
-      numbered_raised =
-          let h = has_hold in
-          let same : users holds ≡ users holds' = sym (ap users is_raised ∙ users-raised holds (of s) h.hold until h.there) in
-          subst (IsNumbered place plans (map of slots)) same n
+      of_op : (y : OpId) → IsOp plans y → free_at place plans (held plans slot times') y ≡ free_at place plans (hold x until ∷ held plans slot times) y
+      of_op y is_y =
+          let now = free_is times' y is_y ∙ ap (λ (ts : List ℕ). get_or ts (slot y) 0) is_raised in
+          let before = free_is times y is_y in
+          elim (cases_Bool (shares place plans y x)) [
+            | inl shared ↦
+                let same = p.alike y x shared in
+                let raised_there : get_or (raised times (slot x) was until) (slot y) 0 ≡ max was until = ap (λ (s : ℕ). get_or (raised times (slot x) was until) s 0) same ∙ get_or-set_same times (slot x) (max was until) 0 within in
+                let there : get_or times (slot y) 0 ≡ was = ap (λ (s : ℕ). get_or times s 0) same in
+                now ∙ raised_there ∙ sym (with_hold y ∙ rw shared (omega (arith, before, there)))
+            | inr other ↦
+                let apart : slot y ≡ slot x → ⊥ = λ e. both_ways _ other (p.apart y x is_y is_op e) in
+                now ∙ get_or-set_other times (slot x) (slot y) (max was until) 0 apart ∙ sym (with_hold y ∙ rw other (omega (arith, before)))
+          ]
+
+      pub free_raised : (y : OpId) → free_at place plans (held plans slot times') y ≡ free_at place plans (hold x until ∷ held plans slot times) y
+      free_raised y = go (op_at plans y) refl
+        where
+          go : (o : Option Op) → op_at plans y ≡ o → free_at place plans (held plans slot times') y ≡ free_at place plans (hold x until ∷ held plans slot times) y
+          go None e = free_at-no_op _ y e ∙ sym (free_at-no_op _ y e)
+          go (Some o) e = of_op y (is_some_from (op_at plans y) o e)

@@ -1,66 +1,76 @@
 -- One hold more: what a contract sees of the resources then.
-use Rattle.std.proofs.Common.{ℕ, ◌≡◌, List, Some, map, slice_get, get_or, refl, subst}
+use Rattle.std.proofs.Common.{ℕ, ◌≡◌, List, Some, length, slice_get, refl, sym, subst}
 use Rattle.goal_graph.specs.declared.action.OpId.{OpId}
 use Rattle.goal_graph.specs.declared.plan.Op.{Op}
-use Rattle.goal_graph.specs.Schedule.{Plan, operations}
-use Rattle.sim_resources.specs.declared.holds.Hold.{Hold}
+use Rattle.goal_graph.specs.Schedule.{Plan}
+use Rattle.goal_graph.specs.Fault.{IsOp}
 use Rattle.sim_resources.specs.declared.slots.Slots.{Slots}
 use Rattle.sim_resources.specs.FreeTimes.{Holds, SameFreeTimes, hold_cpu, hold_tx, hold_rx}
-use Rattle.sim_resources.specs.Slots.{AreNumbered, cpu_of, nic_of}
-use Rattle.sim_resources.proofs.FreeTimes.{raised, free_raised, numbered_raised}
+use Rattle.sim_resources.specs.Slots.{AreNumbered, IsPlaced, cpu_slot, nic_slot, cpu_of, nic_of, slots_of, held}
+use Rattle.sim_resources.proofs.FreeTimes.{raised, free_raised, same_length}
 
-module _ (plans : List Plan) (slots : List Slots) (cpu tx rx : List Hold)
-    (n : AreNumbered plans (map cpu_of slots) (map nic_of slots) cpu tx rx)
-    (r : Holds) (seen : record { plans = plans; cpu = cpu; tx = tx; rx = rx } ≡ r)
-    (i : ℕ) (x : OpId) (at : slice_get (operations plans) i ≡ Some x)
-    (s : Slots) (read : s ≡ get_or slots i s) (until : ℕ) (new : List Hold) where
-  module _ (says : (h : Hold) → slice_get cpu s.cpu ≡ Some h → new ≡ raised cpu s.cpu h until) where
-    pub cpu_held : SameFreeTimes (record { plans = plans; cpu = new; tx = tx; rx = rx }) (hold_cpu r x until)
+module _ (plans : List Plan) (slots : List Slots) (cpu tx rx : List ℕ)
+    (n : AreNumbered plans slots (length cpu) (length tx) (length rx))
+    (r : Holds)
+    (seen : record { plans = plans; cpu = held plans (cpu_slot plans slots) cpu; tx = held plans (nic_slot plans slots) tx; rx = held plans (nic_slot plans slots) rx } ≡ r)
+    (x : OpId) (is_op : IsOp plans x)
+    (s : Slots) (read : s ≡ slots_of plans slots x) (until : ℕ) (new : List ℕ) where
+  -- the time of the slot that was read is raised
+  says_of : (times : List ℕ) (of : Slots → ℕ) → ((t : ℕ) → slice_get times (of s) ≡ Some t → new ≡ raised times (of s) t until)
+      → (t : ℕ) → slice_get times (of (slots_of plans slots x)) ≡ Some t → new ≡ raised times (of (slots_of plans slots x)) t until
+  says_of times of says =
+      subst (λ (z : Slots). (t : ℕ) → slice_get times (of z) ≡ Some t → new ≡ raised times (of z) t until) read says
+
+  module _ (says : (t : ℕ) → slice_get cpu s.cpu ≡ Some t → new ≡ raised cpu s.cpu t until) where
+    pub cpu_held : SameFreeTimes (record { plans = plans; cpu = held plans (cpu_slot plans slots) new; tx = held plans (nic_slot plans slots) tx; rx = held plans (nic_slot plans slots) rx }) (hold_cpu r x until)
     cpu_held =
-        subst (λ (r : Holds). SameFreeTimes (record { plans = plans; cpu = new; tx = tx; rx = rx }) (hold_cpu r x until)) seen (record {
+        subst (λ (r : Holds). SameFreeTimes (record { plans = plans; cpu = held plans (cpu_slot plans slots) new; tx = held plans (nic_slot plans slots) tx; rx = held plans (nic_slot plans slots) rx }) (hold_cpu r x until)) seen (record {
           plans = refl;
-          cpu = free_raised (λ (o : Op). o.cpu) plans cpu_of slots cpu n.cpus i x at s read new until says;
+          cpu = free_raised (λ (o : Op). o.cpu) plans (cpu_slot plans slots) (length cpu) n.cpus cpu new refl x is_op until (says_of cpu cpu_of says);
           tx = λ y. refl;
           rx = λ y. refl;
         })
 
-    pub cpu_numbered : AreNumbered plans (map cpu_of slots) (map nic_of slots) new tx rx
+    pub cpu_numbered : AreNumbered plans slots (length new) (length tx) (length rx)
     cpu_numbered = record {
-      cpus = numbered_raised (λ (o : Op). o.cpu) plans cpu_of slots cpu n.cpus i x at s read new until says;
+      whole = n.whole;
+      cpus = subst (IsPlaced (λ (o : Op). o.cpu) plans (cpu_slot plans slots)) (sym (same_length (λ (o : Op). o.cpu) plans (cpu_slot plans slots) (length cpu) n.cpus cpu new refl x is_op until (says_of cpu cpu_of says))) n.cpus;
       txs = n.txs;
       rxs = n.rxs;
     }
 
-  module _ (says : (h : Hold) → slice_get tx s.nic ≡ Some h → new ≡ raised tx s.nic h until) where
-    pub tx_held : SameFreeTimes (record { plans = plans; cpu = cpu; tx = new; rx = rx }) (hold_tx r x until)
+  module _ (says : (t : ℕ) → slice_get tx s.nic ≡ Some t → new ≡ raised tx s.nic t until) where
+    pub tx_held : SameFreeTimes (record { plans = plans; cpu = held plans (cpu_slot plans slots) cpu; tx = held plans (nic_slot plans slots) new; rx = held plans (nic_slot plans slots) rx }) (hold_tx r x until)
     tx_held =
-        subst (λ (r : Holds). SameFreeTimes (record { plans = plans; cpu = cpu; tx = new; rx = rx }) (hold_tx r x until)) seen (record {
+        subst (λ (r : Holds). SameFreeTimes (record { plans = plans; cpu = held plans (cpu_slot plans slots) cpu; tx = held plans (nic_slot plans slots) new; rx = held plans (nic_slot plans slots) rx }) (hold_tx r x until)) seen (record {
           plans = refl;
           cpu = λ y. refl;
-          tx = free_raised (λ (o : Op). o.nic) plans nic_of slots tx n.txs i x at s read new until says;
+          tx = free_raised (λ (o : Op). o.nic) plans (nic_slot plans slots) (length tx) n.txs tx new refl x is_op until (says_of tx nic_of says);
           rx = λ y. refl;
         })
 
-    pub tx_numbered : AreNumbered plans (map cpu_of slots) (map nic_of slots) cpu new rx
+    pub tx_numbered : AreNumbered plans slots (length cpu) (length new) (length rx)
     tx_numbered = record {
+      whole = n.whole;
       cpus = n.cpus;
-      txs = numbered_raised (λ (o : Op). o.nic) plans nic_of slots tx n.txs i x at s read new until says;
+      txs = subst (IsPlaced (λ (o : Op). o.nic) plans (nic_slot plans slots)) (sym (same_length (λ (o : Op). o.nic) plans (nic_slot plans slots) (length tx) n.txs tx new refl x is_op until (says_of tx nic_of says))) n.txs;
       rxs = n.rxs;
     }
 
-  module _ (says : (h : Hold) → slice_get rx s.nic ≡ Some h → new ≡ raised rx s.nic h until) where
-    pub rx_held : SameFreeTimes (record { plans = plans; cpu = cpu; tx = tx; rx = new }) (hold_rx r x until)
+  module _ (says : (t : ℕ) → slice_get rx s.nic ≡ Some t → new ≡ raised rx s.nic t until) where
+    pub rx_held : SameFreeTimes (record { plans = plans; cpu = held plans (cpu_slot plans slots) cpu; tx = held plans (nic_slot plans slots) tx; rx = held plans (nic_slot plans slots) new }) (hold_rx r x until)
     rx_held =
-        subst (λ (r : Holds). SameFreeTimes (record { plans = plans; cpu = cpu; tx = tx; rx = new }) (hold_rx r x until)) seen (record {
+        subst (λ (r : Holds). SameFreeTimes (record { plans = plans; cpu = held plans (cpu_slot plans slots) cpu; tx = held plans (nic_slot plans slots) tx; rx = held plans (nic_slot plans slots) new }) (hold_rx r x until)) seen (record {
           plans = refl;
           cpu = λ y. refl;
           tx = λ y. refl;
-          rx = free_raised (λ (o : Op). o.nic) plans nic_of slots rx n.rxs i x at s read new until says;
+          rx = free_raised (λ (o : Op). o.nic) plans (nic_slot plans slots) (length rx) n.rxs rx new refl x is_op until (says_of rx nic_of says);
         })
 
-    pub rx_numbered : AreNumbered plans (map cpu_of slots) (map nic_of slots) cpu tx new
+    pub rx_numbered : AreNumbered plans slots (length cpu) (length tx) (length new)
     rx_numbered = record {
+      whole = n.whole;
       cpus = n.cpus;
       txs = n.txs;
-      rxs = numbered_raised (λ (o : Op). o.nic) plans nic_of slots rx n.rxs i x at s read new until says;
+      rxs = subst (IsPlaced (λ (o : Op). o.nic) plans (nic_slot plans slots)) (sym (same_length (λ (o : Op). o.nic) plans (nic_slot plans slots) (length rx) n.rxs rx new refl x is_op until (says_of rx nic_of says))) n.rxs;
     }

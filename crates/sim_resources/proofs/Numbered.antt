@@ -9,9 +9,8 @@ use Rattle.goal_graph.specs.declared.action.OpId.{OpId}
 use Rattle.goal_graph.specs.declared.plan.Op.{Op}
 use Rattle.goal_graph.specs.Schedule.{Plan, op_at, operations}
 use Rattle.goal_graph.specs.Order.{IsBefore}
-use Rattle.sim_resources.specs.FreeTimes.{shares, hold}
-use Rattle.sim_resources.specs.Slots.{HasSlot, IsNumbered, users, IsOld, IsNew, IsGiven}
-use Rattle.sim_resources.specs.declared.holds.Hold.{Hold}
+use Rattle.sim_resources.specs.FreeTimes.{shares}
+use Rattle.sim_resources.specs.Slots.{HasSlot, IsNumbered, IsOld, IsNew, IsGiven}
 use Rattle.sim_resources.specs.declared.slots.Latest.{Latest}
 use Rattle.sim_resources.proofs.Lists.{get_kept, get_either}
 use Rattle.sim_resources.proofs.Shares.{shares-is, shares_itself, shares_back, share_of}
@@ -247,44 +246,36 @@ module _ (place : Op → ℕ) (plans : List Plan) where
     apart = b.apart;
   }
 
-  -- the first n operations have their slots, of which each has a hold until 0
-  pub record IsSoFar (n : ℕ) (latest : List (Option Latest)) (slots : List ℕ) (holds : List Hold) : Type 0 where
-    pub begun : IsBegun n latest slots (users holds)
-    pub unheld : All (λ (h : Hold). h.until ≡ 0) holds
-    pub few : length holds ≤ n
+  -- the first n operations have their slots, which are not more
+  pub record IsSoFar (n : ℕ) (latest : List (Option Latest)) (slots : List ℕ) (users : List OpId) : Type 0 where
+    pub begun : IsBegun n latest slots users
+    pub few : length users ≤ n
 
   pub first :
-      (latest : List (Option Latest)) (slots : List ℕ) (holds : List Hold)
-      → latest ≡ replicate 256 None → slots ≡ [] → holds ≡ [] → IsSoFar 0 latest slots holds
-  first latest slots holds none no_slots no_holds = rw (no_slots, no_holds) (record {
+      (latest : List (Option Latest)) (slots : List ℕ) (users : List OpId)
+      → latest ≡ replicate 256 None → slots ≡ [] → users ≡ [] → IsSoFar 0 latest slots users
+  first latest slots users none no_slots no_users = rw (no_slots, no_users) (record {
     begun = begun latest none;
-    unheld = search rules;
     few = omega arith;
   })
 
   -- with the slot of one operation more
-  module _ (n : ℕ) (latest latest' : List (Option Latest)) (slots : List ℕ) (holds holds' : List Hold)
-      (b : IsSoFar n latest slots holds)
+  module _ (n : ℕ) (latest latest' : List (Option Latest)) (slots : List ℕ) (users users' : List OpId)
+      (b : IsSoFar n latest slots users)
       (x : OpId) (o : Op) (at : slice_get (operations plans) n ≡ Some x) (is : op_at plans x ≡ Some o)
       (fits : place o < 256) (slot : ℕ) where
-    with_old : IsOld latest latest' holds holds' x (place o) slot → IsSoFar (n + 1) latest' (slots ++ slot ∷ []) holds'
-    with_old g = rw (g.same_latest, g.same_holds) (record {
-      begun = old n latest slots (users holds) b.begun x o at is slot g.given;
-      unheld = b.unheld;
+    with_old : IsOld latest latest' users users' x (place o) slot → IsSoFar (n + 1) latest' (slots ++ slot ∷ []) users'
+    with_old g = rw (g.same_latest, g.same_users) (record {
+      begun = old n latest slots users b.begun x o at is slot g.given;
       few = omega (arith, b.few);
     })
 
-    with_new : IsNew latest latest' holds holds' x (place o) slot → IsSoFar (n + 1) latest' (slots ++ slot ∷ []) holds'
-    with_new g =
-        let count : slot ≡ length (users holds) = g.slot_is ∙ sym (length-map holds (λ (h : Hold). h.op)) in
-        rw (g.latest_is, g.holds_is) (record {
-          begun =
-              rw (map-append (λ (h : Hold). h.op) holds (hold x 0 ∷ []), count)
-              (new n latest slots (users holds) b.begun x o at is g.fresh fits);
-          unheld = All-push (λ (h : Hold). h.until ≡ 0) _ _ b.unheld refl;
-          few = omega (arith, b.few, length-append holds (hold x 0 ∷ []));
-        })
+    with_new : IsNew latest latest' users users' x (place o) slot → IsSoFar (n + 1) latest' (slots ++ slot ∷ []) users'
+    with_new g = rw (g.latest_is, g.users_is) (record {
+      begun = rw g.slot_is (new n latest slots users b.begun x o at is g.fresh fits);
+      few = omega (arith, b.few, length-append users (x ∷ []));
+    })
 
-    pub next : IsGiven latest latest' holds holds' x (place o) slot → IsSoFar (n + 1) latest' (slots ++ slot ∷ []) holds'
+    pub next : IsGiven latest latest' users users' x (place o) slot → IsSoFar (n + 1) latest' (slots ++ slot ∷ []) users'
     next (inl g) = with_old g
     next (inr g) = with_new g

@@ -56,3 +56,7 @@ module _ (place : Op → ℕ) (plans : List Plan) where
       go None p = rw p refl
       go (Some o) p =
           shares-is z x o s.one p s.one_is ∙ (λ i. (z.rank == s.rank i) && (place o == s.number i)) ∙ sym (shares-is z y o s.other p s.other_is)
+
+  -- what shares with one operation shares
+  pub shares_on : (x y z : OpId) → shares place plans x y ≡ true → shares place plans x z ≡ true → shares place plans y z ≡ true
+  shares_on x y z first second = sym (shares_alike x z y second) ∙ shares_back x y first

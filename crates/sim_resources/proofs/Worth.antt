@@ -5,8 +5,7 @@ use Rattle.goal_graph.specs.declared.action.OpId.{OpId}
 use Rattle.goal_graph.specs.declared.plan.Op.{Op}
 use Rattle.goal_graph.specs.Schedule.{Plan}
 use Rattle.goal_graph.proofs.ForCallers.{contains_first, contains_more}
-use Rattle.sim_resources.specs.declared.holds.Hold.{Hold}
-use Rattle.sim_resources.specs.FreeTimes.{Holds, shares, free_at, hold, hold_cpu, hold_tx, hold_rx, SameFreeTimes}
+use Rattle.sim_resources.specs.FreeTimes.{Hold, Holds, shares, free_at, hold, hold_cpu, hold_tx, hold_rx, SameFreeTimes}
 use Rattle.sim_resources.specs.Laws.{IsOn, HasLast, FreeTimesAreGreatest, OthersStay, HoldsAddUp}
 
 -- with one hold more

@@ -4,7 +4,11 @@ use Rattle.goal_graph.specs.declared.action.OpId.{OpId}
 use Rattle.goal_graph.specs.declared.plan.Op.{Op}
 use Rattle.goal_graph.specs.Schedule.{Plan, op_at}
 pub use Rattle.goal_graph.specs.Schedule.{same_place as shares_place}
-use Rattle.sim_resources.specs.declared.holds.Hold.{Hold}
+
+-- what the operation `op` uses, its cpu or one side of its interface, is held until that time
+pub record Hold : Type 0 where
+  pub op : OpId
+  pub until : ℕ
 
 -- two operations of one rank that use the same cpu, or the same interface
 abbrev pub shares : (Op → ℕ) → List Plan → OpId → OpId → Bool
@@ -51,8 +55,9 @@ hold_rx r x until = record r { rx = hold x until ∷ r.rx }
 abbrev pub unheld : List Plan → Holds
 unheld plans = record { plans = plans; cpu = []; tx = []; rx = [] }
 
--- The same schedule, and each cpu and each side of an interface is free at the same time. `Resources` keeps one hold for
--- each of them, its longest; these holds stand for all that were made, in that everything is free at the same times.
+-- The same schedule, and each cpu and each side of an interface is free at the same time. `Resources` keeps one time for
+-- each of them, and contracts see it as a hold of each operation that uses it until then; these holds stand for all that
+-- were made, in that everything is free at the same times.
 pub record SameFreeTimes (r s : Holds) : Type 0 where
   pub plans : r.plans ≡ s.plans
   pub cpu : (x : OpId) → cpu_free r x ≡ cpu_free s x

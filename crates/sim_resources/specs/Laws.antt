@@ -3,8 +3,7 @@ use Rattle.std.specs.Prelude.{ℕ, ◌≡◌, ◌≤◌, ◌⊎◌, true, false,
 use Rattle.goal_graph.specs.declared.action.OpId.{OpId}
 use Rattle.goal_graph.specs.declared.plan.Op.{Op}
 use Rattle.goal_graph.specs.Schedule.{Plan}
-use Rattle.sim_resources.specs.declared.holds.Hold.{Hold}
-use Rattle.sim_resources.specs.FreeTimes.{Holds, shares, free_at, hold_cpu, hold_tx, hold_rx, SameFreeTimes}
+use Rattle.sim_resources.specs.FreeTimes.{Hold, Holds, shares, free_at, hold_cpu, hold_tx, hold_rx, SameFreeTimes}
 
 module _ (place : Op → ℕ) (plans : List Plan) (holds : List Hold) (x : OpId) where
   -- one of the holds is on what x uses

@@ -1,15 +1,61 @@
--- Slots of operations: two operations have the same slot where they use the same cpu, or the same interface.
-use Rattle.std.specs.Prelude.{ℕ, ◌≡◌, ◌≢◌, ◌⊎◌, true, List, [], ◌∷◌, ◌++◌, length, Option, Some, map, slice_get, slice_set}
+-- Slots of operations: two operations have the same slot exactly where they use the same cpu, or the same interface.
+use Rattle.std.specs.Prelude.{ℕ, suc, ◌≡◌, ◌≢◌, ◌<◌, ◌==◌, ◌&&◌, ◌⊎◌, Bool, true, List, [], ◌∷◌, ◌++◌, length, Option, Some, map, get_or, slice_get, slice_set, if◌then◌else◌}
+use Rattle.std.specs.List.{list_all}
 use Rattle.goal_graph.specs.declared.action.OpId.{OpId}
 use Rattle.goal_graph.specs.declared.plan.Op.{Op}
 use Rattle.goal_graph.specs.Schedule.{Plan, operations}
-use Rattle.sim_resources.specs.FreeTimes.{shares, hold}
-use Rattle.sim_resources.specs.declared.holds.Hold.{Hold}
+use Rattle.goal_graph.specs.Fault.{IsOp}
+use Rattle.goal_graph.specs.Action.{same_op}
+use Rattle.sim_resources.specs.FreeTimes.{shares, Hold, hold}
 use Rattle.sim_resources.specs.declared.slots.Latest.{Latest}
 use Rattle.sim_resources.specs.declared.slots.Slots.{Slots}
 
+-- whether an operation, and every one of a rank, uses cpu 0 and interface 0
+abbrev pub uses_first : Op → Bool
+uses_first o = (o.cpu == 0) && (o.nic == 0)
+
+abbrev pub use_first : Plan → Bool
+use_first p = list_all uses_first p.ops
+
+-- the place of x among operations of which it is one
+unfoldable pub place_among : List OpId → OpId → ℕ
+place_among [] x = 0
+place_among (y ∷ ys) x = if same_op y x then 0 else suc (place_among ys x)
+
+-- the slots of x: its rank where none are listed, and else those at its place
+abbrev pub slots_of : List Plan → List Slots → OpId → Slots
+slots_of plans slots x =
+    if length slots == 0 then record { cpu = x.rank; nic = x.rank } else get_or slots (place_among (operations plans) x) (record { cpu = 0; nic = 0 })
+
+abbrev pub cpu_slot : List Plan → List Slots → OpId → ℕ
+cpu_slot plans slots x = (slots_of plans slots x).cpu
+
+abbrev pub nic_slot : List Plan → List Slots → OpId → ℕ
+nic_slot plans slots x = (slots_of plans slots x).nic
+
+-- none are listed, or those of each operation
+abbrev pub IsWhole : List Plan → List Slots → Type 0
+IsWhole plans slots = (length slots ≡ 0) ⊎ (length slots ≡ length (operations plans))
+
+-- Of so many slots each operation has one, and two have the same exactly where they share.
+pub record IsPlaced (place : Op → ℕ) (plans : List Plan) (slot : OpId → ℕ) (count : ℕ) : Type 0 where
+  pub within : (x : OpId) → IsOp plans x → slot x < count
+  pub alike : (x y : OpId) → shares place plans x y ≡ true → slot x ≡ slot y
+  pub apart : (x y : OpId) → IsOp plans x → IsOp plans y → slot x ≡ slot y → shares place plans x y ≡ true
+
+-- the slots of cpus, and those of interfaces for each of their sides, of which there are so many
+pub record AreNumbered (plans : List Plan) (slots : List Slots) (cpu tx rx : ℕ) : Type 0 where
+  pub whole : IsWhole plans slots
+  pub cpus : IsPlaced (λ (o : Op). o.cpu) plans (cpu_slot plans slots) cpu
+  pub txs : IsPlaced (λ (o : Op). o.nic) plans (nic_slot plans slots) tx
+  pub rxs : IsPlaced (λ (o : Op). o.nic) plans (nic_slot plans slots) rx
+
+-- a hold of each operation, until the time of its slot
+abbrev pub held : List Plan → (OpId → ℕ) → List ℕ → List Hold
+held plans slot times = map (λ (x : OpId). hold x (get_or times (slot x) 0)) (operations plans)
+
 module _ (place : Op → ℕ) (plans : List Plan) (slots : List ℕ) (users : List OpId) where
-  -- the slot of the operation x, the i-th of all, and the operation that stands for the slot
+  -- the slot of the operation x, the i-th of all, and the operation that uses the slot first
   pub record HasSlot (i : ℕ) (x : OpId) : Type 0 where
     pub slot : ℕ
     pub user : OpId
@@ -17,7 +63,7 @@ module _ (place : Op → ℕ) (plans : List Plan) (slots : List ℕ) (users : Li
     pub user_is : slice_get users slot ≡ Some user
     pub shared : shares place plans x user ≡ true
 
-  -- Each operation has the slot of what it uses, and what stands for two slots is not the same.
+  -- Each operation has the slot of what it uses, and the first users of two slots do not share.
   pub record IsNumbered : Type 0 where
     pub each : (i : ℕ) (x : OpId) → slice_get (operations plans) i ≡ Some x → HasSlot i x
     pub apart :
@@ -31,30 +77,20 @@ cpu_of s = s.cpu
 abbrev pub nic_of : Slots → ℕ
 nic_of s = s.nic
 
--- the operations that hold
-abbrev pub users : List Hold → List OpId
-users holds = map (λ (h : Hold). h.op) holds
-
--- the slots of cpus and of interfaces, and a hold for each slot
-pub record AreNumbered (plans : List Plan) (cpu_slots nic_slots : List ℕ) (cpu tx rx : List Hold) : Type 0 where
-  pub cpus : IsNumbered (λ (o : Op). o.cpu) plans cpu_slots (users cpu)
-  pub txs : IsNumbered (λ (o : Op). o.nic) plans nic_slots (users tx)
-  pub rxs : IsNumbered (λ (o : Op). o.nic) plans nic_slots (users rx)
-
--- What each number was given last, before and after a slot is given to the number of the operation x, and the holds.
-module _ (latest latest' : List (Option Latest)) (holds holds' : List Hold) (x : OpId) (number slot : ℕ) where
+-- What each number was given last, before and after a slot is given to the number of the operation x, and the first users.
+module _ (latest latest' : List (Option Latest)) (users users' : List OpId) (x : OpId) (number slot : ℕ) where
   -- the slot that the number was given last, for the same rank
   pub record IsOld : Type 0 where
     pub given : slice_get latest number ≡ Some (Some (record { rank = x.rank; slot = slot }))
     pub same_latest : latest' ≡ latest
-    pub same_holds : holds' ≡ holds
+    pub same_users : users' ≡ users
 
-  -- a new slot, where the number was given none for the rank, with a hold of x until 0
+  -- a new slot, where the number was given none for the rank, which x uses first
   pub record IsNew : Type 0 where
     pub fresh : (s : ℕ) → slice_get latest number ≢ Some (Some (record { rank = x.rank; slot = s }))
-    pub slot_is : slot ≡ length holds
+    pub slot_is : slot ≡ length users
     pub latest_is : latest' ≡ slice_set latest number (Some (record { rank = x.rank; slot = slot }))
-    pub holds_is : holds' ≡ holds ++ hold x 0 ∷ []
+    pub users_is : users' ≡ users ++ x ∷ []
 
   abbrev pub IsGiven : Type 0
   IsGiven = IsOld ⊎ IsNew

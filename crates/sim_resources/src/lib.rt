@@ -1,11 +1,9 @@
 //! Until when each cpu and each interface of a schedule's ranks is held.
 #![tactic(auto)]
 
-mod holds;
 mod laws;
 mod resources;
 mod slots;
 
-pub use holds::Hold;
 pub use laws::laws_of_free_times;
 pub use resources::Resources;

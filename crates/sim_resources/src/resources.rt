@@ -4,8 +4,7 @@ ghost use Rattle.goal_graph.specs.Fault.{IsOp};
 ghost use Rattle.goal_graph.specs.Schedule.{IsSend, IsReceive};
 ghost use Rattle.sim_resources.specs.FreeTimes.{SameFreeTimes, cpu_free, tx_free, rx_free, hold_cpu, hold_tx, hold_rx, unheld};
 
-use crate::Hold;
-use crate::slots::{Slots, free, number, raise};
+use crate::slots::{Numbering, Slots, free, number, raise, slots_at};
 use goal_base::NoMemory;
 use goal_graph::{OpId, Sched};
 use std::alloc::Global;
@@ -16,21 +15,26 @@ use std::marker::Model;
 pub struct Resources<'a> {
     sched: &'a Sched,
     slots: Vec<Slots>,
-    cpu: Vec<Hold>,
-    tx: Vec<Hold>,
-    rx: Vec<Hold>,
+    cpu: Vec<u64>,
+    tx: Vec<u64>,
+    rx: Vec<u64>,
 }
 
 impl<'a> Model for Resources<'a> {
-    ghost use Rattle.std.specs.Prelude.{map};
+    ghost use Rattle.std.specs.Prelude.{length};
     ghost use Rattle.sim_resources.specs.FreeTimes.{Holds};
-    ghost use Rattle.sim_resources.specs.Slots.{AreNumbered, cpu_of, nic_of};
+    ghost use Rattle.sim_resources.specs.Slots.{AreNumbered, cpu_slot, nic_slot, held};
 
     ghost Value = { Holds };
 
-    ghost view = { λ r. record { plans = r.sched.now; cpu = r.cpu.items; tx = r.tx.items; rx = r.rx.items } };
+    ghost view = { λ r. record {
+      plans = r.sched.now;
+      cpu = held r.sched.now (cpu_slot r.sched.now r.slots.items) r.cpu.items;
+      tx = held r.sched.now (nic_slot r.sched.now r.slots.items) r.tx.items;
+      rx = held r.sched.now (nic_slot r.sched.now r.slots.items) r.rx.items;
+    } };
 
-    ghost invariant = { λ r. AreNumbered r.sched.now (map cpu_of r.slots.items) (map nic_of r.slots.items) r.cpu.items r.tx.items r.rx.items };
+    ghost invariant = { λ r. AreNumbered r.sched.now r.slots.items (length r.cpu.items) (length r.tx.items) (length r.rx.items) };
 }
 
 impl<'a> Resources<'a> {
@@ -38,14 +42,13 @@ impl<'a> Resources<'a> {
     pub fn new(alloc: Global, sched: &'a Sched) -> Result<Resources<'a>, NoMemory>
         ensures { IfOk result (λ r. SameFreeTimes r (unheld sched.now)) }
     {
-        let numbering = number(alloc, sched)?;
-        let rx = Vec::from_slice(alloc, &numbering.nics)?;
+        let Numbering { slots, cpus, nics } = number(alloc, sched)?;
         Ok(Resources {
             sched,
-            slots: numbering.slots,
-            cpu: numbering.cpus,
-            tx: numbering.nics,
-            rx,
+            slots,
+            cpu: vec![in alloc; 0; cpus]?,
+            tx: vec![in alloc; 0; nics]?,
+            rx: vec![in alloc; 0; nics]?,
         })
     }
 
@@ -54,7 +57,7 @@ impl<'a> Resources<'a> {
         requires { IsOp self.now.plans id }
         ensures { result ≡ cpu_free self.now id }
     {
-        let slots = self.slots[self.sched.index(id) as usize];
+        let slots = slots_at(self.sched, &self.slots, id);
         free(&self.cpu, slots.cpu)
     }
 
@@ -63,7 +66,7 @@ impl<'a> Resources<'a> {
         requires { IsSend self.now.plans id }
         ensures { result ≡ tx_free self.now id }
     {
-        let slots = self.slots[self.sched.index(id) as usize];
+        let slots = slots_at(self.sched, &self.slots, id);
         free(&self.tx, slots.nic)
     }
 
@@ -72,7 +75,7 @@ impl<'a> Resources<'a> {
         requires { IsReceive self.now.plans id }
         ensures { result ≡ rx_free self.now id }
     {
-        let slots = self.slots[self.sched.index(id) as usize];
+        let slots = slots_at(self.sched, &self.slots, id);
         free(&self.rx, slots.nic)
     }
 
@@ -81,7 +84,7 @@ impl<'a> Resources<'a> {
         requires { IsOp self.old.plans id }
         ensures { SameFreeTimes self.new (hold_cpu self.old id until) }
     {
-        let slots = self.slots[self.sched.index(id) as usize];
+        let slots = slots_at(self.sched, &self.slots, id);
         raise(&mut self.cpu, slots.cpu, until);
     }
 
@@ -90,7 +93,7 @@ impl<'a> Resources<'a> {
         requires { IsSend self.old.plans id }
         ensures { SameFreeTimes self.new (hold_tx self.old id until) }
     {
-        let slots = self.slots[self.sched.index(id) as usize];
+        let slots = slots_at(self.sched, &self.slots, id);
         raise(&mut self.tx, slots.nic, until);
     }
 
@@ -99,7 +102,7 @@ impl<'a> Resources<'a> {
         requires { IsReceive self.old.plans id }
         ensures { SameFreeTimes self.new (hold_rx self.old id until) }
     {
-        let slots = self.slots[self.sched.index(id) as usize];
+        let slots = slots_at(self.sched, &self.slots, id);
         raise(&mut self.rx, slots.nic, until);
     }
 }

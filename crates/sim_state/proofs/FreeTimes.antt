@@ -6,8 +6,7 @@ use Rattle.goal_graph.specs.declared.plan.Op.{Op}
 use Rattle.goal_graph.specs.Schedule.{Plan, op_at, kind_at}
 use Rattle.sim_params.specs.Costs.{CostModel}
 use Rattle.sim_params.specs.Times.{same_place, holds_cpu, holds_tx, holds_rx, cpu_hold, tx_hold, rx_hold, cpu, tx, rx}
-use Rattle.sim_resources.specs.declared.holds.Hold.{Hold}
-use Rattle.sim_resources.specs.FreeTimes.{Holds, shares_place, shares, free_at, hold, hold_cpu, hold_tx, hold_rx, SameFreeTimes}
+use Rattle.sim_resources.specs.FreeTimes.{Hold, Holds, shares_place, shares, free_at, hold, hold_cpu, hold_tx, hold_rx, SameFreeTimes}
 use Rattle.sim_state.specs.Represents.{AreFreeTimes}
 
 -- the two words for operations that use one cpu, or one interface, say the same

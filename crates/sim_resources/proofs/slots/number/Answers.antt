@@ -1,44 +1,20 @@
-use Rattle.std.proofs.Common.{◌≡◌, List, length, map, slice_get, slice_index_or, Some, ap, subst, arith, ◌∷◌, []}
-use Rattle.std.proofs.lemmas.List.{map-append}
-use Rattle.std.proofs.lemmas.Option.{slice_get-get_or}
+use Rattle.std.proofs.Common.{ℕ, ◌≡◌, true, List, length, sym, ◌∙◌, subst}
+use Rattle.std.specs.List.{list_all}
 use Rattle.goal_graph.specs.declared.action.OpId.{OpId}
 use Rattle.goal_graph.specs.declared.plan.Op.{Op}
-use Rattle.sim_resources.specs.declared.slots.Slots.{Slots}
-use Rattle.sim_resources.specs.Slots.{cpu_of, nic_of}
-use Rattle.sim_resources.proofs.Numbered.{first, next, numbered}
+use Rattle.goal_graph.specs.Schedule.{Plan}
+use Rattle.sim_resources.specs.Slots.{use_first, IsPlaced}
+use Rattle.sim_resources.proofs.Placed.{cpus_by_ranks, nics_by_ranks}
 use Rattle.sim_resources.proofs.slots.number.Goals as goal
-
-pub loop-id-init : goal.loop-id-init
-loop-id-init c = record {
-  cpus = first _ _ _ _ _ c.no_slots-latest_cpus.ensures (ap (map cpu_of) c.in_ok-slots.ensures.items) c.new-cpus.ensures.items;
-  nics = first _ _ _ _ _ c.no_slots-latest_nics.ensures (ap (map nic_of) c.in_ok-slots.ensures.items) c.new-nics.ensures.items;
-  room = omega (arith, c.in_ok-slots.ensures.capacity, c.count.ensures.count);
-}
-
-pub loop-id-preserved : goal.loop-id-preserved
-loop-id-preserved c =
-    let i = c.loop-id.id-index in
-    let ids = c.operations-id-items.result.now in
-    let x : OpId = slice_index_or ids i (record { rank = 0; op = 0 }) in
-    let here : slice_get ids i ≡ Some x = slice_get-get_or ids i _ (omega arith) in
-    let at = subst (λ (xs : List OpId). slice_get xs i ≡ Some x) c.operations-id-items.ensures.all here in
-    let slots : Slots = record { cpu = c.in_ok-cpu.cpu; nic = c.in_ok-nic.nic } in
-    let op = c.op-op.result.now in
-    let is = c.op-op.ensures.op in
-    record {
-      cpus =
-          rw (c.push_reserved.ensures.items, map-append cpu_of c.loop-id.slots.items (slots ∷ []))
-          (next (λ (o : Op). o.cpu) _ _ _ _ _ _ _ c.loop-id.invariant.cpus x op at is (omega arith) slots.cpu c.in_ok-cpu.ensures);
-      nics =
-          rw (c.push_reserved.ensures.items, map-append nic_of c.loop-id.slots.items (slots ∷ []))
-          (next (λ (o : Op). o.nic) _ _ _ _ _ _ _ c.loop-id.invariant.nics x op at is (omega arith) slots.nic c.in_ok-nic.ensures);
-      room = omega (arith, c.loop-id.invariant.room, c.push_reserved.ensures.capacity);
-    }
 
 pub returns-clause-cpus : goal.returns-clause-cpus
 returns-clause-cpus c =
-    numbered _ _ _ _ _ _ c.loop-id.invariant.cpus.begun (omega (arith, ap length c.operations-id-items.ensures.all))
+    let first : list_all use_first c.plans-plans.result.now ≡ true = sym c.all_use_first.ensures ∙ c.if-not-all_use_first.false in
+    rw c.new.ensures.items
+    (subst (λ (plans : List Plan). IsPlaced (λ (o : Op). o.cpu) plans (λ (x : OpId). x.rank) (length c.plans-plans.result.now)) c.plans-plans.ensures.plans (cpus_by_ranks _ first))
 
 pub returns-clause-nics : goal.returns-clause-nics
 returns-clause-nics c =
-    numbered _ _ _ _ _ _ c.loop-id.invariant.nics.begun (omega (arith, ap length c.operations-id-items.ensures.all))
+    let first : list_all use_first c.plans-plans.result.now ≡ true = sym c.all_use_first.ensures ∙ c.if-not-all_use_first.false in
+    rw c.new.ensures.items
+    (subst (λ (plans : List Plan). IsPlaced (λ (o : Op). o.nic) plans (λ (x : OpId). x.rank) (length c.plans-plans.result.now)) c.plans-plans.ensures.plans (nics_by_ranks _ first))

@@ -1,32 +1,37 @@
-use Rattle.std.proofs.Common.{◌≡◌, subst, arith}
+use Rattle.std.proofs.Common.{ℕ, ◌≡◌, List, length, sym, ap, ◌∙◌, subst, arith}
 use Rattle.std.specs.Vec.{with_items}
 use Rattle.std.proofs.lemmas.List.{with_items_is}
 use Rattle.goal_graph.specs.Fault.{IsOp}
+use Rattle.goal_graph.specs.declared.plan.Op.{Op}
+use Rattle.sim_resources.specs.declared.slots.Slots.{Slots}
 use Rattle.sim_resources.specs.FreeTimes.{Holds}
-use Rattle.sim_resources.specs.Slots.{nic_of}
+use Rattle.sim_resources.specs.Slots.{IsWhole, slots_of}
 use Rattle.goal_graph.proofs.ForCallers.{receive_is_op}
-use Rattle.sim_resources.proofs.FreeTimes.{place_in, slot_in}
 use Rattle.sim_resources.proofs.HoldLemmas.{rx_held, rx_numbered}
 use Rattle.sim_resources.proofs.resources.Resources.hold_rx.Goals as goal
 
-pub index-requires : goal.index-requires
-index-requires c =
-    subst (λ (r : Holds). IsOp r.plans c.args.id → IsOp c.self.inside.sched.now c.args.id) c.self.view_is (λ is_op. is_op) (receive_is_op _ _ c.requires)
-
-pub index-slots-requires : goal.index-slots-requires
-index-slots-requires c =
-    omega (arith, place_in _ _ nic_of _ _ c.self.invariant.rxs _ _ c.index.ensures.index)
+pub slots_at-slots-requires : goal.slots_at-slots-requires
+slots_at-slots-requires c = record {
+  exists = subst (λ (r : Holds). IsOp r.plans c.args.id) (sym c.self.view_is) (receive_is_op _ c.args.id c.requires);
+  whole = subst (IsWhole c.self.inside.sched.now) (sym c.deref.ensures.value) c.self.invariant.whole;
+}
 
 pub raise-requires : goal.raise-requires
 raise-requires c =
-    rw c.deref_mut.ensures.value (slot_in _ _ nic_of _ _ c.self.invariant.rxs _ _ c.index.ensures.index _ c.index-slots.ensures)
+    let is_op : IsOp c.self.inside.sched.now c.args.id = subst (λ (r : Holds). IsOp r.plans c.args.id) (sym c.self.view_is) (receive_is_op _ c.args.id c.requires) in
+    let slots : c.slots_at-slots.result ≡ slots_of c.self.inside.sched.now c.self.inside.slots.items c.args.id = c.slots_at-slots.ensures ∙ ap (λ (ss : List Slots). slots_of c.self.inside.sched.now ss c.args.id) c.deref.ensures.value in
+    omega (arith, ap (λ (s : Slots). s.nic) slots, c.self.invariant.rxs.within c.args.id is_op, ap length c.deref_mut.ensures.value)
 
 pub invariant_of-self : goal.invariant_of-self
 invariant_of-self c =
-    let items : (with_items c.self.inside.rx c.raise.new.holds).items ≡ c.raise.new.holds = with_items_is c.self.inside.rx c.raise.new.holds (omega arith) in
-    rw items (rx_numbered _ c.self.inside.slots.items _ _ _ c.self.invariant _ c.self.view_is _ _ c.index.ensures.index _ c.index-slots.ensures _ _ (rw c.deref_mut.ensures.value at c.raise.ensures))
+    let is_op : IsOp c.self.inside.sched.now c.args.id = subst (λ (r : Holds). IsOp r.plans c.args.id) (sym c.self.view_is) (receive_is_op _ c.args.id c.requires) in
+    let slots : c.slots_at-slots.result ≡ slots_of c.self.inside.sched.now c.self.inside.slots.items c.args.id = c.slots_at-slots.ensures ∙ ap (λ (ss : List Slots). slots_of c.self.inside.sched.now ss c.args.id) c.deref.ensures.value in
+    let items : (with_items c.self.inside.rx c.raise.new.times).items ≡ c.raise.new.times = with_items_is c.self.inside.rx c.raise.new.times (omega arith) in
+    rw items (rx_numbered _ c.self.inside.slots.items _ _ _ c.self.invariant _ c.self.view_is c.args.id is_op _ slots c.args.until _ (rw c.deref_mut.ensures.value at c.raise.ensures))
 
 pub returns : goal.returns
 returns c =
-    let items : (with_items c.self.inside.rx c.raise.new.holds).items ≡ c.raise.new.holds = with_items_is c.self.inside.rx c.raise.new.holds (omega arith) in
-    rw items (rx_held _ c.self.inside.slots.items _ _ _ c.self.invariant _ c.self.view_is _ _ c.index.ensures.index _ c.index-slots.ensures _ _ (rw c.deref_mut.ensures.value at c.raise.ensures))
+    let is_op : IsOp c.self.inside.sched.now c.args.id = subst (λ (r : Holds). IsOp r.plans c.args.id) (sym c.self.view_is) (receive_is_op _ c.args.id c.requires) in
+    let slots : c.slots_at-slots.result ≡ slots_of c.self.inside.sched.now c.self.inside.slots.items c.args.id = c.slots_at-slots.ensures ∙ ap (λ (ss : List Slots). slots_of c.self.inside.sched.now ss c.args.id) c.deref.ensures.value in
+    let items : (with_items c.self.inside.rx c.raise.new.times).items ≡ c.raise.new.times = with_items_is c.self.inside.rx c.raise.new.times (omega arith) in
+    rw items (rx_held _ c.self.inside.slots.items _ _ _ c.self.invariant _ c.self.view_is c.args.id is_op _ slots c.args.until _ (rw c.deref_mut.ensures.value at c.raise.ensures))

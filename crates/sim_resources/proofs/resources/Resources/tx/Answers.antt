@@ -1,24 +1,29 @@
-use Rattle.std.proofs.Common.{◌≡◌, subst, arith}
+use Rattle.std.proofs.Common.{ℕ, ◌≡◌, List, Some, length, slice_get, refl, sym, ap, ◌∙◌, subst, arith}
 use Rattle.goal_graph.specs.Fault.{IsOp}
+use Rattle.goal_graph.specs.declared.plan.Op.{Op}
+use Rattle.sim_resources.specs.declared.slots.Slots.{Slots}
 use Rattle.sim_resources.specs.FreeTimes.{Holds, tx_free}
-use Rattle.sim_resources.specs.Slots.{nic_of}
+use Rattle.sim_resources.specs.Slots.{IsWhole, slots_of, nic_slot}
 use Rattle.goal_graph.proofs.ForCallers.{send_is_op}
-use Rattle.sim_resources.proofs.FreeTimes.{place_in, slot_in, free_is}
+use Rattle.sim_resources.proofs.FreeTimes.{read_free}
 use Rattle.sim_resources.proofs.resources.Resources.tx.Goals as goal
 
-pub index-requires : goal.index-requires
-index-requires c =
-    subst (λ (r : Holds). IsOp r.plans c.args.id → IsOp c.self.inside.sched.now c.args.id) c.self.view_is (λ is_op. is_op) (send_is_op _ _ c.requires)
-
-pub index-slots-requires : goal.index-slots-requires
-index-slots-requires c =
-    omega (arith, place_in _ _ nic_of _ _ c.self.invariant.txs _ _ c.index.ensures.index)
+pub slots_at-slots-requires : goal.slots_at-slots-requires
+slots_at-slots-requires c = record {
+  exists = subst (λ (r : Holds). IsOp r.plans c.args.id) (sym c.self.view_is) (send_is_op _ c.args.id c.requires);
+  whole = subst (IsWhole c.self.inside.sched.now) (sym c.deref.ensures.value) c.self.invariant.whole;
+}
 
 pub free-requires : goal.free-requires
 free-requires c =
-    rw c.deref.ensures.value (slot_in _ _ nic_of _ _ c.self.invariant.txs _ _ c.index.ensures.index _ c.index-slots.ensures)
+    let is_op : IsOp c.self.inside.sched.now c.args.id = subst (λ (r : Holds). IsOp r.plans c.args.id) (sym c.self.view_is) (send_is_op _ c.args.id c.requires) in
+    let slots : c.slots_at-slots.result ≡ slots_of c.self.inside.sched.now c.self.inside.slots.items c.args.id = c.slots_at-slots.ensures ∙ ap (λ (ss : List Slots). slots_of c.self.inside.sched.now ss c.args.id) c.deref.ensures.value in
+    omega (arith, ap (λ (s : Slots). s.nic) slots, c.self.invariant.txs.within c.args.id is_op, ap length c.deref-2.ensures.value)
 
 pub returns : goal.returns
 returns c =
+    let is_op : IsOp c.self.inside.sched.now c.args.id = subst (λ (r : Holds). IsOp r.plans c.args.id) (sym c.self.view_is) (send_is_op _ c.args.id c.requires) in
+    let slots : c.slots_at-slots.result ≡ slots_of c.self.inside.sched.now c.self.inside.slots.items c.args.id = c.slots_at-slots.ensures ∙ ap (λ (ss : List Slots). slots_of c.self.inside.sched.now ss c.args.id) c.deref.ensures.value in
+    let read = subst (λ (s : Slots). (t : ℕ) → slice_get c.self.inside.tx.items s.nic ≡ Some t → c.free.result ≡ t) slots (rw c.deref-2.ensures.value at c.free.ensures) in
     subst (λ (r : Holds). c.free.result ≡ tx_free r c.args.id) c.self.view_is
-    (free_is _ _ nic_of _ _ c.self.invariant.txs _ _ c.index.ensures.index _ c.index-slots.ensures c.free.result (rw c.deref.ensures.value at c.free.ensures))
+    (read_free (λ (o : Op). o.nic) _ (nic_slot c.self.inside.sched.now c.self.inside.slots.items) _ c.self.invariant.txs c.self.inside.tx.items c.args.id is_op refl c.free.result read)

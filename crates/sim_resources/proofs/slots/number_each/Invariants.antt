@@ -3,7 +3,7 @@ use Rattle.goal_graph.specs.declared.plan.Op.{Op}
 use Rattle.goal_graph.specs.Schedule.{operations}
 use Rattle.sim_resources.specs.Slots.{cpu_of, nic_of}
 use Rattle.sim_resources.proofs.Numbered.{IsSoFar}
-use Rattle.sim_resources.proofs.slots.number.Given as goal
+use Rattle.sim_resources.proofs.slots.number_each.Given as goal
 
 abbrev pub invariant-loop-id : goal.invariant-loop-id
 invariant-loop-id l = record {
