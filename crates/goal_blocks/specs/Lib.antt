@@ -24,6 +24,7 @@ pub mod Makers
 pub mod Steps
 pub mod Stored
 pub mod SlotTables
+pub mod RankSlots
 -- Laws.
 pub mod Laws
 pub mod Joined

@@ -1,33 +1,43 @@
 //! The slots that the operations of a schedule move, and what its calcs add, found once for all.
-ghost use Rattle.std.specs.Prelude.{◌≡◌, ℕ, ◌<◌, [], ◌++◌, length, slice_index_or, IfOk, OnOk};
+ghost use Rattle.std.specs.Prelude.{◌≡◌, ℕ, ◌+◌, ◌<◌, ◌≤◌, [], ◌++◌, length, take, flat_map, slice_index, slice_index_or, slice_range, IfOk, IfSome, OnOk};
 ghost use Rattle.goal_graph.specs.Fault.{IsOp};
-ghost use Rattle.goal_blocks.specs.Slots.{moved_by, slots, adds};
-ghost use Rattle.goal_blocks.specs.SlotTables.{AreMoved, AreAdded, AddsMore};
+ghost use Rattle.goal_blocks.specs.Slots.{moved_by, added_by, slots, adds};
+ghost use Rattle.goal_blocks.specs.SlotTables.{op_of, AreMoved, AreAdded, AddsMore, IsRowPushed};
+ghost use Rattle.goal_blocks.specs.RankSlots.{AreListed};
 
-use crate::slots::{Adding, Slots};
+use crate::slots::{Adding, Slots, push_slots};
 use goal_base::NoMemory;
 use goal_graph::{Note, OpId, RankPlan, Sched};
 use std::alloc::{AllocError, Global};
 use std::marker::Model;
 
+/// What each operation of a rank moves and adds: two lists, and for each operation where in them it begins. Each of the two
+/// has one start more, where the last one ends.
+#[derive(Drop)]
+pub(crate) struct RankSlots {
+    pub(crate) moved_starts: Vec<usize>,
+    pub(crate) moved: Vec<u32>,
+    pub(crate) added_starts: Vec<usize>,
+    pub(crate) added: Vec<Adding>,
+}
+
 /// For each operation of a schedule the slots that it moves, and what it adds. Contracts see it as the schedule.
 #[derive(Drop)]
 pub struct SlotTable<'a> {
     sched: &'a Sched,
-    moved: Vec<Vec<Slots>>,
-    added: Vec<Vec<Vec<Adding>>>,
+    ranks: Vec<RankSlots>,
 }
 
 impl<'a> Model for SlotTable<'a> {
     ghost use Rattle.std.specs.Prelude.{List};
     ghost use Rattle.goal_graph.specs.Schedule.{Plan};
-    ghost use Rattle.goal_blocks.specs.SlotTables.{AreTabled};
+    ghost use Rattle.goal_blocks.specs.RankSlots.{AreTabled};
 
     ghost Value = { List Plan };
 
     ghost view = { λ t. t.sched.now };
 
-    ghost invariant = { λ t. AreTabled t.sched.now t.moved.items t.added.items };
+    ghost invariant = { λ t. AreTabled t.sched.now t.ranks.items };
 }
 
 impl<'a> SlotTable<'a> {
@@ -35,26 +45,20 @@ impl<'a> SlotTable<'a> {
     pub fn new(alloc: Global, sched: &'a Sched) -> Result<SlotTable<'a>, NoMemory>
         ensures { IfOk result (λ t. t ≡ sched.now) }
     {
-        let mut moved = Vec::new(alloc);
-        let mut added = Vec::new(alloc);
+        let mut ranks = Vec::new(alloc);
         for plan in sched.plans() {
-            moved.push(moved_of(alloc, plan)?)?;
-            added.push(added_of(alloc, plan)?)?;
+            ranks.push(listed(alloc, plan)?)?;
         }
-        Ok(SlotTable {
-            sched,
-            moved,
-            added,
-        })
+        Ok(SlotTable { sched, ranks })
     }
 
     /// The slots that the operation moves, in the order of its rank's notes.
-    pub fn slots_of(&self, id: OpId) -> &Slots
+    pub fn slots_of(&self, id: OpId) -> &[u32]
         requires { IsOp self.now id }
         ensures { result.now ≡ slots self.now id }
     {
-        let of_rank = &self.moved[id.rank as usize];
-        &of_rank[id.op as usize]
+        let of_rank = &self.ranks[id.rank as usize];
+        between(&of_rank.moved, &of_rank.moved_starts, id.op as usize)
     }
 
     /// What the calc adds, in the order of its rank's notes.
@@ -62,9 +66,127 @@ impl<'a> SlotTable<'a> {
         requires { IsOp self.now id }
         ensures { result.now ≡ adds self.now id }
     {
-        let of_rank = &self.added[id.rank as usize];
-        of_rank[id.op as usize].as_slice()
+        let of_rank = &self.ranks[id.rank as usize];
+        between(&of_rank.added, &of_rank.added_starts, id.op as usize)
     }
+}
+
+// The entries from the start of row i up to that of the next.
+fn between<'a, T>(entries: &'a [T], starts: &[usize], i: usize) -> &'a [T]
+    requires inside { i + 1 < length starts.now }
+    requires ordered { slice_index starts.now i ≤ slice_index starts.now (i + 1) }
+    requires within { slice_index starts.now (i + 1) ≤ length entries.now }
+    ensures { result.now ≡ slice_range entries.now (slice_index starts.now i) (slice_index starts.now (i + 1)) }
+{
+    &entries[starts[i]..starts[i + 1]]
+}
+
+// What each operation of the rank moves and adds.
+fn listed(alloc: Global, plan: &RankPlan) -> Result<RankSlots, AllocError>
+    ensures { IfOk result (AreListed plan.now) }
+{
+    match listed_in_order(alloc, plan)? {
+        Some(listed) => Ok(listed),
+        None => listed_by_operation(alloc, plan),
+    }
+}
+
+// The same in one pass, where the notes stand in the order of their operations, as they mostly do.
+fn listed_in_order(alloc: Global, plan: &RankPlan) -> Result<Option<RankSlots>, AllocError>
+    ensures { IfOk result (λ found. IfSome found (AreListed plan.now)) }
+{
+    let notes = plan.notes.as_slice();
+    let mut moved_starts = vec![in alloc; 0; 1]?;
+    let mut added_starts = vec![in alloc; 0; 1]?;
+    let mut moved = Vec::with_capacity(alloc, notes.len())?;
+    let mut added = Vec::new(alloc);
+    let mut at = 0;
+    for op in 0..plan.ops.len() {
+        at = push_notes(&mut moved, &mut added, notes, at, op)?;
+        moved_starts.push(moved.len())?;
+        added_starts.push(added.len())?;
+    }
+    if at < notes.len() {
+        return Ok(None);
+    }
+    Ok(Some(RankSlots {
+        moved_starts,
+        moved,
+        added_starts,
+        added,
+    }))
+}
+
+// Appends what the notes of this operation from the place `at` on move and add. Answers the place of the first note behind
+// them.
+fn push_notes(
+    moved: &mut Vec<u32>,
+    added: &mut Vec<Adding>,
+    notes: &[Note],
+    at: usize,
+    op: usize,
+) -> Result<usize, AllocError>
+    requires at { at ≤ length notes.now }
+    requires no_moves { flat_map (moved_by op) (take at notes.now) ≡ [] }
+    requires no_adds { flat_map (added_by op) (take at notes.now) ≡ [] }
+    ensures within { IfOk result (λ next. next ≤ length notes.now) }
+    ensures moves { IfOk result (λ next. IsRowPushed moved_by notes.now at next op moved.old.items moved.new.items) }
+    ensures adds { IfOk result (λ next. IsRowPushed added_by notes.now at next op added.old.items added.new.items) }
+{
+    let mut next = at;
+    while next < notes.len() && op_of(notes[next]) as usize == op {
+        push_note(moved, added, notes[next])?;
+        next += 1;
+    }
+    Ok(next)
+}
+
+// The operation of a note.
+fn op_of(note: Note) -> u32
+    ensures { result ≡ op_of note }
+{
+    match note {
+        Note::Moves { op, .. } => op,
+        Note::Adds { op, .. } => op,
+    }
+}
+
+// Appends what a note moves and adds.
+fn push_note(moved: &mut Vec<u32>, added: &mut Vec<Adding>, note: Note) -> Result<(), AllocError>
+    ensures moves { OnOk result (moved.new.items ≡ moved.old.items ++ moved_by (op_of note) note) }
+    ensures adds { OnOk result (added.new.items ≡ added.old.items ++ added_by (op_of note) note) }
+{
+    match note {
+        Note::Moves { lo, hi, .. } => push_slots(moved, lo, hi),
+        Note::Adds { from, to, .. } => {
+            added.push(Adding { from, to })?;
+            Ok(())
+        }
+    }
+}
+
+// The same from a list for each operation, whatever the order of the notes.
+fn listed_by_operation(alloc: Global, plan: &RankPlan) -> Result<RankSlots, AllocError>
+    ensures { IfOk result (AreListed plan.now) }
+{
+    let moves = moved_of(alloc, plan)?;
+    let adds = added_of(alloc, plan)?;
+    let mut moved_starts = vec![in alloc; 0; 1]?;
+    let mut added_starts = vec![in alloc; 0; 1]?;
+    let mut moved = Vec::new(alloc);
+    let mut added = Vec::new(alloc);
+    for op in 0..plan.ops.len() {
+        moved.extend_from_slice(moves[op].as_slice())?;
+        added.extend_from_slice(&adds[op])?;
+        moved_starts.push(moved.len())?;
+        added_starts.push(added.len())?;
+    }
+    Ok(RankSlots {
+        moved_starts,
+        moved,
+        added_starts,
+        added,
+    })
 }
 
 // What each operation of the rank moves.

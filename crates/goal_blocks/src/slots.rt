@@ -93,7 +93,7 @@ impl Slots {
 }
 
 // Appends the slots from `lo` up to `hi`.
-fn push_slots(list: &mut Vec<u32>, lo: u32, hi: u32) -> Result<(), AllocError>
+pub(crate) fn push_slots(list: &mut Vec<u32>, lo: u32, hi: u32) -> Result<(), AllocError>
     ensures { OnOk result (list.new.items ≡ list.old.items ++ slots_from lo (hi + 1 - lo)) }
 {
     for slot in lo as u64..hi as u64 + 1 {

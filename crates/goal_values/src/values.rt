@@ -13,9 +13,7 @@ ghost use Rattle.goal_values.specs.Summed.{Summed, lent_values, IsLent, lesser};
 
 use crate::sums::{Sums, Term};
 use goal_base::NoMemory;
-use goal_blocks::{
-    Collective, Contribution, Segment, Slots, asked, first_of, initial_size, is_wanted,
-};
+use goal_blocks::{Collective, Contribution, Segment, asked, first_of, initial_size, is_wanted};
 use std::alloc::{AllocError, Global};
 use std::collections::BTreeMap;
 use std::marker::Model;
@@ -110,13 +108,13 @@ impl SlotValues {
     }
 
     /// The values of these slots of the rank. `NoMemory` where memory ran out.
-    pub fn lend(&self, rank: u32, slots: &Slots) -> Result<Lent, NoMemory>
+    pub fn lend(&self, rank: u32, slots: &[u32]) -> Result<Lent, NoMemory>
         requires { rank < self.now.kept.ranks }
         ensures values { IfOk result (λ l. lent_values self.now.sums l ≡ map (values self.now.kept rank) slots.now) }
         ensures lent { IfOk result (λ l. IsLent self.now.sums l) }
     {
         let mut terms = Vec::new(self.alloc);
-        for slot in slots.as_slice() {
+        for slot in slots {
             terms.push(self.term_at(rank, *slot))?;
         }
         Ok(Lent { terms })
@@ -124,7 +122,7 @@ impl SlotValues {
 
     /// Sets these slots of the rank to the values, in order: where a slot stands twice, the later value stays.
     /// `NoMemory` where memory ran out; some of the slots are set then.
-    pub fn write(&mut self, rank: u32, slots: &Slots, lent: &Lent) -> Result<(), NoMemory>
+    pub fn write(&mut self, rank: u32, slots: &[u32], lent: &Lent) -> Result<(), NoMemory>
         requires rank { rank < self.old.kept.ranks }
         requires lent { IsLent self.old.sums lent.now }
         requires lengths { length slots.now ≡ length lent.now.terms.items }
@@ -136,10 +134,9 @@ impl SlotValues {
         ensures ranks { self.new.kept.ranks ≡ self.old.kept.ranks }
         ensures sums { self.new.sums ≡ self.old.sums }
     {
-        let places = slots.as_slice();
         let terms = lent.terms.as_slice();
         for at in 0..terms.len() {
-            self.put(rank, places[at], terms[at])?;
+            self.put(rank, slots[at], terms[at])?;
         }
         Ok(())
     }

@@ -63,8 +63,8 @@ fn slots_and_sums(rt: HostRuntime) -> Result<(), Fail> {
     assert_eq!(rt; ids.len(), 3);
     let sent = Slots::of(rt.alloc(), &sched, ids[0]).ok().ok_or("memory")?;
     assert_eq!(rt; sent.as_slice(), [1, 2, 0].as_slice());
-    assert_eq!(rt; table.slots_of(ids[0]).as_slice(), [1, 2, 0].as_slice());
-    assert_eq!(rt; table.slots_of(ids[1]).as_slice(), [0, 4, 5].as_slice());
+    assert_eq!(rt; table.slots_of(ids[0]), [1, 2, 0].as_slice());
+    assert_eq!(rt; table.slots_of(ids[1]), [0, 4, 5].as_slice());
     assert_eq!(rt; table.slots_of(ids[2]).len(), 0);
     assert_eq!(rt;
         table.adds_of(ids[2]),

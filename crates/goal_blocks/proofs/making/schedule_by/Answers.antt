@@ -1,7 +1,6 @@
 use Rattle.std.proofs.Common.{◌∙◌, List, sym, subst}
 use Rattle.goal_graph.specs.Schedule.{Plan}
 use Rattle.goal_blocks.specs.Certified.{IsCertifiedFor}
-use Rattle.goal_blocks.specs.Generated.{made}
 use Rattle.goal_blocks.specs.Right.{IsRightFor}
 use Rattle.goal_blocks.proofs.MadeCertified.{made_certified, all_made_right}
 use Rattle.goal_blocks.proofs.making.schedule_by.Goals as goal

@@ -1,17 +1,24 @@
-use Rattle.std.proofs.Common.{arith, ◌∙◌}
-use Rattle.goal_blocks.proofs.SlotRows.{in_added, in_sums, row_adds}
+use Rattle.std.proofs.Common.{arith}
+use Rattle.goal_blocks.proofs.SlotRows.{in_ranks, added_inside, added_ordered, added_within, row_adds}
 use Rattle.goal_blocks.proofs.slot_table.SlotTable.adds_of.Goals as goal
 
 pub index-of_rank-requires : goal.index-of_rank-requires
 index-of_rank-requires c =
-    let within = in_added c.self.inside.sched.now c.args.self.now c.self.inside.moved.items c.self.inside.added.items c.self.view_is c.self.invariant c.args.id c.requires in
-    omega (arith, within, c.self.inside.added.ok.0)
+    let within = in_ranks c.self.inside.sched.now c.args.self.now c.self.inside.ranks.items c.self.view_is c.self.invariant c.args.id c.requires in
+    omega (arith, within, c.self.inside.ranks.ok.0)
 
-pub index-requires : goal.index-requires
-index-requires c =
-    let within = in_sums c.self.inside.sched.now c.args.self.now c.self.inside.moved.items c.self.inside.added.items c.self.view_is c.self.invariant c.args.id c.requires c.index-of_rank.result.now c.index-of_rank.ensures in
-    omega (arith, within, c.index-of_rank.result.now.ok.0)
+pub between-requires-clause-inside : goal.between-requires-clause-inside
+between-requires-clause-inside c =
+    rw c.deref-2.ensures.value (added_inside c.self.inside.sched.now c.args.self.now c.self.inside.ranks.items c.self.view_is c.self.invariant c.args.id c.requires c.index-of_rank.result.now c.index-of_rank.ensures)
+
+pub between-requires-clause-ordered : goal.between-requires-clause-ordered
+between-requires-clause-ordered c =
+    rw c.deref-2.ensures.value (added_ordered c.self.inside.sched.now c.args.self.now c.self.inside.ranks.items c.self.view_is c.self.invariant c.args.id c.requires c.index-of_rank.result.now c.index-of_rank.ensures)
+
+pub between-requires-clause-within : goal.between-requires-clause-within
+between-requires-clause-within c =
+    rw (c.deref.ensures.value, c.deref-2.ensures.value) (added_within c.self.inside.sched.now c.args.self.now c.self.inside.ranks.items c.self.view_is c.self.invariant c.args.id c.requires c.index-of_rank.result.now c.index-of_rank.ensures)
 
 pub returns : goal.returns
 returns c =
-    c.as_slice.ensures.value ∙ row_adds c.self.inside.sched.now c.args.self.now c.self.inside.moved.items c.self.inside.added.items c.self.view_is c.self.invariant c.args.id c.requires c.index-of_rank.result.now c.index-of_rank.ensures c.index.result.now c.index.ensures
+    rw (c.between.ensures, c.deref.ensures.value, c.deref-2.ensures.value) (row_adds c.self.inside.sched.now c.args.self.now c.self.inside.ranks.items c.self.view_is c.self.invariant c.args.id c.requires c.index-of_rank.result.now c.index-of_rank.ensures)

@@ -11,7 +11,7 @@ abbrev pub invariant-loop-at : goal.invariant-loop-at
 invariant-loop-at l = record {
   sums : l.self.sums ≡ l.initial.self.sums;
   ranks : l.self.kept.ranks ≡ l.initial.self.kept.ranks;
-  left : write l.rank (drop l.at l.places) (drop l.at (map (meaning l.initial.self.sums) l.terms)) (values l.self.kept) ≡ write l.rank l.places (map (meaning l.initial.self.sums) l.terms) (values l.initial.self.kept);
+  left : write l.rank (drop l.at l.slots) (drop l.at (map (meaning l.initial.self.sums) l.terms)) (values l.self.kept) ≡ write l.rank l.slots (map (meaning l.initial.self.sums) l.terms) (values l.initial.self.kept);
   light : stored l.self.kept.ranks (values l.self.kept) + sum_by (λ (v : Value). length v) (drop l.at (map (meaning l.initial.self.sums) l.terms)) ≤ 2 ^ 24;
   others : (r k : ℕ) → r ≢ l.rank → values l.self.kept r k ≡ values l.initial.self.kept r k;
 }
