@@ -45,8 +45,9 @@ depth_within plans accepted x is_op =
 
 -- one need of an operation y more
 module _ (plans : List Plan) (y : OpId) (old new : List ℕ) (done : ℕ → Type 0) (rows : AreRows plans y.rank old done) (keeps : (r k : ℕ) → k < 2048 → has old r k ≡ true → has new r k ≡ true) where
-  pub taken_rows : (d : Need) → Contains (needs plans y) d → ((r k : ℕ) → k < 2048 → has new r k ≡ true → (has old r k ≡ true) ⊎ ((r ≡ y.op) × ((has old d.op k ≡ true) ⊎ ((d.when ≡ AfterEnd) × (k ≡ d.op))))) → AreRows plans y.rank new done
-  taken_rows d c no_more = record {
+  pub taken_rows : (d : Need) → Contains (needs plans y) d → d.op < length (ops_at plans y.rank) → ((r k : ℕ) → k < 2048 → has new r k ≡ true → (has old r k ≡ true) ⊎ ((r ≡ y.op) × ((has old d.op k ≡ true) ⊎ ((d.when ≡ AfterEnd) × (k ≡ d.op))))) → AreRows plans y.rank new done
+  taken_rows d c below no_more = record {
+    low = λ op k few h. ⊎_elim (rows.low op k few) (λ more. ⊎_elim (rows.low d.op k few) (λ end. subst (λ (n : ℕ). n < length (ops_at plans y.rank)) (sym end.1) below) more.1) (no_more op k few h);
     sound = λ op k few h. ⊎_elim (rows.sound op k few) (λ more. subst (λ (n : ℕ). EndsBefore plans (op_id y.rank k) (op_id y.rank n)) (sym more.0) (led plans (op_id y.rank k) y d c (⊎_elim (λ there. inr (rows.sound d.op k few there)) (λ end. inl (end.0, ap (op_id y.rank) (sym end.1))) more.1))) (no_more op k few h);
     complete = λ op k few is_done b. keeps op k few (rows.complete op k few is_done b);
   }
@@ -69,8 +70,8 @@ module _ (plans : List Plan) (y : OpId) (old new : List ℕ) (done : ℕ → Typ
   is_need =
       subst (λ (n : Need). Contains (needs plans y) n) (sym same) (Contains-get_or (needs plans y) i e inside)
 
-  pub next_rows : ((r k : ℕ) → k < 2048 → has new r k ≡ true → (has old r k ≡ true) ⊎ ((r ≡ y.op) × ((has old d.op k ≡ true) ⊎ ((d.when ≡ AfterEnd) × (k ≡ d.op))))) → AreRows plans y.rank new done
-  next_rows no_more = taken_rows plans y old new done rows keeps d is_need no_more
+  pub next_rows : d.op < length (ops_at plans y.rank) → ((r k : ℕ) → k < 2048 → has new r k ≡ true → (has old r k ≡ true) ⊎ ((r ≡ y.op) × ((has old d.op k ≡ true) ⊎ ((d.when ≡ AfterEnd) × (k ≡ d.op))))) → AreRows plans y.rank new done
+  next_rows below no_more = taken_rows plans y old new done rows keeps d is_need below no_more
 
   abbrev Has : List ℕ → Need → Type 0
   Has rs n = (k : ℕ) → k < 2048 → Leads plans (op_id y.rank k) y n → has rs y.op k ≡ true
@@ -102,6 +103,7 @@ no_marks n k =
 
 pub rows_of_zeros : (plans : List Plan) (rank n m : ℕ) → AreRows plans rank (replicate n 0) (λ k. slice_index_or (replicate m false) k false ≡ true)
 rows_of_zeros plans rank n m = record {
+  low = λ op k few h. absurd (true≢false (sym h ∙ has_zeros n op k));
   sound = λ op k few h. absurd (true≢false (sym h ∙ has_zeros n op k));
   complete = λ op k few h b. absurd (true≢false (sym h ∙ no_marks m op));
 }

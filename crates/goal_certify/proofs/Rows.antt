@@ -78,17 +78,21 @@ joined_more old now row others other place word inside read j = record { done = 
               get_or-set_other now (32 * row + place) k _ 0 apart ∙ j.rest k (λ a b. out a (omega arith))
         ]
 
-module _ (old new : List ℕ) (row : ℕ) (others : List ℕ) (other places : ℕ) (all : places ≡ 32) (j : IsJoined old new row others other places) where
+module _ (old new : List ℕ) (row : ℕ) (others : List ℕ) (other places : ℕ) (most : places ≤ 32) (low : (k : ℕ) → k < 2048 → has others other k ≡ true → k / 64 < places) (j : IsJoined old new row others other places) where
   pub joined_adds : (k : ℕ) → k < 2048 → has others other k ≡ true → has new row k ≡ true
   unfolding has
   joined_adds k small h =
-      ap (λ w. bit w k) (j.done (k / 64) (omega arith)) ∙ bit_or_right _ _ (k % 64) h
+      ap (λ w. bit w k) (j.done (k / 64) (low k small h)) ∙ bit_or_right _ _ (k % 64) h
 
   pub joined_keeps : (r k : ℕ) → k < 2048 → has old r k ≡ true → has new r k ≡ true
   unfolding has
   joined_keeps r k small h =
       elim (cases_eq r row) [
-        | inl same ↦ rw same (ap (λ w. bit w k) (j.done (k / 64) (omega arith)) ∙ bit_or_left _ _ (k % 64) (rw same at h))
+        | inl same ↦
+            elim (cases_lt (k / 64) places) [
+              | inl within ↦ rw same (ap (λ w. bit w k) (j.done (k / 64) within) ∙ bit_or_left _ _ (k % 64) (rw same at h))
+              | inr past ↦ ap (λ w. bit w k) (j.rest (32 * r + k / 64) (λ a b. omega (arith, same, past, b))) ∙ h
+            ]
         | inr apart ↦ ap (λ w. bit w k) (j.rest (32 * r + k / 64) (λ a b. omega arith)) ∙ h
       ]
 
@@ -97,9 +101,13 @@ module _ (old new : List ℕ) (row : ℕ) (others : List ℕ) (other places : �
   joined_no_more r k small h =
       elim (cases_eq r row) [
         | inl same ↦
-            elim (bit_or_cases _ _ (k % 64) (sym (ap (λ w. bit w k) (j.done (k / 64) (omega arith))) ∙ (rw same at h))) [
-              | inl left ↦ inl (rw same left)
-              | inr right ↦ inr (same, right)
+            elim (cases_lt (k / 64) places) [
+              | inl within ↦
+                  elim (bit_or_cases _ _ (k % 64) (sym (ap (λ w. bit w k) (j.done (k / 64) within)) ∙ (rw same at h))) [
+                    | inl left ↦ inl (rw same left)
+                    | inr right ↦ inr (same, right)
+                  ]
+              | inr past ↦ inl (sym (ap (λ w. bit w k) (j.rest (32 * r + k / 64) (λ a b. omega (arith, same, past, b)))) ∙ h)
             ]
         | inr apart ↦ inl (sym (ap (λ w. bit w k) (j.rest (32 * r + k / 64) (λ a b. omega arith))) ∙ h)
       ]
@@ -149,36 +157,16 @@ module _ (old : List ℕ) (row number : ℕ) (inside : 32 * row + 32 ≤ length 
         | inr apart ↦ inl (sym (put_other r k small (λ a b. apart a)) ∙ h)
       ]
 
--- the first words of the row are 0, and the other words are the same
-pub record IsCleared (old new : List ℕ) (row places : ℕ) : Type 0 where
-  pub done : (j : ℕ) → j < places → get_or new (32 * row + j) 0 ≡ 0
-  pub rest : (j : ℕ) → (32 * row ≤ j → j < 32 * row + places → ⊥) → get_or new j 0 ≡ get_or old j 0
-
-pub cleared_none : (old : List ℕ) (row : ℕ) → IsCleared old old row 0
-cleared_none old row = record { done = λ j h. absurd (omega arith); rest = λ j out. refl }
-
-pub cleared_more : (old now : List ℕ) (row place : ℕ) → 32 * row + place < length now → IsCleared old now row place → IsCleared old (set now (32 * row + place) 0) row (place + 1)
-cleared_more old now row place inside j = record {
-  done = λ k h.
-      elim (cases_eq k place) [
-        | inl same ↦ rw same (get_or-set_same now (32 * row + place) 0 0 inside)
-        | inr other ↦ get_or-set_other now (32 * row + place) (32 * row + k) 0 0 (omega arith) ∙ j.done k (omega arith)
-      ];
-  rest = λ k out.
-      elim (cases_eq k (32 * row + place)) [
-        | inl same ↦ absurd (out (omega arith) (omega arith))
-        | inr apart ↦ get_or-set_other now (32 * row + place) k 0 0 apart ∙ j.rest k (λ a b. out a (omega arith))
-      ];
-}
-
-pub cleared_less : (old new : List ℕ) (row places : ℕ) → places ≡ 32 → IsCleared old new row places → (r k : ℕ) → k < 2048 → has new r k ≡ true → (has old r k ≡ true) × (r ≢ row)
+-- a word is 0, and the others are the same
+pub cleared : (old : List ℕ) (row number : ℕ) → 32 * row + 32 ≤ length old → number < 2048 → (r k : ℕ) → k < 2048 → has (set old (32 * row + number / 64) 0) r k ≡ true → (has old r k ≡ true) × (r ≡ row → k ≢ number)
 unfolding has
-cleared_less old new row places all j r k small h =
-    elim (cases_eq r row) [
+cleared old row number inside few r k small h =
+    elim (cases_eq (32 * r + k / 64) (32 * row + number / 64)) [
       | inl same ↦
-          let none : get_or new (32 * r + k / 64) 0 ≡ 0 = rw same (j.done (k / 64) (omega arith)) in
+          let none : get_or (set old (32 * row + number / 64) 0) (32 * r + k / 64) 0 ≡ 0 = ap (λ (i : ℕ). get_or (set old (32 * row + number / 64) 0) i 0) same ∙ get_or-set_same old (32 * row + number / 64) 0 0 (omega arith) in
           absurd (true≢false (sym h ∙ ap (λ w. bit w k) none ∙ ap (λ b. eqb b 1) (bit_at-zero (k % 64))))
-      | inr apart ↦ (sym (ap (λ w. bit w k) (j.rest (32 * r + k / 64) (λ a b. omega arith))) ∙ h, apart)
+      | inr apart ↦
+          (sym (ap (λ w. bit w k) (get_or-set_other old (32 * row + number / 64) (32 * r + k / 64) 0 0 apart)) ∙ h, λ same_row same. apart (ap (λ (i : ℕ). 32 * i + k / 64) same_row ∙ ap (λ (i : ℕ). 32 * row + i / 64) same))
     ]
 
 -- words of 0 past the end add nothing

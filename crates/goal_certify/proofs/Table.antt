@@ -50,18 +50,19 @@ marked_all only_writes touches i rows all m =
 
 -- what is left to wipe
 abbrev pub LeftFrom : List Touch → ℕ → List ℕ → Type 0
-LeftFrom touches i rows = (s k : ℕ) → k < 2048 → has rows s k ≡ true → (j : ℕ) × (i ≤ j) × (j < length touches) × ((e : Touch) → (get_or touches j e).slot ≡ s)
+LeftFrom touches i rows = (s k : ℕ) → k < 2048 → has rows s k ≡ true → (j : ℕ) × (i ≤ j) × (j < length touches) × ((e : Touch) → (get_or touches j e).slot ≡ s) × ((e : Touch) → (get_or touches j e).op ≡ k)
 
 pub left_first : (only_writes : Bool) (touches : List Touch) (rows : List ℕ) → AreMarked only_writes touches rows → LeftFrom touches 0 rows
 left_first only_writes touches rows m s k few h =
     let f = m.no_more s k few h in
-    (f.1.0, omega arith, f.1.1, λ e. ap (λ (t : Touch). t.slot) (get_or_default touches f.1.0 e f.0 f.1.1 ∙ f.1.2) ∙ f.3)
+    let found : (e : Touch) → get_or touches f.1.0 e ≡ f.0 = λ e. get_or_default touches f.1.0 e f.0 f.1.1 ∙ f.1.2 in
+    (f.1.0, omega arith, f.1.1, λ e. ap (λ (t : Touch). t.slot) (found e) ∙ f.3, λ e. ap (λ (t : Touch). t.op) (found e) ∙ f.4)
 
-pub left_next : (touches : List Touch) (i : ℕ) (e : Touch) (old new : List ℕ) → LeftFrom touches i old → ((r k : ℕ) → k < 2048 → has new r k ≡ true → (has old r k ≡ true) × (r ≢ (get_or touches i e).slot)) → LeftFrom touches (i + 1) new
+pub left_next : (touches : List Touch) (i : ℕ) (e : Touch) (old new : List ℕ) → LeftFrom touches i old → ((r k : ℕ) → k < 2048 → has new r k ≡ true → (has old r k ≡ true) × (r ≡ (get_or touches i e).slot → k ≢ (get_or touches i e).op)) → LeftFrom touches (i + 1) new
 left_next touches i e old new left less s k few h =
     let l = less s k few h in
     let f = left s k few l.0 in
-    ⊎_elim (λ same. absurd (l.1 (sym (subst (λ (j : ℕ). (get_or touches j e).slot ≡ s) same (f.3 e))))) (λ other. (f.0, omega (arith, f.1, other), f.2, f.3)) (cases_eq f.0 i)
+    ⊎_elim (λ same. absurd (l.1 (sym (subst (λ (j : ℕ). (get_or touches j e).slot ≡ s) same (f.3 e))) (sym (subst (λ (j : ℕ). (get_or touches j e).op ≡ k) same (f.4 e))))) (λ other. (f.0, omega (arith, f.1, other), f.2, f.3, f.4)) (cases_eq f.0 i)
 
 pub left_none : (touches : List Touch) (i : ℕ) (rows : List ℕ) → length touches ≤ i → LeftFrom touches i rows → AreEmpty rows
 left_none touches i rows all left r k few h = let f = left r k few h in absurd (omega (arith, f.1, f.2))

@@ -73,28 +73,33 @@ fn gather(sched: &Sched, id: OpId, rows: &mut [u64], done: &[bool])
     requires exists { IsOp sched.now id }
     requires few { length (ops_at sched.now id.rank) ≤ 2048 }
     requires room { length rows.old ≡ 32 * length (ops_at sched.now id.rank) }
+    requires marks { length done.now ≡ length (ops_at sched.now id.rank) }
     requires rows { AreRows sched.now id.rank rows.old (λ k. slice_index_or done.now k false ≡ true) }
     requires needs { All (λ d. slice_index_or done.now d.op false ≡ true) (needs sched.now id) }
     ensures rows { AreRows sched.now id.rank rows.new (λ k. slice_index_or done.now k false ≡ true) }
     ensures row { (k : ℕ) → k < 2048 → EndsBefore sched.now (op_id id.rank k) id → has rows.new id.op k ≡ true }
 {
+    let words = (done.len() + 63) / 64;
     for need in sched.needs(id) {
-        take(rows, id.op as usize, *need);
+        take(rows, id.op as usize, *need, words);
     }
 }
 
-// The row gets what the row of what is needed has, and what is needed where its end is.
-fn take(rows: &mut [u64], op: usize, need: Need)
+// The row gets what the row of what is needed has, and what is needed where its end is. The numbers of a row stand in so many
+// words.
+fn take(rows: &mut [u64], op: usize, need: Need, words: usize)
     requires op { 32 * op + 32 ≤ length rows.old }
     requires needed { 32 * need.op + 32 ≤ length rows.old }
     requires few { need.op < 2048 }
+    requires words { words ≤ 32 }
+    requires low { (k : ℕ) → k < 2048 → has rows.old need.op k ≡ true → k < 64 * words }
     ensures adds { (k : ℕ) → k < 2048 → has rows.old need.op k ≡ true → has rows.new op k ≡ true }
     ensures ends { need.when ≡ AfterEnd → has rows.new op need.op ≡ true }
     ensures keeps { (r k : ℕ) → k < 2048 → has rows.old r k ≡ true → has rows.new r k ≡ true }
     ensures no_more { (r k : ℕ) → k < 2048 → has rows.new r k ≡ true → (has rows.old r k ≡ true)
         ⊎ ((r ≡ op) × ((has rows.old need.op k ≡ true) ⊎ ((need.when ≡ AfterEnd) × (k ≡ need.op)))) }
 {
-    join_within(rows, op, need.op as usize);
+    join_within(rows, op, need.op as usize, words);
     match need.when {
         When::AfterEnd => put(rows, op, need.op),
         When::AfterStart => {}

@@ -43,29 +43,31 @@ pub(crate) fn join(rows: &mut [u64], row: usize, others: &[u64], other: usize)
     }
 }
 
-/// The row gets what another one of these rows has.
-pub(crate) fn join_within(rows: &mut [u64], row: usize, other: usize)
+/// The row gets what another one of these rows has, whose numbers stand in so many words.
+pub(crate) fn join_within(rows: &mut [u64], row: usize, other: usize, words: usize)
     requires row { 32 * row + 32 ≤ length rows.old }
     requires other { 32 * other + 32 ≤ length rows.old }
+    requires words { words ≤ 32 }
+    requires low { (k : ℕ) → k < 2048 → has rows.old other k ≡ true → k < 64 * words }
     ensures adds { (k : ℕ) → k < 2048 → has rows.old other k ≡ true → has rows.new row k ≡ true }
     ensures keeps { (r k : ℕ) → k < 2048 → has rows.old r k ≡ true → has rows.new r k ≡ true }
     ensures no_more { (r k : ℕ) → k < 2048 → has rows.new r k ≡ true
         → (has rows.old r k ≡ true) ⊎ ((r ≡ row) × (has rows.old other k ≡ true)) }
 {
-    for place in 0..WORDS {
+    for place in 0..words {
         let word = rows[WORDS * other + place];
         rows[WORDS * row + place] |= word;
     }
 }
 
-/// The row is empty.
-pub(crate) fn clear(rows: &mut [u64], row: usize)
-    requires { 32 * row + 32 ≤ length rows.old }
-    ensures { (r k : ℕ) → k < 2048 → has rows.new r k ≡ true → (has rows.old r k ≡ true) × (r ≢ row) }
+/// The row does not have the number, nor any other of its word.
+pub(crate) fn clear(rows: &mut [u64], row: usize, number: u32)
+    requires row { 32 * row + 32 ≤ length rows.old }
+    requires number { number < 2048 }
+    ensures { (r k : ℕ) → k < 2048 → has rows.new r k ≡ true
+        → (has rows.old r k ≡ true) × (r ≡ row → k ≢ number) }
 {
-    for place in 0..WORDS {
-        rows[WORDS * row + place] = 0;
-    }
+    rows[WORDS * row + number as usize / 64] = 0;
 }
 
 /// There are rows up to this one. New ones are empty.

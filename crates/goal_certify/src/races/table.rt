@@ -55,13 +55,14 @@ fn put_if(rows: &mut [u64], row: usize, number: u32, test: bool)
     }
 }
 
-/// The rows of these slots are empty.
+/// The rows of these slots are empty. Of a row only the words that have a number are written.
 pub(crate) fn wipe(rows: &mut [u64], touches: &[Touch], only_writes: bool)
-    requires { AreMarked only_writes touches.now rows.old }
+    requires ops { All (λ t. t.op < 2048) touches.now }
+    requires marked { AreMarked only_writes touches.now rows.old }
     ensures { AreEmpty rows.new }
 {
     for touch in touches {
-        clear(rows, touch.slot as usize);
+        clear(rows, touch.slot as usize, touch.op);
     }
 }
 

@@ -49,3 +49,19 @@ find_race-requires-clause-touches c =
     let read : p ≡ get_or plans c.args.rank p = c.index-plans-rank.is ∙ ap (λ ps. get_or ps c.args.rank p) c.plans.ensures.plans in
     let known = known_touches plans c.args.rank c.requires.small c.requires.rank p read c.deref-3.result.now (c.deref-3.ensures.value ∙ c.in_ok-touches.ensures) in
     known
+
+pub wipe-requires-clause-ops : goal.wipe-requires-clause-ops
+wipe-requires-clause-ops c =
+    let plans = c.args.sched.now in
+    let p = c.index-plans-rank.result in
+    let read : p ≡ get_or plans c.args.rank p = c.index-plans-rank.is ∙ ap (λ ps. get_or ps c.args.rank p) c.plans.ensures.plans in
+    let known = known_touches plans c.args.rank c.requires.small c.requires.rank p read c.deref-6.result.now (c.deref-6.ensures.value ∙ c.in_ok-touches.ensures) in
+    low_ops plans c.args.rank c.requires.small c.requires.rank p read c.deref-6.result.now known
+
+pub wipe-requires-2-clause-ops : goal.wipe-requires-2-clause-ops
+wipe-requires-2-clause-ops c =
+    let plans = c.args.sched.now in
+    let p = c.index-plans-rank.result in
+    let read : p ≡ get_or plans c.args.rank p = c.index-plans-rank.is ∙ ap (λ ps. get_or ps c.args.rank p) c.plans.ensures.plans in
+    let known = known_touches plans c.args.rank c.requires.small c.requires.rank p read c.deref-7.result.now (c.deref-7.ensures.value ∙ c.in_ok-touches.ensures) in
+    low_ops plans c.args.rank c.requires.small c.requires.rank p read c.deref-7.result.now known

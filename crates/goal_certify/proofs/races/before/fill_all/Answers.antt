@@ -23,6 +23,7 @@ loop-op-preserved c = record {
 pub returns : goal.returns
 returns c = record {
   rows = record {
+    low = c.loop-op.invariant.rows.low;
     sound = c.loop-op.invariant.rows.sound;
     complete = λ op k few inside b. c.loop-op.invariant.rows.complete op k few (c.loop-op.invariant.so_far op (omega arith)) b;
   };

@@ -21,6 +21,11 @@ take-requires-clause-few c =
     let below : d.op < length (ops_at c.args.sched.now c.args.id.rank) = below_of_op c.args.sched.now (needed c.args.id d) (c.needs-need-items.ensures.exist c.loop-need.need-index _ (omega arith)) in
     omega arith
 
+pub take-requires-clause-low : goal.take-requires-clause-low
+take-requires-clause-low c k few h =
+    let low = c.loop-need.invariant.rows.low _ k few h in
+    omega (arith, low, c.requires.marks)
+
 pub loop-need-preserved : goal.loop-need-preserved
 loop-need-preserved c =
     let e : Need = record { op = 0; when = AfterEnd } in
@@ -29,9 +34,10 @@ loop-need-preserved c =
     let d : Need = slice_index_or c.needs-need-items.result.now i e in
     let same : d ≡ slice_index_or (needs plans c.args.id) i e = ap (λ ns. slice_index_or ns i e) c.needs-need-items.ensures.needs in
     let inside : i < length (needs plans c.args.id) = omega (arith, ap length c.needs-need-items.ensures.needs) in
+    let below : d.op < length (ops_at plans c.args.id.rank) = below_of_op plans (needed c.args.id d) (c.needs-need-items.ensures.exist i e (omega arith)) in
     let is_done : slice_index_or c.args.done.now d.op false ≡ true = subst (λ (n : Need). slice_index_or c.args.done.now n.op false ≡ true) (sym same) (c.requires.needs i e inside) in
     record {
-      rows = next_rows plans c.args.id c.loop-need.rows c.take.new.rows _ c.loop-need.invariant.rows c.take.ensures.keeps i e d same inside c.take.ensures.no_more;
+      rows = next_rows plans c.args.id c.loop-need.rows c.take.new.rows _ c.loop-need.invariant.rows c.take.ensures.keeps i e d same inside below c.take.ensures.no_more;
       row = next_need plans c.args.id c.loop-need.rows c.take.new.rows _ c.loop-need.invariant.rows c.take.ensures.keeps i e d same inside is_done c.take.ensures.adds c.take.ensures.ends c.loop-need.invariant.row;
     }
 

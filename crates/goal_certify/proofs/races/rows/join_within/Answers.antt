@@ -10,10 +10,10 @@ loop-place-preserved c =
     joined_more c.args.rows.now c.loop-place.rows c.args.row c.args.rows.now c.args.other c.loop-place.place _ (omega arith) (c.loop-place.invariant.rest _ (λ a b. omega arith)) c.loop-place.invariant
 
 pub returns-clause-adds : goal.returns-clause-adds
-returns-clause-adds c = joined_adds _ _ _ _ _ _ (omega arith) c.loop-place.invariant
+returns-clause-adds c = joined_adds _ _ _ _ _ _ (omega arith) (λ k few h. omega (arith, c.requires.low k few h)) c.loop-place.invariant
 
 pub returns-clause-keeps : goal.returns-clause-keeps
-returns-clause-keeps c = joined_keeps _ _ _ _ _ _ (omega arith) c.loop-place.invariant
+returns-clause-keeps c = joined_keeps _ _ _ _ _ _ (omega arith) (λ k few h. omega (arith, c.requires.low k few h)) c.loop-place.invariant
 
 pub returns-clause-no_more : goal.returns-clause-no_more
-returns-clause-no_more c = joined_no_more _ _ _ _ _ _ (omega arith) c.loop-place.invariant
+returns-clause-no_more c = joined_no_more _ _ _ _ _ _ (omega arith) (λ k few h. omega (arith, c.requires.low k few h)) c.loop-place.invariant

@@ -4,11 +4,11 @@ use Rattle.goal_certify.proofs.Table.{left_first, left_next, left_none}
 use Rattle.goal_certify.proofs.races.table.wipe.Goals as goal
 
 pub loop-touch-init : goal.loop-touch-init
-loop-touch-init c = left_first c.args.only_writes c.args.touches.now c.args.rows.now c.requires
+loop-touch-init c = left_first c.args.only_writes c.args.touches.now c.args.rows.now c.requires.marked
 
-pub clear-requires : goal.clear-requires
-clear-requires c =
-    omega (arith, c.requires.room _ (Contains-get_or c.args.touches.now c.loop-touch.touch-index (record { op = 0; slot = 0; writes = false }) (omega arith)))
+pub clear-requires-clause-row : goal.clear-requires-clause-row
+clear-requires-clause-row c =
+    omega (arith, c.requires.marked.room _ (Contains-get_or c.args.touches.now c.loop-touch.touch-index (record { op = 0; slot = 0; writes = false }) (omega arith)))
 
 pub loop-touch-preserved : goal.loop-touch-preserved
 loop-touch-preserved c =
