@@ -1,17 +1,19 @@
 -- The list of an operation's own pattern: of a receive its list, of a send the first of its lists.
-use Rattle.std.proofs.Common.{ℕ, ◌<◌, ◌≡◌, ◌-◌, ◌^◌, List, [], ◌∷◌, length, map, slice_get, Option, Some, None, refl, arith, sym, ap, ◌∙◌, subst}
-use Rattle.std.proofs.lemmas.Option.{none-some, same_Some, slice_get-map}
-use Rattle.std.specs.Option.{option_map}
+use Rattle.std.proofs.Common.{ℕ, ◌<◌, ◌≡◌, ◌-◌, ◌^◌, List, [], ◌∷◌, length, map, slice_get, Option, Some, None, Vec, refl, arith, sym, ap, ◌∙◌, subst}
+use Rattle.std.proofs.lemmas.Option.{none-some, slice_get-map, slice_get_within}
+use Rattle.std.proofs.lemmas.List.{length-map}
+use Rattle.std.specs.Global.{Global}
+use Rattle.std.specs.Option.{IfSome, option_map}
 use Rattle.goal_graph.specs.declared.action.OpId.{OpId}
 use Rattle.goal_graph.specs.declared.plan.Kind.{Kind}
-use Rattle.goal_graph.specs.declared.plan.Kind.TheVariants.{Send}
+use Rattle.goal_graph.specs.declared.plan.Kind.TheVariants.{Calc, Send, Recv}
 use Rattle.goal_graph.specs.Schedule.{Plan, kind_at, operations, IsSend, IsReceive}
 use Rattle.sim_match.specs.declared.pattern.Pattern.{Pattern}
-use Rattle.sim_match.specs.Patterns.{pattern_of, own_pattern, number, list_number, list_of, own_list, lists_for}
+use Rattle.sim_match.specs.Patterns.{pattern_of, own_pattern, number, list_number, list_of, own_list, wild_pattern, wild_number, wild_list, lists_for}
 use Rattle.sim_match.specs.declared.list_numbers.ListNumbers.{ListNumbers}
-use Rattle.sim_match.specs.declared.list_numbers.Others.{Others}
-use Rattle.sim_match.specs.ListNumbers.{others_of, others_at, IsCodable, AreNamed, AreSought, AreNumbered}
-use Rattle.sim_match.proofs.PatternLemmas.{number_within, send_lists, unnamed}
+use Rattle.sim_match.specs.declared.pattern.Wild.{Wild}
+use Rattle.sim_match.specs.ListNumbers.{coded, IsCodable, IsWildAt, AreNamed, AreWild, AreSought, AreNumbered}
+use Rattle.sim_match.proofs.PatternLemmas.{number_within, send_lists, unnamed, not_wild, wild_itself}
 
 -- numbers that are the same have the same patterns
 unfoldable pub same_numbers : (plans : List Plan) (new old : ListNumbers) → new ≡ old → AreNumbered plans old → AreNumbered plans new
@@ -24,6 +26,10 @@ same_numbers plans new old same are = record {
   sought = subst (λ (n : ListNumbers). AreSought plans are.keys n.others) (sym same) are.sought;
 }
 
+-- the number of a pattern is below that of none
+pub codable : (keys : List Pattern) (p : Pattern) → length keys < 2 ^ 32 - 1 → IsCodable (number keys p)
+codable keys p few list e = let within = number_within keys p list e in omega (arith, within, few)
+
 module _ (plans : List Plan) (keys : List Pattern) (x : OpId) where
   pub own_codable : length keys < 2 ^ 32 - 1 → IsCodable (own_list plans keys x)
   own_codable few list = go (own_pattern x (kind_at plans x))
@@ -31,6 +37,15 @@ module _ (plans : List Plan) (keys : List Pattern) (x : OpId) where
       go : (p : Option Pattern) → list_number keys p ≡ Some list → list < 2 ^ 32 - 1
       go None e = absurd (none-some list e)
       go (Some p) e = let within = number_within keys p list e in omega (arith, within, few)
+
+  pub wild_codable : (wild : Wild) → length keys < 2 ^ 32 - 1 → IsCodable (wild_list plans keys wild x)
+  wild_codable wild few list = go (kind_at plans x)
+    where
+      go : (k : Option Kind) → wild_number keys wild x k ≡ Some list → list < 2 ^ 32 - 1
+      go (Some (Calc nanos)) e = absurd (none-some list e)
+      go (Some (Send bytes to tag)) e = codable keys (wild_pattern wild x.rank to tag) few list e
+      go (Some (Recv room from tag)) e = absurd (none-some list e)
+      go None e = absurd (none-some list e)
 
   pub own_of_receive : IsReceive plans x → own_list plans keys x ≡ list_of plans keys x
   own_of_receive r =
@@ -52,12 +67,19 @@ module _ (plans : List Plan) (keys : List Pattern) (x : OpId) where
         let any = unnamed (λ (p : Pattern). p.from) keys (record { rank = s.to; from = None; tag = None }) named.sources refl in
         lists_of_send ∙ (λ i. own_list plans keys x ∷ sym any_tag i ∷ sym any_source i ∷ sym any i ∷ [])
 
-    -- what is kept of its others
-    pub others_of_send : (others : List Others) (place : ℕ) (kept : Others) → others ≡ map (others_at plans keys) (operations plans) → slice_get others place ≡ Some kept → slice_get (operations plans) place ≡ Some x → kept ≡ others_of keys x (Some (Send s.bytes s.to s.tag))
-    others_of_send others place kept all read at =
-        let its = sym read ∙ ap (λ (os : List Others). slice_get os place) all ∙ slice_get-map (others_at plans keys) (operations plans) place ∙ ap (option_map (others_at plans keys)) at in
-        same_Some kept (others_at plans keys x) its ∙ ap (others_of keys x) s.kind
+    -- the number that is kept of its list of that kind
+    pub wild_of_send : (wild : Wild) (kept : Option (Vec ℕ Global)) (place : ℕ) (found : Option ℕ) → length keys < 2 ^ 32 - 1 → AreWild plans keys wild kept → slice_get (operations plans) place ≡ Some x → IsWildAt kept place found → found ≡ number keys (wild_pattern wild x.rank s.to s.tag)
+    wild_of_send wild None place found few none at is =
+        is ∙ not_wild wild keys (wild_pattern wild x.rank s.to s.tag) none (wild_itself wild x.rank s.to s.tag)
+    wild_of_send wild (Some numbers) place found few all at is =
+        let its : wild_list plans keys wild x ≡ number keys (wild_pattern wild x.rank s.to s.tag) = ap (wild_number keys wild x) s.kind in
+        let read = ap (λ (ns : List ℕ). slice_get ns place) all ∙ slice_get-map (λ (y : OpId). coded (wild_list plans keys wild y)) (operations plans) place ∙ ap (option_map (λ (y : OpId). coded (wild_list plans keys wild y))) at in
+        is (number keys (wild_pattern wild x.rank s.to s.tag)) (read ∙ ap (λ (o : Option ℕ). Some (coded o)) its) (codable keys (wild_pattern wild x.rank s.to s.tag) few)
 
--- the number of a pattern is below that of none
-pub codable : (keys : List Pattern) (p : Pattern) → length keys < 2 ^ 32 - 1 → IsCodable (number keys p)
-codable keys p few list e = let within = number_within keys p list e in omega (arith, within, few)
+    -- there is one at its place
+    pub wild_within : (wild : Wild) (kept : Option (Vec ℕ Global)) (place : ℕ) → AreWild plans keys wild kept → slice_get (operations plans) place ≡ Some x → IfSome kept (λ (numbers : Vec ℕ Global). place < length numbers.items)
+    wild_within wild None place none at = tt
+    wild_within wild (Some numbers) place all at =
+        let long = ap length all ∙ length-map (operations plans) (λ (y : OpId). coded (wild_list plans keys wild y)) in
+        let inside = slice_get_within (operations plans) place x at in
+        omega (arith, long, inside)

@@ -4,6 +4,7 @@ use Rattle.std.specs.List.{list_any, list_all, position_or_len}
 use Rattle.std.proofs.lemmas.Bool.{cond-true, cond-false, le-ltb, both_ways, and_parts, and_from, eqb-true, ne_eqb, lt-ltb, cases_lt, false_from_ne_true}
 use Rattle.std.proofs.lemmas.Option.{none-some, same_Some, get_or_from_slice_get, slice_get_within, slice_get_read}
 use Rattle.std.proofs.lemmas.List.Elements.{All-get_or, Contains-append_left, Contains-append_right}
+use Rattle.std.proofs.lemmas.List.Folds.{list_any_at}
 use Rattle.std.proofs.lemmas.List.Quantifiers.{position-Some}
 use Rattle.std.proofs.lemmas.List.Sums.{AllPass-from_list_all, position_or_len_is, fails_before_first}
 use Rattle.goal_graph.specs.declared.action.OpId.{OpId}
@@ -13,7 +14,9 @@ use Rattle.goal_graph.specs.Schedule.{Plan, kind_at, operations, IsSend, IsRecei
 use Rattle.goal_graph.specs.Matching.{accepts, fits, fits_kinds}
 use Rattle.goal_graph.proofs.ForCallers.{kind_listed, same_choice_true, same_choice_itself}
 use Rattle.sim_match.specs.declared.pattern.Pattern.{Pattern}
-use Rattle.sim_match.specs.Patterns.{same_choice, same_pattern, pattern_of, patterns_for, same_number, number, list_number, numbers_for, list_of, lists_for, for_list, IsListed, AreListed}
+use Rattle.sim_match.specs.declared.pattern.Wild.{Wild}
+use Rattle.sim_match.specs.declared.pattern.Wild.TheVariants.{AnyTag, AnySource, Any}
+use Rattle.sim_match.specs.Patterns.{same_choice, same_pattern, pattern_of, patterns_for, same_number, number, list_number, numbers_for, list_of, lists_for, for_list, wild_pattern, is_wild, IsListed, AreListed}
 use Rattle.sim_match.specs.Capacities.{AreOnce, AreWithin}
 
 pub same_pattern_true : (p q : Pattern) → same_pattern p q ≡ true → p ≡ q
@@ -49,6 +52,20 @@ unnamed field keys p all none =
     differ k l same =
         let named : is_some (field (get_or keys k p)) ≡ true = All-get_or (λ q. is_some (field q) ≡ true) keys k p l (AllPass-from_list_all (λ q. is_some (field q)) keys all) in
         both_ways (is_some (field p)) none (ap (λ q. is_some (field q)) same ∙ named)
+
+-- nor is one of a kind that none of them is of
+pub not_wild : (wild : Wild) (keys : List Pattern) (p : Pattern) → list_any (is_wild wild) keys ≡ false → is_wild wild p ≡ true → None ≡ number keys p
+not_wild wild keys p none is =
+    sym (position_past (same_pattern p) keys p (λ k l. false_from_ne_true (same_pattern p (get_or keys k p)) (λ e. differ k l (same_pattern_true p (get_or keys k p) e))))
+  where
+    differ : (k : ℕ) → k < length keys → p ≡ get_or keys k p → ⊥
+    differ k l same =
+        both_ways (list_any (is_wild wild) keys) none (list_any_at (is_wild wild) keys k p l (ap (is_wild wild) (sym same) ∙ is))
+
+pub wild_itself : (wild : Wild) (source to tag : ℕ) → is_wild wild (wild_pattern wild source to tag) ≡ true
+wild_itself AnyTag source to tag = refl
+wild_itself AnySource source to tag = refl
+wild_itself Any source to tag = refl
 
 position_none : {X : Type 0} (p : X → Bool) (xs : List X) → position p xs ≡ None → length xs ≤ position_or_len p xs
 position_none p xs e =

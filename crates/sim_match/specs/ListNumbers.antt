@@ -1,16 +1,16 @@
 -- The number of each operation's list.
-use Rattle.std.specs.Prelude.{ℕ, ◌≡◌, ◌<◌, ◌-◌, ◌^◌, true, List, length, map, Option, Some, None, Vec}
+use Rattle.std.specs.Prelude.{ℕ, ◌≡◌, ◌<◌, ◌-◌, ◌^◌, true, false, List, length, map, Option, Some, None, Vec, slice_get}
 use Rattle.std.specs.Global.{Global}
-use Rattle.std.specs.List.{list_all}
+use Rattle.std.specs.List.{list_all, list_any}
 use Rattle.std.specs.Option.{MatchOption}
 use Rattle.goal_graph.specs.declared.action.OpId.{OpId}
-use Rattle.goal_graph.specs.declared.plan.Kind.{Kind}
-use Rattle.goal_graph.specs.declared.plan.Kind.TheVariants.{Calc, Send, Recv}
-use Rattle.goal_graph.specs.Schedule.{Plan, kind_at, operations}
+use Rattle.goal_graph.specs.Schedule.{Plan, operations}
 use Rattle.sim_match.specs.declared.list_numbers.ListNumbers.{ListNumbers}
 use Rattle.sim_match.specs.declared.list_numbers.Others.{Others}
 use Rattle.sim_match.specs.declared.pattern.Pattern.{Pattern}
-use Rattle.sim_match.specs.Patterns.{number, own_list, names_a_source, names_a_tag, AreListed}
+use Rattle.sim_match.specs.declared.pattern.Wild.{Wild}
+use Rattle.sim_match.specs.declared.pattern.Wild.TheVariants.{AnyTag, AnySource, Any}
+use Rattle.sim_match.specs.Patterns.{own_list, wild_list, is_wild, names_a_source, names_a_tag, AreListed}
 
 -- what is kept of the number of a list, or of none
 abbrev pub coded : Option ℕ → ℕ
@@ -26,23 +26,24 @@ pub record AreNamed (keys : List Pattern) : Type 0 where
   pub sources : list_all names_a_source keys ≡ true
   pub tags : list_all names_a_tag keys ≡ true
 
--- what is kept of those lists of a send whose patterns take any source or any tag
-abbrev pub others_of : List Pattern → OpId → Option Kind → Others
-others_of keys m (Some (Calc nanos)) = record { any_tag = coded None; any_source = coded None; any = coded None }
-others_of keys m (Some (Send bytes to tag)) = record {
-  any_tag = coded (number keys (record { rank = to; from = Some m.rank; tag = None }));
-  any_source = coded (number keys (record { rank = to; from = None; tag = Some tag }));
-  any = coded (number keys (record { rank = to; from = None; tag = None }));
-}
-others_of keys m (Some (Recv room from tag)) = record { any_tag = coded None; any_source = coded None; any = coded None }
-others_of keys m None = record { any_tag = coded None; any_source = coded None; any = coded None }
+-- The numbers of the lists of a kind, of all operations, are kept unless no pattern is of the kind: then no send has such
+-- a list.
+abbrev pub AreWild : List Plan → List Pattern → Wild → Option (Vec ℕ Global) → Type 0
+AreWild plans keys wild kept = MatchOption kept (list_any (is_wild wild) keys ≡ false) (λ (numbers : Vec ℕ Global). numbers.items ≡ map (λ (x : OpId). coded (wild_list plans keys wild x)) (operations plans))
 
-abbrev pub others_at : List Plan → List Pattern → OpId → Others
-others_at plans keys x = others_of keys x (kind_at plans x)
+-- the number that is kept of the operation at that place
+abbrev pub IsWildAt : Option (Vec ℕ Global) → ℕ → Option ℕ → Type 0
+IsWildAt kept place found = MatchOption kept (found ≡ None) (λ (numbers : Vec ℕ Global). (number : Option ℕ) → slice_get numbers.items place ≡ Some (coded number) → IsCodable number → found ≡ number)
 
--- those of each operation are kept, unless each pattern names a source and a tag: then no send has such lists
-abbrev pub AreSought : List Plan → List Pattern → Option (Vec Others Global) → Type 0
-AreSought plans keys kept = MatchOption kept (AreNamed keys) (λ (others : Vec Others Global). others.items ≡ map (others_at plans keys) (operations plans))
+-- those of each kind
+pub record AreOthers (plans : List Plan) (keys : List Pattern) (others : Others) : Type 0 where
+  pub any_tag : AreWild plans keys AnyTag others.any_tag
+  pub any_source : AreWild plans keys AnySource others.any_source
+  pub any : AreWild plans keys Any others.any
+
+-- they are kept, unless each pattern names a source and a tag: then no send has such lists
+abbrev pub AreSought : List Plan → List Pattern → Option Others → Type 0
+AreSought plans keys kept = MatchOption kept (AreNamed keys) (AreOthers plans keys)
 
 -- the patterns of a schedule, fewer than 2^32-1, and the list of each operation's own
 pub record AreNumbered (plans : List Plan) (numbers : ListNumbers) : Type 0 where

@@ -1,5 +1,5 @@
 -- The patterns of receives, and the lists in which an operation stands.
-use Rattle.std.specs.Prelude.{ℕ, ◌≡◌, ◌<◌, ◌≤◌, ◌+◌, ◌==◌, ◌&&◌, Bool, false, List, [], ◌∷◌, length, map, Option, Some, None, is_some, position, slice_get}
+use Rattle.std.specs.Prelude.{ℕ, ◌≡◌, ◌<◌, ◌≤◌, ◌+◌, ◌==◌, ◌&&◌, not, Bool, false, List, [], ◌∷◌, length, map, Option, Some, None, is_some, position, slice_get}
 use Rattle.std.specs.List.{list_any, list_all}
 use Rattle.std.specs.List.Sorted.{IsStrictlySortedBy}
 use Rattle.std.specs.Option.{option_cmp}
@@ -11,6 +11,8 @@ use Rattle.goal_graph.specs.declared.plan.Kind.{Kind}
 use Rattle.goal_graph.specs.declared.plan.Kind.TheVariants.{Calc, Send, Recv}
 use Rattle.goal_graph.specs.Schedule.{Plan, kind_at, IsReceive}
 use Rattle.sim_match.specs.declared.pattern.Pattern.{Pattern}
+use Rattle.sim_match.specs.declared.pattern.Wild.{Wild}
+use Rattle.sim_match.specs.declared.pattern.Wild.TheVariants.{AnyTag, AnySource, Any}
 pub use Rattle.goal_graph.specs.Choices.{same_choice}
 
 abbrev pub same_pattern : Pattern → Pattern → Bool
@@ -26,6 +28,18 @@ names_a_source p = is_some p.from
 
 abbrev pub names_a_tag : Pattern → Bool
 names_a_tag p = is_some p.tag
+
+-- the pattern of that kind which a message fits
+abbrev pub wild_pattern : Wild → ℕ → ℕ → ℕ → Pattern
+wild_pattern AnyTag source to tag = record { rank = to; from = Some source; tag = None }
+wild_pattern AnySource source to tag = record { rank = to; from = None; tag = Some tag }
+wild_pattern Any source to tag = record { rank = to; from = None; tag = None }
+
+-- a pattern is of that kind
+abbrev pub is_wild : Wild → Pattern → Bool
+is_wild AnyTag p = is_some p.from && not (is_some p.tag)
+is_wild AnySource p = not (is_some p.from) && is_some p.tag
+is_wild Any p = not (is_some p.from) && not (is_some p.tag)
 
 -- the patterns before that place are of lower ranks
 abbrev pub AreLower : List Pattern → ℕ → ℕ → Type 0
@@ -96,6 +110,12 @@ abbrev pub list_number : List Pattern → Option Pattern → Option ℕ
 list_number keys None = None
 list_number keys (Some p) = number keys p
 
+abbrev pub wild_number : List Pattern → Wild → OpId → Option Kind → Option ℕ
+wild_number keys wild m (Some (Calc nanos)) = None
+wild_number keys wild m (Some (Send bytes to tag)) = number keys (wild_pattern wild m.rank to tag)
+wild_number keys wild m (Some (Recv room from tag)) = None
+wild_number keys wild m None = None
+
 abbrev pub numbers_for : List Pattern → OpId → Option Kind → List (Option ℕ)
 numbers_for keys m (Some (Calc nanos)) = []
 numbers_for keys m (Some (Send bytes to tag)) = map (number keys) (patterns_for m.rank to tag)
@@ -110,6 +130,10 @@ module _ (plans : List Plan) (keys : List Pattern) where
   -- the list of an operation's own pattern
   abbrev pub own_list : OpId → Option ℕ
   own_list x = list_number keys (own_pattern x (kind_at plans x))
+
+  -- the list of a send whose pattern is of that kind
+  abbrev pub wild_list : Wild → OpId → Option ℕ
+  wild_list wild x = wild_number keys wild x (kind_at plans x)
 
   -- the lists of a send, where the schedule has the patterns that it takes
   abbrev pub lists_for : OpId → List (Option ℕ)

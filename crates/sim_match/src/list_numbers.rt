@@ -3,20 +3,21 @@ ghost use Rattle.std.specs.Prelude.{ℕ, ◌≡◌, ◌<◌, ◌≤◌, ◌-◌,
 ghost use Rattle.goal_graph.specs.Schedule.{operations, IsSend, IsReceive};
 ghost use Rattle.std.specs.Option.{IfSome};
 ghost use Rattle.goal_graph.specs.Fault.{IsOp};
-ghost use Rattle.sim_match.specs.Patterns.{number, own_list, list_of, lists_for, AreListed};
-ghost use Rattle.sim_match.specs.ListNumbers.{coded, IsCodable, others_at, AreSought, AreNumbered};
+ghost use Rattle.sim_match.specs.Patterns.{number, own_list, wild_list, list_of, lists_for, AreListed};
+ghost use Rattle.sim_match.specs.ListNumbers.{coded, IsCodable, AreWild, IsWildAt, AreSought, AreNumbered};
 
-use crate::pattern::{Pattern, Patterns};
+use crate::pattern::{Pattern, Patterns, Wild};
 use goal_base::NoMemory;
 use goal_graph::{Kind, OpId, Sched};
 use std::alloc::{AllocError, Global};
 
-/// The numbers of those lists of a send whose patterns take any source or any tag, or `NO_LIST`.
-#[derive(Clone, Copy, Debug)]
+/// Of those lists of a send whose patterns take any source or any tag the numbers, by the places of the operations. A kind
+/// of which the schedule has no pattern is not kept.
+#[derive(Drop)]
 pub struct Others {
-    pub any_tag: u32,
-    pub any_source: u32,
-    pub any: u32,
+    pub any_tag: Option<Vec<u32>>,
+    pub any_source: Option<Vec<u32>>,
+    pub any: Option<Vec<u32>>,
 }
 
 /// For each operation, in the order of all, the number of the list of its own pattern: of what a receive asks for, and of
@@ -25,7 +26,7 @@ pub struct Others {
 #[derive(Drop)]
 pub struct ListNumbers {
     pub own: Vec<u32>,
-    pub others: Option<Vec<Others>>,
+    pub others: Option<Others>,
     pub count: usize,
 }
 
@@ -193,43 +194,67 @@ fn own_numbers(alloc: Global, sched: &Sched, patterns: &Patterns) -> Result<Vec<
     Ok(numbers)
 }
 
-// The numbers of a send's other lists, and none of an operation that is no send.
-fn others_of(patterns: &Patterns, sched: &Sched, id: OpId) -> Others
-    requires op { IsOp sched.now id }
-    requires few { length patterns.now < 2 ^ 32 - 1 }
-    ensures { result ≡ others_at sched.now patterns.now id }
+// The number of the list of a send whose pattern takes what that kind takes, where the schedule has it.
+fn wild_list(patterns: &Patterns, sched: &Sched, id: OpId, wild: Wild) -> Option<usize>
+    requires { IsOp sched.now id }
+    ensures { result ≡ wild_list sched.now patterns.now wild id }
 {
     match sched.op(id).kind {
-        Kind::Send { to, tag, .. } => Others {
-            any_tag: coded(patterns.number(Pattern::new(to, Some(id.rank), None))),
-            any_source: coded(patterns.number(Pattern::new(to, None, Some(tag)))),
-            any: coded(patterns.number(Pattern::new(to, None, None))),
-        },
-        Kind::Recv { .. } | Kind::Calc { .. } => Others {
-            any_tag: NO_LIST,
-            any_source: NO_LIST,
-            any: NO_LIST,
-        },
+        Kind::Send { to, tag, .. } => patterns.number(wild.pattern(id.rank, to, tag)),
+        Kind::Recv { .. } | Kind::Calc { .. } => None,
     }
 }
 
-// Those of all operations, where a pattern takes any source or any tag: else no send has any.
+// The numbers of the lists of that kind, by operation, where a pattern is of the kind: else no send has one.
+fn wild_numbers(
+    alloc: Global,
+    sched: &Sched,
+    patterns: &Patterns,
+    wild: Wild,
+) -> Result<Option<Vec<u32>>, AllocError>
+    requires { length patterns.now < 2 ^ 32 - 1 }
+    ensures { IfOk result (λ kept. AreWild sched.now patterns.now wild kept) }
+{
+    if !patterns.have(wild) {
+        return Ok(None);
+    }
+    let mut numbers = Vec::with_capacity(alloc, sched.count() as usize)?;
+    for id in sched.operations() {
+        let number = wild_list(patterns, sched, *id, wild);
+        numbers.push_reserved(coded(number));
+    }
+    Ok(Some(numbers))
+}
+
+// Those of all kinds, where a pattern takes any source or any tag.
 fn all_others(
     alloc: Global,
     sched: &Sched,
     patterns: &Patterns,
-) -> Result<Option<Vec<Others>>, AllocError>
+) -> Result<Option<Others>, AllocError>
     requires { length patterns.now < 2 ^ 32 - 1 }
     ensures { IfOk result (λ others. AreSought sched.now patterns.now others) }
 {
     if patterns.name_all() {
         return Ok(None);
     }
-    let mut others = Vec::with_capacity(alloc, sched.count() as usize)?;
-    for id in sched.operations() {
-        others.push_reserved(others_of(patterns, sched, *id));
+    Ok(Some(Others {
+        any_tag: wild_numbers(alloc, sched, patterns, Wild::AnyTag)?,
+        any_source: wild_numbers(alloc, sched, patterns, Wild::AnySource)?,
+        any: wild_numbers(alloc, sched, patterns, Wild::Any)?,
+    }))
+}
+
+// The number of the list of the operation at that place, of those that are kept.
+#[inline(always)]
+fn wild_at(kept: &Option<Vec<u32>>, place: usize) -> Option<usize>
+    requires { IfSome kept.now (λ numbers. place < length numbers.items) }
+    ensures { IsWildAt kept.now place result }
+{
+    match kept {
+        None => None,
+        Some(numbers) => decoded(numbers[place]),
     }
-    Ok(Some(others))
 }
 
 impl ListNumbers {
@@ -286,12 +311,12 @@ impl ListNumbers {
         match &self.others {
             None => [own, None, None, None],
             Some(others) => {
-                let others = others[sched.index(send) as usize];
+                let place = sched.index(send) as usize;
                 [
                     own,
-                    decoded(others.any_tag),
-                    decoded(others.any_source),
-                    decoded(others.any),
+                    wild_at(&others.any_tag, place),
+                    wild_at(&others.any_source, place),
+                    wild_at(&others.any, place),
                 ]
             }
         }
