@@ -1,14 +1,14 @@
 -- A run beside a heap: what the slots have, where the least is, and what a step changes.
 use Rattle.std.proofs.Common.{◌≡◌, ◌≢◌, ◌⊎◌, ℕ, zero, suc, ◌-◌, ◌^◌, ◌<◌, ◌≤◌, ◌++◌, ◌∷◌, [], Bool, true, false, List, length, drop, slice_get, slice_set, Option, Some, None, refl, sym, subst, ap, ◌∙◌, arith, inl, inr}
 use Rattle.std.specs.Prelude.{not}
-use Rattle.std.proofs.lemmas.List.{get_or-set_other, length-set, length-append}
+use Rattle.std.proofs.lemmas.List.{get_or-set_same, get_or-set_other, length-set, length-append}
 use Rattle.std.proofs.lemmas.Option.{same_Some, slice_get_within}
 use Rattle.goal_base.specs.declared.limits.TheConstants.{MAX_OPS}
 use Rattle.sim_order.specs.Order.{IsOrder}
 use Rattle.sim_heaps.specs.Item.{Item}
 use Rattle.sim_heaps.specs.Map.{either, key_at, IsEmptyMap, IsLeast, IsSoleLeast}
 use Rattle.sim_heaps.specs.TopHeap.{placed, AreApart}
-use Rattle.sim_heaps.specs.RunHeap.{joined, with_run, AreInOrder, IsBehind, IsRun, IsRunFirst, HasOneFirst, IsHeapFirst}
+use Rattle.sim_heaps.specs.RunHeap.{joined, with_run, AreInOrder, IsBehind, IsAhead, IsNotAhead, IsRun, IsRunFirst, HasOneFirst, IsHeapFirst}
 use Rattle.sim_heaps.proofs.Items.{length-placed, held, keeps, items_fit, tail_apart, Holds, item_of}
 use Rattle.sim_heaps.proofs.ItemChanges.{at_end, still_there, added_apart, added_placed, without}
 use Rattle.sim_heaps.proofs.Joined.{length-joined, joined_at, nothing_first, put_first, drop_first, set_second}
@@ -212,6 +212,65 @@ module _ {K : Type 0} (before : K → K → Bool) (laws : IsOrder before) (run :
             subst (HasOneFirst before heap) p.1
             (record { slot = one.slot; key = one.key; has = one.has; first = through before laws x.key y.key one.key (behind 0 y stands) one.first })
 
+  -- an item stands before the first of the run
+  module _ (x : Item K) (slot_in : x.slot < length heap) (free : key_at (with_run run heap) x.slot ≡ None) where
+    abbrev led : List (Item K)
+    led = x ∷ run
+
+    not_there : (place : ℕ) (y : Item K) → slice_get run place ≡ Some y → y.slot ≢ x.slot
+    not_there place y e s =
+        let has : key_at in_run x.slot ≡ Some y.key = ap (key_at in_run) (sym s) ∙ keeps (length heap) run is.apart place y e in
+        let none = free_in_run x.slot free in
+        absurd (cc)
+
+    pub led_apart : AreApart (length heap) led
+    led_apart = record { within = within; apart = apart }
+      where
+        within : (place : ℕ) (y : Item K) → slice_get led place ≡ Some y → y.slot < length heap
+        within zero y e = subst (λ (z : Item K). z.slot < length heap) (same_Some x y e) slot_in
+        within (suc place) y e = is.apart.within place y e
+
+        apart : (one other : ℕ) (y z : Item K) → slice_get led one ≡ Some y → slice_get led other ≡ Some z → y.slot ≡ z.slot → one ≡ other
+        apart zero zero y z e f s = refl
+        apart zero (suc other) y z e f s = absurd (not_there other z f (sym s ∙ ap (λ (w : Item K). w.slot) (sym (same_Some x y e))))
+        apart (suc one) zero y z e f s = absurd (not_there one y e (s ∙ ap (λ (w : Item K). w.slot) (sym (same_Some x z f))))
+        apart (suc one) (suc other) y z e f s = ap suc (is.apart.apart one other y z e f s)
+
+    pub led_keys : with_run led heap ≡ slice_set (with_run run heap) x.slot (Some x.key)
+    unfolding placed
+    led_keys = put_first in_run heap each x.slot x.key
+
+    module _ (ahead : IsAhead before run x) where
+      pub led_run : IsRun before led heap
+      led_run = record { few = is.few; apart = led_apart; beside = beside; in_order = in_order }
+        where
+          beside : (place : ℕ) (y : Item K) → slice_get led place ≡ Some y → key_at heap y.slot ≡ None
+          beside zero y e = subst (λ (z : Item K). key_at heap z.slot ≡ None) (same_Some x y e) (free_in_heap x.slot free)
+          beside (suc place) y e = is.beside place y e
+
+          in_order : (one other : ℕ) (y z : Item K) → one < other → slice_get led one ≡ Some y → slice_get led other ≡ Some z → before z.key y.key ≡ false
+          in_order zero zero y z h e f = absurd (omega (arith, h))
+          in_order zero (suc other) y z h e f = subst (λ (w : Item K). before z.key w.key ≡ false) (same_Some x y e) (ahead other z f)
+          in_order (suc one) zero y z h e f = absurd (omega (arith, h))
+          in_order (suc one) (suc other) y z h e f = is.in_order one other y z (omega (arith, h)) e f
+
+      pub led_first : IsRunFirst before run heap → IsRunFirst before led heap
+      led_first r = record {
+        first = x;
+        stands = refl;
+        least = λ slot k e. through before laws k r.first.key x.key (r.least slot k e) (ahead 0 r.first r.stands);
+      }
+
+    -- it comes into the heap, where it is not before the first
+    pub among_first : IsNotAhead before run x → IsRunFirst before run heap → IsRunFirst before run (slice_set heap x.slot (Some x.key))
+    among_first late r = record { first = r.first; stands = r.stands; least = λ slot k e. go slot k e (same_or_not slot x.slot) }
+      where
+        go : (slot : ℕ) (k : K) → key_at (slice_set heap x.slot (Some x.key)) slot ≡ Some k → (slot ≡ x.slot) ⊎ (slot ≢ x.slot) → before k r.first.key ≡ false
+        go slot k e (inl s) =
+            let same : x.key ≡ k = same_Some x.key k (sym (get_or-set_same heap x.slot (Some x.key) None slot_in) ∙ ap (key_at (slice_set heap x.slot (Some x.key))) (sym s) ∙ e) in
+            subst (λ j. before j r.first.key ≡ false) same (late r.first r.stands)
+        go slot k e (inr n) = r.least slot k (sym (get_or-set_other heap x.slot slot (Some x.key) None n) ∙ e)
+
 -- the first item leaves the run
 module _ {K : Type 0} (before : K → K → Bool) (laws : IsOrder before) (x : Item K) (rest : List (Item K)) (heap : List (Option K)) (is : IsRun before (x ∷ rest) heap) where
   pub left_run : IsRun before rest heap
@@ -276,6 +335,20 @@ module _ {K : Type 0} (before : K → K → Bool) (laws : IsOrder before) (run :
       go : (place ≡ length run - 1) ⊎ (place ≢ length run - 1) → before x.key y.key ≡ false
       go (inl s) = subst (λ (z : Item K). before x.key z.key ≡ false) (same_Some last y (sym stands ∙ ap (slice_get run) (sym s) ∙ e)) late
       go (inr n) = through before laws x.key last.key y.key late (in_order place (length run - 1) y last (omega (arith, within, n)) e stands)
+
+  -- an item that is before the first is before all
+  pub ahead_of_first : AreInOrder before run → (first x : Item K) → slice_get run 0 ≡ Some first → before x.key first.key ≡ true → IsAhead before run x
+  ahead_of_first in_order first x stands early place y e = go place e
+    where
+      late : before first.key x.key ≡ false
+      late = not_both before laws x.key first.key early
+
+      go : (at : ℕ) → slice_get run at ≡ Some y → before y.key x.key ≡ false
+      go zero f = subst (λ (z : Item K). before z.key x.key ≡ false) (same_Some first y (sym stands ∙ f)) late
+      go (suc at) f = through before laws y.key first.key x.key (in_order 0 (suc at) first y (omega arith) stands f) late
+
+  pub not_ahead_of_first : (first x : Item K) → slice_get run 0 ≡ Some first → before x.key first.key ≡ false → IsNotAhead before run x
+  not_ahead_of_first first x stands late y e = subst (λ (z : Item K). before x.key z.key ≡ false) (same_Some first y (sym stands ∙ e)) late
 
   pub behind_none : length run ≡ 0 → (x : Item K) → IsBehind before run x
   behind_none none x place y e = let within = slice_get_within run place y e in absurd (omega (arith, within, none))

@@ -25,6 +25,14 @@ module _ {K : Type 0} (before : K → K → Bool) where
   abbrev pub IsBehind : List (Item K) → Item K → Type 0
   IsBehind run x = (place : ℕ) (y : Item K) → slice_get run place ≡ Some y → before x.key y.key ≡ false
 
+  -- no item of the run is before the item
+  abbrev pub IsAhead : List (Item K) → Item K → Type 0
+  IsAhead run x = (place : ℕ) (y : Item K) → slice_get run place ≡ Some y → before y.key x.key ≡ false
+
+  -- the item is not before the first of the run
+  abbrev pub IsNotAhead : List (Item K) → Item K → Type 0
+  IsNotAhead run x = (y : Item K) → slice_get run 0 ≡ Some y → before x.key y.key ≡ false
+
   -- the run is in order, and each of its items has a slot of its own, which has no key in the heap
   pub record IsRun (run : List (Item K)) (heap : List (Option K)) : Type 0 where
     pub few : length heap ≤ MAX_OPS
