@@ -8,7 +8,7 @@ use Rattle.std.proofs.lemmas.List.{take_rest, get_or-drop, get_or-take, drop_mor
 use Rattle.std.specs.List.{list_all}
 use Rattle.goal_lexer.specs.declared.tokens.Token.{Token}
 use Rattle.goal_lexer.specs.declared.tokens.TokenKind.{TokenKind}
-use Rattle.goal_lexer.specs.declared.tokens.TokenKind.TheVariants.{Number, Size, Label, Colon}
+use Rattle.goal_lexer.specs.declared.tokens.TokenKind.TheVariants.{Number, Size, Label, Colon, Cpu, Nic}
 use Rattle.goal_lexer.specs.declared.mode.Form.TheVariants.{Word}
 use Rattle.goal_lexer.specs.declared.mode.Mode.{Mode}
 use Rattle.goal_lexer.specs.declared.mode.Mode.TheVariants.{Between, Run}
@@ -80,6 +80,10 @@ value_of_two b c one two = omega (arith, one, two)
 value_of_three : (b c d : ℕ) → b ≤ 57 → c ≤ 57 → d ≤ 57 → number_value (b ∷ c ∷ d ∷ []) ≡ ((b - 48) * 10 + (c - 48)) * 10 + (d - 48)
 value_of_three b c d one two three = omega (arith, one, two, three)
 
+value_of_four : (b c d e : ℕ) → b ≤ 57 → c ≤ 57 → d ≤ 57 → e ≤ 57 →
+    number_value (b ∷ c ∷ d ∷ e ∷ []) ≡ (((b - 48) * 10 + (c - 48)) * 10 + (d - 48)) * 10 + (e - 48)
+value_of_four b c d e one two three four = omega (arith, one, two, three, four)
+
 -- the value of a digit
 digit_value : (piece : List ℕ) → 2 ≤ length piece → get_or piece 1 0 ≤ 57 → get_or piece 1 0 - 48 ≡ number_value (take 1 (behind 1 piece))
 digit_value [] long most = absurd (omega (arith, long))
@@ -106,7 +110,7 @@ one_digit_ahead place value piece long blank digit most ends is =
     ends
     (is ∙ digit_value piece (omega (arith, long)) most)
 
--- the value of two digits, and that of three
+-- the value of two digits, that of three, and that of four
 digits_value_2 : (piece : List ℕ) → 3 ≤ length piece → get_or piece 1 0 ≤ 57 → get_or piece 2 0 ≤ 57 →
     (get_or piece 1 0 - 48) * 10 + (get_or piece 2 0 - 48) ≡ number_value (take 2 (behind 1 piece))
 digits_value_2 [] long one two = absurd (omega (arith, long))
@@ -124,7 +128,18 @@ digits_value_3 (a ∷ b ∷ c ∷ []) long one two three = absurd (omega (arith,
 digits_value_3 (a ∷ b ∷ c ∷ d ∷ es) long one two three =
     sym (ap (λ (ys : List ℕ). number_value (take 3 ys)) (take_rest (a ∷ b ∷ c ∷ d ∷ es) 1) ∙ value_of_three b c d one two three)
 
--- what holds at each of two places, or of three
+digits_value_4 : (piece : List ℕ) → 5 ≤ length piece → get_or piece 1 0 ≤ 57 → get_or piece 2 0 ≤ 57 → get_or piece 3 0 ≤ 57 → get_or piece 4 0 ≤ 57 →
+    (((get_or piece 1 0 - 48) * 10 + (get_or piece 2 0 - 48)) * 10 + (get_or piece 3 0 - 48)) * 10 + (get_or piece 4 0 - 48)
+    ≡ number_value (take 4 (behind 1 piece))
+digits_value_4 [] long one two three four = absurd (omega (arith, long))
+digits_value_4 (a ∷ []) long one two three four = absurd (omega (arith, long))
+digits_value_4 (a ∷ b ∷ []) long one two three four = absurd (omega (arith, long))
+digits_value_4 (a ∷ b ∷ c ∷ []) long one two three four = absurd (omega (arith, long))
+digits_value_4 (a ∷ b ∷ c ∷ d ∷ []) long one two three four = absurd (omega (arith, long))
+digits_value_4 (a ∷ b ∷ c ∷ d ∷ e ∷ fs) long one two three four =
+    sym (ap (λ (ys : List ℕ). number_value (take 4 ys)) (take_rest (a ∷ b ∷ c ∷ d ∷ e ∷ fs) 1) ∙ value_of_four b c d e one two three four)
+
+-- what holds at each of two places, of three, or of four
 each_of_2 : (P : ℕ → Type 0) → P 0 → P 1 → (k : ℕ) → k < 2 → P k
 each_of_2 P one two zero few = one
 each_of_2 P one two (suc zero) few = two
@@ -136,6 +151,13 @@ each_of_3 P one two three (suc zero) few = two
 each_of_3 P one two three (suc (suc zero)) few = three
 each_of_3 P one two three (suc (suc (suc k))) few = absurd (omega (arith, few))
 
+each_of_4 : (P : ℕ → Type 0) → P 0 → P 1 → P 2 → P 3 → (k : ℕ) → k < 4 → P k
+each_of_4 P one two three four zero few = one
+each_of_4 P one two three four (suc zero) few = two
+each_of_4 P one two three four (suc (suc zero)) few = three
+each_of_4 P one two three four (suc (suc (suc zero))) few = four
+each_of_4 P one two three four (suc (suc (suc (suc k)))) few = absurd (omega (arith, few))
+
 -- one space is a blank
 one_space : (piece : List ℕ) → 1 ≤ length piece → get_or piece 0 0 ≡ 32 → AreBlanks piece 1
 one_space piece long blank =
@@ -145,7 +167,7 @@ one_space piece long blank =
 digit_there : (piece : List ℕ) (k : ℕ) → is_digit (get_or piece (1 + k) 0) ≡ true → is_digit (get_or (behind 1 piece) k 0) ≡ true
 digit_there piece k is = ap is_digit (get_or-behind piece 1 k) ∙ is
 
--- two digits behind a space, and three
+-- two digits behind a space, three, and four
 pub two_digits_ahead : (place value : ℕ) (piece : List ℕ) → 3 < length piece → get_or piece 0 0 ≡ 32 →
     is_digit (get_or piece 1 0) ≡ true → is_digit (get_or piece 2 0) ≡ true → is_run_byte (get_or piece 3 0) ≡ false →
     value ≡ (get_or piece 1 0 - 48) * 10 + (get_or piece 2 0 - 48) →
@@ -164,6 +186,17 @@ three_digits_ahead place value piece long blank one two three ends is =
     digits_ahead place 1 3 value piece (one_space piece (omega (arith, long)) blank) (omega arith) long (omega arith)
     (each_of_3 (λ (k : ℕ). is_digit (get_or (behind 1 piece) k 0) ≡ true) (digit_there piece 0 one) (digit_there piece 1 two) (digit_there piece 2 three)) ends
     (is ∙ digits_value_3 piece (omega (arith, long)) (most_of_digit _ one) (most_of_digit _ two) (most_of_digit _ three))
+
+pub four_digits_ahead : (place value : ℕ) (piece : List ℕ) → 5 < length piece → get_or piece 0 0 ≡ 32 →
+    is_digit (get_or piece 1 0) ≡ true → is_digit (get_or piece 2 0) ≡ true → is_digit (get_or piece 3 0) ≡ true →
+    is_digit (get_or piece 4 0) ≡ true → is_run_byte (get_or piece 5 0) ≡ false →
+    value ≡ (((get_or piece 1 0 - 48) * 10 + (get_or piece 2 0 - 48)) * 10 + (get_or piece 3 0 - 48)) * 10 + (get_or piece 4 0 - 48) →
+    IsAhead place piece 5 true (record { kind = Number value; start = place + 1; end = place + 5 } ∷ [])
+four_digits_ahead place value piece long blank one two three four ends is =
+    digits_ahead place 1 4 value piece (one_space piece (omega (arith, long)) blank) (omega arith) long (omega arith)
+    (each_of_4 (λ (k : ℕ). is_digit (get_or (behind 1 piece) k 0) ≡ true) (digit_there piece 0 one) (digit_there piece 1 two) (digit_there piece 2 three)
+    (digit_there piece 3 four)) ends
+    (is ∙ digits_value_4 piece (omega (arith, long)) (most_of_digit _ one) (most_of_digit _ two) (most_of_digit _ three) (most_of_digit _ four))
 
 -- a size behind blanks
 pub size_found : (place blanks count value : ℕ) (piece : List ℕ) → AreBlanks piece blanks → 0 < count →
@@ -293,3 +326,51 @@ spaced_found place (c ∷ cs) (s ∷ ss) space is short inside same ends =
     (omega arith, λ k few. subst (λ (j : ℕ). is_blank (get_or (c ∷ cs) j 0) ≡ true) (first k few) (ap is_blank space_first))
     is (omega (arith, short)) (omega (arith, inside)) behind_first
     (subst (λ (n : ℕ). is_run_byte (get_or (c ∷ cs) n 0) ≡ false) (sym long) ends))
+
+-- the bytes of ` cpu 0 nic 0`
+abbrev pub no_places : List ℕ
+no_places = 32 ∷ 99 ∷ 112 ∷ 117 ∷ 32 ∷ 48 ∷ 32 ∷ 110 ∷ 105 ∷ 99 ∷ 32 ∷ 48 ∷ []
+
+-- their tokens
+no_places_run : (place : ℕ) → IsRun (scan Between place no_places).0
+unfolding scan
+no_places_run place = tt
+
+no_places_scan : (place : ℕ) → (cpu zero nic none : Token) × (cpu.kind ≡ Cpu) × (zero.kind ≡ Number 0) × (nic.kind ≡ Nic) × (none.kind ≡ Number 0)
+    × (ended (place + 12) (scan Between place no_places) ≡ (Between, cpu ∷ zero ∷ nic ∷ none ∷ []))
+unfolding scan
+no_places_scan place =
+    let four = place + 1 + 1 + 1 + 1 in
+    let six = four + 1 + 1 in
+    let ten = six + 1 + 1 + 1 + 1 in (
+      record { kind = Cpu; start = place + 1; end = four },
+      record { kind = Number 0; start = four + 1; end = six },
+      record { kind = Nic; start = six + 1; end = ten },
+      record { kind = Number 0; start = ten + 1; end = place + 12 },
+      refl,
+      refl,
+      refl,
+      refl,
+      refl,
+    )
+
+pub no_places_found : (place : ℕ) (piece : List ℕ) → 12 < length piece → take 12 piece ≡ no_places → is_run_byte (get_or piece 12 0) ≡ false →
+    (cpu zero nic none : Token) × (cpu.kind ≡ Cpu) × (zero.kind ≡ Number 0) × (nic.kind ≡ Nic) × (none.kind ≡ Number 0)
+    × IsAhead place piece 12 true (cpu ∷ zero ∷ nic ∷ none ∷ [])
+no_places_found place piece inside same ends =
+    let known = no_places_scan place in (
+      known.0,
+      known.1,
+      known.2,
+      known.3,
+      known.4,
+      known.5,
+      known.6,
+      known.7,
+      (
+        inside,
+        ap begins_run (drop_more piece 12 0 inside) ∙ ends,
+        subst (λ (l : List ℕ). IsRun (scan Between place l).0) (sym same) (no_places_run place),
+        ap (λ (l : List ℕ). ended (place + 12) (scan Between place l)) same ∙ known.8,
+      ),
+    )

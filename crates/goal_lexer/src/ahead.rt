@@ -4,6 +4,7 @@
 //! [`crate::Lexer::go_on`]. Each finds less than a text may have: a token that isn't found so is taken by
 //! [`crate::Lexer::next_token_into`].
 ghost use Rattle.std.specs.Prelude.{◌≡◌, ℕ, ◌+◌, ◌-◌, ◌<◌, ◌≤◌, true, false, [], ◌∷◌, length, take, drop, bytes_eq};
+ghost use Rattle.goal_lexer.specs.declared.tokens.Token.{Token};
 ghost use Rattle.goal_lexer.specs.Ahead.{AreBlanks, is_word, IsAhead};
 ghost use Rattle.goal_lexer.specs.Words.{word_kind};
 
@@ -113,6 +114,19 @@ pub fn spaced_word_ahead(rest: &[u8], spaced: &[u8]) -> usize
     end
 }
 
+/// Whether ` cpu 0 nic 0` stands in front, and ends inside the piece.
+#[inline(always)]
+pub fn begins_with_no_places(rest: &[u8]) -> bool
+    ensures { result ≡ true → (place : ℕ) → (cpu zero nic none : Token)
+        × (cpu.kind ≡ TokenKind.Cpu) × (zero.kind ≡ TokenKind.Number 0) × (nic.kind ≡ TokenKind.Nic) × (none.kind ≡ TokenKind.Number 0)
+        × IsAhead place rest.now 12 true (cpu ∷ zero ∷ nic ∷ none ∷ []) }
+{
+    if rest.len() <= 12 || !begins_with(rest, b" cpu 0 nic 0") || is_run_byte(rest[12]) {
+        return false;
+    }
+    true
+}
+
 /// Whether a colon stands in front.
 #[inline(always)]
 pub fn begins_with_colon(rest: &[u8]) -> bool
@@ -136,14 +150,14 @@ fn long_number_ahead(rest: &[u8]) -> Amount
     Amount { count: end, value }
 }
 
-/// The number that stands ahead, where it ends inside the piece and has few digits. Most numbers are one to three digits behind
+/// The number that stands ahead, where it ends inside the piece and has few digits. Most numbers are one to four digits behind
 /// a space.
 #[inline(always)]
 pub fn number_ahead(rest: &[u8]) -> Amount
     ensures within { result.count ≤ length rest.now }
     ensures ahead { 0 < result.count → (place : ℕ) → (start : ℕ) × IsAhead place rest.now result.count true (record { kind = TokenKind.Number result.value; start = start; end = place + result.count } ∷ []) }
 {
-    if rest.len() < 5 || rest[0] != b' ' || !is_digit(rest[1]) {
+    if rest.len() < 6 || rest[0] != b' ' || !is_digit(rest[1]) {
         return long_number_ahead(rest);
     }
     let ones = u64::from(rest[1] - b'0');
@@ -163,11 +177,21 @@ pub fn number_ahead(rest: &[u8]) -> Amount
             value: tens,
         };
     }
-    if !is_digit(rest[3]) || is_run_byte(rest[4]) {
+    if !is_digit(rest[3]) {
         return long_number_ahead(rest);
     }
-    let value = tens * 10 + u64::from(rest[3] - b'0');
-    Amount { count: 4, value }
+    let hundreds = tens * 10 + u64::from(rest[3] - b'0');
+    if !is_run_byte(rest[4]) {
+        return Amount {
+            count: 4,
+            value: hundreds,
+        };
+    }
+    if !is_digit(rest[4]) || is_run_byte(rest[5]) {
+        return long_number_ahead(rest);
+    }
+    let value = hundreds * 10 + u64::from(rest[4] - b'0');
+    Amount { count: 5, value }
 }
 
 /// The size that stands ahead, where it ends inside the piece and has few digits.
