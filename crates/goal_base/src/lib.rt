@@ -28,6 +28,3 @@ pub use output::write_file;
 pub use read::{ReadAll, read_all};
 pub use text::TextOut;
 pub use write::{WriteStop, write_all};
-
-#[cfg(test)]
-mod tests;

@@ -19,6 +19,3 @@ pub use encoding::{encode, encode_old};
 pub use fault::FileFault;
 pub use laws::laws_of_files;
 pub use layout::MAGIC;
-
-#[cfg(test)]
-mod tests;

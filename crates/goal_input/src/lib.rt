@@ -6,8 +6,6 @@
 mod intake;
 mod laws;
 mod read;
-#[cfg(test)]
-mod tests;
 mod unread;
 
 pub use laws::laws_of_inputs;

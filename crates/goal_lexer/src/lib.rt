@@ -18,8 +18,6 @@ mod mode;
 mod numbers;
 mod scanning;
 mod stretches;
-#[cfg(test)]
-mod tests;
 mod tokens;
 mod whole;
 mod words;

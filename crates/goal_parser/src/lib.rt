@@ -31,8 +31,6 @@ mod plans;
 mod ranks;
 mod reader;
 mod sentence;
-#[cfg(test)]
-mod tests;
 mod text;
 mod token_faults;
 

@@ -8,8 +8,6 @@ mod again;
 mod laws;
 mod pages;
 mod print;
-#[cfg(test)]
-mod tests;
 
 pub use again::read_printed;
 pub use laws::laws_of_canonical_texts;

@@ -20,8 +20,6 @@ mod laws;
 mod line;
 mod options;
 mod sentence;
-#[cfg(test)]
-mod tests;
 mod words_left;
 
 pub use laws::laws_of_lines;

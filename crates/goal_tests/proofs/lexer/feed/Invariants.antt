@@ -1,6 +1,6 @@
 use Rattle.std.proofs.Common.{◌≡◌, ◌≤◌, ◌<◌, ◌+◌, ◌-◌, ◌*◌, length, drop, true, false, if◌then◌else◌}
 use Rattle.goal_lexer.specs.Stands.{begins_run}
-use Rattle.goal_lexer.proofs.tests.feed.Given as goal
+use Rattle.goal_tests.proofs.lexer.feed.Given as goal
 
 abbrev pub invariant-loop-at : goal.invariant-loop-at
 invariant-loop-at l = record {

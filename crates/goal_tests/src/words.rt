@@ -1,5 +1,5 @@
-use crate::{Line, LineFault, read_words};
 use goal_blocks::Collective;
+use goal_words::{Line, LineFault, read_words};
 use std::alloc::{AllocError, Global};
 use std::process::Abort;
 use std::test::Fail;

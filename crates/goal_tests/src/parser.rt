@@ -1,10 +1,8 @@
 //! What no clause says: the faults of texts that are written out.
 ghost use Rattle.std.specs.Prelude.{◌≤◌, length};
 
-use crate::faults::TextFault;
-use crate::pieces::TextReader;
-use crate::text::read_text;
 use goal_graph::Sched;
+use goal_parser::{TextFault, TextReader, read_text};
 use std::alloc::Global;
 use std::test::Fail;
 

@@ -1,9 +1,7 @@
 //! What no clause says: the words and signs as they are written, and that each call can succeed.
 ghost use Rattle.std.specs.Prelude.{◌≡◌, ◌+◌, ◌<◌, ◌≤◌, ◌^◌, length, false, None, IfOk};
 
-use crate::labels::Label;
-use crate::lexing::Lexer;
-use crate::tokens::{LexFault, Token, TokenKind};
+use goal_lexer::{Label, LexFault, Lexer, Token, TokenKind};
 use std::alloc::{AllocError, Global};
 use std::test::Fail;
 
@@ -69,8 +67,7 @@ fn only_kind(text: &[u8]) -> Result<Option<TokenKind>, LexFault>
 
 #[test]
 fn kinds(rt: HostRuntime) -> Result<(), Fail> {
-    let mut label = Label::of_byte(b'_');
-    label.push(b'9');
+    let label = Label::of(b"_9");
     for (text, kind) in [
         ("num_ranks", TokenKind::NumRanks),
         ("rank", TokenKind::Rank),

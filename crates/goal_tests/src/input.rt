@@ -1,11 +1,10 @@
 // Inputs that come in pieces, cut at each place.
 ghost use Rattle.std.specs.Prelude.{◌<◌};
 
-use crate::read::read_schedule;
-use crate::unread::Unread;
 use goal_base::MemHost;
 use goal_binary::FileFault;
 use goal_graph::PlanFault;
+use goal_input::{Unread, read_schedule};
 use goal_parser::TextFault;
 use std::alloc::Global;
 use std::process::Abort;

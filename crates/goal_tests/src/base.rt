@@ -1,4 +1,6 @@
-use super::*;
+use goal_base::{
+    Host, IoFault, MemHost, MemSink, ReadAll, TextOut, WriteStop, read_all, write_all, write_file,
+};
 use std::test::Fail;
 
 // A line, of which a sink below takes the first 20 bytes.

@@ -1,10 +1,8 @@
 //! What no clause says: that the calls succeed, and the faults of files that are written out.
 ghost use Rattle.std.specs.Prelude.{◌≡◌, IfOk, IsOkUnless};
 
-use crate::decoding::decode;
-use crate::encoding::{encode, encode_old};
-use crate::fault::FileFault;
 use goal_base::NoMemory;
+use goal_binary::{FileFault, decode, encode, encode_old};
 use goal_graph::{Dep, Kind, Note, Op, PlanFault, RankPlan, Sched, When};
 use std::alloc::{AllocError, Global};
 use std::test::Fail;
@@ -33,7 +31,7 @@ const OLD_MESSAGE: [u8; 88] = [
 ];
 
 /// A rank with this operation alone, on cpu 0 and interface 0.
-fn plan_of(alloc: Global, kind: Kind) -> Result<RankPlan, AllocError> {
+pub fn plan_of(alloc: Global, kind: Kind) -> Result<RankPlan, AllocError> {
     Ok(RankPlan {
         ops: vec![in alloc;
             Op {
@@ -48,7 +46,7 @@ fn plan_of(alloc: Global, kind: Kind) -> Result<RankPlan, AllocError> {
 }
 
 /// The schedule of the message.
-fn message(alloc: Global) -> Result<Sched, PlanFault> {
+pub fn message(alloc: Global) -> Result<Sched, PlanFault> {
     let send = Kind::Send {
         bytes: 10,
         to: 1,
