@@ -191,6 +191,37 @@ fn number_by(entries: &[Entry], bytes: &[u8], label: &[u8], near: usize) -> usiz
     }
 }
 
+// The last byte of a label, or 0 where it has none.
+#[inline(always)]
+fn last_of(label: &[u8]) -> usize
+    ensures { result < 2 ^ 8 }
+{
+    match label.last() {
+        Some(byte) => usize::from(*byte),
+        None => 0,
+    }
+}
+
+// The same by the last digit alone, for a label that stands a few labels from the other.
+#[inline(always)]
+fn number_beside(entries: &[Entry], bytes: &[u8], label: &[u8], near: usize) -> usize
+    requires held { AreHeld bytes.now entries.now }
+{
+    let Some(entry) = entries.get(near) else {
+        return near;
+    };
+    let here = last_of(label);
+    let there = last_of(label_of(bytes, entry));
+    let number = near.wrapping_add(here).wrapping_sub(there);
+    if here + 5 < there {
+        number.wrapping_add(10)
+    } else if there + 5 < here {
+        number.wrapping_sub(10)
+    } else {
+        number
+    }
+}
+
 // The order of labels: by their lengths, and those of one length by their bytes.
 #[inline(always)]
 fn order(one: &[u8], other: &[u8]) -> Ordering
@@ -256,6 +287,19 @@ fn find_at_end(entries: &[Entry], bytes: &[u8], label: &[u8]) -> Option<Found>
         Ordering::Less => Some(Found::Behind),
         Ordering::Equal => Some(Found::At(entries.len() - 1)),
         Ordering::Greater => None,
+    }
+}
+
+// Whether a label goes just behind the last of labels that ascend, as l9 goes behind l8.
+#[inline(always)]
+fn goes_just_behind(entries: &[Entry], bytes: &[u8], label: &[u8]) -> bool
+    requires held { AreHeld bytes.now entries.now }
+    requires ascending { AreAscending (entries_of bytes.now entries.now) }
+    ensures { result ≡ true → AreBefore (entries_of bytes.now entries.now) label.now }
+{
+    match entries.last() {
+        Some(last) => is_just_before(label_of(bytes, last), label),
+        None => false,
     }
 }
 
@@ -587,6 +631,17 @@ impl LabelMap {
         Ok(())
     }
 
+    // Whether all labels ascend, and a label goes just behind the last.
+    #[inline(always)]
+    fn is_next(&self, label: &[u8]) -> bool
+        ensures { result ≡ true → AreBefore self.now label.now }
+    {
+        if !self.chains.links.is_empty() {
+            return false;
+        }
+        goes_just_behind(&self.entries, &self.bytes, label)
+    }
+
     // Adds a label that goes behind all others.
     #[inline(always)]
     fn add_behind(&mut self, label: &[u8], slot: Slot) -> Result<(), AllocError>
@@ -626,21 +681,37 @@ impl LabelMap {
         self.find(label)
     }
 
+    // A guessed number of a label, where it is right. It is then the one that was found last.
+    #[inline(always)]
+    fn find_guessed(&mut self, label: &[u8], guess: usize) -> Option<usize>
+        ensures found { IfSome result (IsAt self.new label.now) }
+        ensures unique { AreUnique self.new }
+        ensures kept { self.new ≡ self.old }
+    {
+        if !is_at(&self.entries, &self.bytes, label, guess) {
+            return None;
+        }
+        let [newest, second, third, _] = self.recent;
+        self.recent = [guess, newest, second, third];
+        Some(guess)
+    }
+
     // The number of a label to which the numbers found last lead: mentions mostly go on as they did, each second one with a step
-    // of its own, as in `l4 requires l3` behind `l2 requires l1`.
+    // of its own, as in `l4 requires l3` behind `l2 requires l1`. Else most stand a few labels from that found last, as in
+    // `l4 requires l3` behind `l3 requires l2`.
     #[inline(always)]
     fn find_onward(&mut self, label: &[u8]) -> Option<usize>
         ensures found { IfSome result (IsAt self.new label.now) }
         ensures unique { AreUnique self.new }
         ensures kept { self.new ≡ self.old }
     {
-        let [newest, second, third, fourth] = self.recent;
+        let [newest, second, _, fourth] = self.recent;
         let onward = second.wrapping_add(second).wrapping_sub(fourth);
-        if !is_at(&self.entries, &self.bytes, label, onward) {
-            return None;
+        if let Some(i) = self.find_guessed(label, onward) {
+            return Some(i);
         }
-        self.recent = [onward, newest, second, third];
-        Some(onward)
+        let beside = number_beside(&self.entries, &self.bytes, label, newest);
+        self.find_guessed(label, beside)
     }
 
     // What is found of a label that is mentioned, which is looked at first as far behind that found last as their endings are
@@ -696,6 +767,11 @@ impl LabelMap {
         ensures old { IfOk result (λ old. old ≡ lookup (bytes_eq label.now) self.old) }
         ensures entries { OnOk result (self.new ≡ put self.old label.now slot) }
     {
+        // most labels are numbered, and come in that order
+        if self.is_next(label) {
+            self.add_behind(label, slot)?;
+            return Ok(None);
+        }
         self.chain_if_due()?;
         match self.find(label) {
             Found::At(i) => {

@@ -86,3 +86,14 @@ returns-in_ok-add-in-Absent-clause-entries c =
     c.in_ok-add-in-Absent.ensures
     ∙ put-absent c.find.new.self label c.args.slot c.in-Absent.ensures.found.0
     ∙ ap (λ (es : Entries). put es label c.args.slot) (c.in-Absent.ensures.kept ∙ c.in_ok-chain_if_due.ensures)
+
+pub returns-then-is_next-clause-old : goal.returns-then-is_next-clause-old
+returns-then-is_next-clause-old c =
+    let label = c.args.label.now in
+    sym (lookup-absent c.args.self.now label (before_absent c.args.self.now label (c.is_next.ensures c.if-is_next.true)))
+
+pub returns-then-is_next-clause-entries : goal.returns-then-is_next-clause-entries
+returns-then-is_next-clause-entries c =
+    let label = c.args.label.now in
+    c.in_ok-add_behind.ensures
+    ∙ put-absent c.args.self.now label c.args.slot (before_absent c.args.self.now label (c.is_next.ensures c.if-is_next.true))

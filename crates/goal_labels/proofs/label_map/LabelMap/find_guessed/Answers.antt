@@ -2,7 +2,7 @@ use Rattle.std.proofs.Common.{◌∙◌, refl, sym, subst}
 use Rattle.goal_labels.specs.Entries.{entries_of, AreUnique}
 use Rattle.goal_labels.proofs.EntryLemmas.{is_at-guess}
 use Rattle.goal_labels.proofs.HeldLemmas.{entries_of-read}
-use Rattle.goal_labels.proofs.label_map.LabelMap.find_onward.Goals as goal
+use Rattle.goal_labels.proofs.label_map.LabelMap.find_guessed.Goals as goal
 
 pub returns-then-not-is_at-clause-unique : goal.returns-then-not-is_at-clause-unique
 returns-then-not-is_at-clause-unique c = subst AreUnique c.self.view_is c.self.invariant.1.unique
