@@ -352,6 +352,30 @@ pub fault_behind_ahead : (old mid : Reader) (piece : List ℕ) (n : ℕ) (f : To
 fault_behind_ahead old mid piece n f first fault memory text more stood =
     fault_in_piece piece text more n (fault_in_text f) (fault memory (text ++ take n piece) more (first.stands text stood))
 
+-- the options of a message, of which the second and the third have the number 0
+pub options_of_none : (piece : List ℕ) (at one tag : ℕ) → IsPeerAhead piece at token.Tag tag one →
+    ((place : ℕ) → (b two c three : Token) × (b.kind ≡ token.Cpu) × (two.kind ≡ token.Number 0) × (c.kind ≡ token.Nic) × (three.kind ≡ token.Number 0)
+    × IsAhead place (take (length piece - one) (drop one piece)) 12 true (b ∷ two ∷ c ∷ three ∷ [])) →
+    IsOptionsAhead piece at tag 0 0 (one + 12)
+options_of_none piece at one tag first behind place =
+    let a = first place in
+    let b = behind (place + one) in (
+      a.0,
+      a.1,
+      b.0,
+      b.1,
+      b.2,
+      b.3,
+      a.2,
+      a.3,
+      b.4,
+      b.5,
+      b.6,
+      b.7,
+      tokens_on place piece at one (one + 12) (a.0 ∷ a.1 ∷ []) (b.0 ∷ b.1 ∷ b.2 ∷ b.3 ∷ []) a.4
+          (tokens_of place piece one 12 (b.0 ∷ b.1 ∷ b.2 ∷ b.3 ∷ []) (omega arith) b.8),
+    )
+
 -- the options of a message, each with its number
 pub options_whole : (piece : List ℕ) (at one two end tag cpu nic : ℕ) → IsPeerAhead piece at token.Tag tag one →
     IsPeerAhead piece one token.Cpu cpu two → IsPeerAhead piece two token.Nic nic end → IsOptionsAhead piece at tag cpu nic end

@@ -16,8 +16,8 @@ use crate::sentence::State;
 use crate::token_faults::TokenFault;
 use goal_base::{MAX_BYTES, MAX_DEPS, MAX_NANOS, MAX_NOTES, MAX_OPS};
 use goal_lexer::{
-    Amount, TokenKind, begins_with_colon, blanks_ahead, label_ahead, number_ahead, size_ahead,
-    spaced_word_ahead, word_ahead,
+    Amount, TokenKind, begins_with_colon, begins_with_no_places, blanks_ahead, label_ahead,
+    number_ahead, size_ahead, spaced_word_ahead, word_ahead,
 };
 
 /// A number below 2^32 that stands ahead, and the index behind it.
@@ -138,17 +138,28 @@ fn message_ahead(rest: &[u8], at: usize, spaced: &[u8]) -> Option<MessageAhead>
     }
 }
 
-/// What stands at this index of a message behind its peer: its options, where it has all three, in the order in which most
-/// texts have them.
+/// What stands at this index of a message behind its peer: its tag, which is known, and behind it its other options, where it
+/// has all three, in the order in which most texts have them.
 #[inline(always)]
-fn options_ahead(rest: &[u8], at: usize) -> Option<OptionsAhead>
-    requires { at ≤ length rest.now }
+fn options_ahead(rest: &[u8], at: usize, tag: Small) -> Option<OptionsAhead>
+    requires from { at < tag.end }
+    requires to { tag.end ≤ length rest.now }
+    requires tag { IsPeerAhead rest.now at TokenKind.Tag tag.value tag.end }
     ensures within { IfSome result (λ o. at < o.end) }
     ensures ahead { IfSome result (λ o. IsOptionsAhead rest.now at o.tag o.cpu o.nic o.end) }
 {
-    let Some(tag) = peer_ahead(rest, at, b" tag") else {
+    // most messages go on so
+    if begins_with_no_places(&rest[tag.end..]) {
+        return Some(OptionsAhead {
+            tag: tag.value,
+            cpu: 0,
+            nic: 0,
+            end: tag.end + 12,
+        });
+    }
+    if tag.end == rest.len() || rest[tag.end] != b' ' {
         return None;
-    };
+    }
     let Some(cpu) = peer_ahead(rest, tag.end, b" cpu") else {
         return None;
     };
@@ -220,7 +231,8 @@ impl Parser {
         }
     }
 
-    /// Takes the options of a message that stand at this index, where all three do, and answers the index behind them.
+    /// Takes the options of a message that stand at this index, where all three do, or its tag alone, and answers the index
+    /// behind them.
     #[inline(always)]
     #[tactic(auto, using(crate::proofs::AheadLaws::nothing_next))]
     fn take_options_ahead(&mut self, rest: &[u8], at: usize) -> usize
@@ -231,12 +243,18 @@ impl Parser {
         if !self.is_bare_message() || at == rest.len() || rest[at] != b' ' {
             return at;
         }
-        match options_ahead(rest, at) {
+        let Some(tag) = peer_ahead(rest, at, b" tag") else {
+            return at;
+        };
+        match options_ahead(rest, at, tag) {
             Some(options) => {
                 self.take_options(options.tag, options.cpu, options.nic);
                 options.end
             }
-            None => at,
+            None => {
+                self.take_tag(tag.value);
+                tag.end
+            }
         }
     }
 
