@@ -1,5 +1,5 @@
 -- Tokens that are found ahead.
-use Rattle.std.proofs.Common.{◌≡◌, ℕ, zero, suc, ◌+◌, ◌-◌, ◌*◌, ◌<◌, ◌≤◌, Bool, true, false, List, [], ◌∷◌, ◌++◌, length, take, drop, bytes_eq, get_or, nat_eq, refl, sym, ap, subst, ◌∙◌, arith, length-drop}
+use Rattle.std.proofs.Common.{◌≡◌, ℕ, zero, suc, ◌+◌, ◌-◌, ◌*◌, ◌<◌, ◌≤◌, Bool, true, false, ◌||◌, List, [], ◌∷◌, ◌++◌, length, take, drop, bytes_eq, get_or, nat_eq, refl, sym, ap, subst, ◌∙◌, arith, length-drop}
 use Rattle.std.proofs.Math.Seq.{take-add}
 use Rattle.std.proofs.lemmas.Slice.Eq.{bytes_eq-Decides}
 use Rattle.std.proofs.lemmas.Bool.{false≢true, and_parts}
@@ -220,6 +220,14 @@ one_digit_size place value piece long blank digit mark ends is =
     size_found place 1 1 value piece (one_space piece (omega (arith, long)) blank) (omega arith) long (omega arith)
     (λ k few. subst (λ (j : ℕ). is_digit (get_or (behind 1 piece) j 0) ≡ true) (first k few) (digit_there piece 0 digit)) mark ends
     (is ∙ digit_value piece (omega (arith, long)) (most_of_digit _ digit))
+
+-- a byte of a run behind `9` is no digit
+pub letter_of_run : (c : ℕ) → is_run_byte c ≡ true → 57 < c → begins_word c ≡ true
+letter_of_run c is high = left (begins_word c) (is_digit c) is (grind (arith, nat_tests))
+  where
+    left : (a b : Bool) → (a || b) ≡ true → b ≡ false → a ≡ true
+    left true b is off = refl
+    left false b is off = absurd (false≢true (sym off ∙ is))
 
 -- a word that ends with a digit, behind blanks
 pub label_found : (place blanks count : ℕ) (piece : List ℕ) → AreBlanks piece blanks → 0 < count → count < length (behind blanks piece) →

@@ -8,7 +8,7 @@ ghost use Rattle.goal_lexer.specs.declared.tokens.Token.{Token};
 ghost use Rattle.goal_lexer.specs.Ahead.{AreBlanks, is_word, IsAhead};
 ghost use Rattle.goal_lexer.specs.Words.{word_kind};
 
-use crate::bytes::{begins_word, ends_reserved, is_blank, is_digit, is_run_byte};
+use crate::bytes::{ends_reserved, is_blank, is_digit, is_run_byte};
 use crate::labels::MOST_RUN_BYTES;
 use crate::numbers::{Leading, leading_digits};
 use crate::stretches::{count_blanks, count_run};
@@ -243,7 +243,8 @@ pub fn label_ahead(rest: &[u8], blanks: usize) -> usize
     if count == 0 || count >= run.len() || count > MOST_RUN_BYTES {
         return 0;
     }
-    if !begins_word(run[0]) || ends_reserved(run[count - 1]) {
+    // a byte of a run behind `9` is a letter or `_`
+    if run[0] <= b'9' || ends_reserved(run[count - 1]) {
         return 0;
     }
     blanks + count
