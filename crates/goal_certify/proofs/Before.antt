@@ -16,7 +16,7 @@ use Rattle.goal_graph.proofs.ForCallers.{needs-exist, is_op_below}
 use Rattle.goal_blocks.specs.Race.{EndsBefore}
 use Rattle.goal_certify.specs.Rows.{has}
 use Rattle.goal_certify.specs.Before.{op_id, AreRows}
-use Rattle.goal_certify.proofs.Rows.{has_zeros}
+use Rattle.goal_certify.specs.Table.{AreEmpty}
 use Rattle.goal_certify.proofs.Depth.{deep_enough}
 use Rattle.goal_blocks.proofs.ForCallers.{Leads, first_need, led}
 
@@ -45,9 +45,9 @@ depth_within plans accepted x is_op =
 
 -- one need of an operation y more
 module _ (plans : List Plan) (y : OpId) (old new : List ℕ) (done : ℕ → Type 0) (rows : AreRows plans y.rank old done) (keeps : (r k : ℕ) → k < 2048 → has old r k ≡ true → has new r k ≡ true) where
-  pub taken_rows : (d : Need) → Contains (needs plans y) d → d.op < length (ops_at plans y.rank) → ((r k : ℕ) → k < 2048 → has new r k ≡ true → (has old r k ≡ true) ⊎ ((r ≡ y.op) × ((has old d.op k ≡ true) ⊎ ((d.when ≡ AfterEnd) × (k ≡ d.op))))) → AreRows plans y.rank new done
-  taken_rows d c below no_more = record {
-    low = λ op k few h. ⊎_elim (rows.low op k few) (λ more. ⊎_elim (rows.low d.op k few) (λ end. subst (λ (n : ℕ). n < length (ops_at plans y.rank)) (sym end.1) below) more.1) (no_more op k few h);
+  pub taken_rows : (d : Need) → Contains (needs plans y) d → y.op < length (ops_at plans y.rank) → d.op < length (ops_at plans y.rank) → ((r k : ℕ) → k < 2048 → has new r k ≡ true → (has old r k ≡ true) ⊎ ((r ≡ y.op) × ((has old d.op k ≡ true) ⊎ ((d.when ≡ AfterEnd) × (k ≡ d.op))))) → AreRows plans y.rank new done
+  taken_rows d c own below no_more = record {
+    low = λ op k few h. ⊎_elim (rows.low op k few) (λ more. (subst (λ (n : ℕ). n < length (ops_at plans y.rank)) (sym more.0) own, ⊎_elim (λ there. (rows.low d.op k few there).1) (λ end. subst (λ (n : ℕ). n < length (ops_at plans y.rank)) (sym end.1) below) more.1)) (no_more op k few h);
     sound = λ op k few h. ⊎_elim (rows.sound op k few) (λ more. subst (λ (n : ℕ). EndsBefore plans (op_id y.rank k) (op_id y.rank n)) (sym more.0) (led plans (op_id y.rank k) y d c (⊎_elim (λ there. inr (rows.sound d.op k few there)) (λ end. inl (end.0, ap (op_id y.rank) (sym end.1))) more.1))) (no_more op k few h);
     complete = λ op k few is_done b. keeps op k few (rows.complete op k few is_done b);
   }
@@ -70,8 +70,8 @@ module _ (plans : List Plan) (y : OpId) (old new : List ℕ) (done : ℕ → Typ
   is_need =
       subst (λ (n : Need). Contains (needs plans y) n) (sym same) (Contains-get_or (needs plans y) i e inside)
 
-  pub next_rows : d.op < length (ops_at plans y.rank) → ((r k : ℕ) → k < 2048 → has new r k ≡ true → (has old r k ≡ true) ⊎ ((r ≡ y.op) × ((has old d.op k ≡ true) ⊎ ((d.when ≡ AfterEnd) × (k ≡ d.op))))) → AreRows plans y.rank new done
-  next_rows below no_more = taken_rows plans y old new done rows keeps d is_need below no_more
+  pub next_rows : y.op < length (ops_at plans y.rank) → d.op < length (ops_at plans y.rank) → ((r k : ℕ) → k < 2048 → has new r k ≡ true → (has old r k ≡ true) ⊎ ((r ≡ y.op) × ((has old d.op k ≡ true) ⊎ ((d.when ≡ AfterEnd) × (k ≡ d.op))))) → AreRows plans y.rank new done
+  next_rows own below no_more = taken_rows plans y old new done rows keeps d is_need own below no_more
 
   abbrev Has : List ℕ → Need → Type 0
   Has rs n = (k : ℕ) → k < 2048 → Leads plans (op_id y.rank k) y n → has rs y.op k ≡ true
@@ -94,18 +94,18 @@ needed_depth plans (suc n) x h =
     subst (λ (m : ℕ). All (λ (d : Need). is_below plans m (needed x d) ≡ true) (needs plans x)) (sym e) (AllPass-from_list_all (λ (d : Need). is_below plans n (needed x d)) (needs plans x) h)
 
 -- no mark is set at the start, and no row has a number
-pub no_marks : (n k : ℕ) → get_or (replicate n false) k false ≡ false
+no_marks : (n k : ℕ) → get_or (replicate n false) k false ≡ false
 no_marks n k =
     elim (cases_lt k n) [
       | inl inside ↦ get_or-replicate n k false false inside
       | inr past ↦ get_or_past (replicate n false) k false (omega (arith, length-replicate n false))
     ]
 
-pub rows_of_zeros : (plans : List Plan) (rank n m : ℕ) → AreRows plans rank (replicate n 0) (λ k. slice_index_or (replicate m false) k false ≡ true)
-rows_of_zeros plans rank n m = record {
-  low = λ op k few h. absurd (true≢false (sym h ∙ has_zeros n op k));
-  sound = λ op k few h. absurd (true≢false (sym h ∙ has_zeros n op k));
-  complete = λ op k few h b. absurd (true≢false (sym h ∙ no_marks m op));
+pub rows_at_start : (plans : List Plan) (rank : ℕ) (rows : List ℕ) (done : List Bool) (m : ℕ) → AreEmpty rows → done ≡ replicate m false → AreRows plans rank rows (λ k. slice_index_or done k false ≡ true)
+rows_at_start plans rank rows done m empty f = record {
+  low = λ op k few h. absurd (empty op k few h);
+  sound = λ op k few h. absurd (empty op k few h);
+  complete = λ op k few h b. absurd (true≢false (sym h ∙ ap (λ (ds : List Bool). get_or ds op false) f ∙ no_marks m op));
 }
 
 -- marks after one more is set
@@ -119,7 +119,3 @@ mark_stays done i k inside h =
 pub rows_same : (plans : List Plan) (rank : ℕ) (rows others : List ℕ) (done : ℕ → Type 0) → rows ≡ others → AreRows plans rank others done → AreRows plans rank rows done
 rows_same plans rank rows others done e r =
     subst (λ (rs : List ℕ). AreRows plans rank rs done) (sym e) r
-
-pub rows_at_start : (plans : List Plan) (rank : ℕ) (rows : List ℕ) (done : List Bool) (n m : ℕ) → rows ≡ replicate n 0 → done ≡ replicate m false → AreRows plans rank rows (λ k. slice_index_or done k false ≡ true)
-rows_at_start plans rank rows done n m e f =
-    subst (λ (ds : List Bool). AreRows plans rank rows (λ k. slice_index_or ds k false ≡ true)) (sym f) (rows_same plans rank rows (replicate n 0) _ e (rows_of_zeros plans rank n m))

@@ -169,6 +169,44 @@ cleared old row number inside few r k small h =
           (sym (ap (λ w. bit w k) (get_or-set_other old (32 * row + number / 64) (32 * r + k / 64) 0 0 apart)) ∙ h, λ same_row same. apart (ap (λ (i : ℕ). 32 * i + k / 64) same_row ∙ ap (λ (i : ℕ). 32 * row + i / 64) same))
     ]
 
+-- the first words of the row are 0, and the other words are the same
+pub record IsCleared (old new : List ℕ) (row places : ℕ) : Type 0 where
+  pub done : (j : ℕ) → j < places → get_or new (32 * row + j) 0 ≡ 0
+  pub rest : (j : ℕ) → (32 * row ≤ j → j < 32 * row + places → ⊥) → get_or new j 0 ≡ get_or old j 0
+
+pub cleared_none : (old : List ℕ) (row : ℕ) → IsCleared old old row 0
+cleared_none old row = record { done = λ j h. absurd (omega arith); rest = λ j out. refl }
+
+pub cleared_more : (old now : List ℕ) (row place : ℕ) → 32 * row + place < length now → IsCleared old now row place → IsCleared old (set now (32 * row + place) 0) row (place + 1)
+cleared_more old now row place inside j = record {
+  done = λ k h.
+      elim (cases_eq k place) [
+        | inl same ↦ rw same (get_or-set_same now (32 * row + place) 0 0 inside)
+        | inr other ↦ get_or-set_other now (32 * row + place) (32 * row + k) 0 0 (omega arith) ∙ j.done k (omega arith)
+      ];
+  rest = λ k out.
+      elim (cases_eq k (32 * row + place)) [
+        | inl same ↦ absurd (out (omega arith) (omega arith))
+        | inr apart ↦ get_or-set_other now (32 * row + place) k 0 0 apart ∙ j.rest k (λ a b. out a (omega arith))
+      ];
+}
+
+pub cleared_less : (old new : List ℕ) (row words : ℕ) → words ≤ 32 → (places : ℕ) → places ≡ words → IsCleared old new row places → (r k : ℕ) → k < 2048 → has new r k ≡ true → (has old r k ≡ true) × (r ≡ row → 64 * words ≤ k)
+unfolding has
+cleared_less old new row words most places all j r k small h =
+    elim (cases_lt (k / 64) words) [
+      | inl within ↦
+          elim (cases_eq r row) [
+            | inl same ↦
+                let none : get_or new (32 * r + k / 64) 0 ≡ 0 = rw same (j.done (k / 64) (omega arith)) in
+                absurd (true≢false (sym h ∙ ap (λ w. bit w k) none ∙ ap (λ b. eqb b 1) (bit_at-zero (k % 64))))
+            | inr apart ↦
+                (sym (ap (λ w. bit w k) (j.rest (32 * r + k / 64) (λ a b. omega arith))) ∙ h, λ same. absurd (apart same))
+          ]
+      | inr past ↦
+          (sym (ap (λ w. bit w k) (j.rest (32 * r + k / 64) (λ a b. omega arith))) ∙ h, λ same. omega (arith, past))
+    ]
+
 -- words of 0 past the end add nothing
 zeros : (n i : ℕ) → get_or {A = ℕ} (replicate n 0) i 0 ≡ 0
 zeros n i =

@@ -5,12 +5,13 @@
 // ranks what shares a slot is in the order of the numbers, which `ordered` sees touch by touch. In the others `table` makes
 // from its rows for each operation the row of those with which it shares a slot that one of the two writes, and `search`
 // takes the least pair in these rows, and its least slot.
-ghost use Rattle.std.specs.Prelude.{◌≡◌, ◌<◌, ◌≤◌, true, false, length, OnOk, IfOk, IfErr};
+ghost use Rattle.std.specs.Prelude.{◌≡◌, ◌*◌, ◌<◌, ◌≤◌, true, false, length, OnOk, IfOk, IfErr};
 ghost use Rattle.goal_graph.specs.Schedule.{ops_at};
 ghost use Rattle.goal_blocks.specs.Certification.{IsSmall};
 ghost use Rattle.goal_certify.specs.Stages.{IsFree, IsStopped};
 ghost use Rattle.goal_certify.specs.Touches.{AreTouches};
 ghost use Rattle.goal_certify.specs.Table.{AreEmpty, AreMarked};
+ghost use Rattle.goal_certify.specs.Before.{AreRows};
 ghost use Rattle.goal_certify.specs.Races.{IsFirstOfRank};
 
 mod before;
@@ -24,6 +25,7 @@ use before::rows_before;
 use goal_blocks::CertFault;
 use goal_graph::Sched;
 use ordered::are_ordered;
+use rows::clear_rows;
 use search::{first_open, least_slot};
 use std::alloc::{AllocError, Global};
 use table::{mark, shared_rows, wipe};
@@ -41,9 +43,10 @@ pub fn check_races(alloc: Global, sched: &Sched) -> Result<(), CertFault>
 {
     let mut touchers = Vec::new(alloc);
     let mut writers = Vec::new(alloc);
+    let mut before = Vec::new(alloc);
     let ranks = sched.plans().len() as u32;
     for rank in 0..ranks {
-        let found = race_in_rank(alloc, sched, rank, &mut touchers, &mut writers)?;
+        let found = race_in_rank(alloc, sched, rank, &mut touchers, &mut writers, &mut before)?;
         if let Some(
             RankRace {
                 first,
@@ -71,29 +74,34 @@ pub(crate) struct RankRace {
     pub slot: u32,
 }
 
-// The least race of a rank, if there is one. The rows of the slots are empty before and after.
+// The least race of a rank, if there is one. All rows are empty before and after.
 fn race_in_rank(
     alloc: Global,
     sched: &Sched,
     rank: u32,
     touchers: &mut Vec<u64>,
     writers: &mut Vec<u64>,
+    before: &mut Vec<u64>,
 ) -> Result<Option<RankRace>, AllocError>
     requires small { IsSmall sched.now }
     requires rank { rank < length sched.now }
     requires touchers { AreEmpty touchers.old.items }
     requires writers { AreEmpty writers.old.items }
+    requires before { AreEmpty before.old.items }
     ensures race { IfOk result (IsFirstOfRank sched.now rank) }
     ensures touchers { OnOk result (AreEmpty touchers.new.items) }
     ensures writers { OnOk result (AreEmpty writers.new.items) }
+    ensures before { OnOk result (AreEmpty before.new.items) }
 {
     let plan = &sched.plans()[rank as usize];
     let touches = touches_of_rank(alloc, plan)?;
     mark(touchers, &touches, false)?;
     mark(writers, &touches, true)?;
-    let found = find_race(alloc, sched, rank, &touches, touchers, writers)?;
+    rows_before(alloc, sched, rank, before)?;
+    let found = find_race(alloc, sched, rank, &touches, touchers, writers, before)?;
     wipe(touchers, &touches, false);
     wipe(writers, &touches, true);
+    clear_rows(before, sched.op_count(rank) as usize);
     Ok(found)
 }
 
@@ -105,21 +113,23 @@ fn find_race(
     touches: &[Touch],
     touchers: &[u64],
     writers: &[u64],
+    before: &[u64],
 ) -> Result<Option<RankRace>, AllocError>
     requires rank { rank < length sched.now }
     requires few { length (ops_at sched.now rank) ≤ 2048 }
     requires touches { AreTouches sched.now rank touches.now }
     requires touchers { AreMarked false touches.now touchers.now }
     requires writers { AreMarked true touches.now writers.now }
+    requires room { 32 * length (ops_at sched.now rank) ≤ length before.now }
+    requires before { AreRows sched.now rank before.now (λ op. op < length (ops_at sched.now rank)) }
     ensures { IfOk result (IsFirstOfRank sched.now rank) }
 {
     let count = sched.op_count(rank);
-    let before = rows_before(alloc, sched, rank)?;
-    if are_ordered(&before, touches, touchers, writers) {
+    if are_ordered(before, touches, touchers, writers) {
         return Ok(None);
     }
     let shared = shared_rows(alloc, touches, touchers, writers, count as usize)?;
-    let Some(pair) = first_open(&before, &shared, count) else {
+    let Some(pair) = first_open(before, &shared, count) else {
         return Ok(None);
     };
     match least_slot(touches, touchers, writers, pair) {

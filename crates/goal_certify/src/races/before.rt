@@ -1,35 +1,42 @@
 // Which operations of a rank end before each of them starts.
-ghost use Rattle.std.specs.Prelude.{ℕ, ◌≡◌, ◌+◌, ◌*◌, ◌<◌, ◌≤◌, ◌⊎◌, true, false, length, All, IfOk, slice_index_or};
+ghost use Rattle.std.specs.Prelude.{ℕ, ◌≡◌, ◌+◌, ◌*◌, ◌<◌, ◌≤◌, ◌⊎◌, true, false, length, All, OnOk, slice_index_or};
 ghost use Rattle.goal_graph.specs.declared.plan.When.TheVariants.{AfterEnd};
 ghost use Rattle.goal_graph.specs.Schedule.{needs, ops_at};
 ghost use Rattle.goal_graph.specs.Fault.{IsOp, is_below};
 ghost use Rattle.goal_blocks.specs.Race.{EndsBefore};
 ghost use Rattle.goal_certify.specs.Rows.{has};
+ghost use Rattle.goal_certify.specs.Table.{AreEmpty};
 ghost use Rattle.goal_certify.specs.Before.{op_id, AreRows};
 
-use crate::races::rows::{WORDS, join_within, put};
+use crate::races::rows::{join_within, make_room, put};
 use goal_graph::{Need, OpId, Sched, When};
 use std::alloc::{AllocError, Global};
 
-/// For each operation of the rank a row of those that end before it starts.
-pub(crate) fn rows_before(alloc: Global, sched: &Sched, rank: u32) -> Result<Vec<u64>, AllocError>
+/// Each operation of the rank gets in its row those that end before it starts.
+pub(crate) fn rows_before(
+    alloc: Global,
+    sched: &Sched,
+    rank: u32,
+    rows: &mut Vec<u64>,
+) -> Result<(), AllocError>
     requires rank { rank < length sched.now }
     requires few { length (ops_at sched.now rank) ≤ 2048 }
-    ensures room { IfOk result (λ rows. length rows.items ≡ 32 * length (ops_at sched.now rank)) }
-    ensures rows { IfOk result (λ rows. AreRows sched.now rank rows.items (λ op. op < length (ops_at sched.now rank))) }
+    requires empty { AreEmpty rows.old.items }
+    ensures room { OnOk result (32 * length (ops_at sched.now rank) ≤ length rows.new.items) }
+    ensures rows { OnOk result (AreRows sched.now rank rows.new.items (λ op. op < length (ops_at sched.now rank))) }
 {
     let count = sched.op_count(rank) as usize;
-    let mut rows = vec![in alloc; 0; WORDS * count]?;
+    make_room(rows, count)?;
     let mut done = vec![in alloc; false; count]?;
-    fill_all(sched, rank, &mut rows, &mut done);
-    Ok(rows)
+    fill_all(sched, rank, rows, &mut done);
+    Ok(())
 }
 
 // The rows of all operations of the rank are done.
 fn fill_all(sched: &Sched, rank: u32, rows: &mut [u64], done: &mut [bool])
     requires rank { rank < length sched.now }
     requires few { length (ops_at sched.now rank) ≤ 2048 }
-    requires room { length rows.old ≡ 32 * length (ops_at sched.now rank) }
+    requires room { 32 * length (ops_at sched.now rank) ≤ length rows.old }
     requires marks { length done.old ≡ length (ops_at sched.now rank) }
     requires rows { AreRows sched.now rank rows.old (λ k. slice_index_or done.old k false ≡ true) }
     ensures rows { AreRows sched.now rank rows.new (λ op. op < length (ops_at sched.now rank)) }
@@ -46,7 +53,7 @@ fn fill(sched: &Sched, id: OpId, depth: u32, rows: &mut [u64], done: &mut [bool]
     requires exists { IsOp sched.now id }
     requires depth { is_below sched.now depth id ≡ true }
     requires few { length (ops_at sched.now id.rank) ≤ 2048 }
-    requires room { length rows.old ≡ 32 * length (ops_at sched.now id.rank) }
+    requires room { 32 * length (ops_at sched.now id.rank) ≤ length rows.old }
     requires marks { length done.old ≡ length (ops_at sched.now id.rank) }
     requires rows { AreRows sched.now id.rank rows.old (λ k. slice_index_or done.old k false ≡ true) }
     ensures rows { AreRows sched.now id.rank rows.new (λ k. slice_index_or done.new k false ≡ true) }
@@ -72,7 +79,7 @@ fn fill(sched: &Sched, id: OpId, depth: u32, rows: &mut [u64], done: &mut [bool]
 fn gather(sched: &Sched, id: OpId, rows: &mut [u64], done: &[bool])
     requires exists { IsOp sched.now id }
     requires few { length (ops_at sched.now id.rank) ≤ 2048 }
-    requires room { length rows.old ≡ 32 * length (ops_at sched.now id.rank) }
+    requires room { 32 * length (ops_at sched.now id.rank) ≤ length rows.old }
     requires marks { length done.now ≡ length (ops_at sched.now id.rank) }
     requires rows { AreRows sched.now id.rank rows.old (λ k. slice_index_or done.now k false ≡ true) }
     requires needs { All (λ d. slice_index_or done.now d.op false ≡ true) (needs sched.now id) }

@@ -70,6 +70,31 @@ pub(crate) fn clear(rows: &mut [u64], row: usize, number: u32)
     rows[WORDS * row + number as usize / 64] = 0;
 }
 
+/// The first rows are empty. They had numbers below their count alone, and no row behind them had one.
+pub(crate) fn clear_rows(rows: &mut [u64], count: usize)
+    requires few { count ≤ 2048 }
+    requires room { 32 * count ≤ length rows.old }
+    requires low { (r k : ℕ) → k < 2048 → has rows.old r k ≡ true → (r < count) × (k < count) }
+    ensures { (r k : ℕ) → k < 2048 → has rows.new r k ≡ true → ⊥ }
+{
+    let words = (count + 63) / 64;
+    for row in 0..count {
+        clear_words(rows, row, words);
+    }
+}
+
+// The row has no number in so many words.
+fn clear_words(rows: &mut [u64], row: usize, words: usize)
+    requires row { 32 * row + 32 ≤ length rows.old }
+    requires words { words ≤ 32 }
+    ensures { (r k : ℕ) → k < 2048 → has rows.new r k ≡ true
+        → (has rows.old r k ≡ true) × (r ≡ row → 64 * words ≤ k) }
+{
+    for place in 0..words {
+        rows[WORDS * row + place] = 0;
+    }
+}
+
 /// There are rows up to this one. New ones are empty.
 pub(crate) fn make_room(rows: &mut Vec<u64>, row: usize) -> Result<(), AllocError>
     requires { row < 65536 }

@@ -17,7 +17,7 @@ pub(crate) struct Pair {
 /// The least pair of operations that share a slot which one writes, and of which neither ends before the other starts.
 pub(crate) fn first_open(before: &[u64], shared: &[u64], count: u32) -> Option<Pair>
     requires few { count ≤ 2048 }
-    requires before { length before.now ≡ 32 * count }
+    requires before { 32 * count ≤ length before.now }
     requires shared { length shared.now ≡ 32 * count }
     requires mutual { IsMutual shared.now }
     ensures { IsFirstOpen before.now shared.now count result }
@@ -36,7 +36,7 @@ pub(crate) fn first_open(before: &[u64], shared: &[u64], count: u32) -> Option<P
 // Whether there is such a pair: most schedules have none, and of these it looks at 64 operations at once.
 fn is_any_open(before: &[u64], shared: &[u64], count: u32) -> bool
     requires few { count ≤ 2048 }
-    requires before { length before.now ≡ 32 * count }
+    requires before { 32 * count ≤ length before.now }
     requires shared { length shared.now ≡ 32 * count }
     requires mutual { IsMutual shared.now }
     ensures none { result ≡ false → (x y : ℕ) → x < y → y < count → is_open before.now shared.now x y ≡ true → ⊥ }
@@ -90,7 +90,7 @@ fn is_open_in_word(before: &[u64], shared: &[u64], second: u32, place: u32) -> b
 fn next_open(before: &[u64], shared: &[u64], first: u32, count: u32) -> Option<u32>
     requires few { count ≤ 2048 }
     requires first { first < count }
-    requires before { length before.now ≡ 32 * count }
+    requires before { 32 * count ≤ length before.now }
     requires shared { length shared.now ≡ 32 * count }
     ensures { IsNextOpen before.now shared.now first count result }
 {

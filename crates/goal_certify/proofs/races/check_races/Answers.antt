@@ -7,6 +7,7 @@ pub loop-rank-init : goal.loop-rank-init
 loop-rank-init c = record {
   touchers = empty_zeros c.new-touchers.result.items 0 c.new-touchers.ensures.items;
   writers = empty_zeros c.new-writers.result.items 0 c.new-writers.ensures.items;
+  before = empty_zeros c.new-before.result.items 0 c.new-before.ensures.items;
   none = λ a below race. absurd (omega (arith, below));
 }
 

@@ -7,5 +7,6 @@ abbrev pub invariant-loop-rank : goal.invariant-loop-rank
 invariant-loop-rank l = record {
   touchers : AreEmpty l.touchers.items;
   writers : AreEmpty l.writers.items;
+  before : AreEmpty l.before.items;
   none : NoRaceBelow l.sched l.rank;
 }

@@ -23,7 +23,7 @@ take-requires-clause-few c =
 
 pub take-requires-clause-low : goal.take-requires-clause-low
 take-requires-clause-low c k few h =
-    let low = c.loop-need.invariant.rows.low _ k few h in
+    let low = (c.loop-need.invariant.rows.low _ k few h).1 in
     omega (arith, low, c.requires.marks)
 
 pub loop-need-preserved : goal.loop-need-preserved
@@ -37,7 +37,7 @@ loop-need-preserved c =
     let below : d.op < length (ops_at plans c.args.id.rank) = below_of_op plans (needed c.args.id d) (c.needs-need-items.ensures.exist i e (omega arith)) in
     let is_done : slice_index_or c.args.done.now d.op false ≡ true = subst (λ (n : Need). slice_index_or c.args.done.now n.op false ≡ true) (sym same) (c.requires.needs i e inside) in
     record {
-      rows = next_rows plans c.args.id c.loop-need.rows c.take.new.rows _ c.loop-need.invariant.rows c.take.ensures.keeps i e d same inside below c.take.ensures.no_more;
+      rows = next_rows plans c.args.id c.loop-need.rows c.take.new.rows _ c.loop-need.invariant.rows c.take.ensures.keeps i e d same inside (below_of_op plans c.args.id c.requires.exists) below c.take.ensures.no_more;
       row = next_need plans c.args.id c.loop-need.rows c.take.new.rows _ c.loop-need.invariant.rows c.take.ensures.keeps i e d same inside is_done c.take.ensures.adds c.take.ensures.ends c.loop-need.invariant.row;
     }
 

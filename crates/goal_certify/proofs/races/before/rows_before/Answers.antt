@@ -1,19 +1,20 @@
-use Rattle.std.proofs.Common.{◌≡◌, ◌++◌, take, drop, length, arith, ap, ◌∙◌}
+use Rattle.std.proofs.Common.{◌≡◌, ◌++◌, take, drop, length, arith, ap, sym, ◌∙◌}
+use Rattle.goal_certify.specs.Rows.{has}
 use Rattle.goal_certify.proofs.Before.{rows_at_start, rows_same}
 use Rattle.goal_certify.proofs.races.before.rows_before.Goals as goal
 use Rattle.goal_graph.proofs.ForCallers.{whole_back}
 
 pub fill_all-requires-clause-rows : goal.fill_all-requires-clause-rows
 fill_all-requires-clause-rows c =
-    rows_at_start c.args.sched.now c.args.rank c.deref_mut.result.now c.deref_mut-2.result.now _ _ (c.deref_mut.ensures.value ∙ c.in_ok-rows.ensures.items_if_clones_equal (λ y e. e)) (c.deref_mut-2.ensures.value ∙ c.in_ok-done.ensures.items_if_clones_equal (λ y e. e))
+    rows_at_start c.args.sched.now c.args.rank c.deref_mut.result.now c.deref_mut-2.result.now _ (λ r k few h. c.requires.empty r k few (sym (ap (λ rows. has rows r k) c.deref_mut.ensures.value ∙ c.in_ok-make_room.ensures.same r k) ∙ h)) (c.deref_mut-2.ensures.value ∙ c.in_ok-done.ensures.items_if_clones_equal (λ y e. e))
 
 pub returns : goal.returns
 returns c =
-    let rows = c.in_ok-rows.rows in
+    let rows = c.make_room.new.rows in
     let new = c.fill_all.new.rows in
     let same : length new ≡ length rows.items = omega (arith, c.fill_all.auto.rows, ap length c.deref_mut.ensures.value) in
     let back : take rows.len (new ++ drop (length new) rows.items) ≡ new = whole_back rows.len new rows.items same (omega (arith, rows.ok.0)) in
     record {
-      room = ap length back ∙ omega (arith, same, c.in_ok-rows.ensures.len, c.op_count-count.ensures.count);
+      room = omega (arith, ap length back, same, c.in_ok-make_room.ensures.room, c.op_count-count.ensures.count);
       rows = rows_same c.args.sched.now c.args.rank _ new _ back c.fill_all.ensures.rows;
     }
