@@ -1,5 +1,5 @@
 -- The list of an operation's own pattern: of a receive its list, of a send the first of its lists.
-use Rattle.std.proofs.Common.{ℕ, ◌<◌, ◌≡◌, ◌-◌, ◌^◌, List, [], ◌∷◌, length, map, slice_get, Option, Some, None, Vec, refl, arith, sym, ap, ◌∙◌, subst}
+use Rattle.std.proofs.Common.{ℕ, ◌<◌, ◌≡◌, ◌-◌, ◌^◌, List, [], ◌∷◌, length, slice_get, Option, Some, None, Vec, refl, arith, sym, ap, ◌∙◌, subst}
 use Rattle.std.proofs.lemmas.Option.{none-some, slice_get-map, slice_get_within}
 use Rattle.std.proofs.lemmas.List.{length-map}
 use Rattle.std.specs.Global.{Global}

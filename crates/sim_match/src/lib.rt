@@ -1,6 +1,7 @@
 //! Matching: which receive takes which message.
 #![tactic(auto)]
 
+mod by_source;
 mod capacities;
 mod credit;
 mod laws;

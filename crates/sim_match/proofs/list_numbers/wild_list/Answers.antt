@@ -1,4 +1,4 @@
-use Rattle.std.proofs.Common.{inl, inr, Option, Some, sym, ap, ◌∙◌}
+use Rattle.std.proofs.Common.{inl, inr, Some, sym, ap, ◌∙◌}
 use Rattle.goal_graph.specs.declared.plan.Kind.{Kind}
 use Rattle.sim_match.specs.Patterns.{number, wild_number}
 use Rattle.sim_match.proofs.list_numbers.wild_list.Goals as goal
