@@ -3,7 +3,7 @@ use Rattle.std.proofs.Common.{◌≡◌, ℕ, false, Option, Some, None, slice_g
 use Rattle.goal_graph.specs.declared.action.Timed.{Timed}
 use Rattle.sim_order.specs.Events.{event_before}
 use Rattle.sim_heaps.specs.Map.{key_at}
-use Rattle.sim_groups.specs.Groups.{Grouped, IsLeastOf}
+use Rattle.sim_groups.specs.Groups.{Grouped, IsEmptyGroup, IsLeastOf}
 use Rattle.sim_stations.specs.Stations.{at_time}
 use Rattle.sim_stations.specs.Rows.{IsHead}
 
@@ -32,3 +32,8 @@ module _ (waiting new : Grouped Timed) (groups : new.groups ≡ waiting.groups) 
   pub head_stays : (time : ℕ) (head : Option Timed) → IsHead waiting group time head → IsHead new group time head
   head_stays time None empty = λ slot e. same slot (was_member slot e) ∙ empty slot (was_member slot e)
   head_stays time (Some k) h = (least_stays (at_time 0 k) h.0, h.1)
+
+-- an empty group has no head
+pub none_of_empty : (rows : Grouped Timed) (group time : ℕ) (head : Option Timed) → IsHead rows group time head → IsEmptyGroup rows group → head ≡ None
+none_of_empty rows group time None h empty = refl
+none_of_empty rows group time (Some k) h empty = absurd (no_key (at_time 0 k) (sym (empty h.0.slot h.0.member) ∙ h.0.has))

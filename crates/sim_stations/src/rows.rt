@@ -1,6 +1,7 @@
 // Which stations wait at which resource.
 ghost use Rattle.std.specs.Prelude.{◌≡◌, ◌+◌, ◌*◌, ◌^◌, ◌<◌, ◌≤◌, ◌↔◌, ℕ, All, IfOk, IfSome, IsNone, Some, None, false, not, length, max, replicate, slice_get, slice_index, slice_set};
 ghost use Rattle.goal_graph.specs.declared.action.Timed.{Timed};
+ghost use Rattle.sim_groups.specs.Groups.{IsEmptyGroup};
 ghost use Rattle.sim_heaps.specs.Map.{key_at, IsEmptyMap};
 ghost use Rattle.sim_stations.specs.Stations.{both_free, pair_at, held, DoExist};
 ghost use Rattle.sim_stations.specs.Rows.{sides, place_in, side_of, turned_at, IsFirst, IsTold, AreBothTold};
@@ -109,6 +110,53 @@ fn tell_both<L: Ledger>(
     }
 }
 
+// Tells the head of a resource anew whose row is as it was: where nothing waits there, it has none to drop.
+#[inline(always)]
+fn raise<L: Ledger>(
+    rows: &SlotGroups,
+    heads: &mut SlotHeap<CompactKey>,
+    free: &[u64],
+    resource: u32,
+    steps: &mut Steps<L>,
+)
+    requires exists { resource < length heads.old }
+    requires each { length heads.old ≡ length free.now }
+    requires at_zero { (slot : ℕ) (k : Timed) → key_at rows.now.keys slot ≡ Some k → k.time ≡ 0 }
+    requires empty { IsEmptyGroup rows.now resource → key_at heads.old resource ≡ None }
+    ensures told { IsTold rows.now free.now heads.old heads.new resource }
+    ensures counted { (k : ℕ) → length heads.old ≤ 2 ^ k → steps.new ≤ steps.old + (2 * k + 1) }
+    ensures onward { steps.old ≤ steps.new }
+{
+    if let Some(key) = rows.least_of(resource, steps) {
+        heads.put(resource, key.at(free[resource as usize]), steps);
+    }
+}
+
+// Tells the heads of the resources of a pair anew whose rows are as they were.
+#[inline(always)]
+fn raise_both<L: Ledger>(
+    rows: &SlotGroups,
+    heads: &mut SlotHeap<CompactKey>,
+    free: &[u64],
+    pair: Pair,
+    steps: &mut Steps<L>,
+)
+    requires cpu { pair.cpu < length heads.old }
+    requires side { pair.side < length heads.old }
+    requires each { length heads.old ≡ length free.now }
+    requires at_zero { (slot : ℕ) (k : Timed) → key_at rows.now.keys slot ≡ Some k → k.time ≡ 0 }
+    requires empty_cpu { IsEmptyGroup rows.now pair.cpu → key_at heads.old pair.cpu ≡ None }
+    requires empty_side { IsEmptyGroup rows.now pair.side → key_at heads.old pair.side ≡ None }
+    ensures told { AreBothTold rows.now free.now heads.old heads.new pair }
+    ensures counted { (k : ℕ) → length heads.old ≤ 2 ^ k → steps.new ≤ steps.old + (4 * k + 2) }
+    ensures onward { steps.old ≤ steps.new }
+{
+    raise(rows, heads, free, pair.cpu, steps);
+    if pair.side != pair.cpu {
+        raise(rows, heads, free, pair.side, steps);
+    }
+}
+
 // Gives a slot of the rows a key, or none.
 fn write<L: Ledger>(rows: &mut SlotGroups, slot: u32, key: Option<CompactKey>, steps: &mut Steps<L>)
     requires { slot < length rows.old.keys }
@@ -177,6 +225,7 @@ impl Rows {
     }
 
     /// Lets a station that has a key go over to its other resource.
+    #[inline(never)]
     pub fn turn<L: Ledger>(&mut self, station: u32, key: CompactKey, steps: &mut Steps<L>)
         requires exists { station < length self.old.pairs }
         requires has { key_at self.old.keys station ≡ Some key }
@@ -202,7 +251,7 @@ impl Rows {
         let pair = self.pairs[station as usize];
         self.free[pair.cpu as usize] = cpu;
         self.free[pair.side as usize] = side;
-        tell_both(&self.rows, &mut self.heads, &self.free, pair, steps);
+        raise_both(&self.rows, &mut self.heads, &self.free, pair, steps);
     }
 
     /// The same, where it has another key from now on, at time 0, or none.

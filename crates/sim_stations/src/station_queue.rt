@@ -217,7 +217,9 @@ fn join<L: Ledger>(
     }
 }
 
-// Lets a slot whose key is before each other that is ahead wait with its station, where its action could happen later only.
+// Lets a slot whose key is before each other that is ahead wait with its station, where its action could happen later only. It is
+// no part of the loop that calls it, which mostly ends at its first look, and takes less to enter without it.
+#[inline(never)]
 fn begin_to_wait<L: Ledger>(
     ahead: &mut RunHeap,
     waiting: &mut Groups,
