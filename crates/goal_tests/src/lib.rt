@@ -1,5 +1,4 @@
-//! The tests of the crates that carry the words and the inputs of `goal`, and what it writes: a module a crate. Nothing
-//! stands on this crate.
+//! The tests of the crates that carry the inputs of `goal` and what it writes: a module a crate. Nothing stands on this crate.
 #![tactic(auto)]
 
 #[cfg(test)]
@@ -14,5 +13,3 @@ mod lexer;
 mod parser;
 #[cfg(test)]
 mod print;
-#[cfg(test)]
-mod words;

@@ -2,7 +2,7 @@
 ghost use Rattle.std.specs.Prelude.{◌≡◌, ◌<◌, ◌≤◌, IfOk};
 
 use crate::plans::{noted_plan, op};
-use goal_blocks::{Adding, Collective, SlotTable, Slots, Store, initial_size};
+use goal_blocks::{Adding, Collective, Slots, Store, initial_size};
 use goal_graph::{Kind, Note, Sched};
 use std::alloc::Global;
 use std::test::Fail;
@@ -141,21 +141,20 @@ fn hand_over(alloc: Global, values: &mut Store, sched: &Sched) -> Result<(), Fai
     requires { values.old.ranks ≡ 2 }
     ensures { values.new.ranks ≡ 2 }
 {
-    let table = SlotTable::new(alloc, sched).ok().ok_or("memory")?;
     let ids = sched.operations();
     if ids.len() < 2 {
         return Err(Fail::from("no message"));
     }
-    let sent = table.slots_of(ids[0]);
-    let taken = table.slots_of(ids[1]);
+    let sent = Slots::of(alloc, sched, ids[0]).ok().ok_or("memory")?;
+    let taken = Slots::of(alloc, sched, ids[1]).ok().ok_or("memory")?;
     if sent.len() != taken.len() || sent.len() > 1 << 24 {
         return Err(Fail::from("other slots"));
     }
-    if values.held() > 1 << 23 || values.payload_size(0, sent) > 1 << 23 {
+    if values.held() > 1 << 23 || values.payload_size(0, &sent) > 1 << 23 {
         return Err(Fail::from("too many contributions"));
     }
-    let payload = values.read(0, sent).ok().ok_or("memory")?;
-    values.write(1, taken, payload).ok().ok_or("memory")?;
+    let payload = values.read(0, &sent).ok().ok_or("memory")?;
+    values.write(1, &taken, payload).ok().ok_or("memory")?;
     Ok(())
 }
 
