@@ -2,7 +2,7 @@
 ghost use Rattle.std.specs.Prelude.{◌≡◌, ◌<◌, ◌≤◌, IfOk};
 
 use crate::plans::{noted_plan, op};
-use goal_blocks::{Adding, Collective, Slots, Store, initial_size};
+use goal_blocks::{Adding, Collective, SlotTable, Slots, Store, initial_size};
 use goal_graph::{Kind, Note, Sched};
 use std::alloc::Global;
 use std::test::Fail;
