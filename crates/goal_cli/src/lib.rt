@@ -16,8 +16,6 @@ mod pages;
 mod printing;
 mod refusal;
 mod source;
-#[cfg(test)]
-mod tests;
 mod verdict;
 
 pub use answer::Status;
