@@ -191,6 +191,8 @@ def run_program(words, copies, folder):
     shutil.rmtree(folder)
     for number in (signal.SIGPIPE, signal.SIGTERM, signal.SIGHUP, signal.SIGINT):
         signal.signal(number, signal.SIG_DFL)
+    # (large pages, as `goal` asks for them)
+    os.environ.setdefault("GLIBC_TUNABLES", "glibc.malloc.hugetlb=1")
     os.execv(PROGRAM, [PROGRAM, *words])
 
 
