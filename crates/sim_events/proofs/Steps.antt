@@ -60,9 +60,17 @@ module _ {C : Type 0} (model : C → CostModel) where
   looked_more old new a e =
       subst (λ (v : View C). all_looked_after v.plans v.history ≡ looked_after v.plans a + all_looked_after old.plans old.history) (sym e) (sum_by-cons (looked_after old.plans) a old.history)
 
+  -- an action changes no plans
+  pub plans_after : (old new : View C) (a : Timed) → new ≡ record { plans = old.plans; costs = old.costs; history = a ∷ old.history } → old.plans ≡ new.plans
+  plans_after old new a e = sym (ap (λ (v : View C). v.plans) e)
+
+  -- what happens next is an action of an operation
+  pub next_op : (state : View C) (a : Timed) → NextAt state a → IsOp state.plans a.op
+  next_op state a next = possible_exists state.plans (model state.costs) state.history a next.possible
+
   pub op_after : (old new : View C) (a : Timed) → new ≡ record { plans = old.plans; costs = old.costs; history = a ∷ old.history } → NextAt old a → IsOp new.plans a.op
   op_after old new a e next =
-      subst (λ (ps : List Plan). IsOp ps a.op) (sym (ap (λ (v : View C). v.plans) e)) (possible_exists old.plans (model old.costs) old.history a next.possible)
+      subst (λ (ps : List Plan). IsOp ps a.op) (sym (ap (λ (v : View C). v.plans) e)) (next_op old a next)
 
   -- nothing is possible exactly where no operation has a key
   pub done_at : (v w : View C) (queued : Stationed) (T : Type 0) → v ≡ w → RunAt w → QueueAt v queued → (T ↔ IsEmptyMap queued.keys) → T ↔ IsFinished w.plans (model w.costs) w.history

@@ -1,7 +1,7 @@
 // The queue of an engine: what it holds, and how it follows what happens.
-ghost use Rattle.std.specs.Prelude.{◌≡◌, ◌≢◌, ℕ, ◌<◌, ◌≤◌, ◌+◌, ◌*◌, ◌^◌, ◌↔◌, ◌⊎◌, IsTrue, IfSome, IsNone, Some, true, count_by, length, slice_get};
-ghost use Rattle.goal_graph.specs.declared.action.Class.TheVariants.{Serve};
-ghost use Rattle.goal_graph.specs.Schedule.{operations};
+ghost use Rattle.std.specs.Prelude.{◌≡◌, ◌≢◌, ℕ, ◌<◌, ◌≤◌, ◌+◌, ◌*◌, ◌^◌, ◌↔◌, ◌⊎◌, All, IsTrue, IfSome, IsNone, Some, true, count_by, length, slice_get};
+ghost use Rattle.goal_graph.specs.declared.action.Class.TheVariants.{Arrive, Serve};
+ghost use Rattle.goal_graph.specs.Schedule.{operations, needed};
 ghost use Rattle.goal_graph.specs.Concerned.{waiting_on};
 ghost use Rattle.goal_graph.specs.Fault.{IsOp};
 ghost use Rattle.sim_params.specs.Times.{mate, cpu};
@@ -16,7 +16,7 @@ ghost use Rattle.sim_events.specs.Cost.{looked_after, gives};
 ghost use Rattle.sim_events.specs.Changes.{AreAtPlaces, HaveChanged, HaveChangedOn};
 ghost use Rattle.sim_events.specs.Queue.{IsOfSchedule, IsQueue, IsQueueBut, HasPossibleKeys, IsRefreshed, IsSettledBy, IsDueAfter, Awaits};
 
-use goal_graph::{Class, OpId, Timed, When};
+use goal_graph::{Class, Need, OpId, Timed, When};
 use sim_order::Steps;
 use sim_params::Costs;
 use sim_state::{Cursor, History, State, choice_from, compact};
@@ -109,9 +109,12 @@ pub fn follow<C: Costs, H: History, L: Ledger, N: Ledger>(
     queue: &mut Queue,
     cursors: &mut [Cursor],
     action: Timed,
+    waiting: &[Need],
     steps: &mut Steps<L>,
     reads: &mut Steps<N>,
 )
+    requires whom { action.class ≢ Arrive → waiting.now ≡ waiting_on state.now.plans action.op }
+    requires exist { action.class ≢ Arrive → All (λ need. IsOp state.now.plans (needed action.op need)) waiting.now }
     requires exists { IsOp state.now.plans action.op }
     requires rest { IsQueueBut state.now.plans (C.model state.now.costs) state.now.history (IsDueAfter state.now.plans (C.model state.now.costs) state.now.history action) queue.old }
     requires cursors { AreCursors state.now.plans (C.model state.now.costs) state.now.history cursors.old }
@@ -123,7 +126,7 @@ pub fn follow<C: Costs, H: History, L: Ledger, N: Ledger>(
 {
     follow_own(state, queue, cursors, action, steps, reads);
     follow_partner(state, queue, cursors, action, steps, reads);
-    follow_waiting(state, queue, cursors, action, steps, reads);
+    follow_waiting(state, queue, cursors, action, waiting, steps, reads);
 }
 
 // Gives its key to the operation of an action, unless that was its last.
@@ -177,6 +180,20 @@ fn follow_partner<C: Costs, H: History, L: Ledger, N: Ledger>(
     refresh(state, queue, cursors, partner, steps, reads);
 }
 
+/// The operations that need one, before its action happens: none is asked for where the action is an Arrive, which gives no moment.
+/// They are looked up here, since the schedule's rows mostly come from memory, beside what is known of the operation itself.
+#[inline(always)]
+pub fn waiting_after<'a, C: Costs, H: History>(state: &State<'a, C, H>, action: Timed) -> &'a [Need]
+    requires { IsOp state.now.plans action.op }
+    ensures whom { action.class ≢ Arrive → result.now ≡ waiting_on state.now.plans action.op }
+    ensures exist { action.class ≢ Arrive → All (λ need. IsOp state.now.plans (needed action.op need)) result.now }
+{
+    match action.class {
+        Class::Arrive => &[],
+        Class::Begin | Class::Post | Class::Data | Class::Serve => state.waiting_on(action.op),
+    }
+}
+
 // Whether an action of a class may give its operation the moment that a need is of.
 fn gives(class: Class, when: When) -> bool
     ensures { result ≡ gives class when }
@@ -195,9 +212,12 @@ fn follow_waiting<C: Costs, H: History, L: Ledger, N: Ledger>(
     queue: &mut Queue,
     cursors: &mut [Cursor],
     action: Timed,
+    waiting: &[Need],
     steps: &mut Steps<L>,
     reads: &mut Steps<N>,
 )
+    requires whom { action.class ≢ Arrive → waiting.now ≡ waiting_on state.now.plans action.op }
+    requires exist { action.class ≢ Arrive → All (λ need. IsOp state.now.plans (needed action.op need)) waiting.now }
     requires exists { IsOp state.now.plans action.op }
     requires rest { IsQueueBut state.now.plans (C.model state.now.costs) state.now.history (Awaits state.now.plans action.class action.op) queue.old }
     requires cursors { AreCursors state.now.plans (C.model state.now.costs) state.now.history cursors.old }
@@ -210,15 +230,15 @@ fn follow_waiting<C: Costs, H: History, L: Ledger, N: Ledger>(
     if let Class::Arrive = action.class {
         return;
     }
-    for need in state.waiting_on(action.op) {
+    for need in waiting {
         if !gives(action.class, need.when) {
             continue;
         }
-        let waiting = OpId {
+        let later = OpId {
             rank: action.op.rank,
             op: need.op,
         };
-        refresh(state, queue, cursors, waiting, steps, reads);
+        refresh(state, queue, cursors, later, steps, reads);
     }
 }
 

@@ -13,7 +13,7 @@ ghost use Rattle.sim_events.specs.Needs.{read_so_far};
 ghost use Rattle.sim_events.specs.Changes.{HaveChanged, HaveChangedOn};
 ghost use Rattle.sim_events.specs.Pending.{IsPendingOf, IsStepped};
 
-use crate::follow::{Queue, fill, follow, next, settle};
+use crate::follow::{Queue, fill, follow, next, settle, waiting_after};
 use crate::station::number_stations;
 use goal_base::NoMemory;
 use goal_graph::{Sched, Timed};
@@ -104,6 +104,7 @@ fn step<C: Costs, H: History, L: Ledger, R: Ledger, M: Ledger, N: Ledger>(
 {
     state.known();
     let (slot, action) = next(state, &mut pending.queue, steps, moves)?;
+    let waiting = waiting_after(state, action);
     state.perform(action, looks);
     settle(state, &mut pending.queue, slot, action, steps);
     follow(
@@ -111,6 +112,7 @@ fn step<C: Costs, H: History, L: Ledger, R: Ledger, M: Ledger, N: Ledger>(
         &mut pending.queue,
         &mut pending.cursors,
         action,
+        waiting,
         steps,
         reads,
     );

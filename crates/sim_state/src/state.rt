@@ -176,7 +176,7 @@ impl<'a, C: Costs, H: History> State<'a, C, H> {
     }
 
     /// The operations that need one, in the order of the rank's dependencies. Of one that none needs the schedule is not asked.
-    pub fn waiting_on(&self, id: OpId) -> &[Need]
+    pub fn waiting_on(&self, id: OpId) -> &'a [Need]
         requires { IsOp self.now.plans id }
         ensures waiting_on { result.now ≡ waiting_on self.now.plans id }
         ensures exist { All (λ need. IsOp self.now.plans (needed id need)) result.now }

@@ -20,7 +20,7 @@ none = record { op = 0; when = AfterEnd }
 pub refresh-requires : goal.refresh-requires
 refresh-requires g c =
     record {
-      exists = c.waiting_on-need-items.ensures.exist c.loop-need.need-index none c.loop-need-test.true;
+      exists = c.requires.exist c.in_default.not-Arrive c.loop-need.need-index none c.loop-need-test.true;
       possible = possible_keys _ _ _ _ _ c.loop-need.invariant.0;
       cursors = c.loop-need.invariant.1;
     }
@@ -29,7 +29,7 @@ pub loop-need-preserved : goal.loop-need-preserved
 loop-need-preserved g c =
     let plans = c.args.state.now.plans in
     let id = c.args.action.op in
-    let items = c.waiting_on-need-items.ensures.waiting_on in
+    let items = c.requires.whom c.in_default.not-Arrive in
     let k = c.loop-need.need-index in
     let within = subst (λ (ds : List Need). k < length ds) items c.loop-need-test.true in
     let test = ap (λ (ds : List Need). gives c.args.action.class (get_or ds k none).when) (sym items) ∙ sym c.gives.ensures ∙ c.if-not-gives.false in
@@ -40,7 +40,7 @@ pub loop-need-preserved-then-not-gives : goal.loop-need-preserved-then-not-gives
 loop-need-preserved-then-not-gives g c =
     let plans = c.args.state.now.plans in
     let id = c.args.action.op in
-    let items = c.waiting_on-need-items.ensures.waiting_on in
+    let items = c.requires.whom c.in_default.not-Arrive in
     let k = c.loop-need.need-index in
     let within = subst (λ (ds : List Need). k < length ds) items c.loop-need-test.true in
     let other = ap (λ (ds : List Need). gives c.args.action.class (get_or ds k none).when) (sym items) ∙ sym c.gives.ensures ∙ c.if-not-gives.true in
@@ -55,7 +55,7 @@ pub returns-clause-queue : goal.returns-clause-queue
 returns-clause-queue g c =
     let plans = c.args.state.now.plans in
     let id = c.args.action.op in
-    let items = c.waiting_on-need-items.ensures.waiting_on in
+    let items = c.requires.whom c.in_default.not-Arrive in
     fewer_due plans _ _ _ _ _ c.loop-need.invariant.0 (λ y is n. await_none (waiting_on plans id) c.loop-need.need-index none c.args.action.class id y (omega (arith, ap length items, c.loop-need-test.false)) n)
 
 pub returns-clause-counted : goal.returns-clause-counted
@@ -65,6 +65,6 @@ pub returns-clause-looked : goal.returns-clause-looked
 returns-clause-looked g c =
     let plans = c.args.state.now.plans in
     let id = c.args.action.op in
-    let items = c.waiting_on-need-items.ensures.waiting_on in
+    let items = c.requires.whom c.in_default.not-Arrive in
     let whole = take_all c.loop-need.need-index (waiting_on plans id) (omega (arith, ap length items, c.loop-need-test.false)) in
     omega (arith, c.loop-need.invariant.4, ap (count_by (λ (d : Need). gives c.args.action.class d.when)) whole)

@@ -1,6 +1,9 @@
-use Rattle.std.proofs.Common.{◌<◌, ◌∙◌, length, sym, ap, subst, arith}
+use Rattle.std.proofs.Common.{◌<◌, ◌∙◌, List, All, length, sym, ap, subst, arith}
 use Rattle.std.proofs.lemmas.Option.{slice_get_within}
-use Rattle.goal_graph.specs.Schedule.{operations}
+use Rattle.goal_graph.specs.declared.plan.Need.{Need}
+use Rattle.goal_graph.specs.Schedule.{Plan, operations, needed}
+use Rattle.goal_graph.specs.Concerned.{waiting_on}
+use Rattle.goal_graph.specs.Fault.{IsOp}
 use Rattle.sim_state.specs.Cursors.{AreCursors}
 use Rattle.sim_events.specs.Comparisons.{count_of, last_look}
 use Rattle.sim_events.proofs.Costs.{spent_same}
@@ -10,7 +13,7 @@ use Rattle.sim_events.specs.Needs.{read_so_far}
 use Rattle.sim_events.proofs.Passed.{read_same}
 use Rattle.sim_events.proofs.Settled.{spent_settled}
 use Rattle.sim_events.proofs.Changes.{changed_placed}
-use Rattle.sim_events.proofs.Steps.{op_after, due_after, later_after, changed_after, read_after, looked_more}
+use Rattle.sim_events.proofs.Steps.{next_op, plans_after, op_after, due_after, later_after, changed_after, read_after, looked_more}
 use Rattle.sim_events.proofs.pending.step.Goals as goal
 
 pub returns-in_err-slot-clause-counted : goal.returns-in_err-slot-clause-counted
@@ -18,6 +21,10 @@ returns-in_err-slot-clause-counted g c =
     λ k few.
     let next = c.next.ensures.counted k (omega (arith, few, c.requires.pending.0.of_it.each)) in
     omega (arith, next, spent_same k c.args.pending.now.queue c.next.new.queue c.next.ensures.keys, ap last_look c.from_residual.ensures, ap count_of c.from_residual.ensures)
+
+pub waiting_after-waiting-requires : goal.waiting_after-waiting-requires
+waiting_after-waiting-requires g c =
+    (next_op g.C.Costs.model c.args.state.now c.in_ok-slot.action c.in_ok-slot.ensures.next)
 
 pub settle-requires-clause-exists : goal.settle-requires-clause-exists
 settle-requires-clause-exists g c =
@@ -30,6 +37,16 @@ settle-requires-clause-later g c =
 pub follow-requires-clause-exists : goal.follow-requires-clause-exists
 follow-requires-clause-exists g c =
     op_after g.C.Costs.model c.args.state.now c.perform.new.self c.in_ok-slot.action c.perform.ensures.performed c.in_ok-slot.ensures.next
+
+pub follow-requires-clause-whom : goal.follow-requires-clause-whom
+follow-requires-clause-whom g c =
+    let same = plans_after g.C.Costs.model c.args.state.now c.perform.new.self c.in_ok-slot.action c.perform.ensures.performed in
+    λ other. c.waiting_after-waiting.ensures.whom other ∙ ap (λ (ps : List Plan). waiting_on ps c.in_ok-slot.action.op) same
+
+pub follow-requires-clause-exist : goal.follow-requires-clause-exist
+follow-requires-clause-exist g c =
+    let same = plans_after g.C.Costs.model c.args.state.now c.perform.new.self c.in_ok-slot.action c.perform.ensures.performed in
+    λ other. subst (λ (ps : List Plan). All (λ (need : Need). IsOp ps (needed c.in_ok-slot.action.op need)) c.waiting_after-waiting.result.now) same (c.waiting_after-waiting.ensures.exist other)
 
 pub follow-requires-clause-rest : goal.follow-requires-clause-rest
 follow-requires-clause-rest g c =
