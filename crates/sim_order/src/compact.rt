@@ -141,8 +141,11 @@ impl EventOrder for CompactKey {
 
     ghost laws = { event_laws };
 
+    // The time and the tail are compared as one number of 128 bits, which takes no branch: which key is first can hardly be foretold.
     fn before<L: Ledger>(&self, other: &CompactKey, steps: &mut Steps<L>) -> bool {
         steps.tick();
-        self.time < other.time || (self.time == other.time && self.tail < other.tail)
+        let own = (u128::from(self.time) << 64) + u128::from(self.tail);
+        let others = (u128::from(other.time) << 64) + u128::from(other.tail);
+        own < others
     }
 }
