@@ -1,8 +1,9 @@
 // The lines of the timeline.
 ghost use Rattle.std.specs.Prelude.{◌≡◌, ◌+◌, ◌-◌, ◌++◌, ◌<◌, ◌≤◌, ◌^◌, length, take, OnOk, IfOk, Some, is_some, unwrap_or, max, count_by, if◌then◌else◌};
 ghost use Rattle.goal_graph.specs.Schedule.{operations};
+ghost use Rattle.goal_graph.specs.Fault.{IsOp};
 ghost use Rattle.sim_params.specs.Stuck.{lacks_end};
-ghost use Rattle.sim_timeline.specs.Timeline.{operation_line, summary_line, kind_text, partner_text, match_text, first_line};
+ghost use Rattle.sim_timeline.specs.Timeline.{line_of, summary_line, kind_text, partner_text, match_text, first_line};
 ghost use Rattle.sim_timeline.specs.Pages.{IsSummary, is_unread_send};
 
 use goal_base::{NoMemory, TextOut, put_pair, put_time, put_word};
@@ -129,14 +130,22 @@ fn put_summary(out: &mut TextOut, sched: &Sched, summary: &Summary) -> Result<()
     out.word("\n")
 }
 
-/// Writes the line of an operation of that kind, and says where it ends.
+/// Writes the line of an operation, of an engine whose run is over, and says where it ends.
 #[inline(always)]
-pub fn put_operation(line: &mut [u8], at: usize, id: OpId, kind: Kind, times: Record) -> usize
+pub fn put_operation<C: Costs, H: History>(
+    line: &mut [u8],
+    at: usize,
+    engine: &Engine<'_, C, H>,
+    id: OpId,
+) -> usize
+    requires op { IsOp engine.now.plans id }
     requires room { at + LINE ≤ length line.old }
     ensures text { take result line.new
-        ≡ take at line.old ++ operation_line id kind times.start times.end times.partner }
+        ≡ take at line.old ++ line_of engine.now.plans (C.model engine.now.costs) engine.now.history id }
     ensures end { result ≤ at + LINE }
 {
+    let kind = engine.sched().op(id).kind;
+    let times = engine.record(id);
     let at = put_word(line, at, "op ");
     let at = put_pair(line, at, id.rank, id.op);
     let at = put_kind(line, at, kind);

@@ -98,12 +98,11 @@ fn put_lines<C: Costs, H: History>(
     ensures { OnOk result (out.new ≡ out.old
         ++ flat_map (line_of engine.now.plans (C.model engine.now.costs) engine.now.history) ids.now) }
 {
-    let sched = engine.sched();
     let mut lines = [0; LINES];
     let mut end = 0;
     for id in ids {
         let at = out.room_for(LINE, &lines, end)?;
-        end = put_operation(&mut lines, at, *id, sched.op(*id).kind, engine.record(*id));
+        end = put_operation(&mut lines, at, engine, *id);
     }
     out.piece(&lines[..end])
 }
