@@ -249,6 +249,12 @@ pub action_awaits : AwaitsAction state.Action
 unfolding entry
 action_awaits = record { calc = refl; send = refl; recv = refl }
 
+-- an action may come in each of these states
+pub may_act : (s : State) → (s ≡ state.Action) ⊎ (s ≡ state.Item) ⊎ (s ≡ state.Calc2) ⊎ (s ≡ state.Send4) ⊎ (s ≡ state.Recv4) → AwaitsAction s
+may_act s (inl is) = subst (λ (s : State). AwaitsAction s) (sym is) action_awaits
+may_act s (inr (inl is)) = subst (λ (s : State). AwaitsAction s) (sym is) item_awaits.action
+may_act s (inr (inr open_action)) = (option_awaits s open_action).action
+
 -- the limits of a schedule let one more pass
 pub action_fits : (counts : Counts) → counts.ops < MAX_OPS →
     (is_too_many token.Calc counts ≡ false) × (is_too_many token.Send counts ≡ false) × (is_too_many token.Recv counts ≡ false)

@@ -198,10 +198,28 @@ fn option_ahead(rest: &[u8], blanks: usize) -> usize
     }
 }
 
-/// Whether an action may stand behind so many blanks, by the first byte of its word. Any answer is right: it saves time alone.
+/// What was taken of an item ahead of its action: so many bytes, and whether an action may stand behind them. Any answer to the latter is
+/// right: it says where to look.
+#[derive(Clone, Copy)]
+struct Begun {
+    taken: usize,
+    may_act: bool,
+}
+
+/// Whether the word of an action stands behind so many blanks. Any answer is right: it saves time alone.
 #[inline(always)]
-fn begins_as_action(rest: &[u8], blanks: usize) -> bool {
-    blanks < rest.len() && matches!(rest[blanks], b'c' | b's' | b'r')
+fn begins_as_action(rest: &[u8], blanks: usize) -> bool
+    requires { AreBlanks rest.now blanks }
+{
+    if blanks == rest.len() {
+        return false;
+    }
+    match rest[blanks] {
+        b'c' => word_ahead(rest, blanks, b"calc") > 0,
+        b's' => word_ahead(rest, blanks, b"send") > 0,
+        b'r' => word_ahead(rest, blanks, b"recv") > 0,
+        _ => false,
+    }
 }
 
 impl Parser {
@@ -616,7 +634,7 @@ impl Reader {
         }
     }
 
-    /// Takes the action that is awaited, where it stands ahead.
+    /// Takes the action that may come, where it stands ahead.
     #[inline(always)]
     fn take_action_ahead(&mut self, rest: &[u8]) -> Result<usize, TokenFault>
         requires place { self.old.place + length rest.now < 2 ^ 64 }
@@ -629,78 +647,102 @@ impl Reader {
             return Ok(0);
         }
         match self.parser.state {
-            State::Action => self.take_whole_action(rest, blanks_ahead(rest)),
+            State::Action | State::Item | State::Calc2 | State::Send4 | State::Recv4 => {
+                self.take_whole_action(rest, blanks_ahead(rest))
+            }
             _ => Ok(0),
         }
     }
 
-    /// Takes a label, of which the bytes are known, the colon behind it, and the action that it defines as far as that stands
-    /// ahead.
+    /// Takes an item that begins with a label, before which so many blanks stand: a dependency or a note, or of a definition what stands
+    /// ahead of its action.
     #[inline(always)]
-    fn take_defined(
-        &mut self,
-        rest: &[u8],
-        blanks: usize,
-        label: usize,
-    ) -> Result<usize, TokenFault>
-        requires ready { MayGoOn self.old.lexer self.old.place rest.now }
-        requires state { AwaitsItem self.old.parser.state }
-        requires label { IsLabelAhead self.old.place rest.now blanks label }
-        requires colon { (place : ℕ) → IsAhead place (drop label rest.now) 1 false (record { kind = TokenKind.Colon; start = place; end = place + 1 } ∷ []) }
-        ensures ahead { IfOk result (λ n. GoesAhead self.old rest.now self.new n) }
-        ensures fault { IfErr result (λ f. IsFaultAhead self.old rest.now f) }
-    {
-        let definition = match self.take_definition(rest, blanks, label) {
-            Ok(definition) => definition,
-            Err(fault) => return Err(fault),
-        };
-        match self.take_action_ahead(&rest[definition..]) {
-            Ok(action) => Ok(definition + action),
-            Err(fault) => Err(fault),
-        }
-    }
-
-    /// Takes an item that begins with a label, before which so many blanks stand.
-    #[inline(always)]
-    fn take_label(&mut self, rest: &[u8], blanks: usize) -> Result<usize, TokenFault>
+    fn take_label(&mut self, rest: &[u8], blanks: usize) -> Result<Begun, TokenFault>
         requires ready { MayGoOn self.old.lexer self.old.place rest.now }
         requires state { AwaitsItem self.old.parser.state }
         requires blanks { AreBlanks rest.now blanks }
-        ensures ahead { IfOk result (λ n. GoesAhead self.old rest.now self.new n) }
+        ensures ahead { IfOk result (λ b. GoesAhead self.old rest.now self.new b.taken) }
         ensures fault { IfErr result (λ f. IsFaultAhead self.old rest.now f) }
     {
         let label = label_ahead(rest, blanks);
         if label == 0 {
-            return Ok(0);
+            return Ok(Begun {
+                taken: 0,
+                may_act: false,
+            });
         }
         if begins_with_colon(&rest[label..]) {
-            return self.take_defined(rest, blanks, label);
+            return match self.take_definition(rest, blanks, label) {
+                Ok(taken) => Ok(Begun {
+                    taken,
+                    may_act: true,
+                }),
+                Err(fault) => Err(fault),
+            };
         }
-        self.take_labelled(rest, blanks, label)
-    }
-
-    /// Takes an item, before which so many blanks stand. An action is looked for first where its word may stand there.
-    #[inline(always)]
-    fn take_item(&mut self, rest: &[u8], blanks: usize) -> Result<usize, TokenFault>
-        requires ready { MayGoOn self.old.lexer self.old.place rest.now }
-        requires state { AwaitsItem self.old.parser.state }
-        requires blanks { AreBlanks rest.now blanks }
-        ensures ahead { IfOk result (λ n. GoesAhead self.old rest.now self.new n) }
-        ensures fault { IfErr result (λ f. IsFaultAhead self.old rest.now f) }
-    {
-        if !begins_as_action(rest, blanks) {
-            return self.take_label(rest, blanks);
-        }
-        match self.take_whole_action(rest, blanks) {
-            Ok(0) => self.take_label(rest, blanks),
-            Ok(taken) => Ok(taken),
+        match self.take_labelled(rest, blanks, label) {
+            Ok(taken) => Ok(Begun {
+                taken,
+                may_act: false,
+            }),
             Err(fault) => Err(fault),
         }
     }
 
+    /// Takes what may stand ahead of an action: nothing, or a label that it defines; or an option, a dependency or a note.
+    #[inline(always)]
+    fn take_before_action(&mut self, rest: &[u8]) -> Result<Begun, TokenFault>
+        requires place { self.old.place + length rest.now < 2 ^ 64 }
+        requires same { self.old.lexer.place ≡ self.old.place }
+        requires apart { self.old.lexer.ends_run ≡ true → begins_run rest.now ≡ false }
+        ensures ahead { IfOk result (λ b. GoesAhead self.old rest.now self.new b.taken) }
+        ensures fault { IfErr result (λ f. IsFaultAhead self.old rest.now f) }
+    {
+        if !self.lexer.is_between() {
+            return Ok(Begun {
+                taken: 0,
+                may_act: false,
+            });
+        }
+        let blanks = blanks_ahead(rest);
+        match self.parser.state {
+            State::Item => {}
+            State::Action => {
+                return Ok(Begun {
+                    taken: 0,
+                    may_act: true,
+                });
+            }
+            State::Calc2 | State::Send4 | State::Recv4 => match self.take_option(rest, blanks) {
+                Ok(0) => {}
+                Ok(taken) => {
+                    return Ok(Begun {
+                        taken,
+                        may_act: false,
+                    });
+                }
+                Err(fault) => return Err(fault),
+            },
+            _ => {
+                return Ok(Begun {
+                    taken: 0,
+                    may_act: false,
+                });
+            }
+        }
+        if begins_as_action(rest, blanks) {
+            return Ok(Begun {
+                taken: 0,
+                may_act: true,
+            });
+        }
+        self.take_label(rest, blanks)
+    }
+
     /// Takes bytes from the front of `rest` that are several whole tokens: a definition with its action, a dependency, a note, an
     /// action with its options, or an option. The answer is how many; it is 0, and nothing is taken, where other tokens stand
-    /// ahead, where they go on behind the piece, or where one of them fails a test that is made before it is taken.
+    /// ahead, where they go on behind the piece, or where one of them fails a test that is made before it is taken. Each kind is taken at
+    /// one place, so that the compiler makes it a part of the loop that calls this.
     #[inline(always)]
     pub fn take_ahead(&mut self, rest: &[u8]) -> Result<usize, TokenFault>
         requires place { self.old.place + length rest.now < 2 ^ 64 }
@@ -709,20 +751,16 @@ impl Reader {
         ensures ahead { IfOk result (λ n. GoesAhead self.old rest.now self.new n) }
         ensures fault { IfErr result (λ f. IsFaultAhead self.old rest.now f) }
     {
-        if !self.lexer.is_between() {
-            return Ok(0);
+        let begun = match self.take_before_action(rest) {
+            Ok(begun) => begun,
+            Err(fault) => return Err(fault),
+        };
+        if !begun.may_act {
+            return Ok(begun.taken);
         }
-        let blanks = blanks_ahead(rest);
-        match self.parser.state {
-            State::Item => {}
-            State::Action => return self.take_whole_action(rest, blanks),
-            State::Calc2 | State::Send4 | State::Recv4 => match self.take_option(rest, blanks) {
-                Ok(0) => {}
-                Ok(taken) => return Ok(taken),
-                Err(fault) => return Err(fault),
-            },
-            _ => return Ok(0),
+        match self.take_action_ahead(&rest[begun.taken..]) {
+            Ok(action) => Ok(begun.taken + action),
+            Err(fault) => Err(fault),
         }
-        self.take_item(rest, blanks)
     }
 }

@@ -1,16 +1,12 @@
-use Rattle.std.proofs.Common.{sym, subst, arith}
-use Rattle.goal_parser.specs.declared.sentence.State.{State}
-use Rattle.goal_parser.specs.declared.reader.Reader.{Reader}
-use Rattle.goal_parser.specs.Ahead.{AwaitsAction, AwaitsItem}
-use Rattle.goal_parser.proofs.AheadLaws.{item_awaits, option_awaits, action_awaits}
-use Rattle.goal_parser.proofs.reader.Reader.take_ahead.Goals.{in-Item, in-Calc2+in-Ok-eq0}
+use Rattle.goal_parser.proofs.AheadLaws.{goes_both, fault_behind_ahead}
 use Rattle.goal_parser.proofs.reader.Reader.take_ahead.Goals as goal
 
-pub take_item-requires-clause-state : goal.take_item-requires-clause-state
-take_item-requires-clause-state c = elim c.match-self.branch [
-  | in-Item w ↦ subst (λ (r : Reader). AwaitsItem r.parser.state) (sym w.self-is) (subst (λ (s : State). AwaitsItem s) (sym w.in-Item.is) item_awaits)
-  | in-Calc2+in-Ok-eq0 w ↦ subst (λ (r : Reader). AwaitsItem r.parser.state) (sym w.self-is) (subst (λ (r : Reader). AwaitsItem r.parser.state) (sym (w.in-Ok-eq0.ensures.ahead.none (omega (arith, w.in-Ok-eq0.field-0-test)))) (option_awaits _ w.in-Calc2.is))
-]
+pub returns-in-Ok-take_action_ahead-clause-ahead : goal.returns-in-Ok-take_action_ahead-clause-ahead
+returns-in-Ok-take_action_ahead-clause-ahead c =
+    goes_both c.args.self.now c.take_before_action.new.self c.take_action_ahead.new.self c.args.rest.now c.in-Ok.begun.taken c.in-Ok-take_action_ahead.action
+    c.in-Ok.ensures.ahead c.in-Ok-take_action_ahead.ensures.ahead
 
-pub take_whole_action-requires-clause-state : goal.take_whole_action-requires-clause-state
-take_whole_action-requires-clause-state c = subst (λ (s : State). AwaitsAction s) (sym c.in-Action.is) action_awaits
+pub returns-in-Err-take_action_ahead-clause-fault : goal.returns-in-Err-take_action_ahead-clause-fault
+returns-in-Err-take_action_ahead-clause-fault c =
+    fault_behind_ahead c.args.self.now c.take_before_action.new.self c.args.rest.now c.in-Ok.begun.taken c.in-Err-take_action_ahead.fault
+    c.in-Ok.ensures.ahead c.in-Err-take_action_ahead.ensures.fault
