@@ -20,6 +20,16 @@ use goal_graph::{Dep, Op};
 use goal_lexer::TokenKind;
 use std::alloc::AllocError;
 
+/// Adds an item to the end of a list. Room is asked for apart, so that a build makes the rest a part of what calls it.
+#[inline(always)]
+fn append<T: Copy>(list: &mut Vec<T>, item: T) -> Result<(), AllocError>
+    ensures { OnOk result (list.new.items ≡ list.old.items ++ item ∷ []) }
+{
+    list.reserve(1)?;
+    list.push_reserved(item);
+    Ok(())
+}
+
 /// Adds the operation of the action that is open in this state, if one is.
 #[inline(always)]
 #[tactic(auto, unfolding(crate::specs::Items::ends_action))]
@@ -27,7 +37,7 @@ fn end_open_action(ops: &mut Vec<Op>, state: State, draft: &Draft) -> Result<(),
     ensures { OnOk result (ops.new.items ≡ ended_ops state TokenKind.Close (op_of draft.now) ops.old.items) }
 {
     match state {
-        State::Calc2 | State::Send4 | State::Recv4 => ops.push(draft.op())?,
+        State::Calc2 | State::Send4 | State::Recv4 => append(ops, draft.op())?,
         _ => {}
     }
     Ok(())
@@ -81,11 +91,12 @@ impl Parser {
         self.counts.deps += 1;
         let later = self.block.names.labels.mention(later, later_at)?;
         let earlier = self.block.names.labels.mention(earlier, earlier_at)?;
-        self.block.names.deps.push(Dep {
+        let dep = Dep {
             later,
             earlier,
             when: when_of(verb),
-        })?;
+        };
+        append(&mut self.block.names.deps, dep)?;
         self.state = State::Item;
         Ok(())
     }
@@ -112,10 +123,8 @@ impl Parser {
         end_open_action(&mut self.block.ops, self.state, &self.draft)?;
         self.counts.notes += 1;
         let op = self.block.names.labels.mention(label, at)?;
-        self.block
-            .names
-            .notes
-            .push(note_as(verb, op, first, second))?;
+        let note = note_as(verb, op, first, second);
+        append(&mut self.block.names.notes, note)?;
         self.state = State::Item;
         Ok(())
     }
