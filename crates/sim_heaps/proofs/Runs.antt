@@ -350,8 +350,8 @@ module _ {K : Type 0} (before : K → K → Bool) (laws : IsOrder before) (run :
   pub not_ahead_of_first : (first x : Item K) → slice_get run 0 ≡ Some first → before x.key first.key ≡ false → IsNotAhead before run x
   not_ahead_of_first first x stands late y e = subst (λ (z : Item K). before x.key z.key ≡ false) (same_Some first y (sym stands ∙ e)) late
 
-  pub behind_none : length run ≡ 0 → (x : Item K) → IsBehind before run x
-  behind_none none x place y e = let within = slice_get_within run place y e in absurd (omega (arith, within, none))
+  pub ahead_of_none : (x : Item K) → length run ≡ 0 → IsAhead before run x
+  ahead_of_none x none place y e = let within = slice_get_within run place y e in absurd (omega (arith, within, none))
 
 -- where no item is in the run
 module _ {K : Type 0} (before : K → K → Bool) (heap : List (Option K)) where
