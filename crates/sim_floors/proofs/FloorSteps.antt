@@ -91,10 +91,6 @@ module _ (ahead : List (Option Timed)) (waiting : Grouped Timed) (heads : List (
             go (inl e) = e
             go (inr w) = w.is ∙ sym w.was
 
--- what waits, with the key of the slot at 0
-pub with_key : (waiting new : Grouped Timed) (slot : ℕ) (key put : Timed) → new ≡ record { keys = set waiting.keys slot (Some put); groups = waiting.groups } → put ≡ at_time 0 key → new ≡ record { keys = set waiting.keys slot (Some (at_time 0 key)); groups = waiting.groups }
-with_key waiting new slot key put e f = e ∙ ap (λ (k : Timed). record { keys = set waiting.keys slot (Some k); groups = waiting.groups }) f
-
 -- what waits is not ahead
 pub not_ahead : (ahead : List (Option Timed)) (waiting : Grouped Timed) (heads : List (Option Timed)) → IsFloored ahead waiting heads → (slot : ℕ) → is_some (key_at waiting.keys slot) ≡ true → key_at ahead slot ≡ None
 not_ahead ahead waiting heads floored slot some = go (key_at ahead slot) refl

@@ -8,6 +8,7 @@ use Rattle.goal_graph.specs.declared.action.Class.TheVariants.{Arrive, Serve, Da
 use Rattle.sim_order.specs.Events.{event_before}
 use Rattle.sim_floors.specs.declared.floor_queue.KeyPlace.{KeyPlace}
 use Rattle.sim_floors.specs.declared.floor_queue.KeyPlace.TheVariants.{Nowhere, Ahead, Waiting}
+pub use Rattle.sim_heaps.specs.Item.{at_time}
 use Rattle.sim_heaps.specs.Map.{key_at}
 use Rattle.sim_groups.specs.Groups.{Grouped, IsEmptyGroup, IsLeastOf}
 
@@ -29,10 +30,6 @@ waits_for_room Serve = true
 waits_for_room Data = true
 waits_for_room Post = false
 waits_for_room Begin = true
-
--- the event at another time
-abbrev pub at_time : ℕ → Timed → Timed
-at_time time k = record { time = time; class = k.class; op = k.op }
 
 -- a slot has a key, of an action that waits, before a time
 pub record IsLate (keys : List (Option Timed)) (slot time : ℕ) : Type 0 where

@@ -167,7 +167,7 @@ fn join<L: Ledger>(
 {
     let group = waiting.group(slot);
     let floor = floor(heads, group);
-    waiting.put(slot, key.at(0), steps);
+    waiting.put(slot, key, steps);
     renew(waiting, heads, group, floor, steps);
 }
 
@@ -197,7 +197,7 @@ fn park<L: Ledger>(
 {
     let group = waiting.group(slot);
     ahead.take(slot, Arrivals::Mixed, steps);
-    waiting.put(slot, key.at(0), steps);
+    waiting.put(slot, key, steps);
     renew(waiting, heads, group, time, steps);
 }
 

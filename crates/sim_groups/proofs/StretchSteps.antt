@@ -158,10 +158,7 @@ module _ (places : List (Item Timed)) (s : Stretch) (is : IsStretch event_before
             ap (λ n. placed n (standing written left)) long_left ∙ ap (placed (length places)) stay ∙ is_left ∙ ap (λ xs. slice_set (placed (length places) xs) slot None) (sym whole)
 
   -- one more stands among the others, which were moved to the front
-  module _ (slot : ℕ) (key : Timed) (slot_in : slot < length places) (free : key_at (map_on places s) slot ≡ None) where
-    abbrev x : Item Timed
-    x = record { key = key; slot = slot }
-
+  module _ (x : Item Timed) (slot_in : x.slot < length places) (free : key_at (map_on places s) x.slot ≡ None) where
     pub fit : s.end - s.first + 1 ≤ length places
     fit =
         let few = items_fit (length places) (standing places s ++ x ∷ []) (added_apart (standing places s) x (length places) is.heap.apart slot_in free) in
@@ -202,6 +199,6 @@ module _ (places : List (Item Timed)) (s : Stretch) (is : IsStretch event_before
           at_front = λ e. refl;
         }
 
-        pub among_map : placed (length places) ys ≡ slice_set (placed (length places) (all_but_last (take (count + 1) moved))) slot (Some key) → map_on entered among ≡ slice_set (map_on places s) slot (Some key)
+        pub among_map : placed (length places) ys ≡ slice_set (placed (length places) (all_but_last (take (count + 1) moved))) x.slot (Some x.key) → map_on entered among ≡ slice_set (map_on places s) x.slot (Some x.key)
         among_map is_put =
-            ap (λ n. placed n (standing entered among)) long_entered ∙ ap (placed (length places)) are_entered ∙ is_put ∙ ap (λ xs. slice_set (placed (length places) xs) slot (Some key)) before_free
+            ap (λ n. placed n (standing entered among)) long_entered ∙ ap (placed (length places)) are_entered ∙ is_put ∙ ap (λ xs. slice_set (placed (length places) xs) x.slot (Some x.key)) before_free

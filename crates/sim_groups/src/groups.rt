@@ -2,6 +2,7 @@
 ghost use Rattle.std.specs.Prelude.{◌≡◌, ◌+◌, ◌*◌, ◌^◌, ◌<◌, ◌≤◌, ℕ, All, IfOk, IfSome, IsNone, OnOk, Some, None, length, replicate, slice_get, slice_set, sum};
 ghost use Rattle.goal_base.specs.declared.limits.TheConstants.{MAX_OPS};
 ghost use Rattle.sim_order.specs.Events.{event_before};
+ghost use Rattle.sim_heaps.specs.Item.{at_time};
 ghost use Rattle.sim_heaps.specs.Map.{key_at};
 ghost use Rattle.sim_groups.specs.Groups.{IsEmptyGroup, IsLeastOf, IsSoleLeastOf, AreHomes};
 
@@ -84,11 +85,11 @@ impl Groups {
         self.homes[slot as usize].group
     }
 
-    /// Gives a slot that has no key a key.
+    /// Gives a slot that has no key a key, which is kept at time 0.
     pub fn put<L: Ledger>(&mut self, slot: u32, key: CompactKey, steps: &mut Steps<L>)
         requires slot_in { slot < length self.old.keys }
         requires free { key_at self.old.keys slot ≡ None }
-        ensures put { self.new ≡ record self.old { keys = slice_set self.old.keys slot (Some key) } }
+        ensures put { self.new ≡ record self.old { keys = slice_set self.old.keys slot (Some (at_time 0 key)) } }
         ensures counted { (k : ℕ) → length self.old.keys ≤ 2 ^ k → steps.new ≤ steps.old + (2 * k + 1) }
         ensures onward { steps.old ≤ steps.new }
     {

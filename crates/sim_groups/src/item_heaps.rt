@@ -2,6 +2,7 @@
 ghost use Rattle.std.specs.Prelude.{◌≡◌, ◌+◌, ◌*◌, ◌^◌, ◌<◌, ◌≤◌, ℕ, All, IfOk, IfSome, IsNone, Some, None, length, map, sum};
 ghost use Rattle.goal_base.specs.declared.limits.TheConstants.{MAX_OPS};
 ghost use Rattle.sim_order.specs.Events.{event_before};
+ghost use Rattle.sim_heaps.specs.Item.{at_time};
 ghost use Rattle.sim_heaps.specs.Map.{no_keys, IsEmptyMap, IsLeast, IsSoleLeast};
 ghost use Rattle.sim_groups.specs.Groups.{heap_at, key_of_home, with_key};
 ghost use Rattle.sim_groups.specs.Parts.{AreWithoutKeys};
@@ -11,7 +12,7 @@ use crate::PlaceInGroup;
 use crate::parts::{Part, parts};
 use crate::stretch::{Stretch, empty, put, take};
 use goal_base::NoMemory;
-use sim_heaps::HeapItem;
+use sim_heaps::{AtZero, HeapItem};
 use sim_order::{CompactKey, Steps};
 use std::alloc::Global;
 use std::marker::Model;
@@ -25,12 +26,12 @@ pub struct Plot {
     pub stretch: Stretch,
 }
 
-/// A heap for each group, whose keys come at any place that has none, and go only from the top. Contracts see the maps of the
-/// groups.
+/// A heap for each group, whose keys are at time 0, come at any place that has none, and go only from the top. Contracts see the
+/// maps of the groups.
 #[derive(Drop)]
 pub struct ItemHeaps {
     plots: Vec<Plot>,
-    items: Vec<HeapItem>,
+    items: Vec<HeapItem<AtZero>>,
 }
 
 impl Model for ItemHeaps {
@@ -47,7 +48,7 @@ impl Model for ItemHeaps {
 }
 
 // So many items, which no group counts yet.
-fn no_items(alloc: Global, count: usize) -> Result<Vec<HeapItem>, NoMemory>
+fn no_items(alloc: Global, count: usize) -> Result<Vec<HeapItem<AtZero>>, NoMemory>
     ensures { IfOk result (λ items. length items.items ≡ count) }
 {
     let none = HeapItem::new(CompactKey::from_tail(0, 0), 0);
@@ -92,12 +93,12 @@ impl ItemHeaps {
         self.plots.len()
     }
 
-    /// Gives a home that has no key one.
+    /// Gives a home that has no key one, at time 0.
     pub fn put<L: Ledger>(&mut self, home: PlaceInGroup, key: CompactKey, steps: &mut Steps<L>)
         requires group_in { home.group < length self.old }
         requires place_in { home.place < length (heap_at self.old home.group) }
         requires free { key_of_home self.old home ≡ None }
-        ensures put { self.new ≡ with_key self.old home (Some key) }
+        ensures put { self.new ≡ with_key self.old home (Some (at_time 0 key)) }
         ensures counted { (k : ℕ) → length (heap_at self.old home.group) ≤ 2 ^ k → steps.new ≤ steps.old + (2 * k + 1) }
         ensures onward { steps.old ≤ steps.new }
     {

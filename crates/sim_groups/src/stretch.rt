@@ -1,13 +1,14 @@
 // Heaps of items, each on a stretch of the places of its group.
 ghost use Rattle.std.specs.Prelude.{◌≡◌, ◌+◌, ◌*◌, ◌^◌, ◌<◌, ◌≤◌, ℕ, Some, None, true, length, slice_set};
 ghost use Rattle.sim_order.specs.Events.{event_before};
+ghost use Rattle.sim_heaps.specs.Item.{at_time};
 ghost use Rattle.sim_heaps.specs.Map.{key_at, IsSoleLeast};
 ghost use Rattle.sim_heaps.specs.RunHeap.{IsBehind};
 ghost use Rattle.sim_heaps.specs.TopHeap.{placed, IsTopHeap};
 ghost use Rattle.sim_groups.specs.Parts.{all_but_last};
 ghost use Rattle.sim_groups.specs.Stretches.{standing, map_on, IsFront, IsStretch};
 
-use sim_heaps::{Arrivals, HeapItem, rise, sink};
+use sim_heaps::{Arrivals, AtZero, HeapItem, rise, sink};
 use sim_order::{CompactKey, Steps};
 use std::sync::ledger::Ledger;
 
@@ -20,33 +21,32 @@ pub struct Stretch {
     pub in_order: bool,
 }
 
-// Gives a slot of so many a key, where the last place is free for it.
+// An item more, of a slot of so many, where the last place is free for it.
 #[inline(always)]
 fn enter<L: Ledger>(
-    items: &mut [HeapItem],
+    items: &mut [HeapItem<AtZero>],
     slots: u32,
-    slot: u32,
-    key: CompactKey,
+    item: HeapItem<AtZero>,
     steps: &mut Steps<L>,
 )
     requires some { 0 < length items.old }
     requires heap { IsTopHeap event_before (all_but_last items.old) slots slots }
-    requires slot_in { slot < slots }
-    requires free { key_at (placed slots (all_but_last items.old)) slot ≡ None }
+    requires slot_in { item.slot < slots }
+    requires free { key_at (placed slots (all_but_last items.old)) item.slot ≡ None }
     ensures each { length items.new ≡ length items.old }
     ensures heap { IsTopHeap event_before items.new slots slots }
-    ensures put { placed slots items.new ≡ slice_set (placed slots (all_but_last items.old)) slot (Some key) }
+    ensures put { placed slots items.new ≡ slice_set (placed slots (all_but_last items.old)) item.slot (Some item.key) }
     ensures counted { (k : ℕ) → slots ≤ 2 ^ k → steps.new ≤ steps.old + k }
     ensures onward { steps.old ≤ steps.new }
 {
     let last = items.len() - 1;
-    items[last] = HeapItem::new(key, slot);
+    items[last] = item;
     rise(items, last, steps);
 }
 
 // Takes the least key out, that of this slot of so many. Then the last place is free.
 #[inline(always)]
-fn leave<L: Ledger>(items: &mut [HeapItem], slots: u32, slot: u32, steps: &mut Steps<L>)
+fn leave<L: Ledger>(items: &mut [HeapItem<AtZero>], slots: u32, slot: u32, steps: &mut Steps<L>)
     requires heap { IsTopHeap event_before items.old slots slots }
     requires least { IsSoleLeast event_before (placed slots items.old) slot }
     ensures each { length items.new ≡ length items.old }
@@ -80,9 +80,9 @@ pub fn empty() -> Stretch
 // Whether an item is to stand behind the others: they are in order, there is a place, and it is not before the last.
 #[inline(always)]
 fn follows<L: Ledger>(
-    places: &[HeapItem],
+    places: &[HeapItem<AtZero>],
     stretch: Stretch,
-    item: &HeapItem,
+    item: &HeapItem<AtZero>,
     steps: &mut Steps<L>,
 ) -> bool
     requires stands { IsStretch event_before places.now stretch }
@@ -99,7 +99,7 @@ fn follows<L: Ledger>(
 
 // An item more, behind the others.
 #[inline(always)]
-fn append(places: &mut [HeapItem], stretch: Stretch, item: HeapItem) -> Stretch
+fn append(places: &mut [HeapItem<AtZero>], stretch: Stretch, item: HeapItem<AtZero>) -> Stretch
     requires stands { IsStretch event_before places.old stretch }
     requires in_order { stretch.in_order ≡ true }
     requires room { stretch.end < length places.old }
@@ -118,7 +118,7 @@ fn append(places: &mut [HeapItem], stretch: Stretch, item: HeapItem) -> Stretch
 }
 
 // Moves the items to the first places, and tells how many they are.
-fn to_front(places: &mut [HeapItem], stretch: Stretch) -> u32
+fn to_front(places: &mut [HeapItem<AtZero>], stretch: Stretch) -> u32
     requires first { stretch.first ≤ stretch.end }
     requires end { stretch.end ≤ length places.old }
     ensures each { length places.new ≡ length places.old }
@@ -134,24 +134,23 @@ fn to_front(places: &mut [HeapItem], stretch: Stretch) -> u32
 
 // An item more, among the others: from now on they may be out of order.
 fn put_among<L: Ledger>(
-    places: &mut [HeapItem],
+    places: &mut [HeapItem<AtZero>],
     stretch: Stretch,
-    slot: u32,
-    key: CompactKey,
+    item: HeapItem<AtZero>,
     steps: &mut Steps<L>,
 ) -> Stretch
     requires stands { IsStretch event_before places.old stretch }
-    requires slot_in { slot < length places.old }
-    requires free { key_at (map_on places.old stretch) slot ≡ None }
+    requires slot_in { item.slot < length places.old }
+    requires free { key_at (map_on places.old stretch) item.slot ≡ None }
     ensures each { length places.new ≡ length places.old }
     ensures stands { IsStretch event_before places.new result }
-    ensures put { map_on places.new result ≡ slice_set (map_on places.old stretch) slot (Some key) }
+    ensures put { map_on places.new result ≡ slice_set (map_on places.old stretch) item.slot (Some item.key) }
     ensures counted { (k : ℕ) → length places.old ≤ 2 ^ k → steps.new ≤ steps.old + k }
     ensures onward { steps.old ≤ steps.new }
 {
     let slots = places.len() as u32;
     let end = to_front(places, stretch) + 1;
-    enter(&mut places[..end as usize], slots, slot, key, steps);
+    enter(&mut places[..end as usize], slots, item, steps);
     Stretch {
         first: 0,
         end,
@@ -159,10 +158,10 @@ fn put_among<L: Ledger>(
     }
 }
 
-/// Gives a slot, of as many as there are places, a key. It has none.
+/// Gives a slot, of as many as there are places, a key, at time 0. It has none.
 #[inline(always)]
 pub fn put<L: Ledger>(
-    places: &mut [HeapItem],
+    places: &mut [HeapItem<AtZero>],
     stretch: Stretch,
     slot: u32,
     key: CompactKey,
@@ -173,7 +172,7 @@ pub fn put<L: Ledger>(
     requires free { key_at (map_on places.old stretch) slot ≡ None }
     ensures each { length places.new ≡ length places.old }
     ensures stands { IsStretch event_before places.new result }
-    ensures put { map_on places.new result ≡ slice_set (map_on places.old stretch) slot (Some key) }
+    ensures put { map_on places.new result ≡ slice_set (map_on places.old stretch) slot (Some (at_time 0 key)) }
     ensures counted { (k : ℕ) → length places.old ≤ 2 ^ k → steps.new ≤ steps.old + (2 * k + 1) }
     ensures onward { steps.old ≤ steps.new }
 {
@@ -184,13 +183,13 @@ pub fn put<L: Ledger>(
     if follows(places, stretch, &item, steps) {
         return append(places, stretch, item);
     }
-    put_among(places, stretch, slot, key, steps)
+    put_among(places, stretch, item, steps)
 }
 
 /// Takes out the least key, that of this slot: it is before each other.
 #[inline(always)]
 pub fn take<L: Ledger>(
-    places: &mut [HeapItem],
+    places: &mut [HeapItem<AtZero>],
     stretch: Stretch,
     slot: u32,
     steps: &mut Steps<L>,

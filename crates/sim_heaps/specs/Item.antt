@@ -6,6 +6,10 @@ use Rattle.goal_base.specs.declared.limits.TheConstants.{MAX_OPS}
 use Rattle.goal_graph.specs.declared.action.Timed.{Timed}
 use Rattle.sim_order.specs.Compact.{timed_of, tail_of, tail_of_parts, IsTail}
 
+-- the event at another time
+abbrev pub at_time : ℕ → Timed → Timed
+at_time time k = record { time = time; class = k.class; op = k.op }
+
 -- a key, and the slot that has it
 pub record Item (K : Type 0) : Type 0 where
   pub key : K

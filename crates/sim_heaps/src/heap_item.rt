@@ -1,48 +1,120 @@
-// Keys with their slots in two words.
-ghost use Rattle.std.specs.Prelude.{◌≡◌, ◌+◌, ◌<◌};
+// Keys with their slots in two words, or in one.
+ghost use Rattle.std.specs.Prelude.{◌≡◌, ℕ, ◌+◌, ◌<◌, refl};
 ghost use Rattle.goal_base.specs.declared.limits.TheConstants.{MAX_OPS};
 ghost use Rattle.sim_order.specs.Events.{event_before};
+ghost use Rattle.sim_heaps.specs.Item.{at_time};
 
 use goal_base::MAX_OPS;
 use sim_order::{CompactKey, Steps};
+use std::alloc::AllocError;
 use std::marker::Model;
 use std::sync::ledger::Ledger;
 
 // One more than the greatest slot of an item.
 const SLOTS: u64 = MAX_OPS as u64;
 
-/// A key and the slot that has it, below 2^20, in 16 bytes. Items are in the order of their keys.
+/// The time of an item: a number, or nothing where the keys of all items are at time 0.
+pub trait ItemTime: Copy {
+    ghost nanoseconds: { Self → ℕ };
+
+    // the time that says so many nanoseconds, where one does
+    ghost of_nanoseconds: { ℕ → Self };
+
+    // a time says one number, and no other does
+    ghost says_itself: { (time : Self) → of_nanoseconds (nanoseconds time) ≡ time };
+
+    /// The time that says so many nanoseconds, where one does.
+    fn new(time: u64) -> Self
+        ensures { result ≡ of_nanoseconds time };
+
+    /// In nanoseconds.
+    fn get(self) -> u64
+        ensures { result ≡ nanoseconds self };
+}
+
+impl ItemTime for u64 {
+    ghost nanoseconds = { λ time. time };
+
+    ghost of_nanoseconds = { λ time. time };
+
+    ghost says_itself = { λ time. refl };
+
+    #[inline(always)]
+    fn new(time: u64) -> u64 {
+        time
+    }
+
+    #[inline(always)]
+    fn get(self) -> u64 {
+        self
+    }
+}
+
+/// Time 0.
 #[derive(Clone, Copy, Debug)]
-pub struct HeapItem {
-    time: u64,
+pub struct AtZero;
+
+impl ItemTime for AtZero {
+    ghost nanoseconds = { λ time. 0 };
+
+    ghost of_nanoseconds = { λ time. record {} };
+
+    ghost says_itself = { λ time. refl };
+
+    #[inline(always)]
+    fn new(_time: u64) -> AtZero {
+        AtZero
+    }
+
+    #[inline(always)]
+    fn get(self) -> u64 {
+        0
+    }
+}
+
+/// A key and the slot that has it, below 2^20: in 16 bytes, or in 8 where the keys of all items are at time 0. Items are in the
+/// order of their keys.
+#[derive(Debug)]
+pub struct HeapItem<T: ItemTime> {
+    time: T,
     // the tail of the key and the slot, as the digits of one number
     tail: u64,
 }
 
-impl Model for HeapItem {
+impl<T: ItemTime> Model for HeapItem<T> {
     ghost use Rattle.goal_graph.specs.declared.action.Timed.{Timed};
     ghost use Rattle.sim_heaps.specs.Item.{Item, item_from, item_tail, item_tail_parts, IsItemTail};
 
     ghost Value = { Item Timed };
 
-    ghost view = { λ x. item_from x.time x.tail };
+    ghost view = { λ x. item_from (T.nanoseconds x.time) x.tail };
 
     ghost invariant = { λ x. IsItemTail x.tail };
 
-    ghost inverse = { λ x. record { time = x.key.time; tail = item_tail x } };
+    ghost inverse = { λ x. record { time = T.of_nanoseconds x.key.time; tail = item_tail x } };
 
-    ghost inverse_ok = { λ x h i. record { time = x.time; tail = item_tail_parts x.tail h i } };
+    ghost inverse_ok = { λ x h i. record { time = T.says_itself x.time i; tail = item_tail_parts x.tail h i } };
 }
 
-impl HeapItem {
-    /// The item of a key and a slot.
+impl<T: ItemTime> Copy for HeapItem<T> {}
+
+impl<T: ItemTime> Clone for HeapItem<T> {
+    ghost is_clone = { λ x y. y ≡ x };
+
+    fn clone(&self) -> Result<HeapItem<T>, AllocError> {
+        Ok(*self)
+    }
+}
+
+impl<T: ItemTime> HeapItem<T> {
+    /// The item of a key and a slot. Its key is at the time that `T` has for that of the key: the same as a number, else 0.
     #[inline(always)]
-    pub fn new(key: CompactKey, slot: u32) -> HeapItem
+    pub fn new(key: CompactKey, slot: u32) -> HeapItem<T>
         requires { slot < MAX_OPS }
-        ensures { result ≡ record { key = key; slot = slot } }
+        ensures { result ≡ record { key = at_time (T.nanoseconds (T.of_nanoseconds key.time)) key; slot = slot } }
     {
         HeapItem {
-            time: key.time(),
+            time: T::new(key.time()),
             tail: key.tail() * SLOTS + u64::from(slot),
         }
     }
@@ -52,7 +124,7 @@ impl HeapItem {
     pub fn key(&self) -> CompactKey
         ensures { result ≡ self.now.key }
     {
-        CompactKey::from_tail(self.time, self.tail / SLOTS)
+        CompactKey::from_tail(self.time.get(), self.tail / SLOTS)
     }
 
     /// The slot.
@@ -66,13 +138,13 @@ impl HeapItem {
     /// Whether the key is before that of the other. It ticks once. The time and the tail of a key are compared as one number
     /// of 128 bits, which takes no branch.
     #[inline(always)]
-    pub fn before<L: Ledger>(&self, other: &HeapItem, steps: &mut Steps<L>) -> bool
+    pub fn before<L: Ledger>(&self, other: &HeapItem<T>, steps: &mut Steps<L>) -> bool
         ensures tells { result ≡ event_before self.now.key other.now.key }
         ensures ticks { steps.new ≡ steps.old + 1 }
     {
         steps.tick();
-        let own = (u128::from(self.time) << 64) + u128::from(self.tail / SLOTS);
-        let others = (u128::from(other.time) << 64) + u128::from(other.tail / SLOTS);
+        let own = (u128::from(self.time.get()) << 64) + u128::from(self.tail / SLOTS);
+        let others = (u128::from(other.time.get()) << 64) + u128::from(other.tail / SLOTS);
         own < others
     }
 }

@@ -8,7 +8,7 @@ mod sift;
 mod slot_heap;
 mod top_heap;
 
-pub use heap_item::HeapItem;
+pub use heap_item::{AtZero, HeapItem, ItemTime};
 pub use queue::EventQueue;
 pub use run_heap::RunHeap;
 pub use sift::{settle, swap};

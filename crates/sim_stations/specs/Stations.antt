@@ -6,6 +6,7 @@ use Rattle.goal_graph.specs.declared.action.OpId.{OpId}
 use Rattle.goal_graph.specs.declared.action.Timed.{Timed}
 use Rattle.goal_graph.specs.declared.action.Class.{Class}
 use Rattle.goal_graph.specs.declared.action.Class.TheVariants.{Arrive, Serve, Data, Post, Begin}
+pub use Rattle.sim_heaps.specs.Item.{at_time}
 use Rattle.sim_heaps.specs.Map.{key_at}
 use Rattle.sim_stations.specs.declared.pair.Pair.{Pair}
 use Rattle.sim_stations.specs.declared.key_place.KeyPlace.{KeyPlace}
@@ -29,10 +30,6 @@ waits_for_room Serve = true
 waits_for_room Data = true
 waits_for_room Post = false
 waits_for_room Begin = true
-
--- the event at another time
-abbrev pub at_time : ℕ → Timed → Timed
-at_time time k = record { time = time; class = k.class; op = k.op }
 
 -- when both resources are free
 abbrev pub both_free : List ℕ → Pair → ℕ

@@ -2,7 +2,7 @@ use Rattle.std.proofs.Common.{◌≡◌, ◌<◌, ◌+◌, ◌-◌, List, Option
 use Rattle.std.proofs.lemmas.List.{length-map, with_items_is}
 use Rattle.goal_graph.specs.declared.action.Timed.{Timed}
 use Rattle.sim_order.specs.Events.{event_before}
-use Rattle.sim_heaps.specs.Item.{Item}
+use Rattle.sim_heaps.specs.Item.{Item, at_time}
 use Rattle.sim_groups.specs.Groups.{heap_at, with_key}
 use Rattle.sim_groups.specs.Stretches.{map_on, map_of_items, maps_of_items, IsStretch, AreItemHeaps}
 use Rattle.sim_groups.proofs.InParts.{put_mid, part_read}
@@ -83,10 +83,10 @@ returns-clause-put g c =
     let all : n ≡ plot.room = omega arith in
     let each : length ys ≡ n = c.put-stretch.ensures.each ∙ ap (λ xs. length (take n (drop plot.start xs))) same ∙ length_plot plots items heaps home.group plot at ∙ sym all in
     let now = with_items_is c.self.inside.items (put_mid plot.start n c.deref_mut.result.now ys) (omega (arith, ap (λ xs. length (put_mid plot.start n xs ys)) same, long plots items heaps home.group plot at ys n all each c.put-stretch.result, c.self.inside.items.ok.0)) ∙ ap (λ xs. put_mid plot.start n xs ys) same in
-    let map_now = c.put-stretch.ensures.put ∙ ap (λ xs. slice_set (map_on (take n (drop plot.start xs)) plot.stretch) home.place (Some c.args.key)) same in
+    let map_now = c.put-stretch.ensures.put ∙ ap (λ xs. slice_set (map_on (take n (drop plot.start xs)) plot.stretch) home.place (Some (at_time 0 c.args.key))) same in
     ap (maps_of_items (slice_set plots home.group (record { start = plot.start; room = plot.room; stretch = c.put-stretch.result }))) now
-    ∙ maps_after plots items heaps home.group plot at ys n all each c.put-stretch.result home.place (Some c.args.key) map_now
-    ∙ ap (λ (hs : List (List (Option Timed))). with_key hs home (Some c.args.key)) c.self.view_is
+    ∙ maps_after plots items heaps home.group plot at ys n all each c.put-stretch.result home.place (Some (at_time 0 c.args.key)) map_now
+    ∙ ap (λ (hs : List (List (Option Timed))). with_key hs home (Some (at_time 0 c.args.key))) c.self.view_is
 
 pub returns-clause-counted : goal.returns-clause-counted
 returns-clause-counted g c =
