@@ -7,6 +7,7 @@ mod parts;
 mod slot_groups;
 mod slot_heaps;
 mod stretch;
+mod waiting_key;
 
 pub use groups::{Groups, PlaceInGroup};
 pub use slot_groups::SlotGroups;

@@ -1,6 +1,7 @@
 // Slots in groups, whose keys are changed in place.
 ghost use Rattle.std.specs.Prelude.{◌≡◌, ◌+◌, ◌*◌, ◌^◌, ◌<◌, ◌≤◌, ℕ, All, IfOk, IfSome, IsNone, Some, None, length, replicate, slice_set};
 ghost use Rattle.sim_order.specs.Events.{event_before};
+ghost use Rattle.sim_heaps.specs.Item.{at_time};
 ghost use Rattle.sim_groups.specs.Groups.{IsEmptyGroup, IsLeastOf};
 
 use crate::PlaceInGroup;
@@ -12,9 +13,9 @@ use std::alloc::Global;
 use std::marker::Model;
 use std::sync::ledger::Ledger;
 
-/// A finite map from slots to keys, whose slots are in groups. A key may be changed while it is there, and may go from
-/// anywhere. The least key of a group is asked for. With at most 2^k slots a put or a drop compares 2k + 1 times at most,
-/// and asking for the least compares nothing.
+/// A finite map from slots to keys at time 0, whose slots are in groups. A key may be changed while it is there, and may go
+/// from anywhere. The least key of a group is asked for. With at most 2^k slots a put or a drop compares 2k + 1 times at
+/// most, and asking for the least compares nothing.
 #[derive(Drop)]
 pub struct SlotGroups {
     homes: Vec<PlaceInGroup>,
@@ -46,10 +47,10 @@ impl SlotGroups {
         Ok(SlotGroups { homes, heaps })
     }
 
-    /// Gives a slot a key, in place of the one that it had if it had one.
+    /// Gives a slot a key, which is kept at time 0, in place of the one that it had if it had one.
     pub fn put<L: Ledger>(&mut self, slot: u32, key: CompactKey, steps: &mut Steps<L>)
         requires { slot < length self.old.keys }
-        ensures put { self.new ≡ record self.old { keys = slice_set self.old.keys slot (Some key) } }
+        ensures put { self.new ≡ record self.old { keys = slice_set self.old.keys slot (Some (at_time 0 key)) } }
         ensures counted { (k : ℕ) → length self.old.keys ≤ 2 ^ k → steps.new ≤ steps.old + (2 * k + 1) }
         ensures onward { steps.old ≤ steps.new }
     {

@@ -2,6 +2,7 @@
 ghost use Rattle.std.specs.Prelude.{◌≡◌, ◌+◌, ◌*◌, ◌^◌, ◌<◌, ◌≤◌, ℕ, IfOk, IfSome, IsNone, Some, None, length, map, slice_get, slice_set, sum, take};
 ghost use Rattle.sim_order.specs.Events.{event_before};
 ghost use Rattle.sim_heaps.specs.Heap.{keys_of, IsHeap, IsHeapBut, IsSlotHeap};
+ghost use Rattle.sim_heaps.specs.Item.{at_time};
 ghost use Rattle.sim_heaps.specs.Map.{no_keys, IsEmptyMap, IsLeast};
 ghost use Rattle.sim_groups.specs.declared.parts.Part.{Part};
 ghost use Rattle.sim_groups.specs.Groups.{heap_at, with_key};
@@ -9,6 +10,7 @@ ghost use Rattle.sim_groups.specs.Parts.{places_of, ArePacked, IsInOrder};
 
 use crate::PlaceInGroup;
 use crate::parts::{Part, parts};
+use crate::waiting_key::WaitingKey;
 use goal_base::NoMemory;
 use sim_heaps::{settle, swap};
 use sim_order::{CompactKey, Steps};
@@ -16,13 +18,13 @@ use std::alloc::Global;
 use std::marker::Model;
 use std::sync::ledger::Ledger;
 
-/// A heap for each group, which knows the place of each slot, so that a key is changed in place. Contracts see the maps of the
-/// groups.
+/// A heap for each group, whose keys are at time 0. It knows the place of each slot, so that a key is changed in place. Contracts
+/// see the maps of the groups.
 #[derive(Drop)]
 pub struct SlotHeaps {
     parts: Vec<Part>,
     // the key at each place
-    sorted: Vec<CompactKey>,
+    sorted: Vec<WaitingKey>,
     // the slot at each place of a part, and the place of each slot; slots without a key stand after the heap
     slots: Vec<u32>,
     places: Vec<u32>,
@@ -70,7 +72,7 @@ fn in_order(alloc: Global, parts: &[Part], size: u32) -> Result<Vec<u32>, NoMemo
 // Moves the slot at a place up or down until the order holds. A key alone stands as it is.
 #[inline(always)]
 fn settle_among<L: Ledger>(
-    sorted: &mut [CompactKey],
+    sorted: &mut [WaitingKey],
     slots: &mut [u32],
     places: &mut [u32],
     place: usize,
@@ -92,12 +94,12 @@ fn settle_among<L: Ledger>(
 // Gives a slot a key, where the first so many places have one. Answers how many have one then.
 #[inline(always)]
 fn write<L: Ledger>(
-    sorted: &mut [CompactKey],
+    sorted: &mut [WaitingKey],
     slots: &mut [u32],
     places: &mut [u32],
     count: u32,
     slot: u32,
-    key: CompactKey,
+    key: WaitingKey,
     steps: &mut Steps<L>,
 ) -> u32
     requires heap { IsSlotHeap event_before (take count sorted.old) slots.old places.old (length sorted.old) }
@@ -130,7 +132,7 @@ fn write<L: Ledger>(
 // Takes the key of a slot out, where the first so many places have one. Answers how many have one then.
 #[inline(always)]
 fn erase<L: Ledger>(
-    sorted: &mut [CompactKey],
+    sorted: &mut [WaitingKey],
     slots: &mut [u32],
     places: &mut [u32],
     count: u32,
@@ -172,7 +174,7 @@ impl SlotHeaps {
         ensures { IfOk result (λ heaps. heaps ≡ map no_keys counts.now) }
     {
         let (parts, size) = parts(alloc, counts)?;
-        let none = CompactKey::from_tail(0, 0);
+        let none = WaitingKey::new(CompactKey::from_tail(0, 0));
         let sorted = vec![in alloc; none; size as usize]?;
         let slots = in_order(alloc, &parts, size)?;
         let places = Vec::from_slice(alloc, &slots)?;
@@ -191,14 +193,15 @@ impl SlotHeaps {
         self.parts.len()
     }
 
-    /// Gives a home a key, in place of the one that it had if it had one.
+    /// Gives a home a key, at time 0, in place of the one that it had if it had one.
     pub fn put<L: Ledger>(&mut self, home: PlaceInGroup, key: CompactKey, steps: &mut Steps<L>)
         requires group_in { home.group < length self.old }
         requires place_in { home.place < length (heap_at self.old home.group) }
-        ensures put { self.new ≡ with_key self.old home (Some key) }
+        ensures put { self.new ≡ with_key self.old home (Some (at_time 0 key)) }
         ensures counted { (k : ℕ) → length (heap_at self.old home.group) ≤ 2 ^ k → steps.new ≤ steps.old + (2 * k + 1) }
         ensures onward { steps.old ≤ steps.new }
     {
+        let key = WaitingKey::new(key);
         let part = self.parts[home.group as usize];
         let start = part.start as usize;
         let end = start + part.room as usize;
@@ -246,6 +249,6 @@ impl SlotHeaps {
         if part.count == 0 {
             return None;
         }
-        Some(self.sorted[part.start as usize])
+        Some(self.sorted[part.start as usize].key())
     }
 }

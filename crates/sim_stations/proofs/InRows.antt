@@ -138,6 +138,10 @@ module _ (rows : Grouped Timed) (heads : List (Option Timed)) (pairs : List Pair
               let stays : slice_index (held free p cpu side) r ≡ slice_index free r = get_or-set_other (set free p.cpu cpu) p.side r side 0 m ∙ get_or-set_other free p.cpu r cpu 0 n in
               subst (IsHead new r (slice_index (held free p cpu side) r)) (sym (told.others r n m)) (subst (λ t. IsHead new r t (key_at heads r)) (sym stays) (head_there r (slice_index free r) (key_at heads r) (not_here r (turned_at turned s) n m) (are.headed r l)))
 
+    -- the key of the station is at time 0
+    pub key_zero : (key : Timed) → key_at (seen turned rows.keys) s ≡ Some key → key.time ≡ 0
+    key_zero key has = inside.at_zero (place_in s (turned_at turned s)) key (sym (seen_at turned rows.keys long s) ∙ has)
+
     -- The station goes over with its key.
     module _ (key : Timed) (has : key_at (seen turned rows.keys) s ≡ Some key) (mid new : Grouped Timed) (is_mid : mid ≡ with_key rows (place_in s (turned_at turned s)) None) (is_new : new ≡ with_key mid (place_in s (not (turned_at turned s))) (Some key)) where
       abbrev from : ℕ
@@ -171,9 +175,6 @@ module _ (rows : Grouped Timed) (heads : List (Option Timed)) (pairs : List Pair
       key_to =
           ap (λ ks. key_at ks to) keys_over ∙ get_or-set_same (set rows.keys from None) to (Some key) None (omega (arith, place_ok (not (turned_at turned s)), length-set rows.keys from None))
 
-      key_zero : key.time ≡ 0
-      key_zero = inside.at_zero from key (sym (seen_at turned rows.keys long s) ∙ has)
-
       pub turned_zero : (slot : ℕ) (k : Timed) → key_at new.keys slot ≡ Some k → k.time ≡ 0
       turned_zero slot k e = go (cases_eq slot from) (cases_eq slot to)
         where
@@ -182,7 +183,7 @@ module _ (rows : Grouped Timed) (heads : List (Option Timed)) (pairs : List Pair
             where
               no_time : None ≡ Some k → k.time ≡ 0
               no_time f = absurd (no_key k f)
-          go (inr n) (inl same) = ap (λ (x : Timed). x.time) (same_Some k key (sym e ∙ ap (key_at new.keys) same ∙ key_to)) ∙ key_zero
+          go (inr n) (inl same) = ap (λ (x : Timed). x.time) (same_Some k key (sym e ∙ ap (key_at new.keys) same ∙ key_to)) ∙ key_zero key has
           go (inr n) (inr m) = inside.at_zero slot k (sym (stays_over slot n m) ∙ e)
 
       pub turned_inside : IsInRows new pairs over free

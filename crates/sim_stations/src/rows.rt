@@ -157,9 +157,10 @@ fn raise_both<L: Ledger>(
     }
 }
 
-// Gives a slot of the rows a key, or none.
+// Gives a slot of the rows a key, at time 0, or none.
 fn write<L: Ledger>(rows: &mut SlotGroups, slot: u32, key: Option<CompactKey>, steps: &mut Steps<L>)
-    requires { slot < length rows.old.keys }
+    requires slot_in { slot < length rows.old.keys }
+    requires at_zero { IfSome key (λ k. k.time ≡ 0) }
     ensures written { rows.new ≡ record rows.old { keys = slice_set rows.old.keys slot key } }
     ensures counted { (k : ℕ) → length rows.old.keys ≤ 2 ^ k → steps.new ≤ steps.old + (2 * k + 1) }
     ensures onward { steps.old ≤ steps.new }

@@ -50,6 +50,7 @@ returns-clause-least c =
     let inside : part.start < length sorted = omega (arith, part_in parts sorted slots places heaps c.args.group part at, part_fits parts sorted slots places heaps c.args.group part at, some) in
     let first = slice_get_read sorted (length sorted) part.start c.index.result.now refl inside c.index.ensures in (
       slice_index (places_of slots part) 0,
-      subst (λ (hs : List (List (Option Timed))). IsLeast event_before (heap_at hs c.args.group) (slice_index (places_of slots part) 0) c.index.result.now) c.self.view_is
-          (least_of_part parts sorted slots places heaps c.args.group part at c.index.result.now some first),
+      rw c.key.ensures
+          (subst (λ (hs : List (List (Option Timed))). IsLeast event_before (heap_at hs c.args.group) (slice_index (places_of slots part) 0) c.index.result.now) c.self.view_is
+          (least_of_part parts sorted slots places heaps c.args.group part at c.index.result.now some first)),
     )

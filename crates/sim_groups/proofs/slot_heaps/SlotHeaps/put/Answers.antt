@@ -3,6 +3,7 @@ use Rattle.std.proofs.lemmas.List.{length-map, with_items_is}
 use Rattle.goal_graph.specs.declared.action.Timed.{Timed}
 use Rattle.sim_order.specs.Events.{event_before}
 use Rattle.sim_heaps.specs.Heap.{keys_of, IsSlotHeap}
+use Rattle.sim_heaps.specs.Item.{at_time}
 use Rattle.sim_groups.specs.Groups.{heap_at, with_key}
 use Rattle.sim_groups.specs.Parts.{map_of_slots, maps_of_slots}
 use Rattle.sim_groups.proofs.InParts.{put_mid, part_read, length-written}
@@ -126,10 +127,10 @@ returns-clause-put g c =
     let now_slots = with_items_is c.self.inside.slots (put_mid part.start (part.start + part.room - part.start) c.deref_mut-2.result.now ss) (omega (arith, ap (λ xs. length (put_mid part.start (part.start + part.room - part.start) xs ss)) same_slots, keep_slots, c.self.inside.slots.ok.0)) ∙ ap (λ xs. put_mid part.start (part.start + part.room - part.start) xs ss) same_slots in
     let now_places = with_items_is c.self.inside.places (put_mid part.start (part.start + part.room - part.start) c.deref_mut-3.result.now ps) (omega (arith, ap (λ xs. length (put_mid part.start (part.start + part.room - part.start) xs ps)) same_places, keep_places, c.self.inside.places.ok.0)) ∙ ap (λ xs. put_mid part.start (part.start + part.room - part.start) xs ps) same_places in
     let new_parts = slice_set parts home.group (record { start = part.start; room = part.room; count = c.write-count.result }) in
-    let is : keys_of (take c.write-count.result ys) ps ≡ slice_set (keys_of (take part.count (take (part.start + part.room - part.start) (drop part.start sorted))) (take (part.start + part.room - part.start) (drop part.start places))) home.place (Some c.args.key) = c.write-count.ensures.put ∙ (λ i. slice_set (keys_of (take part.count (take (part.start + part.room - part.start) (drop part.start (same i)))) (take (part.start + part.room - part.start) (drop part.start (same_places i)))) home.place (Some c.args.key)) in
+    let is : keys_of (take c.write-count.result ys) ps ≡ slice_set (keys_of (take part.count (take (part.start + part.room - part.start) (drop part.start sorted))) (take (part.start + part.room - part.start) (drop part.start places))) home.place (Some (at_time 0 c.args.key)) = c.write-count.ensures.put ∙ (λ i. slice_set (keys_of (take part.count (take (part.start + part.room - part.start) (drop part.start (same i)))) (take (part.start + part.room - part.start) (drop part.start (same_places i)))) home.place (Some (c.new-key.ensures i))) in
     (λ i. maps_of_slots new_parts (now i) (now_places i))
-    ∙ maps_after parts sorted slots places heaps home.group part at (part.start + part.room - part.start) all ys ss ps each slots_each places_each c.write-count.result c.write-count.ensures.room home.place (Some c.args.key) is
-    ∙ ap (λ (hs : List (List (Option Timed))). with_key hs home (Some c.args.key)) c.self.view_is
+    ∙ maps_after parts sorted slots places heaps home.group part at (part.start + part.room - part.start) all ys ss ps each slots_each places_each c.write-count.result c.write-count.ensures.room home.place (Some (at_time 0 c.args.key)) is
+    ∙ ap (λ (hs : List (List (Option Timed))). with_key hs home (Some (at_time 0 c.args.key))) c.self.view_is
 
 pub returns-clause-counted : goal.returns-clause-counted
 returns-clause-counted g c =

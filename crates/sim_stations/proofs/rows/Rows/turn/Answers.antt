@@ -1,7 +1,9 @@
 use Rattle.std.proofs.Common.{◌≡◌, ◌<◌, Some, None, not, length, set, slice_get, sym, ap, ◌∙◌, subst, arith}
 use Rattle.sim_heaps.specs.Map.{key_at}
+use Rattle.sim_stations.specs.Stations.{at_time}
 use Rattle.sim_stations.specs.Rows.{Rowed, place_in, turned_at, seen, AreBothTold, IsInRows}
-use Rattle.sim_stations.proofs.InRows.{with_key, pair_read, turned_read, turned_zero, turned_inside, turned_heads, turned_seen}
+use Rattle.sim_stations.proofs.Heads.{at_own}
+use Rattle.sim_stations.proofs.InRows.{with_key, key_zero, pair_read, turned_read, turned_zero, turned_inside, turned_heads, turned_seen}
 use Rattle.sim_stations.proofs.rows.Rows.turn.Given.{Over}
 use Rattle.sim_stations.proofs.rows.Rows.turn.Goals.{After-tell_both-arg-3-1, After-tell_both}
 use Rattle.sim_stations.proofs.rows.Rows.turn.Goals as goal
@@ -22,12 +24,17 @@ module _ (g : Over) (c : After-tell_both-arg-3-1 g) where
   mid_before =
       c.drop_slot.ensures.dropped ∙ ap (λ i. with_key c.self.inside.rows i None) (c.place_in.ensures ∙ ap (place_in c.args.station) turned_before)
 
-  new_before : c.put.new.self ≡ with_key c.drop_slot.new.self (place_in c.args.station (not (turned_at c.self.inside.turned.items c.args.station))) (Some c.args.key)
-  new_before =
-      c.put.ensures.put ∙ ap (λ i. with_key c.drop_slot.new.self i (Some c.args.key)) (c.place_in-2.ensures ∙ ap (λ b. place_in c.args.station (not b)) turned_before)
-
   has_before : key_at (seen c.self.inside.turned.items c.self.inside.rows.keys) c.args.station ≡ Some c.args.key
   has_before = ap (λ (q : Rowed). key_at q.keys c.args.station) c.self.view_is ∙ c.requires.has
+
+  zero_before : c.args.key.time ≡ 0
+  zero_before =
+      let q = c.self.inside in
+      key_zero q.rows q.heads q.pairs.items q.turned.items q.free.items c.self.invariant.0 c.self.invariant.1 c.args.station c.index-pair.result.now at_before c.args.key has_before
+
+  new_before : c.put.new.self ≡ with_key c.drop_slot.new.self (place_in c.args.station (not (turned_at c.self.inside.turned.items c.args.station))) (Some c.args.key)
+  new_before =
+      c.put.ensures.put ∙ ap (λ i. with_key c.drop_slot.new.self i (Some (at_time 0 c.args.key))) (c.place_in-2.ensures ∙ ap (λ b. place_in c.args.station (not b)) turned_before) ∙ ap (λ k. with_key c.drop_slot.new.self (place_in c.args.station (not (turned_at c.self.inside.turned.items c.args.station))) (Some k)) (at_own c.args.key 0 zero_before)
 
 -- and after it
 module _ (g : Over) (c : After-tell_both g) where
@@ -45,12 +52,17 @@ module _ (g : Over) (c : After-tell_both g) where
   mid =
       c.drop_slot.ensures.dropped ∙ ap (λ i. with_key c.self.inside.rows i None) (c.place_in.ensures ∙ ap (place_in c.args.station) turned)
 
-  new : c.put.new.self ≡ with_key c.drop_slot.new.self (place_in c.args.station (not (turned_at c.self.inside.turned.items c.args.station))) (Some c.args.key)
-  new =
-      c.put.ensures.put ∙ ap (λ i. with_key c.drop_slot.new.self i (Some c.args.key)) (c.place_in-2.ensures ∙ ap (λ b. place_in c.args.station (not b)) turned)
-
   has : key_at (seen c.self.inside.turned.items c.self.inside.rows.keys) c.args.station ≡ Some c.args.key
   has = ap (λ (q : Rowed). key_at q.keys c.args.station) c.self.view_is ∙ c.requires.has
+
+  zero : c.args.key.time ≡ 0
+  zero =
+      let q = c.self.inside in
+      key_zero q.rows q.heads q.pairs.items q.turned.items q.free.items c.self.invariant.0 c.self.invariant.1 c.args.station c.index-pair.result.now at c.args.key has
+
+  new : c.put.new.self ≡ with_key c.drop_slot.new.self (place_in c.args.station (not (turned_at c.self.inside.turned.items c.args.station))) (Some c.args.key)
+  new =
+      c.put.ensures.put ∙ ap (λ i. with_key c.drop_slot.new.self i (Some (at_time 0 c.args.key))) (c.place_in-2.ensures ∙ ap (λ b. place_in c.args.station (not b)) turned) ∙ ap (λ k. with_key c.drop_slot.new.self (place_in c.args.station (not (turned_at c.self.inside.turned.items c.args.station))) (Some k)) (at_own c.args.key 0 zero)
 
   told : AreBothTold c.put.new.self c.self.inside.free.items c.self.inside.heads c.tell_both.new.heads c.index-pair.result.now
   told = subst (λ f. AreBothTold c.put.new.self f c.self.inside.heads c.tell_both.new.heads c.index-pair.result.now) c.deref.ensures.value c.tell_both.ensures.told
