@@ -3,6 +3,7 @@ pub mod Pairs
 pub mod Written
 pub mod Finding
 pub mod PatternLemmas
+pub mod Taken
 pub mod Numbering
 mod Searching
 pub mod Packing

@@ -1,5 +1,5 @@
 -- The operations of a queue: each links to the one behind it.
-use Rattle.std.proofs.Common.{ℕ, zero, suc, ◌<◌, ◌≤◌, ◌≡◌, ◌≢◌, List, [], ◌∷◌, ◌++◌, length, Some, None, All, AllPairs, Contains, slice_get, slice_set, refl, arith, sym, ap, ◌∙◌, subst, inl, inr}
+use Rattle.std.proofs.Common.{ℕ, ◌<◌, ◌≤◌, ◌≡◌, ◌≢◌, List, [], ◌∷◌, ◌++◌, length, Some, None, All, AllPairs, Contains, slice_get, slice_set, refl, arith, sym, ap, ◌∙◌, subst, inl, inr}
 use Rattle.std.proofs.lemmas.Bool.{cases_lt}
 use Rattle.std.proofs.lemmas.Option.{same_Some, slice_get_within, get_or_from_slice_get}
 use Rattle.std.proofs.lemmas.List.Elements.{All-head, All-tail}
@@ -9,7 +9,7 @@ use Rattle.goal_graph.specs.Fault.{IsOp}
 use Rattle.goal_graph.proofs.ForCallers.{listed_exist, operations_differ, contains_first, contains_more}
 use Rattle.sim_match.specs.declared.queues.Queue.{Queue}
 use Rattle.sim_match.specs.Queues.{AreLinked, AreInLine, AreLeft}
-use Rattle.sim_match.proofs.Written.{slice_get_elsewhere}
+use Rattle.sim_match.proofs.Written.{slice_get_there, slice_get_elsewhere}
 
 -- an operation stands at one place
 one_place_of : (ops : List OpId) → AllPairs (λ (x y : OpId). x ≢ y) ops → (i j : ℕ) (x : OpId) → slice_get ops i ≡ Some x → slice_get ops j ≡ Some x → i ≡ j
@@ -24,11 +24,6 @@ one_place_of ops apart i j x e f =
 
 pub place_of : (plans : List Plan) (i j : ℕ) (x : OpId) → slice_get (operations plans) i ≡ Some x → slice_get (operations plans) j ≡ Some x → i ≡ j
 place_of plans = one_place_of (operations plans) (operations_differ plans)
-
-set_there : (xs : List ℕ) (i n : ℕ) → i < length xs → slice_get (slice_set xs i n) i ≡ Some n
-set_there [] i n b = absurd (omega arith)
-set_there (x ∷ xs) zero n b = refl
-set_there (x ∷ xs) (suc i) n b = set_there xs i n (omega arith)
 
 module _ (ops : List OpId) (next : List ℕ) where
   -- what stands at two places differs, so these do
@@ -45,7 +40,7 @@ module _ (ops : List OpId) (next : List ℕ) where
   -- one more, which stands at the place j
   linked_more : (xs : List OpId) (x z : OpId) (place last j : ℕ) → slice_get ops place ≡ Some x → x ≢ z → All (λ (y : OpId). y ≢ z) xs → slice_get ops j ≡ Some z → last < length next → AreLinked ops next place last xs → AreLinked ops (slice_set next last j) place j (xs ++ z ∷ [])
   linked_more [] x z place last j at n all its within linked =
-      (j, record { apart = apart_places place j x z at its n; links = ap (slice_get (slice_set next last j)) linked ∙ set_there next last j within; is = its }, refl)
+      (j, record { apart = apart_places place j x z at its n; links = ap (slice_get (slice_set next last j)) linked ∙ slice_get_there next last j within; is = its }, refl)
   linked_more (y ∷ ys) x z place last j at n all its within linked =
       (linked.0, record { apart = apart_places place j x z at its n; links = slice_get_elsewhere next last place j linked.1.apart ∙ linked.1.links; is = linked.1.is }, linked_more ys y z linked.0 last j linked.1.is (All-head (λ (y : OpId). y ≢ z) y ys all) (All-tail (λ (y : OpId). y ≢ z) y ys all) its within linked.2)
 

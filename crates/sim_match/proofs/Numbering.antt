@@ -21,7 +21,7 @@ same_numbers plans new old same are = record {
   keys = are.keys;
   listed = are.listed;
   few = are.few;
-  own = ap (λ (n : ListNumbers). n.own.items) same ∙ are.own;
+  own = λ some. ap (λ (n : ListNumbers). n.own.items) same ∙ are.own some;
   count = ap (λ (n : ListNumbers). n.count) same ∙ are.count;
   sought = subst (λ (n : ListNumbers). AreSought plans are.keys n.others) (sym same) are.sought;
 }
@@ -31,12 +31,15 @@ pub codable : (keys : List Pattern) (p : Pattern) → length keys < 2 ^ 32 - 1 �
 codable keys p few list e = let within = number_within keys p list e in omega (arith, within, few)
 
 module _ (plans : List Plan) (keys : List Pattern) (x : OpId) where
-  pub own_codable : length keys < 2 ^ 32 - 1 → IsCodable (own_list plans keys x)
-  own_codable few list = go (own_pattern x (kind_at plans x))
+  pub own_within : (list : ℕ) → own_list plans keys x ≡ Some list → list < length keys
+  own_within list = go (own_pattern x (kind_at plans x))
     where
-      go : (p : Option Pattern) → list_number keys p ≡ Some list → list < 2 ^ 32 - 1
+      go : (p : Option Pattern) → list_number keys p ≡ Some list → list < length keys
       go None e = absurd (none-some list e)
-      go (Some p) e = let within = number_within keys p list e in omega (arith, within, few)
+      go (Some p) e = number_within keys p list e
+
+  pub own_codable : length keys < 2 ^ 32 - 1 → IsCodable (own_list plans keys x)
+  own_codable few list e = let within = own_within list e in omega (arith, within, few)
 
   pub wild_codable : (wild : Wild) → length keys < 2 ^ 32 - 1 → IsCodable (wild_list plans keys wild x)
   wild_codable wild few list = go (kind_at plans x)
@@ -46,6 +49,14 @@ module _ (plans : List Plan) (keys : List Pattern) (x : OpId) where
       go (Some (Send bytes to tag)) e = codable keys (wild_pattern wild x.rank to tag) few list e
       go (Some (Recv room from tag)) e = absurd (none-some list e)
       go None e = absurd (none-some list e)
+
+  -- where the schedule has no pattern it has no list
+  pub own_nowhere : length keys ≡ 0 → own_list plans keys x ≡ None
+  own_nowhere none = go (own_list plans keys x) (λ list e. own_within list e)
+    where
+      go : (o : Option ℕ) → ((list : ℕ) → o ≡ Some list → list < length keys) → o ≡ None
+      go None within = refl
+      go (Some list) within = let less = within list refl in absurd (omega (arith, none, less))
 
   pub own_of_receive : IsReceive plans x → own_list plans keys x ≡ list_of plans keys x
   own_of_receive r =

@@ -17,7 +17,7 @@ use Rattle.goal_graph.specs.Matching.{Pair, pair_of, fits, is_paired, new_pair, 
 use Rattle.goal_graph.specs.Laws.{has_class}
 use Rattle.goal_graph.proofs.ForCallers.{op_of_kind, pairs_same, place_same, same_op_from, cases_op, same_op_true, same_op_itself, same_op_swapped, not_send_receive, not_arrived, not_posted}
 use Rattle.sim_match.specs.declared.pattern.Pattern.{Pattern}
-use Rattle.sim_match.specs.Patterns.{same_number, own_pattern, list_number, own_list, list_of, AreListed}
+use Rattle.sim_match.specs.Patterns.{same_number, own_list, list_of, AreListed}
 use Rattle.sim_match.specs.ListNumbers.{AreNamed}
 use Rattle.sim_match.specs.PostsAndArrivals.{receive_for}
 use Rattle.sim_match.specs.Waiting.{ops_of}
@@ -32,8 +32,8 @@ use Rattle.sim_match.proofs.Kept.{actions_of-post, actions_of-arrival}
 use Rattle.sim_match.proofs.Written.{slice_get_written, slice_get_elsewhere}
 use Rattle.sim_match.proofs.Lines.{last_of, line_alone, line_more, line_still}
 use Rattle.sim_match.proofs.Finding.{find_alike, find_none, filter_last, filter_last_passes}
-use Rattle.sim_match.proofs.PatternLemmas.{fits_any, number_within}
-use Rattle.sim_match.proofs.Numbering.{own_of_receive, lists_where_named}
+use Rattle.sim_match.proofs.PatternLemmas.{fits_any}
+use Rattle.sim_match.proofs.Numbering.{own_within, own_of_receive, lists_where_named}
 
 -- two tests that agree on a list keep the same of it
 filter_alike : {X : Type 0} (p q : X → Bool) (xs : List X) → All (λ x. p x ≡ q x) xs → filter p xs ≡ filter q xs
@@ -322,13 +322,6 @@ module _ (plans : List Plan) (keys : List Pattern) (named : AreNamed keys) (list
     not_among : (c : Class) (l : ℕ) (x : OpId) → happened c x h ≡ false → All (λ (y : OpId). y ≢ x) (waiting plans keys h c l)
     not_among c l x fresh = All-filter (is_waiting plans keys h l) (λ (y : OpId). y ≢ x) (ops_of c h) (All-weaker (λ (y : OpId). same_op x y ≡ false) (λ (y : OpId). y ≢ x) (λ y f same. both_ways (same_op x y) f (same_op_from x y (sym same))) (ops_of c h) (ops_apart plans h are c x fresh))
 
-    own_within : (x : OpId) (l : ℕ) → own_list plans keys x ≡ Some l → l < length keys
-    own_within x l own = go (own_pattern x (kind_at plans x)) own
-      where
-        go : (p : Option Pattern) → list_number keys p ≡ Some l → l < length keys
-        go None e = absurd (none-some l e)
-        go (Some p) e = number_within keys p l e
-
     module _ (queues : List Queue) (next : List ℕ) (q : AreQueues plans keys queues next h) where
       abbrev ops : List OpId
       ops = operations plans
@@ -356,7 +349,11 @@ module _ (plans : List Plan) (keys : List Pattern) (named : AreNamed keys) (list
       -- x comes to its list
       module _ (s : Side) (x : OpId) (new : IsNew plans h (come s x)) (l : ℕ) (own : own_list plans keys x ≡ Some l) where
         pub come_within : l < length queues
-        come_within = let within = own_within x l own in omega (arith, within, q.one_each)
+        come_within = let within = own_within plans keys x l own in omega (arith, within, q.one_each)
+
+        -- so there are patterns, and links
+        linked : length ops ≤ length next
+        linked = let within = own_within plans keys x l own in q.links (omega (arith, within))
 
         here : same_number (own_list plans keys x) (Some l) ≡ true
         here = ap (λ (o : Option ℕ). same_number o (Some l)) own ∙ eq-eqb l l refl
@@ -373,7 +370,7 @@ module _ (plans : List Plan) (keys : List Pattern) (named : AreNamed keys) (list
           last_within some =
               let end = last_of ops next queue (waiting plans keys h (class_of_side s) l) (of_side s true some) in
               let within = slice_get_within ops queue.last end.0 end.1 in
-              omega (arith, within, q.links)
+              omega (arith, within, linked)
 
           -- each queue after a write of that one
           each_after : (after : List ℕ) (a : Act) (u : Queue) → ((t : Side) → AreQueued ops after u (waits_as u.waits t) (waiting plans keys (a ∷ h) (class_of_side t) l)) → ((k : ℕ) (v : Queue) → (k ≡ l → ⊥) → slice_get queues k ≡ Some v → (t : Side) → AreQueued ops after v (waits_as v.waits t) (waiting plans keys (a ∷ h) (class_of_side t) k)) → (k : ℕ) (v : Queue) → slice_get (slice_set queues l u) k ≡ Some v → (t : Side) → AreQueued ops after v (waits_as v.waits t) (waiting plans keys (a ∷ h) (class_of_side t) k)
@@ -416,8 +413,8 @@ module _ (plans : List Plan) (keys : List Pattern) (named : AreNamed keys) (list
                 let its = All-contains (λ (z : OpId). same_number (own_list plans keys z) (Some l) ≡ true) (waiting plans keys h (class_of_side s) l) end.0 (own_of (class_of_side s) l) end.2 in
                 record {
                   one_each = length-set queues l u ∙ q.one_each;
-                  links = let long = length-set next queue.last u.last in omega (arith, long, q.links);
-                  each = each_after (slice_set next queue.last u.last) (come s x) u (then_here (slice_set next queue.last u.last) u waits (line_more ops next queue u (waiting plans keys h (class_of_side s) l) x line same last (not_among (class_of_side s) l x new.fresh) q.links)) (λ k v n e. then_elsewhere (slice_set next queue.last u.last) k v n (λ t. queued_still v (waits_as v.waits t) (waiting plans keys h (class_of_side t) k) end.0 queue.last u.last end.1 (other_list (class_of_side t) k l end.0 n its) (q.each k v e t)));
+                  links = λ some. let long = length-set next queue.last u.last in omega (arith, long, linked);
+                  each = each_after (slice_set next queue.last u.last) (come s x) u (then_here (slice_set next queue.last u.last) u waits (line_more ops next queue u (waiting plans keys h (class_of_side s) l) x line same last (not_among (class_of_side s) l x new.fresh) linked)) (λ k v n e. then_elsewhere (slice_set next queue.last u.last) k v n (λ t. queued_still v (waits_as v.waits t) (waiting plans keys h (class_of_side t) k) end.0 queue.last u.last end.1 (other_list (class_of_side t) k l end.0 n its) (q.each k v e t)));
                 }
 
           -- one of the other side waits there, so x takes it
@@ -495,7 +492,7 @@ unfolding ops_of
 ops_none c = refl
 
 -- before all posts and arrivals nobody waits
-pub queues_begin : (plans : List Plan) (keys : List Pattern) (none : Queue) (queues : List Queue) (next : List ℕ) → none.waits ≡ None → queues ≡ replicate (length keys) none → length (operations plans) ≤ length next → AreQueues plans keys queues next []
+pub queues_begin : (plans : List Plan) (keys : List Pattern) (none : Queue) (queues : List Queue) (next : List ℕ) → none.waits ≡ None → queues ≡ replicate (length keys) none → (0 < length keys → length (operations plans) ≤ length next) → AreQueues plans keys queues next []
 queues_begin plans keys none queues next empty are long = record {
   one_each = ap length are ∙ length-replicate (length keys) none;
   links = long;

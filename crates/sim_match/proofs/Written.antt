@@ -1,5 +1,5 @@
 -- A list after a write.
-use Rattle.std.proofs.Common.{ℕ, zero, suc, ◌≡◌, List, [], ◌∷◌, Some, slice_get, slice_set, refl, ap}
+use Rattle.std.proofs.Common.{ℕ, zero, suc, ◌<◌, ◌≡◌, List, [], ◌∷◌, length, Some, slice_get, slice_set, refl, arith, ap}
 use Rattle.std.proofs.lemmas.Option.{same_Some, none-some}
 
 -- what is read after a write, at its place and elsewhere
@@ -7,6 +7,11 @@ pub slice_get_written : {X : Type 0} (xs : List X) (i : ℕ) (y z : X) → slice
 slice_get_written [] i y z e = absurd (none-some z e)
 slice_get_written (x ∷ xs) zero y z e = same_Some y z e
 slice_get_written (x ∷ xs) (suc i) y z e = slice_get_written xs i y z e
+
+pub slice_get_there : {X : Type 0} (xs : List X) (i : ℕ) (y : X) → i < length xs → slice_get (slice_set xs i y) i ≡ Some y
+slice_get_there [] i y b = absurd (omega arith)
+slice_get_there (x ∷ xs) zero y b = refl
+slice_get_there (x ∷ xs) (suc i) y b = slice_get_there xs i y (omega arith)
 
 pub slice_get_elsewhere : {X : Type 0} (xs : List X) (i k : ℕ) (y : X) → (k ≡ i → ⊥) → slice_get (slice_set xs i y) k ≡ slice_get xs k
 slice_get_elsewhere [] i k y n = refl

@@ -45,11 +45,11 @@ pub record AreOthers (plans : List Plan) (keys : List Pattern) (others : Others)
 abbrev pub AreSought : List Plan → List Pattern → Option Others → Type 0
 AreSought plans keys kept = MatchOption kept (AreNamed keys) (AreOthers plans keys)
 
--- the patterns of a schedule, fewer than 2^32-1, and the list of each operation's own
+-- the patterns of a schedule, fewer than 2^32-1, and the list of each operation's own, which is kept where there is a pattern
 pub record AreNumbered (plans : List Plan) (numbers : ListNumbers) : Type 0 where
   pub keys : List Pattern
   pub listed : AreListed plans keys
   pub few : length keys < 2 ^ 32 - 1
-  pub own : numbers.own.items ≡ map (λ (x : OpId). coded (own_list plans keys x)) (operations plans)
+  pub own : 0 < length keys → numbers.own.items ≡ map (λ (x : OpId). coded (own_list plans keys x)) (operations plans)
   pub count : numbers.count ≡ length keys
   pub sought : AreSought plans keys numbers.others

@@ -1,8 +1,8 @@
 -- The patterns of receives, and the lists in which an operation stands.
-use Rattle.std.specs.Prelude.{ℕ, ◌≡◌, ◌<◌, ◌≤◌, ◌+◌, ◌==◌, ◌&&◌, not, Bool, false, List, [], ◌∷◌, length, map, Option, Some, None, is_some, position, slice_get}
+use Rattle.std.specs.Prelude.{ℕ, ◌≡◌, ◌<◌, ◌≤◌, ◌+◌, ◌%◌, ◌==◌, ◌&&◌, not, Bool, true, false, List, [], ◌∷◌, length, map, Option, Some, None, is_some, position, slice_get}
 use Rattle.std.specs.List.{list_any, list_all}
 use Rattle.std.specs.List.Sorted.{IsStrictlySortedBy}
-use Rattle.std.specs.Option.{option_cmp}
+use Rattle.std.specs.Option.{option_cmp, unwrap_or}
 use Rattle.std.specs.declared.cmp.Ordering.{Ordering}
 use Rattle.std.specs.declared.cmp.Ordering.TheVariants.{Less}
 use Rattle.std.specs.Ordering.{nat_cmp, ordering_then}
@@ -40,6 +40,15 @@ abbrev pub is_wild : Wild → Pattern → Bool
 is_wild AnyTag p = is_some p.from && not (is_some p.tag)
 is_wild AnySource p = not (is_some p.from) && is_some p.tag
 is_wild Any p = not (is_some p.from) && not (is_some p.tag)
+
+-- the slot of a pattern, of so many
+abbrev pub slot_of : Pattern → ℕ → ℕ
+slot_of p slots = (unwrap_or p.from 0 + unwrap_or p.tag 0) % slots
+
+-- each pattern of that kind has taken its slot
+pub record AreTaken (wild : Wild) (patterns : List Pattern) (taken : List Bool) : Type 0 where
+  pub some : 0 < length taken
+  pub each : (k : ℕ) (p : Pattern) → slice_get patterns k ≡ Some p → is_wild wild p ≡ true → slice_get taken (slot_of p (length taken)) ≡ Some true
 
 -- the patterns before that place are of lower ranks
 abbrev pub AreLower : List Pattern → ℕ → ℕ → Type 0

@@ -1,5 +1,5 @@
 -- Queues of the operations that wait, one a pattern, where each pattern names a source and a tag.
-use Rattle.std.specs.Prelude.{ℕ, ◌≡◌, ◌≢◌, ◌≤◌, ◌&&◌, not, Bool, true, false, List, [], ◌∷◌, length, filter, Option, Some, None, slice_get}
+use Rattle.std.specs.Prelude.{ℕ, ◌≡◌, ◌≢◌, ◌<◌, ◌≤◌, ◌&&◌, not, Bool, true, false, List, [], ◌∷◌, length, filter, Option, Some, None, slice_get}
 use Rattle.goal_graph.specs.declared.action.OpId.{OpId}
 use Rattle.goal_graph.specs.declared.action.Class.{Class}
 use Rattle.goal_graph.specs.declared.action.Class.TheVariants.{Arrive, Post}
@@ -78,7 +78,7 @@ module _ (plans : List Plan) (keys : List Pattern) where
   -- each pattern has in its queue what waits after h, of one side alone
   pub record AreQueues (queues : List Queue) (next : List ℕ) (h : List Act) : Type 0 where
     pub one_each : length queues ≡ length keys
-    pub links : length (operations plans) ≤ length next
+    pub links : 0 < length keys → length (operations plans) ≤ length next
     pub each : (list : ℕ) (queue : Queue) → slice_get queues list ≡ Some queue → (side : Side) → AreQueued (operations plans) next queue (waits_as queue.waits side) (waiting h (class_of_side side) list)
 
 -- what queues keep

@@ -3,7 +3,7 @@ ghost use Rattle.std.specs.Prelude.{ℕ, ◌≡◌, ◌<◌, ◌≤◌, ◌-◌,
 ghost use Rattle.goal_graph.specs.Schedule.{operations, IsSend, IsReceive};
 ghost use Rattle.std.specs.Option.{IfSome};
 ghost use Rattle.goal_graph.specs.Fault.{IsOp};
-ghost use Rattle.sim_match.specs.Patterns.{number, own_list, wild_list, list_of, lists_for, AreListed};
+ghost use Rattle.sim_match.specs.Patterns.{number, own_list, wild_list, list_of, lists_for, AreListed, AreTaken};
 ghost use Rattle.sim_match.specs.ListNumbers.{coded, IsCodable, AreWild, IsWildAt, AreSought, AreNumbered};
 
 use crate::pattern::{Pattern, Patterns, Wild};
@@ -21,8 +21,8 @@ pub struct Others {
 }
 
 /// For each operation, in the order of all, the number of the list of its own pattern: of what a receive asks for, and of
-/// what names the source and the tag of a send. `NO_LIST` stands where the schedule doesn't have that pattern. The
-/// others of the sends are kept only where a pattern takes any source or any tag.
+/// what names the source and the tag of a send. `NO_LIST` stands where the schedule doesn't have that pattern. Where it has
+/// none at all, none are kept. The others of the sends are kept only where a pattern takes any source or any tag.
 #[derive(Drop)]
 pub struct ListNumbers {
     pub own: Vec<u32>,
@@ -179,12 +179,15 @@ impl Trails {
     }
 }
 
-// The numbers of all operations.
+// The numbers of all operations. Where there is no pattern none has one, and none is kept.
 fn own_numbers(alloc: Global, sched: &Sched, patterns: &Patterns) -> Result<Vec<u32>, AllocError>
     requires { length patterns.now ≤ length (operations sched.now) }
     ensures few { OnOk result (length patterns.now < 2 ^ 32 - 1) }
-    ensures numbers { IfOk result (λ numbers. numbers.items ≡ map (λ x. coded (own_list sched.now patterns.now x)) (operations sched.now)) }
+    ensures numbers { IfOk result (λ numbers. 0 < length patterns.now → numbers.items ≡ map (λ x. coded (own_list sched.now patterns.now x)) (operations sched.now)) }
 {
+    if patterns.len() == 0 {
+        return Ok(Vec::new(alloc));
+    }
     let mut numbers = Vec::with_capacity(alloc, sched.count() as usize)?;
     let mut trails = Trails::of(alloc, sched, patterns)?;
     for id in sched.operations() {
@@ -195,12 +198,26 @@ fn own_numbers(alloc: Global, sched: &Sched, patterns: &Patterns) -> Result<Vec<
 }
 
 // The number of the list of a send whose pattern takes what that kind takes, where the schedule has it.
-fn wild_list(patterns: &Patterns, sched: &Sched, id: OpId, wild: Wild) -> Option<usize>
-    requires { IsOp sched.now id }
+fn wild_list(
+    patterns: &Patterns,
+    taken: &[bool],
+    sched: &Sched,
+    id: OpId,
+    wild: Wild,
+) -> Option<usize>
+    requires op { IsOp sched.now id }
+    requires taken { AreTaken wild patterns.now taken.now }
     ensures { result ≡ wild_list sched.now patterns.now wild id }
 {
     match sched.op(id).kind {
-        Kind::Send { to, tag, .. } => patterns.number(wild.pattern(id.rank, to, tag)),
+        Kind::Send { to, tag, .. } => {
+            let pattern = wild.pattern(id.rank, to, tag);
+            if taken[pattern.slot(taken.len())] {
+                patterns.number(pattern)
+            } else {
+                None
+            }
+        }
         Kind::Recv { .. } | Kind::Calc { .. } => None,
     }
 }
@@ -218,9 +235,10 @@ fn wild_numbers(
     if !patterns.have(wild) {
         return Ok(None);
     }
+    let taken = patterns.taken_slots(alloc, wild)?;
     let mut numbers = Vec::with_capacity(alloc, sched.count() as usize)?;
     for id in sched.operations() {
-        let number = wild_list(patterns, sched, *id, wild);
+        let number = wild_list(patterns, &taken, sched, *id, wild);
         numbers.push_reserved(coded(number));
     }
     Ok(Some(numbers))
@@ -272,10 +290,11 @@ impl ListNumbers {
         })
     }
 
-    // What is kept of an operation.
+    // What is kept of an operation, where there is a pattern.
     fn own(&self, sched: &Sched, id: OpId) -> u32
         requires op { IsOp sched.now id }
         requires numbered { AreNumbered sched.now self.now }
+        requires some { 0 < self.now.count }
         ensures { (n : AreNumbered sched.now self.now) → result ≡ coded (own_list sched.now n.keys id) }
     {
         self.own[sched.index(id) as usize]
@@ -287,6 +306,9 @@ impl ListNumbers {
         requires numbered { AreNumbered sched.now self.now }
         ensures { (n : AreNumbered sched.now self.now) → result ≡ own_list sched.now n.keys id }
     {
+        if self.count == 0 {
+            return None;
+        }
         decoded(self.own(sched, id))
     }
 

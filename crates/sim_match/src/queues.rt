@@ -38,7 +38,7 @@ impl Queue {
 }
 
 /// For each pattern the queue of those that wait. To what stands at a place the next links that stands behind it in its
-/// queue. The receives that were posted and the sends that have arrived, in this order, stand in proofs alone.
+/// queue: where there is no pattern, there are no links. The receives that were posted and the sends that have arrived, in this order, stand in proofs alone.
 #[derive(Drop)]
 pub struct Queues {
     pub numbers: ListNumbers,
@@ -104,9 +104,13 @@ impl Queues {
         ensures kept { IfOk result (λ queues. AreKept sched.now queues) }
         ensures events { IfOk result (λ queues. queues.events.items ≡ []) }
     {
-        let count = sched.count() as usize;
+        let links = if numbers.count == 0 {
+            0
+        } else {
+            sched.count() as usize
+        };
         let queues = vec![in alloc; Queue::NONE; numbers.count]?;
-        let next = vec![in alloc; 0_u32; count]?;
+        let next = vec![in alloc; 0_u32; links]?;
         Ok(Queues {
             numbers,
             queues,

@@ -7,6 +7,12 @@ use Rattle.goal_graph.proofs.ForCallers.{op_of_kind}
 pub own-requires-clause-op : goal.own-requires-clause-op
 own-requires-clause-op c = op_of_kind _ c.args.recv _ c.requires.receive.kind
 
+pub own-requires-clause-some : goal.own-requires-clause-some
+own-requires-clause-some c =
+    let n = c.requires.numbered in
+    let within = (n.listed c.args.recv c.requires.receive).within in
+    omega (arith, within, n.count)
+
 pub returns-clause-list : goal.returns-clause-list
 returns-clause-list c = λ n.
     let its = n.listed c.args.recv c.requires.receive in
