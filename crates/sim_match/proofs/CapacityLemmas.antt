@@ -74,7 +74,7 @@ module _ (numbers : List (Option ℕ)) (old now : List Capacity) (k : ℕ) (d : 
       none : one_if (list_any (same_number (Some i)) (take k numbers)) ≡ 0
       none = ap one_if (once k i at)
 
-      pub count_fits : ((l : ℕ) (r : Capacity) → slice_get old l ≡ Some r → r.sends + 1 < 2 ^ 64) → capacity.sends + 1 < 2 ^ 64
+      pub count_fits : ((l : ℕ) (r : Capacity) → slice_get old l ≡ Some r → r.sends + 1 < 2 ^ 32) → capacity.sends + 1 < 2 ^ 32
       count_fits small =
           let fits = small i (its).before (its).was in
           omega (arith, (its).sends, none, fits)
@@ -117,7 +117,7 @@ module _ (plans : List Plan) (keys : List Pattern) (ops : List OpId) (i : ℕ) (
       counts test b e =
           sum_by_more (λ (x : OpId). cond (test x) 1 0) ops i d inside ∙ ap (λ (b : Bool). count_by test (take i ops) + cond b 1 0) e
 
-  few : (test : OpId → Bool) → length ops < 2 ^ 64 → count_by test (take i ops) + 1 < 2 ^ 64
+  few : (test : OpId → Bool) → length ops < 2 ^ 32 → count_by test (take i ops) + 1 < 2 ^ 32
   few test short =
       let less = count_by-le-length test (take i ops) in
       let part = length-take i ops in
@@ -144,7 +144,7 @@ module _ (plans : List Plan) (keys : List Pattern) (ops : List OpId) (i : ℕ) (
       its_capacity : IsCapacity plans keys (take i ops) list capacity
       its_capacity = before.each list capacity (slice_get_read capacities (length capacities) list capacity refl receive_within read)
 
-      pub receives_fit : length ops < 2 ^ 64 → capacity.receives + 1 < 2 ^ 64
+      pub receives_fit : length ops < 2 ^ 32 → capacity.receives + 1 < 2 ^ 32
       receives_fit short =
           let fits = few (in_list plans keys list) short in
           omega (arith, fits, (its_capacity).receives)
@@ -171,7 +171,7 @@ module _ (plans : List Plan) (keys : List Pattern) (ops : List OpId) (i : ℕ) (
     unfolding for_list
     for_one l = ap (list_any (same_number (Some l))) its_lists
 
-    pub sends_fit : length ops < 2 ^ 64 → (l : ℕ) (capacity : Capacity) → slice_get capacities l ≡ Some capacity → capacity.sends + 1 < 2 ^ 64
+    pub sends_fit : length ops < 2 ^ 32 → (l : ℕ) (capacity : Capacity) → slice_get capacities l ≡ Some capacity → capacity.sends + 1 < 2 ^ 32
     sends_fit short l capacity at =
         let fits = few (for_list plans keys l) short in
         omega (arith, fits, (before.each l capacity at).sends)

@@ -1,9 +1,9 @@
 -- What queues keep, after one more post or arrival.
-use Rattle.std.proofs.Common.{ℕ, zero, suc, ◌<◌, ◌≤◌, ◌≡◌, ◌≢◌, ◌==◌, ◌&&◌, ◌||◌, Bool, true, false, not, cond, ◌⊎◌, inl, inr, List, [], ◌∷◌, ◌++◌, length, get_or, Option, Some, None, is_some, All, AllPairs, filter, find, replicate, slice_get, slice_set, refl, arith, sym, ap, ap₂, ◌∙◌, subst, eq-eqb}
+use Rattle.std.proofs.Common.{ℕ, zero, suc, ◌<◌, ◌≤◌, ◌≡◌, ◌≢◌, ◌==◌, ◌&&◌, ◌||◌, Bool, true, false, not, cond, ◌⊎◌, inl, inr, List, [], ◌∷◌, ◌++◌, length, get_or, map, Option, Some, None, is_some, All, AllPairs, Contains, filter, find, replicate, slice_get, slice_set, refl, arith, sym, ap, ap₂, ◌∙◌, subst, eq-eqb}
 use Rattle.std.specs.Option.{option_map}
 use Rattle.std.specs.List.{list_any}
 use Rattle.std.proofs.lemmas.Bool.{eqb-true, cases_Bool, cases_eq, cond-false, both_ways, and_parts, false_from_ne_true, ne_eqb}
-use Rattle.std.proofs.lemmas.Option.{none-some, same_Some, slice_get_within}
+use Rattle.std.proofs.lemmas.Option.{none-some, same_Some, slice_get-map, slice_get_within}
 use Rattle.std.proofs.lemmas.List.{length-set, length-replicate}
 use Rattle.std.proofs.lemmas.List.Elements.{All-head, All-tail, All-weaker, All-filter, All-contains, filter_passes}
 use Rattle.std.proofs.lemmas.List.Quantifiers.{all_pairs_push}
@@ -15,17 +15,17 @@ use Rattle.goal_graph.specs.Fault.{IsOp}
 use Rattle.goal_graph.specs.Action.{Act, place, same_op, happened}
 use Rattle.goal_graph.specs.Matching.{Pair, pair_of, fits, is_paired, new_pair, pairs}
 use Rattle.goal_graph.specs.Laws.{has_class}
-use Rattle.goal_graph.proofs.ForCallers.{op_of_kind, pairs_same, place_same, same_op_from, cases_op, same_op_true, same_op_itself, same_op_swapped, not_send_receive, not_arrived, not_posted}
+use Rattle.goal_graph.proofs.ForCallers.{op_of_kind, pairs_same, place_same, same_op_from, cases_op, same_op_true, same_op_itself, same_op_swapped, not_send_receive, not_arrived, not_posted, happened_before}
 use Rattle.sim_match.specs.declared.pattern.Pattern.{Pattern}
 use Rattle.sim_match.specs.Patterns.{same_number, own_list, list_of, AreListed}
-use Rattle.sim_match.specs.ListNumbers.{AreNamed}
+use Rattle.sim_match.specs.ListNumbers.{coded, AreNamed}
 use Rattle.sim_match.specs.PostsAndArrivals.{receive_for}
 use Rattle.sim_match.specs.Waiting.{ops_of}
 use Rattle.sim_match.specs.Matcher.{actions_of, IsNew, ArePostsAndArrivals}
 use Rattle.sim_match.specs.declared.capacities.Side.{Side}
 use Rattle.sim_match.specs.declared.capacities.Side.TheVariants.{Receives, Sends}
 use Rattle.sim_match.specs.declared.queues.Queue.{Queue}
-use Rattle.sim_match.specs.Queues.{class_of_side, come, taken_by, waits_as, AreInLine, AreQueued, AreLeft, AreQueues, is_waiting, waiting}
+use Rattle.sim_match.specs.Queues.{class_of_side, come, taken_by, waits_as, AreInLine, AreQueued, AreLeft, AreQueues, AreToCome, is_waiting, waiting}
 use Rattle.sim_match.proofs.Ops.{ops_same, ops_other, ops_happened, oldest_found, action_suits, suited_receive, suited_send}
 use Rattle.sim_match.proofs.Pairs.{in_pair, paired_more, pairs_with}
 use Rattle.sim_match.proofs.Kept.{actions_of-post, actions_of-arrival}
@@ -334,6 +334,12 @@ module _ (plans : List Plan) (keys : List Pattern) (named : AreNamed keys) (list
       queued_still queue true xs z k j at all queued = line_still ops next queue xs z k j at all queued
       queued_still queue false xs z k j at all queued = queued
 
+      -- an action more leaves less to come
+      pub still_to_come : (a : Act) → AreToCome plans keys next h → AreToCome plans keys next (a ∷ h)
+      still_to_come a to_come = record {
+        each = λ some t z place there suits fresh. to_come.each some t z place there suits (happened_before (class_of_side t) z a h fresh);
+      }
+
       -- nobody comes: a send without a list
       pub come_nowhere : (m : OpId) → IsSend plans m → own_list plans keys m ≡ None → AreQueues plans keys queues next (come Sends m ∷ h) × (None ≡ receive_for plans h m)
       come_nowhere m s none =
@@ -371,6 +377,26 @@ module _ (plans : List Plan) (keys : List Pattern) (named : AreNamed keys) (list
               let end = last_of ops next queue (waiting plans keys h (class_of_side s) l) (of_side s true some) in
               let within = slice_get_within ops queue.last end.0 end.1 in
               omega (arith, within, linked)
+
+          -- at the place of the last, which has come, no number of one to come is kept
+          pub behind_to_come : (j : ℕ) → waits_as queue.waits s ≡ true → AreToCome plans keys next h → AreToCome plans keys (slice_set next queue.last j) (come s x ∷ h)
+          behind_to_come j some to_come = record {
+            each = λ many t z place there suits fresh.
+                let before = happened_before (class_of_side t) z (come s x) h fresh in
+                slice_get_elsewhere next queue.last place j (λ same. apart z (same_Some end.0 z (sym end.1 ∙ ap (slice_get ops) (sym same) ∙ there)) t suits before) ∙ to_come.each many t z place there suits before;
+          }
+            where
+              end : (y : OpId) × (slice_get ops queue.last ≡ Some y) × Contains (waiting plans keys h (class_of_side s) l) y
+              end = last_of ops next queue (waiting plans keys h (class_of_side s) l) (of_side s true some)
+
+              has_come : happened (class_of_side s) end.0 h ≡ true
+              has_come = All-contains (λ (z : OpId). happened (class_of_side s) z h ≡ true) (waiting plans keys h (class_of_side s) l) end.0 (All-filter (is_waiting plans keys h l) (λ (z : OpId). happened (class_of_side s) z h ≡ true) (ops_of (class_of_side s) h) (ops_happened (class_of_side s) h)) end.2
+
+              its_side : has_class (kind_at plans end.0) (class_of_side s) ≡ true
+              its_side = All-contains (λ (z : OpId). has_class (kind_at plans z) (class_of_side s) ≡ true) (waiting plans keys h (class_of_side s) l) end.0 (waiting_suits (class_of_side s) l) end.2
+
+              apart : (z : OpId) → end.0 ≡ z → (t : Side) → has_class (kind_at plans z) (class_of_side t) ≡ true → happened (class_of_side t) z h ≡ false → ⊥
+              apart z same = both_sides (λ (t : Side). has_class (kind_at plans z) (class_of_side t) ≡ true → happened (class_of_side t) z h ≡ false → ⊥) s (λ suits fresh. both_ways (happened (class_of_side s) z h) fresh (subst (λ (y : OpId). happened (class_of_side s) y h ≡ true) same has_come)) (λ suits fresh. both_ways (same_op z end.0) (sides_apart plans s z end.0 suits its_side) (same_op_from z end.0 (sym same)))
 
           -- each queue after a write of that one
           each_after : (after : List ℕ) (a : Act) (u : Queue) → ((t : Side) → AreQueued ops after u (waits_as u.waits t) (waiting plans keys (a ∷ h) (class_of_side t) l)) → ((k : ℕ) (v : Queue) → (k ≡ l → ⊥) → slice_get queues k ≡ Some v → (t : Side) → AreQueued ops after v (waits_as v.waits t) (waiting plans keys (a ∷ h) (class_of_side t) k)) → (k : ℕ) (v : Queue) → slice_get (slice_set queues l u) k ≡ Some v → (t : Side) → AreQueued ops after v (waits_as v.waits t) (waiting plans keys (a ∷ h) (class_of_side t) k)
@@ -506,3 +532,10 @@ queues_begin plans keys none queues next empty are long = record {
     its zero l b = absurd (omega arith)
     its (suc n) zero b = refl
     its (suc n) (suc l) b = its n l (omega arith)
+
+-- and all are to come
+pub all_to_come : (plans : List Plan) (keys : List Pattern) (next : List ℕ) → (0 < length keys → next ≡ map (λ (x : OpId). coded (own_list plans keys x)) (operations plans)) → AreToCome plans keys next []
+all_to_come plans keys next are = record {
+  each = λ some t z place there suits fresh.
+      ap (λ (ns : List ℕ). slice_get ns place) (are some) ∙ slice_get-map (λ (x : OpId). coded (own_list plans keys x)) (operations plans) place ∙ ap (option_map (λ (x : OpId). coded (own_list plans keys x))) there;
+}

@@ -1,10 +1,11 @@
 -- Queues of the operations that wait, one a pattern, where each pattern names a source and a tag.
-use Rattle.std.specs.Prelude.{ℕ, ◌≡◌, ◌≢◌, ◌<◌, ◌≤◌, ◌&&◌, not, Bool, true, false, List, [], ◌∷◌, length, filter, Option, Some, None, slice_get}
+use Rattle.std.specs.Prelude.{ℕ, ◌≡◌, ◌≢◌, ◌<◌, ◌≤◌, ◌-◌, ◌^◌, ◌&&◌, not, Bool, true, false, List, [], ◌∷◌, length, filter, Option, Some, None, slice_get}
 use Rattle.goal_graph.specs.declared.action.OpId.{OpId}
 use Rattle.goal_graph.specs.declared.action.Class.{Class}
 use Rattle.goal_graph.specs.declared.action.Class.TheVariants.{Arrive, Post}
-use Rattle.goal_graph.specs.Schedule.{Plan, operations}
-use Rattle.goal_graph.specs.Action.{Act}
+use Rattle.goal_graph.specs.Schedule.{Plan, kind_at, operations}
+use Rattle.goal_graph.specs.Action.{Act, happened}
+use Rattle.goal_graph.specs.Laws.{has_class}
 use Rattle.goal_graph.specs.Matching.{is_paired, pairs}
 use Rattle.sim_match.specs.declared.capacities.Side.{Side}
 use Rattle.sim_match.specs.declared.capacities.Side.TheVariants.{Receives, Sends}
@@ -13,8 +14,8 @@ use Rattle.sim_match.specs.declared.queues.Queue.{Queue}
 use Rattle.sim_match.specs.declared.queues.Queues.{Queues}
 use Rattle.sim_match.specs.PostsAndArrivals.{send_for, receive_for}
 use Rattle.sim_match.specs.Waiting.{ops_of}
-use Rattle.sim_match.specs.Patterns.{same_number, own_list}
-use Rattle.sim_match.specs.ListNumbers.{AreNamed, AreNumbered}
+use Rattle.sim_match.specs.Patterns.{same_number, own_list, AreListed}
+use Rattle.sim_match.specs.ListNumbers.{coded, AreNamed}
 use Rattle.sim_match.specs.Matcher.{ArePostsAndArrivals, actions_of}
 
 -- receives are posted, sends arrive
@@ -81,9 +82,18 @@ module _ (plans : List Plan) (keys : List Pattern) where
     pub links : 0 < length keys → length (operations plans) ≤ length next
     pub each : (list : ℕ) (queue : Queue) → slice_get queues list ≡ Some queue → (side : Side) → AreQueued (operations plans) next queue (waits_as queue.waits side) (waiting h (class_of_side side) list)
 
+  -- of what has not come in h the number of its list is kept at its place, where there is a pattern
+  pub record AreToCome (next : List ℕ) (h : List Act) : Type 0 where
+    pub each :
+        0 < length keys → (side : Side) (x : OpId) (place : ℕ)
+        → slice_get (operations plans) place ≡ Some x → has_class (kind_at plans x) (class_of_side side) ≡ true → happened (class_of_side side) x h ≡ false → slice_get next place ≡ Some (coded (own_list plans keys x))
+
 -- what queues keep
 pub record AreKept (plans : List Plan) (kept : Queues) : Type 0 where
-  pub numbered : AreNumbered plans kept.numbers
-  pub named : AreNamed numbered.keys
+  pub keys : List Pattern
+  pub listed : AreListed plans keys
+  pub few : length keys < 2 ^ 32 - 1
+  pub named : AreNamed keys
   pub actions : ArePostsAndArrivals plans (actions_of plans kept.events.items)
-  pub queues : AreQueues plans numbered.keys kept.queues.items kept.next.items (actions_of plans kept.events.items)
+  pub queues : AreQueues plans keys kept.queues.items kept.next.items (actions_of plans kept.events.items)
+  pub to_come : AreToCome plans keys kept.next.items (actions_of plans kept.events.items)

@@ -13,8 +13,8 @@ use std::alloc::{AllocError, Global};
 /// How many receives a list has, and how many sends are for it.
 #[derive(Clone, Copy, Debug, PartialEq, Eq)]
 pub struct Capacity {
-    pub receives: usize,
-    pub sends: usize,
+    pub receives: u32,
+    pub sends: u32,
 }
 
 /// Whether the receives of the lists are meant, or their sends.
@@ -26,7 +26,7 @@ pub enum Side {
 
 impl Side {
     /// How many of this side a list has room for.
-    pub fn room(self, capacity: &Capacity) -> usize
+    pub fn room(self, capacity: &Capacity) -> u32
         ensures { result ≡ room_of self capacity.now }
     {
         match self {
@@ -51,7 +51,7 @@ impl Side {
 fn count_send(capacities: &mut [Capacity], numbers: [Option<usize>; 4])
     requires once { AreOnce numbers }
     requires within { AreWithin numbers (length capacities.old) }
-    requires small { (list : ℕ) (capacity : Capacity) → slice_get capacities.old list ≡ Some capacity → capacity.sends + 1 < 2 ^ 64 }
+    requires small { (list : ℕ) (capacity : Capacity) → slice_get capacities.old list ≡ Some capacity → capacity.sends + 1 < 2 ^ 32 }
     ensures { AreCounted numbers capacities.old capacities.new }
 {
     for number in numbers {
@@ -71,7 +71,8 @@ pub fn capacities(
     sched: &Sched,
     numbers: &ListNumbers,
 ) -> Result<Vec<Capacity>, AllocError>
-    requires { AreNumbered sched.now numbers.now }
+    requires numbered { AreNumbered sched.now numbers.now }
+    requires few { length (operations sched.now) < 2 ^ 32 }
     ensures { IfOk result (λ capacities. (n : AreNumbered sched.now numbers.now) → AreCapacities sched.now n.keys (operations sched.now) capacities.items) }
 {
     let none = Capacity {

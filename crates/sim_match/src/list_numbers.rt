@@ -43,8 +43,8 @@ fn coded(number: Option<usize>) -> u32
     }
 }
 
-// The number that is kept so, or none.
-fn decoded(kept: u32) -> Option<usize>
+/// The number that is kept so, or none.
+pub fn decoded(kept: u32) -> Option<usize>
     ensures { (number : Option ℕ) → kept ≡ coded number → IsCodable number → result ≡ number }
 {
     if kept == NO_LIST {
@@ -300,8 +300,8 @@ impl ListNumbers {
         self.own[sched.index(id) as usize]
     }
 
-    /// The number of the list of an operation's own pattern, where the schedule has it.
-    pub fn own_list(&self, sched: &Sched, id: OpId) -> Option<usize>
+    // The number of the list of an operation's own pattern, where the schedule has it.
+    fn own_list(&self, sched: &Sched, id: OpId) -> Option<usize>
         requires op { IsOp sched.now id }
         requires numbered { AreNumbered sched.now self.now }
         ensures { (n : AreNumbered sched.now self.now) → result ≡ own_list sched.now n.keys id }

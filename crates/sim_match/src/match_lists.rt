@@ -50,11 +50,11 @@ impl MatchLists {
         let mut end: u32 = 0;
         for capacity in capacities {
             let room = side.room(capacity);
-            if room > (u32::MAX - end) as usize {
+            if room > u32::MAX - end {
                 return Err(NoMemory);
             }
             let start = end;
-            end += room as u32;
+            end += room;
             spans.push_reserved(Span {
                 start,
                 len: 0,

@@ -63,10 +63,11 @@ impl MatchTable {
         ensures events { IfOk result (λ table. table.events.items ≡ []) }
     {
         sched.known();
+        let count = sched.count() as usize;
         let capacities = capacities(alloc, sched, &numbers)?;
         let receives = MatchLists::new(alloc, &capacities, Side::Receives)?;
         let sends = MatchLists::new(alloc, &capacities, Side::Sends)?;
-        let marks = vec![in alloc; false; sched.count() as usize]?;
+        let marks = vec![in alloc; false; count]?;
         Ok(MatchTable {
             numbers,
             receives,

@@ -13,7 +13,7 @@ ghost use Rattle.sim_match.specs.Matcher.{actions_of, IsNew};
 ghost use Rattle.sim_match.specs.Queues.{come, taken_by, AreInLine, AreLeft, AreKept};
 
 use crate::capacities::Side;
-use crate::list_numbers::ListNumbers;
+use crate::list_numbers::{ListNumbers, decoded};
 use goal_base::NoMemory;
 use goal_graph::{OpId, Sched};
 use sim_order::{Past, Steps};
@@ -37,11 +37,12 @@ impl Queue {
     };
 }
 
-/// For each pattern the queue of those that wait. To what stands at a place the next links that stands behind it in its
-/// queue: where there is no pattern, there are no links. The receives that were posted and the sends that have arrived, in this order, stand in proofs alone.
+/// For each pattern the queue of those that wait. For each operation, in the order of all, the number of its list, as it is
+/// coded, until it comes, and then the place of the one behind it in its queue: `next` is where it goes, and then who follows.
+/// It is empty where there is no pattern. The receives that were posted and the sends that have arrived, in this order, stand
+/// in proofs alone.
 #[derive(Drop)]
 pub struct Queues {
-    pub numbers: ListNumbers,
     pub queues: Vec<Queue>,
     pub next: Vec<u32>,
     pub events: Past<OpId>,
@@ -104,17 +105,10 @@ impl Queues {
         ensures kept { IfOk result (λ queues. AreKept sched.now queues) }
         ensures events { IfOk result (λ queues. queues.events.items ≡ []) }
     {
-        let links = if numbers.count == 0 {
-            0
-        } else {
-            sched.count() as usize
-        };
         let queues = vec![in alloc; Queue::NONE; numbers.count]?;
-        let next = vec![in alloc; 0_u32; links]?;
         Ok(Queues {
-            numbers,
             queues,
-            next,
+            next: numbers.own,
             events: Past::new(),
         })
     }
@@ -123,7 +117,7 @@ impl Queues {
     // waits.
     fn come(&mut self, sched: &Sched, list: usize, id: OpId, side: Side) -> Option<OpId>
         requires kept { AreKept sched.now self.old }
-        requires own { (kept : AreKept sched.now self.old) → own_list sched.now kept.numbered.keys id ≡ Some list }
+        requires own { (kept : AreKept sched.now self.old) → own_list sched.now kept.keys id ≡ Some list }
         requires fresh { IsNew sched.now (actions_of sched.now self.old.events.items) (come side id) }
         ensures kept { AreKept sched.now self.new }
         ensures events { self.new.events.items ≡ self.old.events.items ++ id ∷ [] }
@@ -148,6 +142,19 @@ impl Queues {
         }
     }
 
+    // The number of the list of a send that has not come, where the schedule has its pattern.
+    fn list_of_send(&self, sched: &Sched, send: OpId) -> Option<usize>
+        requires kept { AreKept sched.now self.now }
+        requires send { IsSend sched.now send }
+        requires fresh { happened Arrive send (actions_of sched.now self.now.events.items) ≡ false }
+        ensures { (kept : AreKept sched.now self.now) → result ≡ own_list sched.now kept.keys send }
+    {
+        if self.queues.is_empty() {
+            return None;
+        }
+        decoded(self.next[sched.index(send) as usize])
+    }
+
     /// A receive is posted. Answers the send that it takes. Two looks are counted: one at what waits, and one for when it is
     /// looked at itself.
     pub fn post<L: Ledger>(
@@ -166,7 +173,7 @@ impl Queues {
     {
         steps.tick();
         steps.tick();
-        let list = self.numbers.list_of_receive(sched, recv);
+        let list = self.next[sched.index(recv) as usize] as usize;
         self.come(sched, list, recv, Side::Receives)
     }
 
@@ -187,7 +194,7 @@ impl Queues {
     {
         steps.tick();
         steps.tick();
-        match self.numbers.own_list(sched, send) {
+        match self.list_of_send(sched, send) {
             Some(list) => self.come(sched, list, send, Side::Sends),
             None => {
                 self.events.push(&send);

@@ -18,8 +18,8 @@ list_of_receive-list-requires-clause-receive c = record {
 
 pub overflow_add-capacity : goal.overflow_add-capacity
 overflow_add-capacity c =
-    let short : length c.operations-id-items.result.now < 2 ^ 64 = omega arith in
-    let fits = receives_fit _ _ c.operations-id-items.result.now c.loop-id.id-index (record { rank = 0; op = 0 }) (omega arith) _ (c.loop-id.invariant c.requires) _ c.op.ensures.op _ _ _ c.in-Recv.is _ (c.list_of_receive-list.ensures.list c.requires) (omega (arith, c.list_of_receive-list.ensures.within, c.requires.count)) _ c.index_mut-capacity.ensures.value short in
+    let short : length c.operations-id-items.result.now < 2 ^ 32 = rw c.operations-id-items.ensures.all c.requires.few in
+    let fits = receives_fit _ _ c.operations-id-items.result.now c.loop-id.id-index (record { rank = 0; op = 0 }) (omega arith) _ (c.loop-id.invariant c.requires.numbered) _ c.op.ensures.op _ _ _ c.in-Recv.is _ (c.list_of_receive-list.ensures.list c.requires.numbered) (omega (arith, c.list_of_receive-list.ensures.within, c.requires.numbered.count)) _ c.index_mut-capacity.ensures.value short in
     omega (arith, fits)
 
 -- the send of this turn
@@ -40,17 +40,17 @@ lists_of_send-requires-clause-send c = record {
 }
 
 pub count_send-requires-clause-once : goal.count_send-requires-clause-once
-count_send-requires-clause-once c = rw (c.lists_of_send.ensures c.requires) (lists_once _ _ _ (this_send c))
+count_send-requires-clause-once c = rw (c.lists_of_send.ensures c.requires.numbered) (lists_once _ _ _ (this_send c))
 
 pub count_send-requires-clause-within : goal.count_send-requires-clause-within
 count_send-requires-clause-within c = λ k i e.
-    let low = lists_within _ _ _ (this_send c) k i (rw (c.lists_of_send.ensures c.requires) at e) in
-    omega (arith, low, c.deref_mut.ensures.len, (c.loop-id.invariant c.requires).one_each, c.loop-id.capacities.ok.0)
+    let low = lists_within _ _ _ (this_send c) k i (rw (c.lists_of_send.ensures c.requires.numbered) at e) in
+    omega (arith, low, c.deref_mut.ensures.len, (c.loop-id.invariant c.requires.numbered).one_each, c.loop-id.capacities.ok.0)
 
 pub count_send-requires-clause-small : goal.count_send-requires-clause-small
 count_send-requires-clause-small c = λ l r e.
-    let short : length c.operations-id-items.result.now < 2 ^ 64 = omega arith in
-    sends_fit _ _ c.operations-id-items.result.now c.loop-id.id-index (record { rank = 0; op = 0 }) (omega arith) _ (c.loop-id.invariant c.requires) _ c.op.ensures.op _ _ _ c.in-Send.is short l r (rw c.deref_mut.ensures.value at e)
+    let short : length c.operations-id-items.result.now < 2 ^ 32 = rw c.operations-id-items.ensures.all c.requires.few in
+    sends_fit _ _ c.operations-id-items.result.now c.loop-id.id-index (record { rank = 0; op = 0 }) (omega arith) _ (c.loop-id.invariant c.requires.numbered) _ c.op.ensures.op _ _ _ c.in-Send.is short l r (rw c.deref_mut.ensures.value at e)
 
 pub loop-id-preserved : goal.loop-id-preserved
 loop-id-preserved c = λ n. elim c.match-op.branch [

@@ -9,12 +9,12 @@ use Rattle.sim_match.proofs.match_table.MatchTable.new.Goals as goal
 
 pub returns-clause-kept : goal.returns-clause-kept
 returns-clause-kept c =
-    let unmarked : c.in_ok-marks.marks.items ≡ replicate (length (operations c.args.sched.now)) false = rw c.count.ensures.count at (c.in_ok-marks.ensures.items_if_clones_equal (search rules)) in
+    let unmarked : c.in_ok-marks.marks.items ≡ replicate (length (operations c.args.sched.now)) false = rw c.count-count.ensures.count at (c.in_ok-marks.ensures.items_if_clones_equal (search rules)) in
     let kept = begins _ _ _ _ c.known.ensures.accepted c.requires.listed (c.in_ok-capacities.ensures c.requires) unmarked in
     let receives = ap length (rw c.deref.ensures.value at c.in_ok-receives.ensures) ∙ length-map c.in_ok-capacities.capacities.items (empty_list Receives) in
     let sends = ap length (rw c.deref-2.ensures.value at c.in_ok-sends.ensures) ∙ length-map c.in_ok-capacities.capacities.items (empty_list Sends) in
     record {
-      few = omega (arith, c.count.ensures.count, c.count.ensures.small);
+      few = omega (arith, c.count-count.ensures.count, c.count-count.ensures.small);
       as_many = receives ∙ sym sends;
       numbered = c.requires;
       covered = rw (c.in_ok-receives.ensures, c.in_ok-sends.ensures, c.deref.ensures.value, c.deref-2.ensures.value) (omega (arith, unseen_empty Receives c.in_ok-capacities.capacities.items, unseen_empty Sends c.in_ok-capacities.capacities.items));
