@@ -1,6 +1,7 @@
 mod Told
 mod Gathering
 mod Listed
+mod SlotRows
 mod Keeping
 mod LeastWrong
 mod Writing

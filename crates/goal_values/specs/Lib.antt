@@ -1,5 +1,6 @@
 -- What only the code keeps.
 pub mod Sums
+pub mod Rows
 pub mod Kept
 pub mod Summed
 pub mod Parts

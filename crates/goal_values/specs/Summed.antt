@@ -1,15 +1,13 @@
 -- What is kept of the values of slots, where they are told as sums.
 use Rattle.std.specs.Prelude.{ℕ, ◌≡◌, ◌+◌, ◌*◌, ◌^◌, ◌≤◌, nat_lt, List, map, length, All, Option, Some, None, if◌then◌else◌}
-use Rattle.std.specs.Map.{lookup}
-use Rattle.std.specs.BTreeMap.{is_at}
 use Rattle.goal_blocks.specs.declared.collective.Collective.{Collective}
 use Rattle.goal_blocks.specs.declared.segment.Segment.{Segment}
 use Rattle.goal_blocks.specs.Values.{Value}
 use Rattle.goal_blocks.specs.Weight.{stored}
-use Rattle.goal_blocks.specs.Stored.{Place, place_cmp}
 use Rattle.goal_values.specs.Kept.{Kept, values}
 use Rattle.goal_values.specs.declared.sums.Term.{Term}
 use Rattle.goal_values.specs.declared.values.Lent.{Lent}
+use Rattle.goal_values.specs.Rows.{found_in}
 use Rattle.goal_values.specs.Sums.{meaning, IsBelow}
 
 -- the slots that were set, with their values, and the sums that these may name
@@ -25,20 +23,20 @@ lent_values sums lent = map (meaning sums) lent.terms.items
 abbrev pub IsLent : List Value → Lent → Type 0
 IsLent sums lent = All (IsBelow (length sums)) lent.terms.items
 
--- what a map of terms keeps
-abbrev pub kept_in : Collective → ℕ → Segment → List Value → List (Place × Term) → Kept
-kept_in what ranks segment sums entries = record {
+-- what the terms of slots keep
+abbrev pub kept_in : Collective → ℕ → Segment → List Value → List (List (ℕ × Term)) → Kept
+kept_in what ranks segment sums terms = record {
   what = what;
   ranks = ranks;
   segment = segment;
-  written = map (λ (e : Place × Term). (e.0, meaning sums e.1)) entries;
+  written = map (λ (row : List (ℕ × Term)). map (λ (e : ℕ × Term). (e.0, meaning sums e.1)) row) terms;
 }
 
 -- what is true of it, where so many contributions are counted
-pub record IsSound (s : Summed) (entries : List (Place × Term)) (held : ℕ) : Type 0 where
+pub record IsSound (s : Summed) (terms : List (List (ℕ × Term))) (held : ℕ) : Type 0 where
   pub ranks : s.kept.ranks ≤ 65536
   pub fits : s.kept.segment.block * s.kept.segment.width + s.kept.segment.width ≤ 2 ^ 32
-  pub below : (place : Place) (t : Term) → lookup (is_at (place_cmp place)) entries ≡ Some t → IsBelow (length s.sums) t
+  pub below : (r k : ℕ) (t : Term) → found_in terms r k ≡ Some t → IsBelow (length s.sums) t
   pub held_is : held ≡ stored s.kept.ranks (values s.kept)
 
 -- the lesser one of two slots, of which the first may be missing

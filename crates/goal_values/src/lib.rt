@@ -2,6 +2,7 @@
 //! ever copied. What a slot holds is listed where it is asked for.
 #![tactic(auto)]
 
+mod rows;
 mod sums;
 mod values;
 

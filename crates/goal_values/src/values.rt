@@ -11,11 +11,11 @@ ghost use Rattle.goal_values.specs.Kept.{values, first_values};
 ghost use Rattle.goal_values.specs.Sums.{meaning, IsBelow, HasGrown};
 ghost use Rattle.goal_values.specs.Summed.{Summed, lent_values, IsLent, lesser};
 
+use crate::rows::Rows;
 use crate::sums::{Sums, Term};
 use goal_base::NoMemory;
 use goal_blocks::{Collective, Contribution, Segment, asked, first_of, initial_size, is_wanted};
 use std::alloc::{AllocError, Global};
-use std::collections::BTreeMap;
 use std::marker::Model;
 
 /// The values of some slots, none of which was copied. They are told beside the values that they were lent from.
@@ -32,7 +32,7 @@ pub struct SlotValues {
     what: Collective,
     ranks: u32,
     segment: Segment,
-    written: BTreeMap<(u32, u32), Term>,
+    written: Rows,
     sums: Sums,
     held: u64,
 }
@@ -42,9 +42,9 @@ impl Model for SlotValues {
 
     ghost Value = { Summed };
 
-    ghost view = { λ s. record { kept = kept_in s.what s.ranks s.segment s.sums s.written.entries; sums = s.sums } };
+    ghost view = { λ s. record { kept = kept_in s.what s.ranks s.segment s.sums s.written; sums = s.sums } };
 
-    ghost invariant = { λ s. IsSound (record { kept = kept_in s.what s.ranks s.segment s.sums s.written.entries; sums = s.sums }) s.written.entries s.held };
+    ghost invariant = { λ s. IsSound (record { kept = kept_in s.what s.ranks s.segment s.sums s.written; sums = s.sums }) s.written s.held };
 }
 
 // A contribution, or none, as a term.
@@ -72,7 +72,7 @@ impl SlotValues {
             what,
             ranks,
             segment,
-            written: BTreeMap::new(alloc),
+            written: Rows::new(alloc),
             sums: Sums::new(alloc),
             held: initial_size(ranks, what),
         }
@@ -113,7 +113,7 @@ impl SlotValues {
         ensures values { IfOk result (λ l. lent_values self.now.sums l ≡ map (values self.now.kept rank) slots.now) }
         ensures lent { IfOk result (λ l. IsLent self.now.sums l) }
     {
-        let mut terms = Vec::new(self.alloc);
+        let mut terms = Vec::with_capacity(self.alloc, slots.len())?;
         for slot in slots {
             terms.push(self.term_at(rank, *slot))?;
         }
@@ -179,8 +179,8 @@ impl SlotValues {
         ensures value { meaning self.now.sums result ≡ values self.now.kept rank slot }
         ensures below { IsBelow (length self.now.sums) result }
     {
-        match self.written.get(&(rank, slot)) {
-            Some(term) => *term,
+        match self.written.get(rank, slot) {
+            Some(term) => term,
             None => self.first_at(rank, slot),
         }
     }
@@ -205,7 +205,7 @@ impl SlotValues {
     {
         let size = self.sums.size(term);
         let first = self.first_at(rank, slot);
-        let old = self.written.insert((rank, slot), term)?;
+        let old = self.written.insert(rank, slot, term)?;
         let before = self.sums.size(old.unwrap_or(first));
         self.held = self.held - before + size;
         Ok(())

@@ -1,0 +1,90 @@
+// The terms of the slots that were set, in a map of slots for each rank.
+ghost use Rattle.std.specs.Prelude.{ℕ, ◌≡◌, ◌<◌, [], Some, if◌then◌else◌, ◌==◌, length, IfOk, OnOk, OnErr};
+ghost use Rattle.std.specs.Ordering.{nat_cmp};
+ghost use Rattle.std.specs.BTreeMap.{get};
+ghost use Rattle.goal_values.specs.Rows.{found_in, HasSameSlots, HasSet};
+
+use crate::sums::Term;
+use std::alloc::{AllocError, Global};
+use std::collections::BTreeMap;
+use std::marker::Model;
+
+/// The terms of some slots. A rank mostly has few of them, so a slot is looked for among those of its rank alone. Contracts see
+/// for each of the first ranks a list of its slots and their terms.
+#[derive(Drop)]
+pub(crate) struct Rows {
+    alloc: Global,
+    of_ranks: Vec<BTreeMap<u32, Term>>,
+}
+
+impl Model for Rows {
+    ghost use Rattle.std.specs.Prelude.{ℕ, List, map};
+    ghost use Rattle.std.specs.BTreeMap.{BTreeMap};
+    ghost use Rattle.goal_values.specs.declared.sums.Term.{Term};
+
+    ghost Value = { List (List (ℕ × Term)) };
+
+    ghost view = { λ r. map (λ (row : BTreeMap ℕ Term). row.entries) r.of_ranks.items };
+}
+
+impl Rows {
+    /// No slot has a term.
+    pub(crate) fn new(alloc: Global) -> Rows
+        ensures { result ≡ [] }
+    {
+        Rows {
+            alloc,
+            of_ranks: Vec::new(alloc),
+        }
+    }
+
+    /// The term of a slot.
+    pub(crate) fn get(&self, rank: u32, slot: u32) -> Option<Term>
+        ensures { result ≡ found_in self.now rank slot }
+    {
+        match self.of_ranks.get(rank as usize) {
+            Some(row) => row.get(&slot).copied(),
+            None => None,
+        }
+    }
+
+    /// The slot gets this term. Answers the one that it had. `Err` where memory ran out.
+    pub(crate) fn insert(
+        &mut self,
+        rank: u32,
+        slot: u32,
+        term: Term,
+    ) -> Result<Option<Term>, AllocError>
+        ensures old { IfOk result (λ old. old ≡ found_in self.old rank slot) }
+        ensures set { OnOk result (HasSet rank slot term self.old self.new) }
+        ensures unchanged { OnErr result (HasSameSlots self.old self.new) }
+    {
+        self.make_room(rank as usize)?;
+        insert_in(&mut self.of_ranks[rank as usize], slot, term)
+    }
+
+    // There are maps up to that of this rank. New ones are empty.
+    fn make_room(&mut self, rank: usize) -> Result<(), AllocError>
+        ensures same { HasSameSlots self.old self.new }
+        ensures room { OnOk result (rank < length self.new) }
+    {
+        while self.of_ranks.len() <= rank {
+            self.of_ranks.push(BTreeMap::new(self.alloc))?;
+        }
+        Ok(())
+    }
+}
+
+// The slot gets this term in the map of its rank.
+fn insert_in(
+    row: &mut BTreeMap<u32, Term>,
+    slot: u32,
+    term: Term,
+) -> Result<Option<Term>, AllocError>
+    ensures old { IfOk result (λ old. old ≡ get nat_cmp row.old slot) }
+    ensures set { OnOk result ((k : ℕ) → get nat_cmp row.new k ≡ (if k == slot then Some term else get nat_cmp row.old k)) }
+    ensures unchanged { OnErr result (row.new.entries ≡ row.old.entries) }
+{
+    let old = row.insert(slot, term)?;
+    Ok(old)
+}
