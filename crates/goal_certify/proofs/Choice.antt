@@ -11,7 +11,7 @@ use Rattle.goal_graph.specs.Action.{Act, happened}
 use Rattle.goal_graph.specs.Matching.{pairs, partner, is_paired}
 use Rattle.goal_graph.specs.declared.plan.When.{When}
 use Rattle.goal_graph.specs.declared.plan.When.TheVariants.{AfterEnd, AfterStart}
-use Rattle.goal_graph.specs.Allowed.{first_class, last_class, is_met, is_ready, is_served, may, allowed}
+use Rattle.goal_graph.specs.Allowed.{first_class, is_met, is_ready, is_served, may, allowed}
 use Rattle.goal_certify.specs.WalkSoFar.{is_done, entry_known}
 use Rattle.goal_graph.specs.Laws.{IsCalc}
 use Rattle.goal_graph.proofs.ForCallers.{not_send_receive, not_receive_calc, not_send_calc, allowed_arrive, allowed_data, allowed_serve, allowed_post, allowed_begin}
@@ -19,7 +19,7 @@ use Rattle.goal_blocks.specs.Walk.{no_send}
 use Rattle.goal_graph.specs.Fault.{IsOp}
 use Rattle.goal_graph.proofs.ForCallers.{kind_from_op}
 use Rattle.goal_certify.proofs.Places.{the_op}
-use Rattle.goal_certify.specs.WalkQueue.{may_act, IsIdle}
+use Rattle.goal_certify.specs.WalkQueue.{may_act, class_at, IsIdle}
 
 -- what a test of two parts tells
 pub and_then : (m a b : Bool) → m ≡ (a && b) → a ≡ true → b ≡ m
@@ -126,13 +126,11 @@ module _ (plans : List Plan) (h : List Act) (x : OpId) where
   done_known Begin = refl
 
   -- the moment that a dependency waits for
-  pub met_end : (k : Kind) (w : When) (c : Class) → kind_at plans x ≡ Some k → w ≡ AfterEnd → c ≡ last_class false (Some k) → happened c x h ≡ is_met plans no_send h w x
-  met_end k w c e f l =
-      ap (λ (d : Class). happened d x h) l ∙ ap (λ (o : Option Kind). happened (last_class false o) x h) (sym e) ∙ ap (λ (v : When). is_met plans no_send h v x) (sym f)
-
-  pub met_start : (k : Kind) (w : When) (c : Class) → kind_at plans x ≡ Some k → w ≡ AfterStart → c ≡ first_class (Some k) → happened c x h ≡ is_met plans no_send h w x
-  met_start k w c e f l =
-      ap (λ (d : Class). happened d x h) l ∙ ap (λ (o : Option Kind). happened (first_class o) x h) (sym e) ∙ ap (λ (v : When). is_met plans no_send h v x) (sym f)
+  pub met_at : (k : Kind) (w : When) (c : Class) → kind_at plans x ≡ Some k → c ≡ class_at w (Some k) → happened c x h ≡ is_met plans no_send h w x
+  met_at k AfterEnd c e l =
+      ap (λ (d : Class). happened d x h) l ∙ ap (λ (o : Option Kind). happened (class_at AfterEnd o) x h) (sym e)
+  met_at k AfterStart c e l =
+      ap (λ (d : Class). happened d x h) l ∙ ap (λ (o : Option Kind). happened (class_at AfterStart o) x h) (sym e)
 
   pub start_of : (c : Class) → IsOp plans x → c ≡ first_class (kind_at plans x) → may_act plans h c x ≡ (not (happened c x h) && is_ready plans no_send h x)
   start_of c is first =

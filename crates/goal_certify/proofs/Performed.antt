@@ -1,5 +1,5 @@
 -- The fields of a state before the first action, and after one more.
-use Rattle.std.proofs.Common.{◌≡◌, ℕ, ◌<◌, ◌≤◌, ◌*◌, true, false, List, [], ◌∷◌, ◌++◌, length, map, take, drop, reverse, Option, Some, None, IfSome, refl, sym, ap, ◌∙◌, subst, arith}
+use Rattle.std.proofs.Common.{◌≡◌, ℕ, true, false, List, [], ◌∷◌, ◌++◌, length, map, take, drop, reverse, Option, Some, None, IfSome, refl, sym, ap, ◌∙◌, subst}
 use Rattle.std.proofs.lemmas.List.{reverse-append, length-reverse, length-map}
 use Rattle.goal_graph.specs.declared.action.OpId.{OpId}
 use Rattle.goal_graph.specs.declared.action.Class.{Class}
@@ -8,7 +8,7 @@ use Rattle.goal_graph.specs.Schedule.{Plan, operations, IsSend, IsReceive}
 use Rattle.goal_graph.specs.Action.{Act, happened}
 use Rattle.goal_graph.specs.Matching.{pairs, partner}
 use Rattle.goal_graph.specs.Fault.{IsOp}
-use Rattle.goal_graph.proofs.ForCallers.{allowed_fresh, allowed_arrive, allowed_post, happened_and_left, whole_back}
+use Rattle.goal_graph.proofs.ForCallers.{allowed_fresh, allowed_arrive, allowed_post, whole_back}
 use Rattle.goal_blocks.specs.Walk.{no_send}
 use Rattle.sim_match.specs.PostsAndArrivals.{PostsAndArrivals, is_post_or_arrival_class}
 use Rattle.sim_match.proofs.ForCallers.{happened_filtered}
@@ -37,7 +37,7 @@ pub nothing_known : (plans : List Plan) (x : OpId) → entry_known plans [] x �
 unfolding happened pairs partner
 nothing_known plans x = refl
 
-module _ (plans : List Plan) (h : List Act) (entries : List Entry) (matcher : PostsAndArrivals) (room : ℕ) (m : Represents plans h entries matcher room) where
+module _ (plans : List Plan) (h : List Act) (entries : List Entry) (matcher : PostsAndArrivals) (m : Represents plans h entries matcher) where
   -- each operation has its entry
   pub each_entry : (lent : List Entry) → lent ≡ entries → length lent ≡ length (operations plans)
   each_entry lent e = ap length (e ∙ m.known) ∙ length-map (operations plans) (entry_known plans h)
@@ -65,29 +65,22 @@ module _ (plans : List Plan) (h : List Act) (entries : List Entry) (matcher : Po
     partner_exists None e = tt
     partner_exists (Some y) e = partner_there plans h a (Some y) (met_after (Some y) e) y refl
 
-    -- there is room for the action
-    pub room_left : length h < room
-    room_left =
-        let most = happened_and_left plans no_send (a ∷ h) (m.allowed_each, may) in
-        omega (arith, most, m.roomy)
-
     -- the fields after it
-    pub represents_after : (new_entries : List Entry) (new_matcher : PostsAndArrivals) (new_room : ℕ) (o : Option OpId) (entry : Entry) → entry ≡ entry_known plans h a.op → new_room ≡ room → o ≡ met matcher.plans matcher.actions a.class a.op → new_matcher.plans ≡ matcher.plans → new_matcher.actions ≡ more_met matcher.actions a.class a.op → new_entries ≡ map (with_partner a.op o (with_entry a.op (with_class a.class entry) (entry_known plans h))) (operations plans) → Represents plans (a ∷ h) new_entries new_matcher new_room
-    represents_after new_entries new_matcher new_room o entry was rooms is same more told = record {
+    pub represents_after : (new_entries : List Entry) (new_matcher : PostsAndArrivals) (o : Option OpId) (entry : Entry) → entry ≡ entry_known plans h a.op → o ≡ met matcher.plans matcher.actions a.class a.op → new_matcher.plans ≡ matcher.plans → new_matcher.actions ≡ more_met matcher.actions a.class a.op → new_entries ≡ map (with_partner a.op o (with_entry a.op (with_class a.class entry) (entry_known plans h))) (operations plans) → Represents plans (a ∷ h) new_entries new_matcher
+    represents_after new_entries new_matcher o entry was is same more told = record {
       accepted = m.accepted;
       allowed_each = (m.allowed_each, may);
       known = told ∙ ap (λ (e : Entry). map (with_partner a.op o (with_entry a.op (with_class a.class e) (entry_known plans h))) (operations plans)) was ∙ table_known plans h a o (met_after o is);
       same_plans = same ∙ m.same_plans;
       events = more ∙ ap (λ (l : List Act). more_met l a.class a.op) m.events;
-      roomy = subst (λ (r : ℕ). 3 * length (operations plans) ≤ r) (sym rooms) m.roomy;
     }
 
 -- the same, as they lie
-pub performed : (plans : List Plan) (items : List Action) (entries : List Entry) (matcher : PostsAndArrivals) (room : ℕ) (m : Represents plans (acts items) entries matcher room) (a : Action) (may : may_act plans (acts items) a.class a.op ≡ true)
-    (new_items : List Action) (lent written : List Entry) (new_matcher : PostsAndArrivals) (new_room n : ℕ) (o : Option OpId) (entry done : Entry) → entry ≡ entry_known plans (acts items) a.op → done ≡ with_class a.class entry → new_items ≡ items ++ a ∷ [] → new_room ≡ room → n ≡ length entries → lent ≡ entries → length written ≡ length lent → o ≡ met matcher.plans matcher.actions a.class a.op → new_matcher.plans ≡ matcher.plans → new_matcher.actions ≡ more_met matcher.actions a.class a.op → written ≡ map (with_partner a.op o (with_entry a.op done (entry_known plans (acts items)))) (operations plans) → Represents plans (acts new_items) (take n (written ++ drop (length written) entries)) new_matcher new_room
-performed plans items entries matcher room m a may new_items lent written new_matcher new_room n o entry done was is_done pushed rooms count same kept is plans_same more told =
+pub performed : (plans : List Plan) (items : List Action) (entries : List Entry) (matcher : PostsAndArrivals) (m : Represents plans (acts items) entries matcher) (a : Action) (may : may_act plans (acts items) a.class a.op ≡ true)
+    (new_items : List Action) (lent written : List Entry) (new_matcher : PostsAndArrivals) (n : ℕ) (o : Option OpId) (entry done : Entry) → entry ≡ entry_known plans (acts items) a.op → done ≡ with_class a.class entry → new_items ≡ items ++ a ∷ [] → n ≡ length entries → lent ≡ entries → length written ≡ length lent → o ≡ met matcher.plans matcher.actions a.class a.op → new_matcher.plans ≡ matcher.plans → new_matcher.actions ≡ more_met matcher.actions a.class a.op → written ≡ map (with_partner a.op o (with_entry a.op done (entry_known plans (acts items)))) (operations plans) → Represents plans (acts new_items) (take n (written ++ drop (length written) entries)) new_matcher
+performed plans items entries matcher m a may new_items lent written new_matcher n o entry done was is_done pushed count same kept is plans_same more told =
     let table : take n (written ++ drop (length written) entries) ≡ written = whole_back n written entries (kept ∙ ap length same) count in
     let list : act_of a ∷ acts items ≡ acts new_items = sym (ap acts pushed ∙ acts_push items a) in
     let known = table ∙ told ∙ ap (λ (e : Entry). map (with_partner a.op o (with_entry a.op e (entry_known plans (acts items)))) (operations plans)) is_done in
-    let after : Represents plans (act_of a ∷ acts items) (take n (written ++ drop (length written) entries)) new_matcher new_room = represents_after plans (acts items) entries matcher room m (act_of a) may _ new_matcher new_room o entry was rooms is plans_same more known in
-    subst (λ (h : List Act). Represents plans h (take n (written ++ drop (length written) entries)) new_matcher new_room) list after
+    let after : Represents plans (act_of a ∷ acts items) (take n (written ++ drop (length written) entries)) new_matcher = represents_after plans (acts items) entries matcher m (act_of a) may _ new_matcher o entry was is plans_same more known in
+    subst (λ (h : List Act). Represents plans h (take n (written ++ drop (length written) entries)) new_matcher) list after

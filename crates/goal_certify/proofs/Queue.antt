@@ -9,10 +9,11 @@ use Rattle.goal_graph.specs.Schedule.{Plan, operations}
 use Rattle.goal_graph.specs.Action.{Act, place, same_op}
 use Rattle.goal_graph.specs.Order.{IsBefore}
 use Rattle.goal_graph.specs.Interleaving.{IsInterleaving, IsCompleteInterleaving}
-use Rattle.goal_graph.proofs.ForCallers.{cases_op, same_op_false, allowed_listed, one_allowed, allowed_stays, operations_in_order, other_place, newly_allowed, find_class}
+use Rattle.goal_graph.proofs.ForCallers.{cases_op, same_op_false, allowed_listed, one_allowed, allowed_stays, operations_in_order, other_place, find_class}
 use Rattle.goal_blocks.specs.Walk.{no_send, ComesFirst}
 use Rattle.sim_heaps.specs.Map.{key_at, IsEmptyMap, IsLeast}
-use Rattle.goal_certify.specs.WalkQueue.{may_act, IsIdle, IsChoice, IsKeyOf, IsQueueBut, IsQueue, IsRefreshed, IsConcerned}
+use Rattle.goal_certify.specs.WalkQueue.{may_act, IsIdle, IsChoice, IsKeyOf, IsQueueBut, IsQueue, IsRefreshed, IsMoved}
+use Rattle.goal_certify.proofs.Moved.{newly_moved}
 use Rattle.std.proofs.lemmas.Bool.{false_from_ne_true, and_right}
 
 module _ (plans : List Plan) (h : List Act) where
@@ -157,21 +158,21 @@ module _ (plans : List Plan) (h : List Act) (a : Act) (now : IsInterleaving plan
   stays c x d e =
       elim (cases_op a.op x) [ inl s ↦ absurd (d (sym s)) | inr o ↦ allowed_stays plans no_send a h c x (and_right _ (same_op a.op x) o) e ]
 
-  -- the key of an operation stays, or the action concerns it
-  key_stays : (slot : ℕ) (x : OpId) (k : Option ℕ) → IsKeyOf plans h slot x k → IsKeyOf plans (a ∷ h) slot x k ⊎ IsConcerned plans (a ∷ h) a.op x
+  -- the key of an operation stays, or the action moves it
+  key_stays : (slot : ℕ) (x : OpId) (k : Option ℕ) → IsKeyOf plans h slot x k → IsKeyOf plans (a ∷ h) slot x k ⊎ IsMoved plans (a ∷ h) a.class a.op x
   key_stays slot x None idle = go (find_class (λ c. may_act plans (a ∷ h) c x))
     where
-      go : ((c : Class) × (may_act plans (a ∷ h) c x ≡ true)) ⊎ ((c : Class) → may_act plans (a ∷ h) c x ≡ false) → IsIdle plans (a ∷ h) x ⊎ IsConcerned plans (a ∷ h) a.op x
+      go : ((c : Class) × (may_act plans (a ∷ h) c x ≡ true)) ⊎ ((c : Class) → may_act plans (a ∷ h) c x ≡ false) → IsIdle plans (a ∷ h) x ⊎ IsMoved plans (a ∷ h) a.class a.op x
       go (inr none) = inl none
-      go (inl (c, t)) = elim (newly_allowed plans no_send a h now c x t) [ inl was ↦ absurd (both_ways _ (idle c) was) | inr new ↦ inr new ]
+      go (inl (c, t)) = elim (newly_moved plans a h now c x t) [ inl was ↦ absurd (both_ways _ (idle c) was) | inr new ↦ inr new ]
   key_stays slot x (Some k) b = go (cases_op a.op x)
     where
-      go : (a.op ≡ x) ⊎ (same_op a.op x ≡ false) → IsKeyOf plans (a ∷ h) slot x (Some k) ⊎ IsConcerned plans (a ∷ h) a.op x
+      go : (a.op ≡ x) ⊎ (same_op a.op x ≡ false) → IsKeyOf plans (a ∷ h) slot x (Some k) ⊎ IsMoved plans (a ∷ h) a.class a.op x
       go (inl s) = inr (inl (sym s))
       go (inr o) = inl (b.0, (b.1.0, stays b.1.0 x (λ s. same_op_false a.op x o (sym s)) b.1.1))
 
-  -- so after an action those are due that it concerns
-  pub queue_after : (keys : List (Option ℕ)) → IsQueue plans h keys → IsQueueBut plans (a ∷ h) (λ slot. IsConcerned plans (a ∷ h) a.op) keys
+  -- so after an action those are due that it moves
+  pub queue_after : (keys : List (Option ℕ)) → IsQueue plans h keys → IsQueueBut plans (a ∷ h) (λ slot. IsMoved plans (a ∷ h) a.class a.op) keys
   queue_after keys q = record {
     each = q.each;
     bounds = λ i x e. elim (q.bounds i x e) [ inl b ↦ key_stays i x (key_at keys i) b | inr none ↦ absurd none ];

@@ -8,7 +8,7 @@ use Rattle.goal_graph.specs.Interleaving.{IsInterleaving}
 use Rattle.goal_blocks.specs.Walk.{no_send, ComesFirst, TakesFirst, IsWalk}
 use Rattle.goal_certify.specs.declared.walk.action.Action.{Action}
 use Rattle.goal_certify.specs.WalkSoFar.{WalkSoFar, act_of, with_action, IsLater}
-use Rattle.goal_certify.specs.WalkQueue.{may_act, IsQueue, IsQueueBut, IsConcerned, AreCursors}
+use Rattle.goal_certify.specs.WalkQueue.{may_act, IsQueue, IsQueueBut, IsMoved, AreCursors}
 use Rattle.goal_progress.specs.declared.cursor.Cursor.{Cursor}
 use Rattle.goal_progress.proofs.ForCallers.{cursors_kept}
 use Rattle.goal_certify.proofs.Places.{allowed_exists}
@@ -20,10 +20,10 @@ module _ (old new : WalkSoFar) (a : Action) (after : new ≡ with_action old a) 
   op_after =
       subst (λ (v : WalkSoFar). IsOp v.plans a.op) (sym after) (allowed_exists old.plans old.history a.class a.op may)
 
-  -- after it those are due that it concerns
-  pub due_after : (keys : List (Option ℕ)) → IsInterleaving old.plans no_send old.history → IsQueue old.plans old.history keys → IsQueueBut new.plans new.history (λ slot. IsConcerned new.plans new.history a.op) keys
+  -- after it those are due that it moves
+  pub due_after : (keys : List (Option ℕ)) → IsInterleaving old.plans no_send old.history → IsQueue old.plans old.history keys → IsQueueBut new.plans new.history (λ slot. IsMoved new.plans new.history a.class a.op) keys
   due_after keys each q =
-      subst (λ (v : WalkSoFar). IsQueueBut v.plans v.history (λ slot. IsConcerned v.plans v.history a.op) keys) (sym after) (queue_after old.plans old.history (act_of a) (each, may) keys q)
+      subst (λ (v : WalkSoFar). IsQueueBut v.plans v.history (λ slot. IsMoved v.plans v.history a.class a.op) keys) (sym after) (queue_after old.plans old.history (act_of a) (each, may) keys q)
 
   -- each action was the first of those that might happen
   pub first_after : TakesFirst old.plans old.history → ((b : Act) → may_act old.plans old.history b.class b.op ≡ true → ComesFirst (act_of a) b) → TakesFirst new.plans new.history

@@ -1,18 +1,53 @@
 -- Which operations may act next, in a queue by their places in the order of all, and how far their needs have been
 -- looked at.
-use Rattle.std.specs.Prelude.{ℕ, ◌≡◌, ◌⊎◌, Bool, true, false, List, length, Option, Some, None, slice_get, slice_set}
+use Rattle.std.specs.Prelude.{ℕ, ◌≡◌, ◌⊎◌, Bool, true, false, List, length, Option, Some, None, Contains, slice_get, slice_set}
 use Rattle.goal_graph.specs.declared.action.OpId.{OpId}
 use Rattle.goal_graph.specs.declared.action.Class.{Class}
-use Rattle.goal_graph.specs.Schedule.{Plan, operations}
+use Rattle.goal_graph.specs.declared.action.Class.TheVariants.{Arrive, Serve, Data, Post, Begin}
+use Rattle.goal_graph.specs.declared.plan.Kind.{Kind}
+use Rattle.goal_graph.specs.declared.plan.Need.{Need}
+use Rattle.goal_graph.specs.declared.plan.When.{When}
+use Rattle.goal_graph.specs.declared.plan.When.TheVariants.{AfterEnd, AfterStart}
+use Rattle.goal_graph.specs.Schedule.{Plan, kind_at, needed, operations}
 use Rattle.goal_graph.specs.Action.{Act}
-pub use Rattle.goal_graph.specs.Concerned.{IsNamedIn, Waits, IsConcerned}
-use Rattle.goal_graph.specs.Allowed.{allowed}
+use Rattle.goal_graph.specs.Concerned.{waiting_on}
+use Rattle.goal_graph.specs.Matching.{pairs, partner}
+use Rattle.goal_graph.specs.Allowed.{allowed, first_class, last_class}
 use Rattle.goal_blocks.specs.Walk.{no_send, TakesFirst}
 use Rattle.sim_heaps.specs.Map.{key_at}
 use Rattle.goal_progress.specs.declared.cursor.Cursor.{Cursor}
 use Rattle.goal_progress.specs.Cursors as progress
 
+-- the class of the action of an operation of that kind that is the moment which a dependency waits for
+abbrev pub class_at : When → Option Kind → Class
+class_at AfterEnd k = last_class false k
+class_at AfterStart k = first_class k
+
+-- an action of that class may let the partner act: a post lets the send hand over its bytes, and that the receive take them
+abbrev pub moves_partner : Class → Bool
+moves_partner Arrive = false
+moves_partner Serve = false
+moves_partner Data = true
+moves_partner Post = true
+moves_partner Begin = false
+
 module _ (plans : List Plan) where
+  -- y is named in a list of needs of x's rank by one that waits for the action of that class of x
+  pub record IsNamedAt (needs : List Need) (class : Class) (x y : OpId) : Type 0 where
+    pub need : Need
+    pub listed : Contains needs need
+    pub named : y ≡ needed x need
+    pub at : class_at need.when (kind_at plans x) ≡ class
+
+  -- y needs x, and waits for the action of that class
+  abbrev pub WaitsAt : Class → OpId → OpId → Type 0
+  WaitsAt class x y = IsNamedAt (waiting_on plans x) class x y
+
+  -- an action of that class of x may let one of y happen: y is x, or its partner, or waits for that action
+  abbrev pub IsMoved : List Act → Class → OpId → OpId → Type 0
+  IsMoved h class x y =
+      (y ≡ x) ⊎ (((moves_partner class ≡ true) × (partner (pairs plans h) x ≡ Some y)) ⊎ WaitsAt class x y)
+
   module _ (h : List Act) where
     abbrev pub may_act : Class → OpId → Bool
     may_act class x = allowed plans no_send h class x

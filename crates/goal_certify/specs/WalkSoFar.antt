@@ -1,5 +1,5 @@
 -- What a walker keeps of what has happened so far.
-use Rattle.std.specs.Prelude.{ℕ, ◌≡◌, ◌≤◌, ◌*◌, Bool, true, List, ◌∷◌, ◌++◌, filter, map, length, reverse, Option, Some, None, if◌then◌else◌}
+use Rattle.std.specs.Prelude.{◌≡◌, Bool, true, List, ◌∷◌, ◌++◌, filter, map, reverse, Option, Some, None, if◌then◌else◌}
 use Rattle.goal_graph.specs.declared.action.OpId.{OpId}
 use Rattle.goal_graph.specs.declared.action.Class.{Class}
 use Rattle.goal_graph.specs.declared.action.Class.TheVariants.{Arrive, Serve, Data, Post, Begin}
@@ -83,11 +83,10 @@ module _ (plans : List Plan) (h : List Act) where
     paired = partner (pairs plans h) x;
   }
 
-  -- there is an entry for each operation, in their order, and room for every action
-  pub record Represents (entries : List Entry) (matcher : PostsAndArrivals) (room : ℕ) : Type 0 where
+  -- there is an entry for each operation, in their order
+  pub record Represents (entries : List Entry) (matcher : PostsAndArrivals) : Type 0 where
     pub accepted : IsAccepted plans
     pub allowed_each : IsInterleaving plans no_send h
     pub known : entries ≡ map entry_known (operations plans)
     pub same_plans : matcher.plans ≡ plans
     pub events : matcher.actions ≡ filter is_post_or_arrival h
-    pub roomy : 3 * length (operations plans) ≤ room

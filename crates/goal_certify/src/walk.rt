@@ -93,7 +93,7 @@ impl<'a> Walker<'a> {
         self.known();
         let action = next(&self.state, &self.queue)?;
         self.state.perform(action);
-        follow(&self.state, &mut self.queue, &mut self.cursors, action.op);
+        follow(&self.state, &mut self.queue, &mut self.cursors, action);
         Some(action)
     }
 

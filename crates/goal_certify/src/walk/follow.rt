@@ -1,5 +1,5 @@
 // The queue of a walker: which operations may act, and how it follows what happens.
-ghost use Rattle.std.specs.Prelude.{◌≡◌, ◌<◌, ◌⊎◌, true, IfSome, IfNone, Some, length};
+ghost use Rattle.std.specs.Prelude.{◌≡◌, ◌⊎◌, true, IfSome, IfNone, Some, length};
 ghost use Rattle.goal_graph.specs.declared.action.OpId.{OpId};
 ghost use Rattle.goal_graph.specs.declared.action.Class.{Class};
 ghost use Rattle.goal_graph.specs.Action.{Act};
@@ -9,10 +9,10 @@ ghost use Rattle.goal_graph.specs.Fault.{IsOp};
 ghost use Rattle.goal_graph.specs.Interleaving.{IsCompleteInterleaving};
 ghost use Rattle.goal_blocks.specs.Walk.{no_send, ComesFirst};
 ghost use Rattle.goal_certify.specs.WalkSoFar.{act_of};
-ghost use Rattle.goal_certify.specs.WalkQueue.{may_act, IsChoice, IsQueue, IsQueueBut, IsRefreshed, IsConcerned, Waits, IsCursorOf, AreCursors};
+ghost use Rattle.goal_certify.specs.WalkQueue.{may_act, IsChoice, IsQueue, IsQueueBut, IsRefreshed, IsMoved, WaitsAt, moves_partner, IsCursorOf, AreCursors};
 
 use super::action::Action;
-use super::state::State;
+use super::state::{State, is_moment};
 use super::turns::Turns;
 use goal_graph::{Class, OpId};
 use goal_progress::{Cursor, entry_of_mut};
@@ -47,45 +47,64 @@ pub fn next(state: &State, queue: &Turns) -> Option<Action>
     })
 }
 
-/// Gives their keys to those whose next action may be another after an action of this operation: it, its partner, and
-/// the operations that need it.
-pub fn follow(state: &State, queue: &mut Turns, cursors: &mut [Cursor], id: OpId)
-    requires exists { IsOp state.now.plans id }
-    requires rest { IsQueueBut state.now.plans state.now.history (λ slot. IsConcerned state.now.plans state.now.history id) queue.old }
+/// Gives their keys to those whose next action may be another after this action: its operation, the partner of that, and
+/// the operations that wait for it.
+pub fn follow(state: &State, queue: &mut Turns, cursors: &mut [Cursor], action: Action)
+    requires exists { IsOp state.now.plans action.op }
+    requires rest { IsQueueBut state.now.plans state.now.history (λ slot. IsMoved state.now.plans state.now.history action.class action.op) queue.old }
     requires cursors { AreCursors state.now.plans state.now.history cursors.old }
     ensures queue { IsQueue state.now.plans state.now.history queue.new }
     ensures cursors { AreCursors state.now.plans state.now.history cursors.new }
 {
-    refresh(state, queue, cursors, id);
-    follow_partner(state, queue, cursors, id);
-    follow_waiting(state, queue, cursors, id);
+    refresh(state, queue, cursors, action.op);
+    follow_partner(state, queue, cursors, action);
+    follow_waiting(state, queue, cursors, action);
 }
 
-// Gives its key to the partner of an operation, if it has one.
-fn follow_partner(state: &State, queue: &mut Turns, cursors: &mut [Cursor], id: OpId)
-    requires exists { IsOp state.now.plans id }
-    requires rest { IsQueueBut state.now.plans state.now.history (λ slot y. (partner (pairs state.now.plans state.now.history) id ≡ Some y) ⊎ Waits state.now.plans id y) queue.old }
+// Whether an action of that class may let the partner act.
+fn moves_partner(class: Class) -> bool
+    ensures { result ≡ moves_partner class }
+{
+    match class {
+        Class::Data | Class::Post => true,
+        Class::Arrive | Class::Serve | Class::Begin => false,
+    }
+}
+
+// Gives its key to the partner of the operation of an action, if it has one and the action may let it act.
+fn follow_partner(state: &State, queue: &mut Turns, cursors: &mut [Cursor], action: Action)
+    requires exists { IsOp state.now.plans action.op }
+    requires rest { IsQueueBut state.now.plans state.now.history (λ slot y.
+        ((moves_partner action.class ≡ true) × (partner (pairs state.now.plans state.now.history) action.op ≡ Some y))
+        ⊎ WaitsAt state.now.plans action.class action.op y) queue.old }
     requires cursors { AreCursors state.now.plans state.now.history cursors.old }
-    ensures queue { IsQueueBut state.now.plans state.now.history (λ slot. Waits state.now.plans id) queue.new }
+    ensures queue { IsQueueBut state.now.plans state.now.history (λ slot. WaitsAt state.now.plans action.class action.op) queue.new }
     ensures cursors { AreCursors state.now.plans state.now.history cursors.new }
 {
-    let Some(partner) = state.partner(id) else {
+    if !moves_partner(action.class) {
+        return;
+    }
+    let Some(partner) = state.partner(action.op) else {
         return;
     };
     refresh(state, queue, cursors, partner);
 }
 
-// Gives their keys to the operations that need this one.
-fn follow_waiting(state: &State, queue: &mut Turns, cursors: &mut [Cursor], id: OpId)
-    requires exists { IsOp state.now.plans id }
-    requires rest { IsQueueBut state.now.plans state.now.history (λ slot. Waits state.now.plans id) queue.old }
+// Gives their keys to the operations that wait for this action.
+fn follow_waiting(state: &State, queue: &mut Turns, cursors: &mut [Cursor], action: Action)
+    requires exists { IsOp state.now.plans action.op }
+    requires rest { IsQueueBut state.now.plans state.now.history (λ slot. WaitsAt state.now.plans action.class action.op) queue.old }
     requires cursors { AreCursors state.now.plans state.now.history cursors.old }
     ensures queue { IsQueue state.now.plans state.now.history queue.new }
     ensures cursors { AreCursors state.now.plans state.now.history cursors.new }
 {
-    for need in state.sched().waiting_on(id) {
+    let kind = state.sched().op(action.op).kind;
+    for need in state.sched().waiting_on(action.op) {
+        if !is_moment(action.class, need.when, kind) {
+            continue;
+        }
         let waiting = OpId {
-            rank: id.rank,
+            rank: action.op.rank,
             op: need.op,
         };
         refresh(state, queue, cursors, waiting);

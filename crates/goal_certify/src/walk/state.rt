@@ -1,5 +1,5 @@
 // What has happened so far, and what may happen next of each operation.
-ghost use Rattle.std.specs.Prelude.{◌≡◌, [], true, false, Some, IfOk};
+ghost use Rattle.std.specs.Prelude.{◌≡◌, ◌↔◌, [], true, false, Some, IfOk, IsTrue};
 ghost use Rattle.goal_graph.specs.declared.action.Class.{Class};
 ghost use Rattle.goal_graph.specs.declared.action.Class.TheVariants.{Arrive, Serve, Data, Post, Begin};
 ghost use Rattle.goal_graph.specs.Action.{happened};
@@ -11,7 +11,7 @@ ghost use Rattle.goal_graph.specs.Interleaving.{IsInterleaving};
 ghost use Rattle.goal_blocks.specs.Walk.{no_send};
 ghost use Rattle.sim_match.specs.PostsAndArrivals.{is_post_or_arrival_class};
 ghost use Rattle.goal_certify.specs.WalkSoFar.{entry_known, with_action, met, more_met};
-ghost use Rattle.goal_certify.specs.WalkQueue.{may_act, IsChoice, IsCursorOf};
+ghost use Rattle.goal_certify.specs.WalkQueue.{may_act, class_at, IsChoice, IsCursorOf};
 
 use super::action::Action;
 use super::entry::{BLANK, Entry, is_done, with_class, write_met};
@@ -19,6 +19,7 @@ use goal_base::NoMemory;
 use goal_graph::{Class, Kind, Need, OpId, Sched, When};
 use goal_progress::{Cursor, Progress, entry_of, is_ready_uncounted};
 use sim_match::Matcher;
+use sim_order::Past;
 use std::alloc::Global;
 use std::marker::Model;
 
@@ -27,7 +28,7 @@ use std::marker::Model;
 pub struct State<'a> {
     sched: &'a Sched,
     // what has happened, oldest first
-    history: Vec<Action>,
+    history: Past<Action>,
     // what is known of each operation, in the order of all
     entries: Vec<Entry>,
     // who is paired with whom
@@ -47,14 +48,13 @@ impl Drop for State<'_> {
 }
 
 impl<'a> Model for State<'a> {
-    ghost use Rattle.std.specs.Prelude.{vec_capacity};
     ghost use Rattle.goal_certify.specs.WalkSoFar.{WalkSoFar, acts, Represents};
 
     ghost Value = { WalkSoFar };
 
     ghost view = { λ s. record { plans = s.sched.now; history = acts s.history.items } };
 
-    ghost invariant = { λ s. Represents s.sched.now (acts s.history.items) s.entries.items s.matcher (vec_capacity s.history) };
+    ghost invariant = { λ s. Represents s.sched.now (acts s.history.items) s.entries.items s.matcher };
 }
 
 impl<'a> State<'a> {
@@ -65,12 +65,11 @@ impl<'a> State<'a> {
     {
         let _plans = sched.plans();
         let count = sched.count() as usize;
-        let history = Vec::with_capacity(alloc, 3 * count)?;
         let entries = vec![in alloc; BLANK; count]?;
         let matcher = Matcher::new(alloc, sched)?;
         Ok(State {
             sched,
-            history,
+            history: Past::new(),
             entries,
             matcher,
         })
@@ -248,7 +247,7 @@ impl<'a> State<'a> {
         let partner = meet(&mut self.matcher, action);
         let done = with_class(entry, action.class);
         write_met(sched, &mut self.entries, action.op, done, partner);
-        self.history.push_reserved(action);
+        self.history.push(&action);
     }
 }
 
@@ -271,11 +270,7 @@ impl Progress for State<'_> {
 
     fn is_met(&self, when: When, id: OpId) -> bool {
         let kind = self.sched().op(id).kind;
-        let class = match when {
-            When::AfterEnd => last_class(kind),
-            When::AfterStart => first_class(kind),
-        };
-        is_done(self.entry(id), class)
+        is_done(self.entry(id), class_at(when, kind))
     }
 }
 
@@ -314,4 +309,21 @@ fn last_class(kind: Kind) -> Class
         Kind::Send { .. } => Class::Data,
         Kind::Recv { .. } => Class::Serve,
     }
+}
+
+// The class of the action of an operation of this kind that is the moment which a dependency waits for.
+fn class_at(when: When, kind: Kind) -> Class
+    ensures { result ≡ class_at when (Some kind) }
+{
+    match when {
+        When::AfterEnd => last_class(kind),
+        When::AfterStart => first_class(kind),
+    }
+}
+
+/// Whether an action of that class of an operation of this kind is the moment which a dependency waits for.
+pub fn is_moment(class: Class, when: When, kind: Kind) -> bool
+    ensures { IsTrue result ↔ class_at when (Some kind) ≡ class }
+{
+    class_at(when, kind) == class
 }
