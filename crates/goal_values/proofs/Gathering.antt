@@ -74,11 +74,20 @@ module _ (sums : List Sum) (are : AreSums sums) (i : ℕ) (inside : i < length (
   pub right_below : IsBelow (length known) s.right
   right_below = below_more i (length known) s.right (omega (arith, inside)) is.right
 
+  -- what stands in its parts stands in it as often
+  pub opened_parts : (f : Contribution → ℕ) (part : Term) → part ≡ Made i → sum_by f (meaning known part) ≡ sum_by f (meaning known s.left) + sum_by f (meaning known s.right)
+  opened_parts f part e =
+      ap (λ t. sum_by f (meaning known t)) e ∙ ap (sum_by f) is.value ∙ merge_sum f (meaning known s.left) (meaning known s.right)
+
   pub opened_shares : (f : Contribution → ℕ) (numbers new : List ℕ) (part : Term) → part ≡ Made i → new ≡ numbers ++ i ∷ [] → shares sums f new + sum_by f (meaning known s.right) ≡ shares sums f numbers + sum_by f (meaning known part)
   opened_shares f numbers new part e g =
       let h : ℕ → ℕ = λ n. sum_by f (meaning known (left_of sums n)) in
-      let value : sum_by f (get_or known i []) ≡ sum_by f (meaning known s.left) + sum_by f (meaning known s.right) = ap (sum_by f) is.value ∙ merge_sum f (meaning known s.left) (meaning known s.right) in
-      omega (arith, ap (shares sums f) g, sum_by-append h numbers (i ∷ []), sum_by-cons h i [], value, ap (λ t. sum_by f (meaning known t)) e)
+      omega (arith, ap (shares sums f) g, sum_by-append h numbers (i ∷ []), sum_by-cons h i [], opened_parts f part e)
+
+  -- where its right part is listed at once its left part is at hand
+  pub left_weight : (part : Term) → part ≡ Made i → weight known s.left < weight known part
+  left_weight part e =
+      omega (arith, is.some_left, is.some_right, ap length is.value, length_merge (meaning known s.left) (meaning known s.right), ap (weight known) e)
 
   pub opened_weight : (numbers new : List ℕ) (part : Term) → part ≡ Made i → new ≡ numbers ++ i ∷ [] → weights sums new + weight known s.right < weights sums numbers + weight known part
   opened_weight numbers new part e g =

@@ -1,5 +1,6 @@
 // Values that are told by what they were made of.
-ghost use Rattle.std.specs.Prelude.{ℕ, ◌≡◌, ◌+◌, ◌^◌, ◌<◌, ◌++◌, [], length, IfOk, OnOk};
+ghost use Rattle.std.specs.Prelude.{ℕ, ◌≡◌, ◌+◌, ◌^◌, ◌<◌, ◌++◌, [], length, IfOk, IfSome, OnOk};
+ghost use Rattle.goal_values.specs.declared.sums.Term.TheVariants.{One};
 ghost use Rattle.goal_blocks.specs.Values.{merge};
 ghost use Rattle.goal_blocks.specs.Stored.{IsSorted};
 ghost use Rattle.goal_values.specs.Sums.{meaning, IsBelow, HasGrown};
@@ -115,6 +116,16 @@ impl Sums {
     }
 }
 
+// The right part of a sum, where it is one contribution.
+fn right_one(sum: &Sum) -> Option<Contribution>
+    ensures { IfSome result (λ c. sum.now.right ≡ One c) }
+{
+    match sum.right {
+        Term::One(contribution) => Some(contribution),
+        Term::Made(_) | Term::Nothing => None,
+    }
+}
+
 // The list gets the contributions of a value. Of each sum that is opened it goes on with the right part, and keeps the number:
 // the left part is looked up once the right one is listed.
 fn gather(
@@ -128,25 +139,30 @@ fn gather(
     ensures { OnOk result (HasSame list.new.items (list.old.items ++ meaning (told [] sums.now) term)) }
 {
     let mut opened = Vec::new(alloc);
-    let mut part = &term;
+    let mut part = term;
     'parts: loop {
-        match *part {
+        match part {
             Term::Made(number) => {
+                if let Some(contribution) = right_one(&sums[number]) {
+                    list.push(contribution)?;
+                    part = sums[number].left;
+                    continue 'parts;
+                }
                 opened.push(number)?;
-                part = &sums[number].right;
+                part = sums[number].right;
             }
             Term::One(contribution) => {
                 list.push(contribution)?;
                 let Some(number) = opened.pop() else {
                     return Ok(());
                 };
-                part = &sums[number].left;
+                part = sums[number].left;
             }
             Term::Nothing => {
                 let Some(number) = opened.pop() else {
                     return Ok(());
                 };
-                part = &sums[number].left;
+                part = sums[number].left;
             }
         }
     }
