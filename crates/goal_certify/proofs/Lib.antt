@@ -9,6 +9,7 @@ pub mod Places
 pub mod AfterAction
 pub mod Performed
 pub mod Choice
+pub mod Chosen
 pub mod Moved
 pub mod Queue
 pub mod Steps

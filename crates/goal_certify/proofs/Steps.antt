@@ -1,5 +1,5 @@
 -- A walker over one step, said of views.
-use Rattle.std.proofs.Common.{ℕ, ◌≡◌, ◌*◌, ◌-◌, ◌<◌, true, false, List, ◌∷◌, length, Option, Some, None, IfSome, IfNone, is_some, sym, ap, ◌∙◌, subst, arith}
+use Rattle.std.proofs.Common.{ℕ, ◌≡◌, ◌*◌, ◌-◌, ◌<◌, true, false, List, ◌∷◌, drop, length, Option, Some, None, IfSome, IfNone, is_some, refl, sym, ap, ◌∙◌, subst, arith}
 use Rattle.goal_graph.specs.Action.{Act}
 use Rattle.goal_graph.specs.Schedule.{operations}
 use Rattle.goal_graph.proofs.ForCallers.{happened_and_left}
@@ -24,6 +24,10 @@ module _ (old new : WalkSoFar) (a : Action) (after : new ≡ with_action old a) 
   pub due_after : (keys : List (Option ℕ)) → IsInterleaving old.plans no_send old.history → IsQueue old.plans old.history keys → IsQueueBut new.plans new.history (λ slot. IsMoved new.plans new.history a.class a.op) keys
   due_after keys each q =
       subst (λ (v : WalkSoFar). IsQueueBut v.plans v.history (λ slot. IsMoved v.plans v.history a.class a.op) keys) (sym after) (queue_after old.plans old.history (act_of a) (each, may) keys q)
+
+  -- it is the newest
+  pub newest_after : new.history ≡ act_of a ∷ drop 1 new.history
+  newest_after = subst (λ (v : WalkSoFar). v.history ≡ act_of a ∷ drop 1 v.history) (sym after) refl
 
   -- each action was the first of those that might happen
   pub first_after : TakesFirst old.plans old.history → ((b : Act) → may_act old.plans old.history b.class b.op ≡ true → ComesFirst (act_of a) b) → TakesFirst new.plans new.history

@@ -1,5 +1,5 @@
 // The queue of a walker: which operations may act, and how it follows what happens.
-ghost use Rattle.std.specs.Prelude.{◌≡◌, ◌⊎◌, true, IfSome, IfNone, Some, length};
+ghost use Rattle.std.specs.Prelude.{◌≡◌, ◌∷◌, drop, ◌⊎◌, true, IfSome, IfNone, Some, length};
 ghost use Rattle.goal_graph.specs.declared.action.OpId.{OpId};
 ghost use Rattle.goal_graph.specs.declared.action.Class.{Class};
 ghost use Rattle.goal_graph.specs.Action.{Act};
@@ -47,18 +47,33 @@ pub fn next(state: &State, queue: &Turns) -> Option<Action>
     })
 }
 
-/// Gives their keys to those whose next action may be another after this action: its operation, the partner of that, and
+/// Gives their keys to those whose next action may be another after this action, the last that has happened: its operation, the partner of that, and
 /// the operations that wait for it.
 pub fn follow(state: &State, queue: &mut Turns, cursors: &mut [Cursor], action: Action)
     requires exists { IsOp state.now.plans action.op }
+    requires newest { state.now.history ≡ act_of action ∷ drop 1 state.now.history }
     requires rest { IsQueueBut state.now.plans state.now.history (λ slot. IsMoved state.now.plans state.now.history action.class action.op) queue.old }
     requires cursors { AreCursors state.now.plans state.now.history cursors.old }
     ensures queue { IsQueue state.now.plans state.now.history queue.new }
     ensures cursors { AreCursors state.now.plans state.now.history cursors.new }
 {
-    refresh(state, queue, cursors, action.op);
+    follow_own(state, queue, action);
     follow_partner(state, queue, cursors, action);
     follow_waiting(state, queue, cursors, action);
+}
+
+// Gives its key to the operation of an action, the last that has happened. Its needs are not looked at: it has started.
+fn follow_own(state: &State, queue: &mut Turns, action: Action)
+    requires exists { IsOp state.now.plans action.op }
+    requires each { length queue.old ≡ length (operations state.now.plans) }
+    requires newest { state.now.history ≡ act_of action ∷ drop 1 state.now.history }
+    ensures { IsRefreshed state.now.plans state.now.history action.op queue.old queue.new }
+{
+    let slot = state.sched().index(action.op);
+    match state.choice_after(action) {
+        Some(_) => queue.put(slot),
+        None => queue.take(slot),
+    }
 }
 
 // Whether an action of that class may let the partner act.

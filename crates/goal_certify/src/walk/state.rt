@@ -1,5 +1,5 @@
 // What has happened so far, and what may happen next of each operation.
-ghost use Rattle.std.specs.Prelude.{◌≡◌, ◌↔◌, [], true, false, Some, IfOk, IsTrue};
+ghost use Rattle.std.specs.Prelude.{◌≡◌, ◌↔◌, [], ◌∷◌, drop, true, false, Some, IfOk, IsTrue};
 ghost use Rattle.goal_graph.specs.declared.action.Class.{Class};
 ghost use Rattle.goal_graph.specs.declared.action.Class.TheVariants.{Arrive, Serve, Data, Post, Begin};
 ghost use Rattle.goal_graph.specs.Action.{happened};
@@ -10,7 +10,7 @@ ghost use Rattle.goal_graph.specs.Fault.{IsOp, IsAccepted};
 ghost use Rattle.goal_graph.specs.Interleaving.{IsInterleaving};
 ghost use Rattle.goal_blocks.specs.Walk.{no_send};
 ghost use Rattle.sim_match.specs.PostsAndArrivals.{is_post_or_arrival_class};
-ghost use Rattle.goal_certify.specs.WalkSoFar.{entry_known, with_action, met, more_met};
+ghost use Rattle.goal_certify.specs.WalkSoFar.{act_of, entry_known, with_action, met, more_met};
 ghost use Rattle.goal_certify.specs.WalkQueue.{may_act, class_at, IsChoice, IsCursorOf};
 
 use super::action::Action;
@@ -149,6 +149,48 @@ impl<'a> State<'a> {
     {
         if self.may_serve(recv) {
             return Some(Class::Serve);
+        }
+        None
+    }
+
+    /// The class of the action of an operation that may happen after this one of it, the last that has happened.
+    pub fn choice_after(&self, action: Action) -> Option<Class>
+        requires op { IsOp self.now.plans action.op }
+        requires newest { self.now.history ≡ act_of action ∷ drop 1 self.now.history }
+        ensures { IsChoice self.now.plans self.now.history action.op result }
+    {
+        self.known();
+        match action.class {
+            Class::Begin => self.choice_of_begun(action.op),
+            Class::Arrive => self.choice_of_arrived(action.op),
+            Class::Data => None,
+            Class::Post => None,
+            Class::Serve => None,
+        }
+    }
+
+    // The same of a calc or a send that has just begun.
+    fn choice_of_begun(&self, id: OpId) -> Option<Class>
+        requires op { IsOp self.now.plans id }
+        requires newest { self.now.history ≡ record { class = Begin; op = id } ∷ drop 1 self.now.history }
+        ensures { IsChoice self.now.plans self.now.history id result }
+    {
+        self.known();
+        match self.sched().op(id).kind {
+            Kind::Calc { .. } => None,
+            Kind::Send { .. } => Some(Class::Arrive),
+            Kind::Recv { .. } => unreachable!(),
+        }
+    }
+
+    // The same of a send that has just arrived.
+    fn choice_of_arrived(&self, send: OpId) -> Option<Class>
+        requires newest { self.now.history ≡ record { class = Arrive; op = send } ∷ drop 1 self.now.history }
+        ensures { IsChoice self.now.plans self.now.history send result }
+    {
+        self.known();
+        if self.may_hand_over(send) {
+            return Some(Class::Data);
         }
         None
     }

@@ -3,13 +3,17 @@ use Rattle.goal_graph.specs.Interleaving.{IsInterleaving}
 use Rattle.goal_blocks.specs.Walk.{no_send}
 use Rattle.goal_certify.specs.WalkSoFar.{WalkSoFar}
 use Rattle.goal_certify.specs.WalkQueue.{AreCursors}
-use Rattle.goal_certify.proofs.Steps.{op_after, due_after, first_after, cursors_after}
+use Rattle.goal_certify.proofs.Steps.{op_after, newest_after, due_after, first_after, cursors_after}
 use Rattle.goal_certify.proofs.walk.Walker.next.Goals as goal
 use Rattle.goal_graph.proofs.ForCallers.{whole_back}
 
 pub follow-requires-clause-exists : goal.follow-requires-clause-exists
 follow-requires-clause-exists c =
     op_after c.self.inside.state c.perform.new.self c.in_ok-action.action c.perform.ensures c.in_ok-action.ensures.may
+
+pub follow-requires-clause-newest : goal.follow-requires-clause-newest
+follow-requires-clause-newest c =
+    newest_after c.self.inside.state c.perform.new.self c.in_ok-action.action c.perform.ensures c.in_ok-action.ensures.may
 
 pub follow-requires-clause-rest : goal.follow-requires-clause-rest
 follow-requires-clause-rest c =

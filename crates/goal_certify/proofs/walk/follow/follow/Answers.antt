@@ -2,12 +2,12 @@ use Rattle.std.proofs.Common.{inl, inr}
 use Rattle.goal_certify.proofs.Queue.{refreshed}
 use Rattle.goal_certify.proofs.walk.follow.follow.Goals as goal
 
-pub refresh-requires : goal.refresh-requires
-refresh-requires c = record { exists = c.requires.exists; each = c.requires.rest.each; cursors = c.requires.cursors }
+pub follow_own-requires : goal.follow_own-requires
+follow_own-requires c = record { exists = c.requires.exists; each = c.requires.rest.each; newest = c.requires.newest }
 
 pub follow_partner-requires : goal.follow_partner-requires
 follow_partner-requires c = record {
   exists = c.requires.exists;
-  rest = refreshed _ _ _ _ _ _ _ c.requires.rest c.refresh.ensures.queue (λ slot y at due differ. elim due [ inl same ↦ absurd (differ same) | inr rest ↦ rest ]);
-  cursors = c.refresh.ensures.cursors;
+  rest = refreshed _ _ _ _ _ _ _ c.requires.rest c.follow_own.ensures (λ slot y at due differ. elim due [ inl same ↦ absurd (differ same) | inr rest ↦ rest ]);
+  cursors = c.requires.cursors;
 }
