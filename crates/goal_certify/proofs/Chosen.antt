@@ -1,20 +1,25 @@
--- What an operation may do right after an action of its own.
-use Rattle.std.proofs.Common.{◌≡◌, ◌&&◌, true, false, not, List, ◌∷◌, drop, Option, Some, None, inl, inr, refl, sym, ap, ◌∙◌, subst}
-use Rattle.std.proofs.lemmas.Bool.{both_ways, false_from_ne_true}
+-- What an operation may do before the first action, and right after one of its own, and what its partner may do then.
+use Rattle.std.proofs.Common.{◌≡◌, ◌==◌, ◌&&◌, true, false, not, List, [], ◌∷◌, Contains, length, drop, Option, Some, None, inl, inr, refl, sym, ap, ◌∙◌, subst, arith}
+use Rattle.std.specs.List.{list_all}
+use Rattle.std.proofs.lemmas.Bool.{both_ways, eqb-true, false_from_ne_true}
 use Rattle.std.proofs.lemmas.Option.{same_Some}
 use Rattle.goal_graph.specs.declared.action.OpId.{OpId}
 use Rattle.goal_graph.specs.declared.action.Class.{Class}
 use Rattle.goal_graph.specs.declared.action.Class.TheVariants.{Arrive, Serve, Data, Post, Begin}
-use Rattle.goal_graph.specs.Schedule.{Plan, IsSend, IsReceive}
+use Rattle.goal_graph.specs.Schedule.{Plan, kind_at, needs, needed, IsSend, IsReceive}
+use Rattle.goal_graph.specs.declared.plan.Need.{Need}
+use Rattle.goal_graph.specs.declared.plan.When.{When}
+use Rattle.goal_graph.specs.declared.plan.When.TheVariants.{AfterEnd, AfterStart}
+use Rattle.goal_graph.specs.Fault.{IsOp}
 use Rattle.goal_graph.specs.Action.{Act, happened}
-use Rattle.goal_graph.specs.Matching.{pairs, partner}
-use Rattle.goal_graph.specs.Allowed.{is_served}
+use Rattle.goal_graph.specs.Matching.{pairs, partner, is_paired}
+use Rattle.goal_graph.specs.Allowed.{first_class, last_class, is_met, is_ready, is_served}
 use Rattle.goal_graph.specs.Interleaving.{IsInterleaving}
 use Rattle.goal_graph.specs.Laws.{IsCalc}
-use Rattle.goal_graph.proofs.ForCallers.{act_of, happened_cases, happened_now, happened_stays, is_act_class, cases_some, partner_stays, allowed_arrive, allowed_data, allowed_serve, allowed_post, allowed_begin, allowed_fresh, not_receive_calc, not_send_receive, fits_receive, arrived_begun, data_paired, partner_of_receive, partners_met, partners_mutual}
+use Rattle.goal_graph.proofs.ForCallers.{act_of, happened_cases, happened_none, happened_now, happened_stays, is_act_class, is_some_from, cases_some, contains_first, partner_stays, allowed_arrive, allowed_data, allowed_serve, allowed_post, allowed_begin, allowed_fresh, not_receive_calc, not_send_receive, fits_receive, fits_send, arrived_begun, data_paired, served_message, partner_is_receive, partner_of_receive, partners_met, partners_mutual, ready_need}
 use Rattle.goal_blocks.specs.Walk.{no_send}
-use Rattle.goal_certify.specs.WalkQueue.{may_act, IsIdle}
-use Rattle.goal_certify.proofs.Choice.{calc_idle, send_idle, receive_idle, arrive_is}
+use Rattle.goal_certify.specs.WalkQueue.{may_act, moves_partner, IsIdle}
+use Rattle.goal_certify.proofs.Choice.{calc_idle, send_idle, receive_idle, arrive_is, data_is, serve_some, start_of}
 
 -- what has happened may not happen again
 spent : (plans : List Plan) (h : List Act) (c : Class) (x : OpId) → happened c x h ≡ true → may_act plans h c x ≡ false
@@ -72,26 +77,58 @@ module _ (plans : List Plan) (rest : List Act) (x : OpId) where
       go None e k t = absurd (both_ways false refl t)
       go (Some m) e k t = (partner_of_receive plans rest x m k e).posted
 
-  posted : IsInterleaving plans no_send (after Post) → IsIdle plans (after Post) x
-  posted now =
-      let k = (allowed_post plans no_send rest x now.1).0 in
-      receive_idle plans (after Post) x k (itself Post) (false_from_ne_true _ (λ t. go k (partner (pairs plans (after Post)) x) refl (allowed_serve plans no_send (after Post) x t).1))
+  -- what is posted now has no partner that had handed over its bytes before
+  not_sent : IsInterleaving plans no_send (after Post) → (m : OpId) → partner (pairs plans (after Post)) x ≡ Some m → happened Data m (after Post) ≡ true → ⊥
+  not_sent now m f t =
+      elim (happened_cases Data m (act_of Post x) rest t) [ inl was ↦ early was | inr new ↦ other (is_act_class Data m (act_of Post x) new) ]
     where
       other : Post ≡ Data → ⊥
       other e = cc
 
-      -- its send would have handed over its bytes to a receive that was not posted yet
-      early : IsReceive plans x → (m : OpId) → partner (pairs plans (after Post)) x ≡ Some m → happened Data m rest ≡ true → ⊥
-      early k m f was =
+      early : happened Data m rest ≡ true → ⊥
+      early was =
           let y = cases_some (partner (pairs plans rest) m) (data_paired plans no_send rest m now.0 was) in
           let same : y.0 ≡ x = same_Some y.0 x (sym (partner_stays plans (act_of Post x) rest m y.0 y.1) ∙ partners_mutual plans no_send (after Post) x m now f) in
           let there = partners_mutual plans no_send rest m x now.0 (y.1 ∙ ap Some same) in
-          both_ways _ (allowed_fresh plans no_send rest Post x now.1) (partner_of_receive plans rest x m k there).posted
+          both_ways _ (allowed_fresh plans no_send rest Post x now.1) (partner_of_receive plans rest x m (allowed_post plans no_send rest x now.1).0 there).posted
 
-      go : IsReceive plans x → (o : Option OpId) → partner (pairs plans (after Post)) x ≡ o → is_served plans no_send (after Post) o ≡ true → ⊥
-      go k None f t = both_ways false refl t
-      go k (Some m) f t =
-          elim (happened_cases Data m (act_of Post x) rest t) [ inl was ↦ early k m f was | inr new ↦ other (is_act_class Data m (act_of Post x) new) ]
+  posted : IsInterleaving plans no_send (after Post) → IsIdle plans (after Post) x
+  posted now =
+      receive_idle plans (after Post) x (allowed_post plans no_send rest x now.1).0 (itself Post) (false_from_ne_true _ (λ t. go (partner (pairs plans (after Post)) x) refl (allowed_serve plans no_send (after Post) x t).1))
+    where
+      go : (o : Option OpId) → partner (pairs plans (after Post)) x ≡ o → is_served plans no_send (after Post) o ≡ true → ⊥
+      go None f t = both_ways false refl t
+      go (Some m) f t = not_sent now m f t
+
+  -- the partner of a receive that is posted now hands over its bytes
+  hands_over : IsInterleaving plans no_send (after Post) → (y : OpId) → partner (pairs plans (after Post)) x ≡ Some y → may_act plans (after Post) Data y ≡ true
+  hands_over now y e =
+      let met = partner_of_receive plans (after Post) x y (allowed_post plans no_send rest x now.1).0 e in
+      let fresh : happened Data y (after Post) ≡ false = false_from_ne_true _ (not_sent now y e) in
+      let taken = is_some_from (partner (pairs plans (after Post)) y) x (partners_mutual plans no_send (after Post) x y now e) in
+      data_is plans (after Post) y (fits_send plans x y met.fit) ∙ (λ i. not (fresh i) && taken i)
+
+  -- the partner of a send that hands over its bytes now takes them
+  takes : IsInterleaving plans no_send (after Data) → (y : OpId) → partner (pairs plans (after Data)) x ≡ Some y → may_act plans (after Data) Serve y ≡ true
+  takes now y e =
+      let k = partner_is_receive plans (after Data) x y (allowed_data plans no_send rest x now.1).0 e in
+      serve_some plans (after Data) y k x back ∙ (λ i. not (fresh i) && happened_now (act_of Data x) rest i)
+    where
+      back : partner (pairs plans (after Data)) y ≡ Some x
+      back = partners_mutual plans no_send (after Data) x y now e
+
+      other : Data ≡ Serve → ⊥
+      other e = cc
+
+      go : (o : Option OpId) → partner (pairs plans rest) y ≡ o → is_served plans no_send rest o ≡ true → ⊥
+      go None f t = both_ways false refl t
+      go (Some m) f t =
+          let same : m ≡ x = same_Some m x (sym (partner_stays plans (act_of Data x) rest y m f) ∙ back) in
+          both_ways _ (allowed_fresh plans no_send rest Data x now.1) (subst (λ (z : OpId). happened Data z rest ≡ true) same t)
+
+      fresh : happened Serve y (after Data) ≡ false
+      fresh =
+          false_from_ne_true _ (λ t. elim (happened_cases Serve y (act_of Data x) rest t) [ inl was ↦ go (partner (pairs plans rest) y) refl (served_message plans no_send rest y now.0 was) | inr new ↦ other (is_act_class Serve y (act_of Data x) new) ])
 
 -- the same of what has happened, where the action is the newest
 module _ (plans : List Plan) (h : List Act) (x : OpId) (now : IsInterleaving plans no_send h) where
@@ -130,3 +167,62 @@ module _ (plans : List Plan) (h : List Act) (x : OpId) (now : IsInterleaving pla
 
   pub idle_posted : IsNewest Post → IsIdle plans h x
   idle_posted e = back Post e (posted plans (drop 1 h) x (now_after Post e))
+
+  -- the partner that the action moves may act
+  pub partner_acts : (c : Class) → IsNewest c → moves_partner c ≡ true → (y : OpId) → partner (pairs plans h) x ≡ Some y → (d : Class) × (may_act plans h d y ≡ true)
+  partner_acts Data e t y p =
+      let found = subst (λ (l : List Act). partner (pairs plans l) x ≡ Some y) e p in
+      (Serve, subst (λ (l : List Act). may_act plans l Serve y ≡ true) (sym e) (takes plans (drop 1 h) x (now_after Data e) y found))
+  partner_acts Post e t y p =
+      let found = subst (λ (l : List Act). partner (pairs plans l) x ≡ Some y) e p in
+      (Data, subst (λ (l : List Act). may_act plans l Data y ≡ true) (sym e) (hands_over plans (drop 1 h) x (now_after Post e) y found))
+  partner_acts Arrive e t y p = absurd (both_ways false refl t)
+  partner_acts Serve e t y p = absurd (both_ways false refl t)
+  partner_acts Begin e t y p = absurd (both_ways false refl t)
+
+pub none_there : (ns : List Need) → (length ns == 0) ≡ true → ns ≡ []
+none_there [] t = refl
+none_there (n ∷ ns) t = let e : length (n ∷ ns) ≡ 0 = eqb-true (length (n ∷ ns)) 0 t in absurd (omega (arith, e))
+
+pub some_there : (ns : List Need) → (length ns == 0) ≡ false → ns ≡ [] → ⊥
+some_there ns f e = both_ways _ f (ap (λ (l : List Need). length l == 0) e)
+
+-- before the first action those may act that need none
+module _ (plans : List Plan) (x : OpId) where
+  none_paired : is_paired (pairs plans []) x ≡ false
+  unfolding pairs partner
+  none_paired = refl
+
+  none_served : is_served plans no_send [] (partner (pairs plans []) x) ≡ true → ⊥
+  unfolding pairs partner
+  none_served t = both_ways false refl t
+
+  none_met : (w : When) (y : OpId) → is_met plans no_send [] w y ≡ true → ⊥
+  none_met AfterEnd y t = both_ways _ (happened_none (last_class false (kind_at plans y)) y) t
+  none_met AfterStart y t = both_ways _ (happened_none (first_class (kind_at plans y)) y) t
+
+  ready_at_once : needs plans x ≡ [] → is_ready plans no_send [] x ≡ true
+  unfolding is_ready
+  ready_at_once e = ap (list_all (λ (d : Need). is_met plans no_send [] d.when (needed x d))) e
+
+  not_ready : (d : Need) (ds : List Need) → needs plans x ≡ d ∷ ds → is_ready plans no_send [] x ≡ true → ⊥
+  not_ready d ds e r =
+      none_met d.when (needed x d) (ready_need plans no_send [] x d r (subst (λ (ns : List Need). Contains ns d) (sym e) (contains_first d ds d refl)))
+
+  not_allowed : (d : Need) (ds : List Need) → needs plans x ≡ d ∷ ds → (c : Class) → may_act plans [] c x ≡ true → ⊥
+  not_allowed d ds e Begin t = not_ready d ds e (allowed_begin plans no_send [] x t).1
+  not_allowed d ds e Post t = not_ready d ds e (allowed_post plans no_send [] x t).1
+  not_allowed d ds e Arrive t = both_ways _ (happened_none Begin x) (allowed_arrive plans no_send [] x t).1
+  not_allowed d ds e Data t = both_ways _ none_paired (allowed_data plans no_send [] x t).2
+  not_allowed d ds e Serve t = none_served (allowed_serve plans no_send [] x t).1
+
+  pub idle_at_first : (h : List Act) → h ≡ [] → (ns : List Need) → ns ≡ needs plans x → (ns ≡ [] → ⊥) → IsIdle plans h x
+  idle_at_first h e [] is some = absurd (some refl)
+  idle_at_first h e (d ∷ ds) is some =
+      subst (λ (l : List Act). IsIdle plans l x) (sym e) (λ c. false_from_ne_true _ (not_allowed d ds (sym is) c))
+
+  pub acts_at_first : (h : List Act) → h ≡ [] → IsOp plans x → needs plans x ≡ [] → (c : Class) × (may_act plans h c x ≡ true)
+  acts_at_first h e is none =
+      let first : Class = first_class (kind_at plans x) in
+      let may = start_of plans [] x first is refl ∙ (λ i. not (happened_none first x i) && ready_at_once none i) in
+      (first, subst (λ (l : List Act). may_act plans l first x ≡ true) (sym e) may)

@@ -71,8 +71,8 @@ impl<'a> Walker<'a> {
     {
         let state = State::new(alloc, sched)?;
         let mut queue = Turns::new(alloc, sched.count())?;
-        let mut cursors = at_first(alloc, sched)?;
-        fill(&state, &mut queue, &mut cursors);
+        let cursors = at_first(alloc, sched)?;
+        fill(&state, &mut queue);
         Ok(Walker {
             state,
             queue,

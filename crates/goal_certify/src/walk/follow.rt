@@ -1,5 +1,5 @@
 // The queue of a walker: which operations may act, and how it follows what happens.
-ghost use Rattle.std.specs.Prelude.{◌≡◌, ◌∷◌, drop, ◌⊎◌, true, IfSome, IfNone, Some, length};
+ghost use Rattle.std.specs.Prelude.{◌≡◌, [], ◌∷◌, drop, ◌⊎◌, true, IfSome, IfNone, Some, length};
 ghost use Rattle.goal_graph.specs.declared.action.OpId.{OpId};
 ghost use Rattle.goal_graph.specs.declared.action.Class.{Class};
 ghost use Rattle.goal_graph.specs.Action.{Act};
@@ -17,16 +17,31 @@ use super::turns::Turns;
 use goal_graph::{Class, OpId};
 use goal_progress::{Cursor, entry_of_mut};
 
-/// Gives each operation its key.
-pub fn fill(state: &State, queue: &mut Turns, cursors: &mut [Cursor])
+/// Gives each operation its key, before the first action: those may act that need none.
+pub fn fill(state: &State, queue: &mut Turns)
+    requires start { state.now.history ≡ [] }
     requires each { length queue.old ≡ length (operations state.now.plans) }
-    requires cursors { AreCursors state.now.plans state.now.history cursors.old }
-    ensures queue { IsQueue state.now.plans state.now.history queue.new }
-    ensures cursors { AreCursors state.now.plans state.now.history cursors.new }
+    ensures { IsQueue state.now.plans state.now.history queue.new }
 {
     for id in state.sched().operations() {
-        refresh(state, queue, cursors, *id);
+        fill_one(state, queue, *id);
     }
+}
+
+// Gives an operation its key, before the first action.
+fn fill_one(state: &State, queue: &mut Turns, id: OpId)
+    requires exists { IsOp state.now.plans id }
+    requires start { state.now.history ≡ [] }
+    requires each { length queue.old ≡ length (operations state.now.plans) }
+    ensures { IsRefreshed state.now.plans state.now.history id queue.old queue.new }
+{
+    let sched = state.sched();
+    let slot = sched.index(id);
+    if sched.needs(id).is_empty() {
+        queue.put(slot);
+        return;
+    }
+    queue.take(slot);
 }
 
 /// The action that happens next, none where none may happen.
@@ -58,7 +73,7 @@ pub fn follow(state: &State, queue: &mut Turns, cursors: &mut [Cursor], action: 
     ensures cursors { AreCursors state.now.plans state.now.history cursors.new }
 {
     follow_own(state, queue, action);
-    follow_partner(state, queue, cursors, action);
+    follow_partner(state, queue, action);
     follow_waiting(state, queue, cursors, action);
 }
 
@@ -86,23 +101,24 @@ fn moves_partner(class: Class) -> bool
     }
 }
 
-// Gives its key to the partner of the operation of an action, if it has one and the action may let it act.
-fn follow_partner(state: &State, queue: &mut Turns, cursors: &mut [Cursor], action: Action)
+// Gives its key to the partner of the operation of an action, the last that has happened, if it has one and the action lets it
+// act.
+fn follow_partner(state: &State, queue: &mut Turns, action: Action)
     requires exists { IsOp state.now.plans action.op }
+    requires newest { state.now.history ≡ act_of action ∷ drop 1 state.now.history }
     requires rest { IsQueueBut state.now.plans state.now.history (λ slot y.
         ((moves_partner action.class ≡ true) × (partner (pairs state.now.plans state.now.history) action.op ≡ Some y))
         ⊎ WaitsAt state.now.plans action.class action.op y) queue.old }
-    requires cursors { AreCursors state.now.plans state.now.history cursors.old }
-    ensures queue { IsQueueBut state.now.plans state.now.history (λ slot. WaitsAt state.now.plans action.class action.op) queue.new }
-    ensures cursors { AreCursors state.now.plans state.now.history cursors.new }
+    ensures { IsQueueBut state.now.plans state.now.history (λ slot. WaitsAt state.now.plans action.class action.op) queue.new }
 {
+    state.known();
     if !moves_partner(action.class) {
         return;
     }
     let Some(partner) = state.partner(action.op) else {
         return;
     };
-    refresh(state, queue, cursors, partner);
+    queue.put(state.sched().index(partner));
 }
 
 // Gives their keys to the operations that wait for this action.

@@ -10,15 +10,15 @@ abbrev none : OpId
 none = record { rank = 0; op = 0 }
 
 pub loop-id-init : goal.loop-id-init
-loop-id-init c = (all_due _ _ _ _ c.requires.each (λ slot y. omega arith), c.requires.cursors)
+loop-id-init c = all_due _ _ _ _ c.requires.each (λ slot y. omega arith)
 
-pub refresh-requires : goal.refresh-requires
-refresh-requires c =
+pub fill_one-requires : goal.fill_one-requires
+fill_one-requires c =
     let x = get_or c.operations-id-items.result.now c.loop-id.id-index none in
     record {
       exists = subst (λ (ps : List Plan). IsOp ps x) c.sched.ensures (c.operations-id-items.ensures.exist c.loop-id.id-index none c.loop-id-test.true);
-      each = c.loop-id.invariant.0.each;
-      cursors = c.loop-id.invariant.1;
+      start = c.requires.start;
+      each = c.loop-id.invariant.each;
     }
 
 pub loop-id-preserved : goal.loop-id-preserved
@@ -26,10 +26,10 @@ loop-id-preserved c =
     let plans = c.args.state.now.plans in
     let items = c.operations-id-items.ensures.all ∙ ap (λ (ps : List Plan). operations ps) c.sched.ensures in
     let k = c.loop-id.id-index in
-    (refreshed plans _ _ _ _ _ _ c.loop-id.invariant.0 c.refresh.ensures.queue (λ slot y at due differ. next_due plans c.operations-id-items.result.now items k none slot y at due differ), c.refresh.ensures.cursors)
+    refreshed plans _ _ _ _ _ _ c.loop-id.invariant c.fill_one.ensures (λ slot y at due differ. next_due plans c.operations-id-items.result.now items k none slot y at due differ)
 
-pub returns-clause-queue : goal.returns-clause-queue
-returns-clause-queue c =
+pub returns : goal.returns
+returns c =
     let plans = c.args.state.now.plans in
     let items = c.operations-id-items.ensures.all ∙ ap (λ (ps : List Plan). operations ps) c.sched.ensures in
-    fewer_due plans _ _ _ _ c.loop-id.invariant.0 (λ slot y at due. omega (arith, due, slice_get_within (operations plans) slot y at, ap length items, c.loop-id-test.false))
+    fewer_due plans _ _ _ _ c.loop-id.invariant (λ slot y at due. omega (arith, due, slice_get_within (operations plans) slot y at, ap length items, c.loop-id-test.false))

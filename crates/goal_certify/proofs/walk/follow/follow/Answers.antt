@@ -8,6 +8,6 @@ follow_own-requires c = record { exists = c.requires.exists; each = c.requires.r
 pub follow_partner-requires : goal.follow_partner-requires
 follow_partner-requires c = record {
   exists = c.requires.exists;
+  newest = c.requires.newest;
   rest = refreshed _ _ _ _ _ _ _ c.requires.rest c.follow_own.ensures (λ slot y at due differ. elim due [ inl same ↦ absurd (differ same) | inr rest ↦ rest ]);
-  cursors = c.requires.cursors;
 }
