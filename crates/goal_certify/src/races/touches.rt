@@ -21,7 +21,8 @@ pub(crate) fn touches_of_rank(alloc: Global, plan: &RankPlan) -> Result<Vec<Touc
     requires { All NamesLowSlots plan.now.notes }
     ensures { IfOk result (λ touches. touches.items ≡ flat_map (touches_of plan.now.ops) plan.now.notes) }
 {
-    let mut touches = Vec::with_capacity(alloc, plan.notes.len())?;
+    // an addition touches two slots, and a move mostly one
+    let mut touches = Vec::with_capacity(alloc, 2 * plan.notes.len())?;
     for note in &plan.notes {
         push_touches(&mut touches, &plan.ops, *note)?;
     }
