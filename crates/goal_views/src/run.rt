@@ -4,7 +4,7 @@ ghost use Rattle.goal_graph.specs.Schedule.{operations};
 ghost use Rattle.sim_params.specs.Budget.{budget};
 ghost use Rattle.sim_params.specs.Run.{IsFinished};
 ghost use Rattle.sim_params.specs.Stuck.{is_stuck};
-ghost use Rattle.sim_events.specs.Cost.{cost_of_start, cost_of_run, all_needs, most_reads};
+ghost use Rattle.sim_events.specs.Cost.{cost_of_start, cost_of_run, most_reads};
 ghost use Rattle.sim_events.specs.Engine.{IsEngineFault};
 ghost use Rattle.goal_views.specs.Views.{Shows, IsShownRun};
 ghost use Rattle.goal_views.specs.Runs.{IsRunOf};
@@ -42,7 +42,7 @@ fn run_counted<'a, C: Costs + Drop, L: Ledger, M: Ledger, N: Ledger>(
     ensures counted { IfOk result (λ engine. (k : ℕ) → length (operations sched.now) ≤ 2 ^ k
         → steps.new ≤ steps.old + (cost_of_start k sched.now + cost_of_run k sched.now engine.history)) }
     ensures looked { IfOk result (λ engine. looks.new ≤ looks.old + 8 * length engine.history) }
-    ensures needed { IfOk result (λ engine. reads.new ≤ reads.old + 2 * all_needs sched.now + length (operations sched.now) + most_reads sched.now engine.history) }
+    ensures needed { IfOk result (λ engine. reads.new ≤ reads.old + most_reads sched.now engine.history) }
 {
     match Engine::start_counted(alloc, sched, costs, steps, reads) {
         Ok(engine) => {

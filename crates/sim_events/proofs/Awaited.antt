@@ -19,7 +19,7 @@ use Rattle.goal_graph.specs.Allowed.{first_class, last_class, is_met, is_ready, 
 use Rattle.goal_graph.specs.Interleaving.{IsInterleaving}
 use Rattle.goal_graph.proofs.ForCallers.{contains_first, contains_more, act_of, happened_before, happened_cases, is_act_class, is_act_op, is_some_from, partner_stays, allowed_fresh, allowed_from, allowed_may, IsListed, listed_partners, new_pair_is, newly_paired, partners_mutual, ready_need, unready_need, still_left, none_left}
 use Rattle.sim_events.specs.Queue.{IsAwaiting, Awaits}
-use Rattle.sim_events.specs.Cost.{gives}
+use Rattle.sim_state.specs.Awaited.{gives}
 
 -- the last action of an operation gives its end, the first its start
 gives_end : (eager : Bool) (k : Option Kind) → gives (last_class eager k) AfterEnd ≡ true

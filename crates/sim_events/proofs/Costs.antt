@@ -18,7 +18,7 @@ sums_stay f g a (suc n) each =
     omega (arith, rest, each a (omega arith), sum_by-cons f a (range_with_len (a + 1) n), sum_by-cons g a (range_with_len (a + 1) n))
 
 -- and where one is moved, it moves with it
-pub sum_moved : (f g : ℕ → ℕ) (slot x y a n : ℕ) → a ≤ slot → slot < a + n → ((i : ℕ) → i ≢ slot → f i ≤ g i) → x + f slot ≤ g slot + y → x + sum_by f (range_with_len a n) ≤ sum_by g (range_with_len a n) + y
+sum_moved : (f g : ℕ → ℕ) (slot x y a n : ℕ) → a ≤ slot → slot < a + n → ((i : ℕ) → i ≢ slot → f i ≤ g i) → x + f slot ≤ g slot + y → x + sum_by f (range_with_len a n) ≤ sum_by g (range_with_len a n) + y
 sum_moved f g slot x y a zero l m others here = absurd (omega (arith, l, m))
 sum_moved f g slot x y a (suc n) l m others here =
     go (cases_eq a slot) (λ d. sum_moved f g slot x y (a + 1) n (omega (arith, l, d)) (omega (arith, m)) others here)

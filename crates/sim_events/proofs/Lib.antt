@@ -1,6 +1,5 @@
 pub mod Keys
 pub mod Stays
-mod Cursors
 pub mod Done
 pub mod Awaited
 pub mod FreeAfter
@@ -14,5 +13,4 @@ pub mod Numbering
 pub mod Costs
 pub mod Changes
 pub mod Shared
-pub mod Passed
 pub mod ForCallers

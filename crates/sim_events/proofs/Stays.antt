@@ -23,7 +23,7 @@ use Rattle.sim_params.specs.Run.{IsRun}
 use Rattle.sim_params.proofs.ForCallers.{run_each, start_kept, end_kept, paired_at_kept, mate_stays, since_kept}
 use Rattle.sim_stations.specs.Stations.{waits_for_room}
 use Rattle.sim_state.specs.Free.{free, free_of}
-use Rattle.sim_state.specs.Cursors.{is_there}
+use Rattle.sim_state.specs.Awaited.{is_there}
 use Rattle.sim_state.proofs.ForCallers.{there_at as moment_at}
 
 module _ (plans : List Plan) (costs : CostModel) (h : List Timed) where

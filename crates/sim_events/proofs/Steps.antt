@@ -1,5 +1,5 @@
 -- The queue of an engine over one step, said of views.
-use Rattle.std.proofs.Common.{◌≡◌, ◌↔◌, ◌≤◌, ◌+◌, List, ◌∷◌, Some, ℕ, slice_get, refl, sym, ap, subst}
+use Rattle.std.proofs.Common.{◌≡◌, ◌↔◌, ◌+◌, List, ◌∷◌, Some, ℕ, slice_get, refl, sym, ap, subst}
 use Rattle.goal_graph.specs.declared.action.Timed.{Timed}
 use Rattle.goal_graph.specs.Schedule.{Plan, operations}
 use Rattle.goal_graph.specs.Fault.{IsOp}
@@ -8,7 +8,7 @@ use Rattle.sim_params.specs.Run.{IsNext, IsRun, IsFinished}
 use Rattle.sim_stations.specs.Stations.{Stationed, pair_of, IsLater}
 use Rattle.sim_state.specs.Free.{side}
 use Rattle.sim_params.specs.Times.{cpu}
-use Rattle.sim_heaps.specs.Map.{key_at, IsEmptyMap}
+use Rattle.sim_heaps.specs.Map.{IsEmptyMap}
 use Rattle.sim_state.specs.Engine.{View}
 use Rattle.sim_events.specs.Queue.{IsQueue, IsQueueBut, IsSettledBy, IsDueAfter}
 use Rattle.sim_state.proofs.ForCallers.{possible_exists}
@@ -16,11 +16,8 @@ use Rattle.sim_events.proofs.Held.{later}
 use Rattle.sim_events.proofs.Queue.{listed_kind, finished, empty_from}
 use Rattle.sim_events.specs.Changes.{HaveChanged}
 use Rattle.std.proofs.lemmas.List.Sums.{sum_by-cons}
-use Rattle.goal_progress.specs.declared.cursor.Cursor.{Cursor}
-use Rattle.sim_events.specs.Needs.{read_so_far}
-use Rattle.sim_events.specs.Cost.{looked_after, all_looked_after}
+use Rattle.sim_events.specs.Cost.{given_by, most_reads}
 use Rattle.sim_events.proofs.Changes.{changed_settled}
-use Rattle.sim_events.proofs.Passed.{read_settled}
 use Rattle.sim_events.proofs.Settled.{after_settled}
 
 module _ {C : Type 0} (model : C → CostModel) where
@@ -51,14 +48,10 @@ module _ {C : Type 0} (model : C → CostModel) where
   changed_after old new a queued settled slot e q here by all changed =
       subst (λ (v : View C). HaveChanged v.plans v.history settled all) (sym e) (changed_settled old.plans (model old.costs) old.history a queued q.of_it slot here _ _ settled by all changed)
 
-  -- so does how often needs were looked at
-  pub read_after : (old new : View C) (a : Timed) (queued settled : Stationed) (slot : ℕ) → new ≡ record { plans = old.plans; costs = old.costs; history = a ∷ old.history } → NextAt old a → slice_get (operations old.plans) slot ≡ Some a.op → key_at queued.keys slot ≡ Some a → IsSettledBy (cpu new.plans (model new.costs) new.history a.op) (side new.plans (model new.costs) new.history a.op) slot a queued settled → (cursors : List Cursor) → read_so_far old.plans old.history queued cursors ≤ read_so_far new.plans new.history settled cursors
-  read_after old new a queued settled slot e next here has by cursors =
-      subst (λ (v : View C). read_so_far old.plans old.history queued cursors ≤ read_so_far v.plans v.history settled cursors) (sym e) (read_settled old.plans (model old.costs) old.history a next.possible _ _ slot queued settled by has here cursors)
-
-  pub looked_more : (old new : View C) (a : Timed) → new ≡ record { plans = old.plans; costs = old.costs; history = a ∷ old.history } → all_looked_after new.plans new.history ≡ looked_after new.plans a + all_looked_after old.plans old.history
+  -- with one more action the needs are looked at whose moment it may give
+  pub looked_more : (old new : View C) (a : Timed) → new ≡ record { plans = old.plans; costs = old.costs; history = a ∷ old.history } → most_reads new.plans new.history ≡ given_by old.plans a + most_reads old.plans old.history
   looked_more old new a e =
-      subst (λ (v : View C). all_looked_after v.plans v.history ≡ looked_after v.plans a + all_looked_after old.plans old.history) (sym e) (sum_by-cons (looked_after old.plans) a old.history)
+      subst (λ (v : View C). most_reads v.plans v.history ≡ given_by old.plans a + most_reads old.plans old.history) (sym e) (sum_by-cons (given_by old.plans) a old.history)
 
   -- an action changes no plans
   pub plans_after : (old new : View C) (a : Timed) → new ≡ record { plans = old.plans; costs = old.costs; history = a ∷ old.history } → old.plans ≡ new.plans

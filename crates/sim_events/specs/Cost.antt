@@ -1,22 +1,17 @@
 -- What a run costs at most: how often its queue compares keys, and how often needs are looked at, over the schedule and what has
 -- happened.
-use Rattle.std.specs.Prelude.{ℕ, ◌+◌, ◌*◌, ◌&&◌, ◌||◌, ◌==◌, ◌++◌, min, Bool, true, false, List, [], ◌∷◌, length, count_by, Option, Some, None, if◌then◌else◌}
+use Rattle.std.specs.Prelude.{ℕ, ◌+◌, ◌*◌, ◌&&◌, ◌||◌, ◌==◌, ◌++◌, min, Bool, false, List, [], ◌∷◌, length, count_by, Option, Some, None, if◌then◌else◌}
 use Rattle.std.specs.List.{fold, list_any, sum_by}
 use Rattle.goal_graph.specs.declared.action.OpId.{OpId}
 use Rattle.goal_graph.specs.declared.action.Timed.{Timed}
-use Rattle.goal_graph.specs.declared.action.Class.{Class}
-use Rattle.goal_graph.specs.declared.action.Class.TheVariants.{Serve, Data, Post, Begin}
 use Rattle.goal_graph.specs.declared.plan.Kind.{Kind}
 use Rattle.goal_graph.specs.declared.plan.Kind.TheVariants.{Calc, Send, Recv}
-use Rattle.goal_graph.specs.declared.plan.Need.{Need}
 use Rattle.goal_graph.specs.declared.plan.Op.{Op}
-use Rattle.goal_graph.specs.declared.plan.When.{When}
-use Rattle.goal_graph.specs.declared.plan.When.TheVariants.{AfterEnd, AfterStart}
-use Rattle.goal_graph.specs.Schedule.{Plan, op_at, operations, needs}
-use Rattle.goal_graph.specs.Concerned.{waiting_on}
+use Rattle.goal_graph.specs.Schedule.{Plan, op_at, operations}
 use Rattle.sim_stations.specs.Stations.{waits_for_room}
 use Rattle.sim_events.specs.declared.station.Station.{Station}
 pub use Rattle.goal_graph.specs.Choices.{same_choice}
+pub use Rattle.sim_state.specs.Awaited.{given_by}
 
 -- the station of an operation: what it waits for before it works
 abbrev pub station_by : OpId → Op → Kind → Station
@@ -86,27 +81,6 @@ cost_of_start k plans = length (operations plans) * (10 * k + 16)
 abbrev pub cost_of_run : ℕ → List Plan → List Timed → ℕ
 cost_of_run k plans h = cost_of_actions k (length h) (most_moves plans h) + 3
 
--- an action of that class may give its operation the moment: a Begin its start and its end, a Post its start, a Data and a
--- Serve its end
-abbrev pub gives : Class → When → Bool
-gives Begin when = true
-gives Post AfterStart = true
-gives Data AfterEnd = true
-gives Serve AfterEnd = true
-gives _ _ = false
-
-module _ (plans : List Plan) where
-  -- how many needs there are
-  abbrev pub all_needs : ℕ
-  all_needs = sum_by (λ x. length (needs plans x)) (operations plans)
-
-  -- how many operations are looked at after an action: its own, its partner, and those that need a moment that it may give
-  abbrev pub looked_after : Timed → ℕ
-  looked_after a = 2 + count_by (λ (d : Need). gives a.class d.when) (waiting_on plans a.op)
-
-  abbrev pub all_looked_after : List Timed → ℕ
-  all_looked_after h = sum_by looked_after h
-
-  -- how often needs are looked at as so much happens, at most: each twice, and one whenever an operation is looked at
-  abbrev pub most_reads : List Timed → ℕ
-  most_reads h = 2 * all_needs + all_looked_after h
+-- how often needs are looked at as so much happens, at most: at each action those whose moment it may give
+abbrev pub most_reads : List Plan → List Timed → ℕ
+most_reads plans h = sum_by (given_by plans) h

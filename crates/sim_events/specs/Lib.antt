@@ -2,7 +2,6 @@
 pub mod Cost
 -- What only the code keeps.
 pub mod Comparisons
-pub mod Needs
 pub mod Stations
 pub mod Queue
 pub mod Changes
@@ -21,7 +20,7 @@ pub use Rattle.sim_params.specs.Run
 pub use Rattle.sim_params.specs.Times
 pub use Rattle.sim_stations.specs.Stations as Stationing
 pub use Rattle.sim_heaps.specs.Map
-pub use Rattle.sim_state.specs.Cursors
+pub use Rattle.sim_state.specs.Awaited
 pub use Rattle.sim_state.specs.Enabled
 pub use Rattle.sim_state.specs.Engine
 pub use Rattle.sim_state.specs.Free

@@ -4,22 +4,20 @@ use Rattle.goal_graph.specs.declared.action.Timed.{Timed}
 use Rattle.goal_graph.specs.Schedule.{Plan}
 use Rattle.sim_params.specs.Costs.{CostModel}
 use Rattle.sim_params.specs.Run.{IsNext, IsFinished}
-use Rattle.sim_events.specs.declared.pending.Pending.{Pending}
+use Rattle.sim_stations.specs.Stations.{Stationed}
 use Rattle.sim_state.specs.Engine.{View}
 use Rattle.sim_events.specs.Queue.{IsQueue}
-use Rattle.sim_state.specs.Cursors.{AreCursors}
 use Rattle.sim_events.specs.Changes.{HaveChanged}
 
--- its queue, of which it is known how often stations have changed their places, and its cursors; or none where nothing is possible
-abbrev pub IsPending : List Plan → CostModel → List Timed → Option Pending → Type 0
-IsPending plans costs h (Some o) =
-    IsQueue plans costs h o.queue × AreCursors plans costs h o.cursors.items × ((all : ℕ) × HaveChanged plans h o.queue all)
+-- its queue, of which it is known how often stations have changed their places; or none where nothing is possible
+abbrev pub IsPending : List Plan → CostModel → List Timed → Option Stationed → Type 0
+IsPending plans costs h (Some queue) = IsQueue plans costs h queue × ((all : ℕ) × HaveChanged plans h queue all)
 IsPending plans costs h None = IsFinished plans costs h
 
 module _ {C : Type 0} (model : C → CostModel) where
-  -- the queue and the cursors of a state
-  abbrev pub IsPendingOf : View C → Pending → Type 0
-  IsPendingOf v o = IsPending v.plans (model v.costs) v.history (Some o)
+  -- the queue of a state
+  abbrev pub IsPendingOf : View C → Stationed → Type 0
+  IsPendingOf v queue = IsPending v.plans (model v.costs) v.history (Some queue)
 
   -- the next action has happened, or nothing is possible
   abbrev pub IsStepped : View C → View C → Option Timed → Type 0

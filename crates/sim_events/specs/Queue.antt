@@ -14,10 +14,10 @@ use Rattle.sim_heaps.specs.Map.{key_at}
 use Rattle.sim_stations.specs.Stations.{Stationed, waits_for_room, when_free, held, pair_of, DoExist}
 use Rattle.sim_stations.specs.Moves.{HaveReturned, held_once_more}
 use Rattle.sim_state.specs.Enabled.{IsIdle, IsEnabledActionOf}
+use Rattle.sim_state.specs.Awaited.{gives}
 use Rattle.sim_state.specs.Free.{side}
 use Rattle.sim_state.specs.Tasks.{IsLast}
 use Rattle.sim_events.specs.Stations.{AreStationed}
-use Rattle.sim_events.specs.Cost.{gives}
 
 -- A queue after the action in a slot, which has left its resources free at c and s: its key is gone and, where the action
 -- waited for room, all that waits for these is raised, and they were held once more.

@@ -12,10 +12,10 @@ ghost use Rattle.sim_params.specs.Times.{mate};
 ghost use Rattle.sim_params.specs.Run.{IsNext, IsRun, IsFinished, IsCompleteRun};
 ghost use Rattle.sim_params.specs.Laws.{IsWithin};
 ghost use Rattle.sim_state.specs.Engine.{IsEngineFault, start_known, end_known};
-ghost use Rattle.sim_events.specs.Cost.{cost_of_start, cost_of_run, all_needs, most_reads};
+ghost use Rattle.sim_events.specs.Cost.{cost_of_start, cost_of_run, most_reads};
 
-use crate::follow::is_empty;
-use crate::pending::{Pending, at_the_start, run_on, step_once};
+use crate::follow::{Queue, is_empty};
+use crate::pending::{at_the_start, run_on, step_once};
 use goal_graph::{OpId, Sched, Timed};
 use sim_order::{CompactKey, Steps};
 use sim_params::Costs;
@@ -30,7 +30,7 @@ pub struct Engine<'a, C: Costs, H: History = Kept> {
     // what has happened, and what is known of each operation
     state: State<'a, C, H>,
     // what may come, given back by a run once nothing may
-    pending: Option<Pending>,
+    pending: Option<Queue>,
 }
 
 // It goes by a call, and not field by field: so those that let one go are shorter to prove.
@@ -70,7 +70,7 @@ impl<'a, C: Costs + Drop> Engine<'a, C> {
     /// The same, with a counter of the comparisons of keys and one of the needs of operations that are looked at.
     ///
     /// - `counted`: among 2^k operations it compares 10k + 16 times at most for each.
-    /// - `needed`: it looks at each need at most twice, and once more for each operation.
+    /// - `needed`: it looks at none.
     pub fn new_counted<L: Ledger, N: Ledger>(
         alloc: Global,
         sched: &'a Sched,
@@ -84,7 +84,7 @@ impl<'a, C: Costs + Drop> Engine<'a, C> {
         ensures fits { OnOk result (budget sched.now (C.model costs) < 2 ^ 63) }
         ensures fault { IfErr result (IsEngineFault (budget sched.now (C.model costs))) }
         ensures counted { (k : ℕ) → length (operations sched.now) ≤ 2 ^ k → steps.new ≤ steps.old + cost_of_start k sched.now }
-        ensures needed { reads.new ≤ reads.old + 2 * all_needs sched.now + length (operations sched.now) }
+        ensures needed { reads.new ≡ reads.old }
     {
         Engine::<C, Kept>::start_counted(alloc, sched, costs, steps, reads)
     }
@@ -116,10 +116,10 @@ impl<'a, C: Costs + Drop, H: History> Engine<'a, C, H> {
         ensures fits { OnOk result (budget sched.now (C.model costs) < 2 ^ 63) }
         ensures fault { IfErr result (IsEngineFault (budget sched.now (C.model costs))) }
         ensures counted { (k : ℕ) → length (operations sched.now) ≤ 2 ^ k → steps.new ≤ steps.old + cost_of_start k sched.now }
-        ensures needed { reads.new ≤ reads.old + 2 * all_needs sched.now + length (operations sched.now) }
+        ensures needed { reads.new ≡ reads.old }
     {
         let state = State::new(alloc, sched, costs)?;
-        let pending = at_the_start(alloc, &state, steps, reads)?;
+        let pending = at_the_start(alloc, &state, steps)?;
         Ok(Engine {
             state,
             pending: Some(pending),
@@ -210,7 +210,7 @@ impl<'a, C: Costs, H: History> Engine<'a, C, H> {
     /// - `counted`: among 2^k operations it compares 18k + 29 times at most for each action that has happened then, and 8k + 15
     ///   times for each change of place of a station, of which there are at most `most_moves`.
     /// - `looked`: the matcher looks at eight entries at most for each action.
-    /// - `needed`: each need is looked at at most twice, and one more whenever an operation is looked at after an action.
+    /// - `needed`: an action looks once at each need whose moment it may give, and at no other.
     pub fn run_counted<L: Ledger, M: Ledger, N: Ledger>(
         &mut self,
         steps: &mut Steps<L>,
@@ -271,7 +271,7 @@ impl<'a, C: Costs, H: History> Engine<'a, C, H> {
     {
         self.known();
         match &self.pending {
-            Some(pending) => is_empty::<Brand>(Blank::new(1), &pending.queue),
+            Some(pending) => is_empty::<Brand>(Blank::new(1), pending),
             None => true,
         }
     }

@@ -1,5 +1,5 @@
 // The queue of an engine: what it holds, and how it follows what happens.
-ghost use Rattle.std.specs.Prelude.{◌≡◌, ◌≢◌, ℕ, ◌<◌, ◌≤◌, ◌+◌, ◌*◌, ◌^◌, ◌↔◌, ◌⊎◌, All, IsTrue, IfSome, IsNone, Some, true, count_by, length, slice_get};
+ghost use Rattle.std.specs.Prelude.{◌≡◌, ◌≢◌, ℕ, ◌<◌, ◌≤◌, ◌+◌, ◌*◌, ◌^◌, ◌↔◌, ◌⊎◌, All, IsTrue, IfSome, IsNone, Some, true, length, slice_get};
 ghost use Rattle.goal_graph.specs.declared.action.Class.TheVariants.{Arrive, Serve};
 ghost use Rattle.goal_graph.specs.Schedule.{operations, needed};
 ghost use Rattle.goal_graph.specs.Concerned.{waiting_on};
@@ -8,18 +8,15 @@ ghost use Rattle.sim_params.specs.Times.{mate, cpu};
 ghost use Rattle.sim_params.specs.Run.{IsNext, IsFinished};
 ghost use Rattle.sim_heaps.specs.Map.{key_at, IsEmptyMap};
 ghost use Rattle.sim_stations.specs.Stations.{waits_for_room, pair_of, IsLater, cost_of_waiting, cost_of_moves};
-ghost use Rattle.sim_state.specs.Cursors.{AreCursors};
 ghost use Rattle.sim_state.specs.Free.{side};
 ghost use Rattle.sim_events.specs.Comparisons.{spent};
-ghost use Rattle.sim_events.specs.Needs.{read_so_far};
-ghost use Rattle.sim_events.specs.Cost.{looked_after, gives};
 ghost use Rattle.sim_events.specs.Changes.{AreAtPlaces, HaveChanged, HaveChangedOn};
 ghost use Rattle.sim_events.specs.Queue.{IsOfSchedule, IsQueue, IsQueueBut, HasPossibleKeys, IsRefreshed, IsSettledBy, IsDueAfter, Awaits};
 
-use goal_graph::{Class, Need, OpId, Timed, When};
+use goal_graph::{Class, Need, OpId, Timed};
 use sim_order::Steps;
 use sim_params::Costs;
-use sim_state::{Cursor, History, State, choice_from, compact};
+use sim_state::{History, State, compact, gives};
 use sim_stations::StationQueue;
 use std::sync::ledger::{Blank, Ledger};
 
@@ -27,24 +24,19 @@ use std::sync::ledger::{Blank, Ledger};
 pub type Queue = StationQueue;
 
 /// Gives each operation its key, where none has one yet.
-pub fn fill<C: Costs, H: History, L: Ledger, N: Ledger>(
+pub fn fill<C: Costs, H: History, L: Ledger>(
     state: &State<C, H>,
     queue: &mut Queue,
-    cursors: &mut [Cursor],
     steps: &mut Steps<L>,
-    reads: &mut Steps<N>,
 )
     requires of_it { IsOfSchedule state.now.plans (C.model state.now.costs) state.now.history queue.old }
     requires empty { IsEmptyMap queue.old.keys }
-    requires cursors { AreCursors state.now.plans (C.model state.now.costs) state.now.history cursors.old }
     ensures queue { IsQueue state.now.plans (C.model state.now.costs) state.now.history queue.new }
-    ensures cursors { AreCursors state.now.plans (C.model state.now.costs) state.now.history cursors.new }
     ensures placed { AreAtPlaces queue.old queue.new }
-    ensures looked { reads.new + read_so_far state.now.plans state.now.history queue.old cursors.old ≤ reads.old + read_so_far state.now.plans state.now.history queue.new cursors.new + length (operations state.now.plans) }
     ensures counted { (k : ℕ) → length queue.old.keys ≤ 2 ^ k → steps.new + cost_of_waiting k queue.new.stands ≤ steps.old + cost_of_waiting k queue.old.stands + spent k queue.new }
 {
     for id in state.sched().operations() {
-        refresh(state, queue, cursors, *id, steps, reads);
+        refresh(state, queue, *id, steps);
     }
 }
 
@@ -104,71 +96,56 @@ pub fn settle<C: Costs, H: History, L: Ledger>(
 
 /// Gives their keys to those whose next action may be possible only since an action: its operation, the partner, and
 /// the operations that need the moment which it gives.
-pub fn follow<C: Costs, H: History, L: Ledger, N: Ledger>(
+pub fn follow<C: Costs, H: History, L: Ledger>(
     state: &State<C, H>,
     queue: &mut Queue,
-    cursors: &mut [Cursor],
     action: Timed,
     waiting: &[Need],
     steps: &mut Steps<L>,
-    reads: &mut Steps<N>,
 )
     requires whom { action.class ≢ Arrive → waiting.now ≡ waiting_on state.now.plans action.op }
     requires exist { action.class ≢ Arrive → All (λ need. IsOp state.now.plans (needed action.op need)) waiting.now }
     requires exists { IsOp state.now.plans action.op }
     requires rest { IsQueueBut state.now.plans (C.model state.now.costs) state.now.history (IsDueAfter state.now.plans (C.model state.now.costs) state.now.history action) queue.old }
-    requires cursors { AreCursors state.now.plans (C.model state.now.costs) state.now.history cursors.old }
     ensures queue { IsQueue state.now.plans (C.model state.now.costs) state.now.history queue.new }
-    ensures cursors { AreCursors state.now.plans (C.model state.now.costs) state.now.history cursors.new }
     ensures placed { AreAtPlaces queue.old queue.new }
-    ensures looked { reads.new + read_so_far state.now.plans state.now.history queue.old cursors.old ≤ reads.old + read_so_far state.now.plans state.now.history queue.new cursors.new + looked_after state.now.plans action }
     ensures counted { (k : ℕ) → length queue.old.keys ≤ 2 ^ k → steps.new + cost_of_waiting k queue.new.stands + spent k queue.old ≤ steps.old + cost_of_waiting k queue.old.stands + spent k queue.new }
 {
-    follow_own(state, queue, cursors, action, steps, reads);
-    follow_partner(state, queue, cursors, action, steps, reads);
-    follow_waiting(state, queue, cursors, action, waiting, steps, reads);
+    follow_own(state, queue, action, steps);
+    follow_partner(state, queue, action, steps);
+    follow_waiting(state, queue, action, waiting, steps);
 }
 
 // Gives its key to the operation of an action, unless that was its last.
-fn follow_own<C: Costs, H: History, L: Ledger, N: Ledger>(
+fn follow_own<C: Costs, H: History, L: Ledger>(
     state: &State<C, H>,
     queue: &mut Queue,
-    cursors: &mut [Cursor],
     action: Timed,
     steps: &mut Steps<L>,
-    reads: &mut Steps<N>,
 )
     requires exists { IsOp state.now.plans action.op }
     requires rest { IsQueueBut state.now.plans (C.model state.now.costs) state.now.history (IsDueAfter state.now.plans (C.model state.now.costs) state.now.history action) queue.old }
-    requires cursors { AreCursors state.now.plans (C.model state.now.costs) state.now.history cursors.old }
     ensures queue { IsQueueBut state.now.plans (C.model state.now.costs) state.now.history (λ y. ((action.class ≢ Serve) × (mate state.now.plans (C.model state.now.costs) state.now.history action.op ≡ Some y)) ⊎ Awaits state.now.plans action.class action.op y) queue.new }
-    ensures cursors { AreCursors state.now.plans (C.model state.now.costs) state.now.history cursors.new }
     ensures placed { AreAtPlaces queue.old queue.new }
-    ensures looked { reads.new + read_so_far state.now.plans state.now.history queue.old cursors.old ≤ reads.old + read_so_far state.now.plans state.now.history queue.new cursors.new + 1 }
     ensures counted { (k : ℕ) → length queue.old.keys ≤ 2 ^ k → steps.new + cost_of_waiting k queue.new.stands + spent k queue.old ≤ steps.old + cost_of_waiting k queue.old.stands + spent k queue.new }
 {
     if state.is_last(action) {
         return;
     }
-    refresh(state, queue, cursors, action.op, steps, reads);
+    refresh(state, queue, action.op, steps);
 }
 
 // Gives its key to the partner of the operation of an action, if it has one. After a Serve the partner is done.
-fn follow_partner<C: Costs, H: History, L: Ledger, N: Ledger>(
+fn follow_partner<C: Costs, H: History, L: Ledger>(
     state: &State<C, H>,
     queue: &mut Queue,
-    cursors: &mut [Cursor],
     action: Timed,
     steps: &mut Steps<L>,
-    reads: &mut Steps<N>,
 )
     requires exists { IsOp state.now.plans action.op }
     requires rest { IsQueueBut state.now.plans (C.model state.now.costs) state.now.history (λ y. ((action.class ≢ Serve) × (mate state.now.plans (C.model state.now.costs) state.now.history action.op ≡ Some y)) ⊎ Awaits state.now.plans action.class action.op y) queue.old }
-    requires cursors { AreCursors state.now.plans (C.model state.now.costs) state.now.history cursors.old }
     ensures queue { IsQueueBut state.now.plans (C.model state.now.costs) state.now.history (Awaits state.now.plans action.class action.op) queue.new }
-    ensures cursors { AreCursors state.now.plans (C.model state.now.costs) state.now.history cursors.new }
     ensures placed { AreAtPlaces queue.old queue.new }
-    ensures looked { reads.new + read_so_far state.now.plans state.now.history queue.old cursors.old ≤ reads.old + read_so_far state.now.plans state.now.history queue.new cursors.new + 1 }
     ensures counted { (k : ℕ) → length queue.old.keys ≤ 2 ^ k → steps.new + cost_of_waiting k queue.new.stands + spent k queue.old ≤ steps.old + cost_of_waiting k queue.old.stands + spent k queue.new }
 {
     if let Class::Serve = action.class {
@@ -177,7 +154,7 @@ fn follow_partner<C: Costs, H: History, L: Ledger, N: Ledger>(
     let Some(partner) = state.partner(action.op) else {
         return;
     };
-    refresh(state, queue, cursors, partner, steps, reads);
+    refresh(state, queue, partner, steps);
 }
 
 /// The operations that need one, before its action happens: none is asked for where the action is an Arrive, which gives no moment.
@@ -194,37 +171,20 @@ pub fn waiting_after<'a, C: Costs, H: History>(state: &State<'a, C, H>, action: 
     }
 }
 
-// Whether an action of a class may give its operation the moment that a need is of.
-fn gives(class: Class, when: When) -> bool
-    ensures { result ≡ gives class when }
-{
-    match (class, when) {
-        (Class::Begin, _)
-        | (Class::Post, When::AfterStart)
-        | (Class::Data | Class::Serve, When::AfterEnd) => true,
-        _ => false,
-    }
-}
-
 // Gives their keys to the operations that need the moment which an action gives. An Arrive gives none.
-fn follow_waiting<C: Costs, H: History, L: Ledger, N: Ledger>(
+fn follow_waiting<C: Costs, H: History, L: Ledger>(
     state: &State<C, H>,
     queue: &mut Queue,
-    cursors: &mut [Cursor],
     action: Timed,
     waiting: &[Need],
     steps: &mut Steps<L>,
-    reads: &mut Steps<N>,
 )
     requires whom { action.class ≢ Arrive → waiting.now ≡ waiting_on state.now.plans action.op }
     requires exist { action.class ≢ Arrive → All (λ need. IsOp state.now.plans (needed action.op need)) waiting.now }
     requires exists { IsOp state.now.plans action.op }
     requires rest { IsQueueBut state.now.plans (C.model state.now.costs) state.now.history (Awaits state.now.plans action.class action.op) queue.old }
-    requires cursors { AreCursors state.now.plans (C.model state.now.costs) state.now.history cursors.old }
     ensures queue { IsQueue state.now.plans (C.model state.now.costs) state.now.history queue.new }
-    ensures cursors { AreCursors state.now.plans (C.model state.now.costs) state.now.history cursors.new }
     ensures placed { AreAtPlaces queue.old queue.new }
-    ensures looked { reads.new + read_so_far state.now.plans state.now.history queue.old cursors.old ≤ reads.old + read_so_far state.now.plans state.now.history queue.new cursors.new + count_by (λ d. gives action.class d.when) (waiting_on state.now.plans action.op) }
     ensures counted { (k : ℕ) → length queue.old.keys ≤ 2 ^ k → steps.new + cost_of_waiting k queue.new.stands + spent k queue.old ≤ steps.old + cost_of_waiting k queue.old.stands + spent k queue.new }
 {
     if let Class::Arrive = action.class {
@@ -238,33 +198,28 @@ fn follow_waiting<C: Costs, H: History, L: Ledger, N: Ledger>(
             rank: action.op.rank,
             op: need.op,
         };
-        refresh(state, queue, cursors, later, steps, reads);
+        refresh(state, queue, later, steps);
     }
 }
 
 // Gives an operation that has no key the one of its possible action, if it has one.
-fn refresh<C: Costs, H: History, L: Ledger, N: Ledger>(
+fn refresh<C: Costs, H: History, L: Ledger>(
     state: &State<C, H>,
     queue: &mut Queue,
-    cursors: &mut [Cursor],
     id: OpId,
     steps: &mut Steps<L>,
-    reads: &mut Steps<N>,
 )
     requires exists { IsOp state.now.plans id }
     requires possible { HasPossibleKeys state.now.plans (C.model state.now.costs) state.now.history queue.old }
-    requires cursors { AreCursors state.now.plans (C.model state.now.costs) state.now.history cursors.old }
     ensures queue { IsRefreshed state.now.plans (C.model state.now.costs) state.now.history id queue.old queue.new }
-    ensures cursors { AreCursors state.now.plans (C.model state.now.costs) state.now.history cursors.new }
     ensures placed { AreAtPlaces queue.old queue.new }
-    ensures looked { reads.new + read_so_far state.now.plans state.now.history queue.old cursors.old ≤ reads.old + read_so_far state.now.plans state.now.history queue.new cursors.new + 1 }
     ensures counted { (k : ℕ) → length queue.old.keys ≤ 2 ^ k → steps.new + cost_of_waiting k queue.new.stands + spent k queue.old ≤ steps.old + cost_of_waiting k queue.old.stands + spent k queue.new }
 {
     let slot = state.sched().index(id);
     if queue.has(slot) {
         return;
     }
-    if let Some(action) = choice_from(state, cursors, id, reads) {
+    if let Some(action) = state.choice(id) {
         queue.put(slot, compact(state.sched(), action), steps);
     }
 }

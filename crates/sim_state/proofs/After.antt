@@ -8,17 +8,18 @@ use Rattle.goal_graph.specs.declared.action.Class.{Class}
 use Rattle.goal_graph.specs.declared.action.Class.TheVariants.{Arrive, Data, Begin}
 use Rattle.goal_graph.specs.declared.plan.Kind.{Kind}
 use Rattle.goal_graph.specs.declared.plan.Kind.TheVariants.{Calc, Send, Recv}
-use Rattle.goal_graph.specs.Schedule.{Plan, kind_at, IsSend}
+use Rattle.goal_graph.specs.Schedule.{Plan, kind_at, IsSend, IsReceive}
 use Rattle.goal_graph.specs.Action.{place, same_op, is_act, happened, plain, plain_act}
 use Rattle.goal_graph.specs.Matching.{pairs, is_paired}
-use Rattle.goal_graph.specs.Allowed.{first_class, last_class, may, allowed}
+use Rattle.goal_graph.specs.Allowed.{first_class, last_class, has_started, may, allowed}
 use Rattle.goal_graph.specs.Laws.{IsCalc}
-use Rattle.goal_graph.proofs.ForCallers.{happened_other, happened_new, is_act_from, arrived_begun, is_some_from, allowed_fresh, started_send}
+use Rattle.goal_graph.proofs.ForCallers.{happened_other, happened_new, is_act_from, arrived_begun, is_some_from, allowed_fresh, started_send, started_stays}
 use Rattle.sim_params.specs.Costs.{CostModel, flight, flight_one, is_eager}
 use Rattle.sim_params.specs.Times.{mate, cpu_hold, start, paired_at, time_of, time, Possible}
 use Rattle.sim_params.specs.Run.{IsRun}
 use Rattle.sim_params.proofs.ForCallers.{start_kept, start_now, end_kept, end_last, paired_at_kept, since_kept, since_new, run_each, run_interleaving}
 use Rattle.sim_state.specs.Engine.{start_known, end_known}
+use Rattle.sim_state.specs.Awaited.{awaited_known}
 use Rattle.sim_state.specs.Enabled.{time_known}
 use Rattle.sim_state.specs.Represents.{paired_known, delivered_known}
 
@@ -94,9 +95,23 @@ module _ (plans : List Plan) (costs : CostModel) (h : List Timed) (a : Timed) wh
       go (Some (Recv room from tag)) k = arriving_is (a ∷ h) x _ k ∙ never _ _ ∙ sym (never _ _) ∙ sym (arriving_is h x _ k)
       go None k = arriving_is (a ∷ h) x _ k ∙ never _ _ ∙ sym (never _ _) ∙ sym (arriving_is h x _ k)
 
-  -- a calc never arrives
-  pub arriving_calc : (x : OpId) → IsCalc plans x → time_known plans costs (a ∷ h) Arrive x ≡ time_known plans costs h Arrive x
-  arriving_calc x k = arriving_is (a ∷ h) x _ k.kind ∙ never _ _ ∙ sym (never _ _) ∙ sym (arriving_is h x _ k.kind)
+  -- only sends arrive
+  pub arriving_calc : (l : List Timed) (x : OpId) → IsCalc plans x → time_known plans costs l Arrive x ≡ None
+  arriving_calc l x k = arriving_is l x _ k.kind ∙ never _ _
+
+  pub arriving_receive : (l : List Timed) (x : OpId) → IsReceive plans x → time_known plans costs l Arrive x ≡ None
+  arriving_receive l x k = arriving_is l x _ k.kind ∙ never _ _
+
+  -- what an operation awaits once it has started
+  pub awaited_started : (l : List Timed) (x : OpId) → has_started plans x (plain l) ≡ true → awaited_known plans costs l x ≡ time_known plans costs l Arrive x
+  awaited_started l x e = cond-true _ _ _ e
+
+  pub started_this : a.class ≡ first_class (kind_at plans a.op) → has_started plans a.op (plain (a ∷ h)) ≡ true
+  started_this e = happened_this (first_class (kind_at plans a.op)) e
+
+  pub started_still : (x : OpId) → has_started plans x (plain h) ≡ true → has_started plans x (plain (a ∷ h)) ≡ true
+  unfolding plain
+  started_still x e = started_stays plans (plain_act a) (plain h) x e
 
   -- a send that begins is under way
   pub arriving_begun : IsRun plans costs h → Possible plans costs h a → a.class ≡ Begin → IsSend plans a.op → time_known plans costs (a ∷ h) Arrive a.op ≡ Some (a.time + (if is_eager plans costs a.op then flight plans costs a.op else flight_one plans costs a.op))

@@ -20,7 +20,7 @@ use Rattle.sim_state.specs.declared.task.Task.TheVariants as task
 use Rattle.sim_state.specs.declared.work.Work.{Work}
 use Rattle.sim_state.specs.Tasks.{work_of, task_of}
 use Rattle.sim_state.specs.Tables.{with_times}
-use Rattle.sim_state.specs.Represents.{AreFreeTimes, entry_known, times_known}
+use Rattle.sim_state.specs.Represents.{AreFreeTimes, entry_known, entry_then, times_known}
 use Rattle.sim_state.proofs.Entries.{calc_begun, eager_begun, request_begun}
 use Rattle.sim_state.proofs.Fits.{cpu_fits, tx_fits, flight_of_eager, flight_of_request}
 use Rattle.sim_state.proofs.FreeTimes.{free_calc, free_send}
@@ -32,7 +32,7 @@ module _ (plans : List Plan) (costs : CostModel) (h : List Timed) (a : Timed) (r
   -- written, these times make known what is known after the action
   abbrev Known : Times → Type 0
   Known t =
-      map (with_times a.op t None (entry_known plans costs h)) (operations plans) ≡ map (entry_known plans costs (a ∷ h)) (operations plans)
+      map (with_times a.op t None (entry_known plans costs h)) (operations plans) ≡ map (entry_then plans costs h a) (operations plans)
 
   abbrev before : Times
   before = times_known plans costs h a.op
@@ -54,7 +54,7 @@ module _ (plans : List Plan) (costs : CostModel) (h : List Timed) (a : Timed) (r
     pub calc_fits : a.time + w.amount < 2 ^ 63
     calc_fits = omega (arith, cpu_fits plans costs h a run p, until, within)
 
-    pub calc_known : (t : Times) → t ≡ record before { start = Some a.time; end = Some (a.time + w.amount) } → Known t
+    pub calc_known : (t : Times) → t ≡ record before { start = Some a.time; end = Some (a.time + w.amount); awaited = None } → Known t
     calc_known t e =
         subst Known (sym e) (calc_begun plans costs h a run p (entry_known plans costs h a.op) refl (a.time + w.amount) until begins calc)
 
@@ -87,7 +87,7 @@ module _ (plans : List Plan) (costs : CostModel) (h : List Timed) (a : Timed) (r
     pub eager_flight : a.time + flight plans costs a.op < 2 ^ 63
     eager_flight = omega (arith, flight_of_eager plans costs h a run p begins eager_send eager, within)
 
-    pub eager_known : (until arrive : ℕ) → until ≡ a.time + over plans costs a.op → arrive ≡ a.time + flight plans costs a.op → (t : Times) → t ≡ record before { start = Some a.time; end = Some until; arriving = Some arrive } → Known t
+    pub eager_known : (until arrive : ℕ) → until ≡ a.time + over plans costs a.op → arrive ≡ a.time + flight plans costs a.op → (t : Times) → t ≡ record before { start = Some a.time; end = Some until; awaited = Some arrive } → Known t
     eager_known until arrive ends arrives t e =
         subst Known (sym e) (eager_begun plans costs h a run p (entry_known plans costs h a.op) refl until (until_of until ends) arrive begins eager_send eager arrives)
 
@@ -120,7 +120,7 @@ module _ (plans : List Plan) (costs : CostModel) (h : List Timed) (a : Timed) (r
     pub request_flight : a.time + flight_one plans costs a.op < 2 ^ 63
     request_flight = omega (arith, flight_of_request plans costs h a run p begins large_send large, within)
 
-    pub request_known : (arrive : ℕ) → arrive ≡ a.time + flight_one plans costs a.op → (t : Times) → t ≡ record before { start = Some a.time; arriving = Some arrive } → Known t
+    pub request_known : (arrive : ℕ) → arrive ≡ a.time + flight_one plans costs a.op → (t : Times) → t ≡ record before { start = Some a.time; awaited = Some arrive } → Known t
     request_known arrive arrives t e =
         subst Known (sym e) (request_begun plans costs h a run p (entry_known plans costs h a.op) refl arrive begins large_send large arrives)
 

@@ -22,7 +22,7 @@ use Rattle.sim_state.specs.declared.work.Work.{Work}
 use Rattle.sim_state.specs.Changes.{IsChange}
 use Rattle.sim_state.specs.Tasks.{work_of}
 use Rattle.sim_state.specs.Tables.{with_times}
-use Rattle.sim_state.specs.Represents.{AreFreeTimes, KnowsPostsAndArrivals, entry_known, times_known, paired_known}
+use Rattle.sim_state.specs.Represents.{AreFreeTimes, KnowsPostsAndArrivals, entry_known, entry_then, times_known, paired_known}
 use Rattle.sim_state.proofs.Entries.{posted, arrived, data_sent, message_taken, sender_exists, receiver_exists}
 use Rattle.sim_state.proofs.Fits.{cpu_fits, tx_fits, rx_fits, bytes_fit, sends, posts, arrives, serves}
 use Rattle.sim_state.proofs.FreeTimes.{free_same, free_send, free_serve}
@@ -41,7 +41,7 @@ module _ (plans : List Plan) (costs : CostModel) (h : List Timed) (a : Timed) (r
   -- a change of times and of when its bytes are delivered
   abbrev Known : Times → Option ℕ → Type 0
   Known t d =
-      map (with_times a.op t d (entry_known plans costs h)) (operations plans) ≡ map (entry_known plans costs (a ∷ h)) (operations plans)
+      map (with_times a.op t d (entry_known plans costs h)) (operations plans) ≡ map (entry_then plans costs h a) (operations plans)
 
   pub times_changed : (c : Change) (t : Times) (d : Option ℕ) → c ≡ record { times = t; partner = None; delivered = d } → Known t d → IsChange plans costs h a c
   times_changed c t d e known =
@@ -56,7 +56,7 @@ module _ (plans : List Plan) (costs : CostModel) (h : List Timed) (a : Timed) (r
     pub post_fresh : happened Post a.op m.actions ≡ false
     post_fresh = not_before plans costs h a m knows Post p is refl
 
-    pub post_changes : (t : Times) (partner : Option OpId) → t ≡ record before { start = Some a.time } → partner ≡ send_for m.plans m.actions a.op → IsChange plans costs h a (record { times = t; partner = partner; delivered = None })
+    pub post_changes : (t : Times) (partner : Option OpId) → t ≡ record before { start = Some a.time; awaited = None } → partner ≡ send_for m.plans m.actions a.op → IsChange plans costs h a (record { times = t; partner = partner; delivered = None })
     post_changes t partner e told =
         let taken : partner ≡ send_for plans (filter is_post_or_arrival (plain h)) a.op = told ∙ (λ i. send_for (knows.same_plans i) (knows.events i) a.op) in
         subst (λ (t : Times). IsChange plans costs h a (record { times = t; partner = partner; delivered = None })) (sym e) (record {
@@ -80,7 +80,7 @@ module _ (plans : List Plan) (costs : CostModel) (h : List Timed) (a : Timed) (r
     pub arrival_fresh : happened Arrive a.op m.actions ≡ false
     arrival_fresh = not_before plans costs h a m knows Arrive p is refl
 
-    pub arrival_changes : (t : Times) (partner : Option OpId) → t ≡ record before { arriving = None } → partner ≡ receive_for m.plans m.actions a.op → IsChange plans costs h a (record { times = t; partner = partner; delivered = None })
+    pub arrival_changes : (t : Times) (partner : Option OpId) → t ≡ record before { awaited = None } → partner ≡ receive_for m.plans m.actions a.op → IsChange plans costs h a (record { times = t; partner = partner; delivered = None })
     arrival_changes t partner e told =
         let taken : partner ≡ receive_for plans (filter is_post_or_arrival (plain h)) a.op = told ∙ (λ i. receive_for (knows.same_plans i) (knows.events i) a.op) in
         subst (λ (t : Times). IsChange plans costs h a (record { times = t; partner = partner; delivered = None })) (sym e) (record {

@@ -1,5 +1,5 @@
 -- The possible action of one operation, class by class.
-use Rattle.std.proofs.Common.{◌≡◌, ◌⊎◌, true, false, List, Option, Some, None, is_some, inl, inr, refl, sym, ap, ◌∙◌, subst}
+use Rattle.std.proofs.Common.{◌≡◌, ◌⊎◌, true, false, List, Option, Some, None, is_some, inl, inr, refl, sym, ◌∙◌, subst}
 use Rattle.std.specs.Option.{option_or}
 use Rattle.std.proofs.lemmas.Bool.{cond-true, cond-false, cases_Bool, both_ways, false_from_ne_true}
 use Rattle.goal_graph.specs.declared.action.OpId.{OpId}
@@ -8,13 +8,15 @@ use Rattle.goal_graph.specs.declared.action.Class.{Class}
 use Rattle.goal_graph.specs.declared.action.Class.TheVariants.{Arrive, Serve, Data, Post, Begin}
 use Rattle.goal_graph.specs.Schedule.{Plan, IsSend, IsReceive}
 use Rattle.goal_graph.specs.Action.{plain}
-use Rattle.goal_graph.specs.Allowed.{allowed}
+use Rattle.goal_graph.specs.Allowed.{has_started, allowed}
 use Rattle.goal_graph.specs.Laws.{IsCalc}
-use Rattle.goal_graph.proofs.ForCallers.{not_send_receive, not_receive_calc, not_send_calc, allowed_arrive, allowed_data, allowed_serve, allowed_post, allowed_begin}
+use Rattle.goal_graph.proofs.ForCallers.{not_send_receive, not_receive_calc, not_send_calc, allowed_arrive, allowed_data, allowed_serve, allowed_post, allowed_begin, allowed_fresh, started_send}
 use Rattle.sim_params.specs.Costs.{CostModel, is_eager}
 use Rattle.sim_params.specs.Laws.{at_its_time}
+use Rattle.sim_params.specs.Run.{IsRun}
 use Rattle.sim_params.proofs.ForCallers.{possible_at}
 use Rattle.sim_state.specs.Enabled.{enabled_action, IsEnabledActionOf}
+use Rattle.sim_state.proofs.Started.{arrive_started, data_started}
 
 -- the first of two that is there
 pub or_first : (a b : Option Timed) → is_some a ≡ true → a ≡ option_or a b
@@ -77,14 +79,23 @@ module _ (plans : List Plan) (costs : CostModel) (h : List Timed) (x : OpId) whe
   pub calc_choice : IsCalc plans x → (r : Option Timed) → r ≡ enabled_action plans costs h Begin x → IsEnabledAction r
   calc_choice k r e = subst IsEnabledAction (sym e) (enabled_of_class Begin (calc_class k))
 
-  or_assoc : (a b c : Option Timed) → option_or (option_or a b) c ≡ option_or a (option_or b c)
-  or_assoc None b c = refl
-  or_assoc (Some a) b c = refl
+  -- a send that has not started may only begin
+  only_begins : IsSend plans x → IsRun plans costs h → has_started plans x (plain h) ≡ false → (c : Class) → Can c → c ≡ Begin
+  only_begins k run f Begin e = refl
+  only_begins k run f Arrive e = absurd (both_ways _ f (arrive_started plans costs h x e))
+  only_begins k run f Data e = absurd (both_ways _ f (data_started plans costs h x run e))
+  only_begins k run f Post e = absurd (not_send_receive plans x k (allowed_post plans (is_eager plans costs) (plain h) x e).0)
+  only_begins k run f Serve e = absurd (not_send_receive plans x k (allowed_serve plans (is_eager plans costs) (plain h) x e).0)
 
-  pub send_choice : IsSend plans x → (a b d r s : Option Timed) → a ≡ enabled_action plans costs h Begin x → b ≡ enabled_action plans costs h Arrive x → d ≡ enabled_action plans costs h Data x → s ≡ option_or a b → r ≡ option_or s d → IsEnabledAction r
-  send_choice k a b d r s ae be de se re =
-      let enabled = first_of Begin (option_or (enabled_action plans costs h Arrive x) (enabled_action plans costs h Data x)) (λ nb. first_of Arrive (enabled_action plans costs h Data x) (λ na. enabled_of_class Data (send_class k nb na))) in
-      let parts : r ≡ option_or (enabled_action plans costs h Begin x) (option_or (enabled_action plans costs h Arrive x) (enabled_action plans costs h Data x)) = re ∙ ap (λ (o : Option Timed). option_or o d) se ∙ or_assoc a b d ∙ (λ i. option_or (ae i) (option_or (be i) (de i))) in
+  pub fresh_send_choice : IsSend plans x → IsRun plans costs h → has_started plans x (plain h) ≡ false → (r : Option Timed) → r ≡ enabled_action plans costs h Begin x → IsEnabledAction r
+  fresh_send_choice k run f r e = subst IsEnabledAction (sym e) (enabled_of_class Begin (only_begins k run f))
+
+  -- one that has started does not begin
+  pub begun_send_choice : IsSend plans x → has_started plans x (plain h) ≡ true → (a b r : Option Timed) → a ≡ enabled_action plans costs h Arrive x → b ≡ enabled_action plans costs h Data x → r ≡ option_or a b → IsEnabledAction r
+  begun_send_choice k s a b r ae be re =
+      let not_begin : Can Begin → ⊥ = λ e. both_ways _ (allowed_fresh plans (is_eager plans costs) (plain h) Begin x e) (sym (started_send plans (plain h) x k) ∙ s) in
+      let enabled = first_of Arrive (enabled_action plans costs h Data x) (λ na. enabled_of_class Data (send_class k not_begin na)) in
+      let parts : r ≡ option_or (enabled_action plans costs h Arrive x) (enabled_action plans costs h Data x) = re ∙ (λ i. option_or (ae i) (be i)) in
       subst IsEnabledAction (sym parts) enabled
 
   pub receive_choice : IsReceive plans x → (a b r : Option Timed) → a ≡ enabled_action plans costs h Post x → b ≡ enabled_action plans costs h Serve x → r ≡ option_or a b → IsEnabledAction r

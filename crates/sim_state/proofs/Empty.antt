@@ -1,19 +1,21 @@
 -- Before the first action.
-use Rattle.std.proofs.Common.{◌≡◌, ◌&&◌, not, if◌then◌else◌, List, [], Option, Some, None, refl, sym, ap, ◌∙◌}
+use Rattle.std.proofs.Common.{◌≡◌, ℕ, Bool, false, not, cond, if◌then◌else◌, max, count_by, length, List, [], ◌∷◌, Some, None, refl, sym, ap, ap₂, ◌∙◌, arith}
+use Rattle.std.proofs.lemmas.Bool.{cond-false}
 use Rattle.goal_graph.specs.declared.action.OpId.{OpId}
-use Rattle.goal_graph.specs.declared.action.Class.TheVariants.{Arrive}
-use Rattle.goal_graph.specs.declared.plan.Kind.{Kind}
-use Rattle.goal_graph.specs.declared.plan.Kind.TheVariants.{Calc, Send, Recv}
-use Rattle.goal_graph.specs.Schedule.{Plan, kind_at}
+use Rattle.goal_graph.specs.declared.plan.Need.{Need}
+use Rattle.goal_graph.specs.declared.plan.When.{When}
+use Rattle.goal_graph.specs.declared.plan.When.TheVariants.{AfterEnd, AfterStart}
+use Rattle.goal_graph.specs.Schedule.{Plan, needs, needed}
 use Rattle.goal_graph.specs.Action.{happened, plain}
 use Rattle.goal_graph.specs.Matching.{pairs, partner}
-use Rattle.goal_graph.specs.Allowed.{may, allowed}
+use Rattle.goal_graph.specs.Allowed.{is_met}
+use Rattle.goal_graph.proofs.ForCallers.{count-cons}
 use Rattle.sim_params.specs.Costs.{CostModel, is_eager}
-use Rattle.sim_params.specs.Times.{cpu, tx, rx, time}
+use Rattle.sim_params.specs.Times.{cpu, tx, rx, greatest, met_at}
 use Rattle.sim_match.specs.PostsAndArrivals.{PostsAndArrivals}
 use Rattle.sim_resources.specs.FreeTimes.{Holds, free_at, cpu_free, tx_free, rx_free, unheld, SameFreeTimes}
 use Rattle.sim_state.specs.Engine.{start_known, end_known}
-use Rattle.sim_state.specs.Enabled.{time_known}
+use Rattle.sim_state.specs.Awaited.{is_there, unmet, awaited_known}
 use Rattle.sim_state.specs.Tasks.{work_of}
 use Rattle.sim_state.specs.Tables.{fresh_entry}
 use Rattle.sim_state.specs.Represents.{paired_known, delivered_known, entry_known, AreFreeTimes, KnowsPostsAndArrivals}
@@ -28,15 +30,33 @@ module _ (plans : List Plan) (costs : CostModel) where
     unfolding plain happened
     no_end = refl
 
-    no_arrival : time_known plans costs [] Arrive x ≡ None
-    unfolding plain happened allowed
-    no_arrival = go (kind_at plans x)
-      where
-        go : (k : Option Kind) → (if not (happened Arrive x []) && may plans (is_eager plans costs) [] Arrive x k then Some (time plans costs [] Arrive x) else None) ≡ None
-        go (Some (Calc nanos)) = refl
-        go (Some (Send bytes to tag)) = refl
-        go (Some (Recv room from tag)) = refl
-        go None = refl
+    -- no moment is there
+    none_met : (w : When) (y : OpId) → is_met plans (is_eager plans costs) (plain []) w y ≡ false
+    unfolding plain happened
+    none_met AfterEnd y = refl
+    none_met AfterStart y = refl
+
+    none_there : (d : Need) → is_there plans costs [] x d ≡ false
+    none_there d = none_met d.when (needed x d)
+
+    none_last : (ds : List Need) → greatest (λ (d : Need). if is_there plans costs [] x d then met_at plans costs [] d.when (needed x d) else 0) ds ≡ 0
+    unfolding greatest
+    none_last [] = refl
+    none_last (d ∷ ds) = ap₂ max (cond-false _ _ _ (none_there d)) (none_last ds)
+
+    none_given : awaited_known plans costs [] x ≡ Some 0
+    unfolding plain happened
+    none_given = ap Some (none_last (needs plans x))
+
+    all_of : (ds : List Need) → length ds ≡ count_by (λ (d : Need). not (is_there plans costs [] x d)) ds
+    all_of [] = refl
+    all_of (d ∷ ds) =
+        let here = ap {B = ℕ} (λ (b : Bool). cond (not b) 1 0) (none_there d) in
+        let rest = all_of ds in
+        omega (arith, here, rest, count-cons (λ (d : Need). not (is_there plans costs [] x d)) d ds)
+
+    pub all_unmet : length (needs plans x) ≡ unmet plans costs [] x
+    all_unmet = all_of (needs plans x)
 
     no_partner : paired_known plans costs [] x ≡ None
     unfolding plain pairs partner
@@ -49,7 +69,7 @@ module _ (plans : List Plan) (costs : CostModel) where
     -- nothing is known of any operation but what it does
     pub nothing_known : fresh_entry (work_of plans costs x) ≡ entry_known plans costs [] x
     nothing_known =
-        sym (λ i. record { work = work_of plans costs x; times = record { start = no_start i; end = no_end i; arriving = no_arrival i }; paired = no_partner i; delivered = no_bytes i })
+        sym (λ i. record { work = work_of plans costs x; times = record { start = no_start i; end = no_end i; awaited = none_given i }; paired = no_partner i; delivered = no_bytes i })
 
     cpu_first : cpu_free (unheld plans) x ≡ cpu plans costs [] x
     unfolding free_at cpu

@@ -6,7 +6,7 @@ use Rattle.std.proofs.lemmas.Option.{same_Some}
 use Rattle.goal_graph.specs.declared.action.OpId.{OpId}
 use Rattle.goal_graph.specs.declared.action.Timed.{Timed}
 use Rattle.goal_graph.specs.declared.action.Class.{Class}
-use Rattle.goal_graph.specs.declared.action.Class.TheVariants.{Serve, Data, Post, Begin}
+use Rattle.goal_graph.specs.declared.action.Class.TheVariants.{Arrive, Serve, Data, Post, Begin}
 use Rattle.goal_graph.specs.declared.plan.Kind.TheVariants.{Send}
 use Rattle.goal_graph.specs.Schedule.{Plan, kind_at, IsSend, IsReceive}
 use Rattle.goal_graph.specs.Action.{happened, plain}
@@ -23,7 +23,7 @@ use Rattle.sim_params.proofs.ForCallers.{possible_budget, possible_at, run_each}
 use Rattle.sim_state.specs.declared.entry.Entry.{Entry}
 use Rattle.sim_state.specs.declared.pairing.Pairing.{Pairing}
 use Rattle.sim_state.specs.Represents.{message_known, entry_known}
-use Rattle.sim_state.specs.Enabled.{ready_known, enabled_action}
+use Rattle.sim_state.specs.Enabled.{ready_known, time_known, enabled_action}
 
 -- a number that is known, or not
 pub known_some : (b : Bool) (n m : ℕ) → (if b then Some n else None) ≡ Some m → (b ≡ true) × (n ≡ m)
@@ -78,23 +78,30 @@ module _ (plans : List Plan) (costs : CostModel) (h : List Timed) (x : OpId) whe
     once_ready = ap (may plans (is_eager plans costs) (plain h) Post x) k.kind;
   }
 
-  first_happened : (c : Class) → BeginsBy c → (e : Entry) → e ≡ entry_known plans costs h x → happened c x (plain h) ≡ is_some e.times.start
-  first_happened c b e told =
-      ap (λ (d : Class). happened d x (plain h)) (sym b.first) ∙ sym (is_known (has_started plans x (plain h)) _) ∙ sym (ap (λ (e : Entry). is_some e.times.start) told)
+  first_happened : (c : Class) → BeginsBy c → happened c x (plain h) ≡ has_started plans x (plain h)
+  first_happened c b = ap (λ (d : Class). happened d x (plain h)) (sym b.first)
+
+  -- whether it has started, as its entry tells it
+  pub start_told : (e : Entry) → e ≡ entry_known plans costs h x → is_some e.times.start ≡ has_started plans x (plain h)
+  start_told e told = ap (λ (e : Entry). is_some e.times.start) told ∙ is_known (has_started plans x (plain h)) _
+
+  -- when its message or its request arrives, once it has started
+  pub arrival_told : (e : Entry) → e ≡ entry_known plans costs h x → has_started plans x (plain h) ≡ true → e.times.awaited ≡ time_known plans costs h Arrive x
+  arrival_told e told s = ap (λ (e : Entry). e.times.awaited) told ∙ cond-true _ _ _ s
 
   -- nothing more of that class once it has started, nor while something that it needs is not there
-  pub begun_not_enabled : (c : Class) → BeginsBy c → (e : Entry) → e ≡ entry_known plans costs h x → is_some e.times.start ≡ true → None ≡ enabled_action plans costs h c x
-  begun_not_enabled c b e told s = past_not_enabled c (first_happened c b e told ∙ s)
+  pub begun_not_enabled : (c : Class) → BeginsBy c → has_started plans x (plain h) ≡ true → None ≡ enabled_action plans costs h c x
+  begun_not_enabled c b s = past_not_enabled c (first_happened c b ∙ s)
 
   pub unready_not_enabled : (c : Class) → BeginsBy c → (r : Option ℕ) → r ≡ ready_known plans costs h x → r ≡ None → None ≡ enabled_action plans costs h c x
   unready_not_enabled c b r told n =
       barred_not_enabled c (b.once_ready ∙ sym (is_known (is_ready plans (is_eager plans costs) (plain h) x) _) ∙ ap is_some (sym told ∙ n))
 
   -- else its action is enabled
-  pub ready_enabled : (c : Class) → BeginsBy c → (e : Entry) → e ≡ entry_known plans costs h x → is_some e.times.start ≡ false → (r : Option ℕ) (n t : ℕ) → r ≡ ready_known plans costs h x → r ≡ Some n → (ready plans costs h x ≡ n → t ≡ time plans costs h c x) → Some (record { time = t; class = c; op = x }) ≡ enabled_action plans costs h c x
-  ready_enabled c b e told s r n t r_known r_is at =
+  pub ready_enabled : (c : Class) → BeginsBy c → has_started plans x (plain h) ≡ false → (r : Option ℕ) (n t : ℕ) → r ≡ ready_known plans costs h x → r ≡ Some n → (ready plans costs h x ≡ n → t ≡ time plans costs h c x) → Some (record { time = t; class = c; op = x }) ≡ enabled_action plans costs h c x
+  ready_enabled c b s r n t r_known r_is at =
       let q = known_some (is_ready plans (is_eager plans costs) (plain h) x) (ready plans costs h x) n (sym r_known ∙ r_is) in
-      comes_enabled c t (first_happened c b e told ∙ s) (b.once_ready ∙ q.0) (at q.1)
+      comes_enabled c t (first_happened c b ∙ s) (b.once_ready ∙ q.0) (at q.1)
 
   -- the times of each class
   pub calc_time : IsCalc plans x → time plans costs h Begin x ≡ max (ready plans costs h x) (cpu plans costs h x)

@@ -8,7 +8,7 @@ use Rattle.goal_graph.specs.declared.action.Class.TheVariants.{Arrive, Serve, Da
 use Rattle.goal_graph.specs.Schedule.{Plan, kind_at, operations, IsSend, IsReceive}
 use Rattle.goal_graph.specs.Fault.{IsOp}
 use Rattle.goal_graph.specs.Action.{place, same_op, is_act, plain, plain_act}
-use Rattle.goal_graph.specs.Allowed.{first_class, last_class}
+use Rattle.goal_graph.specs.Allowed.{first_class, last_class, has_started, allowed}
 use Rattle.goal_graph.specs.Laws.{IsCalc}
 use Rattle.goal_graph.proofs.ForCallers.{cases_op, is_act_class, same_op_true, not_send_receive, first_of_calc, first_of_send, first_of_receive, last_of_calc, last_of_eager, last_of_large, last_of_receive, same_tables, at_entry, off_entry, entry_written, same_op_swapped, send_is_op, receive_is_op}
 use Rattle.sim_params.specs.Costs.{CostModel, flight, flight_one, is_eager}
@@ -21,13 +21,15 @@ use Rattle.sim_state.specs.Engine.{start_known, end_known}
 use Rattle.sim_state.specs.Enabled.{time_known}
 use Rattle.sim_state.specs.Tasks.{work_of}
 use Rattle.sim_state.specs.Tables.{with_entry, with_pairing, with_partner}
-use Rattle.sim_state.specs.Represents.{entry_known, paired_known, delivered_known}
-use Rattle.sim_state.proofs.After.{other_op, other_class, start_same, start_new, end_same, end_new, arriving_same, arriving_calc, arriving_begun, arriving_arrived, there_same, there_new, paired_same, paired_new}
+use Rattle.sim_state.specs.Represents.{times_known, entry_known, entry_then, paired_known, delivered_known}
+use Rattle.sim_state.specs.Awaited.{awaited_known}
+use Rattle.sim_state.proofs.After.{other_op, other_class, start_same, start_new, end_same, end_new, arriving_same, arriving_calc, arriving_receive, arriving_begun, arriving_arrived, awaited_started, started_this, started_still, there_same, there_new, paired_same, paired_new}
+use Rattle.sim_state.proofs.Started.{arrive_started, data_started, serve_started}
 use Rattle.sim_state.proofs.Pairings.{none_made, other_makes_none, post_none, post_some, arrive_none, arrive_some}
 
-same_entry : (d e : Entry) → d.work ≡ e.work → d.times.start ≡ e.times.start → d.times.end ≡ e.times.end → d.times.arriving ≡ e.times.arriving → d.paired ≡ e.paired → d.delivered ≡ e.delivered → d ≡ e
+same_entry : (d e : Entry) → d.work ≡ e.work → d.times.start ≡ e.times.start → d.times.end ≡ e.times.end → d.times.awaited ≡ e.times.awaited → d.paired ≡ e.paired → d.delivered ≡ e.delivered → d ≡ e
 same_entry d e w s n a p t =
-    λ i. record { work = w i; times = record { start = s i; end = n i; arriving = a i }; paired = p i; delivered = t i }
+    λ i. record { work = w i; times = record { start = s i; end = n i; awaited = a i }; paired = p i; delivered = t i }
 
 -- an entry is written, and two entries get their partners
 pair_written : (y m : OpId) (at : ℕ) (e : Entry) (f g : OpId → Entry) → same_op y m ≡ false → g y ≡ record e { paired = Some (record { with = m; at = at }) } → g m ≡ record (f m) { paired = Some (record { with = y; at = at }) } → ((x : OpId) → same_op y x ≡ false → same_op m x ≡ false → g x ≡ f x) → (x : OpId) → with_pairing m y at (with_pairing y m at (with_entry y e f)) x ≡ g x
@@ -54,10 +56,23 @@ module _ (plans : List Plan) (costs : CostModel) (h : List Timed) (a : Timed) (r
   abbrev after : OpId → Entry
   after = entry_known plans costs (a ∷ h)
 
+  -- what is written at the action's operation and at the others
+  abbrev pub next : OpId → Entry
+  next = entry_then plans costs h a
+
+  abbrev waiting : OpId → Entry
+  waiting x = record (entry_known plans costs (a ∷ h) x) { times = record (times_known plans costs (a ∷ h) x) { awaited = awaited_known plans costs h x } }
+
+  pub own_next : next a.op ≡ after a.op
+  own_next = at_entry a.op (after a.op) waiting a.op refl
+
+  other_next : (x : OpId) → same_op a.op x ≡ false → next x ≡ waiting x
+  other_next x d = off_entry a.op (after a.op) waiting x (same_op_swapped a.op x d)
+
   -- an operation that has the partner that it had, and that another action was of
-  other_same : (x : OpId) → mate plans costs (a ∷ h) x ≡ mate plans costs h x → same_op a.op x ≡ false → after x ≡ before x
+  other_same : (x : OpId) → mate plans costs (a ∷ h) x ≡ mate plans costs h x → same_op a.op x ≡ false → next x ≡ before x
   other_same x m d =
-      same_entry _ _ refl (start_same plans costs h a x (other_op plans costs h a (first_class (kind_at plans x)) x d)) (end_same plans costs h a run x (other_op plans costs h a (last_class (is_eager plans costs x) (kind_at plans x)) x d)) (arriving_same plans costs h a x (other_op plans costs h a Arrive x d) (other_op plans costs h a Begin x d)) (paired_same plans costs h a x m) (there_same plans costs h a x (other_op plans costs h a Data x d))
+      other_next x d ∙ same_entry _ _ refl (start_same plans costs h a x (other_op plans costs h a (first_class (kind_at plans x)) x d)) (end_same plans costs h a run x (other_op plans costs h a (last_class (is_eager plans costs x) (kind_at plans x)) x d)) refl (paired_same plans costs h a x m) (there_same plans costs h a x (other_op plans costs h a Data x d))
 
   -- the newest action is of another class
   another : (c d : Class) (x : OpId) → a.class ≡ c → (c ≡ d → ⊥) → is_act d x (plain_act a) ≡ false
@@ -79,9 +94,18 @@ module _ (plans : List Plan) (costs : CostModel) (h : List Timed) (a : Timed) (r
     end_was c same other =
         end_same plans costs h a run a.op (another c (last_class (is_eager plans costs a.op) (kind_at plans a.op)) a.op same other) ∙ ap (λ (d : Entry). d.times.end) (sym was)
 
-    arriving_was : (c : Class) → a.class ≡ c → (place c == 0) ≡ false → (place c == 4) ≡ false → time_known plans costs (a ∷ h) Arrive a.op ≡ e.times.arriving
-    arriving_was c same f g =
-        arriving_same plans costs h a a.op (not_class c Arrive a.op same f) (not_class c Begin a.op same g) ∙ ap (λ (d : Entry). d.times.arriving) (sym was)
+    allowed_as : (c : Class) → a.class ≡ c → allowed plans (is_eager plans costs) (plain h) c a.op ≡ true
+    allowed_as c same =
+        subst (λ (d : Class). allowed plans (is_eager plans costs) (plain h) d a.op ≡ true) same possible.allowed
+
+    awaited_was : (c : Class) → a.class ≡ c → (place c == 0) ≡ false → (place c == 4) ≡ false → has_started plans a.op (plain h) ≡ true → awaited_known plans costs (a ∷ h) a.op ≡ e.times.awaited
+    awaited_was c same f g s =
+        awaited_started plans costs h a (a ∷ h) a.op (started_still plans costs h a a.op s) ∙ arriving_same plans costs h a a.op (not_class c Arrive a.op same f) (not_class c Begin a.op same g) ∙ sym (awaited_started plans costs h a h a.op s) ∙ ap (λ (d : Entry). d.times.awaited) (sym was)
+
+    -- what its first action makes it await: when it arrives, or nothing
+    awaited_now : (c : Class) → a.class ≡ c → c ≡ first_class (kind_at plans a.op) → awaited_known plans costs (a ∷ h) a.op ≡ time_known plans costs (a ∷ h) Arrive a.op
+    awaited_now c same first =
+        awaited_started plans costs h a (a ∷ h) a.op (started_this plans costs h a (same ∙ first))
 
     paired_was : mate plans costs (a ∷ h) a.op ≡ mate plans costs h a.op → paired_known plans costs (a ∷ h) a.op ≡ e.paired
     paired_was m = paired_same plans costs h a a.op m ∙ ap (λ (d : Entry). d.paired) (sym was)
@@ -92,11 +116,11 @@ module _ (plans : List Plan) (costs : CostModel) (h : List Timed) (a : Timed) (r
 
     -- the table after an action that pairs no one
     abbrev Becomes : Entry → Type 0
-    Becomes n = map (with_entry a.op n before) (operations plans) ≡ map after (operations plans)
+    Becomes n = map (with_entry a.op n before) (operations plans) ≡ map next (operations plans)
 
     one_written : (n : Entry) → ((x : OpId) → mate plans costs (a ∷ h) x ≡ mate plans costs h x) → after a.op ≡ n → Becomes n
     one_written n mates now =
-        same_tables _ _ (operations plans) (λ i x s. entry_written a.op n before after now (λ x d. other_same x (mates x) d) x)
+        same_tables _ _ (operations plans) (λ i x s. entry_written a.op n before next (own_next ∙ now) (λ x d. other_same x (mates x) d) x)
 
     unpaired : (c : Class) → a.class ≡ c → is_post_or_arrival_class c ≡ false → (x : OpId) → mate plans costs (a ∷ h) x ≡ mate plans costs h x
     unpaired c same f = none_made plans costs h a (other_makes_none plans costs h a (ap is_post_or_arrival_class same ∙ f))
@@ -106,22 +130,22 @@ module _ (plans : List Plan) (costs : CostModel) (h : List Timed) (a : Timed) (r
       end_now last = end_new plans costs h a possible last ∙ ap Some (sym ends)
 
       -- a calc begins
-      pub calc_begun : a.class ≡ Begin → IsCalc plans a.op → Becomes (record e { times = record e.times { start = Some a.time; end = Some until } })
+      pub calc_begun : a.class ≡ Begin → IsCalc plans a.op → Becomes (record e { times = record e.times { start = Some a.time; end = Some until; awaited = None } })
       calc_begun c k =
           let mates = unpaired Begin c refl in
-          one_written _ mates (same_entry _ _ work_was (start_new plans costs h a possible (c ∙ sym (first_of_calc plans a.op k))) (end_now (c ∙ sym (last_of_calc plans (is_eager plans costs) a.op k))) (arriving_calc plans costs h a a.op k ∙ ap (λ (d : Entry). d.times.arriving) (sym was)) (paired_was (mates a.op)) (there_was Begin c refl))
+          one_written _ mates (same_entry _ _ work_was (start_new plans costs h a possible (c ∙ sym (first_of_calc plans a.op k))) (end_now (c ∙ sym (last_of_calc plans (is_eager plans costs) a.op k))) (awaited_now Begin c (sym (first_of_calc plans a.op k)) ∙ arriving_calc plans costs h a (a ∷ h) a.op k) (paired_was (mates a.op)) (there_was Begin c refl))
 
       -- an eager send begins
-      pub eager_begun : (arrive : ℕ) → a.class ≡ Begin → IsSend plans a.op → is_eager plans costs a.op ≡ true → arrive ≡ a.time + flight plans costs a.op → Becomes (record e { times = record e.times { start = Some a.time; end = Some until; arriving = Some arrive } })
+      pub eager_begun : (arrive : ℕ) → a.class ≡ Begin → IsSend plans a.op → is_eager plans costs a.op ≡ true → arrive ≡ a.time + flight plans costs a.op → Becomes (record e { times = record e.times { start = Some a.time; end = Some until; awaited = Some arrive } })
       eager_begun arrive c k eager at =
           let mates = unpaired Begin c refl in
-          one_written _ mates (same_entry _ _ work_was (start_new plans costs h a possible (c ∙ sym (first_of_send plans a.op k))) (end_now (c ∙ sym (last_of_eager plans (is_eager plans costs) a.op k eager))) (arriving_begun plans costs h a run possible c k ∙ ap (λ (b : Bool). Some (a.time + (if b then flight plans costs a.op else flight_one plans costs a.op))) eager ∙ ap Some (sym at)) (paired_was (mates a.op)) (there_was Begin c refl))
+          one_written _ mates (same_entry _ _ work_was (start_new plans costs h a possible (c ∙ sym (first_of_send plans a.op k))) (end_now (c ∙ sym (last_of_eager plans (is_eager plans costs) a.op k eager))) (awaited_now Begin c (sym (first_of_send plans a.op k)) ∙ arriving_begun plans costs h a run possible c k ∙ ap (λ (b : Bool). Some (a.time + (if b then flight plans costs a.op else flight_one plans costs a.op))) eager ∙ ap Some (sym at)) (paired_was (mates a.op)) (there_was Begin c refl))
 
       -- a large send hands over its bytes
       pub data_sent : (there : ℕ) → a.class ≡ Data → IsSend plans a.op → is_eager plans costs a.op ≡ false → there ≡ a.time + flight plans costs a.op → Becomes (record e { times = record e.times { end = Some until }; delivered = Some there })
       data_sent there c k large at =
           let mates = unpaired Data c refl in
-          one_written _ mates (same_entry _ _ work_was (start_was Data c (λ f. let g = f ∙ first_of_send plans a.op k in differ g)) (end_now (c ∙ sym (last_of_large plans (is_eager plans costs) a.op k large))) (arriving_was Data c refl refl) (paired_was (mates a.op)) (there_new plans costs h a possible c ∙ ap Some (sym at)))
+          one_written _ mates (same_entry _ _ work_was (start_was Data c (λ f. let g = f ∙ first_of_send plans a.op k in differ g)) (end_now (c ∙ sym (last_of_large plans (is_eager plans costs) a.op k large))) (awaited_was Data c refl refl (data_started plans costs h a.op run (allowed_as Data c))) (paired_was (mates a.op)) (there_new plans costs h a possible c ∙ ap Some (sym at)))
         where
           differ : Data ≡ Begin → ⊥
           differ f = cc
@@ -130,32 +154,32 @@ module _ (plans : List Plan) (costs : CostModel) (h : List Timed) (a : Timed) (r
       pub message_taken : a.class ≡ Serve → IsReceive plans a.op → Becomes (record e { times = record e.times { end = Some until } })
       message_taken c k =
           let mates = unpaired Serve c refl in
-          one_written _ mates (same_entry _ _ work_was (start_was Serve c (λ f. differ (f ∙ first_of_receive plans a.op k))) (end_now (c ∙ sym (last_of_receive plans (is_eager plans costs) a.op k))) (arriving_was Serve c refl refl) (paired_was (mates a.op)) (there_was Serve c refl))
+          one_written _ mates (same_entry _ _ work_was (start_was Serve c (λ f. differ (f ∙ first_of_receive plans a.op k))) (end_now (c ∙ sym (last_of_receive plans (is_eager plans costs) a.op k))) (awaited_was Serve c refl refl (serve_started plans costs h a.op (allowed_as Serve c))) (paired_was (mates a.op)) (there_was Serve c refl))
         where
           differ : Serve ≡ Post → ⊥
           differ f = cc
 
     -- a large send begins
-    pub request_begun : (arrive : ℕ) → a.class ≡ Begin → IsSend plans a.op → is_eager plans costs a.op ≡ false → arrive ≡ a.time + flight_one plans costs a.op → Becomes (record e { times = record e.times { start = Some a.time; arriving = Some arrive } })
+    pub request_begun : (arrive : ℕ) → a.class ≡ Begin → IsSend plans a.op → is_eager plans costs a.op ≡ false → arrive ≡ a.time + flight_one plans costs a.op → Becomes (record e { times = record e.times { start = Some a.time; awaited = Some arrive } })
     request_begun arrive c k large at =
         let mates = unpaired Begin c refl in
-        one_written _ mates (same_entry _ _ work_was (start_new plans costs h a possible (c ∙ sym (first_of_send plans a.op k))) (end_was Begin c (λ f. differ (f ∙ last_of_large plans (is_eager plans costs) a.op k large))) (arriving_begun plans costs h a run possible c k ∙ ap (λ (b : Bool). Some (a.time + (if b then flight plans costs a.op else flight_one plans costs a.op))) large ∙ ap Some (sym at)) (paired_was (mates a.op)) (there_was Begin c refl))
+        one_written _ mates (same_entry _ _ work_was (start_new plans costs h a possible (c ∙ sym (first_of_send plans a.op k))) (end_was Begin c (λ f. differ (f ∙ last_of_large plans (is_eager plans costs) a.op k large))) (awaited_now Begin c (sym (first_of_send plans a.op k)) ∙ arriving_begun plans costs h a run possible c k ∙ ap (λ (b : Bool). Some (a.time + (if b then flight plans costs a.op else flight_one plans costs a.op))) large ∙ ap Some (sym at)) (paired_was (mates a.op)) (there_was Begin c refl))
       where
         differ : Begin ≡ Data → ⊥
         differ f = cc
 
     -- a receive is posted: what is known of it but its partner
-    posted_entry : (p : Option Pairing) → a.class ≡ Post → IsReceive plans a.op → paired_known plans costs (a ∷ h) a.op ≡ p → after a.op ≡ record e { times = record e.times { start = Some a.time }; paired = p }
+    posted_entry : (p : Option Pairing) → a.class ≡ Post → IsReceive plans a.op → paired_known plans costs (a ∷ h) a.op ≡ p → after a.op ≡ record e { times = record e.times { start = Some a.time; awaited = None }; paired = p }
     posted_entry p c k pair =
-        same_entry _ _ work_was (start_new plans costs h a possible (c ∙ sym (first_of_receive plans a.op k))) (end_was Post c (λ f. differ (f ∙ last_of_receive plans (is_eager plans costs) a.op k))) (arriving_was Post c refl refl) pair (there_was Post c refl)
+        same_entry _ _ work_was (start_new plans costs h a possible (c ∙ sym (first_of_receive plans a.op k))) (end_was Post c (λ f. differ (f ∙ last_of_receive plans (is_eager plans costs) a.op k))) (awaited_now Post c (sym (first_of_receive plans a.op k)) ∙ arriving_receive plans costs h a (a ∷ h) a.op k) pair (there_was Post c refl)
       where
         differ : Post ≡ Serve → ⊥
         differ f = cc
 
     -- a message or a request arrives: what is known of its send but its partner
-    arrived_entry : (p : Option Pairing) → a.class ≡ Arrive → IsSend plans a.op → paired_known plans costs (a ∷ h) a.op ≡ p → after a.op ≡ record e { times = record e.times { arriving = None }; paired = p }
+    arrived_entry : (p : Option Pairing) → a.class ≡ Arrive → IsSend plans a.op → paired_known plans costs (a ∷ h) a.op ≡ p → after a.op ≡ record e { times = record e.times { awaited = None }; paired = p }
     arrived_entry p c k pair =
-        same_entry _ _ work_was (start_was Arrive c (λ f. differ (f ∙ first_of_send plans a.op k))) (end_was Arrive c last) (arriving_arrived plans costs h a c) pair (there_was Arrive c refl)
+        same_entry _ _ work_was (start_was Arrive c (λ f. differ (f ∙ first_of_send plans a.op k))) (end_was Arrive c last) (awaited_started plans costs h a (a ∷ h) a.op (started_still plans costs h a a.op (arrive_started plans costs h a.op (allowed_as Arrive c))) ∙ arriving_arrived plans costs h a c) pair (there_was Arrive c refl)
       where
         differ : Arrive ≡ Begin → ⊥
         differ f = cc
@@ -168,48 +192,48 @@ module _ (plans : List Plan) (costs : CostModel) (h : List Timed) (a : Timed) (r
             elim (cases_Bool (is_eager plans costs a.op)) [ inl t ↦ differ (f ∙ last_of_eager plans (is_eager plans costs) a.op k t) | inr t ↦ differ_too (f ∙ last_of_large plans (is_eager plans costs) a.op k t) ]
 
     -- where no one is paired
-    posted_alone : a.class ≡ Post → IsReceive plans a.op → send_for plans (filter is_post_or_arrival (plain h)) a.op ≡ None → Becomes (record e { times = record e.times { start = Some a.time } })
+    posted_alone : a.class ≡ Post → IsReceive plans a.op → send_for plans (filter is_post_or_arrival (plain h)) a.op ≡ None → Becomes (record e { times = record e.times { start = Some a.time; awaited = None } })
     posted_alone c k none =
         let mates = post_none plans costs h a run possible c none in
         one_written _ mates (posted_entry e.paired c k (paired_was (mates a.op)))
 
-    arrived_alone : a.class ≡ Arrive → IsSend plans a.op → receive_for plans (filter is_post_or_arrival (plain h)) a.op ≡ None → Becomes (record e { times = record e.times { arriving = None } })
+    arrived_alone : a.class ≡ Arrive → IsSend plans a.op → receive_for plans (filter is_post_or_arrival (plain h)) a.op ≡ None → Becomes (record e { times = record e.times { awaited = None } })
     arrived_alone c k none =
         let mates = arrive_none plans costs h a run possible c none in
         one_written _ mates (arrived_entry e.paired c k (paired_was (mates a.op)))
 
     -- the operation that is paired with that of the action
     abbrev BecomePaired : OpId → Entry → Type 0
-    BecomePaired m n = map (with_pairing m a.op a.time (with_pairing a.op m a.time (with_entry a.op n before))) (operations plans) ≡ map after (operations plans)
+    BecomePaired m n = map (with_pairing m a.op a.time (with_pairing a.op m a.time (with_entry a.op n before))) (operations plans) ≡ map next (operations plans)
 
-    partner_entry : (m : OpId) → same_op a.op m ≡ false → mate plans costs h m ≡ None → mate plans costs (a ∷ h) m ≡ Some a.op → after m ≡ record (before m) { paired = Some (record { with = a.op; at = a.time }) }
+    partner_entry : (m : OpId) → same_op a.op m ≡ false → mate plans costs h m ≡ None → mate plans costs (a ∷ h) m ≡ Some a.op → next m ≡ record (before m) { paired = Some (record { with = a.op; at = a.time }) }
     partner_entry m d free taken =
-        same_entry _ _ refl (start_same plans costs h a m (other_op plans costs h a (first_class (kind_at plans m)) m d)) (end_same plans costs h a run m (other_op plans costs h a (last_class (is_eager plans costs m) (kind_at plans m)) m d)) (arriving_same plans costs h a m (other_op plans costs h a Arrive m d) (other_op plans costs h a Begin m d)) (paired_new plans costs h a m a.op free taken) (there_same plans costs h a m (other_op plans costs h a Data m d))
+        other_next m d ∙ same_entry _ _ refl (start_same plans costs h a m (other_op plans costs h a (first_class (kind_at plans m)) m d)) (end_same plans costs h a run m (other_op plans costs h a (last_class (is_eager plans costs m) (kind_at plans m)) m d)) refl (paired_new plans costs h a m a.op free taken) (there_same plans costs h a m (other_op plans costs h a Data m d))
 
     apart : (m x : OpId) → IsSend plans m → IsReceive plans x → same_op m x ≡ false
     apart m x s r =
         false_from_ne_true _ (λ t. not_send_receive plans x (subst (λ (y : OpId). IsSend plans y) (same_op_true m x t) s) r)
 
-    posted_pair : (m : OpId) → a.class ≡ Post → send_for plans (filter is_post_or_arrival (plain h)) a.op ≡ Some m → BecomePaired m (record e { times = record e.times { start = Some a.time } })
+    posted_pair : (m : OpId) → a.class ≡ Post → send_for plans (filter is_post_or_arrival (plain h)) a.op ≡ Some m → BecomePaired m (record e { times = record e.times { start = Some a.time; awaited = None } })
     posted_pair m c some =
         let p = post_some plans costs h a run possible c m some in
         let differ = same_op_swapped m a.op (apart m a.op p.send p.receive) in
-        let here = posted_entry (Some (record { with = m; at = a.time })) c p.receive (paired_new plans costs h a a.op m p.free_receive p.receive_taken) in
-        same_tables _ _ (operations plans) (λ i x s. pair_written a.op m a.time _ before after differ here (partner_entry m differ p.free_send p.send_taken) (λ x d f. other_same x (p.others x f d) d) x)
+        let here = own_next ∙ posted_entry (Some (record { with = m; at = a.time })) c p.receive (paired_new plans costs h a a.op m p.free_receive p.receive_taken) in
+        same_tables _ _ (operations plans) (λ i x s. pair_written a.op m a.time _ before next differ here (partner_entry m differ p.free_send p.send_taken) (λ x d f. other_same x (p.others x f d) d) x)
 
-    arrived_pair : (x : OpId) → a.class ≡ Arrive → receive_for plans (filter is_post_or_arrival (plain h)) a.op ≡ Some x → BecomePaired x (record e { times = record e.times { arriving = None } })
+    arrived_pair : (x : OpId) → a.class ≡ Arrive → receive_for plans (filter is_post_or_arrival (plain h)) a.op ≡ Some x → BecomePaired x (record e { times = record e.times { awaited = None } })
     arrived_pair x c some =
         let p = arrive_some plans costs h a run possible c x some in
         let differ = apart a.op x p.send p.receive in
-        let here = arrived_entry (Some (record { with = x; at = a.time })) c p.send (paired_new plans costs h a a.op x p.free_send p.send_taken) in
-        same_tables _ _ (operations plans) (λ i y s. pair_written a.op x a.time _ before after differ here (partner_entry x differ p.free_receive p.receive_taken) (λ y d f. other_same y (p.others y d f) d) y)
+        let here = own_next ∙ arrived_entry (Some (record { with = x; at = a.time })) c p.send (paired_new plans costs h a a.op x p.free_send p.send_taken) in
+        same_tables _ _ (operations plans) (λ i y s. pair_written a.op x a.time _ before next differ here (partner_entry x differ p.free_receive p.receive_taken) (λ y d f. other_same y (p.others y d f) d) y)
 
     -- whether someone is paired or not
-    pub posted : (partner : Option OpId) → a.class ≡ Post → IsReceive plans a.op → partner ≡ send_for plans (filter is_post_or_arrival (plain h)) a.op → map (with_partner a.op partner a.time (with_entry a.op (record e { times = record e.times { start = Some a.time } }) before)) (operations plans) ≡ map after (operations plans)
+    pub posted : (partner : Option OpId) → a.class ≡ Post → IsReceive plans a.op → partner ≡ send_for plans (filter is_post_or_arrival (plain h)) a.op → map (with_partner a.op partner a.time (with_entry a.op (record e { times = record e.times { start = Some a.time; awaited = None } }) before)) (operations plans) ≡ map next (operations plans)
     posted None c k is = posted_alone c k (sym is)
     posted (Some m) c k is = posted_pair m c (sym is)
 
-    pub arrived : (partner : Option OpId) → a.class ≡ Arrive → IsSend plans a.op → partner ≡ receive_for plans (filter is_post_or_arrival (plain h)) a.op → map (with_partner a.op partner a.time (with_entry a.op (record e { times = record e.times { arriving = None } }) before)) (operations plans) ≡ map after (operations plans)
+    pub arrived : (partner : Option OpId) → a.class ≡ Arrive → IsSend plans a.op → partner ≡ receive_for plans (filter is_post_or_arrival (plain h)) a.op → map (with_partner a.op partner a.time (with_entry a.op (record e { times = record e.times { awaited = None } }) before)) (operations plans) ≡ map next (operations plans)
     arrived None c k is = arrived_alone c k (sym is)
     arrived (Some m) c k is = arrived_pair m c (sym is)
 

@@ -1,6 +1,7 @@
 pub mod Walks
 pub mod Places
 pub mod Ready
+pub mod Started
 pub mod Empty
 pub mod After
 pub mod Pairings
@@ -13,6 +14,10 @@ pub mod EntryTable
 pub mod Begun
 pub mod Changed
 pub mod Performed
+pub mod GivenMoments
+pub mod GivenCounts
+pub mod GivenEntries
+pub mod GivenTables
 pub mod Views
 pub mod EnabledLemmas
 pub mod Tasks

@@ -1,40 +1,57 @@
 -- The fields of an engine after the next action.
-use Rattle.std.proofs.Common.{◌≡◌, ℕ, ◌<◌, ◌*◌, ◌^◌, List, ◌∷◌, ◌++◌, length, map, take, drop, sym, ap, ◌∙◌, subst, arith}
-use Rattle.std.proofs.lemmas.List.{length-map}
+use Rattle.std.proofs.Common.{◌≡◌, ℕ, ◌<◌, ◌*◌, ◌^◌, Contains, List, ◌∷◌, ◌++◌, length, map, take, drop, get_or, Option, Some, None, inl, inr, refl, sym, ap, ◌∙◌, subst, arith}
+use Rattle.std.proofs.lemmas.List.{get_or-map, length-map}
+use Rattle.goal_graph.specs.declared.action.OpId.{OpId}
 use Rattle.goal_graph.specs.declared.action.Timed.{Timed}
 use Rattle.goal_graph.specs.Schedule.{Plan, operations}
+use Rattle.goal_graph.specs.Action.{plain}
 use Rattle.goal_graph.specs.Fault.{IsOp}
-use Rattle.sim_params.specs.Costs.{CostModel}
+use Rattle.goal_graph.proofs.ForCallers.{allowed_listed, at_entry, cases_op, off_entry, whole_back}
+use Rattle.sim_params.specs.Costs.{CostModel, is_eager}
 use Rattle.sim_params.specs.Run.{IsNext}
 use Rattle.sim_params.proofs.ForCallers.{possible_room}
 use Rattle.sim_match.specs.PostsAndArrivals.{PostsAndArrivals}
 use Rattle.sim_resources.specs.FreeTimes.{Holds}
+use Rattle.sim_state.specs.declared.entry.Change.{Change}
 use Rattle.sim_state.specs.declared.entry.Entry.{Entry}
+use Rattle.sim_state.specs.Awaited as awaited
+use Rattle.sim_state.specs.Changes.{IsChange}
 use Rattle.sim_state.specs.Engine.{View}
-use Rattle.sim_state.specs.Represents.{Represents, entry_known, KnowsPostsAndArrivals, AreFreeTimes}
+use Rattle.sim_state.specs.Tables.{with_change, with_pairing, with_partner, with_times}
+use Rattle.sim_state.specs.Represents.{Represents, times_known, entry_known, entry_then, KnowsPostsAndArrivals, AreFreeTimes}
 use Rattle.sim_state.proofs.Changed.{at_fits}
+use Rattle.sim_state.proofs.Entries.{own_next}
 use Rattle.sim_state.proofs.Places.{possible_exists}
-use Rattle.goal_graph.proofs.ForCallers.{whole_back}
 
 -- what is next after one of two views that are equal is next after the other
 pub next_at : {C : Type 0} (model : C → CostModel) (v w : View C) (a : Timed) → v ≡ w → IsNext w.plans (model w.costs) w.history a → IsNext v.plans (model v.costs) v.history a
 next_at {C} model v w a e = subst (λ (u : View C). IsNext u.plans (model u.costs) u.history a) (sym e)
 
--- the history and the table of entries, which was lent to be written, after one action more, whose key was put to the history
-pub record Written (plans : List Plan) (costs : CostModel) (h : List Timed) (entries : List Entry) (a : Timed) : Type 0 where
-  pub history : List Timed
-  pub lent : List Entry
-  pub written : List Entry
-  pub count : ℕ
-  pub key : Timed
-  pub pushed : history ≡ key ∷ h
-  pub same_action : key ≡ a
-  pub whole : count ≡ length entries
-  pub same_table : lent ≡ entries
-  pub kept : length written ≡ length lent
-  pub told : written ≡ map (entry_known plans costs (a ∷ h)) (operations plans)
+-- a vector whose elements were lent and written holds what was written
+pub written_back : {X : Type 0} (count : ℕ) (written lent items : List X) → length written ≡ length lent → lent ≡ items → count ≡ length items → take count (written ++ drop (length written) items) ≡ written
+written_back count written lent items kept same whole =
+    whole_back count written items (kept ∙ ap length same) whole
 
-module _ (plans : List Plan) (costs : CostModel) (h : List Timed) (entries : List Entry) (matcher : PostsAndArrivals) (res : Holds) (has_room : ℕ → Type 0) (m : Represents plans costs h entries matcher res has_room) where
+-- the times that an action's change has are those that are known after it
+same_at : {Y : Type 0} (f g : OpId → Y) (xs : List OpId) (x : OpId) → Contains xs x → map f xs ≡ map g xs → f x ≡ g x
+same_at f g xs x c same =
+    let default = f x in
+    ap f (sym c.2) ∙ sym (get_or-map f xs c.0 x default c.1) ∙ ap (λ ys. get_or ys c.0 default) same ∙ get_or-map g xs c.0 x default c.1 ∙ ap g c.2
+
+module _ (y : OpId) (at : ℕ) where
+  paired_times : (x m : OpId) (f : OpId → Entry) → (with_pairing x m at f y).times ≡ (f y).times
+  paired_times x m f =
+      elim (cases_op y x) [ inl s ↦ ap (λ (e : Entry). e.times) (at_entry x (record (f x) { paired = Some (record { with = m; at = at }) }) f y s) ∙ ap (λ (z : OpId). (f z).times) (sym s) | inr d ↦ ap (λ (e : Entry). e.times) (off_entry x (record (f x) { paired = Some (record { with = m; at = at }) }) f y d) ]
+
+  partnered_times : (partner : Option OpId) (f : OpId → Entry) → (with_partner y partner at f y).times ≡ (f y).times
+  partnered_times None f = refl
+  partnered_times (Some m) f = paired_times m y (with_pairing y m at f) ∙ paired_times y m f
+
+  written_times : (c : Change) (f : OpId → Entry) → (with_change y c at f y).times ≡ c.times
+  written_times c f =
+      partnered_times c.partner (with_times y c.times c.delivered f) ∙ ap (λ (e : Entry). e.times) (at_entry y _ f y refl)
+
+module _ (plans : List Plan) (costs : CostModel) (h : List Timed) (entries : List Entry) (unmet : List ℕ) (matcher : PostsAndArrivals) (res : Holds) (has_room : ℕ → Type 0) (m : Represents plans costs h entries unmet matcher res has_room) where
   -- each operation has its entry
   pub each_entry : (lent : List Entry) → lent ≡ entries → length lent ≡ length (operations plans)
   each_entry lent e = ap length (e ∙ m.known) ∙ length-map (operations plans) (entry_known plans costs h)
@@ -52,17 +69,22 @@ module _ (plans : List Plan) (costs : CostModel) (h : List Timed) (entries : Lis
     pub room_left : (count : ℕ) × has_room count × (length h < count)
     room_left = (3 * length (operations plans), m.roomy, omega (arith, possible_room plans costs h a m.run next.possible))
 
-    pub performed : (new : Written plans costs h entries a) (told : PostsAndArrivals) (held : Holds) (still : ℕ → Type 0) → KnowsPostsAndArrivals plans costs (a ∷ h) told → AreFreeTimes plans costs (a ∷ h) held → ((count : ℕ) → has_room count → still count) → Represents plans costs new.history (take new.count (new.written ++ drop (length new.written) entries)) told held still
-    performed new told held still knows free roomy =
-        let table : take new.count (new.written ++ drop (length new.written) entries) ≡ new.written = whole_back new.count new.written entries (new.kept ∙ ap length new.same_table) new.whole in
-        let list : a ∷ h ≡ new.history = sym (new.pushed ∙ ap (λ (b : Timed). b ∷ h) new.same_action) in
-        let after : Represents plans costs (a ∷ h) (take new.count (new.written ++ drop (length new.written) entries)) told held still = record {
+    -- its operation has the times of the change since
+    pub change_times : (c : Change) → IsChange plans costs h a c → c.times ≡ times_known plans costs (a ∷ h) a.op
+    change_times c is =
+        let listed = allowed_listed plans (is_eager plans costs) (plain h) a.class a.op next.possible.allowed in
+        sym (written_times a.op a.time c (entry_known plans costs h)) ∙ ap (λ (e : Entry). e.times) (same_at (with_change a.op c a.time (entry_known plans costs h)) (entry_then plans costs h a) (operations plans) a.op listed is.known ∙ own_next plans costs h a m.run next.possible)
+
+    pub performed : (history : List Timed) (key : Timed) → history ≡ key ∷ h → key ≡ a → (after : List Entry) → after ≡ map (entry_known plans costs (a ∷ h)) (operations plans) → (left : List ℕ) → left ≡ map (awaited.unmet plans costs (a ∷ h)) (operations plans) → (told : PostsAndArrivals) → KnowsPostsAndArrivals plans costs (a ∷ h) told → (held : Holds) → AreFreeTimes plans costs (a ∷ h) held → (still : ℕ → Type 0) → ((count : ℕ) → has_room count → still count) → Represents plans costs history after left told held still
+    performed history key pushed same after known left waiting told knows held free still roomy =
+        let list : a ∷ h ≡ history = sym (pushed ∙ ap (λ (b : Timed). b ∷ h) same) in
+        subst (λ (h : List Timed). Represents plans costs h after left told held still) list (record {
           accepted = m.accepted;
           within = m.within;
           run = (m.run, next);
-          known = table ∙ new.told;
+          known = known;
+          waiting = waiting;
           posts_and_arrivals = knows;
           free = free;
           roomy = roomy (3 * length (operations plans)) m.roomy;
-        } in
-        subst (λ (h : List Timed). Represents plans costs h (take new.count (new.written ++ drop (length new.written) entries)) told held still) list after
+        })

@@ -1,10 +1,9 @@
--- When an operation is ready, need by need.
-use Rattle.std.proofs.Common.{◌≡◌, ◌==◌, ℕ, ◌+◌, ◌<◌, ◌≤◌, max, Bool, true, false, ◌&&◌, List, [], ◌∷◌, length, drop, take, get_or, Option, Some, None, is_some, if◌then◌else◌, refl, sym, ap, ◌∙◌, subst, arith}
+-- When an operation is ready, need by need, and by how many of its moments are not there.
+use Rattle.std.proofs.Common.{◌≡◌, ℕ, ◌+◌, ◌<◌, ◌≤◌, max, Bool, true, false, not, cond, count_by, ◌&&◌, List, [], ◌∷◌, length, drop, get_or, Option, Some, None, if◌then◌else◌, refl, sym, ap, ap₂, ◌∙◌, subst, arith}
 use Rattle.std.specs.List.{list_all}
-use Rattle.std.proofs.lemmas.Bool.{eqb-true}
-use Rattle.std.proofs.lemmas.List.Folds.{list_all_at}
+use Rattle.std.proofs.lemmas.Bool.{cond-true, cond-false, and_from, and_parts, false_from_ne_true, true_from_ne_false}
 use Rattle.std.proofs.lemmas.Option.{same_Some}
-use Rattle.std.proofs.lemmas.List.{drop_more, drop_all, take_all}
+use Rattle.std.proofs.lemmas.List.{drop_more, drop_all}
 use Rattle.goal_graph.specs.declared.action.OpId.{OpId}
 use Rattle.goal_graph.specs.declared.action.Timed.{Timed}
 use Rattle.goal_graph.specs.declared.plan.Need.{Need}
@@ -12,28 +11,18 @@ use Rattle.goal_graph.specs.declared.plan.When.{When}
 use Rattle.goal_graph.specs.declared.plan.When.TheVariants.{AfterEnd, AfterStart}
 use Rattle.goal_graph.specs.Schedule.{Plan, needs, needed}
 use Rattle.goal_graph.specs.Action.{plain}
-use Rattle.goal_graph.specs.Allowed.{is_met, is_ready}
+use Rattle.goal_graph.specs.Allowed.{is_met, is_ready, has_started}
+use Rattle.goal_graph.proofs.ForCallers.{count-cons}
 use Rattle.sim_params.specs.Costs.{CostModel, is_eager}
 use Rattle.sim_params.specs.Times.{greatest, met_at, ready}
-use Rattle.sim_state.specs.Cursors as cursors
+use Rattle.sim_state.specs.Awaited as awaited
+use Rattle.sim_state.specs.Awaited.{unmet, awaited_known}
 use Rattle.sim_state.specs.Enabled.{moment_known, ready_known}
-
--- a moment is known where it is there
-pub met_known : (plans : List Plan) (costs : CostModel) (h : List Timed) (w : When) (y : OpId) → is_some (moment_known plans costs h w y) ≡ is_met plans (is_eager plans costs) (plain h) w y
-met_known plans costs h w y = go w
-  where
-    some_if : (b : Bool) (n : ℕ) → is_some (if b then Some n else None) ≡ b
-    some_if true n = refl
-    some_if false n = refl
-
-    go : (v : When) → is_some (moment_known plans costs h v y) ≡ is_met plans (is_eager plans costs) (plain h) v y
-    go AfterEnd = some_if _ _
-    go AfterStart = some_if _ _
 
 module _ (plans : List Plan) (costs : CostModel) (h : List Timed) (x : OpId) where
   -- the moment of a need, whether it is there, and both
   abbrev pub is_there : Need → Bool
-  is_there = cursors.is_there plans costs h x
+  is_there = awaited.is_there plans costs h x
 
   abbrev pub there_at : Need → ℕ
   there_at d = met_at plans costs h d.when (needed x d)
@@ -77,13 +66,6 @@ module _ (plans : List Plan) (costs : CostModel) (h : List Timed) (x : OpId) whe
       go true f = absurd (cc)
       go false f = refl
 
-  -- whether it is ready tells whether the moment is known
-  pub unready_known : is_ready plans (is_eager plans costs) (plain h) x ≡ false → ready_known plans costs h x ≡ None
-  unready_known e = ap (λ b. if b then Some (ready plans costs h x) else None) e
-
-  pub all_met_known : is_ready plans (is_eager plans costs) (plain h) x ≡ true → is_some (ready_known plans costs h x) ≡ true
-  all_met_known e = ap (λ b. is_some (if b then Some (ready plans costs h x) else None)) e
-
   -- the needs as they are read, one after another
   module _ (items : List Need) (are_needs : items ≡ needs plans x) (k : ℕ) (n : ℕ) (whole : Option ℕ) (so_far : ready_from n (drop k (needs plans x)) ≡ whole) where
     this_and_rest : (d : Need) → k < length items → drop k (needs plans x) ≡ get_or items k d ∷ drop (k + 1) (needs plans x)
@@ -101,3 +83,40 @@ module _ (plans : List Plan) (costs : CostModel) (h : List Timed) (x : OpId) whe
     read_all l =
         let none : drop k (needs plans x) ≡ [] = drop_all k (needs plans x) (subst (λ ds. length ds ≤ k) are_needs l) in
         sym (ap (ready_from n) none ∙ ready_end n) ∙ so_far
+
+-- where so many of the moments that x needs are not there
+module _ (plans : List Plan) (costs : CostModel) (h : List Timed) (x : OpId) (n : ℕ) (count : n ≡ unmet plans costs h x) where
+  all_there : (ds : List Need) → count_by (λ (d : Need). not (is_there plans costs h x d)) ds ≡ 0 → list_all (is_there plans costs h x) ds ≡ true
+  all_there [] e = refl
+  all_there (d ∷ ds) e =
+      let counted = count-cons (λ (d : Need). not (is_there plans costs h x d)) d ds in
+      let here : is_there plans costs h x d ≡ true = true_from_ne_false _ (λ f. let one = ap {B = ℕ} (λ (b : Bool). cond (not b) 1 0) f in absurd (omega (arith, e, one, counted))) in
+      and_from _ _ here (all_there ds (omega (arith, e, counted)))
+
+  none_missing : (ds : List Need) → list_all (is_there plans costs h x) ds ≡ true → count_by (λ (d : Need). not (is_there plans costs h x d)) ds ≡ 0
+  none_missing [] e = refl
+  none_missing (d ∷ ds) e =
+      let both = and_parts (is_there plans costs h x d) (list_all (is_there plans costs h x) ds) e in
+      let here = ap {B = ℕ} (λ (b : Bool). cond (not b) 1 0) both.0 in
+      let rest = none_missing ds both.1 in
+      omega (arith, rest, here, count-cons (λ (d : Need). not (is_there plans costs h x d)) d ds)
+
+  -- all that are there are all
+  last_of_all : (ds : List Need) → list_all (is_there plans costs h x) ds ≡ true → greatest (λ (d : Need). if is_there plans costs h x d then there_at plans costs h x d else 0) ds ≡ greatest (there_at plans costs h x) ds
+  unfolding greatest
+  last_of_all [] e = refl
+  last_of_all (d ∷ ds) e =
+      let both = and_parts (is_there plans costs h x d) (list_all (is_there plans costs h x) ds) e in
+      ap₂ max (cond-true _ _ _ both.0) (last_of_all ds both.1)
+
+  pub still_unready : 0 < n → None ≡ ready_known plans costs h x
+  unfolding is_ready
+  still_unready more =
+      sym (cond-false _ _ None (false_from_ne_true _ (λ t. let none = none_missing (needs plans x) t in absurd (omega (arith, more, count, none)))))
+
+  -- before it starts, what it awaits is then the last of them
+  pub now_ready : n ≤ 0 → (o : Option ℕ) → o ≡ awaited_known plans costs h x → has_started plans x (plain h) ≡ false → o ≡ ready_known plans costs h x
+  unfolding is_ready ready
+  now_ready none o last waits =
+      let there = all_there (needs plans x) (omega (arith, count, none)) in
+      last ∙ cond-false _ _ _ waits ∙ ap Some (last_of_all (needs plans x) there) ∙ sym (cond-true _ _ None there)

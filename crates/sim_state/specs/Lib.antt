@@ -10,7 +10,8 @@ pub mod Tasks
 pub mod Represents
 pub mod Changes
 pub mod Free
-pub mod Cursors
+pub mod Awaited
+pub mod Given
 -- What the clauses cite of lower crates.
 pub use Rattle.goal_graph.specs.Action
 pub use Rattle.goal_graph.specs.Fault

@@ -1,11 +1,12 @@
 -- What an engine keeps of its history.
-use Rattle.std.specs.Prelude.{ℕ, ◌+◌, ◌≡◌, ◌<◌, ◌*◌, ◌^◌, List, filter, map, length, Option, Some, None, if◌then◌else◌}
+use Rattle.std.specs.Prelude.{ℕ, ◌∷◌, ◌+◌, ◌≡◌, ◌<◌, ◌*◌, ◌^◌, List, filter, map, length, Option, Some, None, if◌then◌else◌}
 use Rattle.std.specs.Option.{option_map}
 use Rattle.goal_graph.specs.declared.action.OpId.{OpId}
 use Rattle.goal_graph.specs.declared.action.Timed.{Timed}
-use Rattle.goal_graph.specs.declared.action.Class.TheVariants.{Arrive, Data}
+use Rattle.goal_graph.specs.declared.action.Class.TheVariants.{Data}
 use Rattle.goal_graph.specs.Schedule.{Plan, operations}
 use Rattle.goal_graph.specs.Action.{happened, plain}
+use Rattle.goal_graph.specs.Entries.{with_entry}
 use Rattle.goal_graph.specs.Fault.{IsAccepted}
 use Rattle.sim_params.specs.Costs.{CostModel, flight, is_eager}
 use Rattle.sim_params.specs.Times.{since, mate, paired_at, cpu, tx, rx}
@@ -17,7 +18,8 @@ use Rattle.sim_state.specs.declared.entry.Entry.{Entry}
 use Rattle.sim_state.specs.declared.entry.Times.{Times}
 use Rattle.sim_state.specs.declared.pairing.Pairing.{Pairing}
 use Rattle.sim_state.specs.Engine.{start_known, end_known}
-use Rattle.sim_state.specs.Enabled.{time_known}
+use Rattle.sim_state.specs.Awaited as awaited
+use Rattle.sim_state.specs.Awaited.{awaited_known}
 use Rattle.sim_state.specs.Tasks.{work_of}
 
 module _ (plans : List Plan) (costs : CostModel) (h : List Timed) where
@@ -38,7 +40,7 @@ module _ (plans : List Plan) (costs : CostModel) (h : List Timed) where
   times_known x = record {
     start = start_known plans costs h x;
     end = end_known plans costs h x;
-    arriving = time_known plans costs h Arrive x;
+    awaited = awaited_known plans costs h x;
   }
 
   -- what is kept of x
@@ -62,12 +64,21 @@ module _ (plans : List Plan) (costs : CostModel) (h : List Timed) where
     pub same_plans : matcher.plans ≡ plans
     pub events : matcher.actions ≡ filter is_post_or_arrival (plain h)
 
-  -- There is an entry for each operation, in their order, and room for every action of a run.
-  pub record Represents (entries : List Entry) (matcher : PostsAndArrivals) (res : Holds) (has_room : ℕ → Type 0) : Type 0 where
+  -- There is an entry for each operation, in their order, with how many moments it still waits for, and room for every action of a
+  -- run.
+  pub record Represents (entries : List Entry) (unmet : List ℕ) (matcher : PostsAndArrivals) (res : Holds) (has_room : ℕ → Type 0) : Type 0 where
     pub accepted : IsAccepted plans
     pub within : budget plans costs < 2 ^ 63
     pub run : IsRun plans costs h
     pub known : entries ≡ map entry_known (operations plans)
+    pub waiting : unmet ≡ map (awaited.unmet plans costs h) (operations plans)
     pub posts_and_arrivals : KnowsPostsAndArrivals matcher
     pub free : AreFreeTimes res
     pub roomy : has_room (3 * length (operations plans))
+
+-- What is kept of x once an action has happened, before those that wait for its operation are given its moments: what is known since,
+-- but what the others await is what they did before.
+module _ (plans : List Plan) (costs : CostModel) (h : List Timed) (a : Timed) where
+  abbrev pub entry_then : OpId → Entry
+  entry_then =
+      with_entry a.op (entry_known plans costs (a ∷ h) a.op) (λ x. record (entry_known plans costs (a ∷ h) x) { times = record (times_known plans costs (a ∷ h) x) { awaited = awaited_known plans costs h x } })

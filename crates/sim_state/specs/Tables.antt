@@ -10,7 +10,7 @@ use Rattle.sim_state.specs.declared.work.Work.{Work}
 
 -- of one that does that, and has done nothing yet
 abbrev pub fresh_entry : Work → Entry
-fresh_entry work = record { work = work; times = record { start = None; end = None; arriving = None }; paired = None; delivered = None }
+fresh_entry work = record { work = work; times = record { start = None; end = None; awaited = Some 0 }; paired = None; delivered = None }
 
 -- the entry of y has these times and, where it is there, this time of delivery, and the others are those of f
 abbrev pub with_times : OpId → Times → Option ℕ → (OpId → Entry) → OpId → Entry

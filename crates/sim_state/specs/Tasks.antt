@@ -6,35 +6,34 @@ use Rattle.goal_graph.specs.declared.action.Class.TheVariants.{Arrive, Serve, Be
 use Rattle.goal_graph.specs.declared.plan.Kind.{Kind}
 use Rattle.goal_graph.specs.declared.plan.Kind.TheVariants.{Calc, Send, Recv}
 use Rattle.goal_graph.specs.declared.plan.Need.{Need}
-use Rattle.goal_graph.specs.Schedule.{Plan, kind_at, needs}
+use Rattle.goal_graph.specs.Schedule.{Plan, kind_at}
 use Rattle.goal_graph.specs.Concerned.{waiting_on}
 use Rattle.goal_graph.specs.Laws.{IsCalc}
 use Rattle.sim_params.specs.Costs.{CostModel, is_eager}
 use Rattle.sim_state.specs.declared.task.Task.{Task}
 use Rattle.sim_state.specs.declared.task.Task.TheVariants as task
-use Rattle.sim_state.specs.declared.work.Ties.{Ties}
 use Rattle.sim_state.specs.declared.work.Work.{Work}
 
 abbrev pub has_any : List Need → Bool
 has_any needs = not (length needs == 0)
 
--- whether x needs another, and another needs it
-abbrev pub ties_of : List Plan → OpId → Ties
-ties_of plans x = record { needs = has_any (needs plans x); needed = has_any (waiting_on plans x) }
+-- whether another needs x
+abbrev pub is_needed : List Plan → OpId → Bool
+is_needed plans x = has_any (waiting_on plans x)
 
 module _ (plans : List Plan) (costs : CostModel) (x : OpId) where
   -- what x does, where it is of that kind: its nanoseconds or its bytes, the rank that it sends them to, its task, and
-  -- its ties; what is no operation is told as a calc of no time
+  -- whether another needs it; what is no operation is told as a calc of no time
   abbrev pub work_by : Option Kind → Work
-  work_by (Some (Calc nanos)) = record { amount = nanos; to = 0; task = task.Calc; ties = ties_of plans x }
+  work_by (Some (Calc nanos)) = record { amount = nanos; to = 0; task = task.Calc; is_needed = is_needed plans x }
   work_by (Some (Send bytes to tag)) = record {
     amount = bytes;
     to = to;
     task = if is_eager plans costs x then task.Eager else task.Large;
-    ties = ties_of plans x;
+    is_needed = is_needed plans x;
   }
-  work_by (Some (Recv room from tag)) = record { amount = 0; to = 0; task = task.Receive; ties = ties_of plans x }
-  work_by None = record { amount = 0; to = 0; task = task.Calc; ties = ties_of plans x }
+  work_by (Some (Recv room from tag)) = record { amount = 0; to = 0; task = task.Receive; is_needed = is_needed plans x }
+  work_by None = record { amount = 0; to = 0; task = task.Calc; is_needed = is_needed plans x }
 
   abbrev pub work_of : Work
   work_of = work_by (kind_at plans x)

@@ -5,6 +5,7 @@ ghost use Rattle.goal_graph.specs.Schedule.{operations};
 ghost use Rattle.goal_graph.specs.Fault.{IsOp};
 ghost use Rattle.sim_state.specs.declared.entry.Entry.{Entry};
 ghost use Rattle.sim_state.specs.Represents.{entry_known};
+ghost use Rattle.sim_state.specs.Given.{given_times, with_given};
 ghost use Rattle.sim_state.specs.Tables.{fresh_entry, with_times, with_pairing, with_change};
 
 use crate::moment::Moment;
@@ -22,17 +23,33 @@ pub struct Times {
     pub start: Moment,
     /// When it ends.
     pub end: Moment,
-    /// When the message of a send, or its request, arrives, while it is under way.
-    pub arriving: Moment,
+    /// What it waits for: before it starts the last of the moments that it needs and that are there, 0 where none is; then when the
+    /// message of a send, or its request, arrives, while it is under way.
+    pub awaited: Moment,
 }
 
 impl Times {
-    /// Nothing is known.
-    const NONE: Times = Times {
-        start: Moment::NONE,
-        end: Moment::NONE,
-        arriving: Moment::NONE,
-    };
+    // Of an operation that has done nothing, and was given no moment.
+    fn first() -> Times
+        ensures { result ≡ record { start = None; end = None; awaited = Some 0 } }
+    {
+        Times {
+            start: Moment::NONE,
+            end: Moment::NONE,
+            awaited: Moment::at(0),
+        }
+    }
+
+    /// Given a moment that it needs, in nanoseconds, before it starts.
+    pub fn with_given(self, moment: u64) -> Times
+        requires { moment < 2 ^ 63 }
+        ensures { result ≡ given_times moment self }
+    {
+        Times {
+            awaited: self.awaited.or_later(moment),
+            ..self
+        }
+    }
 
     /// With this start, in nanoseconds.
     pub fn with_start(self, at: u64) -> Times
@@ -59,20 +76,20 @@ impl Times {
     /// Under way, until it arrives at this time in nanoseconds.
     pub fn with_arrival(self, at: u64) -> Times
         requires { at < 2 ^ 63 }
-        ensures { result ≡ record self { arriving = Some at } }
+        ensures { result ≡ record self { awaited = Some at } }
     {
         Times {
-            arriving: Moment::at(at),
+            awaited: Moment::at(at),
             ..self
         }
     }
 
     /// No longer under way.
     pub fn with_no_arrival(self) -> Times
-        ensures { result ≡ record self { arriving = None } }
+        ensures { result ≡ record self { awaited = None } }
     {
         Times {
-            arriving: Moment::NONE,
+            awaited: Moment::NONE,
             ..self
         }
     }
@@ -120,7 +137,7 @@ impl Entry {
     {
         Entry {
             work,
-            times: Times::NONE,
+            times: Times::first(),
             paired: Partner::NONE,
             delivered: Moment::NONE,
         }
@@ -190,4 +207,16 @@ pub fn write_change(sched: &Sched, entries: &mut [Entry], id: OpId, change: Chan
     };
     write_paired(sched, entries, id, with, at);
     write_paired(sched, entries, with, id, at);
+}
+
+/// Gives an operation a moment that it needs, in nanoseconds, before it starts.
+#[inline(always)]
+pub fn write_given(sched: &Sched, entries: &mut [Entry], id: OpId, moment: u64)
+    requires exists { IsOp sched.now id }
+    requires fits { moment < 2 ^ 63 }
+    requires each { length entries.old ≡ length (operations sched.now) }
+    ensures { (f : OpId → Entry) → entries.old ≡ map f (operations sched.now) → entries.new ≡ map (with_given id moment f) (operations sched.now) }
+{
+    let kept = &mut entries[sched.index(id) as usize];
+    kept.times = kept.times.with_given(moment);
 }

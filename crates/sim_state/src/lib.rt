@@ -1,7 +1,6 @@
 //! A schedule under way: what has happened, what is known of each operation, what may happen next and what it changes.
 #![tactic(auto)]
 
-mod cursors;
 mod entry;
 mod fault;
 mod history;
@@ -12,13 +11,13 @@ mod record;
 mod state;
 mod task;
 mod unkept;
+mod unmet;
 mod work;
 
-pub use cursors::choice_from;
 pub use fault::EngineFault;
-pub use goal_progress::{Cursor, at_first};
 pub use history::{History, Kept};
 pub use key::compact;
 pub use record::Record;
 pub use state::State;
 pub use unkept::Unkept;
+pub use unmet::gives;

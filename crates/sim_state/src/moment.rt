@@ -1,5 +1,6 @@
 // A time that may not be there, in eight bytes.
-ghost use Rattle.std.specs.Prelude.{◌≡◌, ◌<◌, ◌^◌, Some, None};
+ghost use Rattle.std.specs.Prelude.{◌≡◌, ◌<◌, ◌^◌, Some, None, max};
+ghost use Rattle.std.specs.Option.{option_map};
 
 use std::marker::Model;
 
@@ -43,5 +44,15 @@ impl Moment {
             return None;
         }
         Some(self.nanos)
+    }
+
+    /// The later of it, where it is there, and a time in nanoseconds; else still none.
+    pub fn or_later(self, nanos: u64) -> Moment
+        requires { nanos < 2 ^ 63 }
+        ensures { result ≡ option_map (λ last. max last nanos) self }
+    {
+        Moment {
+            nanos: self.nanos.max(nanos),
+        }
     }
 }

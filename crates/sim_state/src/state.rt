@@ -22,6 +22,7 @@ use crate::fault::EngineFault;
 use crate::history::{History, Kept};
 use crate::record::Record;
 use crate::task::Task;
+use crate::unmet::unmet_at_first;
 use crate::work::Work;
 use goal_base::MAX_BUDGET;
 use goal_graph::{Need, OpId, Sched};
@@ -33,6 +34,7 @@ use std::alloc::Global;
 use std::marker::Model;
 
 mod enabled;
+mod give;
 mod perform;
 
 /// A schedule under way. Contracts see it as the plans of the schedule, the costs, and what has happened so far, newest
@@ -44,6 +46,8 @@ pub struct State<'a, C: Costs, H: History = Kept> {
     history: H,
     // what is known of each operation, in the order of all
     entries: Vec<Entry>,
+    // how many of the moments that each operation needs are not there yet
+    unmet: Vec<u32>,
     // who is paired with whom
     matcher: Matcher<'a>,
     // when cpus and interfaces are free
@@ -58,6 +62,7 @@ impl<C: Costs + Drop, H: History> Drop for State<'_, C, H> {
             costs: _costs,
             history: _history,
             entries: _entries,
+            unmet: _unmet,
             matcher: _matcher,
             resources: _resources,
         } = self;
@@ -72,7 +77,7 @@ impl<'a, C: Costs, H: History> Model for State<'a, C, H> {
 
     ghost view = { λ e. record { plans = e.sched.now; costs = e.costs; history = H.actions e.history } };
 
-    ghost invariant = { λ e. Represents e.sched.now (C.model e.costs) (H.actions e.history) e.entries.items e.matcher e.resources (H.has_room e.history) };
+    ghost invariant = { λ e. Represents e.sched.now (C.model e.costs) (H.actions e.history) e.entries.items e.unmet.items e.matcher e.resources (H.has_room e.history) };
 }
 
 impl<'a, C: Costs + Drop, H: History> State<'a, C, H> {
@@ -94,6 +99,7 @@ impl<'a, C: Costs + Drop, H: History> State<'a, C, H> {
         let count = sched.count() as usize;
         let history = H::with_room(alloc, 3 * count)?;
         let entries = first_entries(alloc, sched, &costs)?;
+        let unmet = unmet_at_first(alloc, sched)?;
         let matcher = Matcher::new(alloc, sched)?;
         let resources = Resources::new(alloc, sched)?;
         Ok(State {
@@ -101,6 +107,7 @@ impl<'a, C: Costs + Drop, H: History> State<'a, C, H> {
             costs,
             history,
             entries,
+            unmet,
             matcher,
             resources,
         })
@@ -181,22 +188,10 @@ impl<'a, C: Costs, H: History> State<'a, C, H> {
         ensures waiting_on { result.now ≡ waiting_on self.now.plans id }
         ensures exist { All (λ need. IsOp self.now.plans (needed id need)) result.now }
     {
-        if !self.work(id).ties.needed {
+        if !self.work(id).is_needed {
             return &[];
         }
         self.sched.waiting_on(id)
-    }
-
-    // What an operation needs, in the order of the rank's dependencies. Of one that needs nothing the schedule is not asked.
-    fn needs(&self, id: OpId) -> &[Need]
-        requires { IsOp self.now.plans id }
-        ensures needs { result.now ≡ needs self.now.plans id }
-        ensures exist { All (λ need. IsOp self.now.plans (needed id need)) result.now }
-    {
-        if !self.work(id).ties.needs {
-            return &[];
-        }
-        self.sched.needs(id)
     }
 
     /// The schedule that runs.

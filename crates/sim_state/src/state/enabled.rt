@@ -1,67 +1,46 @@
 // What may happen next of one operation, and when.
-ghost use Rattle.std.specs.Prelude.{◌≡◌, ◌≤◌, ◌+◌, true, None, length};
+ghost use Rattle.std.specs.Prelude.{◌≡◌, true, false};
 ghost use Rattle.goal_graph.specs.declared.action.Class.TheVariants.{Arrive, Serve, Data, Post, Begin};
-ghost use Rattle.goal_graph.specs.Schedule.{needs};
+ghost use Rattle.goal_graph.specs.Action.{plain};
+ghost use Rattle.goal_graph.specs.Allowed.{has_started};
 ghost use Rattle.goal_graph.specs.Fault.{IsOp};
 ghost use Rattle.goal_graph.specs.Laws.{IsCalc};
 ghost use Rattle.goal_graph.specs.Schedule.{IsSend, IsReceive};
 ghost use Rattle.sim_params.specs.Costs.{is_eager};
 ghost use Rattle.sim_state.specs.Represents.{message_known};
 ghost use Rattle.sim_state.specs.Tasks.{IsLast};
-ghost use Rattle.sim_state.specs.Cursors.{IsCursorOf, all_if_met, looked_again};
-ghost use Rattle.sim_state.specs.Enabled.{moment_known, ready_known, enabled_action, IsEnabledActionOf};
+ghost use Rattle.sim_state.specs.Enabled.{ready_known, enabled_action, IsEnabledActionOf};
 
 use super::State;
 use crate::history::History;
 use crate::pairing::Pairing;
 use crate::task::Task;
-use goal_graph::{Class, Need, OpId, Sched, Timed, When};
-use goal_progress::{Cursor, Progress, is_ready};
+use goal_graph::{Class, OpId, Timed};
 use sim_eager::{begin_at, serve_at};
-use sim_order::Steps;
 use sim_params::Costs;
 use sim_rendezvous::{clear, data_at};
-use std::sync::ledger::Ledger;
 
 impl<'a, C: Costs, H: History> State<'a, C, H> {
-    /// The possible action of an operation, if it has one. While it has not started its cursor goes on to the first need
-    /// that is not met, or past all: the next call looks from there on. A counter tells how many needs are looked at: as many as the
-    /// cursor goes on by, one more, and all once more where the action starts the operation.
-    pub(crate) fn choice<L: Ledger>(
-        &self,
-        id: OpId,
-        cursor: &mut Cursor,
-        looks: &mut Steps<L>,
-    ) -> Option<Timed>
-        requires op { IsOp self.now.plans id }
-        requires cursor { IsCursorOf self.now.plans (C.model self.now.costs) self.now.history id cursor.old }
-        ensures enabled { IsEnabledActionOf self.now.plans (C.model self.now.costs) self.now.history id result }
-        ensures cursor { IsCursorOf self.now.plans (C.model self.now.costs) self.now.history id cursor.new }
-        ensures looked { looks.new + cursor.old.at ≤ looks.old + cursor.new.at + 1 + looked_again self.now.plans id result }
+    /// The possible action of an operation, if it has one.
+    pub fn choice(&self, id: OpId) -> Option<Timed>
+        requires { IsOp self.now.plans id }
+        ensures { IsEnabledActionOf self.now.plans (C.model self.now.costs) self.now.history id result }
     {
         match self.task(id) {
-            Task::Calc => self.begin_of_calc(id, cursor, looks),
-            Task::Eager | Task::Large => self.choice_of_send(id, cursor, looks),
-            Task::Receive => self.choice_of_receive(id, cursor, looks),
+            Task::Calc => self.begin_of_calc(id),
+            Task::Eager | Task::Large => self.choice_of_send(id),
+            Task::Receive => self.choice_of_receive(id),
         }
     }
 
     // The possible action of a send, if it has one.
-    fn choice_of_send<L: Ledger>(
-        &self,
-        send: OpId,
-        cursor: &mut Cursor,
-        looks: &mut Steps<L>,
-    ) -> Option<Timed>
-        requires op { IsSend self.now.plans send }
-        requires cursor { IsCursorOf self.now.plans (C.model self.now.costs) self.now.history send cursor.old }
-        ensures enabled { IsEnabledActionOf self.now.plans (C.model self.now.costs) self.now.history send result }
-        ensures cursor { IsCursorOf self.now.plans (C.model self.now.costs) self.now.history send cursor.new }
-        ensures looked { looks.new + cursor.old.at ≤ looks.old + cursor.new.at + 1 + looked_again self.now.plans send result }
+    fn choice_of_send(&self, send: OpId) -> Option<Timed>
+        requires { IsSend self.now.plans send }
+        ensures { IsEnabledActionOf self.now.plans (C.model self.now.costs) self.now.history send result }
     {
-        let begin = self.begin_of_send(send, cursor, looks);
-        if begin.is_some() {
-            return begin;
+        self.known();
+        if !self.has_started(send) {
+            return self.begin_of_send(send);
         }
         let arrival = self.arrival(send);
         if arrival.is_some() {
@@ -71,19 +50,11 @@ impl<'a, C: Costs, H: History> State<'a, C, H> {
     }
 
     // The possible action of a receive, if it has one.
-    fn choice_of_receive<L: Ledger>(
-        &self,
-        recv: OpId,
-        cursor: &mut Cursor,
-        looks: &mut Steps<L>,
-    ) -> Option<Timed>
-        requires op { IsReceive self.now.plans recv }
-        requires cursor { IsCursorOf self.now.plans (C.model self.now.costs) self.now.history recv cursor.old }
-        ensures enabled { IsEnabledActionOf self.now.plans (C.model self.now.costs) self.now.history recv result }
-        ensures cursor { IsCursorOf self.now.plans (C.model self.now.costs) self.now.history recv cursor.new }
-        ensures looked { looks.new + cursor.old.at ≤ looks.old + cursor.new.at + 1 + looked_again self.now.plans recv result }
+    fn choice_of_receive(&self, recv: OpId) -> Option<Timed>
+        requires { IsReceive self.now.plans recv }
+        ensures { IsEnabledActionOf self.now.plans (C.model self.now.costs) self.now.history recv result }
     {
-        let post = self.post_of(recv, cursor, looks);
+        let post = self.post_of(recv);
         if post.is_some() {
             return post;
         }
@@ -91,22 +62,14 @@ impl<'a, C: Costs, H: History> State<'a, C, H> {
     }
 
     // The Begin of a calc: once it is ready and its cpu is free.
-    fn begin_of_calc<L: Ledger>(
-        &self,
-        calc: OpId,
-        cursor: &mut Cursor,
-        looks: &mut Steps<L>,
-    ) -> Option<Timed>
-        requires op { IsCalc self.now.plans calc }
-        requires cursor { IsCursorOf self.now.plans (C.model self.now.costs) self.now.history calc cursor.old }
-        ensures enabled { result ≡ enabled_action self.now.plans (C.model self.now.costs) self.now.history Begin calc }
-        ensures cursor { IsCursorOf self.now.plans (C.model self.now.costs) self.now.history calc cursor.new }
-        ensures looked { looks.new + cursor.old.at ≤ looks.old + cursor.new.at + 1 + looked_again self.now.plans calc result }
+    fn begin_of_calc(&self, calc: OpId) -> Option<Timed>
+        requires { IsCalc self.now.plans calc }
+        ensures { result ≡ enabled_action self.now.plans (C.model self.now.costs) self.now.history Begin calc }
     {
-        if self.entry(calc).times.start.get().is_some() {
+        if self.has_started(calc) {
             return None;
         }
-        let ready = self.ready(calc, cursor, looks)?;
+        let ready = self.ready(calc)?;
         Some(Timed {
             time: ready.max(self.resources.cpu(calc)),
             class: Class::Begin,
@@ -114,23 +77,13 @@ impl<'a, C: Costs, H: History> State<'a, C, H> {
         })
     }
 
-    // The Begin of a send: once it is ready, and its cpu and its interface are free.
-    fn begin_of_send<L: Ledger>(
-        &self,
-        send: OpId,
-        cursor: &mut Cursor,
-        looks: &mut Steps<L>,
-    ) -> Option<Timed>
+    // The Begin of a send that has not started: once it is ready, and its cpu and its interface are free.
+    fn begin_of_send(&self, send: OpId) -> Option<Timed>
         requires op { IsSend self.now.plans send }
-        requires cursor { IsCursorOf self.now.plans (C.model self.now.costs) self.now.history send cursor.old }
-        ensures enabled { result ≡ enabled_action self.now.plans (C.model self.now.costs) self.now.history Begin send }
-        ensures cursor { IsCursorOf self.now.plans (C.model self.now.costs) self.now.history send cursor.new }
-        ensures looked { looks.new + cursor.old.at ≤ looks.old + cursor.new.at + 1 + looked_again self.now.plans send result }
+        requires fresh { has_started self.now.plans send (plain self.now.history) ≡ false }
+        ensures { result ≡ enabled_action self.now.plans (C.model self.now.costs) self.now.history Begin send }
     {
-        if self.entry(send).times.start.get().is_some() {
-            return None;
-        }
-        let ready = self.ready(send, cursor, looks)?;
+        let ready = self.ready(send)?;
         Some(Timed {
             time: begin_at(&self.resources, send, ready),
             class: Class::Begin,
@@ -138,12 +91,13 @@ impl<'a, C: Costs, H: History> State<'a, C, H> {
         })
     }
 
-    // The Arrive of a send that is under way.
+    // The Arrive of a send that has started, while it is under way.
     fn arrival(&self, send: OpId) -> Option<Timed>
-        requires { IsOp self.now.plans send }
+        requires exists { IsOp self.now.plans send }
+        requires started { has_started self.now.plans send (plain self.now.history) ≡ true }
         ensures { result ≡ enabled_action self.now.plans (C.model self.now.costs) self.now.history Arrive send }
     {
-        let time = self.entry(send).times.arriving.get()?;
+        let time = self.entry(send).times.awaited.get()?;
         Some(Timed {
             time,
             class: Class::Arrive,
@@ -170,22 +124,14 @@ impl<'a, C: Costs, H: History> State<'a, C, H> {
     }
 
     // The Post of a receive: once it is ready.
-    fn post_of<L: Ledger>(
-        &self,
-        recv: OpId,
-        cursor: &mut Cursor,
-        looks: &mut Steps<L>,
-    ) -> Option<Timed>
-        requires op { IsReceive self.now.plans recv }
-        requires cursor { IsCursorOf self.now.plans (C.model self.now.costs) self.now.history recv cursor.old }
-        ensures enabled { result ≡ enabled_action self.now.plans (C.model self.now.costs) self.now.history Post recv }
-        ensures cursor { IsCursorOf self.now.plans (C.model self.now.costs) self.now.history recv cursor.new }
-        ensures looked { looks.new + cursor.old.at ≤ looks.old + cursor.new.at + 1 + looked_again self.now.plans recv result }
+    fn post_of(&self, recv: OpId) -> Option<Timed>
+        requires { IsReceive self.now.plans recv }
+        ensures { result ≡ enabled_action self.now.plans (C.model self.now.costs) self.now.history Post recv }
     {
-        if self.entry(recv).times.start.get().is_some() {
+        if self.has_started(recv) {
             return None;
         }
-        let time = self.ready(recv, cursor, looks)?;
+        let time = self.ready(recv)?;
         Some(Timed {
             time,
             class: Class::Post,
@@ -243,73 +189,25 @@ impl<'a, C: Costs, H: History> State<'a, C, H> {
         self.task(send) == Task::Eager
     }
 
-    // When all that an operation needs is there, once it is. Its cursor goes on as far as needs are met.
-    fn ready<L: Ledger>(&self, id: OpId, cursor: &mut Cursor, looks: &mut Steps<L>) -> Option<u64>
-        requires op { IsOp self.now.plans id }
-        requires cursor { IsCursorOf self.now.plans (C.model self.now.costs) self.now.history id cursor.old }
-        ensures ready { result ≡ ready_known self.now.plans (C.model self.now.costs) self.now.history id }
-        ensures cursor { IsCursorOf self.now.plans (C.model self.now.costs) self.now.history id cursor.new }
-        ensures looked { looks.new + cursor.old.at ≤ looks.old + cursor.new.at + 1 + all_if_met (length (needs self.now.plans id)) result }
+    // Whether an operation has started.
+    fn has_started(&self, id: OpId) -> bool
+        requires { IsOp self.now.plans id }
+        ensures { result ≡ has_started self.now.plans id (plain self.now.history) }
     {
-        if !is_ready(self, id, cursor, looks) {
+        self.entry(id).times.start.get().is_some()
+    }
+
+    // When all that an operation needs is there, once it is, while it has not started.
+    #[inline(always)]
+    fn ready(&self, id: OpId) -> Option<u64>
+        requires exists { IsOp self.now.plans id }
+        requires fresh { has_started self.now.plans id (plain self.now.history) ≡ false }
+        ensures { result ≡ ready_known self.now.plans (C.model self.now.costs) self.now.history id }
+    {
+        let place = self.sched.index(id) as usize;
+        if self.unmet[place] > 0 {
             return None;
         }
-        self.last_moment(id, looks)
-    }
-
-    // The last of the moments that an operation needs, once all are there.
-    fn last_moment<L: Ledger>(&self, id: OpId, looks: &mut Steps<L>) -> Option<u64>
-        requires { IsOp self.now.plans id }
-        ensures ready { result ≡ ready_known self.now.plans (C.model self.now.costs) self.now.history id }
-        ensures looked { looks.new ≤ looks.old + length (needs self.now.plans id) }
-    {
-        let mut last: u64 = 0;
-        for need in self.needs(id) {
-            let needed = OpId {
-                rank: id.rank,
-                op: need.op,
-            };
-            looks.tick();
-            match self.moment(need.when, needed) {
-                Some(moment) => last = last.max(moment),
-                None => return None,
-            }
-        }
-        Some(last)
-    }
-
-    // The moment of an operation that a dependency waits for, once it is there.
-    fn moment(&self, when: When, id: OpId) -> Option<u64>
-        requires { IsOp self.now.plans id }
-        ensures { result ≡ moment_known self.now.plans (C.model self.now.costs) self.now.history when id }
-    {
-        let entry = self.entry(id);
-        match when {
-            When::AfterEnd => entry.times.end.get(),
-            When::AfterStart => entry.times.start.get(),
-        }
-    }
-}
-
-impl<'a, C: Costs, H: History> Progress for State<'a, C, H> {
-    ghost use Rattle.goal_graph.specs.Action.{plain};
-    ghost use Rattle.sim_params.specs.Costs.{is_eager};
-
-    ghost plans = { λ s. s.plans };
-
-    ghost eager = { λ s. is_eager s.plans (C.model s.costs) };
-
-    ghost actions = { λ s. plain s.history };
-
-    fn sched(&self) -> &Sched {
-        self.sched
-    }
-
-    fn needs(&self, id: OpId) -> &[Need] {
-        self.needs(id)
-    }
-
-    fn is_met(&self, when: When, id: OpId) -> bool {
-        self.moment(when, id).is_some()
+        self.entries[place].times.awaited.get()
     }
 }

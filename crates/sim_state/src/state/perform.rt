@@ -1,22 +1,26 @@
 // What each action changes.
-ghost use Rattle.std.specs.Prelude.{◌≡◌, ◌≤◌, ◌+◌, ◌<◌, ◌^◌, ◌∷◌, map, None};
-ghost use Rattle.goal_graph.specs.declared.action.Class.TheVariants.{Begin};
-ghost use Rattle.goal_graph.specs.Schedule.{operations};
+ghost use Rattle.std.specs.Prelude.{◌≡◌, ◌≢◌, ◌≤◌, ◌+◌, ◌<◌, ◌^◌, ◌∷◌, All, map, None};
+ghost use Rattle.goal_graph.specs.declared.action.Class.TheVariants.{Arrive, Begin};
+ghost use Rattle.goal_graph.specs.Schedule.{operations, needed};
+ghost use Rattle.goal_graph.specs.Concerned.{waiting_on};
+ghost use Rattle.goal_graph.specs.Fault.{IsOp};
 ghost use Rattle.sim_params.specs.Run.{IsNext, IsRun};
 ghost use Rattle.sim_params.specs.Budget.{budget};
 ghost use Rattle.sim_state.specs.Tables.{with_times};
-ghost use Rattle.sim_state.specs.Represents.{Represents, AreFreeTimes, KnowsPostsAndArrivals, times_known, entry_known};
+ghost use Rattle.sim_state.specs.Represents.{AreFreeTimes, KnowsPostsAndArrivals, times_known, entry_known, entry_then};
+ghost use Rattle.sim_state.specs.Awaited.{given_by};
 ghost use Rattle.sim_state.specs.Tasks.{work_of};
 ghost use Rattle.sim_state.specs.Changes.{IsChange};
 
 use super::State;
+use super::give::give;
 use crate::entry::{Change, Entry, Times, read, write_change};
 use crate::history::History;
 use crate::key::compact;
 use crate::moment::Moment;
 use crate::task::Task;
 use crate::work::Work;
-use goal_graph::{Class, Sched, Timed};
+use goal_graph::{Class, Need, Sched, Timed};
 use sim_eager::{eager_begin, serve};
 use sim_match::Matcher;
 use sim_order::Steps;
@@ -26,12 +30,22 @@ use sim_resources::Resources;
 use std::sync::ledger::Ledger;
 
 impl<'a, C: Costs, H: History> State<'a, C, H> {
-    /// Lets the next action happen. For it the matcher looks at eight entries of match lists at most, those that are passed
-    /// counted when they came (`Matcher::post_counted`).
-    pub fn perform<M: Ledger>(&mut self, action: Timed, looks: &mut Steps<M>)
-        requires { IsNext self.old.plans (C.model self.old.costs) self.old.history action }
+    /// Lets the next action happen, and gives its moments to those that wait for its operation, which an Arrive need not be told: it
+    /// gives none. For the action the matcher looks at eight entries of match lists at most, those that are passed counted when they
+    /// came (`Matcher::post_counted`); `reads` tells how many moments it may give.
+    pub fn perform<M: Ledger, N: Ledger>(
+        &mut self,
+        action: Timed,
+        waiting: &[Need],
+        looks: &mut Steps<M>,
+        reads: &mut Steps<N>,
+    )
+        requires next { IsNext self.old.plans (C.model self.old.costs) self.old.history action }
+        requires whom { action.class ≢ Arrive → waiting.now ≡ waiting_on self.old.plans action.op }
+        requires exist { action.class ≢ Arrive → All (λ need. IsOp self.old.plans (needed action.op need)) waiting.now }
         ensures performed { self.new ≡ record self.old { history = action ∷ self.old.history } }
         ensures looked { looks.new ≤ looks.old + 8 }
+        ensures given { reads.new ≤ reads.old + given_by self.old.plans action }
     {
         let sched = self.sched;
         let change = change_of(
@@ -44,7 +58,19 @@ impl<'a, C: Costs, H: History> State<'a, C, H> {
             action,
             looks,
         );
+        let times = change.times;
         write_change(sched, &mut self.entries, action.op, change, action.time);
+        give(
+            sched,
+            &self.costs,
+            &self.history,
+            &mut self.entries,
+            &mut self.unmet,
+            action,
+            times,
+            waiting,
+            reads,
+        );
         self.history.push(compact(sched, action));
     }
 }
@@ -62,7 +88,11 @@ fn change_of<C: Costs, H: History, M: Ledger>(
     action: Timed,
     looks: &mut Steps<M>,
 ) -> Change
-    requires state { Represents sched.now (C.model costs.now) (H.actions history.now) entries.now matcher.old resources.old (H.has_room history.now) }
+    requires run { IsRun sched.now (C.model costs.now) (H.actions history.now) }
+    requires within { budget sched.now (C.model costs.now) < 2 ^ 63 }
+    requires known { entries.now ≡ map (entry_known sched.now (C.model costs.now) (H.actions history.now)) (operations sched.now) }
+    requires told { KnowsPostsAndArrivals sched.now (C.model costs.now) (H.actions history.now) matcher.old }
+    requires free { AreFreeTimes sched.now (C.model costs.now) (H.actions history.now) resources.old }
     requires next { IsNext sched.now (C.model costs.now) (H.actions history.now) action }
     ensures change { IsChange sched.now (C.model costs.now) (H.actions history.now) action result }
     ensures free { AreFreeTimes sched.now (C.model costs.now) (action ∷ H.actions history.now) resources.new }
@@ -81,7 +111,7 @@ fn change_of<C: Costs, H: History, M: Ledger>(
             Change::of_times(begin(sched, costs, history, resources, action, work, times))
         }
         Class::Post => Change {
-            times: times.with_start(at),
+            times: times.with_start(at).with_no_arrival(),
             partner: matcher.post_counted(id, looks),
             delivered: Moment::NONE,
         },
@@ -128,7 +158,7 @@ fn begin<C: Costs, H: History>(
     requires work { work ≡ work_of sched.now (C.model costs.now) action.op }
     requires times { times ≡ times_known sched.now (C.model costs.now) (H.actions history.now) action.op }
     ensures known { map (with_times action.op result None (entry_known sched.now (C.model costs.now) (H.actions history.now))) (operations sched.now)
-        ≡ map (entry_known sched.now (C.model costs.now) (action ∷ H.actions history.now)) (operations sched.now) }
+        ≡ map (entry_then sched.now (C.model costs.now) (H.actions history.now) action) (operations sched.now) }
     ensures free { AreFreeTimes sched.now (C.model costs.now) (action ∷ H.actions history.now) resources.new }
 {
     let (id, at) = (action.op, action.time);
@@ -137,7 +167,7 @@ fn begin<C: Costs, H: History>(
         Task::Calc => {
             let end = at + work.amount;
             resources.hold_cpu(id, end);
-            times.with_end(end)
+            times.with_end(end).with_no_arrival()
         }
         Task::Eager => {
             let sent = eager_begin(sched, costs, resources, id, work.to, work.amount, at);

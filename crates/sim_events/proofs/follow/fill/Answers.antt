@@ -13,7 +13,7 @@ first = record { rank = 0; op = 0 }
 pub loop-id-init : goal.loop-id-init
 loop-id-init g c =
     let plans = c.args.state.now.plans in
-    (all_due plans _ _ (Contains (operations plans)) _ c.requires.of_it c.requires.empty (λ y is. (listed_places plans y).1 is), c.requires.cursors, λ k few. omega arith, still_placed c.args.queue.now, omega arith)
+    (all_due plans _ _ (Contains (operations plans)) _ c.requires.of_it c.requires.empty (λ y is. (listed_places plans y).1 is), λ k few. omega arith, still_placed c.args.queue.now)
 
 pub refresh-requires : goal.refresh-requires
 refresh-requires g c =
@@ -21,7 +21,6 @@ refresh-requires g c =
     record {
       exists = subst (λ (ps : List Plan). IsOp ps x) c.sched.ensures (c.operations-id-items.ensures.exist c.loop-id.id-index first c.loop-id-test.true);
       possible = possible_keys _ _ _ _ _ c.loop-id.invariant.0;
-      cursors = c.loop-id.invariant.1;
     }
 
 pub loop-id-preserved : goal.loop-id-preserved
@@ -30,7 +29,7 @@ loop-id-preserved g c =
     let items = c.operations-id-items.ensures.all ∙ ap operations c.sched.ensures in
     let k = c.loop-id.id-index in
     let within = subst (λ (xs : List OpId). k < length xs) items c.loop-id-test.true in
-    (refreshed plans _ _ _ _ _ _ _ c.loop-id.invariant.0 c.refresh.ensures.queue (λ y is left differ. still_left (operations plans) k first y within left (λ e. differ (e ∙ ap (λ (xs : List OpId). get_or xs k first) (sym items)))), c.refresh.ensures.cursors, λ k few. omega (arith, c.loop-id.invariant.2 k few, c.refresh.ensures.counted k (omega (arith, few, c.loop-id.invariant.0.of_it.each, c.requires.of_it.each))), placed_again c.args.queue.now _ _ c.loop-id.invariant.3 c.refresh.ensures.placed, omega (arith, c.loop-id.invariant.4, c.refresh.ensures.looked))
+    (refreshed plans _ _ _ _ _ _ _ c.loop-id.invariant.0 c.refresh.ensures.queue (λ y is left differ. still_left (operations plans) k first y within left (λ e. differ (e ∙ ap (λ (xs : List OpId). get_or xs k first) (sym items)))), λ k few. omega (arith, c.loop-id.invariant.1 k few, c.refresh.ensures.counted k (omega (arith, few, c.loop-id.invariant.0.of_it.each, c.requires.of_it.each))), placed_again c.args.queue.now _ _ c.loop-id.invariant.2 c.refresh.ensures.placed)
 
 pub returns-clause-queue : goal.returns-clause-queue
 returns-clause-queue g c =
@@ -39,9 +38,4 @@ returns-clause-queue g c =
     fewer_due plans _ _ _ _ _ c.loop-id.invariant.0 (λ y is left. none_left (operations plans) c.loop-id.id-index y (omega (arith, ap length items, c.loop-id-test.false)) left)
 
 pub returns-clause-counted : goal.returns-clause-counted
-returns-clause-counted g c = λ k few. omega (arith, c.loop-id.invariant.2 k few)
-
-pub returns-clause-looked : goal.returns-clause-looked
-returns-clause-looked g c =
-    let items = c.operations-id-items.ensures.all ∙ ap operations c.sched.ensures in
-    omega (arith, c.loop-id.invariant.4, ap length items, c.loop-id-test.false, c.loop-id.auto.id-index-end)
+returns-clause-counted g c = λ k few. omega (arith, c.loop-id.invariant.1 k few)

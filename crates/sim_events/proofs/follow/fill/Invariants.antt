@@ -1,8 +1,6 @@
-use Rattle.std.proofs.Common.{◌+◌, ◌≤◌, Contains, drop}
+use Rattle.std.proofs.Common.{Contains, drop}
 use Rattle.goal_graph.specs.Schedule.{operations}
 use Rattle.sim_events.specs.Queue.{IsQueueBut}
-use Rattle.sim_state.specs.Cursors.{AreCursors}
-use Rattle.sim_events.specs.Needs.{read_so_far}
 use Rattle.sim_events.specs.Changes.{AreAtPlaces}
 use Rattle.sim_events.proofs.Costs.{IsPaid}
 use Rattle.sim_events.proofs.follow.fill.Given as goal
@@ -10,4 +8,4 @@ use Rattle.sim_events.proofs.follow.fill.Given as goal
 -- the operations that are left are due
 abbrev pub invariant-loop-id : goal.invariant-loop-id
 invariant-loop-id g l =
-    IsQueueBut l.state.plans (g.C.Costs.model l.state.costs) l.state.history (Contains (drop l.id-index (operations l.state.plans))) l.queue × AreCursors l.state.plans (g.C.Costs.model l.state.costs) l.state.history l.cursors × IsPaid l.fn.queue l.fn.steps l.queue l.steps × AreAtPlaces l.fn.queue l.queue × (l.reads + read_so_far l.state.plans l.state.history l.fn.queue l.fn.cursors ≤ l.fn.reads + read_so_far l.state.plans l.state.history l.queue l.cursors + l.id-index)
+    IsQueueBut l.state.plans (g.C.Costs.model l.state.costs) l.state.history (Contains (drop l.id-index (operations l.state.plans))) l.queue × IsPaid l.fn.queue l.fn.steps l.queue l.steps × AreAtPlaces l.fn.queue l.queue

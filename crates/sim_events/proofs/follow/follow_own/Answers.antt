@@ -3,7 +3,7 @@ use Rattle.sim_events.proofs.Queue.{possible_keys, refreshed, fewer_due}
 use Rattle.sim_events.proofs.follow.follow_own.Goals as goal
 
 pub refresh-requires : goal.refresh-requires
-refresh-requires g c = record { exists = c.requires.exists; possible = possible_keys _ _ _ _ _ c.requires.rest; cursors = c.requires.cursors }
+refresh-requires g c = record { exists = c.requires.exists; possible = possible_keys _ _ _ _ _ c.requires.rest }
 
 pub returns-clause-queue : goal.returns-clause-queue
 returns-clause-queue g c =

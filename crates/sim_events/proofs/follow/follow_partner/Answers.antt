@@ -9,7 +9,7 @@ use Rattle.goal_graph.specs.Action.{plain}
 pub refresh-requires : goal.refresh-requires
 refresh-requires g c =
     let is : mate c.args.state.now.plans (g.C.Costs.model c.args.state.now.costs) c.args.state.now.history c.args.action.op ≡ Some c.in-Some.partner = sym c.partner.ensures ∙ c.in-Some.is in
-    record { exists = partner_exists c.args.state.now.plans (plain c.args.state.now.history) c.args.action.op c.in-Some.partner is; possible = possible_keys _ _ _ _ _ c.requires.rest; cursors = c.requires.cursors }
+    record { exists = partner_exists c.args.state.now.plans (plain c.args.state.now.history) c.args.action.op c.in-Some.partner is; possible = possible_keys _ _ _ _ _ c.requires.rest }
 
 pub returns-clause-queue : goal.returns-clause-queue
 returns-clause-queue g c =

@@ -1,14 +1,11 @@
 use Rattle.std.proofs.Common.{◌<◌, ◌∙◌, List, get_or, length, ap, sym, subst, arith}
-use Rattle.std.specs.List.{count_by}
 use Rattle.std.proofs.lemmas.Bool.{both_ways}
-use Rattle.std.proofs.lemmas.List.{take_all}
-use Rattle.std.proofs.lemmas.List.Sums.{count_by_more_yes, count_by_more_no}
 use Rattle.goal_graph.specs.declared.action.Class.{Class}
 use Rattle.goal_graph.specs.declared.plan.Need.{Need}
 use Rattle.goal_graph.specs.declared.plan.When.TheVariants.{AfterEnd}
 use Rattle.goal_graph.specs.Schedule.{needed}
 use Rattle.goal_graph.specs.Concerned.{waiting_on}
-use Rattle.sim_events.specs.Cost.{gives}
+use Rattle.sim_state.specs.Awaited.{gives}
 use Rattle.sim_events.proofs.Awaited.{await_rest, await_skipped, await_none}
 use Rattle.sim_events.proofs.Changes.{placed_again}
 use Rattle.sim_events.proofs.Queue.{possible_keys, refreshed, fewer_due}
@@ -22,7 +19,6 @@ refresh-requires g c =
     record {
       exists = c.requires.exist c.in_default.not-Arrive c.loop-need.need-index none c.loop-need-test.true;
       possible = possible_keys _ _ _ _ _ c.loop-need.invariant.0;
-      cursors = c.loop-need.invariant.1;
     }
 
 pub loop-need-preserved : goal.loop-need-preserved
@@ -32,9 +28,7 @@ loop-need-preserved g c =
     let items = c.requires.whom c.in_default.not-Arrive in
     let k = c.loop-need.need-index in
     let within = subst (λ (ds : List Need). k < length ds) items c.loop-need-test.true in
-    let test = ap (λ (ds : List Need). gives c.args.action.class (get_or ds k none).when) (sym items) ∙ sym c.gives.ensures ∙ c.if-not-gives.false in
-    let more = count_by_more_yes (λ (d : Need). gives c.args.action.class d.when) (waiting_on plans id) k none within test in
-    (refreshed plans _ _ _ _ _ _ _ c.loop-need.invariant.0 c.refresh.ensures.queue (λ y is n differ. await_rest (waiting_on plans id) k none c.args.action.class id y within n (λ e. differ (e ∙ ap (λ (ds : List Need). needed id (get_or ds k none)) (sym items)))), c.refresh.ensures.cursors, λ k few. let same = c.loop-need.invariant.0.of_it.each in let first = c.requires.rest.of_it.each in omega (arith, c.loop-need.invariant.2 k few, c.refresh.ensures.counted k (omega (arith, few, same, first))), placed_again c.args.queue.now _ _ c.loop-need.invariant.3 c.refresh.ensures.placed, omega (arith, c.loop-need.invariant.4, c.refresh.ensures.looked, more))
+    (refreshed plans _ _ _ _ _ _ _ c.loop-need.invariant.0 c.refresh.ensures.queue (λ y is n differ. await_rest (waiting_on plans id) k none c.args.action.class id y within n (λ e. differ (e ∙ ap (λ (ds : List Need). needed id (get_or ds k none)) (sym items)))), λ k few. let same = c.loop-need.invariant.0.of_it.each in let first = c.requires.rest.of_it.each in omega (arith, c.loop-need.invariant.1 k few, c.refresh.ensures.counted k (omega (arith, few, same, first))), placed_again c.args.queue.now _ _ c.loop-need.invariant.2 c.refresh.ensures.placed)
 
 pub loop-need-preserved-then-not-gives : goal.loop-need-preserved-then-not-gives
 loop-need-preserved-then-not-gives g c =
@@ -44,7 +38,7 @@ loop-need-preserved-then-not-gives g c =
     let k = c.loop-need.need-index in
     let within = subst (λ (ds : List Need). k < length ds) items c.loop-need-test.true in
     let other = ap (λ (ds : List Need). gives c.args.action.class (get_or ds k none).when) (sym items) ∙ sym c.gives.ensures ∙ c.if-not-gives.true in
-    (fewer_due plans _ _ _ _ _ c.loop-need.invariant.0 (λ y is n. await_skipped (waiting_on plans id) k none c.args.action.class id y within other n), c.loop-need.invariant.1, c.loop-need.invariant.2, c.loop-need.invariant.3, omega (arith, c.loop-need.invariant.4, count_by_more_no (λ (d : Need). gives c.args.action.class d.when) (waiting_on plans id) k none within other))
+    (fewer_due plans _ _ _ _ _ c.loop-need.invariant.0 (λ y is n. await_skipped (waiting_on plans id) k none c.args.action.class id y within other n), c.loop-need.invariant.1, c.loop-need.invariant.2)
 
 -- an Arrive gives nothing
 pub returns-in-Arrive-clause-queue : goal.returns-in-Arrive-clause-queue
@@ -59,12 +53,4 @@ returns-clause-queue g c =
     fewer_due plans _ _ _ _ _ c.loop-need.invariant.0 (λ y is n. await_none (waiting_on plans id) c.loop-need.need-index none c.args.action.class id y (omega (arith, ap length items, c.loop-need-test.false)) n)
 
 pub returns-clause-counted : goal.returns-clause-counted
-returns-clause-counted g c = c.loop-need.invariant.2
-
-pub returns-clause-looked : goal.returns-clause-looked
-returns-clause-looked g c =
-    let plans = c.args.state.now.plans in
-    let id = c.args.action.op in
-    let items = c.requires.whom c.in_default.not-Arrive in
-    let whole = take_all c.loop-need.need-index (waiting_on plans id) (omega (arith, ap length items, c.loop-need-test.false)) in
-    omega (arith, c.loop-need.invariant.4, ap (count_by (λ (d : Need). gives c.args.action.class d.when)) whole)
+returns-clause-counted g c = c.loop-need.invariant.1

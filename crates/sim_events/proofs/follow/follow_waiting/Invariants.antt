@@ -1,11 +1,6 @@
-use Rattle.std.proofs.Common.{◌+◌, ◌≤◌, drop, take}
-use Rattle.std.specs.List.{count_by}
-use Rattle.goal_graph.specs.declared.plan.Need.{Need}
+use Rattle.std.proofs.Common.{drop}
 use Rattle.goal_graph.specs.Concerned.{waiting_on}
 use Rattle.sim_events.specs.Queue.{IsAwaiting, IsQueueBut}
-use Rattle.sim_events.specs.Cost.{gives}
-use Rattle.sim_state.specs.Cursors.{AreCursors}
-use Rattle.sim_events.specs.Needs.{read_so_far}
 use Rattle.sim_events.specs.Changes.{AreAtPlaces}
 use Rattle.sim_events.proofs.Costs.{IsPaid}
 use Rattle.sim_events.proofs.follow.follow_waiting.Given as goal
@@ -13,4 +8,4 @@ use Rattle.sim_events.proofs.follow.follow_waiting.Given as goal
 -- those that are left are due
 abbrev pub invariant-loop-need : goal.invariant-loop-need
 invariant-loop-need g l =
-    IsQueueBut l.state.plans (g.C.Costs.model l.state.costs) l.state.history (IsAwaiting (drop l.need-index (waiting_on l.state.plans l.action.op)) l.action.class l.action.op) l.queue × AreCursors l.state.plans (g.C.Costs.model l.state.costs) l.state.history l.cursors × IsPaid l.fn.queue l.fn.steps l.queue l.steps × AreAtPlaces l.fn.queue l.queue × (l.reads + read_so_far l.state.plans l.state.history l.fn.queue l.fn.cursors ≤ l.fn.reads + read_so_far l.state.plans l.state.history l.queue l.cursors + count_by (λ (d : Need). gives l.action.class d.when) (take l.need-index (waiting_on l.state.plans l.action.op)))
+    IsQueueBut l.state.plans (g.C.Costs.model l.state.costs) l.state.history (IsAwaiting (drop l.need-index (waiting_on l.state.plans l.action.op)) l.action.class l.action.op) l.queue × IsPaid l.fn.queue l.fn.steps l.queue l.steps × AreAtPlaces l.fn.queue l.queue

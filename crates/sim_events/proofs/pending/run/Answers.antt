@@ -2,7 +2,6 @@ use Rattle.std.proofs.Common.{◌*◌, ◌+◌, length, sym, ap, ◌∙◌, arit
 use Rattle.goal_graph.specs.Schedule.{operations}
 use Rattle.sim_events.proofs.Changes.{changed_most}
 use Rattle.sim_events.proofs.Costs.{spent_none}
-use Rattle.sim_events.proofs.Passed.{read_most}
 use Rattle.sim_events.proofs.Queue.{empty_from}
 use Rattle.sim_events.proofs.Runs.{stepped_plans, stepped_costs, stepped_length, stepped_last, fewer_left, none_counted, some_look, look_most}
 use Rattle.sim_events.proofs.pending.run.Goals as goal
@@ -51,10 +50,10 @@ returns-clause-counted g c =
     let stepped = c.step.ensures.stepped in
     let none = sym c.is_some.ensures ∙ c.steps-test.false in
     let finished = stepped_last model _ _ c.step.result none stepped in
-    let empty = empty_from _ _ _ c.step.new.pending.queue c.step.ensures.pending.0 finished in
+    let empty = empty_from _ _ _ c.step.new.queue c.step.ensures.pending.0 finished in
     let step = c.step.ensures.counted k (omega (arith, few, ap (λ ps. length (operations ps)) c.steps.invariant.1)) in
     let more = stepped_length model _ _ c.step.result stepped in
-    omega (arith, c.steps.invariant.3 k few, step, ap (λ n. n * (18 * k + 29)) more, ap (λ n. n * (18 * k + 29)) (none_counted c.step.result none), spent_none k c.step.new.pending.queue empty, look_most c.step.result)
+    omega (arith, c.steps.invariant.3 k few, step, ap (λ n. n * (18 * k + 29)) more, ap (λ n. n * (18 * k + 29)) (none_counted c.step.result none), spent_none k c.step.new.queue empty, look_most c.step.result)
 
 pub returns-clause-looked : goal.returns-clause-looked
 returns-clause-looked g c =
@@ -63,14 +62,11 @@ returns-clause-looked g c =
 
 pub returns-clause-moved : goal.returns-clause-moved
 returns-clause-moved g c =
-    let first = c.requires.pending.2 in
+    let first = c.requires.pending.1 in
     let so_far = c.steps.invariant.4 first.0 first.1 in
     let now = c.step.ensures.moved so_far.now so_far.changed in
-    let most = changed_most c.step.new.state.plans (g.C.Costs.model c.step.new.state.costs) c.step.new.state.history c.step.new.pending.queue c.step.ensures.pending.0.of_it.stationed now.now now.changed in
+    let most = changed_most c.step.new.state.plans (g.C.Costs.model c.step.new.state.costs) c.step.new.state.history c.step.new.queue c.step.ensures.pending.0.of_it.stationed now.now now.changed in
     omega (arith, so_far.counted, now.counted, most)
 
 pub returns-clause-needed : goal.returns-clause-needed
-returns-clause-needed g c =
-    let state = c.step.new.state in
-    let most = read_most state.plans (g.C.Costs.model state.costs) state.history c.step.new.pending.queue c.step.new.pending.cursors.items c.step.ensures.pending.1 in
-    omega (arith, c.steps.invariant.6, c.step.ensures.needed, most)
+returns-clause-needed g c = omega (arith, c.steps.invariant.6, c.step.ensures.needed)

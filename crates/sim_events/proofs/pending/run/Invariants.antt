@@ -2,8 +2,7 @@ use Rattle.std.proofs.Common.{◌≡◌, ◌+◌, ◌*◌, ◌-◌, ◌≤◌, �
 use Rattle.goal_graph.specs.Schedule.{operations}
 use Rattle.sim_stations.specs.Stations.{cost_of_waiting}
 use Rattle.sim_events.specs.Comparisons.{spent}
-use Rattle.sim_events.specs.Cost.{cost_of_actions, all_looked_after}
-use Rattle.sim_events.specs.Needs.{read_so_far}
+use Rattle.sim_events.specs.Cost.{cost_of_actions, most_reads}
 use Rattle.sim_events.specs.Changes.{HaveChanged, HaveChangedOn}
 use Rattle.sim_events.specs.Pending.{IsPendingOf}
 use Rattle.sim_events.proofs.pending.run.Given as goal
@@ -11,15 +10,15 @@ use Rattle.sim_events.proofs.pending.run.Given as goal
 -- what has been compared is paid by the actions, the changes of place, and the keys that are there
 abbrev pub invariant-steps : goal.invariant-steps
 invariant-steps g l =
-    IsPendingOf g.C.Costs.model l.state l.pending
+    IsPendingOf g.C.Costs.model l.state l.queue
     × (l.state.plans ≡ l.fn.state.plans)
     × (l.state.costs ≡ l.fn.state.costs)
     × ((k : ℕ) → length (operations l.fn.state.plans) ≤ 2 ^ k
-    → l.steps + cost_of_waiting k l.pending.queue.stands + spent k l.fn.pending.queue + cost_of_actions k (length l.fn.state.history) l.fn.moves
-    ≤ l.fn.steps + cost_of_waiting k l.fn.pending.queue.stands + spent k l.pending.queue + cost_of_actions k (length l.state.history) l.moves)
-    × ((all : ℕ) → HaveChanged l.fn.state.plans l.fn.state.history l.fn.pending.queue all → HaveChangedOn l.state.plans l.state.history l.pending.queue all l.fn.moves l.moves)
+    → l.steps + cost_of_waiting k l.queue.stands + spent k l.fn.queue + cost_of_actions k (length l.fn.state.history) l.fn.moves
+    ≤ l.fn.steps + cost_of_waiting k l.fn.queue.stands + spent k l.queue + cost_of_actions k (length l.state.history) l.moves)
+    × ((all : ℕ) → HaveChanged l.fn.state.plans l.fn.state.history l.fn.queue all → HaveChangedOn l.state.plans l.state.history l.queue all l.fn.moves l.moves)
     × (l.looks + 8 * length l.fn.state.history ≤ l.fn.looks + 8 * length l.state.history)
-    × (l.reads + read_so_far l.fn.state.plans l.fn.state.history l.fn.pending.queue l.fn.pending.cursors.items + all_looked_after l.fn.state.plans l.fn.state.history ≤ l.fn.reads + read_so_far l.state.plans l.state.history l.pending.queue l.pending.cursors.items + all_looked_after l.state.plans l.state.history)
+    × (l.reads + most_reads l.fn.state.plans l.fn.state.history ≤ l.fn.reads + most_reads l.state.plans l.state.history)
 
 abbrev pub decreases-steps : goal.decreases-steps
 decreases-steps g l = 3 * length (operations l.state.plans) - length l.state.history

@@ -1,26 +1,21 @@
-use Rattle.std.proofs.Common.{◌<◌, ◌∙◌, List, All, length, sym, ap, subst, arith}
+use Rattle.std.proofs.Common.{◌<◌, ◌∙◌, List, All, length, ap, subst, arith}
 use Rattle.std.proofs.lemmas.Option.{slice_get_within}
 use Rattle.goal_graph.specs.declared.plan.Need.{Need}
 use Rattle.goal_graph.specs.Schedule.{Plan, operations, needed}
 use Rattle.goal_graph.specs.Concerned.{waiting_on}
 use Rattle.goal_graph.specs.Fault.{IsOp}
-use Rattle.sim_state.specs.Cursors.{AreCursors}
 use Rattle.sim_events.specs.Comparisons.{count_of, last_look}
 use Rattle.sim_events.proofs.Costs.{spent_same}
-use Rattle.goal_graph.proofs.ForCallers.{whole_back}
-use Rattle.sim_events.proofs.Cursors.{cursors_after}
-use Rattle.sim_events.specs.Needs.{read_so_far}
-use Rattle.sim_events.proofs.Passed.{read_same}
 use Rattle.sim_events.proofs.Settled.{spent_settled}
 use Rattle.sim_events.proofs.Changes.{changed_placed}
-use Rattle.sim_events.proofs.Steps.{next_op, plans_after, op_after, due_after, later_after, changed_after, read_after, looked_more}
+use Rattle.sim_events.proofs.Steps.{next_op, plans_after, op_after, due_after, later_after, changed_after, looked_more}
 use Rattle.sim_events.proofs.pending.step.Goals as goal
 
 pub returns-in_err-slot-clause-counted : goal.returns-in_err-slot-clause-counted
 returns-in_err-slot-clause-counted g c =
     λ k few.
     let next = c.next.ensures.counted k (omega (arith, few, c.requires.pending.0.of_it.each)) in
-    omega (arith, next, spent_same k c.args.pending.now.queue c.next.new.queue c.next.ensures.keys, ap last_look c.from_residual.ensures, ap count_of c.from_residual.ensures)
+    omega (arith, next, spent_same k c.args.queue.now c.next.new.queue c.next.ensures.keys, ap last_look c.from_residual.ensures, ap count_of c.from_residual.ensures)
 
 pub waiting_after-waiting-requires : goal.waiting_after-waiting-requires
 waiting_after-waiting-requires g c =
@@ -52,13 +47,6 @@ pub follow-requires-clause-rest : goal.follow-requires-clause-rest
 follow-requires-clause-rest g c =
     due_after g.C.Costs.model c.args.state.now c.perform.new.self c.in_ok-slot.action c.next.new.queue c.settle.new.queue c.in_ok-slot.slot c.perform.ensures.performed c.known.ensures.run c.in_ok-slot.ensures.next c.in_ok-slot.ensures.queue c.in_ok-slot.ensures.slot c.settle.ensures.settled
 
-pub follow-requires-clause-cursors : goal.follow-requires-clause-cursors
-follow-requires-clause-cursors g c =
-    let model = g.C.Costs.model in
-    let state = c.args.state.now in
-    let after = c.perform.new.self in
-    subst (AreCursors after.plans (model after.costs) after.history) (sym c.deref_mut.ensures.value) (cursors_after model state after c.in_ok-slot.action _ c.perform.ensures.performed c.requires.pending.1)
-
 pub returns-clause-counted : goal.returns-clause-counted
 returns-clause-counted g c =
     λ k few.
@@ -70,17 +58,14 @@ returns-clause-counted g c =
     let settle = c.settle.ensures.counted k (omega (arith, few, found)) in
     let follow = c.follow.ensures.counted k (omega (arith, few, found, settled.each)) in
     let gone = spent_settled k _ _ c.in_ok-slot.slot c.in_ok-slot.action c.next.new.queue c.settle.new.queue settled c.in_ok-slot.ensures.key within in
-    omega (arith, next, settle, follow, gone, spent_same k c.args.pending.now.queue c.next.new.queue c.next.ensures.keys)
+    omega (arith, next, settle, follow, gone, spent_same k c.args.queue.now c.next.new.queue c.next.ensures.keys)
 
 pub returns-clause-pending : goal.returns-clause-pending
 returns-clause-pending g c =
-    let first = c.requires.pending.2 in
+    let first = c.requires.pending.1 in
     let found = c.next.ensures.moved first.0 first.1 in
     let settled = changed_after g.C.Costs.model c.args.state.now c.perform.new.self c.in_ok-slot.action c.next.new.queue c.settle.new.queue c.in_ok-slot.slot c.perform.ensures.performed c.in_ok-slot.ensures.queue c.in_ok-slot.ensures.slot c.settle.ensures.settled found.now found.changed in
-    let state = c.perform.new.self in
-    let cursors = c.args.pending.now.cursors in
-    let whole = whole_back cursors.len c.follow.new.cursors cursors.items (c.follow.auto.cursors ∙ ap length c.deref_mut.ensures.value) cursors.ok.0 in
-    (c.follow.ensures.queue, subst (AreCursors state.plans (g.C.Costs.model state.costs) state.history) (sym whole) c.follow.ensures.cursors, (found.now, changed_placed _ _ _ c.follow.new.queue found.now settled c.follow.ensures.placed))
+    (c.follow.ensures.queue, (found.now, changed_placed _ _ _ c.follow.new.queue found.now settled c.follow.ensures.placed))
 
 pub returns-clause-moved : goal.returns-clause-moved
 returns-clause-moved g c =
@@ -91,18 +76,10 @@ returns-clause-moved g c =
 
 pub returns-in_err-slot-clause-pending : goal.returns-in_err-slot-clause-pending
 returns-in_err-slot-clause-pending g c =
-    let first = c.requires.pending.2 in
+    let first = c.requires.pending.1 in
     let found = c.next.ensures.moved first.0 first.1 in
-    (c.next.ensures.queue, c.requires.pending.1, (found.now, found.changed))
+    (c.next.ensures.queue, (found.now, found.changed))
 
 pub returns-clause-needed : goal.returns-clause-needed
 returns-clause-needed g c =
-    let old = c.args.state.now in
-    let state = c.perform.new.self in
-    let action = c.in_ok-slot.action in
-    let cursors = c.args.pending.now.cursors in
-    let whole = whole_back cursors.len c.follow.new.cursors cursors.items (c.follow.auto.cursors ∙ ap length c.deref_mut.ensures.value) cursors.ok.0 in
-    let found = read_same old.plans old.history c.args.pending.now.queue c.next.new.queue cursors.items c.next.ensures.keys in
-    let settled = read_after g.C.Costs.model old state action c.next.new.queue c.settle.new.queue c.in_ok-slot.slot c.perform.ensures.performed c.in_ok-slot.ensures.next c.in_ok-slot.ensures.slot c.in_ok-slot.ensures.key c.settle.ensures.settled cursors.items in
-    let same = ap (read_so_far state.plans state.history c.settle.new.queue) c.deref_mut.ensures.value in
-    omega (arith, c.follow.ensures.looked, same, found, settled, looked_more g.C.Costs.model old state action c.perform.ensures.performed, ap (read_so_far state.plans state.history c.follow.new.queue) whole)
+    omega (arith, c.perform.ensures.given, looked_more g.C.Costs.model c.args.state.now c.perform.new.self c.in_ok-slot.action c.perform.ensures.performed)

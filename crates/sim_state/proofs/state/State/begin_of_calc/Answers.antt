@@ -1,4 +1,4 @@
-use Rattle.std.proofs.Common.{is_some, subst, sym, ap, ap₂, ◌∙◌, max}
+use Rattle.std.proofs.Common.{subst, sym, ap₂, ◌∙◌, max}
 use Rattle.goal_graph.specs.declared.action.Class.TheVariants.{Begin}
 use Rattle.goal_graph.specs.Fault.{IsOp}
 use Rattle.sim_state.proofs.Places.{calc_is_op}
@@ -6,26 +6,26 @@ use Rattle.sim_state.proofs.Views.{free_at_view}
 use Rattle.sim_state.proofs.EnabledLemmas.{calc_begins, begun_not_enabled, unready_not_enabled, ready_enabled, calc_time}
 use Rattle.sim_state.proofs.state.State.begin_of_calc.Goals as goal
 
-pub entry-requires : goal.entry-requires
-entry-requires g c = calc_is_op _ c.args.calc c.requires.op
+pub has_started-requires : goal.has_started-requires
+has_started-requires g c = calc_is_op _ c.args.calc c.requires
 
-pub returns-then-is_some-clause-enabled : goal.returns-then-is_some-clause-enabled
-returns-then-is_some-clause-enabled g c =
-    begun_not_enabled _ _ _ c.args.calc Begin (calc_begins _ _ _ c.args.calc c.requires.op) c.entry.result.now c.entry.ensures (ap is_some (sym c.get.ensures) ∙ sym c.is_some.ensures ∙ c.if-is_some.true)
+pub returns-then-has_started : goal.returns-then-has_started
+returns-then-has_started g c =
+    begun_not_enabled _ _ _ c.args.calc Begin (calc_begins _ _ _ c.args.calc c.requires) (sym c.has_started.ensures ∙ c.if-has_started.true)
 
-pub ready-requires-clause-op : goal.ready-requires-clause-op
-ready-requires-clause-op g c = calc_is_op _ c.args.calc c.requires.op
+pub ready-requires-clause-exists : goal.ready-requires-clause-exists
+ready-requires-clause-exists g c = calc_is_op _ c.args.calc c.requires
 
-pub returns-in_err-ready-clause-enabled : goal.returns-in_err-ready-clause-enabled
-returns-in_err-ready-clause-enabled g c =
-    c.from_residual.ensures ∙ unready_not_enabled _ _ _ c.args.calc Begin (calc_begins _ _ _ c.args.calc c.requires.op) c.ready.result c.ready.ensures.ready c.in_err-ready.was
+pub returns-in_err-ready : goal.returns-in_err-ready
+returns-in_err-ready g c =
+    c.from_residual.ensures ∙ unready_not_enabled _ _ _ c.args.calc Begin (calc_begins _ _ _ c.args.calc c.requires) c.ready.result c.ready.ensures c.in_err-ready.was
 
 pub cpu-requires : goal.cpu-requires
 cpu-requires g c =
     let free = free_at_view g.C.Costs.model _ _ _ c.self.view_is c.self.invariant.free in
-    subst (λ plans. IsOp plans c.args.calc) (sym free.same_plans) (calc_is_op _ c.args.calc c.requires.op)
+    subst (λ plans. IsOp plans c.args.calc) (sym free.same_plans) (calc_is_op _ c.args.calc c.requires)
 
-pub returns-clause-enabled : goal.returns-clause-enabled
-returns-clause-enabled g c =
+pub returns : goal.returns
+returns g c =
     let free = free_at_view g.C.Costs.model _ _ _ c.self.view_is c.self.invariant.free in
-    ready_enabled _ _ _ c.args.calc Begin (calc_begins _ _ _ c.args.calc c.requires.op) c.entry.result.now c.entry.ensures (ap is_some (sym c.get.ensures) ∙ sym c.is_some.ensures ∙ c.if-is_some.false) c.ready.result c.in_ok-ready.ready c.max.result c.ready.ensures.ready c.in_ok-ready.was (λ e. c.max.ensures ∙ ap₂ max (sym e) (c.cpu.ensures ∙ free.cpus c.args.calc) ∙ sym (calc_time _ _ _ c.args.calc c.requires.op))
+    ready_enabled _ _ _ c.args.calc Begin (calc_begins _ _ _ c.args.calc c.requires) (sym c.has_started.ensures ∙ c.if-has_started.false) c.ready.result c.in_ok-ready.ready c.max.result c.ready.ensures c.in_ok-ready.was (λ e. c.max.ensures ∙ ap₂ max (sym e) (c.cpu.ensures ∙ free.cpus c.args.calc) ∙ sym (calc_time _ _ _ c.args.calc c.requires))

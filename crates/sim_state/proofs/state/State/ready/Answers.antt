@@ -1,23 +1,33 @@
-use Rattle.std.proofs.Common.{◌≡◌, ℕ, true, false, Option, Some, None, is_some, refl, ◌∙◌, length, not, ap, sym, arith}
-use Rattle.std.proofs.lemmas.Bool.{both_ways}
-use Rattle.goal_graph.specs.Schedule.{needs}
-use Rattle.sim_state.specs.Cursors.{all_if_met}
-use Rattle.sim_state.proofs.Ready.{unready_known, all_met_known}
+use Rattle.std.proofs.Common.{◌≡◌, ℕ, false, None, List, get_or, sym, ap, ◌∙◌, subst}
+use Rattle.goal_graph.specs.Schedule.{operations}
+use Rattle.goal_graph.specs.Action.{plain}
+use Rattle.goal_graph.specs.Allowed.{has_started}
+use Rattle.goal_graph.proofs.ForCallers.{entry_of}
+use Rattle.sim_state.specs.declared.entry.Entry.{Entry}
+use Rattle.sim_state.specs.Engine.{View}
+use Rattle.sim_state.specs.Awaited.{unmet}
+use Rattle.sim_state.specs.Enabled.{ready_known}
+use Rattle.sim_state.specs.Represents.{entry_known}
+use Rattle.sim_state.proofs.Ready.{still_unready, now_ready}
 use Rattle.sim_state.proofs.state.State.ready.Goals as goal
 
-pub returns-then-not-is_ready-clause-ready : goal.returns-then-not-is_ready-clause-ready
-returns-then-not-is_ready-clause-ready g c =
-    let v = c.args.self.now in
-    sym (unready_known v.plans (g.C.Costs.model v.costs) v.history c.args.id (sym c.is_ready.ensures.ready ∙ c.if-not-is_ready.true))
+pub returns-then-index-gt0 : goal.returns-then-index-gt0
+returns-then-index-gt0 g c =
+    let plans = c.self.inside.sched.now in
+    let costs = g.C.Costs.model c.self.inside.costs in
+    let history = g.H.History.actions c.self.inside.history in
+    let place = c.index-place.result in
+    let count = c.index.ensures ∙ ap (λ (us : List ℕ). get_or us place c.index.result.now) c.self.invariant.waiting ∙ entry_of (unmet plans costs history) (operations plans) place c.args.id _ c.index-place.ensures.index in
+    subst (λ (v : View _). None ≡ ready_known v.plans (g.C.Costs.model v.costs) v.history c.args.id) c.self.view_is (still_unready plans costs history c.args.id c.index.result.now count c.if-index-gt0.true)
 
--- what is found of needs that are all met is there
-met_all : (n : ℕ) (r : Option ℕ) → is_some r ≡ true → all_if_met n r ≡ n
-met_all n (Some m) e = refl
-met_all n None e = absurd (both_ways false refl e)
-
-pub returns-clause-looked : goal.returns-clause-looked
-returns-clause-looked g c =
-    let v = c.args.self.now in
-    let known = all_met_known v.plans (g.C.Costs.model v.costs) v.history c.args.id (sym c.is_ready.ensures.ready ∙ c.if-not-is_ready.false) in
-    let all = met_all (length (needs v.plans c.args.id)) c.last_moment.result (ap is_some c.last_moment.ensures.ready ∙ known) in
-    omega (arith, all, c.last_moment.ensures.looked, c.is_ready.ensures.looked)
+pub returns : goal.returns
+returns g c =
+    let plans = c.self.inside.sched.now in
+    let costs = g.C.Costs.model c.self.inside.costs in
+    let history = g.H.History.actions c.self.inside.history in
+    let place = c.index-place.result in
+    let count = c.index.ensures ∙ ap (λ (us : List ℕ). get_or us place c.index.result.now) c.self.invariant.waiting ∙ entry_of (unmet plans costs history) (operations plans) place c.args.id _ c.index-place.ensures.index in
+    let entry = c.index-2.ensures ∙ ap (λ (es : List Entry). get_or es place c.index-2.result.now) c.self.invariant.known ∙ entry_of (entry_known plans costs history) (operations plans) place c.args.id _ c.index-place.ensures.index in
+    let last = c.get.ensures ∙ ap (λ (e : Entry). e.times.awaited) entry in
+    let waits = subst (λ (v : View _). has_started v.plans c.args.id (plain v.history) ≡ false) (sym c.self.view_is) c.requires.fresh in
+    subst (λ (v : View _). c.get.result ≡ ready_known v.plans (g.C.Costs.model v.costs) v.history c.args.id) c.self.view_is (now_ready plans costs history c.args.id c.index.result.now count c.if-index-gt0.false c.get.result last waits)

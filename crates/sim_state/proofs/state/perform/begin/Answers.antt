@@ -1,4 +1,4 @@
-use Rattle.std.proofs.Common.{List, ◌+◌, Some, sym, ap, ◌∙◌, subst, arith}
+use Rattle.std.proofs.Common.{List, ◌+◌, Some, None, sym, ap, ◌∙◌, subst, arith}
 use Rattle.goal_graph.specs.Fault.{IsOp}
 use Rattle.goal_graph.specs.Schedule.{Plan}
 use Rattle.sim_state.specs.declared.entry.Times.{Times}
@@ -59,7 +59,7 @@ unreachable-requires g c =
 
 pub returns-in-Calc-clause-known : goal.returns-in-Calc-clause-known
 returns-in-Calc-clause-known g c =
-    calc_known c.args.sched.now (g.C.Costs.model c.args.costs.now) (g.H.History.actions c.args.history.now) c.args.action c.requires.run c.requires.within c.requires.next.possible c.requires.class c.args.work c.requires.work c.in-Calc.is _ (c.with_end.ensures ∙ ap (λ (t : Times). record t { end = Some (c.args.action.time + c.args.work.amount) }) (c.with_start-times.ensures ∙ ap (λ (t : Times). record t { start = Some c.args.action.time }) c.requires.times))
+    calc_known c.args.sched.now (g.C.Costs.model c.args.costs.now) (g.H.History.actions c.args.history.now) c.args.action c.requires.run c.requires.within c.requires.next.possible c.requires.class c.args.work c.requires.work c.in-Calc.is _ (c.with_no_arrival.ensures ∙ ap (λ (t : Times). record t { awaited = None }) (c.with_end.ensures ∙ ap (λ (t : Times). record t { end = Some (c.args.action.time + c.args.work.amount) }) (c.with_start-times.ensures ∙ ap (λ (t : Times). record t { start = Some c.args.action.time }) c.requires.times)))
 
 pub returns-in-Calc-clause-free : goal.returns-in-Calc-clause-free
 returns-in-Calc-clause-free g c =
@@ -67,7 +67,7 @@ returns-in-Calc-clause-free g c =
 
 pub returns-in-Eager-clause-known : goal.returns-in-Eager-clause-known
 returns-in-Eager-clause-known g c =
-    eager_known c.args.sched.now (g.C.Costs.model c.args.costs.now) (g.H.History.actions c.args.history.now) c.args.action c.requires.run c.requires.within c.requires.next.possible c.requires.class c.args.work c.requires.work c.in-Eager.is _ _ c.eager_begin-sent.ensures.end c.eager_begin-sent.ensures.arrive _ (c.with_arrival.ensures ∙ ap (λ (t : Times). record t { arriving = Some c.eager_begin-sent.result.arrive }) (c.with_end-in-Eager.ensures ∙ ap (λ (t : Times). record t { end = Some c.eager_begin-sent.result.end }) (c.with_start-times.ensures ∙ ap (λ (t : Times). record t { start = Some c.args.action.time }) c.requires.times)))
+    eager_known c.args.sched.now (g.C.Costs.model c.args.costs.now) (g.H.History.actions c.args.history.now) c.args.action c.requires.run c.requires.within c.requires.next.possible c.requires.class c.args.work c.requires.work c.in-Eager.is _ _ c.eager_begin-sent.ensures.end c.eager_begin-sent.ensures.arrive _ (c.with_arrival.ensures ∙ ap (λ (t : Times). record t { awaited = Some c.eager_begin-sent.result.arrive }) (c.with_end-in-Eager.ensures ∙ ap (λ (t : Times). record t { end = Some c.eager_begin-sent.result.end }) (c.with_start-times.ensures ∙ ap (λ (t : Times). record t { start = Some c.args.action.time }) c.requires.times)))
 
 pub returns-in-Eager-clause-free : goal.returns-in-Eager-clause-free
 returns-in-Eager-clause-free g c =
@@ -75,7 +75,7 @@ returns-in-Eager-clause-free g c =
 
 pub returns-in-Large-clause-known : goal.returns-in-Large-clause-known
 returns-in-Large-clause-known g c =
-    request_known c.args.sched.now (g.C.Costs.model c.args.costs.now) (g.H.History.actions c.args.history.now) c.args.action c.requires.run c.requires.within c.requires.next.possible c.requires.class c.args.work c.requires.work c.in-Large.is _ c.request-arrive.ensures.arrive _ (c.with_arrival-in-Large.ensures ∙ ap (λ (t : Times). record t { arriving = Some c.request-arrive.result }) (c.with_start-times.ensures ∙ ap (λ (t : Times). record t { start = Some c.args.action.time }) c.requires.times))
+    request_known c.args.sched.now (g.C.Costs.model c.args.costs.now) (g.H.History.actions c.args.history.now) c.args.action c.requires.run c.requires.within c.requires.next.possible c.requires.class c.args.work c.requires.work c.in-Large.is _ c.request-arrive.ensures.arrive _ (c.with_arrival-in-Large.ensures ∙ ap (λ (t : Times). record t { awaited = Some c.request-arrive.result }) (c.with_start-times.ensures ∙ ap (λ (t : Times). record t { start = Some c.args.action.time }) c.requires.times))
 
 pub returns-in-Large-clause-free : goal.returns-in-Large-clause-free
 returns-in-Large-clause-free g c =

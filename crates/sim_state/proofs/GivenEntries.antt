@@ -1,0 +1,209 @@
+-- The entries and the counts of the operations, while those that wait for an action's operation are given its moments one after
+-- another.
+use Rattle.std.proofs.Common.{◌≡◌, ◌≢◌, ◌&&◌, ◌+◌, ◌-◌, ◌≤◌, ℕ, Bool, true, false, not, max, List, [], ◌∷◌, ◌++◌, count_by, Option, Some, None, if◌then◌else◌, inl, inr, refl, sym, ap, ap₂, ◌∙◌, arith}
+use Rattle.std.specs.List.{list_all}
+use Rattle.std.specs.Option.{option_map}
+use Rattle.std.proofs.lemmas.Bool.{and_left, and_right, and_parts, cases_Bool, cond-true, cond-false}
+use Rattle.goal_graph.specs.declared.action.OpId.{OpId}
+use Rattle.goal_graph.specs.declared.action.Timed.{Timed}
+use Rattle.goal_graph.specs.declared.action.Class.TheVariants.{Arrive, Begin}
+use Rattle.goal_graph.specs.declared.plan.Need.{Need}
+use Rattle.goal_graph.specs.declared.plan.When.{When}
+use Rattle.goal_graph.specs.declared.plan.When.TheVariants.{AfterEnd, AfterStart}
+use Rattle.goal_graph.specs.Schedule.{Plan, kind_at, needs, needed}
+use Rattle.goal_graph.specs.Concerned.{waiting_on}
+use Rattle.goal_graph.specs.Action.{same_op, plain}
+use Rattle.goal_graph.specs.Allowed.{first_class, has_started, is_ready}
+use Rattle.goal_graph.specs.Entries.{with_entry}
+use Rattle.goal_graph.proofs.ForCallers.{at_entry, cases_op, count-cons, entry_written, off_entry, same_op_itself, same_op_swapped}
+use Rattle.sim_params.specs.Costs.{CostModel}
+use Rattle.sim_params.specs.Times.{greatest, met_at, Possible}
+use Rattle.sim_params.specs.Run.{IsRun}
+use Rattle.sim_params.specs.Budget.{budget}
+use Rattle.sim_params.proofs.ForCallers.{run_each, within_budget}
+use Rattle.sim_state.specs.declared.entry.Entry.{Entry}
+use Rattle.sim_state.specs.declared.entry.Times.{Times}
+use Rattle.sim_state.specs.Awaited.{is_there, unmet, last_given, awaited_known}
+use Rattle.sim_state.specs.Given.{given_times, with_given, moment_in}
+use Rattle.sim_state.specs.Represents.{times_known, entry_known, entry_then}
+use Rattle.sim_state.proofs.After.{arriving_same, happened_same, other_op}
+use Rattle.sim_state.proofs.GivenCounts.{counted_those, given_to, greatest_none, greatest_push, greatest_uncounted, last_those, names, one_if}
+use Rattle.sim_state.proofs.GivenMoments.{is_given, started_was_ready, there_now}
+
+-- a moment that may not be there is at least another, or the greater of two others
+abbrev raised : ℕ → Option ℕ → Option ℕ
+raised n o = option_map (λ (last : ℕ). max last n) o
+
+raised_none : (o : Option ℕ) (n : ℕ) → n ≡ 0 → raised n o ≡ o
+raised_none None n e = refl
+raised_none (Some m) n e = let same : max m n ≡ m = omega arith in ap Some same
+
+raised_twice : (o : Option ℕ) (m n k : ℕ) → k ≡ max m n → raised n (raised m o) ≡ raised k o
+raised_twice None m n k e = refl
+raised_twice (Some l) m n k e = let same : max (max l m) n ≡ max l k = omega arith in ap Some same
+
+given_none : (t : Times) (n : ℕ) → n ≡ 0 → given_times n t ≡ t
+given_none t n e = ap (λ (o : Option ℕ). record t { awaited = o }) (raised_none t.awaited n e)
+
+given_twice : (t : Times) (m n k : ℕ) → k ≡ max m n → given_times n (given_times m t) ≡ given_times k t
+given_twice t m n k e = ap (λ (o : Option ℕ). record t { awaited = o }) (raised_twice t.awaited m n k e)
+
+-- where all pass, none fails
+none_fails : {A : Type 0} (p : A → Bool) (xs : List A) → list_all p xs ≡ true → count_by (λ (x : A). not (p x)) xs ≡ 0
+none_fails p [] e = refl
+none_fails {A} p (x ∷ xs) e =
+    let parts = and_parts (p x) (list_all p xs) e in
+    count-cons (λ (x : A). not (p x)) x xs ∙ ap₂ (λ (b : Bool) (n : ℕ). one_if (not b) + n) parts.0 (none_fails p xs parts.1)
+
+module _ (plans : List Plan) (costs : CostModel) (h : List Timed) (a : Timed) where
+  -- how many moments y waits for, before those entries are given theirs
+  abbrev pub unmet_left : List Need → OpId → ℕ
+  unmet_left ns y = unmet plans costs (a ∷ h) y + count_by (names plans costs h a y) ns
+
+  -- the last moment of those entries that y is given
+  abbrev pub given_last : List Need → OpId → ℕ
+  given_last ns y = greatest (given_to plans costs h a y) ns
+
+  -- the entry of y, after those entries are given theirs
+  abbrev pub entry_so_far : List Need → OpId → Entry
+  entry_so_far ns y =
+      record (entry_then plans costs h a y) { times = given_times (given_last ns y) (entry_then plans costs h a y).times }
+
+  -- the moment of the action's operation
+  known_moment : (w : When) → moment_in (times_known plans costs (a ∷ h) a.op) w ≡ (if there_now plans costs h a w a.op then Some (met_at plans costs (a ∷ h) w a.op) else None)
+  known_moment AfterEnd = refl
+  known_moment AfterStart = refl
+
+  pub moment_there : (w : When) (m : ℕ) → moment_in (times_known plans costs (a ∷ h) a.op) w ≡ Some m → (there_now plans costs h a w a.op ≡ true) × (m ≡ met_at plans costs (a ∷ h) w a.op)
+  moment_there w m e = go (there_now plans costs h a w a.op) (sym (known_moment w) ∙ e)
+    where
+      go : (b : Bool) → (if b then Some (met_at plans costs (a ∷ h) w a.op) else None) ≡ Some m → (b ≡ true) × (m ≡ met_at plans costs (a ∷ h) w a.op)
+      go true e = (refl, cc)
+      go false e = absurd (cc)
+
+  pub moment_absent : (w : When) → ((m : ℕ) → moment_in (times_known plans costs (a ∷ h) a.op) w ≡ Some m → ⊥) → there_now plans costs h a w a.op ≡ false
+  moment_absent w none = go (there_now plans costs h a w a.op) (known_moment w)
+    where
+      go : (b : Bool) → moment_in (times_known plans costs (a ∷ h) a.op) w ≡ (if b then Some (met_at plans costs (a ∷ h) w a.op) else None) → b ≡ false
+      go true e = absurd (none _ e)
+      go false e = refl
+
+  -- one more entry, which is given no moment
+  module _ (d : Need) (none : is_given plans costs h a d.when ≡ false) where
+    names_no_one : (y : OpId) → names plans costs h a y d ≡ false
+    names_no_one y = and_right _ _ none
+
+    pub unmet_passed : (rest : List Need) (y : OpId) → unmet_left (d ∷ rest) y ≡ unmet_left rest y
+    unmet_passed rest y =
+        let one : one_if (names plans costs h a y d) ≡ 0 = ap one_if (names_no_one y) in
+        omega (arith, count-cons (names plans costs h a y) d rest, one)
+
+    last_passed : (done : List Need) (y : OpId) → given_last (done ++ (d ∷ [])) y ≡ given_last done y
+    last_passed done y =
+        let one : given_to plans costs h a y d ≡ 0 = cond-false _ _ _ (names_no_one y) in
+        omega (arith, greatest_push (given_to plans costs h a y) done d, one)
+
+    pub entry_passed : (done : List Need) (y : OpId) → entry_so_far (done ++ (d ∷ [])) y ≡ entry_so_far done y
+    entry_passed done y =
+        ap (λ (n : ℕ). record (entry_then plans costs h a y) { times = given_times n (entry_then plans costs h a y).times }) (last_passed done y)
+
+  -- one more entry, which is given its moment
+  module _ (d : Need) (given : is_given plans costs h a d.when ≡ true) where
+    abbrev later : OpId
+    later = needed a.op d
+
+    names_it : names plans costs h a later d ≡ true
+    names_it = ap₂ (λ (b c : Bool). b && c) (same_op_itself later) given
+
+    names_no_other : (y : OpId) → same_op later y ≡ false → names plans costs h a y d ≡ false
+    names_no_other y e = and_left _ _ e
+
+    counts_it : (rest : List Need) → unmet_left (d ∷ rest) later ≡ unmet_left rest later + 1
+    counts_it rest =
+        let one : one_if (names plans costs h a later d) ≡ 1 = ap one_if names_it in
+        omega (arith, count-cons (names plans costs h a later) d rest, one)
+
+    pub some_left : (rest : List Need) → 1 ≤ unmet_left (d ∷ rest) later
+    some_left rest = omega (arith, counts_it rest)
+
+    pub unmet_given : (rest : List Need) (y : OpId) → with_entry later (unmet_left (d ∷ rest) later - 1) (unmet_left (d ∷ rest)) y ≡ unmet_left rest y
+    unmet_given rest y =
+        entry_written later (unmet_left (d ∷ rest) later - 1) (unmet_left (d ∷ rest)) (unmet_left rest) (omega (arith, counts_it rest)) others y
+      where
+        others : (x : OpId) → same_op later x ≡ false → unmet_left rest x ≡ unmet_left (d ∷ rest) x
+        others x e =
+            let one : one_if (names plans costs h a x d) ≡ 0 = ap one_if (names_no_other x e) in
+            omega (arith, count-cons (names plans costs h a x) d rest, one)
+
+    pub entry_given : (m : ℕ) → m ≡ met_at plans costs (a ∷ h) d.when a.op → (done : List Need) (y : OpId) → with_given later m (entry_so_far done) y ≡ entry_so_far (done ++ (d ∷ [])) y
+    entry_given m is done y = entry_written later _ (entry_so_far done) (entry_so_far (done ++ (d ∷ []))) here others y
+      where
+        moment : given_to plans costs h a later d ≡ m
+        moment = cond-true _ _ _ names_it ∙ sym is
+
+        here : entry_so_far (done ++ (d ∷ [])) later ≡ record (entry_so_far done later) { times = given_times m (entry_so_far done later).times }
+        here =
+            ap (λ (t : Times). record (entry_then plans costs h a later) { times = t }) (sym (given_twice (entry_then plans costs h a later).times (given_last done later) m (given_last (done ++ (d ∷ [])) later) (omega (arith, greatest_push (given_to plans costs h a later) done d, moment))))
+
+        others : (x : OpId) → same_op later x ≡ false → entry_so_far (done ++ (d ∷ [])) x ≡ entry_so_far done x
+        others x e =
+            let one : given_to plans costs h a x d ≡ 0 = cond-false _ _ _ (names_no_other x e) in
+            let last : given_last (done ++ (d ∷ [])) x ≡ given_last done x = omega (arith, greatest_push (given_to plans costs h a x) done d, one) in
+            ap (λ (n : ℕ). record (entry_then plans costs h a x) { times = given_times n (entry_then plans costs h a x).times }) last
+
+  -- before the first entry
+  pub entry_first : (y : OpId) → entry_then plans costs h a y ≡ entry_so_far [] y
+  entry_first y =
+      ap (λ (t : Times). record (entry_then plans costs h a y) { times = t }) (sym (given_none (entry_then plans costs h a y).times (given_last [] y) (greatest_none (given_to plans costs h a y))))
+
+  module _ (run : IsRun plans costs h) (p : Possible plans costs h a) where
+    -- the moment is within the budget
+    pub moment_fits : (w : When) → there_now plans costs h a w a.op ≡ true → met_at plans costs (a ∷ h) w a.op ≤ budget plans costs
+    moment_fits AfterEnd t = (within_budget plans costs (a ∷ h) (run_each plans costs h run, p)).ends a.op t
+    moment_fits AfterStart t = (within_budget plans costs (a ∷ h) (run_each plans costs h run, p)).starts a.op
+
+    module _ (ws : List Need) (whom : a.class ≢ Arrive → ws ≡ waiting_on plans a.op) (y : OpId) where
+      -- what has started is given none
+      started_given_none : has_started plans y (plain (a ∷ h)) ≡ true → given_last ws y ≡ 0
+      unfolding is_ready
+      started_given_none t =
+          let none : unmet plans costs h y ≡ 0 = none_fails (is_there plans costs h y) (needs plans y) (started_was_ready plans costs h a run p y t) in
+          greatest_uncounted (names plans costs h a y) (λ (d : Need). met_at plans costs (a ∷ h) d.when a.op) ws (omega (arith, none, counted_those plans costs h a run p y ws whom))
+
+      -- what its entry awaits, of the action's operation, and of another
+      own_awaited : raised (given_last ws y) (awaited_known plans costs (a ∷ h) y) ≡ awaited_known plans costs (a ∷ h) y
+      own_awaited =
+          elim (cases_Bool (has_started plans y (plain (a ∷ h)))) [ inl t ↦ raised_none _ _ (started_given_none t) | inr f ↦ unstarted f ]
+        where
+          unstarted : has_started plans y (plain (a ∷ h)) ≡ false → raised (given_last ws y) (awaited_known plans costs (a ∷ h) y) ≡ awaited_known plans costs (a ∷ h) y
+          unstarted f =
+              let is : awaited_known plans costs (a ∷ h) y ≡ Some (last_given plans costs (a ∷ h) y) = cond-false _ _ _ f in
+              let same : max (last_given plans costs (a ∷ h) y) (given_last ws y) ≡ last_given plans costs (a ∷ h) y = omega (arith, last_those plans costs h a run p y ws whom) in
+              ap (raised (given_last ws y)) is ∙ ap Some same ∙ sym is
+
+      other_awaited : same_op a.op y ≡ false → raised (given_last ws y) (awaited_known plans costs h y) ≡ awaited_known plans costs (a ∷ h) y
+      other_awaited d =
+          elim (cases_Bool (has_started plans y (plain (a ∷ h)))) [ inl t ↦ raised_none _ _ (started_given_none t) ∙ cond-true _ _ _ (sym as_before ∙ t) ∙ sym (arriving_same plans costs h a y (other_op plans costs h a Arrive y d) (other_op plans costs h a Begin y d)) ∙ sym (cond-true _ _ _ t) | inr f ↦ ap (raised (given_last ws y)) (cond-false _ _ _ (sym as_before ∙ f)) ∙ ap Some (sym (last_those plans costs h a run p y ws whom)) ∙ sym (cond-false _ _ _ f) ]
+        where
+          as_before : has_started plans y (plain (a ∷ h)) ≡ has_started plans y (plain h)
+          as_before =
+              happened_same plans costs h a (first_class (kind_at plans y)) y (other_op plans costs h a (first_class (kind_at plans y)) y d)
+
+      -- after the last entry
+      pub entry_last : entry_so_far ws y ≡ entry_known plans costs (a ∷ h) y
+      entry_last = elim (cases_op y a.op) [ inl e ↦ own e | inr d ↦ other d ]
+        where
+          others : OpId → Entry
+          others x =
+              record (entry_known plans costs (a ∷ h) x) { times = record (times_known plans costs (a ∷ h) x) { awaited = awaited_known plans costs h x } }
+
+          given : Entry → Entry
+          given e = record e { times = given_times (given_last ws y) e.times }
+
+          own : y ≡ a.op → entry_so_far ws y ≡ entry_known plans costs (a ∷ h) y
+          own e =
+              ap given (at_entry a.op (entry_known plans costs (a ∷ h) a.op) others y e ∙ ap (entry_known plans costs (a ∷ h)) (sym e)) ∙ ap (λ (o : Option ℕ). record (entry_known plans costs (a ∷ h) y) { times = record (times_known plans costs (a ∷ h) y) { awaited = o } }) own_awaited
+
+          other : same_op y a.op ≡ false → entry_so_far ws y ≡ entry_known plans costs (a ∷ h) y
+          other d =
+              ap given (off_entry a.op (entry_known plans costs (a ∷ h) a.op) others y d) ∙ ap (λ (o : Option ℕ). record (entry_known plans costs (a ∷ h) y) { times = record (times_known plans costs (a ∷ h) y) { awaited = o } }) (other_awaited (same_op_swapped y a.op d))

@@ -1,0 +1,47 @@
+-- Which moments an operation still waits for, and the last of those that it was given.
+use Rattle.std.specs.Prelude.{ℕ, Bool, true, false, not, List, Option, Some, count_by, if◌then◌else◌}
+use Rattle.goal_graph.specs.declared.action.OpId.{OpId}
+use Rattle.goal_graph.specs.declared.action.Timed.{Timed}
+use Rattle.goal_graph.specs.declared.action.Class.{Class}
+use Rattle.goal_graph.specs.declared.action.Class.TheVariants.{Arrive, Serve, Data, Post, Begin}
+use Rattle.goal_graph.specs.declared.plan.Need.{Need}
+use Rattle.goal_graph.specs.declared.plan.When.{When}
+use Rattle.goal_graph.specs.declared.plan.When.TheVariants.{AfterEnd, AfterStart}
+use Rattle.goal_graph.specs.Schedule.{Plan, needs, needed}
+use Rattle.goal_graph.specs.Concerned.{waiting_on}
+use Rattle.goal_graph.specs.Action.{plain}
+use Rattle.goal_graph.specs.Allowed.{is_met, has_started}
+use Rattle.sim_params.specs.Costs.{CostModel, is_eager}
+use Rattle.sim_params.specs.Times.{greatest, met_at}
+use Rattle.sim_state.specs.Enabled.{time_known}
+
+-- an action of that class may give its operation the moment: a Begin its start and its end, a Post its start, a Data and a
+-- Serve its end
+abbrev pub gives : Class → When → Bool
+gives Begin when = true
+gives Post AfterStart = true
+gives Data AfterEnd = true
+gives Serve AfterEnd = true
+gives _ _ = false
+
+-- how many of the moments that others need an action may give
+abbrev pub given_by : List Plan → Timed → ℕ
+given_by plans a = count_by (λ (d : Need). gives a.class d.when) (waiting_on plans a.op)
+
+module _ (plans : List Plan) (costs : CostModel) (h : List Timed) where
+  -- whether the moment that x waits for by this need is there
+  abbrev pub is_there : OpId → Need → Bool
+  is_there x d = is_met plans (is_eager plans costs) (plain h) d.when (needed x d)
+
+  -- how many of the moments that x needs are not there
+  abbrev pub unmet : OpId → ℕ
+  unmet x = count_by (λ (d : Need). not (is_there x d)) (needs plans x)
+
+  -- the last of the moments that x needs and that are there, 0 where none is
+  abbrev pub last_given : OpId → ℕ
+  last_given x = greatest (λ (d : Need). if is_there x d then met_at plans costs h d.when (needed x d) else 0) (needs plans x)
+
+  -- What x waits for: before it starts the last moment that it was given, and then when its message or its request arrives, while
+  -- that is under way.
+  abbrev pub awaited_known : OpId → Option ℕ
+  awaited_known x = if has_started plans x (plain h) then time_known plans costs h Arrive x else Some (last_given x)

@@ -1,0 +1,22 @@
+-- The entry of an operation that is given a moment.
+use Rattle.std.specs.Prelude.{ℕ, max, Option}
+use Rattle.std.specs.Option.{option_map}
+use Rattle.goal_graph.specs.declared.action.OpId.{OpId}
+use Rattle.goal_graph.specs.declared.plan.When.{When}
+use Rattle.goal_graph.specs.declared.plan.When.TheVariants.{AfterEnd, AfterStart}
+use Rattle.goal_graph.specs.Entries.{with_entry}
+use Rattle.sim_state.specs.declared.entry.Entry.{Entry}
+use Rattle.sim_state.specs.declared.entry.Times.{Times}
+
+-- the times of an operation that is given that moment: it awaits the later of both
+abbrev pub given_times : ℕ → Times → Times
+given_times moment t = record t { awaited = option_map (λ (last : ℕ). max last moment) t.awaited }
+
+-- the entry of y is given that moment, and the others are those of f
+abbrev pub with_given : OpId → ℕ → (OpId → Entry) → OpId → Entry
+with_given y moment f = with_entry y (record (f y) { times = given_times moment (f y).times }) f
+
+-- the moment that a need is of, once it is there, of an operation of these times
+abbrev pub moment_in : Times → When → Option ℕ
+moment_in t AfterStart = t.start
+moment_in t AfterEnd = t.end

@@ -1,0 +1,74 @@
+// The moments that an action gives those that wait for its operation.
+ghost use Rattle.std.specs.Prelude.{◌≡◌, ◌≢◌, ◌≤◌, ◌+◌, ◌<◌, ◌^◌, ◌∷◌, All, map};
+ghost use Rattle.goal_graph.specs.declared.action.Class.TheVariants.{Arrive};
+ghost use Rattle.goal_graph.specs.Schedule.{operations, needed};
+ghost use Rattle.goal_graph.specs.Concerned.{waiting_on};
+ghost use Rattle.goal_graph.specs.Fault.{IsOp};
+ghost use Rattle.sim_params.specs.Run.{IsNext, IsRun};
+ghost use Rattle.sim_params.specs.Budget.{budget};
+ghost use Rattle.sim_state.specs.Awaited.{given_by};
+ghost use Rattle.sim_state.specs.Awaited as awaited;
+ghost use Rattle.sim_state.specs.Given.{moment_in};
+ghost use Rattle.sim_state.specs.Represents.{times_known, entry_known, entry_then};
+
+use crate::entry::{Entry, Times, write_given};
+use crate::history::History;
+use crate::unmet::gives;
+use goal_graph::{Need, OpId, Sched, Timed, When};
+use sim_order::Steps;
+use sim_params::Costs;
+use std::sync::ledger::Ledger;
+
+// The moment of an operation, of these times, that a need is of, once it is there.
+#[inline(always)]
+fn moment_of(times: &Times, when: When) -> Option<u64>
+    ensures { result ≡ moment_in times.now when }
+{
+    match when {
+        When::AfterStart => times.start.get(),
+        When::AfterEnd => times.end.get(),
+    }
+}
+
+/// Gives those that wait for an action's operation the moments that the action gives: its operation has these times since. A counter
+/// tells how many moments it may give. The costs and the history are read by clauses alone.
+#[inline(always)]
+pub fn give<C: Costs, H: History, N: Ledger>(
+    sched: &Sched,
+    costs: &C,
+    history: &H,
+    entries: &mut [Entry],
+    unmet: &mut [u32],
+    action: Timed,
+    times: Times,
+    waiting: &[Need],
+    reads: &mut Steps<N>,
+)
+    requires run { IsRun sched.now (C.model costs.now) (H.actions history.now) }
+    requires within { budget sched.now (C.model costs.now) < 2 ^ 63 }
+    requires next { IsNext sched.now (C.model costs.now) (H.actions history.now) action }
+    requires times { times ≡ times_known sched.now (C.model costs.now) (action ∷ H.actions history.now) action.op }
+    requires whom { action.class ≢ Arrive → waiting.now ≡ waiting_on sched.now action.op }
+    requires exist { action.class ≢ Arrive → All (λ need. IsOp sched.now (needed action.op need)) waiting.now }
+    requires entries { entries.old ≡ map (entry_then sched.now (C.model costs.now) (H.actions history.now) action) (operations sched.now) }
+    requires unmet { unmet.old ≡ map (awaited.unmet sched.now (C.model costs.now) (H.actions history.now)) (operations sched.now) }
+    ensures entries { entries.new ≡ map (entry_known sched.now (C.model costs.now) (action ∷ H.actions history.now)) (operations sched.now) }
+    ensures unmet { unmet.new ≡ map (awaited.unmet sched.now (C.model costs.now) (action ∷ H.actions history.now)) (operations sched.now) }
+    ensures given { reads.new ≤ reads.old + given_by sched.now action }
+{
+    for need in waiting {
+        if !gives(action.class, need.when) {
+            continue;
+        }
+        reads.tick();
+        let Some(moment) = moment_of(&times, need.when) else {
+            continue;
+        };
+        let later = OpId {
+            rank: action.op.rank,
+            op: need.op,
+        };
+        unmet[sched.index(later) as usize] -= 1;
+        write_given(sched, entries, later, moment);
+    }
+}
