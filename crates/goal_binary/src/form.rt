@@ -8,7 +8,7 @@ use goal_base::{MAX_BYTES, MAX_NANOS};
 use goal_graph::Kind;
 
 /// What an operation does, but for its numbers.
-#[derive(Clone, Copy, Debug, PartialEq, Eq)]
+#[derive(Clone, Copy)]
 pub enum Form {
     Calc,
     Send,
@@ -152,7 +152,7 @@ pub fn form_at(bytes: &[u8], at: usize) -> Result<(Form, usize), FileFault>
 }
 
 /// What the first byte of an operation tells in version 2.
-#[derive(Clone, Copy, Debug, PartialEq, Eq)]
+#[derive(Clone, Copy)]
 pub struct Head {
     pub form: Form,
     pub has_cpu: bool,

@@ -6,7 +6,7 @@ ghost use Rattle.goal_binary.specs.Layouts.{version_of, layout_of};
 pub const MAGIC: [u8; 8] = [0x89, 0x47, 0x4F, 0x41, 0x4C, 0x0D, 0x0A, 0x1A];
 
 /// How a file lays its numbers out.
-#[derive(Clone, Copy, Debug, PartialEq, Eq)]
+#[derive(Clone, Copy)]
 pub enum Layout {
     /// Version 1: a number has all the bytes of its field.
     Fixed,

@@ -67,7 +67,7 @@ pub fn check_races(alloc: Global, sched: &Sched) -> Result<(), CertFault>
 }
 
 /// Two operations of a rank and a slot.
-#[derive(Clone, Copy, Debug, PartialEq, Eq)]
+#[derive(Clone, Copy)]
 pub(crate) struct RankRace {
     pub first: u32,
     pub second: u32,

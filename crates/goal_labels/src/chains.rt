@@ -14,7 +14,7 @@ const COUNTS: u32 = MOST_IN_A_CHAIN + 1;
 const PAST_HEADS: u32 = 1 << 27;
 
 /// A chain, in one word: its newest number and 1, or 0 where it has none, times 32, and in the lower 5 bits how many it has.
-#[derive(Clone, Copy, Debug)]
+#[derive(Clone, Copy)]
 pub struct Head {
     pub packed: u32,
 }
@@ -50,7 +50,7 @@ impl Head {
 }
 
 /// The hash of a number, and the number before it in its chain and 1, or 0 where there is none.
-#[derive(Clone, Copy, Debug)]
+#[derive(Clone, Copy)]
 pub struct Link {
     pub hash: u32,
     pub next: u32,

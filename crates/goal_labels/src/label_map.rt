@@ -17,7 +17,7 @@ use std::hash::{FoldHasher, Hasher};
 use std::marker::Model;
 
 /// What is known of a label.
-#[derive(Clone, Copy, Debug, PartialEq, Eq)]
+#[derive(Clone, Copy, PartialEq, Eq)]
 pub struct Slot {
     /// The number of its operation, once it is defined.
     pub op: Option<u32>,
@@ -34,7 +34,7 @@ const MANY_CHAINS: usize = 1 << 40;
 const SEARCHES: usize = 64;
 
 /// A label's slot, and where among all labels' bytes its own stand.
-#[derive(Clone, Copy, Debug)]
+#[derive(Clone, Copy)]
 pub struct Entry {
     /// What is known of the label.
     pub slot: Slot,
@@ -87,7 +87,7 @@ impl Model for LabelMap {
 }
 
 /// What a search for a label finds.
-#[derive(Clone, Copy, Debug)]
+#[derive(Clone, Copy)]
 pub enum Found {
     /// The number of the label's entry.
     At(usize),

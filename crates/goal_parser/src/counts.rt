@@ -6,7 +6,7 @@ use goal_base::{MAX_DEPS, MAX_NOTES, MAX_OPS};
 use goal_lexer::TokenKind;
 
 /// How many of each the whole text has begun so far.
-#[derive(Clone, Copy, Debug, PartialEq, Eq)]
+#[derive(Clone, Copy)]
 pub struct Counts {
     /// The operations.
     pub ops: u32,

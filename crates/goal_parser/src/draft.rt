@@ -8,7 +8,7 @@ use goal_graph::{Kind, Op};
 use goal_lexer::TokenKind;
 
 /// The three actions.
-#[derive(Clone, Copy, Debug, PartialEq, Eq)]
+#[derive(Clone, Copy)]
 pub enum Action {
     /// `calc`
     Calc,
@@ -19,7 +19,7 @@ pub enum Action {
 }
 
 /// The words of options.
-#[derive(Clone, Copy, Debug, PartialEq, Eq)]
+#[derive(Clone, Copy)]
 pub enum OptionWord {
     /// `tag`
     Tag,
@@ -30,7 +30,7 @@ pub enum OptionWord {
 }
 
 /// An action as far as it is read.
-#[derive(Clone, Copy, Debug, PartialEq, Eq)]
+#[derive(Clone, Copy)]
 pub struct Draft {
     /// What the action is.
     pub action: Action,

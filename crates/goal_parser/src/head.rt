@@ -7,7 +7,7 @@ use crate::sentence::State;
 use goal_lexer::{Label, TokenKind};
 
 /// A label with its place in the text.
-#[derive(Clone, Copy, Debug, PartialEq, Eq)]
+#[derive(Clone, Copy)]
 pub struct Mention {
     /// The label.
     pub label: Label,
@@ -16,7 +16,7 @@ pub struct Mention {
 }
 
 /// The words that may follow a label.
-#[derive(Clone, Copy, Debug, PartialEq, Eq)]
+#[derive(Clone, Copy)]
 pub enum Verb {
     /// `requires`
     Requires,
@@ -29,7 +29,7 @@ pub enum Verb {
 }
 
 /// What an item that begins with a label has given so far.
-#[derive(Clone, Copy, Debug, PartialEq, Eq)]
+#[derive(Clone, Copy)]
 pub struct ItemHead {
     /// The label that the newest such item begins with.
     pub subject: Option<Mention>,

@@ -5,7 +5,7 @@ ghost use Rattle.goal_parser.specs.Sentence.{item_entry, entry};
 use goal_lexer::TokenKind;
 
 /// Where a text stands, between two tokens.
-#[derive(Clone, Copy, Debug, PartialEq, Eq)]
+#[derive(Clone, Copy)]
 pub enum State {
     /// Before the first token.
     Start,

@@ -8,7 +8,7 @@ use std::alloc::{AllocError, AllocFailed};
 
 /// Why a token is refused, or the place where none begins, or the end of the text: a [`TextFault`] in a quarter of its
 /// size, since every token has such an answer.
-#[derive(Clone, Copy, Debug, PartialEq, Eq)]
+#[derive(Clone, Copy)]
 pub enum TokenFault {
     /// [`TextFault::Lex`]
     Lex { at: u64 },

@@ -23,7 +23,7 @@ pub enum Term {
 }
 
 /// Two values together, and how many contributions they have. Neither is empty.
-#[derive(Clone, Copy, Debug)]
+#[derive(Clone, Copy)]
 struct Sum {
     left: Term,
     right: Term,

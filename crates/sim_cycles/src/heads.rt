@@ -7,7 +7,7 @@ ghost use Rattle.sim_cycles.specs.declared.heads.Mark.TheVariants.{Known};
 use std::alloc::{AllocError, Global};
 
 /// What is known of an operation while the heads are looked for.
-#[derive(Clone, Copy, Debug)]
+#[derive(Clone, Copy)]
 pub enum Mark {
     /// No way came here yet.
     Unseen,

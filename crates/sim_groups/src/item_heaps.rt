@@ -19,7 +19,7 @@ use std::marker::Model;
 use std::sync::ledger::Ledger;
 
 /// Where a heap has its places in the table, from `start` on, so many, and where its items stand among them.
-#[derive(Clone, Copy, Debug)]
+#[derive(Clone, Copy)]
 pub struct Plot {
     pub start: u32,
     pub room: u32,

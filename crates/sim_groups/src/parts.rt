@@ -6,7 +6,7 @@ use goal_base::NoMemory;
 use std::alloc::Global;
 
 /// Where a group has its places in the table: from `start` on, so many. The first of them, as many as are counted, have a key.
-#[derive(Clone, Copy, Debug)]
+#[derive(Clone, Copy)]
 pub struct Part {
     pub start: u32,
     pub room: u32,

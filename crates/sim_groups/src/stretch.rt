@@ -14,7 +14,7 @@ use std::sync::ledger::Ledger;
 
 /// Where items stand among the places of their group: from `first` to before `end`. They are a heap. Where they are in their
 /// order besides, the least goes from the front, and nothing else moves; where they may not be, `first` is 0.
-#[derive(Clone, Copy, Debug)]
+#[derive(Clone, Copy)]
 pub struct Stretch {
     pub first: u32,
     pub end: u32,

@@ -7,7 +7,7 @@ use std::marker::Model;
 use std::sync::ledger::Ledger;
 
 /// A key at time 0, in 8 bytes.
-#[derive(Clone, Copy, Debug)]
+#[derive(Clone, Copy)]
 pub struct WaitingKey {
     // the class and the operation in one number
     tail: u64,

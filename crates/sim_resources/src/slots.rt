@@ -10,7 +10,7 @@ use goal_graph::{Op, OpId, RankPlan, Sched};
 use std::alloc::Global;
 
 /// The slots of an operation: that of its cpu and that of its interface.
-#[derive(Clone, Copy, Debug, PartialEq, Eq)]
+#[derive(Clone, Copy)]
 pub struct Slots {
     pub cpu: u32,
     pub nic: u32,
@@ -26,7 +26,7 @@ pub struct Numbering {
 }
 
 // The slot that a number was given last, and the rank whose cpu or interface it is.
-#[derive(Clone, Copy, Debug)]
+#[derive(Clone, Copy)]
 pub struct Latest {
     pub rank: u32,
     pub slot: u32,

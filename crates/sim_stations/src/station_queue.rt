@@ -73,7 +73,7 @@ fn first_ahead(ahead: &RunHeap) -> Option<CompactKey>
 }
 
 // The key that is looked at first.
-#[derive(Clone, Copy, Debug)]
+#[derive(Clone, Copy)]
 struct Look {
     key: CompactKey,
     // whether it is ahead

@@ -3,7 +3,7 @@ ghost use Rattle.std.specs.Prelude.{◌≡◌};
 ghost use Rattle.sim_stuck.specs.Patterns.{patterns_for};
 
 /// What a receive asks for: its rank, and the source and the tag of a message, or any.
-#[derive(Clone, Copy, Debug, PartialEq, Eq, PartialOrd, Ord)]
+#[derive(Clone, Copy, PartialEq, Eq, PartialOrd, Ord)]
 pub struct Pattern {
     pub rank: u32,
     pub from: Option<u32>,

@@ -8,7 +8,7 @@ use crate::races::rows::{WORDS, is_in};
 use crate::races::touches::Touch;
 
 /// Two operations of a rank, the lesser first.
-#[derive(Clone, Copy, Debug, PartialEq, Eq)]
+#[derive(Clone, Copy)]
 pub(crate) struct Pair {
     pub first: u32,
     pub second: u32,

@@ -9,7 +9,7 @@ use goal_graph::{Kind, Note, Op, RankPlan};
 use std::alloc::{AllocError, Global};
 
 /// An operation touches a slot.
-#[derive(Clone, Copy, Debug, PartialEq, Eq)]
+#[derive(Clone, Copy)]
 pub(crate) struct Touch {
     pub op: u32,
     pub slot: u32,

@@ -3,7 +3,7 @@
 use goal_graph::{Class, OpId};
 
 /// A class of action, of one operation; for `Arrive` and `Data` that is the send.
-#[derive(Clone, Copy, Debug, PartialEq, Eq)]
+#[derive(Clone, Copy)]
 pub struct Action {
     pub class: Class,
     pub op: OpId,

@@ -10,7 +10,7 @@ use goal_graph::{Class, OpId, Sched};
 use goal_progress::entry_of_mut;
 
 /// Which actions of an operation have happened, and the operation that it is paired with.
-#[derive(Clone, Copy, Debug, PartialEq, Eq)]
+#[derive(Clone, Copy)]
 pub struct Entry {
     pub arrived: bool,
     pub served: bool,
