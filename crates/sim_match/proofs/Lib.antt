@@ -5,6 +5,7 @@ pub mod Finding
 pub mod PatternLemmas
 pub mod Taken
 pub mod Numbering
+pub mod InTurn
 mod Searching
 pub mod Packing
 pub mod Sides

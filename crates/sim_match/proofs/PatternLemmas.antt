@@ -67,7 +67,7 @@ wild_itself AnyTag source to tag = refl
 wild_itself AnySource source to tag = refl
 wild_itself Any source to tag = refl
 
-position_none : {X : Type 0} (p : X → Bool) (xs : List X) → position p xs ≡ None → length xs ≤ position_or_len p xs
+pub position_none : {X : Type 0} (p : X → Bool) (xs : List X) → position p xs ≡ None → length xs ≤ position_or_len p xs
 position_none p xs e =
     elim (cases_lt (position_or_len p xs) (length xs)) [ inl l ↦ absurd (none-some (position_or_len p xs) (sym e ∙ cond-true _ (Some (position_or_len p xs)) None (lt-ltb _ _ l))) | inr l ↦ l ]
 

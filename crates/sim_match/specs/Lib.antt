@@ -3,6 +3,7 @@ pub mod PostsAndArrivals
 pub mod Waiting
 pub mod Patterns
 pub mod ListNumbers
+pub mod ListOrder
 pub mod MatchLists
 pub mod Looks
 pub mod Capacities

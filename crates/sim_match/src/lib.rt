@@ -6,6 +6,7 @@ mod capacities;
 mod credit;
 mod laws;
 mod list_numbers;
+mod list_order;
 mod match_list;
 mod match_lists;
 mod match_table;

@@ -1,11 +1,13 @@
 // The number of each operation's list, found once.
-ghost use Rattle.std.specs.Prelude.{ℕ, ◌≡◌, ◌<◌, ◌≤◌, ◌-◌, ◌^◌, Option, Some, length, map, IfOk, OnOk};
+ghost use Rattle.std.specs.Prelude.{ℕ, ◌≡◌, ◌<◌, ◌≤◌, ◌-◌, ◌^◌, [], Option, Some, length, map, IfOk, OnOk};
 ghost use Rattle.goal_graph.specs.Schedule.{operations, IsSend, IsReceive};
 ghost use Rattle.std.specs.Option.{IfSome};
 ghost use Rattle.goal_graph.specs.Fault.{IsOp};
 ghost use Rattle.sim_match.specs.Patterns.{number, own_list, wild_list, list_of, lists_for, AreListed, AreTaken};
-ghost use Rattle.sim_match.specs.ListNumbers.{coded, IsCodable, AreWild, IsWildAt, AreSought, AreNumbered};
+ghost use Rattle.sim_match.specs.ListNumbers.{coded, IsCodable, AreWild, AreOthers, IsWildAt, AreNumbered};
+ghost use Rattle.sim_match.specs.ListOrder.{AreGiven, HaveNumbers};
 
+use crate::list_order::{ListOrder, NO_LIST};
 use crate::pattern::{Pattern, Patterns, Wild};
 use goal_base::NoMemory;
 use goal_graph::{Kind, OpId, Sched};
@@ -22,15 +24,14 @@ pub struct Others {
 
 /// For each operation, in the order of all, the number of the list of its own pattern: of what a receive asks for, and of
 /// what names the source and the tag of a send. `NO_LIST` stands where the schedule doesn't have that pattern. Where it has
-/// none at all, none are kept. The others of the sends are kept only where a pattern takes any source or any tag.
+/// none at all, none are kept. The others of the sends are kept only where a pattern takes any source or any tag: there lists
+/// are numbered in the order in which operations come that have them, and else in the order of their patterns.
 #[derive(Drop)]
 pub struct ListNumbers {
     pub own: Vec<u32>,
     pub others: Option<Others>,
     pub count: usize,
 }
-
-const NO_LIST: u32 = u32::MAX;
 
 // A number, or none, as it is kept.
 fn coded(number: Option<usize>) -> u32
@@ -197,6 +198,29 @@ fn own_numbers(alloc: Global, sched: &Sched, patterns: &Patterns) -> Result<Vec<
     Ok(numbers)
 }
 
+// The same, where the patterns are given their numbers in turn.
+fn numbers_in_turn(
+    alloc: Global,
+    sched: &Sched,
+    patterns: &Patterns,
+    order: &mut ListOrder,
+) -> Result<Vec<u32>, AllocError>
+    requires given { AreGiven patterns.now order.old }
+    requires none { order.old.keys.items ≡ [] }
+    ensures given { OnOk result (AreGiven patterns.now order.new) }
+    ensures few { OnOk result (order.new.count < 2 ^ 32 - 1) }
+    ensures each { OnOk result (HaveNumbers sched.now patterns.now order.new.keys.items (operations sched.now)) }
+    ensures numbers { IfOk result (λ numbers. numbers.items ≡ map (λ x. coded (own_list sched.now order.new.keys.items x)) (operations sched.now)) }
+{
+    let mut numbers = Vec::with_capacity(alloc, sched.count() as usize)?;
+    let mut trails = Trails::of(alloc, sched, patterns)?;
+    for id in sched.operations() {
+        let place = trails.own_list(patterns, sched, *id);
+        numbers.push_reserved(order.give(patterns, place));
+    }
+    Ok(numbers)
+}
+
 // The number of the list of a send whose pattern takes what that kind takes, where the schedule has it.
 fn wild_list(
     patterns: &Patterns,
@@ -227,10 +251,11 @@ fn wild_numbers(
     alloc: Global,
     sched: &Sched,
     patterns: &Patterns,
+    order: &ListOrder,
     wild: Wild,
 ) -> Result<Option<Vec<u32>>, AllocError>
-    requires { length patterns.now < 2 ^ 32 - 1 }
-    ensures { IfOk result (λ kept. AreWild sched.now patterns.now wild kept) }
+    requires { AreGiven patterns.now order.now }
+    ensures { IfOk result (λ kept. AreWild sched.now order.now.keys.items wild kept) }
 {
     if !patterns.have(wild) {
         return Ok(None);
@@ -238,29 +263,27 @@ fn wild_numbers(
     let taken = patterns.taken_slots(alloc, wild)?;
     let mut numbers = Vec::with_capacity(alloc, sched.count() as usize)?;
     for id in sched.operations() {
-        let number = wild_list(patterns, &taken, sched, *id, wild);
-        numbers.push_reserved(coded(number));
+        let place = wild_list(patterns, &taken, sched, *id, wild);
+        numbers.push_reserved(order.number(place));
     }
     Ok(Some(numbers))
 }
 
-// Those of all kinds, where a pattern takes any source or any tag.
+// Those of all kinds.
 fn all_others(
     alloc: Global,
     sched: &Sched,
     patterns: &Patterns,
-) -> Result<Option<Others>, AllocError>
-    requires { length patterns.now < 2 ^ 32 - 1 }
-    ensures { IfOk result (λ others. AreSought sched.now patterns.now others) }
+    order: &ListOrder,
+) -> Result<Others, AllocError>
+    requires { AreGiven patterns.now order.now }
+    ensures { IfOk result (λ others. AreOthers sched.now order.now.keys.items others) }
 {
-    if patterns.name_all() {
-        return Ok(None);
-    }
-    Ok(Some(Others {
-        any_tag: wild_numbers(alloc, sched, patterns, Wild::AnyTag)?,
-        any_source: wild_numbers(alloc, sched, patterns, Wild::AnySource)?,
-        any: wild_numbers(alloc, sched, patterns, Wild::Any)?,
-    }))
+    Ok(Others {
+        any_tag: wild_numbers(alloc, sched, patterns, order, Wild::AnyTag)?,
+        any_source: wild_numbers(alloc, sched, patterns, order, Wild::AnySource)?,
+        any: wild_numbers(alloc, sched, patterns, order, Wild::Any)?,
+    })
 }
 
 // The number of the list of the operation at that place, of those that are kept.
@@ -281,12 +304,29 @@ impl ListNumbers {
         ensures { IfOk result (λ numbers. AreNumbered sched.now numbers) }
     {
         let patterns = Patterns::of(alloc, sched)?;
+        if !patterns.name_all() {
+            return Ok(ListNumbers::in_turn(alloc, sched, &patterns)?);
+        }
         let own = own_numbers(alloc, sched, &patterns)?;
-        let others = all_others(alloc, sched, &patterns)?;
         Ok(ListNumbers {
             own,
-            others,
+            others: None,
             count: patterns.len(),
+        })
+    }
+
+    // The numbers of a schedule with these patterns, some of which take any source or any tag.
+    fn in_turn(alloc: Global, sched: &Sched, patterns: &Patterns) -> Result<ListNumbers, AllocError>
+        requires { AreListed sched.now patterns.now }
+        ensures { IfOk result (λ numbers. AreNumbered sched.now numbers) }
+    {
+        let mut order = ListOrder::new(alloc, patterns)?;
+        let own = numbers_in_turn(alloc, sched, patterns, &mut order)?;
+        let others = all_others(alloc, sched, patterns, &order)?;
+        Ok(ListNumbers {
+            own,
+            others: Some(others),
+            count: order.count as usize,
         })
     }
 

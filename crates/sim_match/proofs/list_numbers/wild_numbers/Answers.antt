@@ -1,15 +1,22 @@
-use Rattle.std.proofs.Common.{arith, refl}
+use Rattle.std.proofs.Common.{arith, refl, sym, ◌∙◌}
 use Rattle.std.proofs.lemmas.List.{map_push, take_more}
-use Rattle.sim_match.proofs.Numbering.{wild_codable}
+use Rattle.sim_match.specs.Patterns.{is_wild}
+use Rattle.sim_match.proofs.InTurn.{wild_place, wild_kept, none_in_turn}
 use Rattle.sim_match.proofs.list_numbers.wild_numbers.Goals as goal
 
-pub coded-requires : goal.coded-requires
-coded-requires c =
-    rw c.wild_list-number.ensures (wild_codable c.args.sched.now c.args.patterns.now _ c.args.wild c.requires)
+pub returns-then-not-have : goal.returns-then-not-have
+returns-then-not-have c =
+    none_in_turn c.args.patterns.now c.args.order.now c.requires (is_wild c.args.wild) (sym c.have.ensures ∙ c.if-not-have.true)
+
+pub number-requires : goal.number-requires
+number-requires c =
+    wild_place c.args.sched.now c.args.patterns.now c.args.order.now c.requires c.args.wild _ c.wild_list-place.result c.wild_list-place.ensures
 
 pub loop-id-preserved : goal.loop-id-preserved
-loop-id-preserved c = record {
-  coded = rw (c.push_reserved.ensures.items, c.loop-id.invariant.coded, c.coded.ensures, c.wild_list-number.ensures, take_more c.operations-id-items.result.now c.loop-id.id-index (record { rank = 0; op = 0 }) (omega arith), map_push) refl;
-  count = omega (arith, c.push_reserved.ensures.len, c.loop-id.invariant.count);
-  room = omega (arith, c.push_reserved.ensures.capacity, c.loop-id.invariant.room);
-}
+loop-id-preserved c =
+    let kept = wild_kept c.args.sched.now c.args.patterns.now c.args.order.now c.requires c.args.wild _ c.wild_list-place.result c.number.result c.wild_list-place.ensures c.number.ensures in
+    record {
+      coded = rw (c.push_reserved.ensures.items, c.loop-id.invariant.coded, kept, take_more c.operations-id-items.result.now c.loop-id.id-index (record { rank = 0; op = 0 }) (omega arith), map_push) refl;
+      count = omega (arith, c.push_reserved.ensures.len, c.loop-id.invariant.count);
+      room = omega (arith, c.push_reserved.ensures.capacity, c.loop-id.invariant.room);
+    }
