@@ -1,12 +1,14 @@
 -- Stations have their numbers at places of their own.
-use Rattle.std.proofs.Common.{◌≡◌, ◌≢◌, ◌⊎◌, ◌<◌, ◌≤◌, ◌==◌, ◌&&◌, ◌++◌, ℕ, Bool, true, List, [], ◌∷◌, length, get_or, Option, Some, None, slice_get, slice_index, slice_set, append-nil, eq-eqb, refl, sym, ap, ap₂, ◌∙◌, subst, arith, inl, inr}
-use Rattle.std.proofs.lemmas.Bool.{and_parts, eqb-true}
-use Rattle.std.proofs.lemmas.List.{get_or-set_same, get_or-set_other}
-use Rattle.std.proofs.lemmas.Option.{slice_get-get_or, slice_get_within, get_or_from_slice_get}
+use Rattle.std.proofs.Common.{◌≡◌, ◌≢◌, ◌⊎◌, ◌<◌, ◌≤◌, ◌==◌, ◌&&◌, ◌++◌, ℕ, Bool, true, List, [], ◌∷◌, length, get_or, Option, Some, None, slice_get, slice_set, append-nil, eq-eqb, refl, sym, ap, ap₂, ◌∙◌, subst, arith, inl, inr}
+use Rattle.std.specs.Option.{IfNone}
+use Rattle.std.proofs.lemmas.Bool.{and_parts, cases_eq, eqb-true}
+use Rattle.std.proofs.lemmas.List.{get_or_past, get_or-set_same, get_or-set_other}
+use Rattle.std.proofs.lemmas.Option.{same_Some, slice_get-get_or, slice_get_within, get_or_from_slice_get}
 use Rattle.goal_graph.proofs.ForCallers.{same_choice_true, get_last}
 use Rattle.sim_resources.proofs.ForCallers.{get_kept, get_either}
 use Rattle.sim_events.specs.declared.station.Station.{Station}
-use Rattle.sim_events.specs.Stations.{cpu_place, side_place, place, IsOneSide, IsPlain, IsNotAfter, ArePlaced, HasNumber}
+use Rattle.sim_events.specs.declared.station.Latest.{Latest}
+use Rattle.sim_events.specs.Stations.{cpu_place, side_place, place, latest_at, IsOneSide, IsPlain, IsNotAfter, IsNew, IsTold, ArePlaced, HasNumber}
 use Rattle.sim_events.specs.Cost.{same_station, cpu_alone, side_by, side_alone, same_choice}
 
 pub same_station_true : (p q : Station) → same_station p q ≡ true → p ≡ q
@@ -72,18 +74,20 @@ place_same s t p q rank e =
     let sides = side_same s.sends s.receives t.sends t.receives p.side q.side side in
     λ i. record { rank = rank i; cpu = cpu i; sends = sides.0 i; receives = sides.1 i }
 
--- where no number has changed
-pub placed_as : (seen : List Station) (places more : List ℕ) → ((n : ℕ) → slice_index more n ≡ slice_index places n) → ArePlaced seen places → ArePlaced seen more
+-- where no place was given another number
+pub placed_as : (seen : List Station) (places more : List (Option Latest)) → ((n : ℕ) → latest_at more n ≡ latest_at places n) → ArePlaced seen places → ArePlaced seen more
 placed_as seen places more same placed = record {
   plain = placed.plain;
+  told = λ n l e. placed.told n l (sym (same n) ∙ e);
   placed = λ i s e last. same (place s) ∙ placed.placed i s e last;
   once = placed.once;
 }
 
 -- before any is seen
-pub placed_none : (places : List ℕ) → ArePlaced [] places
-placed_none places = record {
+pub placed_none : ArePlaced [] []
+placed_none = record {
   plain = λ i s e. absurd (nothing i s e);
+  told = λ n l e. absurd (cc e);
   placed = λ i s e n. absurd (nothing i s e);
   once = λ i j s e f. absurd (nothing i s e);
 }
@@ -91,43 +95,81 @@ placed_none places = record {
     nothing : (i : ℕ) (s : Station) → slice_get [] i ≡ Some s → ⊥
     nothing i s e = omega (arith, slice_get_within [] i s e)
 
-module _ (seen : List Station) (places : List ℕ) (placed : ArePlaced seen places) (station : Station) (plain : IsPlain station) (by_rank : IsNotAfter seen station.rank) (no : slice_get seen (slice_index places (place station)) ≡ Some station → ⊥) (within : place station < length places) where
-  -- a station that is not at its place was not seen
-  pub not_seen : (i : ℕ) → slice_get seen i ≡ Some station → ⊥
-  not_seen i e =
-      no (subst (λ (n : ℕ). slice_get seen n ≡ Some station) (sym (placed.placed i station e by_rank)) e)
+-- what a place was given last, read there, and past the end of the table
+pub latest_read : (places : List (Option Latest)) (at : ℕ) (latest x : Option Latest) → at < length places → latest ≡ get_or places at x → latest_at places at ≡ latest
+latest_read places at latest x within e =
+    get_or_from_slice_get places at latest None (slice_get-get_or places at x within ∙ ap Some (sym e))
 
-  -- one more
-  pub placed_more : ArePlaced (seen ++ station ∷ []) (slice_set places (place station) (length seen))
-  placed_more = record {
-    plain = λ i s e. elim (get_either seen station i s e) [ inl was ↦ placed.plain i s was | inr new ↦ subst IsPlain (sym new.1) plain ];
-    placed = λ i s e last. elim (get_either seen station i s e) [ inl was ↦ kept i s was last | inr new ↦ here i s new ];
-    once = λ i j s e f. once i j s (get_either seen station i s e) (get_either seen station j s f);
-  }
-    where
-      here : (i : ℕ) (s : Station) → (i ≡ length seen) × (s ≡ station) → slice_index (slice_set places (place station) (length seen)) (place s) ≡ i
-      here i s new =
-          ap (λ (t : Station). slice_index (slice_set places (place station) (length seen)) (place t)) new.1 ∙ get_or-set_same places (place station) (length seen) 0 within ∙ sym new.0
+pub latest_past : (places : List (Option Latest)) (at : ℕ) → length places ≤ at → latest_at places at ≡ None
+latest_past places at past = get_or_past places at None past
 
-      kept : (i : ℕ) (s : Station) → slice_get seen i ≡ Some s → IsNotAfter (seen ++ station ∷ []) s.rank → slice_index (slice_set places (place station) (length seen)) (place s) ≡ i
-      kept i s was last =
-          let new_last : station.rank ≤ s.rank = last (length seen) station (get_last seen station) in
-          let rank : s.rank ≡ station.rank = omega (arith, new_last, by_rank i s was) in
-          let apart : place s ≢ place station = λ e. not_seen i (was ∙ ap Some (place_same s station (placed.plain i s was) plain rank e)) in
-          get_or-set_other places (place station) (place s) (length seen) 0 apart ∙ placed.placed i s was (λ j u e. last j u (get_kept seen (station ∷ []) j u e))
+module _ (seen : List Station) (places : List (Option Latest)) (placed : ArePlaced seen places) where
+  module _ (rank at : ℕ) (station : Station) (same_rank : station.rank ≡ rank) (same_place : place station ≡ at) where
+    -- a plain station has the number that its place tells for its rank
+    pub found : (number : ℕ) → IsPlain station → latest_at places at ≡ Some (record { rank = rank; number = number }) → slice_get seen number ≡ Some station
+    found number plain e =
+        let told = placed.told at (record { rank = rank; number = number }) e in
+        told.is ∙ ap Some (place_same told.station station (placed.plain number told.station told.is) plain (told.rank ∙ sym same_rank) (told.at ∙ sym same_place))
 
-      once : (i j : ℕ) (s : Station) → (slice_get seen i ≡ Some s) ⊎ ((i ≡ length seen) × (s ≡ station)) → (slice_get seen j ≡ Some s) ⊎ ((j ≡ length seen) × (s ≡ station)) → i ≡ j
-      once i j s (inl e) (inl f) = placed.once i j s e f
-      once i j s (inl e) (inr f) = absurd (not_seen i (e ∙ ap Some f.1))
-      once i j s (inr e) (inl f) = absurd (not_seen j (f ∙ ap Some e.1))
-      once i j s (inr e) (inr f) = e.0 ∙ sym f.0
+    -- and is new where it tells none
+    pub not_found : IsNotAfter seen station.rank → ((number : ℕ) → latest_at places at ≢ Some (record { rank = rank; number = number })) → IsNew seen station
+    not_found by_rank none i e =
+        none i (ap (latest_at places) (sym same_place) ∙ placed.placed i station e by_rank ∙ (λ k. Some (record { rank = same_rank k; number = i })))
 
--- the same, where its place was read
-pub placed_at : (seen : List Station) (places : List ℕ) (station : Station) (at number : ℕ) → ArePlaced seen places → IsPlain station → IsNotAfter seen station.rank → at ≡ place station → at < length places → number ≡ get_or places at number → (slice_get seen number ≡ Some station → ⊥) → ArePlaced (seen ++ station ∷ []) (slice_set places at (length seen))
-placed_at seen places station at number placed plain by_rank is within read apart =
-    let here : slice_index places (place station) ≡ number = ap (slice_index places) (sym is) ∙ get_or_from_slice_get places at number 0 (slice_get-get_or places at number within ∙ ap Some (sym read)) in
-    let more = placed_more seen places placed station plain by_rank (λ e. apart (ap (slice_get seen) (sym here) ∙ e)) (omega (arith, is, within)) in
-    subst (λ (n : ℕ). ArePlaced (seen ++ station ∷ []) (slice_set places n (length seen))) (sym is) more
+  module _ (station : Station) (plain : IsPlain station) (by_rank : IsNotAfter seen station.rank) (new : IsNew seen station) (within : place station < length places) where
+    abbrev own : Latest
+    own = record { rank = station.rank; number = length seen }
+
+    abbrev more : List (Option Latest)
+    more = slice_set places (place station) (Some own)
+
+    -- one more
+    placed_more : ArePlaced (seen ++ station ∷ []) more
+    placed_more = record {
+      plain = λ i s e. elim (get_either seen station i s e) [ inl was ↦ placed.plain i s was | inr last ↦ subst IsPlain (sym last.1) plain ];
+      told = λ n l e. told n l e (cases_eq n (place station));
+      placed = λ i s e last. elim (get_either seen station i s e) [ inl was ↦ kept i s was last | inr one ↦ here i s one ];
+      once = λ i j s e f. once i j s (get_either seen station i s e) (get_either seen station j s f);
+    }
+      where
+        -- the place of the one tells its number
+        at_own : latest_at more (place station) ≡ Some own
+        at_own = get_or-set_same places (place station) (Some own) None within
+
+        told : (n : ℕ) (l : Latest) → latest_at more n ≡ Some l → (n ≡ place station) ⊎ (n ≢ place station) → IsTold (seen ++ station ∷ []) n l
+        told n l e (inl same) =
+            let is : own ≡ l = same_Some own l (sym at_own ∙ ap (latest_at more) (sym same) ∙ e) in
+            subst (IsTold (seen ++ station ∷ []) n) is (record { station = station; is = get_last seen station; rank = refl; at = sym same })
+        told n l e (inr apart) =
+            let was = placed.told n l (sym (get_or-set_other places (place station) n (Some own) None apart) ∙ e) in
+            record { station = was.station; is = get_kept seen (station ∷ []) l.number was.station was.is; rank = was.rank; at = was.at }
+
+        here : (i : ℕ) (s : Station) → (i ≡ length seen) × (s ≡ station) → latest_at more (place s) ≡ Some (record { rank = s.rank; number = i })
+        here i s one =
+            ap (λ (t : Station). latest_at more (place t)) one.1 ∙ at_own ∙ (λ k. Some (record { rank = (sym one.1 k).rank; number = sym one.0 k }))
+
+        kept : (i : ℕ) (s : Station) → slice_get seen i ≡ Some s → IsNotAfter (seen ++ station ∷ []) s.rank → latest_at more (place s) ≡ Some (record { rank = s.rank; number = i })
+        kept i s was last =
+            let new_last : station.rank ≤ s.rank = last (length seen) station (get_last seen station) in
+            let rank : s.rank ≡ station.rank = omega (arith, new_last, by_rank i s was) in
+            let apart : place s ≢ place station = λ e. new i (was ∙ ap Some (place_same s station (placed.plain i s was) plain rank e)) in
+            get_or-set_other places (place station) (place s) (Some own) None apart ∙ placed.placed i s was (λ j u e. last j u (get_kept seen (station ∷ []) j u e))
+
+        once : (i j : ℕ) (s : Station) → (slice_get seen i ≡ Some s) ⊎ ((i ≡ length seen) × (s ≡ station)) → (slice_get seen j ≡ Some s) ⊎ ((j ≡ length seen) × (s ≡ station)) → i ≡ j
+        once i j s (inl e) (inl f) = placed.once i j s e f
+        once i j s (inl e) (inr f) = absurd (new i (e ∙ ap Some f.1))
+        once i j s (inr e) (inl f) = absurd (new j (f ∙ ap Some e.1))
+        once i j s (inr e) (inr f) = e.0 ∙ sym f.0
+
+-- the same, by the place and the number that are written
+pub placed_at : (seen : List Station) (places : List (Option Latest)) (station : Station) (at number : ℕ) → ArePlaced seen places → IsPlain station → IsNotAfter seen station.rank → IsNew seen station → at ≡ place station → at < length places → number ≡ length seen → ArePlaced (seen ++ station ∷ []) (slice_set places at (Some (record { rank = station.rank; number = number })))
+placed_at seen places station at number placed plain by_rank new is within next =
+    rw (is, next) (placed_more seen places placed station plain by_rank new (omega (arith, is, within)))
+
+-- what follows where there is no value
+pub none_then : {X P Q : Type 0} (r : Option X) → (P → Q) → IfNone r P → IfNone r Q
+none_then None f h = f h
+none_then (Some x) f h = h
 
 -- the parts of a plain station
 pub plain_cpu : (s : Station) → IsPlain s → IsPlain (cpu_alone s)

@@ -1,10 +1,11 @@
 -- What an operation waits for before it works: its cpu and, where it sends or receives, that side of its interface.
-use Rattle.std.specs.Prelude.{ℕ, ◌≡◌, ◌≤◌, ◌<◌, ◌+◌, ◌*◌, ◌++◌, List, length, Option, Some, None, slice_get, slice_index}
+use Rattle.std.specs.Prelude.{ℕ, ◌≡◌, ◌≢◌, ◌≤◌, ◌<◌, ◌+◌, ◌*◌, ◌++◌, List, length, Option, Some, None, get_or, slice_get, slice_index}
 use Rattle.goal_graph.specs.declared.action.OpId.{OpId}
 use Rattle.goal_graph.specs.declared.plan.Op.{Op}
 use Rattle.goal_graph.specs.Schedule.{Plan, op_at, operations}
 use Rattle.sim_stations.specs.declared.pair.Pair.{Pair}
 use Rattle.sim_events.specs.declared.station.Station.{Station}
+use Rattle.sim_events.specs.declared.station.Latest.{Latest}
 use Rattle.sim_events.specs.Cost.{station_of, cpu_alone, side_alone, stations_among}
 
 -- where a rank keeps the number of a station
@@ -42,10 +43,26 @@ IsNotAfter seen rank = (j : ℕ) (s : Station) → slice_get seen j ≡ Some s �
 abbrev pub AreOnce : List Station → Type 0
 AreOnce seen = (i j : ℕ) (s : Station) → slice_get seen i ≡ Some s → slice_get seen j ≡ Some s → i ≡ j
 
--- the stations of the last rank have their numbers at their places
-pub record ArePlaced (seen : List Station) (places : List ℕ) : Type 0 where
+-- not seen
+abbrev pub IsNew : List Station → Station → Type 0
+IsNew seen station = (i : ℕ) → slice_get seen i ≢ Some station
+
+-- what a place was given last
+abbrev pub latest_at : List (Option Latest) → ℕ → Option Latest
+latest_at places n = get_or places n None
+
+-- the station that has the number which its place was given last
+pub record IsTold (seen : List Station) (n : ℕ) (l : Latest) : Type 0 where
+  pub station : Station
+  pub is : slice_get seen l.number ≡ Some station
+  pub rank : station.rank ≡ l.rank
+  pub at : place station ≡ n
+
+-- places tell of stations, and the stations of the last rank have their numbers at their places
+pub record ArePlaced (seen : List Station) (places : List (Option Latest)) : Type 0 where
   pub plain : (i : ℕ) (s : Station) → slice_get seen i ≡ Some s → IsPlain s
-  pub placed : (i : ℕ) (s : Station) → slice_get seen i ≡ Some s → IsNotAfter seen s.rank → slice_index places (place s) ≡ i
+  pub told : (n : ℕ) (l : Latest) → latest_at places n ≡ Some l → IsTold seen n l
+  pub placed : (i : ℕ) (s : Station) → slice_get seen i ≡ Some s → IsNotAfter seen s.rank → latest_at places (place s) ≡ Some (record { rank = s.rank; number = i })
   pub once : AreOnce seen
 
 -- the station has this number among those that are seen after it; those seen before keep theirs

@@ -1,9 +1,9 @@
 // What operations wait for.
-ghost use Rattle.std.specs.Prelude.{◌≡◌, ℕ, ◌<◌, ◌≤◌, ◌+◌, ◌*◌, ◌^◌, ◌↔◌, [], All, IfOk, OnOk, IsTrue, Some, length, slice_get, slice_index};
+ghost use Rattle.std.specs.Prelude.{◌≡◌, ◌≢◌, ℕ, ◌<◌, ◌≤◌, ◌+◌, ◌*◌, ◌^◌, [], All, IfOk, OnOk, IfSome, IfNone, Some, length, slice_get, vec_capacity};
 ghost use Rattle.goal_base.specs.declared.limits.TheConstants.{MAX_OPS};
 ghost use Rattle.goal_graph.specs.Schedule.{operations};
 ghost use Rattle.sim_stations.specs.Stations.{DoExist};
-ghost use Rattle.sim_events.specs.Stations.{place, AreStationed, IsPlain, IsNotAfter, AreOnce, HasNumber, HasPair, IsNumbering};
+ghost use Rattle.sim_events.specs.Stations.{place, latest_at, AreStationed, IsPlain, IsNotAfter, IsNew, AreOnce, HasNumber, HasPair, IsNumbering};
 ghost use Rattle.sim_events.specs.Cost.{station_of, cpu_alone, side_alone};
 
 use goal_base::NoMemory;
@@ -14,7 +14,7 @@ use std::marker::Model;
 
 /// What an operation waits for before it works: its cpu and, where it sends or receives, that side of its interface.
 /// A cpu alone and a side alone are stations too.
-#[derive(Clone, Copy, PartialEq, Eq)]
+#[derive(Clone, Copy)]
 pub struct Station {
     pub rank: u32,
     pub cpu: Option<u8>,
@@ -65,7 +65,7 @@ impl Station {
     // Where a rank keeps the number of the station. Those of one rank have different places.
     fn place(self) -> usize
         ensures is { result ≡ place self }
-        ensures below { result < 131841 }
+        ensures below { result < PLACES }
     {
         let side = match (self.sends, self.receives) {
             (None, None) => 0,
@@ -76,16 +76,43 @@ impl Station {
             None => 0,
             Some(cpu) => 1 + usize::from(cpu),
         };
-        513 * cpu + side
+        SIDES * cpu + side
     }
+}
+
+// How many sides a rank has, with none, and how many places for stations.
+const SIDES: usize = 513;
+
+const PLACES: usize = 257 * SIDES;
+
+// The place of an operation's station.
+fn place_of(op: &Op) -> usize
+    ensures is { (id : OpId) → result ≡ place (station_of id op.now) }
+    ensures plain { (id : OpId) → IsPlain (station_of id op.now) }
+    ensures below { result < PLACES }
+{
+    let nic = usize::from(op.nic);
+    let side = match op.kind {
+        Kind::Calc { .. } => 0,
+        Kind::Send { .. } => 1 + nic,
+        Kind::Recv { .. } => 257 + nic,
+    };
+    SIDES * (1 + usize::from(op.cpu)) + side
+}
+
+/// The number that a place was given last, and the rank whose station it is.
+#[derive(Clone, Copy)]
+pub struct Latest {
+    pub rank: u32,
+    pub number: u32,
 }
 
 // Stations in the order in which they were first seen, each once. Contracts see it as the list of them.
 #[derive(Drop)]
 struct Stations {
     seen: Vec<Station>,
-    // the number of the station of the last rank that has this place
-    places: Vec<u32>,
+    // what each place was given last
+    places: Vec<Option<Latest>>,
 }
 
 impl Model for Stations {
@@ -100,14 +127,25 @@ impl Model for Stations {
     ghost invariant = { λ s. ArePlaced s.seen.items s.places.items };
 }
 
+// The number that a place was given last, where that was for this rank.
+fn given(latest: Option<Latest>, rank: u32) -> Option<u32>
+    ensures some { IfSome result (λ number. latest ≡ Some (record { rank = rank; number = number })) }
+    ensures none { IfNone result ((number : ℕ) → latest ≢ Some (record { rank = rank; number = number })) }
+{
+    match latest {
+        Some(latest) if latest.rank == rank => Some(latest.number),
+        _ => None,
+    }
+}
+
 // Makes the table long enough for a place, where it is not.
-fn make_place(places: &mut Vec<u32>, place: usize) -> Result<(), NoMemory>
-    requires { place < 131841 }
+fn make_place(places: &mut Vec<Option<Latest>>, place: usize) -> Result<(), NoMemory>
+    requires { place < PLACES }
     ensures there { OnOk result (place < length places.new.items) }
-    ensures same { (n : ℕ) → slice_index places.new.items n ≡ slice_index places.old.items n }
+    ensures same { (n : ℕ) → latest_at places.new.items n ≡ latest_at places.old.items n }
 {
     if place >= places.len() {
-        places.resize(place + 1, 0)?;
+        places.resize(place + 1, None)?;
     }
     Ok(())
 }
@@ -122,11 +160,36 @@ impl Stations {
         Ok(Stations { seen, places })
     }
 
-    // Whether a station has this number.
-    fn has(&self, number: u32, station: Station) -> bool
-        ensures { IsTrue result ↔ (slice_get self.now number ≡ Some station) }
+    // The number of the station of a rank that is at this place. Stations come by rank.
+    fn find(&self, rank: u32, at: usize) -> Option<u32>
+        ensures some { IfSome result (λ number. (s : Station) → IsPlain s → s.rank ≡ rank → place s ≡ at → slice_get self.now number ≡ Some s) }
+        ensures none { IfNone result ((s : Station) → IsNotAfter self.now s.rank → s.rank ≡ rank → place s ≡ at → IsNew self.now s) }
+        ensures once { AreOnce self.now }
     {
-        (number as usize) < self.seen.len() && self.seen[number as usize] == station
+        if at >= self.places.len() {
+            return None;
+        }
+        given(self.places[at], rank)
+    }
+
+    // Adds a station that is not among them, and answers its number. Stations come by rank.
+    fn add(&mut self, station: Station, at: usize) -> Result<u32, NoMemory>
+        requires by_rank { IsNotAfter self.old station.rank }
+        requires plain { IsPlain station }
+        requires new { IsNew self.old station }
+        requires place { at ≡ place station }
+        requires below { at < PLACES }
+        requires few { length self.old + 1 < 2 ^ 32 }
+        ensures next { IfOk result (λ number. number ≡ length self.old) }
+        ensures number { IfOk result (HasNumber self.old self.new station) }
+        ensures once { IfOk result (λ n. AreOnce self.new) }
+    {
+        make_place(&mut self.places, at)?;
+        let rank = station.rank;
+        let number = self.seen.len() as u32;
+        self.seen.push(station)?;
+        self.places[at] = Some(Latest { rank, number });
+        Ok(number)
     }
 
     // The number of a station: that which it has, or the next one. Stations come by rank.
@@ -137,16 +200,11 @@ impl Stations {
         ensures number { IfOk result (HasNumber self.old self.new station) }
         ensures once { IfOk result (λ n. AreOnce self.new) }
     {
-        let place = station.place();
-        make_place(&mut self.places, place)?;
-        let number = self.places[place];
-        if self.has(number, station) {
-            return Ok(number);
+        let at = station.place();
+        match self.find(station.rank, at) {
+            Some(number) => Ok(number),
+            None => self.add(station, at),
         }
-        let next = self.seen.len() as u32;
-        self.seen.push(station)?;
-        self.places[place] = next;
-        Ok(next)
     }
 }
 
@@ -186,21 +244,38 @@ impl Numbering {
         })
     }
 
-    // The number of a station, whose resources have theirs then.
-    fn number(&mut self, station: Station) -> Result<u32, NoMemory>
+    // Adds a station that is not among them, and its resources, and answers its number.
+    #[inline(never)]
+    fn add(&mut self, station: Station, at: usize) -> Result<u32, NoMemory>
         requires numbered { IsNumbering self.old.stations self.old.resources self.old.pairs.items }
         requires by_rank { IsNotAfter self.old.stations station.rank }
         requires plain { IsPlain station }
+        requires new { IsNew self.old.stations station }
+        requires place { at ≡ place station }
+        requires below { at < PLACES }
         requires few { length self.old.stations < MAX_OPS }
         ensures numbered { OnOk result (IsNumbering self.new.stations self.new.resources self.new.pairs.items) }
         ensures number { IfOk result (HasNumber self.old.stations self.new.stations station) }
     {
-        let number = self.stations.number(station)?;
-        if number as usize == self.pairs.len() {
-            let pair = pair_of(&mut self.resources, station)?;
-            self.pairs.push(pair)?;
-        }
+        let number = self.stations.add(station, at)?;
+        let pair = pair_of(&mut self.resources, station)?;
+        self.pairs.push(pair)?;
         Ok(number)
+    }
+
+    // The number of an operation's station, whose resources have theirs then.
+    fn number(&mut self, id: OpId, op: &Op) -> Result<u32, NoMemory>
+        requires numbered { IsNumbering self.old.stations self.old.resources self.old.pairs.items }
+        requires by_rank { IsNotAfter self.old.stations id.rank }
+        requires few { length self.old.stations < MAX_OPS }
+        ensures numbered { OnOk result (IsNumbering self.new.stations self.new.resources self.new.pairs.items) }
+        ensures number { IfOk result (HasNumber self.old.stations self.new.stations (station_of id op.now)) }
+    {
+        let at = place_of(op);
+        match self.stations.find(id.rank, at) {
+            Some(number) => Ok(number),
+            None => self.add(Station::of(id, *op), at),
+        }
     }
 }
 
@@ -220,6 +295,7 @@ fn number_all(
     numbers: &mut Vec<u32>,
 ) -> Result<(), NoMemory>
     requires few { length (operations sched.now) ≤ MAX_OPS }
+    requires room { length (operations sched.now) ≤ vec_capacity numbers.old }
     requires none { (numbering.old.stations ≡ []) × (numbering.old.resources ≡ []) × (numbering.old.pairs.items ≡ []) × (numbers.old.items ≡ []) }
     ensures few { OnOk result (length numbers.new.items ≤ MAX_OPS) }
     ensures few_stations { OnOk result (length numbering.new.pairs.items ≤ length numbers.new.items) }
@@ -229,9 +305,8 @@ fn number_all(
     ensures stationed { OnOk result (AreStationed sched.now numbers.new.items numbering.new.pairs.items) }
 {
     for id in sched.operations() {
-        let station = Station::of(*id, *sched.op(*id));
-        let number = numbering.number(station)?;
-        numbers.push(number)?;
+        let number = numbering.number(*id, sched.op(*id))?;
+        numbers.push_reserved(number);
     }
     Ok(())
 }
