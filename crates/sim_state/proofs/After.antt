@@ -1,6 +1,6 @@
 -- What one more action changes of what is known of an operation.
 use Rattle.std.proofs.Common.{◌≡◌, ◌==◌, ◌&&◌, ◌+◌, ℕ, Bool, true, false, not, List, ◌∷◌, Option, Some, None, if◌then◌else◌, is_some, refl, sym, ap, ap₂, ◌∙◌, subst}
-use Rattle.std.specs.Option.{option_map}
+use Rattle.std.specs.Option.{option_map, option_or}
 use Rattle.std.proofs.lemmas.Bool.{cond-true, cond-false, and_left, and_right, and_parts, both_ways, false_from_ne_true}
 use Rattle.goal_graph.specs.declared.action.OpId.{OpId}
 use Rattle.goal_graph.specs.declared.action.Timed.{Timed}
@@ -19,9 +19,9 @@ use Rattle.sim_params.specs.Times.{mate, cpu_hold, start, paired_at, time_of, ti
 use Rattle.sim_params.specs.Run.{IsRun}
 use Rattle.sim_params.proofs.ForCallers.{start_kept, start_now, end_kept, end_last, paired_at_kept, since_kept, since_new, run_each, run_interleaving}
 use Rattle.sim_state.specs.Engine.{start_known, end_known}
-use Rattle.sim_state.specs.Awaited.{awaited_known}
+use Rattle.sim_state.specs.Awaited.{awaited_known, delivered_known}
 use Rattle.sim_state.specs.Enabled.{time_known}
-use Rattle.sim_state.specs.Represents.{paired_known, delivered_known}
+use Rattle.sim_state.specs.Represents.{paired_known}
 
 -- a number that is known alike
 known_alike : (b c : Bool) (m n : ℕ) → c ≡ b → (b ≡ true → n ≡ m) → (if c then Some n else None) ≡ (if b then Some m else None)
@@ -103,7 +103,7 @@ module _ (plans : List Plan) (costs : CostModel) (h : List Timed) (a : Timed) wh
   arriving_receive l x k = arriving_is l x _ k.kind ∙ never _ _
 
   -- what an operation awaits once it has started
-  pub awaited_started : (l : List Timed) (x : OpId) → has_started plans x (plain l) ≡ true → awaited_known plans costs l x ≡ time_known plans costs l Arrive x
+  pub awaited_started : (l : List Timed) (x : OpId) → has_started plans x (plain l) ≡ true → awaited_known plans costs l x ≡ option_or (time_known plans costs l Arrive x) (delivered_known plans costs l x)
   awaited_started l x e = cond-true _ _ _ e
 
   pub started_this : a.class ≡ first_class (kind_at plans a.op) → has_started plans a.op (plain (a ∷ h)) ≡ true

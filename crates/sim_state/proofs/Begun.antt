@@ -32,7 +32,7 @@ module _ (plans : List Plan) (costs : CostModel) (h : List Timed) (a : Timed) (r
   -- written, these times make known what is known after the action
   abbrev Known : Times → Type 0
   Known t =
-      map (with_times a.op t None (entry_known plans costs h)) (operations plans) ≡ map (entry_then plans costs h a) (operations plans)
+      map (with_times a.op t (entry_known plans costs h)) (operations plans) ≡ map (entry_then plans costs h a) (operations plans)
 
   abbrev before : Times
   before = times_known plans costs h a.op

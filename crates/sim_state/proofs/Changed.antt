@@ -38,13 +38,13 @@ module _ (plans : List Plan) (costs : CostModel) (h : List Timed) (a : Timed) (r
   pub at_fits : a.time < 2 ^ 63
   at_fits = omega (arith, cpu_fits plans costs h a run p, within)
 
-  -- a change of times and of when its bytes are delivered
-  abbrev Known : Times → Option ℕ → Type 0
-  Known t d =
-      map (with_times a.op t d (entry_known plans costs h)) (operations plans) ≡ map (entry_then plans costs h a) (operations plans)
+  -- a change of times
+  abbrev Known : Times → Type 0
+  Known t =
+      map (with_times a.op t (entry_known plans costs h)) (operations plans) ≡ map (entry_then plans costs h a) (operations plans)
 
-  pub times_changed : (c : Change) (t : Times) (d : Option ℕ) → c ≡ record { times = t; partner = None; delivered = d } → Known t d → IsChange plans costs h a c
-  times_changed c t d e known =
+  pub times_changed : (c : Change) (t : Times) → c ≡ record { times = t; partner = None } → Known t → IsChange plans costs h a c
+  times_changed c t e known =
       subst (IsChange plans costs h a) (sym e) (record { exists = tt; known = known })
 
   -- a post, where the matcher has told the partner
@@ -56,10 +56,10 @@ module _ (plans : List Plan) (costs : CostModel) (h : List Timed) (a : Timed) (r
     pub post_fresh : happened Post a.op m.actions ≡ false
     post_fresh = not_before plans costs h a m knows Post p is refl
 
-    pub post_changes : (t : Times) (partner : Option OpId) → t ≡ record before { start = Some a.time; awaited = None } → partner ≡ send_for m.plans m.actions a.op → IsChange plans costs h a (record { times = t; partner = partner; delivered = None })
+    pub post_changes : (t : Times) (partner : Option OpId) → t ≡ record before { start = Some a.time; awaited = None } → partner ≡ send_for m.plans m.actions a.op → IsChange plans costs h a (record { times = t; partner = partner })
     post_changes t partner e told =
         let taken : partner ≡ send_for plans (filter is_post_or_arrival (plain h)) a.op = told ∙ (λ i. send_for (knows.same_plans i) (knows.events i) a.op) in
-        subst (λ (t : Times). IsChange plans costs h a (record { times = t; partner = partner; delivered = None })) (sym e) (record {
+        subst (λ (t : Times). IsChange plans costs h a (record { times = t; partner = partner })) (sym e) (record {
           exists = sender_exists plans costs h a run p partner is taken;
           known = posted plans costs h a run p (entry_known plans costs h a.op) refl partner is (posts plans costs h a run p is) taken;
         })
@@ -80,10 +80,10 @@ module _ (plans : List Plan) (costs : CostModel) (h : List Timed) (a : Timed) (r
     pub arrival_fresh : happened Arrive a.op m.actions ≡ false
     arrival_fresh = not_before plans costs h a m knows Arrive p is refl
 
-    pub arrival_changes : (t : Times) (partner : Option OpId) → t ≡ record before { awaited = None } → partner ≡ receive_for m.plans m.actions a.op → IsChange plans costs h a (record { times = t; partner = partner; delivered = None })
+    pub arrival_changes : (t : Times) (partner : Option OpId) → t ≡ record before { awaited = None } → partner ≡ receive_for m.plans m.actions a.op → IsChange plans costs h a (record { times = t; partner = partner })
     arrival_changes t partner e told =
         let taken : partner ≡ receive_for plans (filter is_post_or_arrival (plain h)) a.op = told ∙ (λ i. receive_for (knows.same_plans i) (knows.events i) a.op) in
-        subst (λ (t : Times). IsChange plans costs h a (record { times = t; partner = partner; delivered = None })) (sym e) (record {
+        subst (λ (t : Times). IsChange plans costs h a (record { times = t; partner = partner })) (sym e) (record {
           exists = receiver_exists plans costs h a run p partner is taken;
           known = arrived plans costs h a run p (entry_known plans costs h a.op) refl partner is (arrives plans costs h a run p is) taken;
         })
@@ -116,9 +116,9 @@ module _ (plans : List Plan) (costs : CostModel) (h : List Timed) (a : Timed) (r
     pub data_flight : a.time + flight plans costs a.op < 2 ^ 63
     data_flight = omega (arith, bytes_fit plans costs h a run p is, within)
 
-    pub data_known : (until there : ℕ) → until ≡ a.time + over plans costs a.op → there ≡ a.time + flight plans costs a.op → (t : Times) → t ≡ record before { end = Some until } → Known t (Some there)
+    pub data_known : (until there : ℕ) → until ≡ a.time + over plans costs a.op → there ≡ a.time + flight plans costs a.op → (t : Times) → t ≡ record before { end = Some until; awaited = Some there } → Known t
     data_known until there ends arrives t e =
-        subst (λ (t : Times). Known t (Some there)) (sym e) (data_sent plans costs h a run p (entry_known plans costs h a.op) refl until (data_until until ends) there is send (sends plans costs h a run p is).1 arrives)
+        subst Known (sym e) (data_sent plans costs h a run p (entry_known plans costs h a.op) refl until (data_until until ends) there is send (sends plans costs h a run p is).1 arrives)
 
     pub data_free : (r s : Holds) (until : ℕ) → until ≡ a.time + over plans costs a.op → AreFreeTimes plans costs h r → SameFreeTimes s (hold_tx (hold_cpu r a.op until) a.op (a.time + gap plans costs a.op)) → AreFreeTimes plans costs (a ∷ h) s
     data_free r s until ends free after =
@@ -161,9 +161,9 @@ module _ (plans : List Plan) (costs : CostModel) (h : List Timed) (a : Timed) (r
       serve_gap =
           omega (arith, rx_fits plans costs h a run p, rx_of_serve plans costs h a.class a.op receive r.with partner is, within)
 
-      pub serve_known : (until : ℕ) → until ≡ a.time + over plans costs r.with → (t : Times) → t ≡ record before { end = Some until } → Known t None
+      pub serve_known : (until : ℕ) → until ≡ a.time + over plans costs r.with → (t : Times) → t ≡ record before { end = Some until } → Known t
       serve_known until ends t e =
-          subst (λ (t : Times). Known t None) (sym e) (message_taken plans costs h a run p (entry_known plans costs h a.op) refl until (serve_until until ends) is receive)
+          subst Known (sym e) (message_taken plans costs h a run p (entry_known plans costs h a.op) refl until (serve_until until ends) is receive)
 
       pub serve_free : (q s : Holds) (until : ℕ) → until ≡ a.time + over plans costs r.with → AreFreeTimes plans costs h q → SameFreeTimes s (hold_rx (hold_cpu q a.op until) a.op (a.time + gap plans costs r.with)) → AreFreeTimes plans costs (a ∷ h) s
       serve_free q s until ends free after =

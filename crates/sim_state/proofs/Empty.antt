@@ -18,7 +18,7 @@ use Rattle.sim_state.specs.Engine.{start_known, end_known}
 use Rattle.sim_state.specs.Awaited.{is_there, unmet, awaited_known}
 use Rattle.sim_state.specs.Tasks.{work_of}
 use Rattle.sim_state.specs.Tables.{fresh_entry}
-use Rattle.sim_state.specs.Represents.{paired_known, delivered_known, entry_known, AreFreeTimes, KnowsPostsAndArrivals}
+use Rattle.sim_state.specs.Represents.{paired_known, entry_known, AreFreeTimes, KnowsPostsAndArrivals}
 
 module _ (plans : List Plan) (costs : CostModel) where
   module _ (x : OpId) where
@@ -55,21 +55,17 @@ module _ (plans : List Plan) (costs : CostModel) where
         let rest = all_of ds in
         omega (arith, here, rest, count-cons (λ (d : Need). not (is_there plans costs [] x d)) d ds)
 
-    pub all_unmet : length (needs plans x) ≡ unmet plans costs [] x
+    all_unmet : length (needs plans x) ≡ unmet plans costs [] x
     all_unmet = all_of (needs plans x)
 
     no_partner : paired_known plans costs [] x ≡ None
     unfolding plain pairs partner
     no_partner = refl
 
-    no_bytes : delivered_known plans costs [] x ≡ None
-    unfolding plain happened
-    no_bytes = refl
-
     -- nothing is known of any operation but what it does
-    pub nothing_known : fresh_entry (work_of plans costs x) ≡ entry_known plans costs [] x
+    pub nothing_known : fresh_entry (work_of plans costs x) (length (needs plans x)) ≡ entry_known plans costs [] x
     nothing_known =
-        sym (λ i. record { work = work_of plans costs x; times = record { start = no_start i; end = no_end i; awaited = none_given i }; paired = no_partner i; delivered = no_bytes i })
+        sym (λ i. record { work = work_of plans costs x; times = record { start = no_start i; end = no_end i; awaited = none_given i }; paired = no_partner i; unmet = sym all_unmet i })
 
     cpu_first : cpu_free (unheld plans) x ≡ cpu plans costs [] x
     unfolding free_at cpu

@@ -13,17 +13,19 @@ use Rattle.goal_graph.specs.Action.{happened, plain}
 use Rattle.goal_graph.specs.Matching.{pairs, is_paired}
 use Rattle.goal_graph.specs.Allowed.{first_class, has_started, has_ended, is_ready, is_served, may, allowed}
 use Rattle.goal_graph.specs.Laws.{IsCalc}
-use Rattle.goal_graph.proofs.ForCallers.{partner_is_send, allowed_fresh, allowed_may, allowed_from, allowed_data, allowed_serve, first_of_calc, first_of_send, first_of_receive, ended_receive}
+use Rattle.goal_graph.proofs.ForCallers.{partner_is_send, partners_mutual, allowed_fresh, allowed_may, allowed_from, allowed_data, allowed_serve, first_of_calc, first_of_send, first_of_receive, ended_receive}
 use Rattle.sim_params.specs.Costs.{CostModel, is_eager, eager_of, latency, flight}
 use Rattle.sim_params.specs.Times.{since, mate, ready, cpu, tx, rx, paired_at, there_at, time_of, time}
 use Rattle.sim_params.specs.Run.{IsRun}
 use Rattle.sim_params.specs.Laws.{at_its_time}
 use Rattle.sim_params.specs.Budget.{budget}
-use Rattle.sim_params.proofs.ForCallers.{possible_budget, possible_at, run_each}
+use Rattle.sim_params.proofs.ForCallers.{possible_budget, possible_at, run_each, run_interleaving}
 use Rattle.sim_state.specs.declared.entry.Entry.{Entry}
 use Rattle.sim_state.specs.declared.pairing.Pairing.{Pairing}
-use Rattle.sim_state.specs.Represents.{message_known, entry_known}
+use Rattle.sim_state.specs.Awaited.{delivered_known}
+use Rattle.sim_state.specs.Represents.{paired_known, message_known, entry_known}
 use Rattle.sim_state.specs.Enabled.{ready_known, time_known, enabled_action}
+use Rattle.sim_state.proofs.Handed.{awaited_arrived, awaited_unpaired, paired_arrived}
 
 -- a number that is known, or not
 pub known_some : (b : Bool) (n m : ℕ) → (if b then Some n else None) ≡ Some m → (b ≡ true) × (n ≡ m)
@@ -85,9 +87,25 @@ module _ (plans : List Plan) (costs : CostModel) (h : List Timed) (x : OpId) whe
   pub start_told : (e : Entry) → e ≡ entry_known plans costs h x → is_some e.times.start ≡ has_started plans x (plain h)
   start_told e told = ap (λ (e : Entry). is_some e.times.start) told ∙ is_known (has_started plans x (plain h)) _
 
-  -- when its message or its request arrives, once it has started
-  pub arrival_told : (e : Entry) → e ≡ entry_known plans costs h x → has_started plans x (plain h) ≡ true → e.times.awaited ≡ time_known plans costs h Arrive x
-  arrival_told e told s = ap (λ (e : Entry). e.times.awaited) told ∙ cond-true _ _ _ s
+  -- when its message or its request arrives, once it has started and while it is not paired
+  pub arrival_told : IsRun plans costs h → (e : Entry) → e ≡ entry_known plans costs h x → has_started plans x (plain h) ≡ true → mate plans costs h x ≡ None → e.times.awaited ≡ time_known plans costs h Arrive x
+  arrival_told run e told s none =
+      ap (λ (e : Entry). e.times.awaited) told ∙ awaited_unpaired plans costs h x run s none
+
+  pub arrival_enabled : (r : Option ℕ) → r ≡ time_known plans costs h Arrive x → option_map (λ (t : ℕ). record { time = t; class = Arrive; op = x }) r ≡ enabled_action plans costs h Arrive x
+  arrival_enabled r told =
+      ap (option_map arrival_at) told ∙ go (allowed plans (is_eager plans costs) (plain h) Arrive x)
+    where
+      arrival_at : ℕ → Timed
+      arrival_at t = record { time = t; class = Arrive; op = x }
+
+      go : (b : Bool) → option_map arrival_at (if b then Some (time plans costs h Arrive x) else None) ≡ (if b then Some (at_its_time plans costs h Arrive x) else None)
+      go true = refl
+      go false = refl
+
+  -- when its bytes are delivered, once it has arrived
+  pub delivery_told : IsRun plans costs h → IsSend plans x → happened Arrive x (plain h) ≡ true → (e : Entry) → e ≡ entry_known plans costs h x → e.times.awaited ≡ delivered_known plans costs h x
+  delivery_told run k t e told = ap (λ (e : Entry). e.times.awaited) told ∙ awaited_arrived plans costs h x run k t
 
   -- nothing more of that class once it has started, nor while something that it needs is not there
   pub begun_not_enabled : (c : Class) → BeginsBy c → has_started plans x (plain h) ≡ true → None ≡ enabled_action plans costs h c x
@@ -129,9 +147,8 @@ module _ (plans : List Plan) (costs : CostModel) (h : List Timed) (x : OpId) whe
     pub mate_is : mate plans costs h x ≡ Some p.with
     pub at_is : paired_at plans costs h x ≡ p.at
 
-  pub paired_some : (e : Entry) (p : Pairing) → e ≡ entry_known plans costs h x → e.paired ≡ Some p → IsPairing p
-  paired_some e p told is =
-      go (mate plans costs h x) refl (sym (ap (λ (e : Entry). e.paired) told) ∙ is)
+  pub known_pairing : (p : Pairing) → paired_known plans costs h x ≡ Some p → IsPairing p
+  known_pairing p is = go (mate plans costs h x) refl is
     where
       pairing : OpId → Pairing
       pairing y = record { with = y; at = paired_at plans costs h x }
@@ -141,6 +158,9 @@ module _ (plans : List Plan) (costs : CostModel) (h : List Timed) (x : OpId) whe
       go (Some y) m f =
           let same : pairing y ≡ p = same_Some (pairing y) p f in
           record { mate_is = m ∙ ap (λ (q : Pairing). Some q.with) same; at_is = ap (λ (q : Pairing). q.at) same }
+
+  pub paired_some : (e : Entry) (p : Pairing) → e ≡ entry_known plans costs h x → e.paired ≡ Some p → IsPairing p
+  paired_some e p told is = known_pairing p (sym (ap (λ (e : Entry). e.paired) told) ∙ is)
 
   pub paired_none : (e : Entry) → e ≡ entry_known plans costs h x → e.paired ≡ None → mate plans costs h x ≡ None
   paired_none e told is =
@@ -153,34 +173,45 @@ module _ (plans : List Plan) (costs : CostModel) (h : List Timed) (x : OpId) whe
       go None m f = m
       go (Some y) m f = absurd (cc)
 
+  -- a send that is paired has arrived
+  pub pairing_arrived : IsSend plans x → (p : Pairing) → IsPairing p → happened Arrive x (plain h) ≡ true
+  pairing_arrived k p is = paired_arrived plans costs h x k (ap is_some is.mate_is)
+
   -- no Data of an eager send, of one that has handed over its bytes, or of one that is not paired
   pub eager_data : is_eager plans costs x ≡ true → None ≡ enabled_action plans costs h Data x
   eager_data e =
       not_enabled Data (λ p. both_ways _ (allowed_data plans (is_eager plans costs) (plain h) x p).1 e)
 
-  handed : (e : Entry) → e ≡ entry_known plans costs h x → happened Data x (plain h) ≡ is_some e.delivered
-  handed e told =
-      sym (is_known (happened Data x (plain h)) _) ∙ sym (ap (λ (e : Entry). is_some e.delivered) told)
+  pub unpaired_data : mate plans costs h x ≡ None → None ≡ enabled_action plans costs h Data x
+  unpaired_data n =
+      not_enabled Data (λ p. both_ways _ (ap is_some n) (allowed_data plans (is_eager plans costs) (plain h) x p).2)
 
-  pub handed_data : (e : Entry) → e ≡ entry_known plans costs h x → is_some e.delivered ≡ true → None ≡ enabled_action plans costs h Data x
-  handed_data e told s = past_not_enabled Data (handed e told ∙ s)
-
-  pub unpaired_data : (e : Entry) → e ≡ entry_known plans costs h x → e.paired ≡ None → None ≡ enabled_action plans costs h Data x
-  unpaired_data e told n =
-      not_enabled Data (λ p. both_ways _ (ap is_some (paired_none e told n)) (allowed_data plans (is_eager plans costs) (plain h) x p).2)
+  -- and no Arrive of one that is paired
+  pub paired_arrive : IsSend plans x → (p : Pairing) → IsPairing p → None ≡ enabled_action plans costs h Arrive x
+  paired_arrive k p is = past_not_enabled Arrive (pairing_arrived k p is)
 
   may_data : IsSend plans x → is_eager plans costs x ≡ false → (p : Pairing) → IsPairing p → may plans (is_eager plans costs) (plain h) Data x (kind_at plans x) ≡ true
   may_data k large p is =
       ap (may plans (is_eager plans costs) (plain h) Data x) k.kind ∙ and_from (not (is_eager plans costs x)) (is_paired (pairs plans (plain h)) x) (not_from_false _ large) (ap is_some is.mate_is)
 
-  pub data_enabled : IsSend plans x → is_eager plans costs x ≡ false → (e : Entry) → e ≡ entry_known plans costs h x → is_some e.delivered ≡ false → (p : Pairing) → IsPairing p → (t : ℕ) → t ≡ time plans costs h Data x → Some (record { time = t; class = Data; op = x }) ≡ enabled_action plans costs h Data x
-  data_enabled k large e told s p is t at = comes_enabled Data t (handed e told ∙ s) (may_data k large p is) at
+  -- what the entry of a send that is paired awaits tells whether it has handed over its bytes
+  module _ (run : IsRun plans costs h) (k : IsSend plans x) (e : Entry) (told : e ≡ entry_known plans costs h x) (p : Pairing) (is : IsPairing p) where
+    handed : happened Data x (plain h) ≡ is_some e.times.awaited
+    handed =
+        sym (is_known (happened Data x (plain h)) _) ∙ sym (ap is_some (delivery_told run k (pairing_arrived k p is) e told))
 
-  -- its clearance is back within the budget
-  pub clears : IsRun plans costs h → IsSend plans x → is_eager plans costs x ≡ false → (e : Entry) → e ≡ entry_known plans costs h x → is_some e.delivered ≡ false → (p : Pairing) → IsPairing p → p.at + latency plans costs x ≤ budget plans costs
-  clears run k large e told s p is =
-      let can = allowed_from plans (is_eager plans costs) (plain h) Data x (handed e told ∙ s) (may_data k large p is) in
-      omega (arith, possible_budget plans costs h (at_its_time plans costs h Data x) (run_each plans costs h run) (possible_at plans costs h Data x can), data_time k, is.at_is)
+    pub handed_data : is_some e.times.awaited ≡ true → None ≡ enabled_action plans costs h Data x
+    handed_data s = past_not_enabled Data (handed ∙ s)
+
+    module _ (large : is_eager plans costs x ≡ false) (s : is_some e.times.awaited ≡ false) where
+      pub data_enabled : (t : ℕ) → t ≡ time plans costs h Data x → Some (record { time = t; class = Data; op = x }) ≡ enabled_action plans costs h Data x
+      data_enabled t at = comes_enabled Data t (handed ∙ s) (may_data k large p is) at
+
+      -- its clearance is back within the budget
+      pub clears : p.at + latency plans costs x ≤ budget plans costs
+      clears =
+          let can = allowed_from plans (is_eager plans costs) (plain h) Data x (handed ∙ s) (may_data k large p is) in
+          omega (arith, possible_budget plans costs h (at_its_time plans costs h Data x) (run_each plans costs h run) (possible_at plans costs h Data x can), data_time k, is.at_is)
 
   -- no Serve of a receive that has ended, that is not paired, or whose message is not there
   ended : IsReceive plans x → (e : Entry) → e ≡ entry_known plans costs h x → happened Serve x (plain h) ≡ is_some e.times.end
@@ -200,6 +231,11 @@ module _ (plans : List Plan) (costs : CostModel) (h : List Timed) (x : OpId) whe
 
   pub pairing_send : IsReceive plans x → (p : Pairing) → IsPairing p → IsSend plans p.with
   pairing_send k p is = partner_is_send plans (plain h) x p.with k is.mate_is
+
+  pub partner_arrived : IsRun plans costs h → IsReceive plans x → (p : Pairing) → IsPairing p → happened Arrive p.with (plain h) ≡ true
+  partner_arrived run k p is =
+      let back = partners_mutual plans (is_eager plans costs) (plain h) x p.with (run_interleaving plans costs h run) is.mate_is in
+      paired_arrived plans costs h p.with (pairing_send k p is) (ap is_some back)
 
   pub absent_serve : (p : Pairing) → IsPairing p → (r : Option ℕ) → r ≡ message_known plans costs h p → r ≡ None → None ≡ enabled_action plans costs h Serve x
   absent_serve p is r told n =

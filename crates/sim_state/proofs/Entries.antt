@@ -1,5 +1,6 @@
 -- What is known of each operation after one more action, class by class.
-use Rattle.std.proofs.Common.{◌≡◌, ◌==◌, ◌+◌, ℕ, Bool, true, false, List, ◌∷◌, map, Option, Some, None, IfSome, filter, if◌then◌else◌, inl, inr, refl, sym, ap, ◌∙◌, subst}
+use Rattle.std.proofs.Common.{◌≡◌, ◌==◌, ◌+◌, ℕ, Bool, true, false, List, ◌∷◌, map, Option, Some, None, IfSome, filter, if◌then◌else◌, inl, inr, refl, sym, ap, ap₂, ◌∙◌, subst}
+use Rattle.std.specs.Option.{option_or}
 use Rattle.std.proofs.lemmas.Bool.{cases_Bool, false_from_ne_true}
 use Rattle.goal_graph.specs.declared.action.OpId.{OpId}
 use Rattle.goal_graph.specs.declared.action.Timed.{Timed}
@@ -7,10 +8,10 @@ use Rattle.goal_graph.specs.declared.action.Class.{Class}
 use Rattle.goal_graph.specs.declared.action.Class.TheVariants.{Arrive, Serve, Data, Post, Begin}
 use Rattle.goal_graph.specs.Schedule.{Plan, kind_at, operations, IsSend, IsReceive}
 use Rattle.goal_graph.specs.Fault.{IsOp}
-use Rattle.goal_graph.specs.Action.{place, same_op, is_act, plain, plain_act}
+use Rattle.goal_graph.specs.Action.{place, same_op, is_act, happened, plain, plain_act}
 use Rattle.goal_graph.specs.Allowed.{first_class, last_class, has_started, allowed}
 use Rattle.goal_graph.specs.Laws.{IsCalc}
-use Rattle.goal_graph.proofs.ForCallers.{cases_op, is_act_class, same_op_true, not_send_receive, first_of_calc, first_of_send, first_of_receive, last_of_calc, last_of_eager, last_of_large, last_of_receive, same_tables, at_entry, off_entry, entry_written, same_op_swapped, send_is_op, receive_is_op}
+use Rattle.goal_graph.proofs.ForCallers.{allowed_data, cases_op, is_act_class, same_op_true, not_send_receive, first_of_calc, first_of_send, first_of_receive, last_of_calc, last_of_eager, last_of_large, last_of_receive, same_tables, at_entry, off_entry, entry_written, same_op_swapped, send_is_op, receive_is_op}
 use Rattle.sim_params.specs.Costs.{CostModel, flight, flight_one, is_eager}
 use Rattle.sim_params.specs.Times.{mate, cpu_hold, Possible}
 use Rattle.sim_params.specs.Run.{IsRun}
@@ -21,15 +22,16 @@ use Rattle.sim_state.specs.Engine.{start_known, end_known}
 use Rattle.sim_state.specs.Enabled.{time_known}
 use Rattle.sim_state.specs.Tasks.{work_of}
 use Rattle.sim_state.specs.Tables.{with_entry, with_pairing, with_partner}
-use Rattle.sim_state.specs.Represents.{times_known, entry_known, entry_then, paired_known, delivered_known}
-use Rattle.sim_state.specs.Awaited.{awaited_known}
-use Rattle.sim_state.proofs.After.{other_op, other_class, start_same, start_new, end_same, end_new, arriving_same, arriving_calc, arriving_receive, arriving_begun, arriving_arrived, awaited_started, started_this, started_still, there_same, there_new, paired_same, paired_new}
+use Rattle.sim_state.specs.Represents.{times_known, entry_known, entry_then, paired_known}
+use Rattle.sim_state.specs.Awaited.{unmet, awaited_known, delivered_known}
+use Rattle.sim_state.proofs.After.{fresh, other_op, other_class, start_same, start_new, end_same, end_new, arriving_same, arriving_calc, arriving_receive, arriving_begun, arriving_arrived, awaited_started, started_this, started_still, there_same, there_new, paired_same, paired_new}
+use Rattle.sim_state.proofs.Handed.{arriving_none, or_none, paired_arrived, unarrived_unhanded, undelivered, unstarted_unhanded}
 use Rattle.sim_state.proofs.Started.{arrive_started, data_started, serve_started}
 use Rattle.sim_state.proofs.Pairings.{none_made, other_makes_none, post_none, post_some, arrive_none, arrive_some}
 
-same_entry : (d e : Entry) → d.work ≡ e.work → d.times.start ≡ e.times.start → d.times.end ≡ e.times.end → d.times.awaited ≡ e.times.awaited → d.paired ≡ e.paired → d.delivered ≡ e.delivered → d ≡ e
-same_entry d e w s n a p t =
-    λ i. record { work = w i; times = record { start = s i; end = n i; awaited = a i }; paired = p i; delivered = t i }
+same_entry : (d e : Entry) → d.work ≡ e.work → d.times.start ≡ e.times.start → d.times.end ≡ e.times.end → d.times.awaited ≡ e.times.awaited → d.paired ≡ e.paired → d.unmet ≡ e.unmet → d ≡ e
+same_entry d e w s n a p u =
+    λ i. record { work = w i; times = record { start = s i; end = n i; awaited = a i }; paired = p i; unmet = u i }
 
 -- an entry is written, and two entries get their partners
 pair_written : (y m : OpId) (at : ℕ) (e : Entry) (f g : OpId → Entry) → same_op y m ≡ false → g y ≡ record e { paired = Some (record { with = m; at = at }) } → g m ≡ record (f m) { paired = Some (record { with = y; at = at }) } → ((x : OpId) → same_op y x ≡ false → same_op m x ≡ false → g x ≡ f x) → (x : OpId) → with_pairing m y at (with_pairing y m at (with_entry y e f)) x ≡ g x
@@ -53,15 +55,16 @@ module _ (plans : List Plan) (costs : CostModel) (h : List Timed) (a : Timed) (r
   abbrev before : OpId → Entry
   before = entry_known plans costs h
 
+  -- what is known of one after the action, where it still waits for as many moments
   abbrev after : OpId → Entry
-  after = entry_known plans costs (a ∷ h)
+  after x = record (entry_known plans costs (a ∷ h) x) { unmet = unmet plans costs h x }
 
   -- what is written at the action's operation and at the others
   abbrev pub next : OpId → Entry
   next = entry_then plans costs h a
 
   abbrev waiting : OpId → Entry
-  waiting x = record (entry_known plans costs (a ∷ h) x) { times = record (times_known plans costs (a ∷ h) x) { awaited = awaited_known plans costs h x } }
+  waiting x = record (after x) { times = record (times_known plans costs (a ∷ h) x) { awaited = awaited_known plans costs h x } }
 
   pub own_next : next a.op ≡ after a.op
   own_next = at_entry a.op (after a.op) waiting a.op refl
@@ -72,7 +75,7 @@ module _ (plans : List Plan) (costs : CostModel) (h : List Timed) (a : Timed) (r
   -- an operation that has the partner that it had, and that another action was of
   other_same : (x : OpId) → mate plans costs (a ∷ h) x ≡ mate plans costs h x → same_op a.op x ≡ false → next x ≡ before x
   other_same x m d =
-      other_next x d ∙ same_entry _ _ refl (start_same plans costs h a x (other_op plans costs h a (first_class (kind_at plans x)) x d)) (end_same plans costs h a run x (other_op plans costs h a (last_class (is_eager plans costs x) (kind_at plans x)) x d)) refl (paired_same plans costs h a x m) (there_same plans costs h a x (other_op plans costs h a Data x d))
+      other_next x d ∙ same_entry _ _ refl (start_same plans costs h a x (other_op plans costs h a (first_class (kind_at plans x)) x d)) (end_same plans costs h a run x (other_op plans costs h a (last_class (is_eager plans costs x) (kind_at plans x)) x d)) refl (paired_same plans costs h a x m) refl
 
   -- the newest action is of another class
   another : (c d : Class) (x : OpId) → a.class ≡ c → (c ≡ d → ⊥) → is_act d x (plain_act a) ≡ false
@@ -98,21 +101,35 @@ module _ (plans : List Plan) (costs : CostModel) (h : List Timed) (a : Timed) (r
     allowed_as c same =
         subst (λ (d : Class). allowed plans (is_eager plans costs) (plain h) d a.op ≡ true) same possible.allowed
 
-    awaited_was : (c : Class) → a.class ≡ c → (place c == 0) ≡ false → (place c == 4) ≡ false → has_started plans a.op (plain h) ≡ true → awaited_known plans costs (a ∷ h) a.op ≡ e.times.awaited
-    awaited_was c same f g s =
-        awaited_started plans costs h a (a ∷ h) a.op (started_still plans costs h a a.op s) ∙ arriving_same plans costs h a a.op (not_class c Arrive a.op same f) (not_class c Begin a.op same g) ∙ sym (awaited_started plans costs h a h a.op s) ∙ ap (λ (d : Entry). d.times.awaited) (sym was)
+    awaited_was : (c : Class) → a.class ≡ c → (place c == 0) ≡ false → (place c == 2) ≡ false → (place c == 4) ≡ false → has_started plans a.op (plain h) ≡ true → awaited_known plans costs (a ∷ h) a.op ≡ e.times.awaited
+    awaited_was c same f g k s =
+        awaited_started plans costs h a (a ∷ h) a.op (started_still plans costs h a a.op s) ∙ ap₂ option_or (arriving_same plans costs h a a.op (not_class c Arrive a.op same f) (not_class c Begin a.op same k)) (there_same plans costs h a a.op (not_class c Data a.op same g)) ∙ sym (awaited_started plans costs h a h a.op s) ∙ ap (λ (d : Entry). d.times.awaited) (sym was)
 
     -- what its first action makes it await: when it arrives, or nothing
-    awaited_now : (c : Class) → a.class ≡ c → c ≡ first_class (kind_at plans a.op) → awaited_known plans costs (a ∷ h) a.op ≡ time_known plans costs (a ∷ h) Arrive a.op
-    awaited_now c same first =
-        awaited_started plans costs h a (a ∷ h) a.op (started_this plans costs h a (same ∙ first))
+    awaited_now : (c : Class) → a.class ≡ c → (place c == 2) ≡ false → c ≡ first_class (kind_at plans a.op) → awaited_known plans costs (a ∷ h) a.op ≡ time_known plans costs (a ∷ h) Arrive a.op
+    awaited_now c same f first =
+        let before : has_started plans a.op (plain h) ≡ false = ap (λ (d : Class). happened d a.op (plain h)) (sym first) ∙ fresh plans costs h a c possible same in
+        let none : delivered_known plans costs (a ∷ h) a.op ≡ None = there_same plans costs h a a.op (not_class c Data a.op same f) ∙ undelivered plans costs h a.op (unstarted_unhanded plans costs h a.op run before) in
+        awaited_started plans costs h a (a ∷ h) a.op (started_this plans costs h a (same ∙ first)) ∙ ap (option_or (time_known plans costs (a ∷ h) Arrive a.op)) none ∙ or_none (time_known plans costs (a ∷ h) Arrive a.op)
+
+    -- what an arrival leaves it to await: nothing
+    awaited_none : a.class ≡ Arrive → awaited_known plans costs (a ∷ h) a.op ≡ None
+    awaited_none c =
+        let none : delivered_known plans costs (a ∷ h) a.op ≡ None = there_same plans costs h a a.op (not_class Arrive Data a.op c refl) ∙ undelivered plans costs h a.op (unarrived_unhanded plans costs h a.op run (fresh plans costs h a Arrive possible c)) in
+        awaited_started plans costs h a (a ∷ h) a.op (started_still plans costs h a a.op (arrive_started plans costs h a.op (allowed_as Arrive c))) ∙ ap₂ option_or (arriving_arrived plans costs h a c) none
+
+    -- and what one that hands over its bytes awaits: that these are delivered
+    awaited_there : a.class ≡ Data → awaited_known plans costs (a ∷ h) a.op ≡ Some (a.time + flight plans costs a.op)
+    awaited_there c =
+        let sent = allowed_data plans (is_eager plans costs) (plain h) a.op (allowed_as Data c) in
+        let arrives = arriving_same plans costs h a a.op (not_class Data Arrive a.op c refl) (not_class Data Begin a.op c refl) ∙ arriving_none plans costs h a.op (paired_arrived plans costs h a.op sent.0 sent.2) in
+        awaited_started plans costs h a (a ∷ h) a.op (started_still plans costs h a a.op (data_started plans costs h a.op run (allowed_as Data c))) ∙ ap₂ option_or arrives (there_new plans costs h a possible c)
 
     paired_was : mate plans costs (a ∷ h) a.op ≡ mate plans costs h a.op → paired_known plans costs (a ∷ h) a.op ≡ e.paired
     paired_was m = paired_same plans costs h a a.op m ∙ ap (λ (d : Entry). d.paired) (sym was)
 
-    there_was : (c : Class) → a.class ≡ c → (place c == 2) ≡ false → delivered_known plans costs (a ∷ h) a.op ≡ e.delivered
-    there_was c same f =
-        there_same plans costs h a a.op (not_class c Data a.op same f) ∙ ap (λ (d : Entry). d.delivered) (sym was)
+    unmet_was : unmet plans costs h a.op ≡ e.unmet
+    unmet_was = ap (λ (d : Entry). d.unmet) (sym was)
 
     -- the table after an action that pairs no one
     abbrev Becomes : Entry → Type 0
@@ -133,19 +150,19 @@ module _ (plans : List Plan) (costs : CostModel) (h : List Timed) (a : Timed) (r
       pub calc_begun : a.class ≡ Begin → IsCalc plans a.op → Becomes (record e { times = record e.times { start = Some a.time; end = Some until; awaited = None } })
       calc_begun c k =
           let mates = unpaired Begin c refl in
-          one_written _ mates (same_entry _ _ work_was (start_new plans costs h a possible (c ∙ sym (first_of_calc plans a.op k))) (end_now (c ∙ sym (last_of_calc plans (is_eager plans costs) a.op k))) (awaited_now Begin c (sym (first_of_calc plans a.op k)) ∙ arriving_calc plans costs h a (a ∷ h) a.op k) (paired_was (mates a.op)) (there_was Begin c refl))
+          one_written _ mates (same_entry _ _ work_was (start_new plans costs h a possible (c ∙ sym (first_of_calc plans a.op k))) (end_now (c ∙ sym (last_of_calc plans (is_eager plans costs) a.op k))) (awaited_now Begin c refl (sym (first_of_calc plans a.op k)) ∙ arriving_calc plans costs h a (a ∷ h) a.op k) (paired_was (mates a.op)) unmet_was)
 
       -- an eager send begins
       pub eager_begun : (arrive : ℕ) → a.class ≡ Begin → IsSend plans a.op → is_eager plans costs a.op ≡ true → arrive ≡ a.time + flight plans costs a.op → Becomes (record e { times = record e.times { start = Some a.time; end = Some until; awaited = Some arrive } })
       eager_begun arrive c k eager at =
           let mates = unpaired Begin c refl in
-          one_written _ mates (same_entry _ _ work_was (start_new plans costs h a possible (c ∙ sym (first_of_send plans a.op k))) (end_now (c ∙ sym (last_of_eager plans (is_eager plans costs) a.op k eager))) (awaited_now Begin c (sym (first_of_send plans a.op k)) ∙ arriving_begun plans costs h a run possible c k ∙ ap (λ (b : Bool). Some (a.time + (if b then flight plans costs a.op else flight_one plans costs a.op))) eager ∙ ap Some (sym at)) (paired_was (mates a.op)) (there_was Begin c refl))
+          one_written _ mates (same_entry _ _ work_was (start_new plans costs h a possible (c ∙ sym (first_of_send plans a.op k))) (end_now (c ∙ sym (last_of_eager plans (is_eager plans costs) a.op k eager))) (awaited_now Begin c refl (sym (first_of_send plans a.op k)) ∙ arriving_begun plans costs h a run possible c k ∙ ap (λ (b : Bool). Some (a.time + (if b then flight plans costs a.op else flight_one plans costs a.op))) eager ∙ ap Some (sym at)) (paired_was (mates a.op)) unmet_was)
 
       -- a large send hands over its bytes
-      pub data_sent : (there : ℕ) → a.class ≡ Data → IsSend plans a.op → is_eager plans costs a.op ≡ false → there ≡ a.time + flight plans costs a.op → Becomes (record e { times = record e.times { end = Some until }; delivered = Some there })
+      pub data_sent : (there : ℕ) → a.class ≡ Data → IsSend plans a.op → is_eager plans costs a.op ≡ false → there ≡ a.time + flight plans costs a.op → Becomes (record e { times = record e.times { end = Some until; awaited = Some there } })
       data_sent there c k large at =
           let mates = unpaired Data c refl in
-          one_written _ mates (same_entry _ _ work_was (start_was Data c (λ f. let g = f ∙ first_of_send plans a.op k in differ g)) (end_now (c ∙ sym (last_of_large plans (is_eager plans costs) a.op k large))) (awaited_was Data c refl refl (data_started plans costs h a.op run (allowed_as Data c))) (paired_was (mates a.op)) (there_new plans costs h a possible c ∙ ap Some (sym at)))
+          one_written _ mates (same_entry _ _ work_was (start_was Data c (λ f. let g = f ∙ first_of_send plans a.op k in differ g)) (end_now (c ∙ sym (last_of_large plans (is_eager plans costs) a.op k large))) (awaited_there c ∙ ap Some (sym at)) (paired_was (mates a.op)) unmet_was)
         where
           differ : Data ≡ Begin → ⊥
           differ f = cc
@@ -154,7 +171,7 @@ module _ (plans : List Plan) (costs : CostModel) (h : List Timed) (a : Timed) (r
       pub message_taken : a.class ≡ Serve → IsReceive plans a.op → Becomes (record e { times = record e.times { end = Some until } })
       message_taken c k =
           let mates = unpaired Serve c refl in
-          one_written _ mates (same_entry _ _ work_was (start_was Serve c (λ f. differ (f ∙ first_of_receive plans a.op k))) (end_now (c ∙ sym (last_of_receive plans (is_eager plans costs) a.op k))) (awaited_was Serve c refl refl (serve_started plans costs h a.op (allowed_as Serve c))) (paired_was (mates a.op)) (there_was Serve c refl))
+          one_written _ mates (same_entry _ _ work_was (start_was Serve c (λ f. differ (f ∙ first_of_receive plans a.op k))) (end_now (c ∙ sym (last_of_receive plans (is_eager plans costs) a.op k))) (awaited_was Serve c refl refl refl (serve_started plans costs h a.op (allowed_as Serve c))) (paired_was (mates a.op)) unmet_was)
         where
           differ : Serve ≡ Post → ⊥
           differ f = cc
@@ -163,7 +180,7 @@ module _ (plans : List Plan) (costs : CostModel) (h : List Timed) (a : Timed) (r
     pub request_begun : (arrive : ℕ) → a.class ≡ Begin → IsSend plans a.op → is_eager plans costs a.op ≡ false → arrive ≡ a.time + flight_one plans costs a.op → Becomes (record e { times = record e.times { start = Some a.time; awaited = Some arrive } })
     request_begun arrive c k large at =
         let mates = unpaired Begin c refl in
-        one_written _ mates (same_entry _ _ work_was (start_new plans costs h a possible (c ∙ sym (first_of_send plans a.op k))) (end_was Begin c (λ f. differ (f ∙ last_of_large plans (is_eager plans costs) a.op k large))) (awaited_now Begin c (sym (first_of_send plans a.op k)) ∙ arriving_begun plans costs h a run possible c k ∙ ap (λ (b : Bool). Some (a.time + (if b then flight plans costs a.op else flight_one plans costs a.op))) large ∙ ap Some (sym at)) (paired_was (mates a.op)) (there_was Begin c refl))
+        one_written _ mates (same_entry _ _ work_was (start_new plans costs h a possible (c ∙ sym (first_of_send plans a.op k))) (end_was Begin c (λ f. differ (f ∙ last_of_large plans (is_eager plans costs) a.op k large))) (awaited_now Begin c refl (sym (first_of_send plans a.op k)) ∙ arriving_begun plans costs h a run possible c k ∙ ap (λ (b : Bool). Some (a.time + (if b then flight plans costs a.op else flight_one plans costs a.op))) large ∙ ap Some (sym at)) (paired_was (mates a.op)) unmet_was)
       where
         differ : Begin ≡ Data → ⊥
         differ f = cc
@@ -171,7 +188,7 @@ module _ (plans : List Plan) (costs : CostModel) (h : List Timed) (a : Timed) (r
     -- a receive is posted: what is known of it but its partner
     posted_entry : (p : Option Pairing) → a.class ≡ Post → IsReceive plans a.op → paired_known plans costs (a ∷ h) a.op ≡ p → after a.op ≡ record e { times = record e.times { start = Some a.time; awaited = None }; paired = p }
     posted_entry p c k pair =
-        same_entry _ _ work_was (start_new plans costs h a possible (c ∙ sym (first_of_receive plans a.op k))) (end_was Post c (λ f. differ (f ∙ last_of_receive plans (is_eager plans costs) a.op k))) (awaited_now Post c (sym (first_of_receive plans a.op k)) ∙ arriving_receive plans costs h a (a ∷ h) a.op k) pair (there_was Post c refl)
+        same_entry _ _ work_was (start_new plans costs h a possible (c ∙ sym (first_of_receive plans a.op k))) (end_was Post c (λ f. differ (f ∙ last_of_receive plans (is_eager plans costs) a.op k))) (awaited_now Post c refl (sym (first_of_receive plans a.op k)) ∙ arriving_receive plans costs h a (a ∷ h) a.op k) pair unmet_was
       where
         differ : Post ≡ Serve → ⊥
         differ f = cc
@@ -179,7 +196,7 @@ module _ (plans : List Plan) (costs : CostModel) (h : List Timed) (a : Timed) (r
     -- a message or a request arrives: what is known of its send but its partner
     arrived_entry : (p : Option Pairing) → a.class ≡ Arrive → IsSend plans a.op → paired_known plans costs (a ∷ h) a.op ≡ p → after a.op ≡ record e { times = record e.times { awaited = None }; paired = p }
     arrived_entry p c k pair =
-        same_entry _ _ work_was (start_was Arrive c (λ f. differ (f ∙ first_of_send plans a.op k))) (end_was Arrive c last) (awaited_started plans costs h a (a ∷ h) a.op (started_still plans costs h a a.op (arrive_started plans costs h a.op (allowed_as Arrive c))) ∙ arriving_arrived plans costs h a c) pair (there_was Arrive c refl)
+        same_entry _ _ work_was (start_was Arrive c (λ f. differ (f ∙ first_of_send plans a.op k))) (end_was Arrive c last) (awaited_none c) pair unmet_was
       where
         differ : Arrive ≡ Begin → ⊥
         differ f = cc
@@ -208,7 +225,7 @@ module _ (plans : List Plan) (costs : CostModel) (h : List Timed) (a : Timed) (r
 
     partner_entry : (m : OpId) → same_op a.op m ≡ false → mate plans costs h m ≡ None → mate plans costs (a ∷ h) m ≡ Some a.op → next m ≡ record (before m) { paired = Some (record { with = a.op; at = a.time }) }
     partner_entry m d free taken =
-        other_next m d ∙ same_entry _ _ refl (start_same plans costs h a m (other_op plans costs h a (first_class (kind_at plans m)) m d)) (end_same plans costs h a run m (other_op plans costs h a (last_class (is_eager plans costs m) (kind_at plans m)) m d)) refl (paired_new plans costs h a m a.op free taken) (there_same plans costs h a m (other_op plans costs h a Data m d))
+        other_next m d ∙ same_entry _ _ refl (start_same plans costs h a m (other_op plans costs h a (first_class (kind_at plans m)) m d)) (end_same plans costs h a run m (other_op plans costs h a (last_class (is_eager plans costs m) (kind_at plans m)) m d)) refl (paired_new plans costs h a m a.op free taken) refl
 
     apart : (m x : OpId) → IsSend plans m → IsReceive plans x → same_op m x ≡ false
     apart m x s r =

@@ -10,7 +10,7 @@ pub entry_changed : (plans : List Plan) (i : ℕ) (x : OpId) (entries : List Ent
 entry_changed plans i x entries f change d table is =
     ap (λ (es : List Entry). slice_set es i (change (get_or es i d))) table ∙ ap (λ (e : Entry). slice_set (map f (operations plans)) i (change e)) (entry_of f (operations plans) i x d is) ∙ written_entry plans i x (change (f x)) f is
 
--- what is no time is none
-pub absent : (o : Option ℕ) → ((n : ℕ) → o ≡ Some n → ⊥) → o ≡ None
+-- what is no value is none
+pub absent : {A : Type 0} (o : Option A) → ((x : A) → o ≡ Some x → ⊥) → o ≡ None
 absent None never = refl
-absent (Some n) never = absurd (never n refl)
+absent (Some x) never = absurd (never x refl)

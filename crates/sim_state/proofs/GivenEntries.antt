@@ -1,12 +1,11 @@
--- The entries and the counts of the operations, while those that wait for an action's operation are given its moments one after
--- another.
-use Rattle.std.proofs.Common.{◌≡◌, ◌≢◌, ◌&&◌, ◌+◌, ◌-◌, ◌≤◌, ℕ, Bool, true, false, not, max, List, [], ◌∷◌, ◌++◌, count_by, Option, Some, None, if◌then◌else◌, inl, inr, refl, sym, ap, ap₂, ◌∙◌, arith}
+-- The entries of the operations, while those that wait for an action's operation are given its moments one after another.
+use Rattle.std.proofs.Common.{◌≡◌, ◌≢◌, ◌&&◌, ◌+◌, ◌-◌, ◌<◌, ◌≤◌, ℕ, Bool, true, false, not, max, List, [], ◌∷◌, ◌++◌, count_by, Option, Some, None, if◌then◌else◌, inl, inr, refl, sym, ap, ap₂, ◌∙◌, arith}
 use Rattle.std.specs.List.{list_all}
-use Rattle.std.specs.Option.{option_map}
+use Rattle.std.specs.Option.{option_map, option_or}
 use Rattle.std.proofs.lemmas.Bool.{and_left, and_right, and_parts, cases_Bool, cond-true, cond-false}
 use Rattle.goal_graph.specs.declared.action.OpId.{OpId}
 use Rattle.goal_graph.specs.declared.action.Timed.{Timed}
-use Rattle.goal_graph.specs.declared.action.Class.TheVariants.{Arrive, Begin}
+use Rattle.goal_graph.specs.declared.action.Class.TheVariants.{Arrive, Data, Begin}
 use Rattle.goal_graph.specs.declared.plan.Need.{Need}
 use Rattle.goal_graph.specs.declared.plan.When.{When}
 use Rattle.goal_graph.specs.declared.plan.When.TheVariants.{AfterEnd, AfterStart}
@@ -26,7 +25,7 @@ use Rattle.sim_state.specs.declared.entry.Times.{Times}
 use Rattle.sim_state.specs.Awaited.{is_there, unmet, last_given, awaited_known}
 use Rattle.sim_state.specs.Given.{given_times, with_given, moment_in}
 use Rattle.sim_state.specs.Represents.{times_known, entry_known, entry_then}
-use Rattle.sim_state.proofs.After.{arriving_same, happened_same, other_op}
+use Rattle.sim_state.proofs.After.{arriving_same, happened_same, other_op, there_same}
 use Rattle.sim_state.proofs.GivenCounts.{counted_those, given_to, greatest_none, greatest_push, greatest_uncounted, last_those, names, one_if}
 use Rattle.sim_state.proofs.GivenMoments.{is_given, started_was_ready, there_now}
 
@@ -64,10 +63,25 @@ module _ (plans : List Plan) (costs : CostModel) (h : List Timed) (a : Timed) wh
   abbrev pub given_last : List Need → OpId → ℕ
   given_last ns y = greatest (given_to plans costs h a y) ns
 
-  -- the entry of y, after those entries are given theirs
-  abbrev pub entry_so_far : List Need → OpId → Entry
-  entry_so_far ns y =
-      record (entry_then plans costs h a y) { times = given_times (given_last ns y) (entry_then plans costs h a y).times }
+  -- that entry, which is given so late a moment, and waits for so many then
+  abbrev given_entry : ℕ → ℕ → Entry → Entry
+  given_entry n left e = record e { times = given_times n e.times; unmet = left }
+
+  -- the entry of y, after the first of those entries are given theirs, and before the rest are
+  abbrev pub entry_so_far : List Need → List Need → OpId → Entry
+  entry_so_far done rest y =
+      given_entry (given_last done y) (unmet_left rest y) (entry_then plans costs h a y)
+
+  -- before that it waits for as many as before the action
+  unmet_then : (y : OpId) → (entry_then plans costs h a y).unmet ≡ unmet plans costs h y
+  unmet_then y = elim (cases_op y a.op) [ inl e ↦ ap (λ (d : Entry). d.unmet) (at_entry a.op own others y e) ∙ ap (unmet plans costs h) (sym e) | inr d ↦ ap (λ (d : Entry). d.unmet) (off_entry a.op own others y d) ]
+    where
+      own : Entry
+      own = record (entry_known plans costs (a ∷ h) a.op) { unmet = unmet plans costs h a.op }
+
+      others : OpId → Entry
+      others x =
+          record (entry_known plans costs (a ∷ h) x) { times = record (times_known plans costs (a ∷ h) x) { awaited = awaited_known plans costs h x }; unmet = unmet plans costs h x }
 
   -- the moment of the action's operation
   known_moment : (w : When) → moment_in (times_known plans costs (a ∷ h) a.op) w ≡ (if there_now plans costs h a w a.op then Some (met_at plans costs (a ∷ h) w a.op) else None)
@@ -93,7 +107,7 @@ module _ (plans : List Plan) (costs : CostModel) (h : List Timed) (a : Timed) wh
     names_no_one : (y : OpId) → names plans costs h a y d ≡ false
     names_no_one y = and_right _ _ none
 
-    pub unmet_passed : (rest : List Need) (y : OpId) → unmet_left (d ∷ rest) y ≡ unmet_left rest y
+    unmet_passed : (rest : List Need) (y : OpId) → unmet_left (d ∷ rest) y ≡ unmet_left rest y
     unmet_passed rest y =
         let one : one_if (names plans costs h a y d) ≡ 0 = ap one_if (names_no_one y) in
         omega (arith, count-cons (names plans costs h a y) d rest, one)
@@ -103,9 +117,9 @@ module _ (plans : List Plan) (costs : CostModel) (h : List Timed) (a : Timed) wh
         let one : given_to plans costs h a y d ≡ 0 = cond-false _ _ _ (names_no_one y) in
         omega (arith, greatest_push (given_to plans costs h a y) done d, one)
 
-    pub entry_passed : (done : List Need) (y : OpId) → entry_so_far (done ++ (d ∷ [])) y ≡ entry_so_far done y
-    entry_passed done y =
-        ap (λ (n : ℕ). record (entry_then plans costs h a y) { times = given_times n (entry_then plans costs h a y).times }) (last_passed done y)
+    pub entry_passed : (done rest : List Need) (y : OpId) → entry_so_far (done ++ (d ∷ [])) rest y ≡ entry_so_far done (d ∷ rest) y
+    entry_passed done rest y =
+        ap₂ (λ (n left : ℕ). given_entry n left (entry_then plans costs h a y)) (last_passed done y) (sym (unmet_passed rest y))
 
   -- one more entry, which is given its moment
   module _ (d : Need) (given : is_given plans costs h a d.when ≡ true) where
@@ -123,38 +137,36 @@ module _ (plans : List Plan) (costs : CostModel) (h : List Timed) (a : Timed) wh
         let one : one_if (names plans costs h a later d) ≡ 1 = ap one_if names_it in
         omega (arith, count-cons (names plans costs h a later) d rest, one)
 
-    pub some_left : (rest : List Need) → 1 ≤ unmet_left (d ∷ rest) later
+    counts_no_other : (x : OpId) → same_op later x ≡ false → (rest : List Need) → unmet_left (d ∷ rest) x ≡ unmet_left rest x
+    counts_no_other x e rest =
+        let one : one_if (names plans costs h a x d) ≡ 0 = ap one_if (names_no_other x e) in
+        omega (arith, count-cons (names plans costs h a x) d rest, one)
+
+    pub some_left : (rest : List Need) → 0 < unmet_left (d ∷ rest) later
     some_left rest = omega (arith, counts_it rest)
 
-    pub unmet_given : (rest : List Need) (y : OpId) → with_entry later (unmet_left (d ∷ rest) later - 1) (unmet_left (d ∷ rest)) y ≡ unmet_left rest y
-    unmet_given rest y =
-        entry_written later (unmet_left (d ∷ rest) later - 1) (unmet_left (d ∷ rest)) (unmet_left rest) (omega (arith, counts_it rest)) others y
-      where
-        others : (x : OpId) → same_op later x ≡ false → unmet_left rest x ≡ unmet_left (d ∷ rest) x
-        others x e =
-            let one : one_if (names plans costs h a x d) ≡ 0 = ap one_if (names_no_other x e) in
-            omega (arith, count-cons (names plans costs h a x) d rest, one)
-
-    pub entry_given : (m : ℕ) → m ≡ met_at plans costs (a ∷ h) d.when a.op → (done : List Need) (y : OpId) → with_given later m (entry_so_far done) y ≡ entry_so_far (done ++ (d ∷ [])) y
-    entry_given m is done y = entry_written later _ (entry_so_far done) (entry_so_far (done ++ (d ∷ []))) here others y
+    pub entry_given : (m : ℕ) → m ≡ met_at plans costs (a ∷ h) d.when a.op → (done rest : List Need) (y : OpId) → with_given later m (entry_so_far done (d ∷ rest)) y ≡ entry_so_far (done ++ (d ∷ [])) rest y
+    entry_given m is done rest y = entry_written later _ (entry_so_far done (d ∷ rest)) (entry_so_far (done ++ (d ∷ [])) rest) here others y
       where
         moment : given_to plans costs h a later d ≡ m
         moment = cond-true _ _ _ names_it ∙ sym is
 
-        here : entry_so_far (done ++ (d ∷ [])) later ≡ record (entry_so_far done later) { times = given_times m (entry_so_far done later).times }
-        here =
-            ap (λ (t : Times). record (entry_then plans costs h a later) { times = t }) (sym (given_twice (entry_then plans costs h a later).times (given_last done later) m (given_last (done ++ (d ∷ [])) later) (omega (arith, greatest_push (given_to plans costs h a later) done d, moment))))
+        times : given_times (given_last (done ++ (d ∷ [])) later) (entry_then plans costs h a later).times ≡ given_times m (given_times (given_last done later) (entry_then plans costs h a later).times)
+        times =
+            sym (given_twice (entry_then plans costs h a later).times (given_last done later) m (given_last (done ++ (d ∷ [])) later) (omega (arith, greatest_push (given_to plans costs h a later) done d, moment)))
 
-        others : (x : OpId) → same_op later x ≡ false → entry_so_far (done ++ (d ∷ [])) x ≡ entry_so_far done x
+        left : unmet_left rest later ≡ unmet_left (d ∷ rest) later - 1
+        left = omega (arith, counts_it rest)
+
+        here : entry_so_far (done ++ (d ∷ [])) rest later ≡ record (entry_so_far done (d ∷ rest) later) { times = given_times m (entry_so_far done (d ∷ rest) later).times; unmet = (entry_so_far done (d ∷ rest) later).unmet - 1 }
+        here =
+            ap₂ (λ (t : Times) (n : ℕ). record (entry_then plans costs h a later) { times = t; unmet = n }) times left
+
+        others : (x : OpId) → same_op later x ≡ false → entry_so_far (done ++ (d ∷ [])) rest x ≡ entry_so_far done (d ∷ rest) x
         others x e =
             let one : given_to plans costs h a x d ≡ 0 = cond-false _ _ _ (names_no_other x e) in
             let last : given_last (done ++ (d ∷ [])) x ≡ given_last done x = omega (arith, greatest_push (given_to plans costs h a x) done d, one) in
-            ap (λ (n : ℕ). record (entry_then plans costs h a x) { times = given_times n (entry_then plans costs h a x).times }) last
-
-  -- before the first entry
-  pub entry_first : (y : OpId) → entry_then plans costs h a y ≡ entry_so_far [] y
-  entry_first y =
-      ap (λ (t : Times). record (entry_then plans costs h a y) { times = t }) (sym (given_none (entry_then plans costs h a y).times (given_last [] y) (greatest_none (given_to plans costs h a y))))
+            ap₂ (λ (n left : ℕ). given_entry n left (entry_then plans costs h a x)) last (sym (counts_no_other x e rest))
 
   module _ (run : IsRun plans costs h) (p : Possible plans costs h a) where
     -- the moment is within the budget
@@ -163,6 +175,13 @@ module _ (plans : List Plan) (costs : CostModel) (h : List Timed) (a : Timed) wh
     moment_fits AfterStart t = (within_budget plans costs (a ∷ h) (run_each plans costs h run, p)).starts a.op
 
     module _ (ws : List Need) (whom : a.class ≢ Arrive → ws ≡ waiting_on plans a.op) (y : OpId) where
+      -- before the first entry
+      pub entry_first : entry_then plans costs h a y ≡ entry_so_far [] ws y
+      entry_first =
+          let times = sym (given_none (entry_then plans costs h a y).times (given_last [] y) (greatest_none (given_to plans costs h a y))) in
+          let left = unmet_then y ∙ counted_those plans costs h a run p y ws whom in
+          ap₂ (λ (t : Times) (n : ℕ). record (entry_then plans costs h a y) { times = t; unmet = n }) times left
+
       -- what has started is given none
       started_given_none : has_started plans y (plain (a ∷ h)) ≡ true → given_last ws y ≡ 0
       unfolding is_ready
@@ -183,27 +202,38 @@ module _ (plans : List Plan) (costs : CostModel) (h : List Timed) (a : Timed) wh
 
       other_awaited : same_op a.op y ≡ false → raised (given_last ws y) (awaited_known plans costs h y) ≡ awaited_known plans costs (a ∷ h) y
       other_awaited d =
-          elim (cases_Bool (has_started plans y (plain (a ∷ h)))) [ inl t ↦ raised_none _ _ (started_given_none t) ∙ cond-true _ _ _ (sym as_before ∙ t) ∙ sym (arriving_same plans costs h a y (other_op plans costs h a Arrive y d) (other_op plans costs h a Begin y d)) ∙ sym (cond-true _ _ _ t) | inr f ↦ ap (raised (given_last ws y)) (cond-false _ _ _ (sym as_before ∙ f)) ∙ ap Some (sym (last_those plans costs h a run p y ws whom)) ∙ sym (cond-false _ _ _ f) ]
+          elim (cases_Bool (has_started plans y (plain (a ∷ h)))) [ inl t ↦ raised_none _ _ (started_given_none t) ∙ cond-true _ _ _ (sym as_before ∙ t) ∙ sym (ap₂ option_or (arriving_same plans costs h a y (other_op plans costs h a Arrive y d) (other_op plans costs h a Begin y d)) (there_same plans costs h a y (other_op plans costs h a Data y d))) ∙ sym (cond-true _ _ _ t) | inr f ↦ ap (raised (given_last ws y)) (cond-false _ _ _ (sym as_before ∙ f)) ∙ ap Some (sym (last_those plans costs h a run p y ws whom)) ∙ sym (cond-false _ _ _ f) ]
         where
           as_before : has_started plans y (plain (a ∷ h)) ≡ has_started plans y (plain h)
           as_before =
               happened_same plans costs h a (first_class (kind_at plans y)) y (other_op plans costs h a (first_class (kind_at plans y)) y d)
 
       -- after the last entry
-      pub entry_last : entry_so_far ws y ≡ entry_known plans costs (a ∷ h) y
+      pub entry_last : entry_so_far ws [] y ≡ entry_known plans costs (a ∷ h) y
       entry_last = elim (cases_op y a.op) [ inl e ↦ own e | inr d ↦ other d ]
         where
+          first : Entry
+          first = record (entry_known plans costs (a ∷ h) a.op) { unmet = unmet plans costs h a.op }
+
           others : OpId → Entry
           others x =
-              record (entry_known plans costs (a ∷ h) x) { times = record (times_known plans costs (a ∷ h) x) { awaited = awaited_known plans costs h x } }
+              record (entry_known plans costs (a ∷ h) x) { times = record (times_known plans costs (a ∷ h) x) { awaited = awaited_known plans costs h x }; unmet = unmet plans costs h x }
 
           given : Entry → Entry
-          given e = record e { times = given_times (given_last ws y) e.times }
+          given = given_entry (given_last ws y) (unmet_left [] y)
 
-          own : y ≡ a.op → entry_so_far ws y ≡ entry_known plans costs (a ∷ h) y
+          -- what it awaits, and how many it waits for
+          with_both : Option ℕ → ℕ → Entry
+          with_both o n =
+              record (entry_known plans costs (a ∷ h) y) { times = record (times_known plans costs (a ∷ h) y) { awaited = o }; unmet = n }
+
+          left : unmet_left [] y ≡ unmet plans costs (a ∷ h) y
+          left = omega arith
+
+          own : y ≡ a.op → entry_so_far ws [] y ≡ entry_known plans costs (a ∷ h) y
           own e =
-              ap given (at_entry a.op (entry_known plans costs (a ∷ h) a.op) others y e ∙ ap (entry_known plans costs (a ∷ h)) (sym e)) ∙ ap (λ (o : Option ℕ). record (entry_known plans costs (a ∷ h) y) { times = record (times_known plans costs (a ∷ h) y) { awaited = o } }) own_awaited
+              ap given (at_entry a.op first others y e ∙ ap (λ (x : OpId). record (entry_known plans costs (a ∷ h) x) { unmet = unmet plans costs h x }) (sym e)) ∙ ap₂ with_both own_awaited left
 
-          other : same_op y a.op ≡ false → entry_so_far ws y ≡ entry_known plans costs (a ∷ h) y
+          other : same_op y a.op ≡ false → entry_so_far ws [] y ≡ entry_known plans costs (a ∷ h) y
           other d =
-              ap given (off_entry a.op (entry_known plans costs (a ∷ h) a.op) others y d) ∙ ap (λ (o : Option ℕ). record (entry_known plans costs (a ∷ h) y) { times = record (times_known plans costs (a ∷ h) y) { awaited = o } }) (other_awaited (same_op_swapped y a.op d))
+              ap given (off_entry a.op first others y d) ∙ ap₂ with_both (other_awaited (same_op_swapped y a.op d)) left

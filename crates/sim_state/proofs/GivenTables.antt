@@ -1,5 +1,5 @@
 -- The tables of all operations, as one entry more of those that wait for an action's operation is given its moment.
-use Rattle.std.proofs.Common.{◌≡◌, ◌≢◌, ◌+◌, ◌-◌, ◌≤◌, ◌<◌, ℕ, Bool, true, false, List, [], ◌∷◌, map, count_by, length, get_or, take, drop, slice_get, slice_set, Some, inl, inr, sym, ap, ◌∙◌, arith}
+use Rattle.std.proofs.Common.{◌≡◌, ◌≢◌, ◌+◌, ◌≤◌, ◌<◌, ℕ, Bool, true, false, List, [], ◌∷◌, map, count_by, length, get_or, take, drop, inl, inr, sym, ap, ◌∙◌, arith}
 use Rattle.std.proofs.lemmas.List.{drop_more, take_more}
 use Rattle.std.proofs.lemmas.List.Sums.{count_by_more_no, count_by_more_yes}
 use Rattle.goal_graph.specs.declared.action.OpId.{OpId}
@@ -9,16 +9,15 @@ use Rattle.goal_graph.specs.declared.action.Class.TheVariants.{Arrive}
 use Rattle.goal_graph.specs.declared.plan.Need.{Need}
 use Rattle.goal_graph.specs.Schedule.{Plan, needed, operations}
 use Rattle.goal_graph.specs.Concerned.{waiting_on}
-use Rattle.goal_graph.proofs.ForCallers.{entry_of, written_entry}
 use Rattle.sim_params.specs.Costs.{CostModel}
 use Rattle.sim_params.specs.Times.{met_at, Possible}
 use Rattle.sim_params.specs.Run.{IsRun}
 use Rattle.sim_state.specs.declared.entry.Entry.{Entry}
-use Rattle.sim_state.specs.Awaited.{gives, given_by, unmet}
-use Rattle.sim_state.specs.Given.{with_given}
+use Rattle.sim_state.specs.Awaited.{gives, given_by}
+use Rattle.sim_state.specs.Given.{with_given, IsWaiting}
 use Rattle.sim_state.specs.Represents.{entry_known, entry_then}
-use Rattle.sim_state.proofs.GivenCounts.{cases_arrive, count_zero, counted_those}
-use Rattle.sim_state.proofs.GivenEntries.{entry_first, entry_given, entry_last, entry_passed, entry_so_far, some_left, unmet_given, unmet_left, unmet_passed}
+use Rattle.sim_state.proofs.GivenCounts.{cases_arrive, count_zero}
+use Rattle.sim_state.proofs.GivenEntries.{entry_first, entry_given, entry_last, entry_passed, entry_so_far, some_left}
 use Rattle.sim_state.proofs.GivenMoments.{gives_none, is_given}
 
 -- an action of that class may give an entry its moment
@@ -26,11 +25,8 @@ abbrev pub may_give : Class → Need → Bool
 may_give c d = gives c d.when
 
 module _ (plans : List Plan) (costs : CostModel) (h : List Timed) (a : Timed) where
-  abbrev counts_left : List Need → List ℕ
-  counts_left ns = map (unmet_left plans costs h a ns) (operations plans)
-
-  abbrev entries_so_far : List Need → List Entry
-  entries_so_far ns = map (entry_so_far plans costs h a ns) (operations plans)
+  abbrev entries_so_far : List Need → List Need → List Entry
+  entries_so_far done rest = map (entry_so_far plans costs h a done rest) (operations plans)
 
   module _ (ws : List Need) (k : ℕ) (nothing : Need) (within : k < length ws) where
     abbrev next : Need
@@ -44,39 +40,27 @@ module _ (plans : List Plan) (costs : CostModel) (h : List Timed) (a : Timed) wh
     given_counted m n l e f g = omega (arith, f, g, count_by_more_yes (may_give a.class) ws k nothing within e)
 
     -- an entry that is given none
-    pub passed_unmet : (us : List ℕ) → is_given plans costs h a next.when ≡ false → us ≡ counts_left (drop k ws) → us ≡ counts_left (drop (k + 1) ws)
-    passed_unmet us none table =
-        table ∙ ap counts_left (drop_more ws k nothing within) ∙ (λ i. map (λ (y : OpId). unmet_passed plans costs h a next none (drop (k + 1) ws) y i) (operations plans))
-
-    pub passed_entries : (es : List Entry) → is_given plans costs h a next.when ≡ false → es ≡ entries_so_far (take k ws) → es ≡ entries_so_far (take (k + 1) ws)
+    pub passed_entries : (es : List Entry) → is_given plans costs h a next.when ≡ false → es ≡ entries_so_far (take k ws) (drop k ws) → es ≡ entries_so_far (take (k + 1) ws) (drop (k + 1) ws)
     passed_entries es none table =
-        table ∙ sym (λ i. map (λ (y : OpId). entry_passed plans costs h a next none (take k ws) y i) (operations plans)) ∙ sym (ap entries_so_far (take_more ws k nothing within))
+        table ∙ ap (entries_so_far (take k ws)) (drop_more ws k nothing within) ∙ sym (λ i. map (λ (y : OpId). entry_passed plans costs h a next none (take k ws) (drop (k + 1) ws) y i) (operations plans)) ∙ sym (ap (λ (done : List Need). entries_so_far done (drop (k + 1) ws)) (take_more ws k nothing within))
 
     -- an entry that is given its moment
-    module _ (given : is_given plans costs h a next.when ≡ true) where
+    module _ (given : is_given plans costs h a next.when ≡ true) (es : List Entry) (table : es ≡ entries_so_far (take k ws) (drop k ws)) where
       abbrev later : OpId
       later = needed a.op next
 
-      table_left : (us : List ℕ) → us ≡ counts_left (drop k ws) → us ≡ counts_left (next ∷ drop (k + 1) ws)
-      table_left us table = table ∙ ap counts_left (drop_more ws k nothing within)
+      abbrev before : OpId → Entry
+      before = entry_so_far plans costs h a (take k ws) (next ∷ drop (k + 1) ws)
 
-      pub some_unmet : (us : List ℕ) (i : ℕ) → slice_get (operations plans) i ≡ Some later → us ≡ counts_left (drop k ws) → 1 ≤ get_or us i 0
-      some_unmet us i at table =
-          let here : get_or us i 0 ≡ unmet_left plans costs h a (next ∷ drop (k + 1) ws) later = ap (λ (ns : List ℕ). get_or ns i 0) (table_left us table) ∙ entry_of (unmet_left plans costs h a (next ∷ drop (k + 1) ws)) (operations plans) i later 0 at in
-          omega (arith, here, some_left plans costs h a next given (drop (k + 1) ws))
+      pub entries_before : es ≡ map before (operations plans)
+      entries_before = table ∙ ap (entries_so_far (take k ws)) (drop_more ws k nothing within)
 
-      pub given_unmet : (us : List ℕ) (i : ℕ) → slice_get (operations plans) i ≡ Some later → us ≡ counts_left (drop k ws) → slice_set us i (get_or us i 0 - 1) ≡ counts_left (drop (k + 1) ws)
-      given_unmet us i at table =
-          ap (λ (ns : List ℕ). slice_set ns i (get_or ns i 0 - 1)) (table_left us table) ∙ ap (λ (n : ℕ). slice_set (counts_left (next ∷ drop (k + 1) ws)) i (n - 1)) (entry_of (unmet_left plans costs h a (next ∷ drop (k + 1) ws)) (operations plans) i later 0 at) ∙ written_entry plans i later (unmet_left plans costs h a (next ∷ drop (k + 1) ws) later - 1) (unmet_left plans costs h a (next ∷ drop (k + 1) ws)) at ∙ (λ j. map (λ (y : OpId). unmet_given plans costs h a next given (drop (k + 1) ws) y j) (operations plans))
+      pub still_waiting : IsWaiting plans es later
+      still_waiting = (before, entries_before, some_left plans costs h a next given (drop (k + 1) ws))
 
-      pub given_entries : (es : List Entry) (m : ℕ) → m ≡ met_at plans costs (a ∷ h) next.when a.op → es ≡ map (with_given later m (entry_so_far plans costs h a (take k ws))) (operations plans) → es ≡ entries_so_far (take (k + 1) ws)
-      given_entries es m is table =
-          table ∙ (λ j. map (λ (y : OpId). entry_given plans costs h a next given m is (take k ws) y j) (operations plans)) ∙ sym (ap entries_so_far (take_more ws k nothing within))
-
-  -- before the first
-  pub first_entries : (es : List Entry) → es ≡ map (entry_then plans costs h a) (operations plans) → es ≡ entries_so_far []
-  first_entries es table =
-      table ∙ (λ i. map (λ (y : OpId). entry_first plans costs h a y i) (operations plans))
+      pub given_entries : (new : List Entry) (m : ℕ) → m ≡ met_at plans costs (a ∷ h) next.when a.op → ((f : OpId → Entry) → es ≡ map f (operations plans) → new ≡ map (with_given later m f) (operations plans)) → new ≡ entries_so_far (take (k + 1) ws) (drop (k + 1) ws)
+      given_entries new m is written =
+          written before entries_before ∙ (λ j. map (λ (y : OpId). entry_given plans costs h a next given m is (take k ws) (drop (k + 1) ws) y j) (operations plans)) ∙ sym (ap (λ (done : List Need). entries_so_far done (drop (k + 1) ws)) (take_more ws k nothing within))
 
   -- how many may be given in all
   module _ (ws : List Need) (whom : a.class ≢ Arrive → ws ≡ waiting_on plans a.op) where
@@ -85,17 +69,12 @@ module _ (plans : List Plan) (costs : CostModel) (h : List Timed) (a : Timed) wh
         elim (cases_arrive a.class) [ inl e ↦ omega (arith, count_zero (may_give a.class) ws (λ d. gives_none a.class d.when e)) | inr d ↦ omega (arith, ap (count_by (may_give a.class)) (whom d)) ]
 
     module _ (run : IsRun plans costs h) (p : Possible plans costs h a) where
-      pub first_unmet : (us : List ℕ) → us ≡ map (unmet plans costs h) (operations plans) → us ≡ counts_left ws
-      first_unmet us table =
-          table ∙ (λ i. map (λ (y : OpId). counted_those plans costs h a run p y ws whom i) (operations plans))
+      -- before the first
+      pub first_entries : (es : List Entry) → es ≡ map (entry_then plans costs h a) (operations plans) → es ≡ entries_so_far [] ws
+      first_entries es table =
+          table ∙ (λ i. map (λ (y : OpId). entry_first plans costs h a run p ws whom y i) (operations plans))
 
-      pub last_entries : (es : List Entry) → es ≡ entries_so_far ws → es ≡ map (entry_known plans costs (a ∷ h)) (operations plans)
+      -- after the last
+      pub last_entries : (es : List Entry) → es ≡ entries_so_far ws [] → es ≡ map (entry_known plans costs (a ∷ h)) (operations plans)
       last_entries es table =
           table ∙ (λ i. map (λ (y : OpId). entry_last plans costs h a run p ws whom y i) (operations plans))
-
-  -- after the last
-  pub last_unmet : (us : List ℕ) → us ≡ counts_left [] → us ≡ map (unmet plans costs (a ∷ h)) (operations plans)
-  last_unmet us table = table ∙ (λ i. map (λ (y : OpId). none_left y i) (operations plans))
-    where
-      none_left : (y : OpId) → unmet_left plans costs h a [] y ≡ unmet plans costs (a ∷ h) y
-      none_left y = omega arith

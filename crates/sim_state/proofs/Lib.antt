@@ -3,6 +3,7 @@ pub mod Places
 pub mod Ready
 pub mod Started
 pub mod Empty
+pub mod Handed
 pub mod After
 pub mod Pairings
 pub mod FreeTimes

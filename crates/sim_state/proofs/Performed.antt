@@ -14,7 +14,6 @@ use Rattle.sim_match.specs.PostsAndArrivals.{PostsAndArrivals}
 use Rattle.sim_resources.specs.FreeTimes.{Holds}
 use Rattle.sim_state.specs.declared.entry.Change.{Change}
 use Rattle.sim_state.specs.declared.entry.Entry.{Entry}
-use Rattle.sim_state.specs.Awaited as awaited
 use Rattle.sim_state.specs.Changes.{IsChange}
 use Rattle.sim_state.specs.Engine.{View}
 use Rattle.sim_state.specs.Tables.{with_change, with_pairing, with_partner, with_times}
@@ -49,9 +48,9 @@ module _ (y : OpId) (at : ℕ) where
 
   written_times : (c : Change) (f : OpId → Entry) → (with_change y c at f y).times ≡ c.times
   written_times c f =
-      partnered_times c.partner (with_times y c.times c.delivered f) ∙ ap (λ (e : Entry). e.times) (at_entry y _ f y refl)
+      partnered_times c.partner (with_times y c.times f) ∙ ap (λ (e : Entry). e.times) (at_entry y _ f y refl)
 
-module _ (plans : List Plan) (costs : CostModel) (h : List Timed) (entries : List Entry) (unmet : List ℕ) (matcher : PostsAndArrivals) (res : Holds) (has_room : ℕ → Type 0) (m : Represents plans costs h entries unmet matcher res has_room) where
+module _ (plans : List Plan) (costs : CostModel) (h : List Timed) (entries : List Entry) (matcher : PostsAndArrivals) (res : Holds) (has_room : ℕ → Type 0) (m : Represents plans costs h entries matcher res has_room) where
   -- each operation has its entry
   pub each_entry : (lent : List Entry) → lent ≡ entries → length lent ≡ length (operations plans)
   each_entry lent e = ap length (e ∙ m.known) ∙ length-map (operations plans) (entry_known plans costs h)
@@ -75,15 +74,14 @@ module _ (plans : List Plan) (costs : CostModel) (h : List Timed) (entries : Lis
         let listed = allowed_listed plans (is_eager plans costs) (plain h) a.class a.op next.possible.allowed in
         sym (written_times a.op a.time c (entry_known plans costs h)) ∙ ap (λ (e : Entry). e.times) (same_at (with_change a.op c a.time (entry_known plans costs h)) (entry_then plans costs h a) (operations plans) a.op listed is.known ∙ own_next plans costs h a m.run next.possible)
 
-    pub performed : (history : List Timed) (key : Timed) → history ≡ key ∷ h → key ≡ a → (after : List Entry) → after ≡ map (entry_known plans costs (a ∷ h)) (operations plans) → (left : List ℕ) → left ≡ map (awaited.unmet plans costs (a ∷ h)) (operations plans) → (told : PostsAndArrivals) → KnowsPostsAndArrivals plans costs (a ∷ h) told → (held : Holds) → AreFreeTimes plans costs (a ∷ h) held → (still : ℕ → Type 0) → ((count : ℕ) → has_room count → still count) → Represents plans costs history after left told held still
-    performed history key pushed same after known left waiting told knows held free still roomy =
+    pub performed : (history : List Timed) (key : Timed) → history ≡ key ∷ h → key ≡ a → (after : List Entry) → after ≡ map (entry_known plans costs (a ∷ h)) (operations plans) → (told : PostsAndArrivals) → KnowsPostsAndArrivals plans costs (a ∷ h) told → (held : Holds) → AreFreeTimes plans costs (a ∷ h) held → (still : ℕ → Type 0) → ((count : ℕ) → has_room count → still count) → Represents plans costs history after told held still
+    performed history key pushed same after known told knows held free still roomy =
         let list : a ∷ h ≡ history = sym (pushed ∙ ap (λ (b : Timed). b ∷ h) same) in
-        subst (λ (h : List Timed). Represents plans costs h after left told held still) list (record {
+        subst (λ (h : List Timed). Represents plans costs h after told held still) list (record {
           accepted = m.accepted;
           within = m.within;
           run = (m.run, next);
           known = known;
-          waiting = waiting;
           posts_and_arrivals = knows;
           free = free;
           roomy = roomy (3 * length (operations plans)) m.roomy;

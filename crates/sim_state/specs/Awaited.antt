@@ -1,5 +1,6 @@
--- Which moments an operation still waits for, and the last of those that it was given.
-use Rattle.std.specs.Prelude.{ℕ, Bool, true, false, not, List, Option, Some, count_by, if◌then◌else◌}
+-- Which moments an operation still waits for, the last of those that it was given, and what it waits for once it has started.
+use Rattle.std.specs.Prelude.{ℕ, ◌+◌, Bool, true, false, not, List, Option, Some, None, count_by, if◌then◌else◌}
+use Rattle.std.specs.Option.{option_or}
 use Rattle.goal_graph.specs.declared.action.OpId.{OpId}
 use Rattle.goal_graph.specs.declared.action.Timed.{Timed}
 use Rattle.goal_graph.specs.declared.action.Class.{Class}
@@ -9,10 +10,10 @@ use Rattle.goal_graph.specs.declared.plan.When.{When}
 use Rattle.goal_graph.specs.declared.plan.When.TheVariants.{AfterEnd, AfterStart}
 use Rattle.goal_graph.specs.Schedule.{Plan, needs, needed}
 use Rattle.goal_graph.specs.Concerned.{waiting_on}
-use Rattle.goal_graph.specs.Action.{plain}
+use Rattle.goal_graph.specs.Action.{happened, plain}
 use Rattle.goal_graph.specs.Allowed.{is_met, has_started}
-use Rattle.sim_params.specs.Costs.{CostModel, is_eager}
-use Rattle.sim_params.specs.Times.{greatest, met_at}
+use Rattle.sim_params.specs.Costs.{CostModel, flight, is_eager}
+use Rattle.sim_params.specs.Times.{greatest, met_at, since}
 use Rattle.sim_state.specs.Enabled.{time_known}
 
 -- an action of that class may give its operation the moment: a Begin its start and its end, a Post its start, a Data and a
@@ -41,7 +42,14 @@ module _ (plans : List Plan) (costs : CostModel) (h : List Timed) where
   abbrev pub last_given : OpId → ℕ
   last_given x = greatest (λ (d : Need). if is_there x d then met_at plans costs h d.when (needed x d) else 0) (needs plans x)
 
-  -- What x waits for: before it starts the last moment that it was given, and then when its message or its request arrives, while
-  -- that is under way.
+  -- when the bytes that x hands over are delivered to its receive, once it has handed them over
+  abbrev pub delivered_known : OpId → Option ℕ
+  delivered_known x = if happened Data x (plain h) then Some (since (happened Data x) h + flight plans costs x) else None
+
+  -- What x waits for: before it starts the last moment that it was given; then when its message or its request arrives, while that
+  -- is under way; and once it has handed over its bytes, when these are delivered.
   abbrev pub awaited_known : OpId → Option ℕ
-  awaited_known x = if has_started plans x (plain h) then time_known plans costs h Arrive x else Some (last_given x)
+  awaited_known x =
+      if has_started plans x (plain h)
+      then option_or (time_known plans costs h Arrive x) (delivered_known x)
+      else Some (last_given x)

@@ -1,9 +1,10 @@
--- The entry of an operation that is given a moment.
-use Rattle.std.specs.Prelude.{ℕ, max, Option}
+-- The entry of an operation that waits for a moment, and is given it.
+use Rattle.std.specs.Prelude.{ℕ, ◌≡◌, ◌<◌, ◌-◌, max, List, map, Option}
 use Rattle.std.specs.Option.{option_map}
 use Rattle.goal_graph.specs.declared.action.OpId.{OpId}
 use Rattle.goal_graph.specs.declared.plan.When.{When}
 use Rattle.goal_graph.specs.declared.plan.When.TheVariants.{AfterEnd, AfterStart}
+use Rattle.goal_graph.specs.Schedule.{Plan, operations}
 use Rattle.goal_graph.specs.Entries.{with_entry}
 use Rattle.sim_state.specs.declared.entry.Entry.{Entry}
 use Rattle.sim_state.specs.declared.entry.Times.{Times}
@@ -12,9 +13,14 @@ use Rattle.sim_state.specs.declared.entry.Times.{Times}
 abbrev pub given_times : ℕ → Times → Times
 given_times moment t = record t { awaited = option_map (λ (last : ℕ). max last moment) t.awaited }
 
--- the entry of y is given that moment, and the others are those of f
+-- the entry of y is given that moment, and waits for one less, and the others are those of f
 abbrev pub with_given : OpId → ℕ → (OpId → Entry) → OpId → Entry
-with_given y moment f = with_entry y (record (f y) { times = given_times moment (f y).times }) f
+with_given y moment f = with_entry y (record (f y) { times = given_times moment (f y).times; unmet = (f y).unmet - 1 }) f
+
+-- these are the entries of the operations, and that of y tells of a moment that is not there yet
+abbrev pub IsWaiting : List Plan → List Entry → OpId → Type 0
+IsWaiting plans entries y =
+    (f : OpId → Entry) × (entries ≡ map f (operations plans)) × (0 < (f y).unmet)
 
 -- the moment that a need is of, once it is there, of an operation of these times
 abbrev pub moment_in : Times → When → Option ℕ

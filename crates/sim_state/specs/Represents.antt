@@ -1,15 +1,14 @@
 -- What an engine keeps of its history.
-use Rattle.std.specs.Prelude.{ℕ, ◌∷◌, ◌+◌, ◌≡◌, ◌<◌, ◌*◌, ◌^◌, List, filter, map, length, Option, Some, None, if◌then◌else◌}
+use Rattle.std.specs.Prelude.{ℕ, ◌∷◌, ◌≡◌, ◌<◌, ◌*◌, ◌^◌, List, filter, map, length, Option, Some, if◌then◌else◌}
 use Rattle.std.specs.Option.{option_map}
 use Rattle.goal_graph.specs.declared.action.OpId.{OpId}
 use Rattle.goal_graph.specs.declared.action.Timed.{Timed}
-use Rattle.goal_graph.specs.declared.action.Class.TheVariants.{Data}
 use Rattle.goal_graph.specs.Schedule.{Plan, operations}
-use Rattle.goal_graph.specs.Action.{happened, plain}
+use Rattle.goal_graph.specs.Action.{plain}
 use Rattle.goal_graph.specs.Entries.{with_entry}
 use Rattle.goal_graph.specs.Fault.{IsAccepted}
-use Rattle.sim_params.specs.Costs.{CostModel, flight, is_eager}
-use Rattle.sim_params.specs.Times.{since, mate, paired_at, cpu, tx, rx}
+use Rattle.sim_params.specs.Costs.{CostModel, is_eager}
+use Rattle.sim_params.specs.Times.{mate, paired_at, cpu, tx, rx}
 use Rattle.sim_params.specs.Run.{IsRun}
 use Rattle.sim_params.specs.Budget.{budget}
 use Rattle.sim_match.specs.PostsAndArrivals.{PostsAndArrivals, is_post_or_arrival}
@@ -18,8 +17,7 @@ use Rattle.sim_state.specs.declared.entry.Entry.{Entry}
 use Rattle.sim_state.specs.declared.entry.Times.{Times}
 use Rattle.sim_state.specs.declared.pairing.Pairing.{Pairing}
 use Rattle.sim_state.specs.Engine.{start_known, end_known}
-use Rattle.sim_state.specs.Awaited as awaited
-use Rattle.sim_state.specs.Awaited.{awaited_known}
+use Rattle.sim_state.specs.Awaited.{unmet, awaited_known, delivered_known}
 use Rattle.sim_state.specs.Tasks.{work_of}
 
 module _ (plans : List Plan) (costs : CostModel) (h : List Timed) where
@@ -27,13 +25,9 @@ module _ (plans : List Plan) (costs : CostModel) (h : List Timed) where
   abbrev pub paired_known : OpId → Option Pairing
   paired_known x = option_map (λ (y : OpId). record { with = y; at = paired_at plans costs h x }) (mate plans costs h x)
 
-  -- when the bytes that x hands over are delivered to its receive, once it has handed them over
-  abbrev pub delivered_known : OpId → Option ℕ
-  delivered_known x = if happened Data x (plain h) then Some (since (happened Data x) h + flight plans costs x) else None
-
   -- when the message of its partner is there for a receive, once it is
   abbrev pub message_known : Pairing → Option ℕ
-  message_known p = if is_eager plans costs p.with then Some p.at else delivered_known p.with
+  message_known p = if is_eager plans costs p.with then Some p.at else delivered_known plans costs h p.with
 
   -- what is known of the times of x
   abbrev pub times_known : OpId → Times
@@ -49,7 +43,7 @@ module _ (plans : List Plan) (costs : CostModel) (h : List Timed) where
     work = work_of plans costs x;
     times = times_known x;
     paired = paired_known x;
-    delivered = delivered_known x;
+    unmet = unmet plans costs h x;
   }
 
   -- the cpus and interfaces of the schedule are free when the history says so
@@ -64,21 +58,24 @@ module _ (plans : List Plan) (costs : CostModel) (h : List Timed) where
     pub same_plans : matcher.plans ≡ plans
     pub events : matcher.actions ≡ filter is_post_or_arrival (plain h)
 
-  -- There is an entry for each operation, in their order, with how many moments it still waits for, and room for every action of a
-  -- run.
-  pub record Represents (entries : List Entry) (unmet : List ℕ) (matcher : PostsAndArrivals) (res : Holds) (has_room : ℕ → Type 0) : Type 0 where
+  -- there is an entry for each operation, in their order, and room for every action of a run
+  pub record Represents (entries : List Entry) (matcher : PostsAndArrivals) (res : Holds) (has_room : ℕ → Type 0) : Type 0 where
     pub accepted : IsAccepted plans
     pub within : budget plans costs < 2 ^ 63
     pub run : IsRun plans costs h
     pub known : entries ≡ map entry_known (operations plans)
-    pub waiting : unmet ≡ map (awaited.unmet plans costs h) (operations plans)
     pub posts_and_arrivals : KnowsPostsAndArrivals matcher
     pub free : AreFreeTimes res
     pub roomy : has_room (3 * length (operations plans))
 
 -- What is kept of x once an action has happened, before those that wait for its operation are given its moments: what is known since,
--- but what the others await is what they did before.
+-- but each waits for as many moments as before, and what the others await is what they did before.
 module _ (plans : List Plan) (costs : CostModel) (h : List Timed) (a : Timed) where
   abbrev pub entry_then : OpId → Entry
   entry_then =
-      with_entry a.op (entry_known plans costs (a ∷ h) a.op) (λ x. record (entry_known plans costs (a ∷ h) x) { times = record (times_known plans costs (a ∷ h) x) { awaited = awaited_known plans costs h x } })
+      with_entry a.op
+      (record (entry_known plans costs (a ∷ h) a.op) { unmet = unmet plans costs h a.op })
+      (λ x. record (entry_known plans costs (a ∷ h) x) {
+        times = record (times_known plans costs (a ∷ h) x) { awaited = awaited_known plans costs h x };
+        unmet = unmet plans costs h x;
+      })

@@ -1,6 +1,5 @@
 -- The entry of an operation at first, and those that an action changes.
 use Rattle.std.specs.Prelude.{ℕ, Option, Some, None}
-use Rattle.std.specs.Option.{option_or}
 use Rattle.goal_graph.specs.declared.action.OpId.{OpId}
 pub use Rattle.goal_graph.specs.Entries.{with_entry}
 use Rattle.sim_state.specs.declared.entry.Change.{Change}
@@ -8,14 +7,13 @@ use Rattle.sim_state.specs.declared.entry.Entry.{Entry}
 use Rattle.sim_state.specs.declared.entry.Times.{Times}
 use Rattle.sim_state.specs.declared.work.Work.{Work}
 
--- of one that does that, and has done nothing yet
-abbrev pub fresh_entry : Work → Entry
-fresh_entry work = record { work = work; times = record { start = None; end = None; awaited = Some 0 }; paired = None; delivered = None }
+-- of one that does that, needs so many moments, and has done nothing yet
+abbrev pub fresh_entry : Work → ℕ → Entry
+fresh_entry work unmet = record { work = work; times = record { start = None; end = None; awaited = Some 0 }; paired = None; unmet = unmet }
 
--- the entry of y has these times and, where it is there, this time of delivery, and the others are those of f
-abbrev pub with_times : OpId → Times → Option ℕ → (OpId → Entry) → OpId → Entry
-with_times y times delivered f =
-    with_entry y (record (f y) { times = times; delivered = option_or delivered (f y).delivered }) f
+-- the entry of y has these times, and the others are those of f
+abbrev pub with_times : OpId → Times → (OpId → Entry) → OpId → Entry
+with_times y times f = with_entry y (record (f y) { times = times }) f
 
 -- the entry of y says that it is paired with m since that time, and the others are those of f
 abbrev pub with_pairing : OpId → OpId → ℕ → (OpId → Entry) → OpId → Entry
@@ -28,4 +26,4 @@ with_partner y (Some m) at f = with_pairing m y at (with_pairing y m at f)
 
 -- the entries after this change of y at that time
 abbrev pub with_change : OpId → Change → ℕ → (OpId → Entry) → OpId → Entry
-with_change y c at f = with_partner y c.partner at (with_times y c.times c.delivered f)
+with_change y c at f = with_partner y c.partner at (with_times y c.times f)

@@ -5,7 +5,7 @@ ghost use Rattle.goal_graph.specs.Schedule.{operations};
 ghost use Rattle.goal_graph.specs.Fault.{IsOp};
 ghost use Rattle.sim_state.specs.declared.entry.Entry.{Entry};
 ghost use Rattle.sim_state.specs.Represents.{entry_known};
-ghost use Rattle.sim_state.specs.Given.{given_times, with_given};
+ghost use Rattle.sim_state.specs.Given.{given_times, with_given, IsWaiting};
 ghost use Rattle.sim_state.specs.Tables.{fresh_entry, with_times, with_pairing, with_change};
 
 use crate::moment::Moment;
@@ -24,7 +24,8 @@ pub struct Times {
     /// When it ends.
     pub end: Moment,
     /// What it waits for: before it starts the last of the moments that it needs and that are there, 0 where none is; then when the
-    /// message of a send, or its request, arrives, while it is under way.
+    /// message of a send, or its request, arrives, while it is under way; and once a large send has handed over its bytes, when
+    /// these are delivered to its receive.
     pub awaited: Moment,
 }
 
@@ -73,7 +74,7 @@ impl Times {
         }
     }
 
-    /// Under way, until it arrives at this time in nanoseconds.
+    /// Under way, until its message, its request or its bytes arrive at this time in nanoseconds.
     pub fn with_arrival(self, at: u64) -> Times
         requires { at < 2 ^ 63 }
         ensures { result ≡ record self { awaited = Some at } }
@@ -104,42 +105,39 @@ pub struct Entry {
     pub times: Times,
     /// The operation that it is paired with.
     pub paired: Partner,
-    /// When the bytes of a large send are delivered to its receive, once they are handed over.
-    pub delivered: Moment,
+    /// How many of the moments that it needs are not there yet.
+    pub unmet: u32,
 }
 
-/// What an action changes of what is known of its operation: its times, its partner where the action pairs it, and when its
-/// bytes are delivered, where the action hands them over.
+/// What an action changes of what is known of its operation: its times, and its partner where the action pairs it.
 #[derive(Clone, Copy)]
 pub struct Change {
     pub times: Times,
     pub partner: Option<OpId>,
-    pub delivered: Moment,
 }
 
 impl Change {
     /// Of times alone.
     pub fn of_times(times: Times) -> Change
-        ensures { result ≡ record { times = times; partner = None; delivered = None } }
+        ensures { result ≡ record { times = times; partner = None } }
     {
         Change {
             times,
             partner: None,
-            delivered: Moment::NONE,
         }
     }
 }
 
 impl Entry {
-    // Of an operation that has done nothing.
-    fn first(work: Work) -> Entry
-        ensures { result ≡ fresh_entry work }
+    // Of an operation that has done nothing, and needs so many moments.
+    fn first(work: Work, unmet: u32) -> Entry
+        ensures { result ≡ fresh_entry work unmet }
     {
         Entry {
             work,
             times: Times::first(),
             paired: Partner::NONE,
-            delivered: Moment::NONE,
+            unmet,
         }
     }
 }
@@ -152,9 +150,11 @@ pub fn first_entries<C: Costs>(
 ) -> Result<Vec<Entry>, AllocError>
     ensures { IfOk result (λ entries. entries.items ≡ map (entry_known sched.now (C.model costs.now) []) (operations sched.now)) }
 {
+    let _plans = sched.plans();
     let mut entries = Vec::with_capacity(alloc, sched.count() as usize)?;
     for id in sched.operations() {
-        entries.push_reserved(Entry::first(work_of(sched, costs, *id)));
+        let unmet = sched.needs(*id).len() as u32;
+        entries.push_reserved(Entry::first(work_of(sched, costs, *id), unmet));
     }
     Ok(entries)
 }
@@ -168,18 +168,14 @@ pub fn read<'e>(sched: &Sched, entries: &'e [Entry], id: OpId) -> &'e Entry
     entry_of(entries, sched, id)
 }
 
-// Writes the times of an operation and, where it is known, when its bytes are delivered.
-fn write_times(sched: &Sched, entries: &mut [Entry], id: OpId, times: Times, delivered: Moment)
+// Writes the times of an operation.
+fn write_times(sched: &Sched, entries: &mut [Entry], id: OpId, times: Times)
     requires exists { IsOp sched.now id }
     requires each { length entries.old ≡ length (operations sched.now) }
-    ensures { (f : OpId → Entry) → entries.old ≡ map f (operations sched.now) → entries.new ≡ map (with_times id times delivered f) (operations sched.now) }
+    ensures { (f : OpId → Entry) → entries.old ≡ map f (operations sched.now) → entries.new ≡ map (with_times id times f) (operations sched.now) }
 {
     let kept = &mut entries[sched.index(id) as usize];
     kept.times = times;
-    let Some(_) = delivered.get() else {
-        return;
-    };
-    kept.delivered = delivered;
 }
 
 // Writes that an operation is paired with another since a time.
@@ -201,7 +197,7 @@ pub fn write_change(sched: &Sched, entries: &mut [Entry], id: OpId, change: Chan
     requires each { length entries.old ≡ length (operations sched.now) }
     ensures { (f : OpId → Entry) → entries.old ≡ map f (operations sched.now) → entries.new ≡ map (with_change id change at f) (operations sched.now) }
 {
-    write_times(sched, entries, id, change.times, change.delivered);
+    write_times(sched, entries, id, change.times);
     let Some(with) = change.partner else {
         return;
     };
@@ -209,14 +205,16 @@ pub fn write_change(sched: &Sched, entries: &mut [Entry], id: OpId, change: Chan
     write_paired(sched, entries, with, id, at);
 }
 
-/// Gives an operation a moment that it needs, in nanoseconds, before it starts.
+/// Gives an operation a moment that it needs and still waits for, in nanoseconds, before it starts.
 #[inline(always)]
 pub fn write_given(sched: &Sched, entries: &mut [Entry], id: OpId, moment: u64)
     requires exists { IsOp sched.now id }
     requires fits { moment < 2 ^ 63 }
+    requires waits { IsWaiting sched.now entries.old id }
     requires each { length entries.old ≡ length (operations sched.now) }
     ensures { (f : OpId → Entry) → entries.old ≡ map f (operations sched.now) → entries.new ≡ map (with_given id moment f) (operations sched.now) }
 {
     let kept = &mut entries[sched.index(id) as usize];
+    kept.unmet -= 1;
     kept.times = kept.times.with_given(moment);
 }

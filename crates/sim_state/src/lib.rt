@@ -3,6 +3,7 @@
 
 mod entry;
 mod fault;
+mod giving;
 mod history;
 mod key;
 mod moment;
@@ -11,13 +12,12 @@ mod record;
 mod state;
 mod task;
 mod unkept;
-mod unmet;
 mod work;
 
 pub use fault::EngineFault;
+pub use giving::gives;
 pub use history::{History, Kept};
 pub use key::compact;
 pub use record::Record;
 pub use state::State;
 pub use unkept::Unkept;
-pub use unmet::gives;

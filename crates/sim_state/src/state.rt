@@ -22,7 +22,6 @@ use crate::fault::EngineFault;
 use crate::history::{History, Kept};
 use crate::record::Record;
 use crate::task::Task;
-use crate::unmet::unmet_at_first;
 use crate::work::Work;
 use goal_base::MAX_BUDGET;
 use goal_graph::{Need, OpId, Sched};
@@ -46,8 +45,6 @@ pub struct State<'a, C: Costs, H: History = Kept> {
     history: H,
     // what is known of each operation, in the order of all
     entries: Vec<Entry>,
-    // how many of the moments that each operation needs are not there yet
-    unmet: Vec<u32>,
     // who is paired with whom
     matcher: Matcher<'a>,
     // when cpus and interfaces are free
@@ -62,7 +59,6 @@ impl<C: Costs + Drop, H: History> Drop for State<'_, C, H> {
             costs: _costs,
             history: _history,
             entries: _entries,
-            unmet: _unmet,
             matcher: _matcher,
             resources: _resources,
         } = self;
@@ -77,7 +73,7 @@ impl<'a, C: Costs, H: History> Model for State<'a, C, H> {
 
     ghost view = { λ e. record { plans = e.sched.now; costs = e.costs; history = H.actions e.history } };
 
-    ghost invariant = { λ e. Represents e.sched.now (C.model e.costs) (H.actions e.history) e.entries.items e.unmet.items e.matcher e.resources (H.has_room e.history) };
+    ghost invariant = { λ e. Represents e.sched.now (C.model e.costs) (H.actions e.history) e.entries.items e.matcher e.resources (H.has_room e.history) };
 }
 
 impl<'a, C: Costs + Drop, H: History> State<'a, C, H> {
@@ -99,7 +95,6 @@ impl<'a, C: Costs + Drop, H: History> State<'a, C, H> {
         let count = sched.count() as usize;
         let history = H::with_room(alloc, 3 * count)?;
         let entries = first_entries(alloc, sched, &costs)?;
-        let unmet = unmet_at_first(alloc, sched)?;
         let matcher = Matcher::new(alloc, sched)?;
         let resources = Resources::new(alloc, sched)?;
         Ok(State {
@@ -107,7 +102,6 @@ impl<'a, C: Costs + Drop, H: History> State<'a, C, H> {
             costs,
             history,
             entries,
-            unmet,
             matcher,
             resources,
         })

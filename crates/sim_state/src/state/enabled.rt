@@ -1,13 +1,14 @@
 // What may happen next of one operation, and when.
-ghost use Rattle.std.specs.Prelude.{◌≡◌, true, false};
+ghost use Rattle.std.specs.Prelude.{◌≡◌, true, false, Some, None};
 ghost use Rattle.goal_graph.specs.declared.action.Class.TheVariants.{Arrive, Serve, Data, Post, Begin};
-ghost use Rattle.goal_graph.specs.Action.{plain};
+ghost use Rattle.goal_graph.specs.Action.{happened, plain};
 ghost use Rattle.goal_graph.specs.Allowed.{has_started};
 ghost use Rattle.goal_graph.specs.Fault.{IsOp};
 ghost use Rattle.goal_graph.specs.Laws.{IsCalc};
 ghost use Rattle.goal_graph.specs.Schedule.{IsSend, IsReceive};
 ghost use Rattle.sim_params.specs.Costs.{is_eager};
-ghost use Rattle.sim_state.specs.Represents.{message_known};
+ghost use Rattle.sim_params.specs.Times.{mate};
+ghost use Rattle.sim_state.specs.Represents.{paired_known, message_known};
 ghost use Rattle.sim_state.specs.Tasks.{IsLast};
 ghost use Rattle.sim_state.specs.Enabled.{ready_known, enabled_action, IsEnabledActionOf};
 
@@ -42,11 +43,10 @@ impl<'a, C: Costs, H: History> State<'a, C, H> {
         if !self.has_started(send) {
             return self.begin_of_send(send);
         }
-        let arrival = self.arrival(send);
-        if arrival.is_some() {
-            return arrival;
-        }
-        self.hand_over_of(send)
+        let Some(pairing) = self.entry(send).paired.get() else {
+            return self.arrival(send);
+        };
+        self.hand_over_of(send, pairing)
     }
 
     // The possible action of a receive, if it has one.
@@ -91,12 +91,14 @@ impl<'a, C: Costs, H: History> State<'a, C, H> {
         })
     }
 
-    // The Arrive of a send that has started, while it is under way.
+    // The Arrive of a send that has started and is not paired, while it is under way.
     fn arrival(&self, send: OpId) -> Option<Timed>
         requires exists { IsOp self.now.plans send }
         requires started { has_started self.now.plans send (plain self.now.history) ≡ true }
+        requires unpaired { mate self.now.plans (C.model self.now.costs) self.now.history send ≡ None }
         ensures { result ≡ enabled_action self.now.plans (C.model self.now.costs) self.now.history Arrive send }
     {
+        self.known();
         let time = self.entry(send).times.awaited.get()?;
         Some(Timed {
             time,
@@ -105,17 +107,23 @@ impl<'a, C: Costs, H: History> State<'a, C, H> {
         })
     }
 
-    // The Data of a large send: once its clearance is back, and its cpu and its interface are free.
-    fn hand_over_of(&self, send: OpId) -> Option<Timed>
-        requires { IsSend self.now.plans send }
+    // The Data of a send that is paired, where it is large: once its clearance is back, and its cpu and its interface are free.
+    fn hand_over_of(&self, send: OpId, pairing: Pairing) -> Option<Timed>
+        requires op { IsSend self.now.plans send }
+        requires paired { paired_known self.now.plans (C.model self.now.costs) self.now.history send ≡ Some pairing }
         ensures { result ≡ enabled_action self.now.plans (C.model self.now.costs) self.now.history Data send }
     {
-        let entry = self.entry(send);
-        if self.is_eager(send) || entry.delivered.get().is_some() {
+        self.known();
+        if self.is_eager(send) || self.entry(send).times.awaited.get().is_some() {
             return None;
         }
-        let Pairing { at, .. } = entry.paired.get()?;
-        let cleared = clear(self.sched, &self.costs, send, self.work(send).to, at);
+        let cleared = clear(
+            self.sched,
+            &self.costs,
+            send,
+            self.work(send).to,
+            pairing.at,
+        );
         Some(Timed {
             time: data_at(&self.resources, send, cleared),
             class: Class::Data,
@@ -144,6 +152,7 @@ impl<'a, C: Costs, H: History> State<'a, C, H> {
         requires { IsReceive self.now.plans recv }
         ensures { result ≡ enabled_action self.now.plans (C.model self.now.costs) self.now.history Serve recv }
     {
+        self.known();
         let entry = self.entry(recv);
         if entry.times.end.get().is_some() {
             return None;
@@ -157,15 +166,17 @@ impl<'a, C: Costs, H: History> State<'a, C, H> {
         })
     }
 
-    // When the message of its partner is there for a receive, once it is.
+    // When the message of its partner, which has arrived or has a request that has, is there for a receive, once it is.
     fn message_there(&self, pairing: Pairing) -> Option<u64>
-        requires { IsSend self.now.plans pairing.with }
+        requires op { IsSend self.now.plans pairing.with }
+        requires arrived { happened Arrive pairing.with (plain self.now.history) ≡ true }
         ensures { result ≡ message_known self.now.plans (C.model self.now.costs) self.now.history pairing }
     {
+        self.known();
         if self.is_eager(pairing.with) {
             return Some(pairing.at);
         }
-        self.entry(pairing.with).delivered.get()
+        self.entry(pairing.with).times.awaited.get()
     }
 
     /// Whether an action is told to be the last of its operation. The Data of a large send is not.
@@ -204,10 +215,10 @@ impl<'a, C: Costs, H: History> State<'a, C, H> {
         requires fresh { has_started self.now.plans id (plain self.now.history) ≡ false }
         ensures { result ≡ ready_known self.now.plans (C.model self.now.costs) self.now.history id }
     {
-        let place = self.sched.index(id) as usize;
-        if self.unmet[place] > 0 {
+        let entry = self.entry(id);
+        if entry.unmet > 0 {
             return None;
         }
-        self.entries[place].times.awaited.get()
+        entry.times.awaited.get()
     }
 }

@@ -7,13 +7,12 @@ ghost use Rattle.goal_graph.specs.Fault.{IsOp};
 ghost use Rattle.sim_params.specs.Run.{IsNext, IsRun};
 ghost use Rattle.sim_params.specs.Budget.{budget};
 ghost use Rattle.sim_state.specs.Awaited.{given_by};
-ghost use Rattle.sim_state.specs.Awaited as awaited;
 ghost use Rattle.sim_state.specs.Given.{moment_in};
 ghost use Rattle.sim_state.specs.Represents.{times_known, entry_known, entry_then};
 
 use crate::entry::{Entry, Times, write_given};
+use crate::giving::gives;
 use crate::history::History;
-use crate::unmet::gives;
 use goal_graph::{Need, OpId, Sched, Timed, When};
 use sim_order::Steps;
 use sim_params::Costs;
@@ -38,7 +37,6 @@ pub fn give<C: Costs, H: History, N: Ledger>(
     costs: &C,
     history: &H,
     entries: &mut [Entry],
-    unmet: &mut [u32],
     action: Timed,
     times: Times,
     waiting: &[Need],
@@ -51,9 +49,7 @@ pub fn give<C: Costs, H: History, N: Ledger>(
     requires whom { action.class ≢ Arrive → waiting.now ≡ waiting_on sched.now action.op }
     requires exist { action.class ≢ Arrive → All (λ need. IsOp sched.now (needed action.op need)) waiting.now }
     requires entries { entries.old ≡ map (entry_then sched.now (C.model costs.now) (H.actions history.now) action) (operations sched.now) }
-    requires unmet { unmet.old ≡ map (awaited.unmet sched.now (C.model costs.now) (H.actions history.now)) (operations sched.now) }
     ensures entries { entries.new ≡ map (entry_known sched.now (C.model costs.now) (action ∷ H.actions history.now)) (operations sched.now) }
-    ensures unmet { unmet.new ≡ map (awaited.unmet sched.now (C.model costs.now) (action ∷ H.actions history.now)) (operations sched.now) }
     ensures given { reads.new ≤ reads.old + given_by sched.now action }
 {
     for need in waiting {
@@ -68,7 +64,6 @@ pub fn give<C: Costs, H: History, N: Ledger>(
             rank: action.op.rank,
             op: need.op,
         };
-        unmet[sched.index(later) as usize] -= 1;
         write_given(sched, entries, later, moment);
     }
 }

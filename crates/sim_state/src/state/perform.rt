@@ -17,7 +17,6 @@ use super::give::give;
 use crate::entry::{Change, Entry, Times, read, write_change};
 use crate::history::History;
 use crate::key::compact;
-use crate::moment::Moment;
 use crate::task::Task;
 use crate::work::Work;
 use goal_graph::{Class, Need, Sched, Timed};
@@ -65,7 +64,6 @@ impl<'a, C: Costs, H: History> State<'a, C, H> {
             &self.costs,
             &self.history,
             &mut self.entries,
-            &mut self.unmet,
             action,
             times,
             waiting,
@@ -113,20 +111,14 @@ fn change_of<C: Costs, H: History, M: Ledger>(
         Class::Post => Change {
             times: times.with_start(at).with_no_arrival(),
             partner: matcher.post_counted(id, looks),
-            delivered: Moment::NONE,
         },
         Class::Arrive => Change {
             times: times.with_no_arrival(),
             partner: matcher.arrive_counted(id, looks),
-            delivered: Moment::NONE,
         },
         Class::Data => {
             let sent = data(sched, costs, resources, id, work.to, work.amount, at);
-            Change {
-                times: times.with_end(sent.end),
-                partner: None,
-                delivered: Moment::at(sent.arrive),
-            }
+            Change::of_times(times.with_end(sent.end).with_arrival(sent.arrive))
         }
         Class::Serve => {
             let Some(pairing) = paired.get() else {
@@ -157,7 +149,7 @@ fn begin<C: Costs, H: History>(
     requires class { action.class ≡ Begin }
     requires work { work ≡ work_of sched.now (C.model costs.now) action.op }
     requires times { times ≡ times_known sched.now (C.model costs.now) (H.actions history.now) action.op }
-    ensures known { map (with_times action.op result None (entry_known sched.now (C.model costs.now) (H.actions history.now))) (operations sched.now)
+    ensures known { map (with_times action.op result (entry_known sched.now (C.model costs.now) (H.actions history.now))) (operations sched.now)
         ≡ map (entry_then sched.now (C.model costs.now) (H.actions history.now) action) (operations sched.now) }
     ensures free { AreFreeTimes sched.now (C.model costs.now) (action ∷ H.actions history.now) resources.new }
 {

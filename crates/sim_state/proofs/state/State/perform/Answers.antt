@@ -25,10 +25,10 @@ pub write_change-requires : goal.write_change-requires
 write_change-requires g c =
     let next = next_at g.C.Costs.model _ _ c.args.action c.self.view_is c.requires.next in
     record {
-      exists = is_op _ _ _ _ _ _ _ _ c.self.invariant c.args.action next;
+      exists = is_op _ _ _ _ _ _ _ c.self.invariant c.args.action next;
       other = c.change_of-change.ensures.change.exists;
-      fits = time_fits _ _ _ _ _ _ _ _ c.self.invariant c.args.action next;
-      each = each_entry _ _ _ _ _ _ _ _ c.self.invariant _ c.deref_mut.ensures.value;
+      fits = time_fits _ _ _ _ _ _ _ c.self.invariant c.args.action next;
+      each = each_entry _ _ _ _ _ _ _ c.self.invariant _ c.deref_mut.ensures.value;
     }
 
 pub give-requires : goal.give-requires
@@ -39,20 +39,19 @@ give-requires g c =
       run = m.run;
       within = m.within;
       next = next;
-      times = change_times _ _ _ _ _ _ _ _ m c.args.action next c.change_of-change.result c.change_of-change.ensures.change;
+      times = change_times _ _ _ _ _ _ _ m c.args.action next c.change_of-change.result c.change_of-change.ensures.change;
       whom = subst (λ (v : View _). c.args.action.class ≢ Arrive → c.args.waiting.now ≡ waiting_on v.plans c.args.action.op) (sym c.self.view_is) c.requires.whom;
       exist = subst (λ (v : View _). c.args.action.class ≢ Arrive → All (λ (need : Need). IsOp v.plans (needed c.args.action.op need)) c.args.waiting.now) (sym c.self.view_is) c.requires.exist;
       entries = c.deref_mut-2.ensures.value ∙ written_back _ _ _ _ c.write_change.auto.entries c.deref_mut.ensures.value c.self.inside.entries.ok.0 ∙ c.write_change.ensures (entry_known c.self.inside.sched.now (g.C.Costs.model c.self.inside.costs) (g.H.History.actions c.self.inside.history)) (c.deref_mut.ensures.value ∙ m.known) ∙ c.change_of-change.ensures.change.known;
-      unmet = c.deref_mut-3.ensures.value ∙ m.waiting;
     }
 
 pub compact-requires : goal.compact-requires
 compact-requires g c =
-    is_op _ _ _ _ _ _ _ _ c.self.invariant c.args.action (next_at g.C.Costs.model _ _ c.args.action c.self.view_is c.requires.next)
+    is_op _ _ _ _ _ _ _ c.self.invariant c.args.action (next_at g.C.Costs.model _ _ c.args.action c.self.view_is c.requires.next)
 
 pub push-requires : goal.push-requires
 push-requires g c =
-    record { room = room_left _ _ _ _ _ _ _ _ c.self.invariant c.args.action (next_at g.C.Costs.model _ _ c.args.action c.self.view_is c.requires.next) }
+    record { room = room_left _ _ _ _ _ _ _ c.self.invariant c.args.action (next_at g.C.Costs.model _ _ c.args.action c.self.view_is c.requires.next) }
 
 pub invariant_of-self : goal.invariant_of-self
 invariant_of-self g c =
@@ -62,5 +61,4 @@ invariant_of-self g c =
     let changed = c.write_change.new.entries in
     let first : take count (changed ++ drop (length changed) items) ≡ changed = written_back count changed _ items c.write_change.auto.entries c.deref_mut.ensures.value c.self.inside.entries.ok.0 in
     let table : take count (c.give.new.entries ++ drop (length c.give.new.entries) (take count (changed ++ drop (length changed) items))) ≡ c.give.new.entries = written_back count c.give.new.entries _ _ c.give.auto.entries c.deref_mut-2.ensures.value (c.self.inside.entries.ok.0 ∙ sym (ap length (first) ∙ c.write_change.auto.entries ∙ ap length c.deref_mut.ensures.value)) in
-    let left = written_back c.self.inside.unmet.len c.give.new.unmet _ c.self.inside.unmet.items c.give.auto.unmet c.deref_mut-3.ensures.value c.self.inside.unmet.ok.0 in
-    performed _ _ _ _ _ _ _ _ c.self.invariant c.args.action next _ c.compact.result c.push.ensures.pushed c.compact.ensures _ (table ∙ c.give.ensures.entries) _ (left ∙ c.give.ensures.unmet) _ c.change_of-change.ensures.told _ c.change_of-change.ensures.free _ c.push.ensures.roomy
+    performed _ _ _ _ _ _ _ c.self.invariant c.args.action next _ c.compact.result c.push.ensures.pushed c.compact.ensures _ (table ∙ c.give.ensures.entries) _ c.change_of-change.ensures.told _ c.change_of-change.ensures.free _ c.push.ensures.roomy

@@ -1,6 +1,6 @@
 use Rattle.std.proofs.Common.{is_some, sym, ap, ap₂, ◌∙◌, max}
 use Rattle.sim_state.proofs.Views.{free_at_view}
-use Rattle.sim_state.proofs.EnabledLemmas.{ended_serve, unpaired_serve, absent_serve, paired_some, pairing_send, message_is, serve_enabled, serve_time}
+use Rattle.sim_state.proofs.EnabledLemmas.{ended_serve, unpaired_serve, absent_serve, paired_some, pairing_send, partner_arrived, message_is, serve_enabled, serve_time}
 use Rattle.sim_state.proofs.state.State.serve_of.Goals as goal
 use Rattle.goal_graph.proofs.ForCallers.{receive_is_op}
 
@@ -17,7 +17,11 @@ returns-in_err-pairing g c =
 
 pub message_there-requires : goal.message_there-requires
 message_there-requires g c =
-    pairing_send _ _ _ c.args.recv c.requires c.in_ok-pairing.pairing (paired_some _ _ _ c.args.recv c.entry-entry.result.now c.in_ok-pairing.pairing c.entry-entry.ensures (sym c.get-2.ensures ∙ c.in_ok-pairing.was))
+    let pairing = paired_some _ _ _ c.args.recv c.entry-entry.result.now c.in_ok-pairing.pairing c.entry-entry.ensures (sym c.get-2.ensures ∙ c.in_ok-pairing.was) in
+    record {
+      op = pairing_send _ _ _ c.args.recv c.requires c.in_ok-pairing.pairing pairing;
+      arrived = partner_arrived _ _ _ c.args.recv c.known.ensures.run c.requires c.in_ok-pairing.pairing pairing;
+    }
 
 pub returns-in_err-there : goal.returns-in_err-there
 returns-in_err-there g c =

@@ -6,8 +6,8 @@ use Rattle.goal_graph.specs.declared.plan.When.TheVariants.{AfterEnd}
 use Rattle.goal_graph.specs.Schedule.{operations}
 use Rattle.sim_state.specs.declared.entry.Times.{Times}
 use Rattle.sim_state.specs.Given.{moment_in}
-use Rattle.sim_state.proofs.GivenEntries.{entry_so_far, moment_absent, moment_fits, moment_there, unmet_left}
-use Rattle.sim_state.proofs.GivenTables.{first_entries, first_unmet, given_counted, given_entries, given_in_all, given_unmet, last_entries, last_unmet, may_give, passed_counted, passed_entries, passed_unmet, some_unmet}
+use Rattle.sim_state.proofs.GivenEntries.{entry_so_far, moment_absent, moment_fits, moment_there}
+use Rattle.sim_state.proofs.GivenTables.{first_entries, given_counted, given_entries, given_in_all, last_entries, may_give, passed_counted, passed_entries, still_waiting}
 use Rattle.sim_state.proofs.state.give.give.Goals as goal
 
 -- what stands past the end of a list
@@ -20,8 +20,7 @@ loop-need-init g c =
     let h = g.H.History.actions c.args.history.now in
     record {
       counted = omega arith;
-      entries = first_entries c.args.sched.now costs h c.args.action c.args.entries.now c.requires.entries;
-      unmet = first_unmet c.args.sched.now costs h c.args.action c.args.waiting.now c.requires.whom c.requires.run c.requires.next.possible c.args.unmet.now c.requires.unmet;
+      entries = first_entries c.args.sched.now costs h c.args.action c.args.waiting.now c.requires.whom c.requires.run c.requires.next.possible c.args.entries.now c.requires.entries;
     }
 
 -- the entry at the place of the loop gives no moment: that is never given, or not there
@@ -37,7 +36,6 @@ loop-need-preserved-then-not-gives g c =
     record {
       counted = passed_counted plans costs h a ws k nothing c.loop-need-test.true c.loop-need.reads c.args.reads.now never c.loop-need.invariant.counted;
       entries = passed_entries plans costs h a ws k nothing c.loop-need-test.true c.loop-need.entries (and_left _ _ never) c.loop-need.invariant.entries;
-      unmet = passed_unmet plans costs h a ws k nothing c.loop-need-test.true c.loop-need.unmet (and_left _ _ never) c.loop-need.invariant.unmet;
     }
 
 pub loop-need-preserved-in_default : goal.loop-need-preserved-in_default
@@ -53,12 +51,11 @@ loop-need-preserved-in_default g c =
     record {
       counted = given_counted plans costs h a ws k nothing c.loop-need-test.true c.loop-need.reads c.args.reads.now c.tick.new.self (sym c.gives.ensures ∙ c.if-not-gives.false) c.loop-need.invariant.counted c.tick.ensures;
       entries = passed_entries plans costs h a ws k nothing c.loop-need-test.true c.loop-need.entries (and_right _ _ absent) c.loop-need.invariant.entries;
-      unmet = passed_unmet plans costs h a ws k nothing c.loop-need-test.true c.loop-need.unmet (and_right _ _ absent) c.loop-need.invariant.unmet;
     }
 
 -- it gives its moment
-pub overflow_sub-unmet : goal.overflow_sub-unmet
-overflow_sub-unmet g c =
+pub write_given-requires-clause-waits : goal.write_given-requires-clause-waits
+write_given-requires-clause-waits g c =
     let plans = c.args.sched.now in
     let costs = g.C.Costs.model c.args.costs.now in
     let h = g.H.History.actions c.args.history.now in
@@ -68,7 +65,7 @@ overflow_sub-unmet g c =
     let when = (get_or ws k nothing).when in
     let there = moment_there plans costs h a when c.in-Some.moment (ap (λ (t : Times). moment_in t when) (sym c.requires.times) ∙ sym c.moment_of.ensures ∙ c.in-Some.is) in
     let given = ap₂ (λ (b d : Bool). b && d) (sym c.gives.ensures ∙ c.if-not-gives.false) there.0 in
-    some_unmet plans costs h a ws k nothing c.loop-need-test.true given c.loop-need.unmet c.index.result c.index.ensures.index c.loop-need.invariant.unmet
+    still_waiting plans costs h a ws k nothing c.loop-need-test.true given c.loop-need.entries c.loop-need.invariant.entries
 
 pub write_given-requires-clause-fits : goal.write_given-requires-clause-fits
 write_given-requires-clause-fits g c =
@@ -94,8 +91,7 @@ loop-need-preserved g c =
     let given = ap₂ (λ (b d : Bool). b && d) gives there.0 in
     record {
       counted = given_counted plans costs h a ws k nothing c.loop-need-test.true c.loop-need.reads c.args.reads.now c.tick.new.self gives c.loop-need.invariant.counted c.tick.ensures;
-      entries = given_entries plans costs h a ws k nothing c.loop-need-test.true given c.write_given.new.entries c.in-Some.moment there.1 (c.write_given.ensures _ c.loop-need.invariant.entries);
-      unmet = given_unmet plans costs h a ws k nothing c.loop-need-test.true given c.loop-need.unmet c.index.result c.index.ensures.index c.loop-need.invariant.unmet;
+      entries = given_entries plans costs h a ws k nothing c.loop-need-test.true given c.loop-need.entries c.loop-need.invariant.entries c.write_given.new.entries c.in-Some.moment there.1 c.write_given.ensures;
     }
 
 -- past the last
@@ -105,17 +101,10 @@ returns-clause-entries g c =
     let costs = g.C.Costs.model c.args.costs.now in
     let h = g.H.History.actions c.args.history.now in
     let a = c.args.action in
-    let all = take_all c.loop-need.need-index c.args.waiting.now c.loop-need-test.false in
-    last_entries plans costs h a c.args.waiting.now c.requires.whom c.requires.run c.requires.next.possible c.loop-need.entries (c.loop-need.invariant.entries ∙ ap (λ (ns : List Need). map (entry_so_far plans costs h a ns) (operations plans)) all)
-
-pub returns-clause-unmet : goal.returns-clause-unmet
-returns-clause-unmet g c =
-    let plans = c.args.sched.now in
-    let costs = g.C.Costs.model c.args.costs.now in
-    let h = g.H.History.actions c.args.history.now in
-    let a = c.args.action in
-    let none = drop_all c.loop-need.need-index c.args.waiting.now c.loop-need-test.false in
-    last_unmet plans costs h a c.loop-need.unmet (c.loop-need.invariant.unmet ∙ ap (λ (ns : List Need). map (unmet_left plans costs h a ns) (operations plans)) none)
+    let ws = c.args.waiting.now in
+    let all = take_all c.loop-need.need-index ws c.loop-need-test.false in
+    let none = drop_all c.loop-need.need-index ws c.loop-need-test.false in
+    last_entries plans costs h a ws c.requires.whom c.requires.run c.requires.next.possible c.loop-need.entries (c.loop-need.invariant.entries ∙ ap₂ (λ (done rest : List Need). map (entry_so_far plans costs h a done rest) (operations plans)) all none)
 
 pub returns-clause-given : goal.returns-clause-given
 returns-clause-given g c =

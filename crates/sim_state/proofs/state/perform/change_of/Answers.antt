@@ -49,8 +49,8 @@ pub with_end-requires : goal.with_end-requires
 with_end-requires g c =
     omega (arith, c.data-sent.ensures.end, data_over c.args.sched.now (g.C.Costs.model c.args.costs.now) (g.H.History.actions c.args.history.now) c.args.action c.requires.run c.requires.within c.requires.next.possible c.in-Data.is c.read.result.now.work (ap (λ (e : Entry). e.work) (c.read.ensures (entry_known c.args.sched.now (g.C.Costs.model c.args.costs.now) (g.H.History.actions c.args.history.now)) c.requires.known)))
 
-pub at-requires : goal.at-requires
-at-requires g c =
+pub with_arrival-requires : goal.with_arrival-requires
+with_arrival-requires g c =
     omega (arith, c.data-sent.ensures.arrive, data_flight c.args.sched.now (g.C.Costs.model c.args.costs.now) (g.H.History.actions c.args.history.now) c.args.action c.requires.run c.requires.within c.requires.next.possible c.in-Data.is c.read.result.now.work (ap (λ (e : Entry). e.work) (c.read.ensures (entry_known c.args.sched.now (g.C.Costs.model c.args.costs.now) (g.H.History.actions c.args.history.now)) c.requires.known)))
 
 pub unreachable-requires : goal.unreachable-requires
@@ -78,7 +78,7 @@ with_end-requires-in-Serve g c =
 
 pub returns-in-Begin-clause-change : goal.returns-in-Begin-clause-change
 returns-in-Begin-clause-change g c =
-    times_changed c.args.sched.now (g.C.Costs.model c.args.costs.now) (g.H.History.actions c.args.history.now) c.args.action c.requires.run c.requires.within c.requires.next.possible _ _ _ c.of_times.ensures c.begin.ensures.known
+    times_changed c.args.sched.now (g.C.Costs.model c.args.costs.now) (g.H.History.actions c.args.history.now) c.args.action c.requires.run c.requires.within c.requires.next.possible _ _ c.of_times.ensures c.begin.ensures.known
 
 pub returns-in-Begin-clause-free : goal.returns-in-Begin-clause-free
 returns-in-Begin-clause-free g c =
@@ -114,7 +114,7 @@ returns-in-Arrive-clause-told g c =
 
 pub returns-in-Data-clause-change : goal.returns-in-Data-clause-change
 returns-in-Data-clause-change g c =
-    times_changed c.args.sched.now (g.C.Costs.model c.args.costs.now) (g.H.History.actions c.args.history.now) c.args.action c.requires.run c.requires.within c.requires.next.possible _ _ _ (λ i. record { times = c.with_end.result; partner = None; delivered = c.at.ensures i }) (data_known c.args.sched.now (g.C.Costs.model c.args.costs.now) (g.H.History.actions c.args.history.now) c.args.action c.requires.run c.requires.within c.requires.next.possible c.in-Data.is c.read.result.now.work (ap (λ (e : Entry). e.work) (c.read.ensures (entry_known c.args.sched.now (g.C.Costs.model c.args.costs.now) (g.H.History.actions c.args.history.now)) c.requires.known)) _ _ c.data-sent.ensures.end c.data-sent.ensures.arrive _ (c.with_end.ensures ∙ ap (λ (t : Times). record t { end = Some c.data-sent.result.end }) (ap (λ (e : Entry). e.times) (c.read.ensures (entry_known c.args.sched.now (g.C.Costs.model c.args.costs.now) (g.H.History.actions c.args.history.now)) c.requires.known))))
+    times_changed c.args.sched.now (g.C.Costs.model c.args.costs.now) (g.H.History.actions c.args.history.now) c.args.action c.requires.run c.requires.within c.requires.next.possible _ _ c.of_times-in-Data.ensures (data_known c.args.sched.now (g.C.Costs.model c.args.costs.now) (g.H.History.actions c.args.history.now) c.args.action c.requires.run c.requires.within c.requires.next.possible c.in-Data.is c.read.result.now.work (ap (λ (e : Entry). e.work) (c.read.ensures (entry_known c.args.sched.now (g.C.Costs.model c.args.costs.now) (g.H.History.actions c.args.history.now)) c.requires.known)) _ _ c.data-sent.ensures.end c.data-sent.ensures.arrive _ (c.with_arrival.ensures ∙ ap (λ (t : Times). record t { awaited = Some c.data-sent.result.arrive }) (c.with_end.ensures ∙ ap (λ (t : Times). record t { end = Some c.data-sent.result.end }) (ap (λ (e : Entry). e.times) (c.read.ensures (entry_known c.args.sched.now (g.C.Costs.model c.args.costs.now) (g.H.History.actions c.args.history.now)) c.requires.known)))))
 
 pub returns-in-Data-clause-free : goal.returns-in-Data-clause-free
 returns-in-Data-clause-free g c =
@@ -126,7 +126,7 @@ returns-in-Data-clause-told g c =
 
 pub returns-in-Some-clause-change : goal.returns-in-Some-clause-change
 returns-in-Some-clause-change g c =
-    times_changed c.args.sched.now (g.C.Costs.model c.args.costs.now) (g.H.History.actions c.args.history.now) c.args.action c.requires.run c.requires.within c.requires.next.possible _ _ _ c.of_times-in-Serve.ensures (serve_known c.args.sched.now (g.C.Costs.model c.args.costs.now) (g.H.History.actions c.args.history.now) c.args.action c.requires.run c.requires.within c.requires.next.possible c.in-Serve.is c.in-Some.pairing (sym c.in-Some.is ∙ c.get.ensures ∙ ap (λ (e : Entry). e.paired) (c.read.ensures (entry_known c.args.sched.now (g.C.Costs.model c.args.costs.now) (g.H.History.actions c.args.history.now)) c.requires.known)) _ c.serve-end.ensures.end _ (c.with_end-in-Serve.ensures ∙ ap (λ (t : Times). record t { end = Some c.serve-end.result }) (ap (λ (e : Entry). e.times) (c.read.ensures (entry_known c.args.sched.now (g.C.Costs.model c.args.costs.now) (g.H.History.actions c.args.history.now)) c.requires.known))))
+    times_changed c.args.sched.now (g.C.Costs.model c.args.costs.now) (g.H.History.actions c.args.history.now) c.args.action c.requires.run c.requires.within c.requires.next.possible _ _ c.of_times-in-Serve.ensures (serve_known c.args.sched.now (g.C.Costs.model c.args.costs.now) (g.H.History.actions c.args.history.now) c.args.action c.requires.run c.requires.within c.requires.next.possible c.in-Serve.is c.in-Some.pairing (sym c.in-Some.is ∙ c.get.ensures ∙ ap (λ (e : Entry). e.paired) (c.read.ensures (entry_known c.args.sched.now (g.C.Costs.model c.args.costs.now) (g.H.History.actions c.args.history.now)) c.requires.known)) _ c.serve-end.ensures.end _ (c.with_end-in-Serve.ensures ∙ ap (λ (t : Times). record t { end = Some c.serve-end.result }) (ap (λ (e : Entry). e.times) (c.read.ensures (entry_known c.args.sched.now (g.C.Costs.model c.args.costs.now) (g.H.History.actions c.args.history.now)) c.requires.known))))
 
 pub returns-in-Some-clause-free : goal.returns-in-Some-clause-free
 returns-in-Some-clause-free g c =

@@ -1,0 +1,18 @@
+// Which moments an action may give.
+ghost use Rattle.std.specs.Prelude.{◌≡◌};
+ghost use Rattle.sim_state.specs.Awaited.{gives};
+
+use goal_graph::{Class, When};
+
+/// Whether an action of a class may give its operation the moment that a need is of.
+#[inline(always)]
+pub fn gives(class: Class, when: When) -> bool
+    ensures { result ≡ gives class when }
+{
+    match (class, when) {
+        (Class::Begin, _)
+        | (Class::Post, When::AfterStart)
+        | (Class::Data | Class::Serve, When::AfterEnd) => true,
+        _ => false,
+    }
+}
