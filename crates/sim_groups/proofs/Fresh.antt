@@ -1,10 +1,9 @@
 -- Heaps in parts of a table, none of which has a key.
-use Rattle.std.proofs.Common.{◌≡◌, ◌≢◌, ◌⊎◌, ◌<◌, ◌≤◌, ◌+◌, ◌-◌, ◌^◌, ◌++◌, true, ℕ, suc, List, [], ◌∷◌, length, map, take, drop, slice_get, slice_index, Option, Some, refl, sym, ap, ap₂, ◌∙◌, subst, arith, All, inl, inr}
+use Rattle.std.proofs.Common.{◌≡◌, ◌≢◌, ◌⊎◌, ◌<◌, ◌≤◌, ◌+◌, ◌-◌, ◌^◌, ◌++◌, true, ℕ, suc, List, [], ◌∷◌, length, map, take, drop, slice_get, slice_index, Option, Some, refl, sym, ap, ap₂, ◌∙◌, subst, arith, replicate, inl, inr}
 use Rattle.std.proofs.lemmas.Bool.{cases_eq}
 use Rattle.std.proofs.lemmas.List.{length-map, take_all}
-use Rattle.std.proofs.lemmas.List.Elements.{All-get_or}
 use Rattle.std.specs.Option.{option_map}
-use Rattle.std.proofs.lemmas.Option.{same_Some, slice_get_within, slice_get-map, get_or_from_slice_get}
+use Rattle.std.proofs.lemmas.Option.{same_Some, slice_get-map}
 use Rattle.goal_base.specs.declared.limits.TheConstants.{MAX_OPS}
 use Rattle.goal_graph.specs.declared.action.Timed.{Timed}
 use Rattle.sim_order.specs.Events.{event_before}
@@ -17,7 +16,7 @@ use Rattle.sim_groups.specs.declared.item_heaps.Plot.{Plot}
 use Rattle.sim_groups.specs.declared.parts.Part.{Part}
 use Rattle.sim_groups.specs.declared.stretch.Stretch.{Stretch}
 use Rattle.sim_groups.specs.Parts.{room_of, places_of, keyed_of, map_of_slots, maps_of_slots, ArePacked, AreWithoutKeys, IsInOrder, AreSlotHeaps}
-use Rattle.sim_groups.specs.Stretches.{map_on, part_of_plot, map_of_items, maps_of_items, AreFresh, IsStretch, AreItemHeaps}
+use Rattle.sim_groups.specs.Stretches.{map_on, part_of_plot, room_of_plot, map_of_items, maps_of_items, roomed, AreFresh, IsStretch, AreItemHeaps}
 use Rattle.sim_groups.proofs.InParts.{put_mid, length-places, part_written, places_elsewhere}
 use Rattle.sim_groups.proofs.StretchSteps.{empty_stretch}
 
@@ -33,11 +32,16 @@ maps_none f [] each = refl
 maps_none f (part ∷ parts) each =
     ap₂ (λ (h : List (Option Timed)) hs. h ∷ hs) (each 0 part refl) (maps_none f parts (λ group p e. each (suc group) p e))
 
--- the same of plots
-maps_unset : (f : Plot → List (Option Timed)) (plots : List Plot) → ((group : ℕ) (plot : Plot) → slice_get plots group ≡ Some plot → f plot ≡ no_keys plot.room) → map f plots ≡ map (no_keys {K = Timed}) (map room_of (map part_of_plot plots))
-maps_unset f [] each = refl
-maps_unset f (plot ∷ plots) each =
-    ap₂ (λ (h : List (Option Timed)) hs. h ∷ hs) (each 0 plot refl) (maps_unset f plots (λ group q e. each (suc group) q e))
+-- the maps of plots, each without a key
+maps_unset : (f : Plot → List (Option Timed)) (slots : ℕ) (plots : List Plot) → ((group : ℕ) (plot : Plot) → slice_get plots group ≡ Some plot → f plot ≡ no_keys slots) → map f plots ≡ replicate (length plots) (no_keys {K = Timed} slots)
+maps_unset f slots [] each = refl
+maps_unset f slots (plot ∷ plots) each =
+    ap₂ (λ (h : List (Option Timed)) hs. h ∷ hs) (each 0 plot refl) (maps_unset f slots plots (λ group q e. each (suc group) q e))
+
+-- their rooms
+rooms_same : (plots : List Plot) → map room_of_plot plots ≡ map room_of (map part_of_plot plots)
+rooms_same [] = refl
+rooms_same (plot ∷ plots) = ap (λ ns. plot.room ∷ ns) (rooms_same plots)
 
 placed_none : (slots : ℕ) → placed {K = Timed} slots [] ≡ no_keys slots
 unfolding placed
@@ -61,12 +65,6 @@ fresh_more plots plot fresh empty group q e = go (cases_eq group (length plots))
     go (inr n) = fresh group q (sym (get_before_added plots plot group n) ∙ e)
 
 module _ (parts : List Part) (size : ℕ) (packed : ArePacked parts size) (none : AreWithoutKeys parts) (counts : List ℕ) (rooms : map room_of parts ≡ counts) where
-  -- the room of a part is counted
-  room_counted : (group : ℕ) (part : Part) → slice_get parts group ≡ Some part → (P : ℕ → Type 0) → All P counts → P part.room
-  room_counted group part at P all =
-      let counted : slice_get counts group ≡ Some part.room = ap (λ ns. slice_get ns group) (sym rooms) ∙ slice_get-map room_of parts group ∙ ap (option_map room_of) at in
-      subst P (get_or_from_slice_get counts group part.room 0 counted) (All-get_or P counts group 0 (slice_get_within counts group part.room counted) all)
-
   -- plots on these parts, none of which has an item
   module _ (plots : List Plot) (are : map part_of_plot plots ≡ parts) (fresh : AreFresh plots) (items : List (Item Timed)) (long : length items ≡ size) where
     plot_at : (group : ℕ) (plot : Plot) → slice_get plots group ≡ Some plot → slice_get parts group ≡ Some (part_of_plot plot)
@@ -76,19 +74,27 @@ module _ (parts : List Part) (size : ℕ) (packed : ArePacked parts size) (none 
     length_plot group plot at =
         length-places items (part_of_plot plot) (omega (arith, packed.within group (part_of_plot plot) (plot_at group plot at), long))
 
-    pub items_begun : All (λ count. count ≤ MAX_OPS) counts → AreItemHeaps event_before plots items
-    items_begun few = record {
+    pub items_begun : (slots : ℕ) → slots ≤ MAX_OPS → size < 2 ^ 32 → AreItemHeaps event_before slots plots items
+    items_begun slots few short = record {
       packed = subst (λ (ps : List Part). ArePacked ps (length items)) (sym are) (subst (ArePacked parts) (sym long) packed);
       heap =
           λ group plot at.
-          subst (λ (s : Stretch). IsStretch event_before (places_of items (part_of_plot plot)) s) (sym (fresh group plot at))
-          (empty_stretch (places_of items (part_of_plot plot)) (omega (arith, length_plot group plot at, room_counted group (part_of_plot plot) (plot_at group plot at) (λ count. count ≤ MAX_OPS) few)));
+          subst (λ (s : Stretch). IsStretch event_before slots (places_of items (part_of_plot plot)) s) (sym (fresh group plot at))
+          (empty_stretch slots (places_of items (part_of_plot plot)) few (omega (arith, length_plot group plot at, packed.within group (part_of_plot plot) (plot_at group plot at), short)));
     }
 
-    pub items_none : maps_of_items plots items ≡ map (no_keys {K = Timed}) counts
-    items_none =
-        maps_unset (map_of_items items) plots (λ group plot at. ap (λ (s : Stretch). map_on (places_of items (part_of_plot plot)) s) (fresh group plot at) ∙ placed_none (length (places_of items (part_of_plot plot))) ∙ ap (no_keys {K = Timed}) (length_plot group plot at))
-        ∙ ap (λ ps. map (no_keys {K = Timed}) (map room_of ps)) are ∙ ap (map (no_keys {K = Timed})) rooms
+    rooms_are : map room_of_plot plots ≡ counts
+    rooms_are = rooms_same plots ∙ ap (map room_of) are ∙ rooms
+
+    as_many : length plots ≡ length counts
+    as_many = sym (length-map plots room_of_plot) ∙ ap length rooms_are
+
+    maps_are : (slots : ℕ) → maps_of_items slots plots items ≡ replicate (length counts) (no_keys {K = Timed} slots)
+    maps_are slots =
+        maps_unset (map_of_items slots items) slots plots (λ group plot at. ap (λ (s : Stretch). map_on slots (places_of items (part_of_plot plot)) s) (fresh group plot at) ∙ placed_none slots) ∙ ap (λ n. replicate n (no_keys {K = Timed} slots)) as_many
+
+    pub items_none : (slots : ℕ) → roomed slots plots items ≡ record { maps = replicate (length counts) (no_keys {K = Timed} slots); rooms = counts }
+    items_none slots i = record { maps = maps_are slots i; rooms = rooms_are i }
 
   module _ (sorted : List Timed) (slots places : List ℕ) (each : length sorted ≡ size) (slots_each : length slots ≡ size) (places_each : length places ≡ size) where
     places_long : (group : ℕ) (part : Part) → slice_get parts group ≡ Some part → (table : List ℕ) → length table ≡ size → length (places_of table part) ≡ part.room

@@ -5,7 +5,7 @@ use Rattle.std.proofs.lemmas.List.{get_or-set_same, get_or-set_other, length-set
 use Rattle.std.proofs.lemmas.List.Elements.{All-get_or}
 use Rattle.std.proofs.lemmas.Option.{slice_get-get_or, slice_get_within, get_or_from_slice_get}
 use Rattle.std.proofs.Math.Seq.{get_or-append_seam}
-use Rattle.sim_groups.specs.declared.groups.PlaceInGroup.{PlaceInGroup}
+use Rattle.sim_groups.specs.declared.slot_groups.PlaceInGroup.{PlaceInGroup}
 use Rattle.sim_heaps.specs.Map.{key_at, no_keys}
 use Rattle.sim_heaps.proofs.ForCallers.{none_of}
 use Rattle.sim_groups.specs.Groups.{IsHoused, AreHomes, heap_at, key_of_home, group_of_home, grouped}

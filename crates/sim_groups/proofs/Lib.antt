@@ -4,6 +4,8 @@ pub mod InParts
 pub mod ItemParts
 pub mod ItemTable
 pub mod Stretching
+pub mod Rooms
+pub mod AtSlots
 pub mod StretchSteps
 pub mod SlotTable
 pub mod SlotParts

@@ -1,5 +1,5 @@
 -- A stretch of places: one more stands behind it, its first goes, and its items are written as a heap.
-use Rattle.std.proofs.Common.{◌≡◌, ◌<◌, ◌≤◌, ◌+◌, ◌-◌, ◌++◌, ◌∷◌, [], ℕ, Bool, true, false, List, length, set, take, drop, get_or, slice_get, slice_set, Some, None, refl, sym, ap, ◌∙◌, subst, arith}
+use Rattle.std.proofs.Common.{◌≡◌, ◌<◌, ◌≤◌, ◌+◌, ◌-◌, ◌^◌, ◌++◌, ◌∷◌, [], ℕ, Bool, true, false, List, length, set, take, drop, get_or, slice_get, slice_set, Some, None, refl, sym, ap, ◌∙◌, subst, arith}
 use Rattle.std.specs.Prelude.{not}
 use Rattle.std.proofs.lemmas.List.{length-drop, length-set, length-append, length-take-le, take_all, take-take, take-append-le, get_or-take, get_or-drop}
 use Rattle.std.proofs.lemmas.Option.{none-some, slice_get-get_or, get_or_from_slice_get}
@@ -10,7 +10,7 @@ use Rattle.sim_heaps.specs.Item.{Item}
 use Rattle.sim_heaps.specs.Map.{key_at, IsSoleLeast}
 use Rattle.sim_heaps.specs.RunHeap.{AreInOrder, IsBehind}
 use Rattle.sim_heaps.specs.TopHeap.{placed, AreApart, IsTopHeap}
-use Rattle.sim_heaps.proofs.ForCallers.{added_apart, added_placed, items_fit}
+use Rattle.sim_heaps.proofs.ForCallers.{added_apart, added_placed}
 use Rattle.sim_groups.specs.declared.stretch.Stretch.{Stretch}
 use Rattle.sim_groups.specs.Parts.{all_but_last}
 use Rattle.sim_groups.specs.Stretches.{standing, map_on, IsStretch}
@@ -25,11 +25,12 @@ untrue true e = sym e
 untrue false e = refl
 
 -- a stretch without an item
-pub empty_stretch : (places : List (Item Timed)) → length places ≤ MAX_OPS → IsStretch event_before places (record { first = 0; end = 0; in_order = true })
-empty_stretch places few = record {
+pub empty_stretch : (slots : ℕ) (places : List (Item Timed)) → slots ≤ MAX_OPS → length places < 2 ^ 32 → IsStretch event_before slots places (record { first = 0; end = 0; in_order = true })
+empty_stretch slots places few short = record {
+  few = short;
   begins = omega arith;
   ends = omega arith;
-  heap = no_items_heap [] (length places) refl few;
+  heap = no_items_heap [] slots refl few;
   in_order = λ e one other x y h f g. absurd (none-some x f);
   at_front = λ e. refl;
 }
@@ -38,33 +39,37 @@ nothing : {X : Type 0} (xs : List X) → length xs ≡ 0 → xs ≡ []
 nothing [] e = refl
 nothing (x ∷ xs) e = absurd (omega (arith, e))
 
-module _ (places : List (Item Timed)) (s : Stretch) (is : IsStretch event_before places s) where
-  pub many_on : length (standing places s) ≡ s.end - s.first
-  many_on = length-standing places s.first s.end is.begins is.ends
+-- an item that is not before the last
+module _ (places : List (Item Timed)) (s : Stretch) (some : s.first < s.end) (ends : s.end ≤ length places) where
+  many_there : length (standing places s) ≡ s.end - s.first
+  many_there = length-standing places s.first s.end (omega (arith, some)) ends
 
-  -- an item that is not before the last
-  last_stands : (last : Item Timed) → s.first < s.end → slice_get places (s.end - 1) ≡ Some last → slice_get (standing places s) (s.end - s.first - 1) ≡ Some last
-  last_stands last some e =
+  last_stands : (last : Item Timed) → slice_get places (s.end - 1) ≡ Some last → slice_get (standing places s) (s.end - s.first - 1) ≡ Some last
+  last_stands last e =
       let at = s.end - s.first - 1 in
       let same : s.first + at ≡ s.end - 1 = omega (arith, some) in
-      slice_get-get_or (standing places s) at last (omega (arith, many_on, some))
+      slice_get-get_or (standing places s) at last (omega (arith, many_there, some))
       ∙ ap Some
       (get_or-drop s.first (take s.end places) at last
       ∙ get_or-take s.end places (s.first + at) last (omega (arith, some))
       ∙ ap (λ n. get_or places n last) same
       ∙ get_or_from_slice_get places (s.end - 1) last last e)
 
-  pub behind_on : (x last : Item Timed) → s.in_order ≡ true → s.first < s.end → slice_get places (s.end - 1) ≡ Some last → event_before x.key last.key ≡ false → IsBehind event_before (standing places s) x
-  behind_on x last are some e late =
-      behind_last (standing places s) x last (is.in_order are) (s.end - s.first - 1) (omega (arith, many_on, some)) (last_stands last some e) late
+  pub behind_on : (x last : Item Timed) → AreInOrder event_before (standing places s) → slice_get places (s.end - 1) ≡ Some last → event_before x.key last.key ≡ false → IsBehind event_before (standing places s) x
+  behind_on x last in_order e late =
+      behind_last (standing places s) x last in_order (s.end - s.first - 1) (omega (arith, many_there, some)) (last_stands last e) late
+
+module _ (slots : ℕ) (places : List (Item Timed)) (s : Stretch) (is : IsStretch event_before slots places s) where
+  pub many_on : length (standing places s) ≡ s.end - s.first
+  many_on = length-standing places s.first s.end is.begins is.ends
 
   -- the map where nothing stands
-  pub empty_map : s.end ≤ s.first → map_on places (record { first = 0; end = 0; in_order = true }) ≡ map_on places s
+  pub empty_map : s.end ≤ s.first → map_on slots places (record { first = 0; end = 0; in_order = true }) ≡ map_on slots places s
   empty_map none =
-      ap (placed (length places)) (sym (nothing (standing places s) (omega (arith, many_on, none))))
+      ap (placed slots) (sym (nothing (standing places s) (omega (arith, many_on, none))))
 
   -- one more stands behind
-  module _ (x : Item Timed) (are : s.in_order ≡ true) (room : s.end < length places) (behind : IsBehind event_before (standing places s) x) (slot_in : x.slot < length places) (free : key_at (map_on places s) x.slot ≡ None) where
+  module _ (x : Item Timed) (are : s.in_order ≡ true) (room : s.end < length places) (behind : IsBehind event_before (standing places s) x) (slot_in : x.slot < slots) (free : key_at (map_on slots places s) x.slot ≡ None) where
     abbrev now : Stretch
     now = record { first = s.first; end = s.end + 1; in_order = s.in_order }
 
@@ -77,26 +82,26 @@ module _ (places : List (Item Timed)) (s : Stretch) (is : IsStretch event_before
     grown : standing new now ≡ standing places s ++ x ∷ []
     grown = standing_more places s.first s.end is.begins is.ends x room
 
-    pub appended : IsStretch event_before new now
+    pub appended : IsStretch event_before slots new now
     appended =
         let in_order : AreInOrder event_before (standing new now) = subst (AreInOrder event_before) (sym grown) (behind_in_order (standing places s) x (is.in_order are) behind) in
-        let apart : AreApart (length new) (standing new now) = subst (λ n. AreApart n (standing new now)) (sym long) (subst (AreApart (length places)) (sym grown) (added_apart (standing places s) x (length places) is.heap.apart slot_in free)) in
+        let apart : AreApart slots (standing new now) = subst (AreApart slots) (sym grown) (added_apart (standing places s) x slots is.heap.apart slot_in free) in
         record {
+          few = omega (arith, long, is.few);
           begins = omega (arith, is.begins);
           ends = omega (arith, room, long);
-          heap = sorted_heap (standing new now) in_order (length new) apart (omega (arith, long, is.heap.few));
+          heap = sorted_heap (standing new now) in_order slots apart is.heap.few;
           in_order = λ e. in_order;
           at_front = λ e. both s.in_order are e;
         }
 
-    pub appended_map : map_on new now ≡ slice_set (map_on places s) x.slot (Some x.key)
-    appended_map =
-        ap (λ n. placed n (standing new now)) long ∙ ap (placed (length places)) grown ∙ added_placed (standing places s) x (length places) is.heap.apart slot_in free
+    pub appended_map : map_on slots new now ≡ slice_set (map_on slots places s) x.slot (Some x.key)
+    appended_map = ap (placed slots) grown ∙ added_placed (standing places s) x slots is.heap.apart slot_in free
 
   -- the least goes
-  module _ (slot : ℕ) (sole : IsSoleLeast event_before (map_on places s) slot) where
+  module _ (slot : ℕ) (sole : IsSoleLeast event_before (map_on slots places s) slot) where
     pub some_on : s.first < s.end
-    some_on = omega (arith, many_on, some_stand (length places) (standing places s) is.heap slot sole)
+    some_on = omega (arith, many_on, some_stand slots (standing places s) is.heap slot sole)
 
     -- from the front
     module _ (are : s.in_order ≡ true) where
@@ -106,18 +111,19 @@ module _ (places : List (Item Timed)) (s : Stretch) (is : IsStretch event_before
       less : standing places rest ≡ drop 1 (standing places s)
       less = standing_less places s.first s.end is.begins is.ends
 
-      pub fronted : IsStretch event_before places rest
+      pub fronted : IsStretch event_before slots places rest
       fronted = record {
+        few = is.few;
         begins = omega (arith, some_on);
         ends = is.ends;
-        heap = subst (λ (xs : List (Item Timed)). IsTopHeap event_before xs (length places) (length places)) (sym less) (fronted_heap (length places) (standing places s) is.heap (is.in_order are));
+        heap = subst (λ (xs : List (Item Timed)). IsTopHeap event_before xs slots slots) (sym less) (fronted_heap slots (standing places s) is.heap (is.in_order are));
         in_order = λ e. subst (AreInOrder event_before) (sym less) (fronted_in_order (standing places s) (is.in_order are));
         at_front = λ e. both s.in_order are e;
       }
 
-      pub fronted_map : map_on places rest ≡ slice_set (map_on places s) slot None
+      pub fronted_map : map_on slots places rest ≡ slice_set (map_on slots places s) slot None
       fronted_map =
-          ap (placed (length places)) less ∙ fronted_placed (length places) (standing places s) is.heap (is.in_order are) slot sole
+          ap (placed slots) less ∙ fronted_placed slots (standing places s) is.heap (is.in_order are) slot sole
 
     -- from the top of a heap
     module _ (are : s.in_order ≡ false) where
@@ -144,25 +150,24 @@ module _ (places : List (Item Timed)) (s : Stretch) (is : IsStretch event_before
             ∙ take-append-le (s.end - 1) ys (drop s.end places) (omega (arith, many))
             ∙ ap (λ n. take n ys) fewer
 
-        pub left_stretch : IsTopHeap event_before (all_but_last ys) (length places) (length places) → IsStretch event_before written left
+        pub left_stretch : IsTopHeap event_before (all_but_last ys) slots slots → IsStretch event_before slots written left
         left_stretch heap = record {
+          few = omega (arith, is.few, long_left);
           begins = omega (arith, is.at_front are);
           ends = omega (arith, is.ends, long_left);
-          heap = subst (λ (n : ℕ). IsTopHeap event_before (standing written left) n n) (sym long_left) (subst (λ (xs : List (Item Timed)). IsTopHeap event_before xs (length places) (length places)) (sym stay) heap);
+          heap = subst (λ (xs : List (Item Timed)). IsTopHeap event_before xs slots slots) (sym stay) heap;
           in_order = λ e. both s.in_order e are;
           at_front = is.at_front;
         }
 
-        pub left_map : placed (length places) (all_but_last ys) ≡ slice_set (placed (length places) (take s.end places)) slot None → map_on written left ≡ slice_set (map_on places s) slot None
+        pub left_map : placed slots (all_but_last ys) ≡ slice_set (placed slots (take s.end places)) slot None → map_on slots written left ≡ slice_set (map_on slots places s) slot None
         left_map is_left =
-            ap (λ n. placed n (standing written left)) long_left ∙ ap (placed (length places)) stay ∙ is_left ∙ ap (λ xs. slice_set (placed (length places) xs) slot None) (sym whole)
+            ap (placed slots) stay ∙ is_left ∙ ap (λ xs. slice_set (placed slots xs) slot None) (sym whole)
 
   -- one more stands among the others, which were moved to the front
-  module _ (x : Item Timed) (slot_in : x.slot < length places) (free : key_at (map_on places s) x.slot ≡ None) where
+  module _ (room : length (standing places s) < length places) where
     pub fit : s.end - s.first + 1 ≤ length places
-    fit =
-        let few = items_fit (length places) (standing places s ++ x ∷ []) (added_apart (standing places s) x (length places) is.heap.apart slot_in free) in
-        omega (arith, few, length-append (standing places s) (x ∷ []), many_on)
+    fit = omega (arith, many_on, room)
 
     module _ (moved : List (Item Timed)) (same_long : length moved ≡ length places) (count : ℕ) (front : take count moved ≡ standing places s) (fits : count ≤ length moved) where
       pub count_is : count ≡ s.end - s.first
@@ -190,15 +195,16 @@ module _ (places : List (Item Timed)) (s : Stretch) (is : IsStretch event_before
         are_entered : standing entered among ≡ ys
         are_entered = take-append-le (count + 1) ys (drop (count + 1) moved) (omega (arith, many_entered)) ∙ take_all (count + 1) ys (omega (arith, many_entered))
 
-        pub among_stretch : IsTopHeap event_before ys (length places) (length places) → IsStretch event_before entered among
+        pub among_stretch : IsTopHeap event_before ys slots slots → IsStretch event_before slots entered among
         among_stretch heap = record {
+          few = omega (arith, is.few, long_entered);
           begins = omega arith;
           ends = omega (arith, long_entered, fit, count_is);
-          heap = subst (λ (n : ℕ). IsTopHeap event_before (standing entered among) n n) (sym long_entered) (subst (λ (xs : List (Item Timed)). IsTopHeap event_before xs (length places) (length places)) (sym are_entered) heap);
+          heap = subst (λ (xs : List (Item Timed)). IsTopHeap event_before xs slots slots) (sym are_entered) heap;
           in_order = λ e. both false e refl;
           at_front = λ e. refl;
         }
 
-        pub among_map : placed (length places) ys ≡ slice_set (placed (length places) (all_but_last (take (count + 1) moved))) x.slot (Some x.key) → map_on entered among ≡ slice_set (map_on places s) x.slot (Some x.key)
-        among_map is_put =
-            ap (λ n. placed n (standing entered among)) long_entered ∙ ap (placed (length places)) are_entered ∙ is_put ∙ ap (λ xs. slice_set (placed (length places) xs) x.slot (Some x.key)) before_free
+        pub among_map : (x : Item Timed) → placed slots ys ≡ slice_set (placed slots (all_but_last (take (count + 1) moved))) x.slot (Some x.key) → map_on slots entered among ≡ slice_set (map_on slots places s) x.slot (Some x.key)
+        among_map x is_put =
+            ap (placed slots) are_entered ∙ is_put ∙ ap (λ xs. slice_set (placed slots xs) x.slot (Some x.key)) before_free

@@ -43,7 +43,7 @@ module _ (xs : List (Item Timed)) (in_order : AreInOrder event_before xs) where
   sorted_heap slots apart few = record { reserved = omega arith; few = few; apart = apart; ordered = ordered }
 
 -- a slot that no item has
-absent : (slots slot : ℕ) (xs : List (Item Timed)) → ((place : ℕ) (y : Item Timed) → slice_get xs place ≡ Some y → y.slot ≢ slot) → key_at (placed slots xs) slot ≡ None
+pub absent : (slots slot : ℕ) (xs : List (Item Timed)) → ((place : ℕ) (y : Item Timed) → slice_get xs place ≡ Some y → y.slot ≢ slot) → key_at (placed slots xs) slot ≡ None
 unfolding placed
 absent slots slot [] other = none_of slots slot
 absent slots slot (x ∷ xs) other =

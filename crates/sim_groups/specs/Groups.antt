@@ -1,6 +1,7 @@
 -- Slots in groups, each of which knows its least key.
-use Rattle.std.specs.Prelude.{◌≡◌, ◌⊎◌, ◌<◌, ◌≤◌, ◌^◌, ℕ, Bool, true, false, List, [], Option, Some, None, length, map, slice_get, slice_index, slice_index_or, slice_set}
-use Rattle.sim_groups.specs.declared.groups.PlaceInGroup.{PlaceInGroup}
+use Rattle.std.specs.Prelude.{◌≡◌, ◌==◌, ◌⊎◌, ◌<◌, ◌≤◌, ◌^◌, ℕ, Bool, true, false, List, [], Option, Some, None, count_by, length, map, slice_get, slice_index, slice_index_or, slice_set}
+use Rattle.std.specs.List.{enumerate_from}
+use Rattle.sim_groups.specs.declared.slot_groups.PlaceInGroup.{PlaceInGroup}
 use Rattle.sim_heaps.specs.Map.{key_at}
 
 -- what each slot has, a key or none, and the group that it is in
@@ -10,6 +11,21 @@ pub record Grouped (K : Type 0) : Type 0 where
 
 abbrev pub group_of_home : PlaceInGroup → ℕ
 group_of_home home = home.group
+
+abbrev pub at_home : ℕ → ℕ → PlaceInGroup
+at_home group place = record { group = group; place = place }
+
+-- The homes of slots of these groups, where the heap of each group has a place for each slot of all: that of its number.
+abbrev pub homes_at_slots : List ℕ → List PlaceInGroup
+homes_at_slots groups = map (λ p. at_home p.1 p.0) (enumerate_from 0 groups)
+
+-- how many of these numbers are that of a group
+abbrev pub members : ℕ → List ℕ → ℕ
+members group numbers = count_by (λ number. number == group) numbers
+
+-- so many of these numbers are that of each group
+abbrev pub AreCounts : List ℕ → List ℕ → Type 0
+AreCounts numbers counts = (group : ℕ) → group < length counts → slice_index counts group ≡ members group numbers
 
 -- homes for slots of these groups, of which so many are in each group: none is given twice
 pub record AreHomes (numbers : List ℕ) (homes : List PlaceInGroup) (counts : List ℕ) : Type 0 where
@@ -55,6 +71,9 @@ module _ {K : Type 0} where
   abbrev pub grouped : List PlaceInGroup → List (List (Option K)) → Grouped K
   grouped homes heaps = record { keys = map (key_of_home heaps) homes; groups = map group_of_home homes }
 
+  abbrev pub grouped_at_slots : List ℕ → List (List (Option K)) → Grouped K
+  grouped_at_slots groups heaps = record { keys = map (key_of_home heaps) (homes_at_slots groups); groups = groups }
+
   -- Each slot has a home of its own in the heap of its group, and each key is at the home of a slot. No heap has more slots
   -- than there are.
   pub record IsHoused (homes : List PlaceInGroup) (heaps : List (List (Option K))) : Type 0 where
@@ -67,3 +86,9 @@ module _ {K : Type 0} where
         (group place : ℕ) (key : K)
         → key_at (heap_at heaps group) place ≡ Some key
         → (slot : ℕ) × (slice_get homes slot ≡ Some (record { group = group; place = place }))
+
+  -- the same where each slot has the place of its number, and there is room for the keys of all slots of a group
+  pub record AreHousedAtSlots (groups : List ℕ) (heaps : List (List (Option K))) (rooms : List ℕ) : Type 0 where
+    pub housed : IsHoused (homes_at_slots groups) heaps
+    pub each : length rooms ≡ length heaps
+    pub counted : AreCounts groups rooms

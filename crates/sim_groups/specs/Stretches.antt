@@ -1,5 +1,5 @@
 -- Heaps of items, each on a stretch of the places of its group, in a table that all groups share.
-use Rattle.std.specs.Prelude.{◌≡◌, ◌≤◌, ℕ, Bool, true, false, List, Option, Some, length, map, take, drop, slice_get}
+use Rattle.std.specs.Prelude.{◌≡◌, ◌<◌, ◌≤◌, ◌^◌, ℕ, Bool, true, false, List, Option, Some, length, map, take, drop, slice_get}
 use Rattle.sim_groups.specs.declared.item_heaps.Plot.{Plot}
 use Rattle.sim_groups.specs.declared.parts.Part.{Part}
 use Rattle.sim_groups.specs.declared.stretch.Stretch.{Stretch}
@@ -25,10 +25,20 @@ abbrev pub AreFresh : List Plot → Type 0
 AreFresh plots =
     (group : ℕ) (plot : Plot) → slice_get plots group ≡ Some plot → plot.stretch ≡ (record { first = 0; end = 0; in_order = true })
 
-module _ {K : Type 0} where
-  -- the map of a stretch, with a slot for each place
+-- how many items a plot has room for
+abbrev pub room_of_plot : Plot → ℕ
+room_of_plot plot = plot.room
+
+-- the maps of the groups, and how many keys each has room for
+pub record Roomed (K : Type 0) : Type 0 where
+  pub maps : List (List (Option K))
+  pub rooms : List ℕ
+
+-- Of so many slots, any of which may have its key in the heap of any group:
+module _ {K : Type 0} (slots : ℕ) where
+  -- the map of a stretch
   abbrev pub map_on : List (Item K) → Stretch → List (Option K)
-  map_on places stretch = placed (length places) (standing places stretch)
+  map_on places stretch = placed slots (standing places stretch)
 
   -- the map of each plot
   abbrev pub map_of_items : List (Item K) → Plot → List (Option K)
@@ -37,12 +47,16 @@ module _ {K : Type 0} where
   abbrev pub maps_of_items : List Plot → List (Item K) → List (List (Option K))
   maps_of_items plots items = map (map_of_items items) plots
 
-module _ {K : Type 0} (before : K → K → Bool) where
+  abbrev pub roomed : List Plot → List (Item K) → Roomed K
+  roomed plots items = record { maps = maps_of_items plots items; rooms = map room_of_plot plots }
+
+module _ {K : Type 0} (before : K → K → Bool) (slots : ℕ) where
   -- the items of the stretch are a heap, and are in their order where it says so; where it does not, they stand at the front
   pub record IsStretch (places : List (Item K)) (stretch : Stretch) : Type 0 where
+    pub few : length places < 2 ^ 32
     pub begins : stretch.first ≤ stretch.end
     pub ends : stretch.end ≤ length places
-    pub heap : IsTopHeap before (standing places stretch) (length places) (length places)
+    pub heap : IsTopHeap before (standing places stretch) slots slots
     pub in_order : stretch.in_order ≡ true → AreInOrder before (standing places stretch)
     pub at_front : stretch.in_order ≡ false → stretch.first ≡ 0
 

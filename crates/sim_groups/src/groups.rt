@@ -1,10 +1,10 @@
 // Slots in groups.
-ghost use Rattle.std.specs.Prelude.{◌≡◌, ◌+◌, ◌*◌, ◌^◌, ◌<◌, ◌≤◌, ℕ, All, IfOk, IfSome, IsNone, OnOk, Some, None, length, replicate, slice_get, slice_set, sum};
+ghost use Rattle.std.specs.Prelude.{◌≡◌, ◌+◌, ◌*◌, ◌^◌, ◌<◌, ◌≤◌, ℕ, All, IfOk, IfSome, IsNone, Some, None, length, replicate, slice_get, slice_set, sum};
 ghost use Rattle.goal_base.specs.declared.limits.TheConstants.{MAX_OPS};
 ghost use Rattle.sim_order.specs.Events.{event_before};
 ghost use Rattle.sim_heaps.specs.Item.{at_time};
 ghost use Rattle.sim_heaps.specs.Map.{key_at};
-ghost use Rattle.sim_groups.specs.Groups.{IsEmptyGroup, IsLeastOf, IsSoleLeastOf, AreHomes};
+ghost use Rattle.sim_groups.specs.Groups.{IsEmptyGroup, IsLeastOf, IsSoleLeastOf, AreCounts};
 
 use crate::item_heaps::ItemHeaps;
 use goal_base::NoMemory;
@@ -13,54 +13,37 @@ use std::alloc::Global;
 use std::marker::Model;
 use std::sync::ledger::Ledger;
 
-/// Where a slot has its key: in the heap of its group, at a place there.
-#[derive(Clone, Copy, Debug, PartialEq, Eq)]
-pub struct PlaceInGroup {
-    pub group: u32,
-    pub place: u32,
-}
-
 /// A finite map from slots to keys, whose slots are in groups. The least key of a group is asked for. With at most 2^k
 /// slots a put or a take compares 2k + 1 times at most, and asking for the least compares nothing.
 #[derive(Drop)]
 pub struct Groups {
-    homes: Vec<PlaceInGroup>,
+    // the group of each slot
+    groups: Vec<u32>,
     heaps: ItemHeaps,
 }
 
 impl Model for Groups {
     ghost use Rattle.goal_graph.specs.declared.action.Timed.{Timed};
-    ghost use Rattle.sim_groups.specs.Groups.{Grouped, IsHoused, grouped};
+    ghost use Rattle.sim_groups.specs.Groups.{Grouped, AreHousedAtSlots, grouped_at_slots};
 
     ghost Value = { Grouped Timed };
 
-    ghost view = { λ q. grouped q.homes.items q.heaps };
+    ghost view = { λ q. grouped_at_slots q.groups.items q.heaps.maps };
 
-    ghost invariant = { λ q. IsHoused q.homes.items q.heaps };
+    ghost invariant = { λ q. AreHousedAtSlots q.groups.items q.heaps.maps q.heaps.rooms };
 }
 
-/// Homes for slots whose groups have these numbers: the slots of a group get its places in their order. Counts the slots
-/// of each group.
-pub fn homes(
-    alloc: Global,
-    numbers: &[u32],
-    counts: &mut [u32],
-) -> Result<Vec<PlaceInGroup>, NoMemory>
+// Counts the slots of each group, whose groups have these numbers.
+fn count(numbers: &[u32], counts: &mut [u32])
     requires within { All (λ group. group < length counts.old) numbers.now }
     requires zero { All (λ count. count ≡ 0) counts.old }
     requires few { length numbers.now < 2 ^ 32 }
-    ensures homes { IfOk result (λ homes. AreHomes numbers.now homes.items counts.new) }
-    ensures few { OnOk result (All (λ count. count ≤ length numbers.now) counts.new) }
-    ensures all { OnOk result (sum counts.new ≡ length numbers.now) }
+    ensures counted { AreCounts numbers.now counts.new }
+    ensures all { sum counts.new ≡ length numbers.now }
 {
-    let mut homes = Vec::with_capacity(alloc, numbers.len())?;
     'slots: for number in numbers {
-        let group = *number;
-        let place = counts[group as usize];
-        homes.push(PlaceInGroup { group, place })?;
-        counts[group as usize] = place + 1;
+        counts[*number as usize] += 1;
     }
-    Ok(homes)
 }
 
 impl Groups {
@@ -72,9 +55,10 @@ impl Groups {
         ensures { IfOk result (λ q. q ≡ record { keys = replicate (length numbers.now) None; groups = numbers.now }) }
     {
         let mut counts = vec![in alloc; 0; groups as usize]?;
-        let homes = homes(alloc, numbers, &mut counts)?;
-        let heaps = ItemHeaps::new(alloc, &counts)?;
-        Ok(Groups { homes, heaps })
+        count(numbers, &mut counts);
+        let heaps = ItemHeaps::new(alloc, numbers.len() as u32, &counts)?;
+        let groups = Vec::from_slice(alloc, numbers)?;
+        Ok(Groups { groups, heaps })
     }
 
     /// The group of a slot.
@@ -82,7 +66,7 @@ impl Groups {
         requires { slot < length self.now.groups }
         ensures { slice_get self.now.groups slot ≡ Some result }
     {
-        self.homes[slot as usize].group
+        self.groups[slot as usize]
     }
 
     /// Gives a slot that has no key a key, which is kept at time 0.
@@ -93,8 +77,8 @@ impl Groups {
         ensures counted { (k : ℕ) → length self.old.keys ≤ 2 ^ k → steps.new ≤ steps.old + (2 * k + 1) }
         ensures onward { steps.old ≤ steps.new }
     {
-        let home = self.homes[slot as usize];
-        self.heaps.put(home, key, steps);
+        let group = self.groups[slot as usize];
+        self.heaps.put(group, slot, key, steps);
     }
 
     /// Takes out the key of a slot that is before that of each other slot of its group.
@@ -104,8 +88,8 @@ impl Groups {
         ensures counted { (k : ℕ) → length self.old.keys ≤ 2 ^ k → steps.new ≤ steps.old + (2 * k + 1) }
         ensures onward { steps.old ≤ steps.new }
     {
-        let home = self.homes[slot as usize];
-        self.heaps.take(home, steps);
+        let group = self.groups[slot as usize];
+        self.heaps.take(group, slot, steps);
     }
 
     /// The least key of a group. None where no slot of the group has a key, or there is no such group.

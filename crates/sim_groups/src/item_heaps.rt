@@ -1,14 +1,13 @@
 // Heaps whose keys go from the top, in one table.
-ghost use Rattle.std.specs.Prelude.{◌≡◌, ◌+◌, ◌*◌, ◌^◌, ◌<◌, ◌≤◌, ℕ, All, IfOk, IfSome, IsNone, Some, None, length, map, sum};
+ghost use Rattle.std.specs.Prelude.{◌≡◌, ◌+◌, ◌*◌, ◌^◌, ◌<◌, ◌≤◌, ℕ, IfOk, IfSome, IsNone, Some, None, count_by, is_some, length, map, replicate, slice_index, sum};
 ghost use Rattle.goal_base.specs.declared.limits.TheConstants.{MAX_OPS};
 ghost use Rattle.sim_order.specs.Events.{event_before};
 ghost use Rattle.sim_heaps.specs.Item.{at_time};
-ghost use Rattle.sim_heaps.specs.Map.{no_keys, IsEmptyMap, IsLeast, IsSoleLeast};
-ghost use Rattle.sim_groups.specs.Groups.{heap_at, key_of_home, with_key};
+ghost use Rattle.sim_heaps.specs.Map.{key_at, no_keys, IsEmptyMap, IsLeast, IsSoleLeast};
+ghost use Rattle.sim_groups.specs.Groups.{at_home, heap_at, with_key};
 ghost use Rattle.sim_groups.specs.Parts.{AreWithoutKeys};
 ghost use Rattle.sim_groups.specs.Stretches.{part_of_plot, AreFresh};
 
-use crate::PlaceInGroup;
 use crate::parts::{Part, parts};
 use crate::stretch::{Stretch, empty, put, take};
 use goal_base::NoMemory;
@@ -26,25 +25,26 @@ pub struct Plot {
     pub stretch: Stretch,
 }
 
-/// A heap for each group, whose keys are at time 0, come at any place that has none, and go only from the top. Contracts see the
-/// maps of the groups.
+/// A heap for each group, whose keys are at time 0, come at any slot that has none there, and go only from the top. A group has
+/// room for as many keys as it has slots. Contracts see the maps of the groups, each of all slots.
 #[derive(Drop)]
 pub struct ItemHeaps {
+    // how many slots there are; any of them may have its key in the heap of any group
+    slots: u32,
     plots: Vec<Plot>,
     items: Vec<HeapItem<AtZero>>,
 }
 
 impl Model for ItemHeaps {
-    ghost use Rattle.std.specs.Prelude.{List, Option};
     ghost use Rattle.goal_graph.specs.declared.action.Timed.{Timed};
     ghost use Rattle.sim_order.specs.Events.{event_before};
-    ghost use Rattle.sim_groups.specs.Stretches.{maps_of_items, AreItemHeaps};
+    ghost use Rattle.sim_groups.specs.Stretches.{Roomed, roomed, AreItemHeaps};
 
-    ghost Value = { List (List (Option Timed)) };
+    ghost Value = { Roomed Timed };
 
-    ghost view = { λ h. maps_of_items h.plots.items h.items.items };
+    ghost view = { λ h. roomed h.slots h.plots.items h.items.items };
 
-    ghost invariant = { λ h. AreItemHeaps event_before h.plots.items h.items.items };
+    ghost invariant = { λ h. AreItemHeaps event_before h.slots h.plots.items h.items.items };
 }
 
 // So many items, which no group counts yet.
@@ -74,67 +74,79 @@ fn plots(alloc: Global, parts: &[Part]) -> Result<Vec<Plot>, NoMemory>
 }
 
 impl ItemHeaps {
-    /// Heaps with so many places each, none of which has a key. They take all their memory here.
-    pub fn new(alloc: Global, counts: &[u32]) -> Result<ItemHeaps, NoMemory>
-        requires few { All (λ count. count ≤ MAX_OPS) counts.now }
+    /// Heaps of so many slots, with room for so many keys each. No slot has a key. They take all their memory here.
+    pub fn new(alloc: Global, slots: u32, counts: &[u32]) -> Result<ItemHeaps, NoMemory>
+        requires few { slots ≤ MAX_OPS }
         requires few_in_all { sum counts.now < 2 ^ 32 }
-        ensures { IfOk result (λ heaps. heaps ≡ map no_keys counts.now) }
+        ensures { IfOk result (λ heaps. heaps ≡ record { maps = replicate (length counts.now) (no_keys slots); rooms = counts.now }) }
     {
         let (parts, size) = parts(alloc, counts)?;
         let plots = plots(alloc, &parts)?;
         let items = no_items(alloc, size as usize)?;
-        Ok(ItemHeaps { plots, items })
+        Ok(ItemHeaps {
+            slots,
+            plots,
+            items,
+        })
     }
 
     /// How many there are.
     pub fn len(&self) -> usize
-        ensures { result ≡ length self.now }
+        ensures { result ≡ length self.now.maps }
     {
         self.plots.len()
     }
 
-    /// Gives a home that has no key one, at time 0.
-    pub fn put<L: Ledger>(&mut self, home: PlaceInGroup, key: CompactKey, steps: &mut Steps<L>)
-        requires group_in { home.group < length self.old }
-        requires place_in { home.place < length (heap_at self.old home.group) }
-        requires free { key_of_home self.old home ≡ None }
-        ensures put { self.new ≡ with_key self.old home (Some (at_time 0 key)) }
-        ensures counted { (k : ℕ) → length (heap_at self.old home.group) ≤ 2 ^ k → steps.new ≤ steps.old + (2 * k + 1) }
+    /// Gives a slot that has no key in a group one there, at time 0. The group has room for one more.
+    pub fn put<L: Ledger>(&mut self, group: u32, slot: u32, key: CompactKey, steps: &mut Steps<L>)
+        requires group_in { group < length self.old.maps }
+        requires slot_in { slot < length (heap_at self.old.maps group) }
+        requires free { key_at (heap_at self.old.maps group) slot ≡ None }
+        requires room { count_by is_some (heap_at self.old.maps group) < slice_index self.old.rooms group }
+        ensures put { self.new ≡ record self.old { maps = with_key self.old.maps (at_home group slot) (Some (at_time 0 key)) } }
+        ensures counted { (k : ℕ) → slice_index self.old.rooms group ≤ 2 ^ k → steps.new ≤ steps.old + (2 * k + 1) }
         ensures onward { steps.old ≤ steps.new }
     {
-        let plot = self.plots[home.group as usize];
+        let plot = self.plots[group as usize];
         let start = plot.start as usize;
         let end = start + plot.room as usize;
         let stretch = put(
             &mut self.items[start..end],
             plot.stretch,
-            home.place,
+            self.slots,
+            slot,
             key,
             steps,
         );
-        self.plots[home.group as usize] = Plot { stretch, ..plot };
+        self.plots[group as usize] = Plot { stretch, ..plot };
     }
 
-    /// Takes out the least key of a group, that of this home: it is before each other.
-    pub fn take<L: Ledger>(&mut self, home: PlaceInGroup, steps: &mut Steps<L>)
-        requires group_in { home.group < length self.old }
-        requires least { IsSoleLeast event_before (heap_at self.old home.group) home.place }
-        ensures taken { self.new ≡ with_key self.old home None }
-        ensures counted { (k : ℕ) → length (heap_at self.old home.group) ≤ 2 ^ k → steps.new ≤ steps.old + (2 * k + 1) }
+    /// Takes out the least key of a group, that of this slot: it is before each other.
+    pub fn take<L: Ledger>(&mut self, group: u32, slot: u32, steps: &mut Steps<L>)
+        requires group_in { group < length self.old.maps }
+        requires least { IsSoleLeast event_before (heap_at self.old.maps group) slot }
+        ensures taken { self.new ≡ record self.old { maps = with_key self.old.maps (at_home group slot) None } }
+        ensures counted { (k : ℕ) → slice_index self.old.rooms group ≤ 2 ^ k → steps.new ≤ steps.old + (2 * k + 1) }
         ensures onward { steps.old ≤ steps.new }
     {
-        let plot = self.plots[home.group as usize];
+        let plot = self.plots[group as usize];
         let start = plot.start as usize;
         let end = start + plot.room as usize;
-        let stretch = take(&mut self.items[start..end], plot.stretch, home.place, steps);
-        self.plots[home.group as usize] = Plot { stretch, ..plot };
+        let stretch = take(
+            &mut self.items[start..end],
+            plot.stretch,
+            self.slots,
+            slot,
+            steps,
+        );
+        self.plots[group as usize] = Plot { stretch, ..plot };
     }
 
     /// The least key of a group. None where it has none.
     pub fn least_of(&self, group: u32) -> Option<CompactKey>
-        requires { group < length self.now }
-        ensures none { IsNone result → IsEmptyMap (heap_at self.now group) }
-        ensures least { IfSome result (λ key. (place : ℕ) × IsLeast event_before (heap_at self.now group) place key) }
+        requires { group < length self.now.maps }
+        ensures none { IsNone result → IsEmptyMap (heap_at self.now.maps group) }
+        ensures least { IfSome result (λ key. (slot : ℕ) × IsLeast event_before (heap_at self.now.maps group) slot key) }
     {
         let plot = self.plots[group as usize];
         let stretch = plot.stretch;

@@ -9,5 +9,5 @@ mod slot_heaps;
 mod stretch;
 mod waiting_key;
 
-pub use groups::{Groups, PlaceInGroup};
-pub use slot_groups::SlotGroups;
+pub use groups::Groups;
+pub use slot_groups::{PlaceInGroup, SlotGroups};

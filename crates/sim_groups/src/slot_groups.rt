@@ -1,17 +1,22 @@
 // Slots in groups, whose keys are changed in place.
-ghost use Rattle.std.specs.Prelude.{◌≡◌, ◌+◌, ◌*◌, ◌^◌, ◌<◌, ◌≤◌, ℕ, All, IfOk, IfSome, IsNone, Some, None, length, replicate, slice_set};
+ghost use Rattle.std.specs.Prelude.{◌≡◌, ◌+◌, ◌*◌, ◌^◌, ◌<◌, ◌≤◌, ℕ, All, IfOk, IfSome, IsNone, OnOk, Some, None, length, replicate, slice_set, sum};
 ghost use Rattle.sim_order.specs.Events.{event_before};
 ghost use Rattle.sim_heaps.specs.Item.{at_time};
-ghost use Rattle.sim_groups.specs.Groups.{IsEmptyGroup, IsLeastOf};
+ghost use Rattle.sim_groups.specs.Groups.{IsEmptyGroup, IsLeastOf, AreHomes};
 
-use crate::PlaceInGroup;
-use crate::groups::homes;
 use crate::slot_heaps::SlotHeaps;
 use goal_base::NoMemory;
 use sim_order::{CompactKey, Steps};
 use std::alloc::Global;
 use std::marker::Model;
 use std::sync::ledger::Ledger;
+
+/// Where a slot has its key: in the heap of its group, at a place there.
+#[derive(Clone, Copy, Debug, PartialEq, Eq)]
+pub struct PlaceInGroup {
+    pub group: u32,
+    pub place: u32,
+}
 
 /// A finite map from slots to keys at time 0, whose slots are in groups. A key may be changed while it is there, and may go
 /// from anywhere. The least key of a group is asked for. With at most 2^k slots a put or a drop compares 2k + 1 times at
@@ -31,6 +36,26 @@ impl Model for SlotGroups {
     ghost view = { λ q. grouped q.homes.items q.heaps };
 
     ghost invariant = { λ q. IsHoused q.homes.items q.heaps };
+}
+
+// Homes for slots whose groups have these numbers: the slots of a group get its places in their order. Counts the slots
+// of each group.
+fn homes(alloc: Global, numbers: &[u32], counts: &mut [u32]) -> Result<Vec<PlaceInGroup>, NoMemory>
+    requires within { All (λ group. group < length counts.old) numbers.now }
+    requires zero { All (λ count. count ≡ 0) counts.old }
+    requires few { length numbers.now < 2 ^ 32 }
+    ensures homes { IfOk result (λ homes. AreHomes numbers.now homes.items counts.new) }
+    ensures few { OnOk result (All (λ count. count ≤ length numbers.now) counts.new) }
+    ensures all { OnOk result (sum counts.new ≡ length numbers.now) }
+{
+    let mut homes = Vec::with_capacity(alloc, numbers.len())?;
+    'slots: for number in numbers {
+        let group = *number;
+        let place = counts[group as usize];
+        homes.push(PlaceInGroup { group, place })?;
+        counts[group as usize] = place + 1;
+    }
+    Ok(homes)
 }
 
 impl SlotGroups {

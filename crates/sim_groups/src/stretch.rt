@@ -3,7 +3,7 @@ ghost use Rattle.std.specs.Prelude.{◌≡◌, ◌+◌, ◌*◌, ◌^◌, ◌<�
 ghost use Rattle.sim_order.specs.Events.{event_before};
 ghost use Rattle.sim_heaps.specs.Item.{at_time};
 ghost use Rattle.sim_heaps.specs.Map.{key_at, IsSoleLeast};
-ghost use Rattle.sim_heaps.specs.RunHeap.{IsBehind};
+ghost use Rattle.sim_heaps.specs.RunHeap.{AreInOrder, IsBehind};
 ghost use Rattle.sim_heaps.specs.TopHeap.{placed, IsTopHeap};
 ghost use Rattle.sim_groups.specs.Parts.{all_but_last};
 ghost use Rattle.sim_groups.specs.Stretches.{standing, map_on, IsFront, IsStretch};
@@ -36,7 +36,7 @@ fn enter<L: Ledger>(
     ensures each { length items.new ≡ length items.old }
     ensures heap { IsTopHeap event_before items.new slots slots }
     ensures put { placed slots items.new ≡ slice_set (placed slots (all_but_last items.old)) item.slot (Some item.key) }
-    ensures counted { (k : ℕ) → slots ≤ 2 ^ k → steps.new ≤ steps.old + k }
+    ensures counted { (k : ℕ) → length items.old ≤ 2 ^ k → steps.new ≤ steps.old + k }
     ensures onward { steps.old ≤ steps.new }
 {
     let last = items.len() - 1;
@@ -52,7 +52,7 @@ fn leave<L: Ledger>(items: &mut [HeapItem<AtZero>], slots: u32, slot: u32, steps
     ensures each { length items.new ≡ length items.old }
     ensures heap { IsTopHeap event_before (all_but_last items.new) slots slots }
     ensures taken { placed slots (all_but_last items.new) ≡ slice_set (placed slots items.old) slot None }
-    ensures counted { (k : ℕ) → slots ≤ 2 ^ k → steps.new ≤ steps.old + (2 * k + 1) }
+    ensures counted { (k : ℕ) → length items.old ≤ 2 ^ k → steps.new ≤ steps.old + (2 * k + 1) }
     ensures onward { steps.old ≤ steps.new }
 {
     let left = items.len() - 1;
@@ -85,8 +85,9 @@ fn follows<L: Ledger>(
     item: &HeapItem<AtZero>,
     steps: &mut Steps<L>,
 ) -> bool
-    requires stands { IsStretch event_before places.now stretch }
     requires some { stretch.first < stretch.end }
+    requires ends { stretch.end ≤ length places.now }
+    requires sorted { stretch.in_order ≡ true → AreInOrder event_before (standing places.now stretch) }
     ensures in_order { result ≡ true → stretch.in_order ≡ true }
     ensures room { result ≡ true → stretch.end < length places.now }
     ensures behind { result ≡ true → IsBehind event_before (standing places.now stretch) item.now }
@@ -97,18 +98,23 @@ fn follows<L: Ledger>(
     stretch.in_order && end < places.len() && !item.before(&places[end - 1], steps)
 }
 
-// An item more, behind the others.
+// An item more, of a slot of so many, behind the others.
 #[inline(always)]
-fn append(places: &mut [HeapItem<AtZero>], stretch: Stretch, item: HeapItem<AtZero>) -> Stretch
-    requires stands { IsStretch event_before places.old stretch }
+fn append(
+    places: &mut [HeapItem<AtZero>],
+    stretch: Stretch,
+    slots: u32,
+    item: HeapItem<AtZero>,
+) -> Stretch
+    requires stands { IsStretch event_before slots places.old stretch }
     requires in_order { stretch.in_order ≡ true }
     requires room { stretch.end < length places.old }
     requires behind { IsBehind event_before (standing places.old stretch) item }
-    requires slot_in { item.slot < length places.old }
-    requires free { key_at (map_on places.old stretch) item.slot ≡ None }
+    requires slot_in { item.slot < slots }
+    requires free { key_at (map_on slots places.old stretch) item.slot ≡ None }
     ensures each { length places.new ≡ length places.old }
-    ensures stands { IsStretch event_before places.new result }
-    ensures put { map_on places.new result ≡ slice_set (map_on places.old stretch) item.slot (Some item.key) }
+    ensures stands { IsStretch event_before slots places.new result }
+    ensures put { map_on slots places.new result ≡ slice_set (map_on slots places.old stretch) item.slot (Some item.key) }
 {
     places[stretch.end as usize] = item;
     Stretch {
@@ -132,23 +138,24 @@ fn to_front(places: &mut [HeapItem<AtZero>], stretch: Stretch) -> u32
     count
 }
 
-// An item more, among the others: from now on they may be out of order.
+// An item more, of a slot of so many, among the others: from now on they may be out of order.
 fn put_among<L: Ledger>(
     places: &mut [HeapItem<AtZero>],
     stretch: Stretch,
+    slots: u32,
     item: HeapItem<AtZero>,
     steps: &mut Steps<L>,
 ) -> Stretch
-    requires stands { IsStretch event_before places.old stretch }
-    requires slot_in { item.slot < length places.old }
-    requires free { key_at (map_on places.old stretch) item.slot ≡ None }
+    requires stands { IsStretch event_before slots places.old stretch }
+    requires room { length (standing places.old stretch) < length places.old }
+    requires slot_in { item.slot < slots }
+    requires free { key_at (map_on slots places.old stretch) item.slot ≡ None }
     ensures each { length places.new ≡ length places.old }
-    ensures stands { IsStretch event_before places.new result }
-    ensures put { map_on places.new result ≡ slice_set (map_on places.old stretch) item.slot (Some item.key) }
+    ensures stands { IsStretch event_before slots places.new result }
+    ensures put { map_on slots places.new result ≡ slice_set (map_on slots places.old stretch) item.slot (Some item.key) }
     ensures counted { (k : ℕ) → length places.old ≤ 2 ^ k → steps.new ≤ steps.old + k }
     ensures onward { steps.old ≤ steps.new }
 {
-    let slots = places.len() as u32;
     let end = to_front(places, stretch) + 1;
     enter(&mut places[..end as usize], slots, item, steps);
     Stretch {
@@ -158,47 +165,50 @@ fn put_among<L: Ledger>(
     }
 }
 
-/// Gives a slot, of as many as there are places, a key, at time 0. It has none.
+/// Gives a slot, of so many, a key, at time 0. It has none, and there is a place for one more.
 #[inline(always)]
 pub fn put<L: Ledger>(
     places: &mut [HeapItem<AtZero>],
     stretch: Stretch,
+    slots: u32,
     slot: u32,
     key: CompactKey,
     steps: &mut Steps<L>,
 ) -> Stretch
-    requires stands { IsStretch event_before places.old stretch }
-    requires slot_in { slot < length places.old }
-    requires free { key_at (map_on places.old stretch) slot ≡ None }
+    requires stands { IsStretch event_before slots places.old stretch }
+    requires room { length (standing places.old stretch) < length places.old }
+    requires slot_in { slot < slots }
+    requires free { key_at (map_on slots places.old stretch) slot ≡ None }
     ensures each { length places.new ≡ length places.old }
-    ensures stands { IsStretch event_before places.new result }
-    ensures put { map_on places.new result ≡ slice_set (map_on places.old stretch) slot (Some (at_time 0 key)) }
+    ensures stands { IsStretch event_before slots places.new result }
+    ensures put { map_on slots places.new result ≡ slice_set (map_on slots places.old stretch) slot (Some (at_time 0 key)) }
     ensures counted { (k : ℕ) → length places.old ≤ 2 ^ k → steps.new ≤ steps.old + (2 * k + 1) }
     ensures onward { steps.old ≤ steps.new }
 {
     let item = HeapItem::new(key, slot);
     if stretch.first >= stretch.end {
-        return append(places, empty(), item);
+        return append(places, empty(), slots, item);
     }
     if follows(places, stretch, &item, steps) {
-        return append(places, stretch, item);
+        return append(places, stretch, slots, item);
     }
-    put_among(places, stretch, item, steps)
+    put_among(places, stretch, slots, item, steps)
 }
 
-/// Takes out the least key, that of this slot: it is before each other.
+/// Takes out the least key, that of this slot of so many: it is before each other.
 #[inline(always)]
 pub fn take<L: Ledger>(
     places: &mut [HeapItem<AtZero>],
     stretch: Stretch,
+    slots: u32,
     slot: u32,
     steps: &mut Steps<L>,
 ) -> Stretch
-    requires stands { IsStretch event_before places.old stretch }
-    requires least { IsSoleLeast event_before (map_on places.old stretch) slot }
+    requires stands { IsStretch event_before slots places.old stretch }
+    requires least { IsSoleLeast event_before (map_on slots places.old stretch) slot }
     ensures each { length places.new ≡ length places.old }
-    ensures stands { IsStretch event_before places.new result }
-    ensures taken { map_on places.new result ≡ slice_set (map_on places.old stretch) slot None }
+    ensures stands { IsStretch event_before slots places.new result }
+    ensures taken { map_on slots places.new result ≡ slice_set (map_on slots places.old stretch) slot None }
     ensures counted { (k : ℕ) → length places.old ≤ 2 ^ k → steps.new ≤ steps.old + (2 * k + 1) }
     ensures onward { steps.old ≤ steps.new }
 {
@@ -208,7 +218,6 @@ pub fn take<L: Ledger>(
             ..stretch
         };
     }
-    let slots = places.len() as u32;
     leave(&mut places[..stretch.end as usize], slots, slot, steps);
     Stretch {
         end: stretch.end - 1,

@@ -13,7 +13,7 @@ use Rattle.goal_graph.specs.Fault.{op_count}
 use Rattle.goal_graph.specs.Limits.{AreCountsWithin}
 use Rattle.goal_graph.proofs.ForCallers.{ops_at_some, length-places_of_rank}
 use Rattle.sim_order.specs.Order.{IsOrder}
-use Rattle.sim_groups.specs.declared.groups.PlaceInGroup.{PlaceInGroup}
+use Rattle.sim_groups.specs.declared.slot_groups.PlaceInGroup.{PlaceInGroup}
 use Rattle.sim_heaps.specs.Map.{key_at, IsEmptyMap, IsLeast, no_keys}
 use Rattle.sim_groups.specs.Groups.{Grouped, AreHomes, heap_at, key_of_home, group_of_home}
 use Rattle.sim_queue.specs.Ranked.{size_of}

@@ -1,7 +1,7 @@
 -- A heap for each rank, and the least of each in a heap of ranks.
 use Rattle.std.specs.Prelude.{◌≡◌, ◌+◌, ◌<◌, ℕ, Bool, List, Option, Some, None, length, map, slice_get, slice_index, slice_set}
 use Rattle.goal_graph.specs.declared.action.OpId.{OpId}
-use Rattle.sim_groups.specs.declared.groups.PlaceInGroup.{PlaceInGroup}
+use Rattle.sim_groups.specs.declared.slot_groups.PlaceInGroup.{PlaceInGroup}
 use Rattle.sim_heaps.specs.Map.{key_at, IsEmptyMap, IsLeast}
 use Rattle.sim_groups.specs.Groups.{IsHoused, heap_at, key_of_home}
 use Rattle.sim_queue.specs.Ranked.{Ranked}

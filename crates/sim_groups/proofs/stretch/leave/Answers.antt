@@ -81,13 +81,8 @@ returns-clause-taken g c =
 pub returns-clause-counted : goal.returns-clause-counted
 returns-clause-counted g c =
     let items = c.args.items.now in
-    let front = all_but_last items in
-    let last = c.index-items-left.result in
     let some = some_items event_before event_laws c.args.slots items c.requires.heap.apart c.requires.heap.ordered c.args.slot c.requires.least in
-    let many : length front + 1 ≡ length items = length-front items some in
-    let left : 0 < length front = omega (arith, many, c.if-left-eq0.false) in
-    let at : slice_get items (length items - 1) ≡ Some last = slice_get_read items (length items) (length items - 1) last refl (omega (arith, some)) c.index-items-left.is in
-    let are : items ≡ front ++ last ∷ [] = with_last items some (length items - 1) last (omega (arith, some)) ∙ ap (λ y. front ++ y ∷ []) (get_or_from_slice_get items (length items - 1) last last at) in
+    let last = c.index-items-left.result in
     λ k few.
-    let counted = c.sink.ensures.counted k (omega (arith, items_fit c.args.slots items c.requires.heap.apart, few, length-set front 0 last, many)) in
+    let counted = c.sink.ensures.counted k (omega (arith, few, length-set (all_but_last items) 0 last, length-front items some)) in
     omega (arith, counted)

@@ -1,4 +1,4 @@
-use Rattle.std.proofs.Common.{◌+◌, ◌∙◌, List, length, sym, ap, subst, arith}
+use Rattle.std.proofs.Common.{◌+◌, ◌∙◌, List, sym, ap, subst, arith}
 use Rattle.std.proofs.lemmas.List.{length-take-le}
 use Rattle.goal_graph.specs.declared.action.Timed.{Timed}
 use Rattle.sim_order.specs.Events.{event_before}
@@ -16,7 +16,7 @@ slice_bounds-enter-end g c =
     let moved = c.to_front-end.new.places in
     let count = c.to_front-end.result in
     let front = c.to_front-end.ensures in
-    omega (arith, fit places s is c.args.item c.requires.slot_in c.requires.free, count_is places s is c.args.item c.requires.slot_in c.requires.free moved front.each count front.same front.fits, front.each)
+    omega (arith, fit c.args.slots places s is c.requires.room, count_is c.args.slots places s is c.requires.room moved front.each count front.same front.fits, front.each)
 
 pub slice_bounds-enter-end-2 : goal.slice_bounds-enter-end-2
 slice_bounds-enter-end-2 g c =
@@ -26,7 +26,7 @@ slice_bounds-enter-end-2 g c =
     let moved = c.to_front-end.new.places in
     let count = c.to_front-end.result in
     let front = c.to_front-end.ensures in
-    sym (length-take-le (count + 1) moved (omega (arith, fit places s is c.args.item c.requires.slot_in c.requires.free, count_is places s is c.args.item c.requires.slot_in c.requires.free moved front.each count front.same front.fits, front.each)))
+    sym (length-take-le (count + 1) moved (omega (arith, fit c.args.slots places s is c.requires.room, count_is c.args.slots places s is c.requires.room moved front.each count front.same front.fits, front.each)))
 
 pub enter-requires-clause-heap : goal.enter-requires-clause-heap
 enter-requires-clause-heap g c =
@@ -36,7 +36,7 @@ enter-requires-clause-heap g c =
     let moved = c.to_front-end.new.places in
     let count = c.to_front-end.result in
     let front = c.to_front-end.ensures in
-    subst (λ (xs : List (Item Timed)). IsTopHeap event_before xs (length places) (length places)) (sym (before_free places s is c.args.item c.requires.slot_in c.requires.free moved front.each count front.same front.fits)) is.heap
+    subst (λ (xs : List (Item Timed)). IsTopHeap event_before xs c.args.slots c.args.slots) (sym (before_free c.args.slots places s is c.requires.room moved front.each count front.same front.fits)) is.heap
 
 pub enter-requires-clause-free : goal.enter-requires-clause-free
 enter-requires-clause-free g c =
@@ -46,7 +46,7 @@ enter-requires-clause-free g c =
     let moved = c.to_front-end.new.places in
     let count = c.to_front-end.result in
     let front = c.to_front-end.ensures in
-    ap (λ xs. key_at (placed (length places) xs) c.args.item.slot) (before_free places s is c.args.item c.requires.slot_in c.requires.free moved front.each count front.same front.fits) ∙ c.requires.free
+    ap (λ xs. key_at (placed c.args.slots xs) c.args.item.slot) (before_free c.args.slots places s is c.requires.room moved front.each count front.same front.fits) ∙ c.requires.free
 
 pub returns-clause-stands : goal.returns-clause-stands
 returns-clause-stands g c =
@@ -56,7 +56,7 @@ returns-clause-stands g c =
     let moved = c.to_front-end.new.places in
     let count = c.to_front-end.result in
     let front = c.to_front-end.ensures in
-    among_stretch places s is c.args.item c.requires.slot_in c.requires.free moved front.each count front.same front.fits c.enter.new.items c.enter.ensures.each c.enter.ensures.heap
+    among_stretch c.args.slots places s is c.requires.room moved front.each count front.same front.fits c.enter.new.items c.enter.ensures.each c.enter.ensures.heap
 
 pub returns-clause-put : goal.returns-clause-put
 returns-clause-put g c =
@@ -66,4 +66,4 @@ returns-clause-put g c =
     let moved = c.to_front-end.new.places in
     let count = c.to_front-end.result in
     let front = c.to_front-end.ensures in
-    among_map places s is c.args.item c.requires.slot_in c.requires.free moved front.each count front.same front.fits c.enter.new.items c.enter.ensures.each c.enter.ensures.put
+    among_map c.args.slots places s is c.requires.room moved front.each count front.same front.fits c.enter.new.items c.enter.ensures.each c.args.item c.enter.ensures.put

@@ -1,19 +1,26 @@
-use Rattle.std.proofs.Common.{subst, arith}
+use Rattle.std.proofs.Common.{◌∙◌, subst, arith}
 use Rattle.std.specs.Option.{IfSome}
 use Rattle.goal_graph.specs.declared.action.Timed.{Timed}
 use Rattle.sim_order.specs.Events.{event_before}
-use Rattle.sim_groups.specs.Groups.{Grouped, IsEmptyGroup, IsLeastOf}
+use Rattle.sim_groups.specs.Groups.{Grouped, IsEmptyGroup, IsLeastOf, homes_at_slots}
+use Rattle.sim_groups.proofs.AtSlots.{grouped_is}
 use Rattle.sim_groups.proofs.Grouping.{no_group, empty_group, least_of_answer}
 use Rattle.sim_groups.proofs.groups.Groups.least_of.Goals as goal
 
 pub returns-then-group-len-clause-none : goal.returns-then-group-len-clause-none
 returns-then-group-len-clause-none c =
-    λ e. subst (λ (q : Grouped Timed). IsEmptyGroup q c.args.group) c.self.view_is (no_group c.self.inside.homes.items c.self.inside.heaps c.self.invariant c.args.group (omega (arith, c.if-group-len.true, c.len.ensures)))
+    let gs = c.self.inside.groups.items in
+    let maps = c.self.inside.heaps.maps in
+    λ e. subst (λ (q : Grouped Timed). IsEmptyGroup q c.args.group) (grouped_is gs maps ∙ c.self.view_is) (no_group (homes_at_slots gs) maps c.self.invariant.housed c.args.group (omega (arith, c.if-group-len.true, c.len.ensures)))
 
 pub returns-clause-none : goal.returns-clause-none
 returns-clause-none c =
-    λ e. subst (λ (q : Grouped Timed). IsEmptyGroup q c.args.group) c.self.view_is (empty_group c.self.inside.homes.items c.self.inside.heaps c.self.invariant c.args.group (c.least_of.ensures.none e))
+    let gs = c.self.inside.groups.items in
+    let maps = c.self.inside.heaps.maps in
+    λ e. subst (λ (q : Grouped Timed). IsEmptyGroup q c.args.group) (grouped_is gs maps ∙ c.self.view_is) (empty_group (homes_at_slots gs) maps c.self.invariant.housed c.args.group (c.least_of.ensures.none e))
 
 pub returns-clause-least : goal.returns-clause-least
 returns-clause-least c =
-    subst (λ (q : Grouped Timed). IfSome c.least_of.result (IsLeastOf event_before q c.args.group)) c.self.view_is (least_of_answer c.self.inside.homes.items c.self.inside.heaps c.self.invariant event_before c.args.group c.least_of.result c.least_of.ensures.least)
+    let gs = c.self.inside.groups.items in
+    let maps = c.self.inside.heaps.maps in
+    subst (λ (q : Grouped Timed). IfSome c.least_of.result (IsLeastOf event_before q c.args.group)) (grouped_is gs maps ∙ c.self.view_is) (least_of_answer (homes_at_slots gs) maps c.self.invariant.housed event_before c.args.group c.least_of.result c.least_of.ensures.least)

@@ -3,10 +3,10 @@ use Rattle.std.proofs.lemmas.Bool.{cases_lt}
 use Rattle.std.proofs.lemmas.List.{take_more, take_all, get_or_past}
 use Rattle.std.proofs.lemmas.List.Elements.{All-get_or, All-from_get_or}
 use Rattle.std.proofs.lemmas.List.Sums.{sum_by-le, sum_by-set}
-use Rattle.sim_groups.specs.declared.groups.PlaceInGroup.{PlaceInGroup}
+use Rattle.sim_groups.specs.declared.slot_groups.PlaceInGroup.{PlaceInGroup}
 use Rattle.sim_groups.specs.Groups.{AreHomes}
 use Rattle.sim_groups.proofs.Homes.{no_homes, home_given, counted, counted_within}
-use Rattle.sim_groups.proofs.groups.homes.Goals as goal
+use Rattle.sim_groups.proofs.slot_groups.homes.Goals as goal
 
 pub slots-init : goal.slots-init
 slots-init c = record {

@@ -1,6 +1,6 @@
 use Rattle.std.proofs.Common.{◌≡◌, ◌≤◌, ℕ, take, slice_index, sum}
 use Rattle.sim_groups.specs.Groups.{AreHomes}
-use Rattle.sim_groups.proofs.groups.homes.Given as goal
+use Rattle.sim_groups.proofs.slot_groups.homes.Given as goal
 
 abbrev pub invariant-slots : goal.invariant-slots
 invariant-slots l = record {
