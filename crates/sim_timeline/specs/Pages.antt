@@ -1,5 +1,5 @@
 -- What is told of some of the operations, while the first line is made and the lines are printed.
-use Rattle.std.specs.Prelude.{ℕ, ◌≡◌, ◌&&◌, Bool, not, List, Option, is_some, drop, count_by}
+use Rattle.std.specs.Prelude.{ℕ, ◌≡◌, ◌&&◌, Bool, not, List, length, Option, is_some, take, drop, count_by}
 use Rattle.std.specs.List.{flat_map}
 use Rattle.goal_graph.specs.declared.action.OpId.{OpId}
 use Rattle.goal_graph.specs.declared.action.Timed.{Timed}
@@ -13,6 +13,10 @@ use Rattle.sim_timeline.specs.Timeline.{is_send, is_unread, end_or_zero, line_of
 -- a message that has begun and that no receive takes, by its kind, its start and its partner
 abbrev pub is_unread_send : Option Kind → Option ℕ → Option OpId → Bool
 is_unread_send kind start partner = is_send kind && is_some start && not (is_some partner)
+
+-- how many operations the ranks before this one have
+abbrev pub before_rank : List Plan → ℕ → ℕ
+before_rank plans rank = length (operations (take rank plans))
 
 module _ (plans : List Plan) (costs : CostModel) (h : List Timed) where
   -- what the first line tells of these operations

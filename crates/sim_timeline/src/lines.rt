@@ -1,10 +1,11 @@
 // The lines of the timeline.
 ghost use Rattle.std.specs.Prelude.{◌≡◌, ◌+◌, ◌-◌, ◌++◌, ◌<◌, ◌≤◌, ◌^◌, length, take, OnOk, IfOk, Some, is_some, unwrap_or, max, count_by, if◌then◌else◌};
+ghost use Rattle.goal_base.specs.declared.limits.TheConstants.{MAX_OPS};
 ghost use Rattle.goal_graph.specs.Schedule.{operations};
 ghost use Rattle.goal_graph.specs.Fault.{IsOp};
 ghost use Rattle.sim_params.specs.Stuck.{lacks_end};
 ghost use Rattle.sim_timeline.specs.Timeline.{line_of, summary_line, kind_text, partner_text, match_text, first_line};
-ghost use Rattle.sim_timeline.specs.Pages.{IsSummary, is_unread_send};
+ghost use Rattle.sim_timeline.specs.Pages.{IsSummary, before_rank, is_unread_send};
 
 use goal_base::{NoMemory, TextOut, put_pair, put_time, put_word};
 use goal_graph::{Kind, Op, OpId, Sched};
@@ -88,7 +89,35 @@ impl Summary {
     }
 }
 
-// The summary of all operations, of an engine whose run is over.
+// The summary of the operations of the ranks before one, with those of its own.
+fn sum_rank<C: Costs, H: History>(
+    summary: Summary,
+    sched: &Sched,
+    engine: &Engine<'_, C, H>,
+    rank: u32,
+) -> Summary
+    requires same { engine.now.plans ≡ sched.now }
+    requires few { length (operations sched.now) ≤ MAX_OPS }
+    requires rank { rank < length sched.now }
+    requires so_far { IsSummary sched.now (C.model engine.now.costs) engine.now.history
+        (take (before_rank sched.now rank) (operations sched.now)) summary.stuck summary.unread summary.finish }
+    requires few_stuck { summary.stuck ≤ before_rank sched.now rank }
+    requires few_unread { summary.unread ≤ before_rank sched.now rank }
+    ensures summary { IsSummary sched.now (C.model engine.now.costs) engine.now.history
+        (take (before_rank sched.now (rank + 1)) (operations sched.now)) result.stuck result.unread result.finish }
+    ensures few_stuck { result.stuck ≤ before_rank sched.now (rank + 1) }
+    ensures few_unread { result.unread ≤ before_rank sched.now (rank + 1) }
+{
+    let mut summary = summary;
+    for op in 0..sched.op_count(rank) {
+        let id = OpId { rank, op };
+        summary = summary.with(sched.op(id), engine.record(id));
+    }
+    summary
+}
+
+// The summary of all operations, of an engine whose run is over. It goes from rank to rank: the operations of a rank, and what
+// is known of them, lie in order.
 fn sum_up<C: Costs, H: History>(sched: &Sched, engine: &Engine<'_, C, H>) -> Summary
     requires same { engine.now.plans ≡ sched.now }
     ensures { IsSummary sched.now (C.model engine.now.costs) engine.now.history (operations sched.now)
@@ -99,8 +128,9 @@ fn sum_up<C: Costs, H: History>(sched: &Sched, engine: &Engine<'_, C, H>) -> Sum
         unread: 0,
         finish: 0,
     };
-    for id in sched.operations() {
-        summary = summary.with(sched.op(*id), engine.record(*id));
+    let _count = sched.count();
+    for rank in 0..sched.plans().len() as u32 {
+        summary = sum_rank(summary, sched, engine, rank);
     }
     summary
 }

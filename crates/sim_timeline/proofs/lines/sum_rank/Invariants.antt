@@ -1,0 +1,10 @@
+use Rattle.std.proofs.Common.{◌+◌, ◌≤◌, take}
+use Rattle.goal_graph.specs.Schedule.{operations}
+use Rattle.sim_timeline.specs.Pages.{IsSummary, before_rank}
+use Rattle.sim_timeline.proofs.lines.sum_rank.Given as goal
+
+-- what the operations so far tell
+abbrev pub invariant-loop-op : goal.invariant-loop-op
+invariant-loop-op g l =
+    let count = before_rank l.sched l.rank + l.op in
+    IsSummary l.sched (g.C.Costs.model l.engine.costs) l.engine.history (take count (operations l.sched)) l.summary.stuck l.summary.unread l.summary.finish × (l.summary.stuck ≤ count) × (l.summary.unread ≤ count)
