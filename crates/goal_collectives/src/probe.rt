@@ -14,17 +14,17 @@ pub const MAX_ROUNDS: u32 = 300_000;
 
 const RANKS: u32 = 64;
 
-// Ranks without operations.
-fn idle_ranks(alloc: Global) -> Result<Vec<RankPlan>, AllocError>
+// Ranks without operations. Each has room for its share of so many rounds, and for a third more of it, since the ranks of a
+// round are drawn: three operations in 64, and two dependencies.
+fn idle_ranks(alloc: Global, rounds: u32) -> Result<Vec<RankPlan>, AllocError>
     ensures { IfOk result (λ plans. plans.items ≡ idle_ranks RANKS) }
 {
     let mut plans = Vec::new(alloc);
     for _rank in 0..RANKS {
-        plans.push(RankPlan {
-            ops: Vec::new(alloc),
-            deps: Vec::new(alloc),
-            notes: Vec::new(alloc),
-        })?;
+        let ops = Vec::with_capacity(alloc, (rounds / 16) as usize)?;
+        let deps = Vec::with_capacity(alloc, (rounds / 24) as usize)?;
+        let notes = Vec::new(alloc);
+        plans.push(RankPlan { ops, deps, notes })?;
     }
     Ok(plans)
 }
@@ -147,7 +147,7 @@ fn probe_plans(alloc: Global, rounds: u32, seed: u64) -> Result<Vec<RankPlan>, A
     requires { rounds ≤ MAX_ROUNDS }
     ensures { IfOk result (λ plans. plans.items ≡ probed rounds seed) }
 {
-    let mut plans = idle_ranks(alloc)?;
+    let mut plans = idle_ranks(alloc, rounds)?;
     let mut draws = Draws::new(seed);
     for number in 0..rounds {
         add_round(&mut plans, number, draws.round())?;

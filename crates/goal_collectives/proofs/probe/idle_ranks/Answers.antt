@@ -10,6 +10,6 @@ loop-rank-init c = c.new-plans.ensures.items
 
 pub loop-rank-preserved : goal.loop-rank-preserved
 loop-rank-preserved c =
-    let p : Plan = record { ops = c.new.result.items; deps = c.new-in-loop-rank.result.items; notes = c.new-in-loop-rank-2.result.items } in
-    let none : p ≡ idle = rw (c.new.ensures.items, c.new-in-loop-rank.ensures.items, c.new-in-loop-rank-2.ensures.items) refl in
+    let p : Plan = record { ops = c.in_ok-ops.ops.items; deps = c.in_ok-deps.deps.items; notes = c.new-notes.result.items } in
+    let none : p ≡ idle = rw (c.in_ok-ops.ensures.items, c.in_ok-deps.ensures.items, c.new-notes.ensures.items) refl in
     pushed_idle c.loop-rank._rank p c.loop-rank.plans.items c.push.new.self.items c.loop-rank.invariant none c.in_ok-push.ensures.items
