@@ -21,7 +21,6 @@ slice_bounds-take-end g c =
     let within : group < length plots = omega (arith, c.requires.group_in, ap (λ (r : Roomed Timed). length r.maps) c.self.view_is, length-map plots (map_of_items slots items)) in
     let at = part_read plots group plot within c.index-plot.ensures in
     let same : c.deref_mut.result.now ≡ items = c.deref_mut.ensures.value in
-    let n = plot.start + plot.room - plot.start in
     omega (arith, plot_in slots plots items heaps group plot at, ap length same, c.self.inside.items.ok.0)
 
 pub take-stretch-requires-clause-stands : goal.take-stretch-requires-clause-stands
