@@ -103,10 +103,11 @@ pub struct Entry {
     pub work: Work,
     /// Its times.
     pub times: Times,
-    /// The operation that it is paired with.
-    pub paired: Partner,
     /// How many of the moments that it needs are not there yet.
     pub unmet: u32,
+    /// The operation that it is paired with. It stands last: the C library lets a large table begin 16 bytes into a line of memory, so
+    /// what stands before mostly comes with one line.
+    pub paired: Partner,
 }
 
 /// What an action changes of what is known of its operation: its times, and its partner where the action pairs it.
