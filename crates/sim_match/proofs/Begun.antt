@@ -4,7 +4,7 @@ use Rattle.std.proofs.lemmas.Option.{same_Some, none-some}
 use Rattle.std.proofs.lemmas.List.{length-map, length-replicate}
 use Rattle.std.proofs.lemmas.List.Elements.{All-nil}
 use Rattle.goal_graph.specs.declared.action.OpId.{OpId}
-use Rattle.goal_graph.specs.declared.action.Class.TheVariants.{Arrive, Post}
+use Rattle.goal_graph.specs.declared.action.Class.TheVariants.{Post}
 use Rattle.goal_graph.specs.Schedule.{Plan, operations}
 use Rattle.goal_graph.specs.Fault.{IsAccepted}
 use Rattle.goal_graph.specs.Matching.{is_paired, pairs, partner}
@@ -18,6 +18,7 @@ use Rattle.sim_match.specs.Capacities.{empty_list, IsCapacity, AreCapacities}
 use Rattle.sim_match.specs.Matcher.{PatternLists, side_by_side, IsMatchList, receives_of, sends_of, AreLists, Mirrors}
 use Rattle.sim_match.proofs.Entries.{entries_none}
 use Rattle.sim_match.proofs.Marks.{no_marks}
+use Rattle.sim_match.proofs.Unmet.{unmet_none}
 use Rattle.sim_match.proofs.Sides.{sides_map}
 
 empty_skips : {X : Type 0} (P : X → Type 0) (n : ℕ) → All P (take n [])
@@ -59,5 +60,5 @@ begins plans keys capacities marks accepted listed counted unmarked = subst (λ 
     begun : (list : ℕ) (c : Capacity) → IsCapacity plans keys (operations plans) list c → AreLists plans keys (is_paired (pairs plans [])) list (receives_of plans keys [] list) (sends_of plans keys [] list) (empty_lists c)
     begun list c is = record {
       receives = begun_match_list _ _ _ c.receives (ap (filter (λ (e : MatchEntry). in_list plans keys list e.op)) (entries_none Post)) (omega (arith, is.receives));
-      sends = begun_match_list _ _ _ c.sends (ap (filter (λ (e : MatchEntry). for_list plans keys list e.op)) (entries_none Arrive)) (omega (arith, is.sends));
+      sends = begun_match_list _ _ _ c.sends (ap (filter (λ (e : MatchEntry). for_list plans keys list e.op)) (unmet_none plans)) (omega (arith, is.sends));
     }

@@ -1,5 +1,5 @@
 -- What a match table keeps, after one more post or arrival.
-use Rattle.std.proofs.Common.{ℕ, zero, suc, ◌+◌, ◌<◌, ◌≡◌, ◌&&◌, ◌||◌, Bool, true, false, not, if◌then◌else◌, inl, inr, List, [], ◌∷◌, ◌++◌, length, Option, Some, None, All, filter, find, map, reverse, take, get_or, slice_get, slice_set, count_by, refl, arith, sym, ap, ◌∙◌, subst, eq-eqb, append-nil}
+use Rattle.std.proofs.Common.{ℕ, zero, suc, ◌+◌, ◌<◌, ◌≡◌, ◌&&◌, ◌||◌, Bool, true, false, not, if◌then◌else◌, inl, inr, List, [], ◌∷◌, ◌++◌, length, Option, Some, None, is_none, All, filter, find, map, reverse, take, get_or, slice_get, slice_set, count_by, refl, arith, sym, ap, ◌∙◌, subst, eq-eqb, append-nil}
 use Rattle.std.specs.Option.{IfSome, option_map}
 use Rattle.std.specs.List.{list_any}
 use Rattle.std.proofs.lemmas.Bool.{cases_eq, ne_eqb}
@@ -22,12 +22,13 @@ use Rattle.sim_match.specs.PostsAndArrivals.{send_for, receive_for}
 use Rattle.sim_match.specs.Waiting.{is_message}
 use Rattle.sim_match.specs.Patterns.{same_number, list_of, lists_for, in_list, for_list, IsListed}
 use Rattle.sim_match.specs.MatchLists.{is_marked, entries_of, earlier, IsReady, IsFirst, pushed}
-use Rattle.sim_match.specs.Matcher.{class_of_kind, event_of, PatternLists, actions_of, IsNew, ArePaired, IsMatchList, receives_of, sends_of, AreLists, Mirrors, IsJoined}
+use Rattle.sim_match.specs.Matcher.{unmet_of, stands_in, class_of_kind, event_of, PatternLists, actions_of, IsNew, ArePaired, IsMatchList, receives_of, sends_of, AreLists, Mirrors, IsJoined}
 use Rattle.sim_match.proofs.Ops.{post_suits, arrival_suits, actions_fewer}
 use Rattle.sim_match.proofs.Pairs.{in_pair, paired_more, pairs_with}
 use Rattle.sim_match.proofs.Written.{slice_get_written, slice_get_elsewhere}
 use Rattle.sim_match.proofs.Finding.{find_alike, find_filter, find_none, find_either, filter_last, filter_last_passes}
 use Rattle.sim_match.proofs.PatternLemmas.{fits_list, fits_any, lists_once, lists_within}
+use Rattle.sim_match.proofs.Unmet.{unmet_other, unmet_arrival, unmet_all, unmet_fewer, unmet_found}
 use Rattle.sim_match.proofs.Entries.{entries_same, entries_other, entries_order, oldest_entry, posted_receives, posted_exist, arrived_exist, entries_fewer}
 use Rattle.sim_match.proofs.MatchListLemmas.{match_list_ready, match_list_kept, match_list_found, match_list_pushed, match_list_later}
 
@@ -117,16 +118,19 @@ module _ (plans : List Plan) (keys : List Pattern) (h : List Act) where
       ap (filter (λ (e : MatchEntry). in_list plans keys l e.op)) (entries_same Post (post_of x) h refl) ∙ filter_last (λ (e : MatchEntry). in_list plans keys l e.op) (entries_of Post h) (entry x) fails
 
   sends_same : (x : OpId) (l : ℕ) → sends_of plans keys (post_of x ∷ h) l ≡ sends_of plans keys h l
-  sends_same x l = ap (filter (λ (e : MatchEntry). for_list plans keys l e.op)) (entries_other Arrive (post_of x) h refl)
+  sends_same x l = ap (filter (λ (e : MatchEntry). for_list plans keys l e.op)) (unmet_other plans (post_of x) h refl)
 
   -- and after an arrival
   receives_stay : (m : OpId) (l : ℕ) → receives_of plans keys (arrival_of m ∷ h) l ≡ receives_of plans keys h l
   receives_stay m l = ap (filter (λ (e : MatchEntry). in_list plans keys l e.op)) (entries_other Post (arrival_of m) h refl)
 
-  sends_after : (m : OpId) (l : ℕ) → sends_of plans keys (arrival_of m ∷ h) l ≡ sends_of plans keys h l ++ (if list_any (same_number (Some l)) (lists_for plans keys m) then entry m ∷ [] else [])
+  -- a send that has met no receive stands in its lists
+  sends_then : (m : OpId) (l : ℕ) (met : Option MatchEntry) → new_pair plans (pairs plans h) h Arrive m ≡ option_map (λ (z : OpId). pair_of m z) (option_map (λ (e : MatchEntry). e.op) met) → sends_of plans keys (arrival_of m ∷ h) l ≡ sends_of plans keys h l ++ (if list_any (same_number (Some l)) (stands_in met (lists_for plans keys m)) then entry m ∷ [] else [])
   unfolding for_list
-  sends_after m l =
-      ap (filter (λ (e : MatchEntry). for_list plans keys l e.op)) (entries_same Arrive (arrival_of m) h refl) ∙ filter-append (λ (e : MatchEntry). for_list plans keys l e.op) (entries_of Arrive h) (entry m ∷ [])
+  sends_then m l None makes =
+      ap (filter (λ (e : MatchEntry). for_list plans keys l e.op)) (unmet_arrival plans (arrival_of m) h refl ∙ ap (λ (o : Option Pair). unmet_of plans h ++ (if is_none o then entry m ∷ [] else [])) makes) ∙ filter-append (λ (e : MatchEntry). for_list plans keys l e.op) (unmet_of plans h) (entry m ∷ [])
+  sends_then m l (Some f) makes =
+      ap (filter (λ (e : MatchEntry). for_list plans keys l e.op)) (unmet_arrival plans (arrival_of m) h refl ∙ ap (λ (o : Option Pair). unmet_of plans h ++ (if is_none o then entry m ∷ [] else [])) makes ∙ append-nil (unmet_of plans h)) ∙ sym (append-nil (sends_of plans keys h l))
 
 module _ (plans : List Plan) (keys : List Pattern) (lists : List PatternLists) (marks : List Bool) (h : List Act) (m : Mirrors plans keys lists marks h) where
   abbrev paired : OpId → Bool
@@ -140,7 +144,7 @@ module _ (plans : List Plan) (keys : List Pattern) (lists : List PatternLists) (
   receives_exist list = All-filter (λ (e : MatchEntry). in_list plans keys list e.op) (λ (e : MatchEntry). IsOp plans e.op) (entries_of Post h) (posted_exist plans h m.actions)
 
   sends_exist : (list : ℕ) → All (λ (e : MatchEntry). IsOp plans e.op) (sends_of plans keys h list)
-  sends_exist list = All-filter (λ (e : MatchEntry). for_list plans keys list e.op) (λ (e : MatchEntry). IsOp plans e.op) (entries_of Arrive h) (arrived_exist plans h m.actions)
+  sends_exist list = All-filter (λ (e : MatchEntry). for_list plans keys list e.op) (λ (e : MatchEntry). IsOp plans e.op) (unmet_of plans h) (unmet_all plans (λ (e : MatchEntry). IsOp plans e.op) h (arrived_exist plans h m.actions))
 
   -- a receive that is still to be posted
   module _ (x : OpId) (r : IsReceive plans x) (fresh : happened Post x h ≡ false) where
@@ -190,7 +194,7 @@ module _ (plans : List Plan) (keys : List Pattern) (lists : List PatternLists) (
         module _ (v : PatternLists) (met : Option MatchEntry) (first : IsFirst (is_marked (operations plans) marks) w.sends v.sends met) (grown : v.receives ≡ pushed w.receives (entry plans keys h x)) where
           post_met : met ≡ find (λ (e : MatchEntry). not (paired e.op) && fits plans x e.op) (entries_of Arrive h)
           post_met =
-              match_list_found _ _ _ w.sends (old).sends plans marks m.marked v.sends met first ∙ find_filter (λ (e : MatchEntry). for_list plans keys list e.op) (λ (e : MatchEntry). not (paired e.op)) (entries_of Arrive h) ∙ find_agree (λ (e : MatchEntry). not (paired e.op) && for_list plans keys list e.op) (λ (e : MatchEntry). not (paired e.op) && fits plans x e.op) (λ e. ap (λ (b : Bool). not (paired e.op) && b) (sym (fits_list plans keys x e.op list r is))) (entries_of Arrive h)
+              match_list_found _ _ _ w.sends (old).sends plans marks m.marked v.sends met first ∙ find_filter (λ (e : MatchEntry). for_list plans keys list e.op) (λ (e : MatchEntry). not (paired e.op)) (unmet_of plans h) ∙ unmet_found plans h (λ (e : MatchEntry). for_list plans keys list e.op) ∙ find_agree (λ (e : MatchEntry). not (paired e.op) && for_list plans keys list e.op) (λ (e : MatchEntry). not (paired e.op) && fits plans x e.op) (λ e. ap (λ (b : Bool). not (paired e.op) && b) (sym (fits_list plans keys x e.op list r is))) (entries_of Arrive h)
 
           post_makes : new_pair plans (pairs plans h) h Post x ≡ option_map (λ (z : OpId). pair_of z x) (option_map (λ (e : MatchEntry). e.op) met)
           post_makes =
@@ -255,15 +259,15 @@ module _ (plans : List Plan) (keys : List Pattern) (lists : List PatternLists) (
     meets numbers e = not (paired e.op) && list_any (same_number (list_of plans keys e.op)) numbers
 
     -- before any of its lists
-    pub joined_none : IsJoined plans keys h y [] lists None
+    pub joined_none : IsJoined plans keys h y [] [] lists None
     joined_none = record {
       one_each = m.one_each;
       each = λ l w e. let before = m.each l w e in record { receives = before.receives; sends = subst (λ (es : List MatchEntry). IsMatchList es paired (count_by (for_list plans keys l) (operations plans)) w.sends) (sym (append-nil (sends_of plans keys h l))) before.sends };
       found = sym (find_none (meets []) (entries_of Post h) (λ k d b. and_none (not (paired (get_or (entries_of Post h) k d).op))));
     }
 
-    -- after some of them
-    module _ (k : ℕ) (d : Option ℕ) (inside : k < length (lists_for plans keys y)) (now : List PatternLists) (met : Option MatchEntry) (j : IsJoined plans keys h y (take k (lists_for plans keys y)) now met) where
+    -- at one of them
+    module _ (k : ℕ) (d : Option ℕ) (inside : k < length (lists_for plans keys y)) where
       abbrev numbers : List (Option ℕ)
       numbers = lists_for plans keys y
 
@@ -271,15 +275,24 @@ module _ (plans : List Plan) (keys : List Pattern) (lists : List PatternLists) (
       more test = list_any_more test numbers k d inside
 
       -- a pattern that the schedule doesn't have
-      pub joined_without : get_or (lists_for plans keys y) k d ≡ None → IsJoined plans keys h y (take (k + 1) (lists_for plans keys y)) now met
-      joined_without absent = record {
-        one_each = j.one_each;
-        each = λ l w e. let before = j.each l w e in record { receives = before.receives; sends = subst (λ (b : Bool). IsMatchList (sends_of plans keys h l ++ (if b then entry plans keys h y ∷ [] else [])) paired (count_by (for_list plans keys l) (operations plans)) w.sends) (sym (same (Some l))) before.sends };
-        found = j.found ∙ find_agree (meets (take k numbers)) (meets (take (k + 1) numbers)) (λ e. ap (λ (b : Bool). not (paired e.op) && b) (sym (same (list_of plans keys e.op)))) (entries_of Post h);
-      }
-        where
-          same : (o : Option ℕ) → list_any (same_number o) (take (k + 1) numbers) ≡ list_any (same_number o) (take k numbers)
-          same o = more (same_number o) ∙ ap (λ (b : Bool). list_any (same_number o) (take k numbers) || b) (ap (same_number o) absent ∙ no_number o) ∙ or_none (list_any (same_number o) (take k numbers))
+      module _ (absent : get_or (lists_for plans keys y) k d ≡ None) where
+        as_before : (o : Option ℕ) → list_any (same_number o) (take (k + 1) numbers) ≡ list_any (same_number o) (take k numbers)
+        as_before o =
+            more (same_number o) ∙ ap (λ (b : Bool). list_any (same_number o) (take k numbers) || b) (ap (same_number o) absent ∙ no_number o) ∙ or_none (list_any (same_number o) (take k numbers))
+
+        pub sought_without : (stood : List (Option ℕ)) (now : List PatternLists) (met : Option MatchEntry) → IsJoined plans keys h y stood (take k (lists_for plans keys y)) now met → IsJoined plans keys h y stood (take (k + 1) (lists_for plans keys y)) now met
+        sought_without stood now met j = record {
+          one_each = j.one_each;
+          each = j.each;
+          found = j.found ∙ find_agree (meets (take k numbers)) (meets (take (k + 1) numbers)) (λ e. ap (λ (b : Bool). not (paired e.op) && b) (sym (as_before (list_of plans keys e.op)))) (entries_of Post h);
+        }
+
+        pub stood_without : (looked : List (Option ℕ)) (now : List PatternLists) (met : Option MatchEntry) → IsJoined plans keys h y (take k (lists_for plans keys y)) looked now met → IsJoined plans keys h y (take (k + 1) (lists_for plans keys y)) looked now met
+        stood_without looked now met j = record {
+          one_each = j.one_each;
+          each = λ l w e. let before = j.each l w e in record { receives = before.receives; sends = subst (λ (b : Bool). IsMatchList (sends_of plans keys h l ++ (if b then entry plans keys h y ∷ [] else [])) paired (count_by (for_list plans keys l) (operations plans)) w.sends) (sym (as_before (Some l))) before.sends };
+          found = j.found;
+        }
 
       -- a pattern that it has
       module _ (i : ℕ) (is : get_or (lists_for plans keys y) k d ≡ Some i) where
@@ -291,22 +304,59 @@ module _ (plans : List Plan) (keys : List Pattern) (lists : List PatternLists) (
             get_or_from (z ∷ zs) zero d o b e = e
             get_or_from (z ∷ zs) (suc k) d o b e = get_or_from zs k d o (omega arith) e
 
-        unseen : list_any (same_number (Some i)) (take k numbers) ≡ false
-        unseen = lists_once plans keys y s k i at
+        module _ (stood looked : List (Option ℕ)) (now : List PatternLists) (met : Option MatchEntry) (j : IsJoined plans keys h y stood looked now met) where
+          pub join_within : i < length now
+          join_within = let within = lists_within plans keys y s k i at in omega (arith, within, j.one_each)
 
-        pub join_within : i < length now
-        join_within = let within = lists_within plans keys y s k i at in omega (arith, within, j.one_each)
+          join_was : (w : PatternLists) → w ≡ get_or now i w → AreLists plans keys paired i (receives_of plans keys h i) (joins stood i) w
+          join_was w read = j.each i w (slice_get_read now (length now) i w refl join_within read)
 
-        module _ (w : PatternLists) (read : w ≡ get_or now i w) where
-          was : AreLists plans keys paired i (receives_of plans keys h i) (joins (take k (lists_for plans keys y)) i) w
-          was = j.each i w (slice_get_read now (length now) i w refl join_within read)
+          pub join_ready : (w : PatternLists) → w ≡ get_or now i w → IsReady plans marks w.receives
+          join_ready w read =
+              match_list_ready _ _ _ w.receives (join_was w read).receives plans marks m.marked (receives_exist i) m.all_marks
+
+        -- its first receive that waits is looked for
+        module _ (stood : List (Option ℕ)) (now : List PatternLists) (met : Option MatchEntry) (j : IsJoined plans keys h y stood (take k (lists_for plans keys y)) now met) (w : PatternLists) (read : w ≡ get_or now i w) (v : PatternLists) (first : Option MatchEntry) (f : IsFirst (is_marked (operations plans) marks) w.receives v.receives first) (same : v.sends ≡ w.sends) where
+          sought_was : AreLists plans keys paired i (receives_of plans keys h i) (joins stood i) w
+          sought_was = join_was stood (take k (lists_for plans keys y)) now met j w read
+
+          sought_here : AreLists plans keys paired i (receives_of plans keys h i) (joins stood i) v
+          sought_here = record {
+            receives = match_list_kept _ _ _ w.receives (sought_was).receives plans marks m.marked v.receives first f;
+            sends = subst (IsMatchList (joins stood i) paired (count_by (for_list plans keys i) (operations plans))) (sym same) (sought_was).sends;
+          }
+
+          first_here : first ≡ find (λ (e : MatchEntry). not (paired e.op) && same_number (list_of plans keys e.op) (Some i)) (entries_of Post h)
+          unfolding in_list
+          first_here =
+              match_list_found _ _ _ w.receives (sought_was).receives plans marks m.marked v.receives first f ∙ find_filter (λ (e : MatchEntry). in_list plans keys i e.op) (λ (e : MatchEntry). not (paired e.op)) (entries_of Post h)
+
+          either : (e : MatchEntry) → meets (take (k + 1) (lists_for plans keys y)) e ≡ (meets (take k (lists_for plans keys y)) e || (not (paired e.op) && same_number (list_of plans keys e.op) (Some i)))
+          either e =
+              ap (λ (b : Bool). not (paired e.op) && b) (more (same_number (list_of plans keys e.op)) ∙ ap (λ (o : Option ℕ). list_any (same_number (list_of plans keys e.op)) (take k numbers) || same_number (list_of plans keys e.op) o) is) ∙ and_or (not (paired e.op)) (list_any (same_number (list_of plans keys e.op)) (take k numbers)) (same_number (list_of plans keys e.op) (Some i))
+
+          pub sought_with : IsJoined plans keys h y stood (take (k + 1) (lists_for plans keys y)) (slice_set now i v) (earlier met first)
+          sought_with = record {
+            one_each = length-set now i v ∙ j.one_each;
+            each = λ l u e. elim (cases_eq l i) [
+              | inl same_place ↦ subst (λ (n : ℕ). AreLists plans keys paired n (receives_of plans keys h n) (joins stood n) u) (sym same_place) (subst (AreLists plans keys paired i (receives_of plans keys h i) (joins stood i)) (slice_get_written now i v u (subst (λ (n : ℕ). slice_get (slice_set now i v) n ≡ Some u) same_place e)) sought_here)
+              | inr n ↦ j.each l u (sym (slice_get_elsewhere now i l v n) ∙ e)
+            ];
+            found =
+                ap (λ (o : Option MatchEntry). earlier o first) j.found ∙ ap (earlier (find (meets (take k numbers)) (entries_of Post h))) first_here ∙ sym (find_agree (meets (take (k + 1) numbers)) (λ (e : MatchEntry). meets (take k numbers) e || (not (paired e.op) && same_number (list_of plans keys e.op) (Some i))) either (entries_of Post h) ∙ find_either (meets (take k numbers)) (λ (e : MatchEntry). not (paired e.op) && same_number (list_of plans keys e.op) (Some i)) (entries_of Post h) (entries_order Post h));
+          }
+
+        -- it stands last there
+        module _ (looked : List (Option ℕ)) (now : List PatternLists) (met : Option MatchEntry) (j : IsJoined plans keys h y (take k (lists_for plans keys y)) looked now met) (w : PatternLists) (read : w ≡ get_or now i w) where
+          absent_so_far : list_any (same_number (Some i)) (take k numbers) ≡ false
+          absent_so_far = lists_once plans keys y s k i at
+
+          stood_was : AreLists plans keys paired i (receives_of plans keys h i) (joins (take k (lists_for plans keys y)) i) w
+          stood_was = join_was (take k (lists_for plans keys y)) looked now met j w read
 
           sends_were : IsMatchList (sends_of plans keys h i) paired (count_by (for_list plans keys i) (operations plans)) w.sends
           sends_were =
-              subst (λ (es : List MatchEntry). IsMatchList es paired (count_by (for_list plans keys i) (operations plans)) w.sends) (ap (λ (b : Bool). sends_of plans keys h i ++ (if b then entry plans keys h y ∷ [] else [])) unseen ∙ append-nil (sends_of plans keys h i)) (was).sends
-
-          pub join_ready : IsReady plans marks w.receives
-          join_ready = match_list_ready _ _ _ w.receives (was).receives plans marks m.marked (receives_exist i) m.all_marks
+              subst (λ (es : List MatchEntry). IsMatchList es paired (count_by (for_list plans keys i) (operations plans)) w.sends) (ap (λ (b : Bool). sends_of plans keys h i ++ (if b then entry plans keys h y ∷ [] else [])) absent_so_far ∙ append-nil (sends_of plans keys h i)) (stood_was).sends
 
           for_it : for_list plans keys i y ≡ true
           unfolding for_list
@@ -315,50 +365,41 @@ module _ (plans : List Plan) (keys : List Pattern) (lists : List PatternLists) (
           pub join_room : length w.sends.entries < w.sends.room
           join_room =
               let fewer = entries_fewer plans h m.actions (for_list plans keys i) Arrive y (arrival_suits plans y s) fresh for_it in
+              let unmet = unmet_fewer plans (λ (e : MatchEntry). for_list plans keys i e.op) h in
               let match_list = sends_were in
-              omega (arith, fewer, ap length match_list.entries, match_list.room)
+              omega (arith, fewer, unmet, ap length match_list.entries, match_list.room)
 
-          module _ (v : PatternLists) (first : Option MatchEntry) (f : IsFirst (is_marked (operations plans) marks) w.receives v.receives first) (grown : v.sends ≡ pushed w.sends (entry plans keys h y)) where
-            join_here : AreLists plans keys paired i (receives_of plans keys h i) (joins (take (k + 1) (lists_for plans keys y)) i) v
-            join_here = record {
-              receives = match_list_kept _ _ _ w.receives (was).receives plans marks m.marked v.receives first f;
+          module _ (v : PatternLists) (same : v.receives ≡ w.receives) (grown : v.sends ≡ pushed w.sends (entry plans keys h y)) where
+            stood_here : AreLists plans keys paired i (receives_of plans keys h i) (joins (take (k + 1) (lists_for plans keys y)) i) v
+            stood_here = record {
+              receives = subst (IsMatchList (receives_of plans keys h i) paired (count_by (in_list plans keys i) (operations plans))) (sym same) (stood_was).receives;
               sends = subst (λ (b : Bool). IsMatchList (sends_of plans keys h i ++ (if b then entry plans keys h y ∷ [] else [])) paired (count_by (for_list plans keys i) (operations plans)) v.sends) (sym seen) (subst (IsMatchList (sends_of plans keys h i ++ entry plans keys h y ∷ []) paired (count_by (for_list plans keys i) (operations plans))) (sym grown) (match_list_pushed _ _ _ w.sends sends_were (entry plans keys h y)));
             }
               where
                 seen : list_any (same_number (Some i)) (take (k + 1) numbers) ≡ true
-                seen = more (same_number (Some i)) ∙ ap (λ (b : Bool). b || same_number (Some i) (get_or numbers k d)) unseen ∙ ap (same_number (Some i)) is ∙ eq-eqb i i refl
+                seen = more (same_number (Some i)) ∙ ap (λ (b : Bool). b || same_number (Some i) (get_or numbers k d)) absent_so_far ∙ ap (same_number (Some i)) is ∙ eq-eqb i i refl
 
-            join_elsewhere : (l : ℕ) (u : PatternLists) → (l ≡ i → ⊥) → AreLists plans keys paired l (receives_of plans keys h l) (joins (take k (lists_for plans keys y)) l) u → AreLists plans keys paired l (receives_of plans keys h l) (joins (take (k + 1) (lists_for plans keys y)) l) u
-            join_elsewhere l u n before = record {
+            stood_elsewhere : (l : ℕ) (u : PatternLists) → (l ≡ i → ⊥) → AreLists plans keys paired l (receives_of plans keys h l) (joins (take k (lists_for plans keys y)) l) u → AreLists plans keys paired l (receives_of plans keys h l) (joins (take (k + 1) (lists_for plans keys y)) l) u
+            stood_elsewhere l u n before = record {
               receives = before.receives;
-              sends = subst (λ (b : Bool). IsMatchList (sends_of plans keys h l ++ (if b then entry plans keys h y ∷ [] else [])) paired (count_by (for_list plans keys l) (operations plans)) u.sends) (sym same) before.sends;
+              sends = subst (λ (b : Bool). IsMatchList (sends_of plans keys h l ++ (if b then entry plans keys h y ∷ [] else [])) paired (count_by (for_list plans keys l) (operations plans)) u.sends) (sym as_was) before.sends;
             }
               where
-                same : list_any (same_number (Some l)) (take (k + 1) numbers) ≡ list_any (same_number (Some l)) (take k numbers)
-                same = more (same_number (Some l)) ∙ ap (λ (b : Bool). list_any (same_number (Some l)) (take k numbers) || b) (ap (same_number (Some l)) is ∙ ne_eqb l i n) ∙ or_none (list_any (same_number (Some l)) (take k numbers))
+                as_was : list_any (same_number (Some l)) (take (k + 1) numbers) ≡ list_any (same_number (Some l)) (take k numbers)
+                as_was = more (same_number (Some l)) ∙ ap (λ (b : Bool). list_any (same_number (Some l)) (take k numbers) || b) (ap (same_number (Some l)) is ∙ ne_eqb l i n) ∙ or_none (list_any (same_number (Some l)) (take k numbers))
 
-            first_here : first ≡ find (λ (e : MatchEntry). not (paired e.op) && same_number (list_of plans keys e.op) (Some i)) (entries_of Post h)
-            unfolding in_list
-            first_here =
-                match_list_found _ _ _ w.receives (was).receives plans marks m.marked v.receives first f ∙ find_filter (λ (e : MatchEntry). in_list plans keys i e.op) (λ (e : MatchEntry). not (paired e.op)) (entries_of Post h)
-
-            either : (e : MatchEntry) → meets (take (k + 1) (lists_for plans keys y)) e ≡ (meets (take k (lists_for plans keys y)) e || (not (paired e.op) && same_number (list_of plans keys e.op) (Some i)))
-            either e =
-                ap (λ (b : Bool). not (paired e.op) && b) (more (same_number (list_of plans keys e.op)) ∙ ap (λ (o : Option ℕ). list_any (same_number (list_of plans keys e.op)) (take k numbers) || same_number (list_of plans keys e.op) o) is) ∙ and_or (not (paired e.op)) (list_any (same_number (list_of plans keys e.op)) (take k numbers)) (same_number (list_of plans keys e.op) (Some i))
-
-            pub joined_with : IsJoined plans keys h y (take (k + 1) (lists_for plans keys y)) (slice_set now i v) (earlier met first)
-            joined_with = record {
+            pub stood_with : IsJoined plans keys h y (take (k + 1) (lists_for plans keys y)) looked (slice_set now i v) met
+            stood_with = record {
               one_each = length-set now i v ∙ j.one_each;
               each = λ l u e. elim (cases_eq l i) [
-                | inl same ↦ subst (λ (n : ℕ). AreLists plans keys paired n (receives_of plans keys h n) (joins (take (k + 1) numbers) n) u) (sym same) (subst (AreLists plans keys paired i (receives_of plans keys h i) (joins (take (k + 1) numbers) i)) (slice_get_written now i v u (subst (λ (n : ℕ). slice_get (slice_set now i v) n ≡ Some u) same e)) join_here)
-                | inr n ↦ join_elsewhere l u n (j.each l u (sym (slice_get_elsewhere now i l v n) ∙ e))
+                | inl same_place ↦ subst (λ (n : ℕ). AreLists plans keys paired n (receives_of plans keys h n) (joins (take (k + 1) numbers) n) u) (sym same_place) (subst (AreLists plans keys paired i (receives_of plans keys h i) (joins (take (k + 1) numbers) i)) (slice_get_written now i v u (subst (λ (n : ℕ). slice_get (slice_set now i v) n ≡ Some u) same_place e)) stood_here)
+                | inr n ↦ stood_elsewhere l u n (j.each l u (sym (slice_get_elsewhere now i l v n) ∙ e))
               ];
-              found =
-                  ap (λ (o : Option MatchEntry). earlier o first) j.found ∙ ap (earlier (find (meets (take k numbers)) (entries_of Post h))) first_here ∙ sym (find_agree (meets (take (k + 1) numbers)) (λ (e : MatchEntry). meets (take k numbers) e || (not (paired e.op) && same_number (list_of plans keys e.op) (Some i))) either (entries_of Post h) ∙ find_either (meets (take k numbers)) (λ (e : MatchEntry). not (paired e.op) && same_number (list_of plans keys e.op) (Some i)) (entries_of Post h) (entries_order Post h));
+              found = j.found;
             }
 
     -- after all of them
-    module _ (after : List PatternLists) (met : Option MatchEntry) (j : IsJoined plans keys h y (lists_for plans keys y) after met) where
+    module _ (after : List PatternLists) (met : Option MatchEntry) (j : IsJoined plans keys h y (stands_in met (lists_for plans keys y)) (lists_for plans keys y) after met) where
       arrival_met : met ≡ find (λ (e : MatchEntry). not (paired e.op) && fits plans e.op y) (entries_of Post h)
       arrival_met =
           j.found ∙ find_alike (meets (lists_for plans keys y)) (λ (e : MatchEntry). not (paired e.op) && fits plans e.op y) (entries_of Post h) (All-weaker (λ (e : MatchEntry). IsReceive plans e.op) (λ (e : MatchEntry). meets (lists_for plans keys y) e ≡ (not (paired e.op) && fits plans e.op y)) (λ e r. ap (λ (b : Bool). not (paired e.op) && b) (fits_any plans keys e.op y r (m.listed e.op r))) (entries_of Post h) (posted_receives plans h m.actions))
@@ -381,7 +422,7 @@ module _ (plans : List Plan) (keys : List Pattern) (lists : List PatternLists) (
         one_each = j.one_each;
         each = λ l u e. let before = j.each l u e in record {
           receives = subst (λ (es : List MatchEntry). IsMatchList es (is_paired (pairs plans (arrival_of plans keys h y ∷ h))) (count_by (in_list plans keys l) (operations plans)) u.receives) (sym (receives_stay plans keys h y l)) (match_list_later _ _ _ u.receives before.receives _ (paired_stays plans (arrival_of plans keys h y) h));
-          sends = subst (λ (es : List MatchEntry). IsMatchList es (is_paired (pairs plans (arrival_of plans keys h y ∷ h))) (count_by (for_list plans keys l) (operations plans)) u.sends) (sym (sends_after plans keys h y l)) (match_list_later _ _ _ u.sends before.sends _ (paired_stays plans (arrival_of plans keys h y) h));
+          sends = subst (λ (es : List MatchEntry). IsMatchList es (is_paired (pairs plans (arrival_of plans keys h y ∷ h))) (count_by (for_list plans keys l) (operations plans)) u.sends) (sym (sends_then plans keys h y l met arrival_makes)) (match_list_later _ _ _ u.sends before.sends _ (paired_stays plans (arrival_of plans keys h y) h));
         };
         marked = paired_after plans (arrival_of plans keys h y) h marks marks' met (λ (z : OpId). pair_of y z) (λ z x. refl) arrival_makes m.marked changes;
         all_marks = omega (arith, m.all_marks, long);

@@ -12,6 +12,7 @@ pub mod Sides
 pub mod Marks
 pub mod Entries
 pub mod MatchListLemmas
+pub mod Unmet
 pub mod Kept
 pub mod Unseen
 pub mod CapacityLemmas

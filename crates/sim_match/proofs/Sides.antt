@@ -35,3 +35,22 @@ sides_set (x ∷ rs) (y ∷ ss) (suc l) r s =
 pub sides_map : {X : Type 0} (f g : X → MatchList) (xs : List X) → side_by_side (map f xs) (map g xs) ≡ map (λ x. record { receives = f x; sends = g x }) xs
 sides_map f g [] = refl
 sides_map f g (x ∷ xs) = ap (λ (ws : List PatternLists). record { receives = f x; sends = g x } ∷ ws) (sides_map f g xs)
+
+-- one side of a list changes
+pub sides_receives : (rs ss : List MatchList) (l : ℕ) (r s : MatchList) → slice_get ss l ≡ Some s → side_by_side (slice_set rs l r) ss ≡ slice_set (side_by_side rs ss) l (record { receives = r; sends = s })
+sides_receives [] ss l r s e = refl
+sides_receives (x ∷ rs) [] zero r s e = refl
+sides_receives (x ∷ rs) [] (suc l) r s e = refl
+sides_receives (x ∷ rs) (y ∷ ss) zero r s e =
+    ap (λ (z : MatchList). record { receives = r; sends = z } ∷ side_by_side rs ss) (same_Some y s e)
+sides_receives (x ∷ rs) (y ∷ ss) (suc l) r s e =
+    ap (λ (ws : List PatternLists). record { receives = x; sends = y } ∷ ws) (sides_receives rs ss l r s e)
+
+pub sides_sends : (rs ss : List MatchList) (l : ℕ) (r s : MatchList) → slice_get rs l ≡ Some r → side_by_side rs (slice_set ss l s) ≡ slice_set (side_by_side rs ss) l (record { receives = r; sends = s })
+sides_sends [] ss l r s e = refl
+sides_sends (x ∷ rs) [] zero r s e = refl
+sides_sends (x ∷ rs) [] (suc l) r s e = refl
+sides_sends (x ∷ rs) (y ∷ ss) zero r s e =
+    ap (λ (z : MatchList). record { receives = z; sends = s } ∷ side_by_side rs ss) (same_Some x r e)
+sides_sends (x ∷ rs) (y ∷ ss) (suc l) r s e =
+    ap (λ (ws : List PatternLists). record { receives = x; sends = y } ∷ ws) (sides_sends rs ss l r s e)

@@ -39,3 +39,16 @@ still_covered ps fs i p f entry n before counted after e d low high covered two 
     let found = unseen_set fs i f (skipped_to f n) d in
     let long = length-append p.entries (entry ∷ []) in
     omega (arith, joins, found, long, low, high, covered, two, looks)
+
+-- The first that waits of a list is found: a look pays for it.
+pub found_covered : (fs : List MatchList) (i : ℕ) (f : MatchList) (n others before counted after : ℕ) → slice_get fs i ≡ Some f → f.head ≤ length f.entries → n ≤ length f.entries → unseen fs + others ≤ before → counted ≡ before + 1 → counted + f.head ≤ after + n + 1 → unseen (slice_set fs i (skipped_to f n)) + others ≤ after
+found_covered fs i f n others before counted after d low high covered one looks =
+    let found = unseen_set fs i f (skipped_to f n) d in
+    omega (arith, found, low, high, covered, one, looks)
+
+-- An entry joins a list: a look pays for when it is passed.
+pub joined_covered : (ps : List MatchList) (i : ℕ) (p : MatchList) (entry : MatchEntry) (others before counted : ℕ) → slice_get ps i ≡ Some p → others + unseen ps ≤ before → counted ≡ before + 1 → others + unseen (slice_set ps i (pushed p entry)) ≤ counted
+joined_covered ps i p entry others before counted e covered one =
+    let joins = unseen_set ps i p (pushed p entry) e in
+    let long = length-append p.entries (entry ∷ []) in
+    omega (arith, joins, long, covered, one)

@@ -1,5 +1,5 @@
 -- What a matcher keeps of posts and arrivals.
-use Rattle.std.specs.Prelude.{ℕ, ◌≡◌, ◌<◌, ◌≤◌, ◌+◌, ◌*◌, ◌^◌, ◌&&◌, ◌||◌, not, Bool, true, false, List, [], ◌∷◌, ◌++◌, length, reverse, map, filter, find, take, Option, Some, None, All, slice_get, count_by, if◌then◌else◌}
+use Rattle.std.specs.Prelude.{ℕ, ◌≡◌, ◌<◌, ◌≤◌, ◌+◌, ◌*◌, ◌^◌, ◌&&◌, ◌||◌, not, Bool, true, false, List, [], ◌∷◌, ◌++◌, length, reverse, map, filter, find, take, Option, Some, None, is_none, All, slice_get, count_by, if◌then◌else◌}
 use Rattle.std.specs.Option.{MatchOption}
 use Rattle.std.specs.List.{list_any}
 use Rattle.goal_graph.specs.declared.action.OpId.{OpId}
@@ -9,8 +9,8 @@ use Rattle.goal_graph.specs.declared.plan.Kind.{Kind}
 use Rattle.goal_graph.specs.declared.plan.Kind.TheVariants.{Calc, Send, Recv}
 use Rattle.goal_graph.specs.Schedule.{Plan, kind_at, operations}
 use Rattle.goal_graph.specs.Fault.{IsAccepted}
-use Rattle.goal_graph.specs.Action.{Act, same_op, happened}
-use Rattle.goal_graph.specs.Matching.{is_paired, pairs}
+use Rattle.goal_graph.specs.Action.{Act, is_of, same_op, happened}
+use Rattle.goal_graph.specs.Matching.{is_paired, new_pair, pairs}
 use Rattle.goal_graph.specs.Laws.{has_class}
 use Rattle.sim_match.specs.declared.match_table.MatchTable.{MatchTable}
 use Rattle.sim_match.specs.declared.pattern.Pattern.{Pattern}
@@ -62,6 +62,17 @@ side_by_side [] ss = []
 side_by_side (r ∷ rs) [] = []
 side_by_side (r ∷ rs) (s ∷ ss) = record { receives = r; sends = s } ∷ side_by_side rs ss
 
+-- the arrivals that paired their send with no receive, oldest first
+unfoldable pub unmet_of : List Plan → List Act → List MatchEntry
+unmet_of plans [] = []
+unmet_of plans (a ∷ h) =
+    unmet_of plans h ++ (if is_of Arrive a && is_none (new_pair plans (pairs plans h) h a.class a.op) then record { op = a.op; at = length h } ∷ [] else [])
+
+-- of a send's lists those in which it stands: all where it has met no receive, and else none
+abbrev pub stands_in : Option MatchEntry → List (Option ℕ) → List (Option ℕ)
+stands_in None numbers = numbers
+stands_in (Some e) numbers = []
+
 -- a match list has these entries, skips none that waits, and has room for so many
 pub record IsMatchList (es : List MatchEntry) (paired : OpId → Bool) (count : ℕ) (match_list : MatchList) : Type 0 where
   pub entries : match_list.entries ≡ es
@@ -70,12 +81,12 @@ pub record IsMatchList (es : List MatchEntry) (paired : OpId → Bool) (count : 
   pub room : count ≤ match_list.room
 
 module _ (plans : List Plan) (keys : List Pattern) where
-  -- the receives of a list that were posted, the sends for it that have arrived
+  -- the receives of a list that were posted, the sends for it that have arrived and met no receive then
   abbrev pub receives_of : List Act → ℕ → List MatchEntry
   receives_of h list = filter (λ (e : MatchEntry). in_list plans keys list e.op) (entries_of Post h)
 
   abbrev pub sends_of : List Act → ℕ → List MatchEntry
-  sends_of h list = filter (λ (e : MatchEntry). for_list plans keys list e.op) (entries_of Arrive h)
+  sends_of h list = filter (λ (e : MatchEntry). for_list plans keys list e.op) (unmet_of plans h)
 
   -- the match lists of a pattern have these receives and sends, and room for each receive of it and for each send for it
   pub record AreLists (paired : OpId → Bool) (list : ℕ) (posted arrived : List MatchEntry) (w : PatternLists) : Type 0 where
@@ -92,14 +103,14 @@ module _ (plans : List Plan) (keys : List Pattern) where
     pub marked : (x : OpId) → is_marked (operations plans) marks x ≡ is_paired (pairs plans h) x
     pub all_marks : length (operations plans) ≤ length marks
 
-  -- After h the send m stands last in the lists of these numbers too. It has met the first receive of these lists that
-  -- waits.
-  pub record IsJoined (h : List Act) (m : OpId) (numbers : List (Option ℕ)) (lists : List PatternLists) (met : Option MatchEntry) : Type 0 where
+  -- After h the send m stands last in the lists of some numbers too, and others were looked at: it has met the first receive
+  -- of these that waits.
+  pub record IsJoined (h : List Act) (m : OpId) (stood looked : List (Option ℕ)) (lists : List PatternLists) (met : Option MatchEntry) : Type 0 where
     pub one_each : length lists ≡ length keys
     pub each : (list : ℕ) (w : PatternLists)
         → slice_get lists list ≡ Some w
-        → AreLists (is_paired (pairs plans h)) list (receives_of h list) (sends_of h list ++ (if list_any (same_number (Some list)) numbers then record { op = m; at = length h } ∷ [] else [])) w
-    pub found : met ≡ find (λ (e : MatchEntry). not (is_paired (pairs plans h) e.op) && list_any (same_number (list_of plans keys e.op)) numbers) (entries_of Post h)
+        → AreLists (is_paired (pairs plans h)) list (receives_of h list) (sends_of h list ++ (if list_any (same_number (Some list)) stood then record { op = m; at = length h } ∷ [] else [])) w
+    pub found : met ≡ find (λ (e : MatchEntry). not (is_paired (pairs plans h) e.op) && list_any (same_number (list_of plans keys e.op)) looked) (entries_of Post h)
 
 -- what a match table keeps
 pub record IsKept (plans : List Plan) (table : MatchTable) : Type 0 where

@@ -9,7 +9,7 @@ ghost use Rattle.sim_match.specs.PostsAndArrivals.{send_for, receive_for};
 ghost use Rattle.sim_match.specs.Patterns.{lists_for};
 ghost use Rattle.sim_match.specs.ListNumbers.{AreNumbered};
 ghost use Rattle.sim_match.specs.Looks.{unseen};
-ghost use Rattle.sim_match.specs.Matcher.{actions_of, side_by_side, ArePaired, IsJoined, IsKept};
+ghost use Rattle.sim_match.specs.Matcher.{actions_of, side_by_side, stands_in, ArePaired, IsJoined, IsKept};
 
 use crate::capacities::{Side, capacities};
 use crate::credit::Credit;
@@ -22,8 +22,8 @@ use sim_order::{Past, Steps};
 use std::alloc::Global;
 use std::sync::ledger::Ledger;
 
-/// For each pattern of the schedule its lists: the receives of the pattern, and the sends that they fit. An operation is
-/// marked once it is paired. For each entry that no look has passed a look is counted already. The receives that were
+/// For each pattern of the schedule its lists: the receives of the pattern, and the sends that they fit and that met no receive
+/// when they arrived. An operation is marked once it is paired. For each entry that no look has passed a look is counted already. The receives that were
 /// posted and the sends that have arrived, in this order, stand in proofs alone; how many they are is counted.
 #[derive(Drop)]
 pub struct MatchTable {
@@ -109,8 +109,8 @@ impl MatchTable {
         pair(sched, &mut self.marks, recv, met)
     }
 
-    // A send joins its lists. Answers the receive among them that was posted first and waits. Two looks are counted for
-    // each list.
+    // The receive that a send meets: of those in its lists the one that was posted first and waits. Where there is none the send
+    // joins the lists. Two looks at most are counted for each.
     fn join<L: Ledger>(
         &mut self,
         sched: &Sched,
@@ -120,7 +120,7 @@ impl MatchTable {
         requires kept { IsKept sched.now self.old }
         requires send { IsSend sched.now send }
         requires fresh { happened Arrive send (actions_of sched.now self.old.events.items) ≡ false }
-        ensures joined { (kept : IsKept sched.now self.old) → IsJoined sched.now kept.numbered.keys (actions_of sched.now self.old.events.items) send (lists_for sched.now kept.numbered.keys send) (side_by_side self.new.receives self.new.sends) result }
+        ensures joined { (kept : IsKept sched.now self.old) → IsJoined sched.now kept.numbered.keys (actions_of sched.now self.old.events.items) send (stands_in result (lists_for sched.now kept.numbered.keys send)) (lists_for sched.now kept.numbered.keys send) (side_by_side self.new.receives self.new.sends) result }
         ensures numbers { self.new.numbers ≡ self.old.numbers }
         ensures as_many { length self.new.receives ≡ length self.new.sends }
         ensures marks { self.new.marks ≡ self.old.marks }
@@ -130,17 +130,12 @@ impl MatchTable {
         ensures bounded { self.new.credit ≤ self.old.credit + 8 }
         ensures counted { steps.new ≤ steps.old + 8 }
     {
-        let entry = MatchEntry {
-            op: send,
-            at: self.count,
-        };
+        let numbers = self.numbers.lists_of_send(sched, send);
         let mut met = None;
-        for number in self.numbers.lists_of_send(sched, send) {
+        'seek: for number in numbers {
             match number {
                 Some(list) => {
                     self.credit.count(steps);
-                    self.credit.count(steps);
-                    self.sends.push(list, entry);
                     let first = self
                         .receives
                         .first(list, sched, &self.marks, &mut self.credit);
@@ -149,7 +144,23 @@ impl MatchTable {
                 None => {}
             }
         }
-        met
+        if met.is_some() {
+            return met;
+        }
+        let entry = MatchEntry {
+            op: send,
+            at: self.count,
+        };
+        'stand: for number in numbers {
+            match number {
+                Some(list) => {
+                    self.credit.count(steps);
+                    self.sends.push(list, entry);
+                }
+                None => {}
+            }
+        }
+        None
     }
 
     /// A send arrives. Answers the receive that takes it. Two looks are counted for each of its lists, of which there are
