@@ -58,7 +58,7 @@ impl Table {
         }
     }
 
-    /// A send arrives. Answers the receive that takes it. Two looks are counted for each of its lists, of which there are
+    /// A send arrives. Answers the receive that takes it. At most two looks are counted for each of its lists, of which there are
     /// four at most.
     pub fn arrive<L: Ledger>(
         &mut self,
