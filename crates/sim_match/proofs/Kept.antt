@@ -4,7 +4,7 @@ use Rattle.std.specs.Option.{IfSome, option_map}
 use Rattle.std.specs.List.{list_any}
 use Rattle.std.proofs.lemmas.Bool.{cases_eq, ne_eqb}
 use Rattle.std.proofs.lemmas.Option.{slice_get_read, same_Some}
-use Rattle.std.proofs.lemmas.List.{length-set, length-map, length-reverse, map_push, reverse-append}
+use Rattle.std.proofs.lemmas.List.{length-append, length-set, length-map, length-reverse, map_push, reverse-append}
 use Rattle.std.proofs.lemmas.List.Elements.{All-weaker, All-filter, filter-append}
 use Rattle.std.proofs.lemmas.List.Folds.{list_any_more, list_any_at}
 use Rattle.std.proofs.lemmas.List.Sums.{count_by-le-length}
@@ -22,7 +22,7 @@ use Rattle.sim_match.specs.PostsAndArrivals.{send_for, receive_for}
 use Rattle.sim_match.specs.Waiting.{is_message}
 use Rattle.sim_match.specs.Patterns.{same_number, list_of, lists_for, in_list, for_list, IsListed}
 use Rattle.sim_match.specs.MatchLists.{is_marked, entries_of, earlier, IsReady, IsFirst, pushed}
-use Rattle.sim_match.specs.Matcher.{unmet_of, stands_in, class_of_kind, event_of, PatternLists, actions_of, IsNew, ArePaired, IsMatchList, receives_of, sends_of, AreLists, Mirrors, IsJoined}
+use Rattle.sim_match.specs.Matcher.{unmet_of, stands_in, stood, class_of_kind, event_of, PatternLists, actions_of, IsNew, ArePaired, IsMatchList, receives_of, sends_of, AreLists, Mirrors, IsJoined}
 use Rattle.sim_match.proofs.Ops.{post_suits, arrival_suits, actions_fewer}
 use Rattle.sim_match.proofs.Pairs.{in_pair, paired_more, pairs_with}
 use Rattle.sim_match.proofs.Written.{slice_get_written, slice_get_elsewhere}
@@ -132,6 +132,18 @@ module _ (plans : List Plan) (keys : List Pattern) (h : List Act) where
   sends_then m l (Some f) makes =
       ap (filter (λ (e : MatchEntry). for_list plans keys l e.op)) (unmet_arrival plans (arrival_of m) h refl ∙ ap (λ (o : Option Pair). unmet_of plans h ++ (if is_none o then entry m ∷ [] else [])) makes ∙ append-nil (unmet_of plans h)) ∙ sym (append-nil (sends_of plans keys h l))
 
+-- how many sends have joined lists
+pub standing_post : (plans : List Plan) (h : List Act) (x : OpId) → length (unmet_of plans (record { class = Post; op = x } ∷ h)) ≡ length (unmet_of plans h)
+standing_post plans h x = ap length (unmet_other plans (record { class = Post; op = x }) h refl)
+
+pub none_standing : (plans : List Plan) (keys : List Pattern) (h : List Act) (list : ℕ) → length (unmet_of plans h) ≡ 0 → sends_of plans keys h list ≡ []
+none_standing plans keys h list none =
+    ap (filter (λ (e : MatchEntry). for_list plans keys list e.op)) (no_items (unmet_of plans h) none)
+  where
+    no_items : (es : List MatchEntry) → length es ≡ 0 → es ≡ []
+    no_items [] e = refl
+    no_items (x ∷ es) e = absurd (omega (arith, e))
+
 module _ (plans : List Plan) (keys : List Pattern) (lists : List PatternLists) (marks : List Bool) (h : List Act) (m : Mirrors plans keys lists marks h) where
   abbrev paired : OpId → Bool
   paired = is_paired (pairs plans h)
@@ -185,6 +197,9 @@ module _ (plans : List Plan) (keys : List Pattern) (lists : List PatternLists) (
 
         pub post_ready : IsReady plans marks w.sends
         post_ready = match_list_ready _ _ _ w.sends (old).sends plans marks m.marked (sends_exist list) m.all_marks
+
+        pub post_none : length (unmet_of plans h) ≡ 0 → w.sends.entries ≡ []
+        post_none none = (old).sends.entries ∙ none_standing plans keys h list none
 
         pub post_room : length w.receives.entries < w.receives.room
         post_room =
@@ -407,6 +422,14 @@ module _ (plans : List Plan) (keys : List Pattern) (lists : List PatternLists) (
       arrival_makes : new_pair plans (pairs plans h) h Arrive y ≡ option_map (λ (z : OpId). pair_of y z) (option_map (λ (e : MatchEntry). e.op) met)
       arrival_makes =
           ap (option_map (λ (z : OpId). pair_of y z)) (oldest_entry Post (λ (z : OpId). not (paired z)) (λ (z : OpId). fits plans z y) h ∙ ap (option_map (λ (e : MatchEntry). e.op)) (sym arrival_met))
+
+      pub arrival_stands : length (unmet_of plans (arrival_of plans keys h y ∷ h)) ≡ length (unmet_of plans h) + stood met
+      arrival_stands =
+          ap length (unmet_arrival plans (arrival_of plans keys h y) h refl ∙ ap (λ (o : Option Pair). unmet_of plans h ++ (if is_none o then entry plans keys h y ∷ [] else [])) arrival_makes) ∙ length-append (unmet_of plans h) _ ∙ ap (λ (n : ℕ). length (unmet_of plans h) + n) (one met)
+        where
+          one : (o : Option MatchEntry) → length (if is_none (option_map (λ (z : OpId). pair_of y z) (option_map (λ (e : MatchEntry). e.op) o)) then entry plans keys h y ∷ [] else []) ≡ stood o
+          one None = refl
+          one (Some f) = refl
 
       pub arrival_answers : option_map (λ (e : MatchEntry). e.op) met ≡ receive_for plans h y
       arrival_answers = sym (ap (option_map (λ (p : Pair). p.recv)) arrival_makes ∙ its_receive y _)

@@ -106,6 +106,18 @@ module _ (plans : List Plan) where
           let each = All-same P _ _ (sym (entries_same Arrive a h e)) all in
           All-same P _ _ (unmet_arrival a h e ∙ ap (λ (b : Bool). unmet_of plans h ++ (if b then last a h ∷ [] else [])) f ∙ append-nil (unmet_of plans h)) (rest (all_left P (entries_of Arrive h) (last a h ∷ []) each))
 
+  -- they are no more than the actions
+  pub unmet_short : (h : List Act) → length (unmet_of plans h) ≤ length h
+  unmet_short [] = omega (arith, ap length unmet_none)
+  unmet_short (a ∷ h) = go (is_of Arrive a) (is_none (makes a h)) refl refl (unmet_short h)
+    where
+      go : (s n : Bool) → is_of Arrive a ≡ s → is_none (makes a h) ≡ n → length (unmet_of plans h) ≤ length h → length (unmet_of plans (a ∷ h)) ≤ length (a ∷ h)
+      go false n e f short = omega (arith, short, ap length (unmet_other a h e))
+      go true true e f short =
+          omega (arith, short, ap length (unmet_arrival a h e ∙ ap (λ (b : Bool). unmet_of plans h ++ (if b then last a h ∷ [] else [])) f), length-append (unmet_of plans h) (last a h ∷ []))
+      go true false e f short =
+          omega (arith, short, ap length (unmet_arrival a h e ∙ ap (λ (b : Bool). unmet_of plans h ++ (if b then last a h ∷ [] else [])) f ∙ append-nil (unmet_of plans h)))
+
   -- they are no more than the arrivals, and those that wait are the same
   pub unmet_fewer : (p : MatchEntry → Bool) (h : List Act) → length (filter p (unmet_of plans h)) ≤ length (filter p (entries_of Arrive h))
   unmet_fewer p [] = omega (arith, ap (λ (es : List MatchEntry). length (filter p es)) unmet_none)

@@ -73,6 +73,11 @@ abbrev pub stands_in : Option MatchEntry → List (Option ℕ) → List (Option 
 stands_in None numbers = numbers
 stands_in (Some e) numbers = []
 
+-- how many sends join lists there
+abbrev pub stood : Option MatchEntry → ℕ
+stood None = 1
+stood (Some e) = 0
+
 -- a match list has these entries, skips none that waits, and has room for so many
 pub record IsMatchList (es : List MatchEntry) (paired : OpId → Bool) (count : ℕ) (match_list : MatchList) : Type 0 where
   pub entries : match_list.entries ≡ es
@@ -119,6 +124,7 @@ pub record IsKept (plans : List Plan) (table : MatchTable) : Type 0 where
   pub numbered : AreNumbered plans table.numbers
   pub mirrors : Mirrors plans numbered.keys (side_by_side table.receives table.sends) table.marks.items (actions_of plans table.events.items)
   pub count : table.count ≡ length table.events.items
+  pub standing : table.standing ≡ length (unmet_of plans (actions_of plans table.events.items))
   -- for each entry that no look has passed a look is counted already, and no event counted more than eight
   pub covered : unseen table.receives + unseen table.sends ≤ table.credit
   pub bounded : table.credit ≤ 8 * length table.events.items

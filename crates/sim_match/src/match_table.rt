@@ -1,5 +1,5 @@
 // The table of a matcher: the posts and arrivals so far, by pattern.
-ghost use Rattle.std.specs.Prelude.{◌≡◌, ◌≤◌, ◌+◌, ◌∷◌, [], ◌++◌, false, length, IfOk};
+ghost use Rattle.std.specs.Prelude.{ℕ, ◌≡◌, ◌<◌, ◌≤◌, ◌+◌, ◌∷◌, [], ◌++◌, false, length, Some, slice_get, slice_set, IfOk};
 ghost use Rattle.std.specs.Option.{option_map, IfSome};
 ghost use Rattle.goal_graph.specs.Schedule.{operations, IsSend, IsReceive};
 ghost use Rattle.goal_graph.specs.Fault.{IsOp};
@@ -8,8 +8,9 @@ ghost use Rattle.goal_graph.specs.Action.{happened};
 ghost use Rattle.sim_match.specs.PostsAndArrivals.{send_for, receive_for};
 ghost use Rattle.sim_match.specs.Patterns.{lists_for};
 ghost use Rattle.sim_match.specs.ListNumbers.{AreNumbered};
+ghost use Rattle.sim_match.specs.MatchLists.{MatchList, is_marked, IsReady, IsFirst, skipped_to};
 ghost use Rattle.sim_match.specs.Looks.{unseen};
-ghost use Rattle.sim_match.specs.Matcher.{actions_of, side_by_side, stands_in, ArePaired, IsJoined, IsKept};
+ghost use Rattle.sim_match.specs.Matcher.{actions_of, side_by_side, stands_in, stood, ArePaired, IsJoined, IsKept};
 
 use crate::capacities::{Side, capacities};
 use crate::credit::Credit;
@@ -24,7 +25,8 @@ use std::sync::ledger::Ledger;
 
 /// For each pattern of the schedule its lists: the receives of the pattern, and the sends that they fit and that met no receive
 /// when they arrived. An operation is marked once it is paired. For each entry that no look has passed a look is counted already. The receives that were
-/// posted and the sends that have arrived, in this order, stand in proofs alone; how many they are is counted.
+/// posted and the sends that have arrived, in this order, stand in proofs alone; how many they are is counted, and how many sends
+/// joined lists.
 #[derive(Drop)]
 pub struct MatchTable {
     pub numbers: ListNumbers,
@@ -33,6 +35,7 @@ pub struct MatchTable {
     pub marks: Vec<bool>,
     pub events: Past<OpId>,
     pub count: u32,
+    pub standing: u32,
     pub credit: Credit,
 }
 
@@ -55,6 +58,32 @@ fn pair(sched: &Sched, marks: &mut [bool], id: OpId, met: Option<MatchEntry>) ->
     }
 }
 
+// The first of a list of sends that waits. Where none has joined any list, none does, and the list is not looked at.
+#[inline(always)]
+fn first_standing(
+    sends: &mut MatchLists,
+    standing: u32,
+    list: usize,
+    sched: &Sched,
+    marks: &[bool],
+    credit: &mut Credit,
+) -> Option<MatchEntry>
+    requires within { list < length sends.old }
+    requires ready { (w : MatchList) → slice_get sends.old list ≡ Some w → IsReady sched.now marks.now w }
+    requires counted { (w : MatchList) → slice_get sends.old list ≡ Some w → length w.entries ≤ w.head + credit.old }
+    requires none { (w : MatchList) → slice_get sends.old list ≡ Some w → standing ≡ 0 → w.entries ≡ [] }
+    ensures first { (w : MatchList) → slice_get sends.old list ≡ Some w
+        → (n : ℕ) × (sends.new ≡ slice_set sends.old list (skipped_to w n))
+        × IsFirst (is_marked (operations sched.now) marks.now) w (skipped_to w n) result
+        × (credit.old + w.head ≤ credit.new + n + 1) }
+    ensures less { credit.new ≤ credit.old }
+{
+    if standing == 0 {
+        return None;
+    }
+    sends.first(list, sched, marks, credit)
+}
+
 impl MatchTable {
     /// Nothing was posted or has arrived, and there is room for each send and each receive once.
     pub fn new(alloc: Global, sched: &Sched, numbers: ListNumbers) -> Result<MatchTable, NoMemory>
@@ -75,6 +104,7 @@ impl MatchTable {
             marks,
             events: Past::new(),
             count: 0,
+            standing: 0,
             credit: Credit::none(),
         })
     }
@@ -103,7 +133,14 @@ impl MatchTable {
         self.credit.count(steps);
         self.credit.count(steps);
         self.receives.push(list, entry);
-        let met = self.sends.first(list, sched, &self.marks, &mut self.credit);
+        let met = first_standing(
+            &mut self.sends,
+            self.standing,
+            list,
+            sched,
+            &self.marks,
+            &mut self.credit,
+        );
         self.events.push(&recv);
         self.count += 1;
         pair(sched, &mut self.marks, recv, met)
@@ -126,6 +163,7 @@ impl MatchTable {
         ensures marks { self.new.marks ≡ self.old.marks }
         ensures events { self.new.events ≡ self.old.events }
         ensures count { self.new.count ≡ self.old.count }
+        ensures standing { self.new.standing ≡ self.old.standing + stood result }
         ensures covered { unseen self.new.receives + unseen self.new.sends ≤ self.new.credit }
         ensures bounded { self.new.credit ≤ self.old.credit + 8 }
         ensures counted { steps.new ≤ steps.old + 8 }
@@ -147,6 +185,7 @@ impl MatchTable {
         if met.is_some() {
             return met;
         }
+        self.standing += 1;
         let entry = MatchEntry {
             op: send,
             at: self.count,

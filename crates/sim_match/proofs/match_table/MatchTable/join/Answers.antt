@@ -5,6 +5,7 @@ use Rattle.sim_match.specs.Looks.{unseen}
 use Rattle.sim_match.specs.MatchLists.{pushed}
 use Rattle.sim_match.specs.Matcher.{actions_of, side_by_side, IsKept}
 use Rattle.sim_match.proofs.Kept.{length-actions_of, arrival_counted, joined_none, sought_without, sought_with, stood_without, stood_with, join_within, join_ready, join_room}
+use Rattle.sim_match.proofs.Unmet.{unmet_short}
 use Rattle.sim_match.proofs.Unseen.{unseen_read, found_covered, joined_covered}
 use Rattle.sim_match.proofs.Sides.{sides_length, sides_read, sides_receives, sides_sends, there_is}
 use Rattle.sim_match.proofs.match_table.MatchTable.join.Goals as goal
@@ -18,6 +19,7 @@ seek-init g c = record {
   marks = refl;
   events = refl;
   count = refl;
+  standing = refl;
   covered = c.requires.kept.covered;
   bounded = omega arith;
   counted = omega arith;
@@ -74,6 +76,7 @@ seek-preserved g c =
             marks = rw w.self-is c.seek.invariant.marks;
             events = rw w.self-is c.seek.invariant.events;
             count = rw w.self-is c.seek.invariant.count;
+            standing = rw w.self-is c.seek.invariant.standing;
           }
       | in-None w ↦ record {
         covered = rw w.self-is c.seek.invariant.covered;
@@ -85,8 +88,15 @@ seek-preserved g c =
         marks = rw w.self-is c.seek.invariant.marks;
         events = rw w.self-is c.seek.invariant.events;
         count = rw w.self-is c.seek.invariant.count;
+        standing = rw w.self-is c.seek.invariant.standing;
       }
     ]
+
+pub overflow_add-self : goal.overflow_add-self
+overflow_add-self g c =
+    let counted = arrival_counted _ _ _ _ _ c.requires.kept.mirrors c.args.send c.requires.send c.requires.fresh in
+    let short = unmet_short c.args.sched.now (actions_of c.args.sched.now c.args.self.now.events.items) in
+    omega (arith, counted, short, c.seek.invariant.standing, c.requires.kept.standing, c.requires.kept.few)
 
 pub count-requires-in-Some-number : goal.count-requires-in-Some-number
 count-requires-in-Some-number g c =
@@ -134,6 +144,7 @@ stand-preserved g c =
             marks = rw w.self-is c.stand.invariant.marks;
             events = rw w.self-is c.stand.invariant.events;
             count = rw w.self-is c.stand.invariant.count;
+            standing = rw w.self-is c.stand.invariant.standing;
           }
       | in-None-number w ↦ record {
         covered = rw w.self-is c.stand.invariant.covered;
@@ -145,5 +156,6 @@ stand-preserved g c =
         marks = rw w.self-is c.stand.invariant.marks;
         events = rw w.self-is c.stand.invariant.events;
         count = rw w.self-is c.stand.invariant.count;
+        standing = rw w.self-is c.stand.invariant.standing;
       }
     ]

@@ -12,6 +12,7 @@ invariant-seek g l = record {
   marks : l.self.marks ≡ l.fn.self.marks;
   events : l.self.events ≡ l.fn.self.events;
   count : l.self.count ≡ l.fn.self.count;
+  standing : l.self.standing ≡ l.fn.self.standing;
   covered : unseen l.self.receives + unseen l.self.sends ≤ l.self.credit;
   bounded : l.self.credit ≤ l.fn.self.credit + l.number-index;
   counted : l.steps ≤ l.fn.steps + l.number-index;
@@ -25,6 +26,7 @@ invariant-stand g l = record {
   marks : l.self.marks ≡ l.fn.self.marks;
   events : l.self.events ≡ l.fn.self.events;
   count : l.self.count ≡ l.fn.self.count;
+  standing : l.self.standing ≡ l.fn.self.standing + 1;
   covered : unseen l.self.receives + unseen l.self.sends ≤ l.self.credit;
   bounded : l.self.credit ≤ l.fn.self.credit + 4 + l.number-index;
   counted : l.steps ≤ l.fn.steps + 4 + l.number-index;

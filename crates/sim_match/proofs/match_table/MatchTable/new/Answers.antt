@@ -5,6 +5,7 @@ use Rattle.sim_match.specs.Capacities.{empty_list}
 use Rattle.goal_graph.specs.Schedule.{operations}
 use Rattle.sim_match.proofs.Begun.{begins}
 use Rattle.sim_match.proofs.Unseen.{unseen_empty}
+use Rattle.sim_match.proofs.Unmet.{unmet_none}
 use Rattle.sim_match.proofs.match_table.MatchTable.new.Goals as goal
 
 pub returns-clause-kept : goal.returns-clause-kept
@@ -20,5 +21,6 @@ returns-clause-kept c =
       covered = rw (c.in_ok-receives.ensures, c.in_ok-sends.ensures, c.deref.ensures.value, c.deref-2.ensures.value) (omega (arith, unseen_empty Receives c.in_ok-capacities.capacities.items, unseen_empty Sends c.in_ok-capacities.capacities.items));
       bounded = omega arith;
       count = rw c.new-3.ensures refl;
+      standing = rw c.new-3.ensures (sym (ap length (unmet_none c.args.sched.now)));
       mirrors = rw (c.new-3.ensures, c.in_ok-receives.ensures, c.in_ok-sends.ensures, c.deref.ensures.value, c.deref-2.ensures.value) kept;
     }
