@@ -6,7 +6,7 @@ ghost use Rattle.sim_classes.specs.Machine.{class_of, class_between, numbers_of,
 ghost use Rattle.sim_classes.specs.Known.{known};
 
 use crate::machine::Machine;
-use sim_params::{Costs, LogGops, Params};
+use sim_params::{Costs, LogGops, Params, Spans};
 
 impl Machine {
     /// The number of ranks that it has a node for.
@@ -101,6 +101,10 @@ impl Costs for Machine {
 
     fn flight(&self, from: u32, to: u32, bytes: u64) -> u64 {
         self.costs(from, to).flight(from, to, bytes)
+    }
+
+    fn spans(&self, from: u32, to: u32, bytes: u64) -> Spans {
+        self.costs(from, to).spans(from, to, bytes)
     }
 
     fn latency(&self, from: u32, to: u32) -> u64 {

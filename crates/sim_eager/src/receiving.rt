@@ -44,8 +44,9 @@ pub fn serve<C: Costs>(
 {
     sched.known();
     laws_of_schedules();
-    let end = at + costs.over(send.rank, to, bytes);
-    let received = at + costs.gap(send.rank, to, bytes);
+    let spans = costs.spans(send.rank, to, bytes);
+    let end = at + spans.over;
+    let received = at + spans.gap;
     res.hold_cpu(recv, end);
     res.hold_rx(recv, received);
     end

@@ -47,9 +47,10 @@ pub fn transfer<C: Costs>(
     ensures holds { SameFreeTimes res.new
         (hold_tx (hold_cpu res.old send result.end) send (at + (C.model costs.now).gap send.rank to bytes)) }
 {
-    let end = at + costs.over(send.rank, to, bytes);
-    let sent = at + costs.gap(send.rank, to, bytes);
-    let arrive = at + costs.flight(send.rank, to, bytes);
+    let spans = costs.spans(send.rank, to, bytes);
+    let end = at + spans.over;
+    let sent = at + spans.gap;
+    let arrive = at + spans.flight;
     res.hold_cpu(send, end);
     res.hold_tx(send, sent);
     Sent { end, arrive }

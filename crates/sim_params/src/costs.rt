@@ -7,6 +7,17 @@ use crate::Params;
 use crate::params::MAX_PICOS;
 use goal_base::MAX_PER_BYTE;
 
+/// The spans of time of one message, in nanoseconds.
+#[derive(Clone, Copy, Debug, PartialEq, Eq)]
+pub struct Spans {
+    /// How long it holds a cpu at each side.
+    pub over: u64,
+    /// How long it holds an interface at each side.
+    pub gap: u64,
+    /// How long it takes from its start until it arrives.
+    pub flight: u64,
+}
+
 /// The costs of messages between ranks. Every number is at most 2^61, for sizes of at most 2^40-1 bytes.
 pub trait Costs {
     /// What the costs are, as functions of source, target and size.
@@ -26,6 +37,20 @@ pub trait Costs {
     fn flight(&self, from: u32, to: u32, bytes: u64) -> u64
         requires { bytes < 2 ^ 40 }
         ensures { result ≡ (model self.now).flight from to bytes };
+
+    /// All three at once, for who needs more than one of them.
+    fn spans(&self, from: u32, to: u32, bytes: u64) -> Spans
+        requires { bytes < 2 ^ 40 }
+        ensures over { result.over ≡ (model self.now).over from to bytes }
+        ensures gap { result.gap ≡ (model self.now).gap from to bytes }
+        ensures flight { result.flight ≡ (model self.now).flight from to bytes }
+    {
+        Spans {
+            over: self.over(from, to, bytes),
+            gap: self.gap(from, to, bytes),
+            flight: self.flight(from, to, bytes),
+        }
+    }
 
     /// How long the clearance of a large message takes back to its sender, in nanoseconds.
     fn latency(&self, from: u32, to: u32) -> u64
