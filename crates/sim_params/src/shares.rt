@@ -44,15 +44,14 @@ fn message_share<C: Costs>(costs: &C, from: u32, to: u32, bytes: u64) -> u64
     requires { bytes < 2 ^ 40 }
     ensures { result ≡ message_share (C.model costs.now) from to bytes }
 {
-    2 * (costs.over(from, to, bytes) + costs.gap(from, to, bytes)) + costs.flight(from, to, bytes)
+    let spans = costs.spans(from, to, bytes);
+    2 * (spans.over + spans.gap) + spans.flight
 }
 
 // What the handshake before a large message may add.
 fn request_share<C: Costs>(costs: &C, from: u32, to: u32) -> u64
     ensures { result ≡ request_share (C.model costs.now) from to }
 {
-    costs.over(from, to, 1)
-        + costs.gap(from, to, 1)
-        + costs.flight(from, to, 1)
-        + costs.latency(from, to)
+    let spans = costs.spans(from, to, 1);
+    spans.over + spans.gap + spans.flight + costs.latency(from, to)
 }
