@@ -38,7 +38,7 @@ pub trait Costs {
         requires { bytes < 2 ^ 40 }
         ensures { result ≡ (model self.now).flight from to bytes };
 
-    /// All three at once, for who needs more than one of them.
+    /// These three at once, in nanoseconds, for who needs more than one: costs that look the message up do so once for all.
     fn spans(&self, from: u32, to: u32, bytes: u64) -> Spans
         requires { bytes < 2 ^ 40 }
         ensures over { result.over ≡ (model self.now).over from to bytes }
