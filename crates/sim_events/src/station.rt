@@ -8,6 +8,7 @@ ghost use Rattle.sim_events.specs.Cost.{station_of, cpu_alone, side_alone};
 
 use goal_base::NoMemory;
 use goal_graph::{Kind, Op, OpId, Sched};
+use sim_order::Past;
 use sim_stations::Pair;
 use std::alloc::Global;
 use std::marker::Model;
@@ -110,13 +111,15 @@ pub struct Latest {
 // Stations in the order in which they were first seen, each once. Contracts see it as the list of them.
 #[derive(Drop)]
 struct Stations {
-    seen: Vec<Station>,
+    // for proofs alone
+    seen: Past<Station>,
+    count: u32,
     // what each place was given last
     places: Vec<Option<Latest>>,
 }
 
 impl Model for Stations {
-    ghost use Rattle.std.specs.Prelude.{List};
+    ghost use Rattle.std.specs.Prelude.{◌≡◌, List, length};
     ghost use Rattle.sim_events.specs.declared.station.Station.{Station};
     ghost use Rattle.sim_events.specs.Stations.{ArePlaced};
 
@@ -124,7 +127,7 @@ impl Model for Stations {
 
     ghost view = { λ s. s.seen.items };
 
-    ghost invariant = { λ s. ArePlaced s.seen.items s.places.items };
+    ghost invariant = { λ s. ArePlaced s.seen.items s.places.items × (s.count ≡ length s.seen.items) };
 }
 
 // The number that a place was given last, where that was for this rank.
@@ -152,12 +155,14 @@ fn make_place(places: &mut Vec<Option<Latest>>, place: usize) -> Result<(), NoMe
 
 impl Stations {
     // None.
-    fn new(alloc: Global) -> Result<Stations, NoMemory>
-        ensures { IfOk result (λ s. s ≡ []) }
+    fn new(alloc: Global) -> Stations
+        ensures { result ≡ [] }
     {
-        let places = Vec::new(alloc);
-        let seen = Vec::new(alloc);
-        Ok(Stations { seen, places })
+        Stations {
+            seen: Past::new(),
+            count: 0,
+            places: Vec::new(alloc),
+        }
     }
 
     // The number of the station of a rank that is at this place. Stations come by rank.
@@ -186,8 +191,9 @@ impl Stations {
     {
         make_place(&mut self.places, at)?;
         let rank = station.rank;
-        let number = self.seen.len() as u32;
-        self.seen.push(station)?;
+        let number = self.count;
+        self.seen.push(&station);
+        self.count = number + 1;
         self.places[at] = Some(Latest { rank, number });
         Ok(number)
     }
@@ -231,17 +237,16 @@ fn pair_of(resources: &mut Stations, station: Station) -> Result<Pair, NoMemory>
 
 impl Numbering {
     // Of no station.
-    fn new(alloc: Global) -> Result<Numbering, NoMemory>
-        ensures { IfOk result (λ n. (n.stations ≡ []) × (n.resources ≡ []) × (n.pairs.items ≡ [])) }
+    fn new(alloc: Global) -> Numbering
+        ensures stations { result.stations ≡ [] }
+        ensures resources { result.resources ≡ [] }
+        ensures pairs { result.pairs.items ≡ [] }
     {
-        let stations = Stations::new(alloc)?;
-        let resources = Stations::new(alloc)?;
-        let pairs = Vec::new(alloc);
-        Ok(Numbering {
-            stations,
-            resources,
-            pairs,
-        })
+        Numbering {
+            stations: Stations::new(alloc),
+            resources: Stations::new(alloc),
+            pairs: Vec::new(alloc),
+        }
     }
 
     // Adds a station that is not among them, and its resources, and answers its number.
@@ -321,7 +326,7 @@ pub fn number_stations(alloc: Global, sched: &Sched) -> Result<StationNumbers, N
     ensures exist { IfOk result (λ s. DoExist s.pairs.items s.resources) }
     ensures stationed { IfOk result (λ s. AreStationed sched.now s.numbers.items s.pairs.items) }
 {
-    let mut numbering = Numbering::new(alloc)?;
+    let mut numbering = Numbering::new(alloc);
     let mut numbers = Vec::with_capacity(alloc, sched.count() as usize)?;
     number_all(sched, &mut numbering, &mut numbers)?;
     let Numbering {
@@ -329,7 +334,7 @@ pub fn number_stations(alloc: Global, sched: &Sched) -> Result<StationNumbers, N
         pairs,
         ..
     } = numbering;
-    let resources = resources.seen.len() as u32;
+    let resources = resources.count;
     Ok(StationNumbers {
         numbers,
         pairs,

@@ -11,7 +11,7 @@ returns-then-at-len-clause-none c =
     let places = c.self.inside.places.items in
     let past = latest_past places c.args.at (omega (arith, c.if-at-len.true, c.len.ensures)) in
     subst (λ (seen : List Station). (s : Station) → IsNotAfter seen s.rank → s.rank ≡ c.args.rank → place s ≡ c.args.at → IsNew seen s) c.self.view_is
-    (λ s last rank at. not_found c.self.inside.seen.items places c.self.invariant c.args.rank c.args.at s rank at last (λ number e. absurd (cc (past, e))))
+    (λ s last rank at. not_found c.self.inside.seen.items places c.self.invariant.0 c.args.rank c.args.at s rank at last (λ number e. absurd (cc (past, e))))
 
 pub returns-clause-some : goal.returns-clause-some
 returns-clause-some c =
@@ -19,7 +19,7 @@ returns-clause-some c =
     let within : c.args.at < length places = omega (arith, c.if-at-len.false, c.len.ensures) in
     let read = latest_read places c.args.at c.index.result.now c.index.result.now within c.index.ensures in
     subst (λ (seen : List Station). IfSome c.given.result (λ number. (s : Station) → IsPlain s → s.rank ≡ c.args.rank → place s ≡ c.args.at → slice_get seen number ≡ Some s)) c.self.view_is
-    (IfSome_then c.given.result c.given.ensures.some (λ number is s plain rank at. found c.self.inside.seen.items places c.self.invariant c.args.rank c.args.at s rank at number plain (read ∙ is)))
+    (IfSome_then c.given.result c.given.ensures.some (λ number is s plain rank at. found c.self.inside.seen.items places c.self.invariant.0 c.args.rank c.args.at s rank at number plain (read ∙ is)))
 
 pub returns-clause-none : goal.returns-clause-none
 returns-clause-none c =
@@ -27,4 +27,4 @@ returns-clause-none c =
     let within : c.args.at < length places = omega (arith, c.if-at-len.false, c.len.ensures) in
     let read = latest_read places c.args.at c.index.result.now c.index.result.now within c.index.ensures in
     subst (λ (seen : List Station). IfNone c.given.result ((s : Station) → IsNotAfter seen s.rank → s.rank ≡ c.args.rank → place s ≡ c.args.at → IsNew seen s)) c.self.view_is
-    (none_then c.given.result (λ none s last rank at. not_found c.self.inside.seen.items places c.self.invariant c.args.rank c.args.at s rank at last (λ number e. none number (sym read ∙ e))) c.given.ensures.none)
+    (none_then c.given.result (λ none s last rank at. not_found c.self.inside.seen.items places c.self.invariant.0 c.args.rank c.args.at s rank at last (λ number e. none number (sym read ∙ e))) c.given.ensures.none)
