@@ -2,7 +2,7 @@
 use Rattle.std.proofs.Common.{◌≡◌, ◌<◌, ℕ, ◌+◌, true, List, ◌++◌, length, take, drop, Option, Some, inl, inr, sym, ap, ◌∙◌, append_assoc, arith}
 use Rattle.std.specs.FinMap.{get, insert}
 use Rattle.std.proofs.Math.Seq.{take-add}
-use Rattle.goal_base.specs.declared.limits.TheConstants.{MAX_INPUT}
+use Rattle.goal_limits.specs.declared.limits.TheConstants.{MAX_INPUT}
 use Rattle.goal_base.specs.Device.{HostState, SinkState, Files, file_of, Held, Grows, SameRest, Holds, ReadFaulted, IsTooLong}
 use Rattle.goal_base.specs.DeviceCalls.{Takes, Writes, appended_to}
 use Rattle.goal_base.proofs.FilesLemmas.{get_inserted, appended_to_inserted}

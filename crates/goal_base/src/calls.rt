@@ -1,7 +1,7 @@
 //! Which calls of a device in memory fail.
 ghost use Rattle.std.specs.Prelude.{◌≡◌, ◌↔◌, IsTrue, IfOk};
 
-use crate::device::NoMemory;
+use goal_limits::NoMemory;
 use std::alloc::Global;
 use std::marker::Model;
 

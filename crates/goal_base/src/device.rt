@@ -3,12 +3,6 @@ ghost use Rattle.std.specs.Prelude.{◌≡◌, ◌↔◌, ◌<◌, ◌≤◌, tr
 ghost use Rattle.goal_base.specs.Device.{HostState, SinkState, SameFiles, SameRest, file_of, Grows};
 ghost use Rattle.goal_base.specs.DeviceCalls.{SameBytes, CallsOpen, CallsRead, CallsWrite, CallsSink, Creates, Writes};
 
-use std::alloc::{AllocError, AllocFailed};
-
-/// There was no memory left.
-#[derive(Clone, Copy, Debug, PartialEq, Eq)]
-pub struct NoMemory;
-
 /// Why a call of a host or a sink was refused.
 #[derive(Clone, Copy, Debug, PartialEq, Eq)]
 pub enum IoFault {
@@ -27,18 +21,6 @@ pub enum OpenFault {
     Failed,
     /// There was no memory left.
     NoMemory,
-}
-
-impl From<AllocError> for NoMemory {
-    fn from(_: AllocError) -> Self {
-        NoMemory
-    }
-}
-
-impl<T: Drop> From<AllocFailed<T>> for NoMemory {
-    fn from(_: AllocFailed<T>) -> Self {
-        NoMemory
-    }
 }
 
 /// A host with files, of which one at a time is open as the input and one as the output.

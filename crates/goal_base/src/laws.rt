@@ -2,7 +2,7 @@
 ghost use Rattle.std.specs.Prelude.{◌≡◌, ◌<◌, ℕ, true, List, length, Some};
 ghost use Rattle.goal_base.specs.Device.{HostState, Held, ReadFaulted, IsTooLong, file_of};
 
-use crate::limits::MAX_INPUT;
+use goal_limits::MAX_INPUT;
 
 /// Of a host that tells its files, before and after a call of `read_all`: a file that is there is read, or is too long,
 /// unless the host failed or there was no memory left; and only one that has more than 2^27 bytes is too long.

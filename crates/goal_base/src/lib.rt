@@ -1,4 +1,4 @@
-//! The outside of `goal`: its limits, the traits of a host with files and of a sink, reading a file whole,
+//! The outside of `goal`: the traits of a host with files and of a sink, reading a file whole,
 //! writing a piece or a file whole, and text that is made piece by piece.
 #![tactic(auto)]
 
@@ -6,7 +6,6 @@ mod calls;
 mod device;
 mod files;
 mod laws;
-mod limits;
 mod line;
 mod mem_host;
 mod mem_sink;
@@ -15,12 +14,12 @@ mod read;
 mod text;
 mod write;
 
-pub use device::{Host, IoFault, NoMemory, OpenFault, Sink};
-pub use laws::laws_of_reading;
-pub use limits::{
+pub use device::{Host, IoFault, OpenFault, Sink};
+pub use goal_limits::{
     MAX_BUDGET, MAX_BYTES, MAX_DEPS, MAX_INPUT, MAX_NANOS, MAX_NOTES, MAX_OPS, MAX_PARAM,
-    MAX_PER_BYTE, MAX_RANKS,
+    MAX_PER_BYTE, MAX_RANKS, NoMemory,
 };
+pub use laws::laws_of_reading;
 pub use line::{put_long, put_number, put_pair, put_time, put_word};
 pub use mem_host::MemHost;
 pub use mem_sink::MemSink;

@@ -6,8 +6,9 @@ ghost use Rattle.goal_base.specs.Calls.{IsFailing};
 ghost use Rattle.goal_base.specs.Device.{file_of};
 
 use crate::calls::Calls;
-use crate::device::{Host, IoFault, NoMemory, OpenFault};
+use crate::device::{Host, IoFault, OpenFault};
 use crate::files::NamedFiles;
+use goal_limits::NoMemory;
 use std::alloc::Global;
 use std::marker::Model;
 

@@ -3,7 +3,8 @@ ghost use Rattle.std.specs.Prelude.{◌≡◌, ◌↔◌, ℕ, ◌<◌, length, 
 ghost use Rattle.goal_base.specs.Calls.{IsFailing};
 
 use crate::calls::Calls;
-use crate::device::{IoFault, NoMemory, Sink};
+use crate::device::{IoFault, Sink};
+use goal_limits::NoMemory;
 use std::alloc::Global;
 use std::marker::Model;
 

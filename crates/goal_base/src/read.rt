@@ -5,7 +5,7 @@ ghost use Rattle.goal_base.specs.DeviceCalls.{Takes, ReadsFile};
 ghost use Rattle.goal_base.specs.declared.read.ReadAll.TheVariants.{NoMemory};
 
 use crate::device::{Host, IoFault, OpenFault};
-use crate::limits::MAX_INPUT;
+use goal_limits::MAX_INPUT;
 use std::alloc::{AllocError, Global};
 
 // How many bytes are asked for at once.

@@ -1,8 +1,8 @@
 //! Text that is made piece by piece.
 ghost use Rattle.std.specs.Prelude.{◌≡◌, ◌+◌, ◌≤◌, [], ◌++◌, length, take, decimal, IfOk, OnOk, OnErr};
 
-use crate::device::NoMemory;
 use crate::line::put_long;
+use goal_limits::NoMemory;
 use itoa::Buffer;
 use std::alloc::Global;
 use std::marker::Model;

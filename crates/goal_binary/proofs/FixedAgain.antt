@@ -1,7 +1,7 @@
 -- An operation, a dependency or a note that is spelled so in version 1 is read.
 use Rattle.std.proofs.Common.{Ok, ◌≡◌, ℕ, ◌^◌, ◌<◌, ◌≤◌, leb, eqb, true, List, ◌∷◌, ◌++◌, drop, Some, None, refl, ap, subst, ◌∙◌, arith}
 use Rattle.std.proofs.lemmas.Bool.Decides.{nat_tests}
-use Rattle.goal_base.specs.declared.limits.TheConstants.{MAX_BYTES, MAX_NANOS}
+use Rattle.goal_limits.specs.declared.limits.TheConstants.{MAX_BYTES, MAX_NANOS}
 use Rattle.goal_graph.specs.declared.plan.Op.{Op}
 use Rattle.goal_graph.specs.declared.plan.Kind.{Kind}
 use Rattle.goal_graph.specs.declared.plan.Kind.TheVariants.{Calc, Send, Recv}

@@ -1,7 +1,7 @@
 -- A number, the magic and the version that are spelled so are read.
 use Rattle.std.proofs.Common.{◌≡◌, ℕ, ◌+◌, ◌^◌, ◌<◌, ◌≤◌, List, ◌++◌, drop, Some, Option, refl, ap, arith}
 use Rattle.std.proofs.lemmas.Bool.{le-leb}
-use Rattle.goal_base.specs.declared.limits.TheConstants.{MAX_RANKS}
+use Rattle.goal_limits.specs.declared.limits.TheConstants.{MAX_RANKS}
 use Rattle.goal_binary.specs.declared.layout.TheConstants.{MAGIC}
 use Rattle.goal_binary.specs.declared.layout.Layout.{Layout}
 use Rattle.goal_binary.specs.declared.layout.Layout.TheVariants.{Fixed, Packed}

@@ -2,7 +2,7 @@
 use Rattle.std.proofs.Common.{◌≡◌, ◌⊎◌, ℕ, ◌+◌, ◌-◌, ◌<◌, ◌≤◌, Bool, true, false, ltb, leb, ◌&&◌, List, [], ◌∷◌, ◌++◌, length, take, Option, Some, None, Ok, Err, refl, sym, ap, subst, ◌∙◌, arith, inl, inr}
 use Rattle.std.proofs.lemmas.Bool.{le-leb}
 use Rattle.std.proofs.lemmas.List.{drop_at, length-drop, length-take}
-use Rattle.goal_base.specs.declared.limits.TheConstants.{MAX_RANKS}
+use Rattle.goal_limits.specs.declared.limits.TheConstants.{MAX_RANKS}
 use Rattle.goal_graph.proofs.ForCallers.{and_left, and_right}
 use Rattle.goal_binary.specs.declared.fault.FileFault.{FileFault}
 use Rattle.goal_binary.specs.declared.fault.FileFault.TheVariants.{Short, Field}

@@ -1,6 +1,6 @@
 -- The laws that join a schedule and its files.
 use Rattle.std.specs.Prelude.{◌≡◌, ◌≢◌, ◌<◌, ◌≤◌, ◌+◌, ◌^◌, ◌⊎◌, ℕ, List, ◌∷◌, ◌++◌, length, take, drop, Ok, Err, All, None, ◌*◌}
-use Rattle.goal_base.specs.declared.limits.TheConstants.{MAX_INPUT}
+use Rattle.goal_limits.specs.declared.limits.TheConstants.{MAX_INPUT}
 use Rattle.goal_graph.specs.Schedule.{Plan}
 use Rattle.goal_graph.specs.Fault.{IsAccepted, op_count, dep_count, note_count}
 use Rattle.goal_graph.specs.Limits.{AreCountsWithin}

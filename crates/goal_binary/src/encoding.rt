@@ -5,8 +5,8 @@ ghost use Rattle.goal_binary.specs.declared.layout.TheConstants.{MAGIC};
 ghost use Rattle.goal_binary.specs.File.{spelled_u32, spelled_u64, groups, packed, kind_code, any_flag, flags_of, peer_in, tag_in, size_of, op_bytes, when_code, fixed_op, fixed_dep, note_bytes, fixed_note, byte_unless_zero, flag_unless_zero, packed_if_some, head_code, packed_op, packed_dep, packed_note_bytes, packed_note, spelled_count, spelled_op, spelled_dep, spelled_note, spelled_counts, spelled_rank, header, written, file, old};
 
 use crate::layout::{Layout, MAGIC};
-use goal_base::NoMemory;
 use goal_graph::{Dep, Kind, Note, Op, RankPlan, Sched, When};
+use goal_limits::NoMemory;
 use std::alloc::Global;
 
 /// The compiled file of a schedule, which is of version 2.

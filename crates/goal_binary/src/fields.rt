@@ -4,7 +4,7 @@ ghost use Rattle.goal_binary.specs.Fields.{byte_at, u32_at, u64_at, below, group
 
 use crate::fault::FileFault;
 use crate::layout::{Layout, MAGIC, layout_of};
-use goal_base::MAX_RANKS;
+use goal_limits::MAX_RANKS;
 
 /// The input ends before a field is whole.
 fn short(bytes: &[u8]) -> FileFault

@@ -4,8 +4,8 @@ ghost use Rattle.goal_binary.specs.Reading.{most_flags, form_of, form_at, used_u
 
 use crate::fault::FileFault;
 use crate::fields::{byte_at, byte_up_to, misfit};
-use goal_base::{MAX_BYTES, MAX_NANOS};
 use goal_graph::Kind;
+use goal_limits::{MAX_BYTES, MAX_NANOS};
 
 /// What an operation does, but for its numbers.
 #[derive(Clone, Copy)]

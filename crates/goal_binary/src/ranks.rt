@@ -7,8 +7,8 @@ use crate::fault::FileFault;
 use crate::fields::{count_at, rank_count_at};
 use crate::items::{deps_at, notes_at, ops_at};
 use crate::layout::Layout;
-use goal_base::{MAX_DEPS, MAX_NOTES, MAX_OPS};
 use goal_graph::RankPlan;
+use goal_limits::{MAX_DEPS, MAX_NOTES, MAX_OPS};
 use std::alloc::Global;
 
 /// How many operations, dependencies and notes some ranks have together.

@@ -1,6 +1,6 @@
 -- The schedule of each of the ten collectives is accepted.
 use Rattle.std.proofs.Common.{ℕ, ◌≤◌}
-use Rattle.goal_base.specs.declared.limits.TheConstants.{MAX_BYTES}
+use Rattle.goal_limits.specs.declared.limits.TheConstants.{MAX_BYTES}
 use Rattle.goal_graph.specs.Fault.{IsAccepted}
 use Rattle.goal_blocks.specs.declared.collective.Collective.{Collective}
 use Rattle.goal_blocks.specs.declared.collective.Collective.TheVariants.{Bcast, Barrier, Allgather, Allreduce, Alltoall, Reduce, Gather, Scatter, ReduceScatter, Scan}

@@ -2,7 +2,7 @@
 -- right everywhere.
 use Rattle.std.proofs.Common.{⊎_elim, ℕ, ◌^◌, ◌≤◌, ◌<◌, length, sym, subst, arith}
 use Rattle.std.proofs.lemmas.Bool.{cases_lt}
-use Rattle.goal_base.specs.declared.limits.TheConstants.{MAX_BYTES}
+use Rattle.goal_limits.specs.declared.limits.TheConstants.{MAX_BYTES}
 use Rattle.goal_blocks.specs.declared.collective.Collective.{Collective}
 use Rattle.goal_blocks.specs.declared.collective.Collective.TheVariants.{Bcast, Barrier, Allgather, Allreduce, Alltoall, Reduce, Gather, Scatter, ReduceScatter, Scan}
 use Rattle.goal_blocks.specs.Collectives.{initial, wanted}

@@ -5,7 +5,7 @@ use Rattle.std.specs.List.{range_with_len}
 use Rattle.std.proofs.lemmas.Bool.Decides.{nat_tests}
 use Rattle.std.proofs.lemmas.List.Elements.{All-nil, All-cons}
 use Rattle.std.proofs.lemmas.List.FromFn.{length-range_with_len}
-use Rattle.goal_base.specs.declared.limits.TheConstants.{MAX_BYTES}
+use Rattle.goal_limits.specs.declared.limits.TheConstants.{MAX_BYTES}
 use Rattle.goal_blocks.specs.Entries.{Span, slot, sending, receiving}
 use Rattle.goal_blocks.specs.Fitting.{AreFitting}
 use Rattle.goal_blocks.specs.Positions.{ahead, back, low, rounds, parent, upward, span, share}

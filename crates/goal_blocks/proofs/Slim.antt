@@ -5,7 +5,7 @@ use Rattle.std.specs.List.{range_with_len, sum_by}
 use Rattle.std.proofs.lemmas.Bool.{le-leb}
 use Rattle.std.proofs.lemmas.Bool.Decides.{nat_tests}
 use Rattle.std.proofs.lemmas.List.Elements.{All-nil, All-cons}
-use Rattle.goal_base.specs.declared.limits.TheConstants.{MAX_RANKS, MAX_OPS, MAX_DEPS, MAX_NOTES, MAX_BYTES}
+use Rattle.goal_limits.specs.declared.limits.TheConstants.{MAX_RANKS, MAX_OPS, MAX_DEPS, MAX_NOTES, MAX_BYTES}
 use Rattle.goal_blocks.specs.Entries.{Entry, Span, slot, sending, receiving, summing}
 use Rattle.goal_blocks.specs.Fitting.{IsFitting, AreFitting}
 use Rattle.goal_blocks.proofs.Totals.{needs_few, notes_few}

@@ -1,7 +1,7 @@
 -- When a schedule that is told by entries is accepted: what each entry must be, and how many there may be.
 use Rattle.std.specs.Prelude.{ℕ, ◌≡◌, ◌+◌, ◌<◌, ◌≤◌, true, false, length, All}
 use Rattle.std.specs.List.{sum_by, range_with_len}
-use Rattle.goal_base.specs.declared.limits.TheConstants.{MAX_RANKS, MAX_OPS, MAX_DEPS, MAX_NOTES}
+use Rattle.goal_limits.specs.declared.limits.TheConstants.{MAX_RANKS, MAX_OPS, MAX_DEPS, MAX_NOTES}
 use Rattle.goal_graph.specs.Fault.{value_fits, has_peer, is_calc, IsAccepted}
 use Rattle.goal_blocks.specs.Slots.{Adding}
 use Rattle.goal_blocks.specs.Entries.{Entry, Span, made_by}

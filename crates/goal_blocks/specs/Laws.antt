@@ -17,7 +17,7 @@ use Rattle.goal_graph.specs.Fault.{IsAccepted}
 use Rattle.goal_blocks.specs.declared.cert_fault.CertFault.{CertFault}
 use Rattle.goal_blocks.specs.Faults.{HasFault, IsCertificationFault}
 use Rattle.goal_blocks.specs.Positions.{ahead, back}
-use Rattle.goal_base.specs.declared.limits.TheConstants.{MAX_BYTES}
+use Rattle.goal_limits.specs.declared.limits.TheConstants.{MAX_BYTES}
 use Rattle.goal_blocks.specs.declared.collective.Collective.{Collective}
 use Rattle.goal_blocks.specs.Generated.{made, IsPossible}
 use Rattle.goal_blocks.specs.declared.collective.Collective.TheVariants.{Bcast}

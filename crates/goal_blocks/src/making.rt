@@ -10,8 +10,8 @@ ghost use Rattle.goal_blocks.specs.Right.{IsCertifiedByProof, IsRightFor};
 use crate::collective::Collective;
 use crate::gen_fault::GenFault;
 use crate::steps::{Formula, plans_of};
-use goal_base::MAX_BYTES;
 use goal_graph::Sched;
+use goal_limits::MAX_BYTES;
 use std::alloc::Global;
 
 // Whether the number of ranks is a power of two, where it has to be.

@@ -4,7 +4,7 @@ ghost use Rattle.goal_blocks.specs.Values.{is_lower, merge};
 ghost use Rattle.goal_blocks.specs.Stored.{IsSorted};
 
 use crate::collective::Contribution;
-use goal_base::NoMemory;
+use goal_limits::NoMemory;
 use std::alloc::Global;
 
 // Whether the first comes before the second.

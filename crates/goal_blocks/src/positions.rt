@@ -2,7 +2,7 @@
 ghost use Rattle.std.specs.Prelude.{◌≡◌, ◌+◌, ◌-◌, ◌^◌, ◌<◌, ◌≤◌};
 ghost use Rattle.goal_blocks.specs.Positions.{ahead, back, digits};
 
-use goal_base::MAX_RANKS;
+use goal_limits::MAX_RANKS;
 
 /// The rank that is `steps` ahead of another one in the ring.
 #[must_use]

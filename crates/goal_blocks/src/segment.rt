@@ -4,8 +4,8 @@ ghost use Rattle.goal_graph.specs.declared.plan.Note.TheVariants.{Moves};
 ghost use Rattle.goal_blocks.specs.Renamed.{renamed_note};
 ghost use Rattle.goal_blocks.specs.Segments.{exchange};
 
-use goal_base::NoMemory;
 use goal_graph::Note;
+use goal_limits::NoMemory;
 use std::alloc::{AllocError, Global};
 
 /// A segment of a collective: it is done in a block of slots as the collective is done in the first ones. The segment of

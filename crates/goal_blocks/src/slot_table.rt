@@ -6,8 +6,8 @@ ghost use Rattle.goal_blocks.specs.SlotTables.{op_of, AreMoved, AreAdded, AddsMo
 ghost use Rattle.goal_blocks.specs.RankSlots.{AreListed};
 
 use crate::slots::{Adding, Slots, push_slots};
-use goal_base::NoMemory;
 use goal_graph::{Note, OpId, RankPlan, Sched};
+use goal_limits::NoMemory;
 use std::alloc::{AllocError, Global};
 use std::marker::Model;
 

@@ -3,8 +3,8 @@ ghost use Rattle.std.specs.Prelude.{◌≡◌, ℕ, ◌+◌, ◌-◌, ◌<◌, �
 ghost use Rattle.goal_graph.specs.Fault.{IsOp};
 ghost use Rattle.goal_blocks.specs.Slots.{slots_from, slots, adds};
 
-use goal_base::NoMemory;
 use goal_graph::{Note, OpId, Sched};
+use goal_limits::NoMemory;
 use std::alloc::{AllocError, Global};
 use std::marker::Model;
 

@@ -11,7 +11,7 @@ use crate::collective::{Collective, Contribution};
 use crate::merging::merged;
 use crate::slots::Slots;
 use crate::wanted::{asked, first_of, initial_size, is_wanted};
-use goal_base::NoMemory;
+use goal_limits::NoMemory;
 use std::alloc::{AllocError, Global};
 use std::collections::BTreeMap;
 use std::marker::Model;

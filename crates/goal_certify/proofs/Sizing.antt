@@ -9,7 +9,7 @@ use Rattle.goal_graph.specs.declared.plan.Note.{Note}
 use Rattle.goal_graph.specs.declared.plan.Note.TheVariants.{Moves, Adds}
 use Rattle.std.proofs.lemmas.List.Sums.{sum_by_more}
 use Rattle.goal_graph.specs.Schedule.{Plan, ops_at}
-use Rattle.goal_base.specs.declared.limits.TheConstants.{MAX_NOTES}
+use Rattle.goal_limits.specs.declared.limits.TheConstants.{MAX_NOTES}
 use Rattle.goal_graph.specs.Limits.{AreCountsWithin}
 use Rattle.goal_graph.proofs.ForCallers.{lengths-le, ops_at_some}
 use Rattle.goal_blocks.specs.declared.cert_fault.CertFault.TheVariants.{TooLarge}

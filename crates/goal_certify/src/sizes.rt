@@ -3,9 +3,9 @@ ghost use Rattle.std.specs.Prelude.{◌≡◌, ◌≤◌, ◌↔◌, ◌^◌, Al
 ghost use Rattle.goal_blocks.specs.Certification.{NamesLowSlots, moved_count};
 ghost use Rattle.goal_certify.specs.Stages.{IsFree, IsStopped};
 
-use goal_base::MAX_NOTES;
 use goal_blocks::CertFault;
 use goal_graph::{Note, Sched};
+use goal_limits::MAX_NOTES;
 
 /// The most operations that a rank may have.
 const MOST_OPS: usize = 2_048;

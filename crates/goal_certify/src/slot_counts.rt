@@ -4,8 +4,8 @@ ghost use Rattle.goal_graph.specs.Schedule.{operations};
 ghost use Rattle.goal_blocks.specs.Slots.{moved_by, slots};
 
 use crate::sizes::count_moved;
-use goal_base::MAX_NOTES;
 use goal_graph::{Note, Sched};
+use goal_limits::MAX_NOTES;
 use std::alloc::{AllocError, Global};
 
 /// The number of slots of each operation of a schedule, by rank and number.

@@ -9,8 +9,8 @@ ghost use Rattle.goal_graph.specs.Interleaving.{IsInterleaving};
 ghost use Rattle.goal_blocks.specs.Walk.{no_send, ComesFirst, TakesFirst, IsWalk};
 ghost use Rattle.goal_certify.specs.WalkSoFar.{act_of, with_action, IsLater};
 
-use goal_base::NoMemory;
 use goal_graph::{OpId, Sched, When};
+use goal_limits::NoMemory;
 use goal_progress::{Cursor, Progress, at_first};
 use std::alloc::Global;
 use std::marker::Model;

@@ -1,6 +1,6 @@
 -- What certification says of simulated runs, and of the schedules that are printed.
 use Rattle.std.specs.Prelude.{ℕ, ◌≡◌, ◌≤◌, List, length}
-use Rattle.goal_base.specs.declared.limits.TheConstants.{MAX_BYTES}
+use Rattle.goal_limits.specs.declared.limits.TheConstants.{MAX_BYTES}
 use Rattle.goal_graph.specs.declared.action.Timed.{Timed}
 use Rattle.goal_graph.specs.Schedule.{Plan}
 use Rattle.goal_graph.specs.Action.{plain}

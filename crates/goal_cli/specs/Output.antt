@@ -1,7 +1,7 @@
 -- What a command reads, what it makes of that, and why it refuses. Each part of its sentence is told once: the source says which
 -- schedule is shown, the costs what its actions cost, the view what is written and how that ends.
 use Rattle.std.specs.Prelude.{ℕ, ◌≡◌, ◌≢◌, ◌⊎◌, ◌<◌, ◌≤◌, ◌^◌, Bool, true, false, List, length, Option, Some, None, is_some, IfSome, IsSomeAnd, Ok, Err}
-use Rattle.goal_base.specs.declared.limits.TheConstants.{MAX_INPUT}
+use Rattle.goal_limits.specs.declared.limits.TheConstants.{MAX_INPUT}
 use Rattle.goal_graph.specs.Schedule.{Plan}
 use Rattle.sim_params.specs.Costs.{Numbers, CostModel, log_gops}
 use Rattle.sim_params.specs.Budget.{budget}

@@ -21,7 +21,8 @@ use crate::pages::Output;
 use crate::printing::{let_go, print_output};
 use crate::refusal::refused_line;
 use crate::source::gather;
-use goal_base::{Host, IoFault, NoMemory, Sink, write_all, write_file};
+use goal_base::{Host, IoFault, Sink, write_all, write_file};
+use goal_limits::NoMemory;
 use goal_words::{LineFault, Sentence, View, read_words};
 use std::alloc::Global;
 

@@ -1,6 +1,6 @@
 // From what a command works on to what it makes of it.
 ghost use Rattle.std.specs.Prelude.{ℕ, ◌≡◌, ◌≢◌, ◌≤◌, List, length, Option, IfOk, IfErr};
-ghost use Rattle.goal_base.specs.declared.limits.TheConstants.{MAX_INPUT};
+ghost use Rattle.goal_limits.specs.declared.limits.TheConstants.{MAX_INPUT};
 ghost use Rattle.sim_params.specs.Costs.{CostModel};
 ghost use Rattle.sim_params.specs.Numbers.{numbers};
 ghost use Rattle.sim_classes.specs.Known.{known};
@@ -17,9 +17,9 @@ ghost use Rattle.goal_cli.specs.Stop.{IsStop, IsPaidRun, IsUnpaid};
 use crate::answer::{Ending, Refusal};
 use crate::pages::{Output, Pages, Whole};
 use crate::verdict::verdict;
-use goal_base::NoMemory;
 use goal_binary::{encode, laws_of_files};
 use goal_graph::Sched;
+use goal_limits::NoMemory;
 use goal_print::{Blocks, heading};
 use goal_views::show_run;
 use goal_words::{Costing, RunView, Sentence, View};

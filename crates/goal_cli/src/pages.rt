@@ -2,7 +2,7 @@
 ghost use Rattle.std.specs.Prelude.{◌≡◌, ◌++◌, ◌<◌, ◌≤◌, [], length, unwrap_or, IfOk, OnOk};
 
 use crate::answer::Ending;
-use goal_base::NoMemory;
+use goal_limits::NoMemory;
 use goal_print::Blocks;
 use sim_classes::Machine;
 use sim_events::Unkept;

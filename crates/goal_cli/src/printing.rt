@@ -5,7 +5,8 @@ ghost use Rattle.goal_cli.specs.Answer.{GrowsByPart};
 ghost use Rattle.goal_cli.specs.Pages.{text_of};
 
 use crate::pages::{Output, PAGE};
-use goal_base::{IoFault, NoMemory, Sink, write_all};
+use goal_base::{IoFault, Sink, write_all};
+use goal_limits::NoMemory;
 use std::alloc::Global;
 
 // Gives back the memory of an output. A function of its own keeps what goes here out of the proofs of its callers.

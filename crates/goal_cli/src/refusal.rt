@@ -4,10 +4,11 @@ ghost use Rattle.goal_base.specs.Text.{pair_text};
 ghost use Rattle.goal_cli.specs.Refusal.{at_text, plan_words, text_words, file_words, machine_words, generator_words, refusal_words, refused_line};
 
 use crate::answer::Refusal;
-use goal_base::{NoMemory, TextOut};
+use goal_base::TextOut;
 use goal_binary::FileFault;
 use goal_collectives::GenFault;
 use goal_graph::PlanFault;
+use goal_limits::NoMemory;
 use goal_parser::TextFault;
 use sim_classes::MachineFault;
 use std::alloc::Global;

@@ -1,6 +1,6 @@
 // What a command works on: the schedule that its input says or that it makes, and the text of its machine.
 ghost use Rattle.std.specs.Prelude.{◌≡◌, ◌≤◌, true, false, length, Some, OnOk, IfOk, IfErr};
-ghost use Rattle.goal_base.specs.declared.limits.TheConstants.{MAX_INPUT};
+ghost use Rattle.goal_limits.specs.declared.limits.TheConstants.{MAX_INPUT};
 ghost use Rattle.goal_base.specs.Device.{HostState, Later, KeepsFiles, SameReadCounts};
 ghost use Rattle.goal_input.specs.Input.{IsReadAs, ForFile};
 ghost use Rattle.goal_collectives.specs.Probe.{probed};
@@ -12,11 +12,12 @@ ghost use Rattle.goal_cli.specs.Answer.{ForNamed, ForRead, IsReadOut, IsTaken};
 ghost use Rattle.goal_cli.specs.Unmade.{IsUnmade, IsUntold, IsIdle, IsGot, IsTakenFrom, IsGathered};
 
 use crate::answer::{Answer, Refusal};
-use goal_base::{Host, MAX_BYTES, NoMemory, ReadAll, read_all};
+use goal_base::{Host, ReadAll, read_all};
 use goal_blocks::Collective;
 use goal_collectives::{GenFault, MAX_ROUNDS, generate, probe_plan};
 use goal_graph::Sched;
 use goal_input::{Unread, read_schedule};
+use goal_limits::{MAX_BYTES, NoMemory};
 use goal_rooted::generate_rooted;
 use goal_words::{Costing, Sentence, Source};
 use std::alloc::Global;

@@ -5,10 +5,11 @@ ghost use Rattle.goal_cli.specs.Verdict.{kind_text, op_text, ops_text, slot_text
 
 use crate::answer::Ending;
 use crate::pages::Whole;
-use goal_base::{NoMemory, TextOut};
+use goal_base::TextOut;
 use goal_blocks::{CertFault, Collective};
 use goal_certify::certify;
 use goal_graph::{OpId, Sched};
+use goal_limits::NoMemory;
 use std::alloc::Global;
 
 /// The verdict on a schedule, for a collective.

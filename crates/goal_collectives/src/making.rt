@@ -8,9 +8,9 @@ ghost use Rattle.goal_blocks.specs.Generated.{made, IsPossible};
 ghost use Rattle.goal_blocks.specs.GenFaults.{IsGenFault};
 
 use crate::formula::Asked;
-use goal_base::MAX_BYTES;
 use goal_blocks::{Collective, GenFault, possible, schedule_by};
 use goal_graph::Sched;
+use goal_limits::MAX_BYTES;
 use std::alloc::Global;
 
 /// The schedule of a broadcast, barrier, allgather, allreduce or alltoall among so many ranks, with messages of so many

@@ -5,8 +5,8 @@ ghost use Rattle.goal_graph.specs.Fault.{IsAccepted};
 ghost use Rattle.goal_collectives.specs.Probe.{idle_ranks, op_in, requires_end, after_last, source_in, with_work, with_receive, with_round, probed};
 
 use crate::draws::{Draws, Round};
-use goal_base::NoMemory;
 use goal_graph::{Dep, Kind, Op, RankPlan, Sched, When};
+use goal_limits::NoMemory;
 use std::alloc::{AllocError, Global};
 
 /// The most rounds of a probe.

@@ -4,8 +4,8 @@ ghost use Rattle.goal_blocks.specs.Steps.{entry_of, needs_of};
 ghost use Rattle.goal_blocks.specs.Positions.{flipped, digits};
 ghost use Rattle.goal_blocks.specs.Made.{bcast_in, bcast_count, bcast_send, round_in, barrier_in, allreduce_in, allgather_in, alltoall_in};
 
-use goal_base::MAX_RANKS;
 use goal_blocks::{Effect, Needs, Step, ahead, back, before_round, digits, power};
+use goal_limits::MAX_RANKS;
 
 // How many operations a virtual rank has in a broadcast.
 pub fn bcast_count(ranks: u32, rank: u32) -> u32

@@ -15,7 +15,7 @@ use Rattle.goal_graph.specs.declared.rows.Listing.{Listing}
 use Rattle.goal_graph.specs.declared.rows.Listing.TheVariants.{Needs, WaitingOn}
 use Rattle.goal_graph.specs.Schedule.{Plan, needs, op_at, ops_at, deps_at, places_of_rank, places_from, operations}
 use Rattle.goal_graph.specs.Concerned.{waiting_on}
-use Rattle.goal_base.specs.declared.limits.TheConstants.{MAX_OPS}
+use Rattle.goal_limits.specs.declared.limits.TheConstants.{MAX_OPS}
 use Rattle.goal_graph.specs.Fault.{IsOp, op_count, dep_count, note_count}
 use Rattle.goal_graph.specs.Rows.{row, rank_rows, all_rows}
 use Rattle.goal_graph.specs.Tables.{index_of, AreStarts}

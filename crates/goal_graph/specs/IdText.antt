@@ -1,8 +1,7 @@
 -- How an operation is named in printed texts.
-use Rattle.std.specs.Prelude.{ℕ, List}
-use Rattle.goal_base.specs.Text.{pair_text}
+use Rattle.std.specs.Prelude.{ℕ, List, ◌++◌, codes, decimal}
 use Rattle.goal_graph.specs.declared.action.OpId.{OpId}
 
--- rank and number of an operation
+-- rank and number of an operation, with a blank between
 abbrev pub id_text : OpId → List ℕ
-id_text x = pair_text x.rank x.op
+id_text x = decimal x.rank ++ codes " " ++ decimal x.op

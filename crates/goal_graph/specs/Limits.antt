@@ -5,7 +5,7 @@ use Rattle.goal_graph.specs.declared.fault.PlanFault.TheVariants.{Count, Value}
 use Rattle.goal_graph.specs.declared.plan.Op.{Op}
 use Rattle.goal_graph.specs.Schedule.{Plan}
 use Rattle.goal_graph.specs.Fault.{value_fits, op_count, dep_count, note_count}
-use Rattle.goal_base.specs.declared.limits.TheConstants.{MAX_RANKS, MAX_OPS, MAX_DEPS, MAX_NOTES}
+use Rattle.goal_limits.specs.declared.limits.TheConstants.{MAX_RANKS, MAX_OPS, MAX_DEPS, MAX_NOTES}
 
 -- there is a rank, and all ranks, operations, dependencies and notes are within their limits
 pub record AreCountsWithin (plans : List Plan) : Type 0 where

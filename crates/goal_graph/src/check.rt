@@ -6,7 +6,7 @@ ghost use Rattle.goal_graph.specs.Widths.{IsKindInWidth, IsOpInWidth, IsNoteInWi
 
 use crate::fault::PlanFault;
 use crate::plan::{Dep, Kind, Note, Op, RankPlan};
-use goal_base::{MAX_BYTES, MAX_DEPS, MAX_NANOS, MAX_NOTES, MAX_OPS, MAX_RANKS};
+use goal_limits::{MAX_BYTES, MAX_DEPS, MAX_NANOS, MAX_NOTES, MAX_OPS, MAX_RANKS};
 
 // Its size or duration is within the limit, and a calc has nic 0.
 fn is_value_in_range(kind: Kind, nic: u8) -> bool

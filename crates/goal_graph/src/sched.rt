@@ -15,7 +15,7 @@ use crate::fault::PlanFault;
 use crate::listing::list_operations;
 use crate::plan::{Kind, Message, Need, Op, RankPlan};
 use crate::tables::Tables;
-use goal_base::{MAX_BYTES, MAX_OPS};
+use goal_limits::{MAX_BYTES, MAX_OPS};
 use std::alloc::Global;
 use std::marker::Model;
 

@@ -1,8 +1,8 @@
 -- A compiled file as an input.
 use Rattle.std.proofs.Common.{◌≡◌, ◌≤◌, ℕ, true, List, length, refl, Result, IfOk, Vec, Global}
 use Rattle.std.specs.declared.result.Result.TheVariants.{Ok, Err}
-use Rattle.goal_base.specs.declared.device.NoMemory.{NoMemory}
-use Rattle.goal_base.specs.declared.limits.TheConstants.{MAX_INPUT}
+use Rattle.goal_limits.specs.declared.memory.NoMemory.{NoMemory}
+use Rattle.goal_limits.specs.declared.limits.TheConstants.{MAX_INPUT}
 use Rattle.goal_graph.specs.Schedule.{Plan}
 use Rattle.goal_graph.specs.Fault.{IsAccepted}
 use Rattle.goal_binary.specs.File.{file, written, header}

@@ -1,6 +1,6 @@
 -- What is kept of an input that comes in pieces.
 use Rattle.std.specs.Prelude.{ℕ, ◌≡◌, ◌≢◌, ◌+◌, ◌≤◌, ◌==◌, Bool, true, false, List, [], ◌∷◌, length}
-use Rattle.goal_base.specs.declared.limits.TheConstants.{MAX_INPUT}
+use Rattle.goal_limits.specs.declared.limits.TheConstants.{MAX_INPUT}
 use Rattle.goal_base.specs.Device.{HostState}
 use Rattle.goal_base.specs.DeviceCalls.{Takes}
 use Rattle.goal_parser.specs.declared.faults.TextFault.TheVariants as text

@@ -1,6 +1,6 @@
 -- What reading a schedule from a file answers.
 use Rattle.std.specs.Prelude.{ℕ, ◌≢◌, ◌<◌, List, length, Result, Ok, Err}
-use Rattle.goal_base.specs.declared.limits.TheConstants.{MAX_INPUT}
+use Rattle.goal_limits.specs.declared.limits.TheConstants.{MAX_INPUT}
 use Rattle.goal_base.specs.Device.{HostState, Later, KeepsFiles, SameReadCounts}
 use Rattle.goal_parser.specs.declared.faults.TextFault.TheVariants as text
 use Rattle.goal_binary.specs.declared.fault.FileFault.TheVariants as file

@@ -1,14 +1,14 @@
 //! An input as it comes, piece by piece.
 ghost use Rattle.std.specs.Prelude.{◌≡◌, ◌<◌, ◌≤◌, ℕ, ◌+◌, ◌^◌, List, [], ◌++◌, length, true, false, IfOk, IfErr, OnOk};
-ghost use Rattle.goal_base.specs.declared.limits.TheConstants.{MAX_INPUT};
+ghost use Rattle.goal_limits.specs.declared.limits.TheConstants.{MAX_INPUT};
 ghost use Rattle.goal_input.specs.Input.{is_compiled, IsReadAs};
 ghost use Rattle.goal_input.specs.Unread.{IsFaultIn};
 ghost use Rattle.goal_input.specs.Follows.{Follows};
 
 use crate::unread::Unread;
-use goal_base::NoMemory;
 use goal_binary::{FileFault, MAGIC, decode};
 use goal_graph::Sched;
+use goal_limits::NoMemory;
 use goal_parser::{TextFault, TextReader};
 use std::alloc::Global;
 

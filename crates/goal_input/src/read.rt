@@ -1,6 +1,6 @@
 //! Reading a schedule from a file.
 ghost use Rattle.std.specs.Prelude.{◌≡◌, ◌⊎◌, ℕ, ◌+◌, ◌≤◌, true, List, length, IfOk, IfErr};
-ghost use Rattle.goal_base.specs.declared.limits.TheConstants.{MAX_INPUT};
+ghost use Rattle.goal_limits.specs.declared.limits.TheConstants.{MAX_INPUT};
 ghost use Rattle.goal_base.specs.Device.{Rose, SameRest, ReadsAtMost, ReadFaulted};
 ghost use Rattle.goal_base.specs.DeviceCalls.{Takes};
 ghost use Rattle.goal_input.specs.Input.{IsReadAs, ForFile};
@@ -9,8 +9,9 @@ ghost use Rattle.goal_input.specs.Unread.{IsUnread, ReadsSchedule};
 
 use crate::intake::Intake;
 use crate::unread::Unread;
-use goal_base::{Host, IoFault, MAX_INPUT, OpenFault};
+use goal_base::{Host, IoFault, OpenFault};
 use goal_graph::Sched;
+use goal_limits::MAX_INPUT;
 use std::alloc::Global;
 
 // How many bytes are asked for at once.

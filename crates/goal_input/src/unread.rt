@@ -2,8 +2,8 @@
 ghost use Rattle.std.specs.Prelude.{◌≡◌};
 ghost use Rattle.goal_input.specs.declared.unread.Unread.TheVariants.{NoMemory};
 
-use goal_base::NoMemory;
 use goal_binary::FileFault;
+use goal_limits::NoMemory;
 use goal_parser::TextFault;
 
 /// Why a file is not read as a schedule: the first of these that applies. Want of memory is `NoMemory`, and no fault of

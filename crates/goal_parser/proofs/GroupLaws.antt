@@ -4,7 +4,7 @@ use Rattle.std.specs.Option.{option_or}
 use Rattle.std.specs.Prelude.{⊤, ◌&&◌, nat_le}
 use Rattle.std.proofs.lemmas.List.{reverse-append}
 use Rattle.std.proofs.lemmas.Bool.{and_from, le-leb}
-use Rattle.goal_base.specs.declared.limits.TheConstants.{MAX_BYTES, MAX_NANOS}
+use Rattle.goal_limits.specs.declared.limits.TheConstants.{MAX_BYTES, MAX_NANOS}
 use Rattle.goal_lexer.specs.declared.tokens.Token.{Token}
 use Rattle.goal_lexer.specs.declared.tokens.TokenKind.{TokenKind}
 use Rattle.goal_lexer.specs.declared.tokens.TokenKind.TheVariants as token

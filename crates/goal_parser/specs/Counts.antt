@@ -3,7 +3,7 @@ use Rattle.std.specs.Prelude.{◌+◌, Bool, false, nat_le, List, [], ◌∷◌}
 use Rattle.goal_lexer.specs.declared.tokens.Token.{Token}
 use Rattle.goal_lexer.specs.declared.tokens.TokenKind.{TokenKind}
 use Rattle.goal_lexer.specs.declared.tokens.TokenKind.TheVariants as token
-use Rattle.goal_base.specs.declared.limits.TheConstants.{MAX_OPS, MAX_DEPS, MAX_NOTES}
+use Rattle.goal_limits.specs.declared.limits.TheConstants.{MAX_OPS, MAX_DEPS, MAX_NOTES}
 use Rattle.goal_parser.specs.declared.counts.Counts.{Counts}
 
 -- `calc`, `send` and `recv` begin an operation, `requires` and `irequires` a dependency, `moves` and `adds` a note

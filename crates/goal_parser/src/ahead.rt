@@ -1,6 +1,6 @@
 //! Tokens that are taken several at once, where they stand in the piece as most texts have them.
 ghost use Rattle.std.specs.Prelude.{◌≡◌, ◌≢◌, ℕ, ◌+◌, ◌-◌, ◌<◌, ◌≤◌, ◌⊎◌, ◌^◌, true, false, List, [], ◌∷◌, length, take, drop, Some, IfOk, IfErr, IfSome, slice_index};
-ghost use Rattle.goal_base.specs.declared.limits.TheConstants.{MAX_BYTES, MAX_OPS};
+ghost use Rattle.goal_limits.specs.declared.limits.TheConstants.{MAX_BYTES, MAX_OPS};
 ghost use Rattle.goal_lexer.specs.declared.tokens.Token.{Token};
 ghost use Rattle.goal_lexer.specs.Ahead.{AreBlanks, is_word, IsAhead};
 ghost use Rattle.goal_lexer.specs.Stands.{begins_run};
@@ -14,11 +14,11 @@ use crate::parser::Parser;
 use crate::reader::Reader;
 use crate::sentence::State;
 use crate::token_faults::TokenFault;
-use goal_base::{MAX_BYTES, MAX_DEPS, MAX_NANOS, MAX_NOTES, MAX_OPS};
 use goal_lexer::{
     Amount, TokenKind, begins_with_colon, begins_with_no_places, blanks_ahead, label_ahead,
     number_ahead, size_ahead, spaced_word_ahead, word_ahead,
 };
+use goal_limits::{MAX_BYTES, MAX_DEPS, MAX_NANOS, MAX_NOTES, MAX_OPS};
 
 /// A number below 2^32 that stands ahead, and the index behind it.
 #[derive(Clone, Copy)]

@@ -2,8 +2,8 @@
 ghost use Rattle.std.specs.Prelude.{◌≡◌, false};
 ghost use Rattle.goal_parser.specs.Counts.{counts_with, is_too_many};
 
-use goal_base::{MAX_DEPS, MAX_NOTES, MAX_OPS};
 use goal_lexer::TokenKind;
+use goal_limits::{MAX_DEPS, MAX_NOTES, MAX_OPS};
 
 /// How many of each the whole text has begun so far.
 #[derive(Clone, Copy)]

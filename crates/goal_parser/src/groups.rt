@@ -2,7 +2,7 @@
 //!
 //! The parser keeps then what it keeps where it takes them one by one.
 ghost use Rattle.std.specs.Prelude.{◌≡◌, ◌≢◌, ℕ, ◌<◌, ◌≤◌, ◌⊎◌, ◌++◌, false, List, [], ◌∷◌, Some, OnOk, IfErr, length, if◌then◌else◌};
-ghost use Rattle.goal_base.specs.declared.limits.TheConstants.{MAX_BYTES, MAX_NANOS};
+ghost use Rattle.goal_limits.specs.declared.limits.TheConstants.{MAX_BYTES, MAX_NANOS};
 ghost use Rattle.goal_lexer.specs.declared.tokens.Token.{Token};
 ghost use Rattle.goal_parser.specs.Actions.{op_of};
 ghost use Rattle.goal_parser.specs.Counts.{is_too_many};

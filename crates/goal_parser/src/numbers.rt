@@ -4,7 +4,7 @@ ghost use Rattle.goal_parser.specs.Numbers.{option_most, most, least, number_wit
 
 use crate::draft::OptionWord;
 use crate::sentence::State;
-use goal_base::{MAX_BYTES, MAX_NANOS, MAX_RANKS};
+use goal_limits::{MAX_BYTES, MAX_NANOS, MAX_RANKS};
 
 /// The limit of an option's number.
 fn option_most(option: OptionWord) -> u64

@@ -7,7 +7,7 @@ use Rattle.std.proofs.lemmas.List.Elements.{recursion_from_All}
 use Rattle.std.proofs.lemmas.Option.{slice_get_within}
 use Rattle.std.proofs.lemmas.Bool.{and_parts}
 use Rattle.std.proofs.lemmas.Bool.Decides.{nat_tests}
-use Rattle.goal_base.specs.declared.limits.TheConstants.{MAX_OPS, MAX_BYTES, MAX_NANOS}
+use Rattle.goal_limits.specs.declared.limits.TheConstants.{MAX_OPS, MAX_BYTES, MAX_NANOS}
 use Rattle.goal_graph.specs.declared.fault.PlanFault.{PlanFault}
 use Rattle.goal_graph.specs.declared.fault.PlanFault.TheVariants.{Value, Peer, DepRange, NoteMisfit}
 use Rattle.goal_graph.specs.declared.plan.Op.{Op}

@@ -2,8 +2,8 @@
 ghost use Rattle.std.specs.Prelude.{◌≡◌, IfOk, IfErr};
 
 use crate::print::print_text;
-use goal_base::NoMemory;
 use goal_graph::Sched;
+use goal_limits::NoMemory;
 use goal_parser::{TextFault, read_text};
 use std::alloc::Global;
 

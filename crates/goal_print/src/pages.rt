@@ -3,8 +3,9 @@ ghost use Rattle.std.specs.Prelude.{◌≡◌, ◌++◌, [], IfOk, OnErr};
 ghost use Rattle.goal_print.specs.Canonical.{blocks};
 
 use crate::print::put_rank;
-use goal_base::{NoMemory, TextOut};
+use goal_base::TextOut;
 use goal_graph::Sched;
+use goal_limits::NoMemory;
 use std::alloc::Global;
 use std::marker::Model;
 

@@ -4,8 +4,9 @@ ghost use Rattle.std.specs.List.{flat_map};
 ghost use Rattle.goal_parser.specs.Reads.{reads, plans};
 ghost use Rattle.goal_print.specs.Canonical.{label, number_or_any, action, op_line, op_lines, verb, dep_line, note_line, heading, block, unless_empty, blocks, canonical};
 
-use goal_base::{NoMemory, TextOut, put_long, put_number, put_word};
+use goal_base::{TextOut, put_long, put_number, put_word};
 use goal_graph::{Dep, Kind, Note, Op, RankPlan, Sched, When};
+use goal_limits::NoMemory;
 use std::alloc::Global;
 
 // A line of an operation, a dependency or a note has at most so many bytes.

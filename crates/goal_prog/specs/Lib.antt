@@ -1,5 +1,2 @@
 -- What a reader must believe.
 pub mod Exit
-pub mod Real
--- What the clauses cite of lower crates.
-pub use Rattle.goal_base.specs.Device

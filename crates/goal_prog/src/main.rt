@@ -2,12 +2,11 @@
 #![tactic(auto)]
 
 mod exit;
-mod real;
 
 use exit::{exit_of, exit_without_words};
 use goal_base::write_all;
 use goal_cli::goal;
-use real::{RealHost, RealSink};
+use goal_system::{RealHost, RealSink};
 use std::io::ErrorKind;
 use std::process::ExitCode;
 use std::rt::Files;

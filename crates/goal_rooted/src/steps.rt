@@ -5,8 +5,8 @@ ghost use Rattle.goal_blocks.specs.Positions.{rounds, upward};
 ghost use Rattle.goal_blocks.specs.MadeRooted.{earlier_sum, reduce_in, gather_in, give_in, scatter_in, reduce_scatter_in, scan_in, scan_count};
 
 use crate::tree::{children, low, parent, part, share, upward};
-use goal_base::MAX_RANKS;
 use goal_blocks::{Effect, Needs, Step, ahead, back, before_round, power};
+use goal_limits::MAX_RANKS;
 
 // What comes after the calcs of the rounds before this one: the last of them.
 fn earlier_sum(round: u32) -> Needs

@@ -3,8 +3,8 @@ ghost use Rattle.std.specs.Prelude.{◌≡◌, ◌+◌, ◌^◌, ◌<◌, ◌≤
 ghost use Rattle.goal_blocks.specs.Steps.{moves_of, adds_of};
 ghost use Rattle.goal_blocks.specs.Positions.{low, rounds, parent, upward, share};
 
-use goal_base::MAX_RANKS;
 use goal_blocks::{Effect, ahead, digits, power};
+use goal_limits::MAX_RANKS;
 
 /// The greatest power of two that divides a number.
 #[tactic(auto, unfolding(goal_blocks::specs::Positions::low))]

@@ -1,9 +1,9 @@
 //! What no clause says: that the calls succeed, and the faults of files that are written out.
 ghost use Rattle.std.specs.Prelude.{◌≡◌, IfOk, IsOkUnless};
 
-use goal_base::NoMemory;
 use goal_binary::{FileFault, decode, encode, encode_old};
 use goal_graph::{Dep, Kind, Note, Op, PlanFault, RankPlan, Sched, When};
+use goal_limits::NoMemory;
 use std::alloc::{AllocError, Global};
 use std::test::Fail;
 

@@ -6,8 +6,8 @@ ghost use Rattle.goal_blocks.specs.Stored.{IsSorted};
 ghost use Rattle.goal_values.specs.Sums.{meaning, IsBelow, HasGrown};
 ghost use Rattle.goal_values.specs.Parts.{HasSame, AreSums, told};
 
-use goal_base::NoMemory;
 use goal_blocks::Contribution;
+use goal_limits::NoMemory;
 use std::alloc::{AllocError, Global};
 use std::marker::Model;
 

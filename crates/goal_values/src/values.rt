@@ -13,8 +13,8 @@ ghost use Rattle.goal_values.specs.Summed.{Summed, lent_values, IsLent, lesser};
 
 use crate::rows::Rows;
 use crate::sums::{Sums, Term};
-use goal_base::NoMemory;
 use goal_blocks::{Collective, Contribution, Segment, asked, first_of, initial_size, is_wanted};
+use goal_limits::NoMemory;
 use std::alloc::{AllocError, Global};
 use std::marker::Model;
 

@@ -3,8 +3,8 @@ ghost use Rattle.std.specs.Prelude.{◌≡◌, IfOk};
 ghost use Rattle.sim_params.specs.Run.{IsFinished};
 ghost use Rattle.goal_views.specs.Views.{knots_shown};
 
-use goal_base::NoMemory;
 use goal_graph::Sched;
+use goal_limits::NoMemory;
 use sim_cycles::{knots, knots_text};
 use sim_events::{Engine, History};
 use sim_params::Costs;

@@ -8,8 +8,8 @@ ghost use Rattle.sim_stuck.specs.StuckText.{stuck_text};
 ghost use Rattle.goal_views.specs.Views.{run_text};
 
 use crate::shown::Shown;
-use goal_base::NoMemory;
 use goal_graph::Sched;
+use goal_limits::NoMemory;
 use sim_events::{Engine, Unkept};
 use sim_params::Costs;
 use sim_stuck::{explain, stuck_text};

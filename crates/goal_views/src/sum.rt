@@ -3,8 +3,9 @@ ghost use Rattle.std.specs.Prelude.{◌≡◌, IfOk};
 ghost use Rattle.sim_params.specs.Stuck.{is_stuck};
 ghost use Rattle.goal_views.specs.Views.{sum_of_ends, probe_text};
 
-use goal_base::{NoMemory, TextOut};
+use goal_base::TextOut;
 use goal_graph::Sched;
+use goal_limits::NoMemory;
 use sim_events::{Engine, History};
 use sim_params::Costs;
 use sim_timeline::first_line_counted;

@@ -1,6 +1,6 @@
 -- The command that a line or a sentence of the code stands for, and what is so of the costs and sizes of each.
 use Rattle.std.specs.Prelude.{◌≤◌}
-use Rattle.goal_base.specs.declared.limits.TheConstants.{MAX_BYTES}
+use Rattle.goal_limits.specs.declared.limits.TheConstants.{MAX_BYTES}
 use Rattle.sim_params.specs.Numbers.{numbers}
 use Rattle.goal_words.specs.declared.line.Line.{Line}
 use Rattle.goal_words.specs.declared.kinds.TheConstants.{MAX_ROUNDS}

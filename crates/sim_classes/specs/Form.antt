@@ -3,7 +3,7 @@ use Rattle.std.specs.Prelude.{ℕ, zero, suc, ◌+◌, ◌==◌, ◌&&◌, ◌||
 use Rattle.std.specs.List.{list_all, slice_split}
 use Rattle.std.specs.Char.{is_ascii_digit}
 use Rattle.std.specs.Str.Parse.{digits_value}
-use Rattle.goal_base.specs.declared.limits.TheConstants.{MAX_RANKS, MAX_PARAM, MAX_PER_BYTE}
+use Rattle.goal_limits.specs.declared.limits.TheConstants.{MAX_RANKS, MAX_PARAM, MAX_PER_BYTE}
 use Rattle.sim_params.specs.declared.params.TheConstants.{MAX_PICOS}
 use Rattle.sim_params.specs.Costs.{Numbers}
 use Rattle.sim_params.specs.Numbers.{asked}

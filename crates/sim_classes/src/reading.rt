@@ -1,6 +1,6 @@
 // From a text to its machine.
 ghost use Rattle.std.specs.Prelude.{ℕ, List, [], ◌∷◌, ◌++◌, ◌≡◌, ◌≢◌, ◌≤◌, ◌<◌, Ok, Err, None, map, length, Some, IfOk, IfErr};
-ghost use Rattle.goal_base.specs.declared.limits.TheConstants.{MAX_RANKS};
+ghost use Rattle.goal_limits.specs.declared.limits.TheConstants.{MAX_RANKS};
 ghost use Rattle.sim_params.specs.Costs.{Numbers};
 ghost use Rattle.sim_params.specs.Numbers.{numbers};
 ghost use Rattle.sim_classes.specs.declared.machine.TheConstants.{MAX_NODE};
@@ -14,7 +14,7 @@ use crate::fault::MachineFault;
 use crate::machine::{MAX_CLASSES, MAX_NODE, MAX_PAIRS, Machine};
 use crate::told::{Told, pair_key};
 use crate::words::Words;
-use goal_base::{MAX_PARAM, MAX_PER_BYTE, MAX_RANKS};
+use goal_limits::{MAX_PARAM, MAX_PER_BYTE, MAX_RANKS};
 use sim_params::{MAX_PICOS, Params};
 use std::alloc::Global;
 use std::collections::BTreeMap;

@@ -1,6 +1,6 @@
 // The knots of stuck operations.
 ghost use Rattle.std.specs.Prelude.{◌≡◌, ◌≤◌, ◌<◌, ℕ, length, slice_index, is_none, IfOk};
-ghost use Rattle.goal_base.specs.declared.limits.TheConstants.{MAX_OPS};
+ghost use Rattle.goal_limits.specs.declared.limits.TheConstants.{MAX_OPS};
 ghost use Rattle.sim_cycles.specs.Knots.{named, members, knots};
 ghost use Rattle.sim_cycles.specs.Laws.{IsInOrder, NamesListed};
 ghost use Rattle.sim_cycles.specs.Places.{op_at, AreTargets, AreCounts};
@@ -8,8 +8,8 @@ ghost use Rattle.sim_cycles.specs.Places.{op_at, AreTargets, AreCounts};
 use crate::heads::heads;
 use crate::knot::{Knot, OpList};
 use crate::targets::targets;
-use goal_base::NoMemory;
 use goal_graph::{Stuck, Why};
+use goal_limits::NoMemory;
 use std::alloc::{AllocError, Global};
 
 /// The knots of a list of stuck operations, by their least members.

@@ -4,8 +4,9 @@ ghost use Rattle.std.specs.List.{flat_map};
 ghost use Rattle.sim_cycles.specs.KnotsText.{knot_word, member_text, knot_line, knots_text};
 
 use crate::knot::Knot;
-use goal_base::{NoMemory, TextOut};
+use goal_base::TextOut;
 use goal_graph::OpId;
+use goal_limits::NoMemory;
 use std::alloc::Global;
 
 /// A line for each knot, in the order of the list: `alone R I behind N`, or `ring`, each member as ` R I`, and

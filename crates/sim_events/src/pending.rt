@@ -13,8 +13,8 @@ ghost use Rattle.sim_events.specs.Pending.{IsPendingOf, IsStepped};
 
 use crate::follow::{Queue, fill, follow, next, settle, waiting_after};
 use crate::station::number_stations;
-use goal_base::NoMemory;
 use goal_graph::{Sched, Timed};
+use goal_limits::NoMemory;
 use sim_order::Steps;
 use sim_params::Costs;
 use sim_state::{History, State};

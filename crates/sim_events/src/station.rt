@@ -1,13 +1,13 @@
 // What operations wait for.
 ghost use Rattle.std.specs.Prelude.{◌≡◌, ◌≢◌, ℕ, ◌<◌, ◌≤◌, ◌+◌, ◌*◌, ◌^◌, [], All, IfOk, OnOk, IfSome, IfNone, Some, length, slice_get, vec_capacity};
-ghost use Rattle.goal_base.specs.declared.limits.TheConstants.{MAX_OPS};
+ghost use Rattle.goal_limits.specs.declared.limits.TheConstants.{MAX_OPS};
 ghost use Rattle.goal_graph.specs.Schedule.{operations};
 ghost use Rattle.sim_stations.specs.Stations.{DoExist};
 ghost use Rattle.sim_events.specs.Stations.{place, latest_at, AreStationed, IsPlain, IsNotAfter, IsNew, AreOnce, HasNumber, HasPair, IsNumbering};
 ghost use Rattle.sim_events.specs.Cost.{station_of, cpu_alone, side_alone};
 
-use goal_base::NoMemory;
 use goal_graph::{Kind, Op, OpId, Sched};
+use goal_limits::NoMemory;
 use sim_order::Past;
 use sim_stations::Pair;
 use std::alloc::Global;

@@ -1,14 +1,14 @@
 // A queue with floors.
 ghost use Rattle.std.specs.Prelude.{◌≡◌, ◌≢◌, ◌⊎◌, ◌+◌, ◌*◌, ◌^◌, ◌<◌, ◌≤◌, ℕ, All, IfOk, IfSome, IsNone, ◌↔◌, true, false, Some, None, is_some, length, replicate, slice_get, slice_set};
-ghost use Rattle.goal_base.specs.declared.limits.TheConstants.{MAX_OPS};
+ghost use Rattle.goal_limits.specs.declared.limits.TheConstants.{MAX_OPS};
 ghost use Rattle.goal_graph.specs.declared.action.Timed.{Timed};
 ghost use Rattle.sim_order.specs.Events.{event_before};
 ghost use Rattle.sim_heaps.specs.Map.{key_at, IsEmptyMap, IsLeast, IsSoleLeast};
 ghost use Rattle.sim_groups.specs.Groups.{IsSoleLeastOf};
 ghost use Rattle.sim_floors.specs.Floors.{is_waiting, has_key, waits_for_room, at_time, floor_of, seen_keys, IsFloored, is_low, waits_at, HasFloor, IsFloorBy, IsRenewed, IsStep, IsLate, IsLifted, IsLiftCounted};
 
-use goal_base::NoMemory;
 use goal_graph::Class;
+use goal_limits::NoMemory;
 use sim_groups::Groups;
 use sim_heaps::{Arrivals, EventQueue, SlotHeap, TopHeap};
 use sim_order::{CompactKey, EventOrder, Steps};

@@ -2,7 +2,7 @@
 use Rattle.std.proofs.Common.{◌≡◌, ◌<◌, ◌≤◌, ◌+◌, ◌-◌, ◌++◌, ◌∷◌, [], ℕ, List, length, set, take, get_or, slice_get, slice_set, Some, None, sym, ap, ◌∙◌, subst, arith}
 use Rattle.std.proofs.lemmas.List.{length-set, length-append, length-take-le, take_all, take_at, take_more, take_more_set}
 use Rattle.std.proofs.lemmas.Option.{slice_get_within}
-use Rattle.goal_base.specs.declared.limits.TheConstants.{MAX_OPS}
+use Rattle.goal_limits.specs.declared.limits.TheConstants.{MAX_OPS}
 use Rattle.goal_graph.specs.declared.action.Timed.{Timed}
 use Rattle.sim_order.specs.Events.{event_before}
 use Rattle.sim_order.specs.EventLaws.{event_laws}

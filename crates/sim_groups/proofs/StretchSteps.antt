@@ -3,7 +3,7 @@ use Rattle.std.proofs.Common.{◌≡◌, ◌<◌, ◌≤◌, ◌+◌, ◌-◌, �
 use Rattle.std.specs.Prelude.{not}
 use Rattle.std.proofs.lemmas.List.{length-drop, length-set, length-append, length-take-le, take_all, take-take, take-append-le, get_or-take, get_or-drop}
 use Rattle.std.proofs.lemmas.Option.{none-some, slice_get-get_or, get_or_from_slice_get}
-use Rattle.goal_base.specs.declared.limits.TheConstants.{MAX_OPS}
+use Rattle.goal_limits.specs.declared.limits.TheConstants.{MAX_OPS}
 use Rattle.goal_graph.specs.declared.action.Timed.{Timed}
 use Rattle.sim_order.specs.Events.{event_before}
 use Rattle.sim_heaps.specs.Item.{Item}

@@ -1,13 +1,13 @@
 // Slots in groups.
 ghost use Rattle.std.specs.Prelude.{◌≡◌, ◌+◌, ◌*◌, ◌^◌, ◌<◌, ◌≤◌, ℕ, All, IfOk, IfSome, IsNone, Some, None, length, replicate, slice_get, slice_set, sum};
-ghost use Rattle.goal_base.specs.declared.limits.TheConstants.{MAX_OPS};
+ghost use Rattle.goal_limits.specs.declared.limits.TheConstants.{MAX_OPS};
 ghost use Rattle.sim_order.specs.Events.{event_before};
 ghost use Rattle.sim_heaps.specs.Item.{at_time};
 ghost use Rattle.sim_heaps.specs.Map.{key_at};
 ghost use Rattle.sim_groups.specs.Groups.{IsEmptyGroup, IsLeastOf, IsSoleLeastOf, AreCounts};
 
 use crate::item_heaps::ItemHeaps;
-use goal_base::NoMemory;
+use goal_limits::NoMemory;
 use sim_order::{CompactKey, Steps};
 use std::alloc::Global;
 use std::marker::Model;

@@ -1,6 +1,6 @@
 // Heaps whose keys go from the top, in one table.
 ghost use Rattle.std.specs.Prelude.{◌≡◌, ◌+◌, ◌*◌, ◌^◌, ◌<◌, ◌≤◌, ℕ, IfOk, IfSome, IsNone, Some, None, count_by, is_some, length, map, replicate, slice_index, sum};
-ghost use Rattle.goal_base.specs.declared.limits.TheConstants.{MAX_OPS};
+ghost use Rattle.goal_limits.specs.declared.limits.TheConstants.{MAX_OPS};
 ghost use Rattle.sim_order.specs.Events.{event_before};
 ghost use Rattle.sim_heaps.specs.Item.{at_time};
 ghost use Rattle.sim_heaps.specs.Map.{key_at, no_keys, IsEmptyMap, IsLeast, IsSoleLeast};
@@ -10,7 +10,7 @@ ghost use Rattle.sim_groups.specs.Stretches.{part_of_plot, AreFresh};
 
 use crate::parts::{Part, parts};
 use crate::stretch::{Stretch, empty, put, take};
-use goal_base::NoMemory;
+use goal_limits::NoMemory;
 use sim_heaps::{AtZero, HeapItem};
 use sim_order::{CompactKey, Steps};
 use std::alloc::Global;

@@ -2,7 +2,7 @@
 ghost use Rattle.std.specs.Prelude.{◌≡◌, ◌+◌, ◌<◌, ◌^◌, IfOk, length, map, sum};
 ghost use Rattle.sim_groups.specs.Parts.{room_of, ArePacked, AreWithoutKeys};
 
-use goal_base::NoMemory;
+use goal_limits::NoMemory;
 use std::alloc::Global;
 
 /// Where a group has its places in the table: from `start` on, so many. The first of them, as many as are counted, have a key.

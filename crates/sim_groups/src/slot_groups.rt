@@ -5,7 +5,7 @@ ghost use Rattle.sim_heaps.specs.Item.{at_time};
 ghost use Rattle.sim_groups.specs.Groups.{IsEmptyGroup, IsLeastOf, AreHomes};
 
 use crate::slot_heaps::SlotHeaps;
-use goal_base::NoMemory;
+use goal_limits::NoMemory;
 use sim_order::{CompactKey, Steps};
 use std::alloc::Global;
 use std::marker::Model;

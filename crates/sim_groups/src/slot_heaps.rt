@@ -11,7 +11,7 @@ ghost use Rattle.sim_groups.specs.Parts.{places_of, ArePacked, IsInOrder};
 use crate::PlaceInGroup;
 use crate::parts::{Part, parts};
 use crate::waiting_key::WaitingKey;
-use goal_base::NoMemory;
+use goal_limits::NoMemory;
 use sim_heaps::{settle, swap};
 use sim_order::{CompactKey, Steps};
 use std::alloc::Global;

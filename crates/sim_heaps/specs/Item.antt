@@ -2,7 +2,7 @@
 use Rattle.std.specs.Prelude.{◌≡◌, ℕ, ◌+◌, ◌*◌, ◌/◌, ◌%◌}
 use Rattle.std.proofs.Common.{ap, ◌∙◌}
 use Rattle.std.proofs.lemmas.Nat.{div-add-mod'}
-use Rattle.goal_base.specs.declared.limits.TheConstants.{MAX_OPS}
+use Rattle.goal_limits.specs.declared.limits.TheConstants.{MAX_OPS}
 use Rattle.goal_graph.specs.declared.action.Timed.{Timed}
 use Rattle.sim_order.specs.Compact.{timed_of, tail_of, tail_of_parts, IsTail}
 

@@ -1,6 +1,6 @@
 -- A run, which is a queue of items in the order of their keys, beside a heap of other slots.
 use Rattle.std.specs.Prelude.{◌≡◌, ℕ, ◌<◌, ◌≤◌, Bool, true, false, List, [], ◌∷◌, length, Option, Some, None, slice_get}
-use Rattle.goal_base.specs.declared.limits.TheConstants.{MAX_OPS}
+use Rattle.goal_limits.specs.declared.limits.TheConstants.{MAX_OPS}
 use Rattle.sim_heaps.specs.Item.{Item}
 use Rattle.sim_heaps.specs.Map.{either, key_at}
 use Rattle.sim_heaps.specs.TopHeap.{placed, AreApart}

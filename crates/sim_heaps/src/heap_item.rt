@@ -1,10 +1,10 @@
 // Keys with their slots in two words, or in one.
 ghost use Rattle.std.specs.Prelude.{◌≡◌, ℕ, ◌+◌, ◌<◌, refl};
-ghost use Rattle.goal_base.specs.declared.limits.TheConstants.{MAX_OPS};
+ghost use Rattle.goal_limits.specs.declared.limits.TheConstants.{MAX_OPS};
 ghost use Rattle.sim_order.specs.Events.{event_before};
 ghost use Rattle.sim_heaps.specs.Item.{at_time};
 
-use goal_base::MAX_OPS;
+use goal_limits::MAX_OPS;
 use sim_order::{CompactKey, Steps};
 use std::alloc::AllocError;
 use std::marker::Model;

@@ -9,8 +9,8 @@ ghost use Rattle.sim_match.specs.ListOrder.{AreGiven, HaveNumbers};
 
 use crate::list_order::{ListOrder, NO_LIST};
 use crate::pattern::{Pattern, Patterns, Wild};
-use goal_base::NoMemory;
 use goal_graph::{Kind, OpId, Sched};
+use goal_limits::NoMemory;
 use std::alloc::{AllocError, Global};
 
 /// Of those lists of a send whose patterns take any source or any tag the numbers, by the places of the operations. A kind

@@ -7,8 +7,8 @@ ghost use Rattle.sim_match.specs.Capacities.{empty_list};
 use crate::capacities::{Capacity, Side};
 use crate::credit::Credit;
 use crate::match_list::{MatchEntry, first_that_waits};
-use goal_base::NoMemory;
 use goal_graph::{OpId, Sched};
+use goal_limits::NoMemory;
 use std::alloc::Global;
 use std::marker::Model;
 

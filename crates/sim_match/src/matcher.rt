@@ -7,8 +7,8 @@ ghost use Rattle.goal_graph.specs.Matching.{pairs, partner};
 ghost use Rattle.sim_match.specs.PostsAndArrivals.{with_post, with_arrival, send_for, receive_for, NoSendFits, NoReceiveFits};
 
 use crate::table::Table;
-use goal_base::NoMemory;
 use goal_graph::{OpId, Sched};
+use goal_limits::NoMemory;
 use sim_order::Steps;
 use std::alloc::Global;
 use std::marker::{Brand, Model};

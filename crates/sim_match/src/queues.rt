@@ -14,8 +14,8 @@ ghost use Rattle.sim_match.specs.Queues.{come, taken_by, AreInLine, AreLeft, Are
 
 use crate::capacities::Side;
 use crate::list_numbers::{ListNumbers, decoded};
-use goal_base::NoMemory;
 use goal_graph::{OpId, Sched};
+use goal_limits::NoMemory;
 use sim_order::{Past, Steps};
 use std::alloc::Global;
 use std::sync::ledger::Ledger;

@@ -2,7 +2,7 @@
 use Rattle.std.specs.Prelude.{◌≡◌, ℕ, ◌+◌, ◌*◌, ◌/◌, ◌%◌, ◌<◌, ◌==◌, if◌then◌else◌, zero, suc, refl}
 use Rattle.std.proofs.Common.{ap, ◌∙◌, arith}
 use Rattle.std.proofs.lemmas.Nat.{div-add-mod'}
-use Rattle.goal_base.specs.declared.limits.TheConstants.{MAX_RANKS, MAX_OPS}
+use Rattle.goal_limits.specs.declared.limits.TheConstants.{MAX_RANKS, MAX_OPS}
 use Rattle.goal_graph.specs.declared.action.Class.{Class}
 use Rattle.goal_graph.specs.declared.action.Class.TheVariants.{Arrive, Serve, Data, Post, Begin}
 use Rattle.goal_graph.specs.declared.action.OpId.{OpId}

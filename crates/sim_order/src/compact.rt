@@ -1,12 +1,12 @@
 // Keys of events in two words.
 ghost use Rattle.std.specs.Prelude.{◌≡◌, ◌<◌};
-ghost use Rattle.goal_base.specs.declared.limits.TheConstants.{MAX_RANKS, MAX_OPS};
+ghost use Rattle.goal_limits.specs.declared.limits.TheConstants.{MAX_RANKS, MAX_OPS};
 ghost use Rattle.goal_graph.specs.Action.{place};
 ghost use Rattle.sim_order.specs.Compact.{class_at, timed_of, IsTail};
 
 use crate::{EventOrder, Steps};
-use goal_base::{MAX_OPS, MAX_RANKS};
 use goal_graph::{Class, OpId};
+use goal_limits::{MAX_OPS, MAX_RANKS};
 use std::marker::Model;
 use std::sync::ledger::Ledger;
 

@@ -5,7 +5,7 @@ use Rattle.std.proofs.lemmas.List.Sums.{get_or-le-sum_by}
 use Rattle.goal_graph.specs.declared.action.OpId.{OpId}
 use Rattle.goal_graph.specs.declared.fault.PlanFault.{PlanFault}
 use Rattle.goal_graph.specs.declared.fault.PlanFault.TheVariants.{Count, Value, Peer}
-use Rattle.goal_base.specs.declared.limits.TheConstants.{MAX_RANKS, MAX_OPS}
+use Rattle.goal_limits.specs.declared.limits.TheConstants.{MAX_RANKS, MAX_OPS}
 use Rattle.goal_graph.specs.declared.plan.Op.{Op}
 use Rattle.goal_graph.specs.Schedule.{Plan, op_at}
 use Rattle.goal_graph.proofs.ForCallers.{count_over-none, option_or-none}

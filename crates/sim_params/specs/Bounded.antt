@@ -1,7 +1,7 @@
 -- Costs and parameters that are within bounds.
 use Rattle.std.specs.Prelude.{ℕ, ◌<◌, ◌≤◌, ◌^◌}
 use Rattle.sim_params.specs.Costs.{CostModel, Numbers}
-use Rattle.goal_base.specs.declared.limits.TheConstants.{MAX_PARAM, MAX_PER_BYTE}
+use Rattle.goal_limits.specs.declared.limits.TheConstants.{MAX_PARAM, MAX_PER_BYTE}
 use Rattle.sim_params.specs.declared.params.TheConstants.{MAX_PICOS}
 
 -- each number of a cost model is at most 2^61, for messages of at most 2^40-1 bytes

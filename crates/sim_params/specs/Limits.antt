@@ -1,6 +1,6 @@
 -- The limits of the parameters: 2^40-1 for L, o, g and S, 2^20-1 for G and O, 999 for Gp and Op.
 use Rattle.std.specs.Prelude.{ℕ, nat_lt, Option, Some, None, if◌then◌else◌}
-use Rattle.goal_base.specs.declared.limits.TheConstants.{MAX_PARAM, MAX_PER_BYTE}
+use Rattle.goal_limits.specs.declared.limits.TheConstants.{MAX_PARAM, MAX_PER_BYTE}
 use Rattle.sim_params.specs.declared.params.TheConstants.{MAX_PICOS}
 use Rattle.sim_params.specs.declared.params.Param.{Param}
 use Rattle.sim_params.specs.declared.params.Param.TheVariants.{Latency, Overhead, Gap, GapPerByte, GapPicos, OverheadPerByte, OverheadPicos, Sync}

@@ -5,7 +5,7 @@ ghost use Rattle.sim_params.specs.Bounded.{IsBounded};
 
 use crate::Params;
 use crate::params::MAX_PICOS;
-use goal_base::MAX_PER_BYTE;
+use goal_limits::MAX_PER_BYTE;
 
 /// The spans of time of one message, in nanoseconds.
 #[derive(Clone, Copy, Debug, PartialEq, Eq)]

@@ -3,7 +3,7 @@ ghost use Rattle.std.specs.Prelude.{◌≡◌, ◌≤◌, ◌<◌, None, Some, I
 ghost use Rattle.sim_params.specs.Limits.{first_over};
 ghost use Rattle.sim_params.specs.Bounded.{IsWithinLimits};
 
-use goal_base::{MAX_PARAM, MAX_PER_BYTE};
+use goal_limits::{MAX_PARAM, MAX_PER_BYTE};
 
 /// The largest gap and overhead for each byte in picoseconds, besides those in nanoseconds.
 pub const MAX_PICOS: u64 = 999;

@@ -6,8 +6,8 @@ ghost use Rattle.sim_queue.specs.Ranked.{size_of};
 ghost use Rattle.sim_queue.specs.Ranks.{home_of, IsTold};
 ghost use Rattle.sim_groups.specs.Groups.{heap_at};
 
-use goal_base::NoMemory;
 use goal_graph::Sched;
+use goal_limits::NoMemory;
 use sim_groups::PlaceInGroup;
 use sim_heaps::{EventQueue, SlotHeap};
 use sim_order::{EventOrder, Steps};

@@ -2,7 +2,7 @@
 ghost use Rattle.std.specs.Prelude.{◌≡◌, ◌+◌, ◌<◌, ◌≤◌, IfOk, length, slice_set};
 ghost use Rattle.sim_queue.specs.Row.{keyed, twelve_keys};
 
-use goal_base::NoMemory;
+use goal_limits::NoMemory;
 use sim_heaps::{EventQueue, SlotHeap};
 use sim_order::{Counted, Steps};
 use std::alloc::Global;

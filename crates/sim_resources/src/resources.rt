@@ -5,8 +5,8 @@ ghost use Rattle.goal_graph.specs.Schedule.{IsSend, IsReceive};
 ghost use Rattle.sim_resources.specs.FreeTimes.{SameFreeTimes, cpu_free, tx_free, rx_free, hold_cpu, hold_tx, hold_rx, unheld};
 
 use crate::slots::{Numbering, Slots, free, number, raise, slots_at};
-use goal_base::NoMemory;
 use goal_graph::{OpId, Sched};
+use goal_limits::NoMemory;
 use std::alloc::Global;
 use std::marker::Model;
 

@@ -5,8 +5,8 @@ ghost use Rattle.goal_graph.specs.declared.plan.Op.{Op};
 ghost use Rattle.goal_graph.specs.Fault.{IsOp};
 ghost use Rattle.sim_resources.specs.Slots.{uses_first, use_first, slots_of, cpu_slot, nic_slot, IsWhole, IsPlaced, IsGiven};
 
-use goal_base::NoMemory;
 use goal_graph::{Op, OpId, RankPlan, Sched};
+use goal_limits::NoMemory;
 use std::alloc::Global;
 
 /// The slots of an operation: that of its cpu and that of its interface.

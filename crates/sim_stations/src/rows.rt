@@ -7,7 +7,7 @@ ghost use Rattle.sim_stations.specs.Stations.{both_free, pair_at, held, DoExist}
 ghost use Rattle.sim_stations.specs.Rows.{sides, place_in, side_of, turned_at, IsFirst, IsTold, AreBothTold};
 
 use crate::Pair;
-use goal_base::NoMemory;
+use goal_limits::NoMemory;
 use sim_groups::SlotGroups;
 use sim_heaps::{EventQueue, SlotHeap};
 use sim_order::{CompactKey, Steps};

@@ -1,7 +1,7 @@
 // A queue whose slots wait with their stations.
 ghost use Rattle.std.specs.Prelude.{◌≡◌, ◌≢◌, ◌⊎◌, ◌+◌, ◌*◌, ◌^◌, ◌<◌, ◌≤◌, ◌↔◌, ℕ, All, IfOk, IfSome, IsNone, IsTrue, List, Some, None, count_by, false, true, is_some, length, max, replicate, slice_get, slice_index, slice_set};
 ghost use Rattle.std.specs.Option.{option_map};
-ghost use Rattle.goal_base.specs.declared.limits.TheConstants.{MAX_OPS};
+ghost use Rattle.goal_limits.specs.declared.limits.TheConstants.{MAX_OPS};
 ghost use Rattle.goal_graph.specs.Schedule.{operations};
 ghost use Rattle.sim_order.specs.Events.{event_before};
 ghost use Rattle.sim_heaps.specs.Map.{key_at, IsEmptyMap, IsLeast, IsSoleLeast};
@@ -14,8 +14,8 @@ ghost use Rattle.sim_stations.specs.Kept.{has_key, is_waiting, seen_of, AreShown
 
 use crate::rows::Rows;
 use crate::{KeyPlace, Pair};
-use goal_base::NoMemory;
 use goal_graph::{Class, Sched};
+use goal_limits::NoMemory;
 use sim_groups::Groups;
 use sim_heaps::RunHeap;
 use sim_order::{CompactKey, EventOrder, Steps};

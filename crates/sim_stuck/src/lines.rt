@@ -2,8 +2,9 @@
 ghost use Rattle.std.specs.Prelude.{◌≡◌, ◌++◌, OnOk, IfOk};
 ghost use Rattle.sim_stuck.specs.StuckText.{why_words, named_text, stuck_line, stuck_text};
 
-use goal_base::{NoMemory, TextOut};
+use goal_base::TextOut;
 use goal_graph::{Stuck, Why};
+use goal_limits::NoMemory;
 use std::alloc::Global;
 
 /// A line for each stuck operation, in the order of the list: `stuck R I for op R J`, `stuck R I for partner Q J` or

@@ -9,8 +9,8 @@ ghost use Rattle.sim_stuck.specs.declared.pattern.Pattern.{Pattern};
 ghost use Rattle.sim_stuck.specs.Patterns.{pattern_cmp, is_for, is_by, least, AreFirsts};
 
 use crate::pattern::{Pattern, patterns_for};
-use goal_base::NoMemory;
 use goal_graph::{Kind, OpId, Sched};
+use goal_limits::NoMemory;
 use std::alloc::Global;
 use std::collections::BTreeMap;
 

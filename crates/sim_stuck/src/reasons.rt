@@ -13,8 +13,8 @@ ghost use Rattle.sim_stuck.specs.StuckList.{stuck_list, reason_of};
 ghost use Rattle.sim_stuck.specs.Laws.{IsInOrder, NamesListed, ListsStuck, AloneAreAlone};
 
 use crate::partner::Firsts;
-use goal_base::NoMemory;
 use goal_graph::{OpId, Sched, Stuck, When, Why};
+use goal_limits::NoMemory;
 use sim_events::{Engine, History};
 use sim_params::Costs;
 use std::alloc::{AllocError, Global};

@@ -2,8 +2,8 @@
 ghost use Rattle.std.specs.Prelude.{◌≡◌, ◌<◌, ℕ};
 ghost use Rattle.goal_graph.specs.Schedule.{IsSend, IsReceive};
 
-use goal_base::NoMemory;
 use goal_graph::{Kind, Op, OpId, RankPlan, Sched};
+use goal_limits::NoMemory;
 use sim_match::Matcher;
 use std::alloc::Global;
 use std::test::Fail;

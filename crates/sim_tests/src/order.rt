@@ -1,8 +1,8 @@
 // Events are ordered by time, at one time by class, then by rank and number.
 ghost use Rattle.std.specs.Prelude.{◌≡◌, ◌<◌};
 
-use goal_base::{MAX_OPS, MAX_RANKS};
 use goal_graph::{Class, OpId};
+use goal_limits::{MAX_OPS, MAX_RANKS};
 use sim_order::{CompactKey, EventKey, EventOrder, Steps};
 use std::marker::Brand;
 use std::sync::ledger::{Blank, Ledger};

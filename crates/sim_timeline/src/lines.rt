@@ -1,14 +1,15 @@
 // The lines of the timeline.
 ghost use Rattle.std.specs.Prelude.{◌≡◌, ◌+◌, ◌-◌, ◌++◌, ◌<◌, ◌≤◌, ◌^◌, length, take, OnOk, IfOk, Some, is_some, unwrap_or, max, count_by, if◌then◌else◌};
-ghost use Rattle.goal_base.specs.declared.limits.TheConstants.{MAX_OPS};
+ghost use Rattle.goal_limits.specs.declared.limits.TheConstants.{MAX_OPS};
 ghost use Rattle.goal_graph.specs.Schedule.{operations};
 ghost use Rattle.goal_graph.specs.Fault.{IsOp};
 ghost use Rattle.sim_params.specs.Stuck.{lacks_end};
 ghost use Rattle.sim_timeline.specs.Timeline.{line_of, summary_line, kind_text, partner_text, match_text, first_line};
 ghost use Rattle.sim_timeline.specs.Pages.{IsSummary, before_rank, is_unread_send};
 
-use goal_base::{NoMemory, TextOut, put_pair, put_time, put_word};
+use goal_base::{TextOut, put_pair, put_time, put_word};
 use goal_graph::{Kind, Op, OpId, Sched};
+use goal_limits::NoMemory;
 use sim_events::{Engine, History, Record};
 use sim_params::Costs;
 use std::alloc::Global;

@@ -6,8 +6,9 @@ ghost use Rattle.goal_graph.specs.Fault.{IsOp};
 ghost use Rattle.sim_timeline.specs.Timeline.{line_of, timeline};
 
 use crate::lines::{LINE, put_first_line, put_operation};
-use goal_base::{NoMemory, TextOut};
+use goal_base::TextOut;
 use goal_graph::{OpId, Sched};
+use goal_limits::NoMemory;
 use sim_events::{Engine, History, Kept};
 use sim_params::Costs;
 use std::alloc::Global;

@@ -6,8 +6,9 @@ ghost use Rattle.goal_graph.specs.Fault.{IsOp};
 ghost use Rattle.sim_params.specs.Times.{mate};
 ghost use Rattle.sim_waits.specs.WaitsText.{oversize_by, oversize_line, oversize_of, kind_of_partner};
 
-use goal_base::{NoMemory, TextOut};
+use goal_base::TextOut;
 use goal_graph::{Kind, OpId};
+use goal_limits::NoMemory;
 use sim_events::{Engine, History};
 use sim_params::Costs;
 

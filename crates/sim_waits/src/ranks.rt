@@ -6,8 +6,9 @@ ghost use Rattle.sim_waits.specs.WaitsText.{line_of_rank, rank_line, rank_lines}
 ghost use Rattle.sim_waits.specs.WaitKeys.{places_at};
 
 use crate::wait::wait;
-use goal_base::{NoMemory, TextOut};
+use goal_base::TextOut;
 use goal_graph::OpId;
+use goal_limits::NoMemory;
 use sim_events::{Engine, History};
 use sim_params::Costs;
 

@@ -15,8 +15,8 @@ ghost use Rattle.goal_certify.specs.WalkQueue.{may_act, class_at, IsChoice, IsCu
 
 use super::action::Action;
 use super::entry::{BLANK, Entry, is_done, with_class, write_met};
-use goal_base::NoMemory;
 use goal_graph::{Class, Kind, Need, OpId, Sched, When};
+use goal_limits::NoMemory;
 use goal_progress::{Cursor, Progress, entry_of, is_ready_uncounted};
 use sim_match::Matcher;
 use sim_order::Past;

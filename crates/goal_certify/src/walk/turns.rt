@@ -3,7 +3,7 @@ ghost use Rattle.std.specs.Prelude.{ℕ, ◌≡◌, ◌≢◌, ◌+◌, ◌*◌,
 ghost use Rattle.sim_heaps.specs.Map.{key_at, IsEmptyMap, IsLeast};
 ghost use Rattle.goal_certify.specs.Turns.{is_on};
 
-use goal_base::NoMemory;
+use goal_limits::NoMemory;
 use std::alloc::Global;
 use std::marker::Model;
 

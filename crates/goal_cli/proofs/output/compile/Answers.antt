@@ -1,5 +1,5 @@
 use Rattle.std.proofs.Common.{◌≤◌, length, arith}
-use Rattle.goal_base.specs.declared.limits.TheConstants.{MAX_INPUT}
+use Rattle.goal_limits.specs.declared.limits.TheConstants.{MAX_INPUT}
 use Rattle.goal_binary.specs.declared.layout.Layout.TheVariants.{Packed}
 use Rattle.goal_binary.specs.File.{file}
 use Rattle.goal_binary.specs.Laws.{IsSchedule}

@@ -2,7 +2,7 @@
 use Rattle.std.proofs.Common.{◌≡◌, ◌≤◌, Some, length, slice_get, sym, ap, ◌∙◌, refl, arith}
 use Rattle.std.proofs.lemmas.Option.{slice_get_read}
 use Rattle.goal_graph.specs.Schedule.{Plan}
-use Rattle.goal_base.specs.declared.limits.TheConstants.{MAX_OPS}
+use Rattle.goal_limits.specs.declared.limits.TheConstants.{MAX_OPS}
 use Rattle.goal_graph.proofs.Places.{ops_at_some, few_ops_at}
 use Rattle.goal_graph.proofs.sched.Sched.op_count.Goals as goal
 use Rattle.goal_graph.proofs.sched.Sched.op_count.Goals.{After-len}

@@ -2,7 +2,7 @@
 ghost use Rattle.std.specs.Prelude.{◌≡◌, ◌≤◌, ◌<◌, true, is_some, length, IfOk, OnOk, IsErrOf};
 ghost use Rattle.std.specs.IoError.{error_kind};
 ghost use Rattle.goal_base.specs.Device.{Rose};
-ghost use Rattle.goal_prog.specs.Exit.{fault_of, fault_of_open};
+ghost use Rattle.goal_system.specs.Faults.{fault_of, fault_of_open};
 
 use goal_base::{Host, IoFault, OpenFault, Sink};
 use std::fs::OpenFile;
@@ -118,7 +118,7 @@ fn close<F: Write + OpenFile>(output: &mut F, count: &mut u64) -> Result<(), IoF
 
 impl<R: Files + Drop> Host for RealHost<R> {
     ghost use Rattle.std.specs.Prelude.{is_some};
-    ghost use Rattle.goal_prog.specs.Real.{untold_host};
+    ghost use Rattle.goal_system.specs.Real.{untold_host};
 
     ghost state = { λ h. untold_host (is_some h.input) (is_some h.output) h.reads h.absent h.writes };
 
@@ -196,7 +196,7 @@ impl<W: Write> RealSink<W> {
 }
 
 impl<W: Write> Sink for RealSink<W> {
-    ghost use Rattle.goal_prog.specs.Real.{untold_sink};
+    ghost use Rattle.goal_system.specs.Real.{untold_sink};
 
     ghost state = { λ s. untold_sink s.faults };
 
