@@ -1,5 +1,6 @@
 -- What one more action changes of what is known of an operation.
-use Rattle.std.proofs.Common.{◌≡◌, ◌==◌, ◌&&◌, ◌+◌, ℕ, Bool, true, false, not, List, ◌∷◌, Option, Some, None, if◌then◌else◌, is_some, refl, sym, ap, ap₂, ◌∙◌, subst}
+use Rattle.std.proofs.Common.{◌≡◌, ◌==◌, ◌&&◌, ◌+◌, ℕ, Bool, true, false, not, cond, count_by, List, [], ◌∷◌, Option, Some, None, if◌then◌else◌, is_some, inl, inr, refl, sym, ap, ap₂, ◌∙◌, subst, arith}
+use Rattle.std.specs.List.{list_all}
 use Rattle.std.specs.Option.{option_map, option_or}
 use Rattle.std.proofs.lemmas.Bool.{cond-true, cond-false, and_left, and_right, and_parts, both_ways, false_from_ne_true}
 use Rattle.goal_graph.specs.declared.action.OpId.{OpId}
@@ -8,25 +9,60 @@ use Rattle.goal_graph.specs.declared.action.Class.{Class}
 use Rattle.goal_graph.specs.declared.action.Class.TheVariants.{Arrive, Data, Begin}
 use Rattle.goal_graph.specs.declared.plan.Kind.{Kind}
 use Rattle.goal_graph.specs.declared.plan.Kind.TheVariants.{Calc, Send, Recv}
-use Rattle.goal_graph.specs.Schedule.{Plan, kind_at, IsSend, IsReceive}
+use Rattle.goal_graph.specs.Schedule.{Plan, kind_at, needs, IsSend, IsReceive}
 use Rattle.goal_graph.specs.Action.{place, same_op, is_act, happened, plain, plain_act}
 use Rattle.goal_graph.specs.Matching.{pairs, is_paired}
-use Rattle.goal_graph.specs.Allowed.{first_class, last_class, has_started, may, allowed}
+use Rattle.goal_graph.specs.Allowed.{first_class, last_class, has_started, is_ready, may, allowed}
+use Rattle.goal_graph.specs.Interleaving.{IsInterleaving}
 use Rattle.goal_graph.specs.Laws.{IsCalc}
-use Rattle.goal_graph.proofs.ForCallers.{happened_other, happened_new, is_act_from, arrived_begun, is_some_from, allowed_fresh, started_send, started_stays}
+use Rattle.goal_graph.proofs.ForCallers.{happened_other, happened_new, is_act_from, arrived_begun, count-cons, fits_receive, fits_send, is_some_from, allowed_fresh, partners_met, started_receive, started_send, started_stays}
 use Rattle.sim_params.specs.Costs.{CostModel, flight, flight_one, is_eager}
 use Rattle.sim_params.specs.Times.{mate, cpu_hold, start, paired_at, time_of, time, Possible}
 use Rattle.sim_params.specs.Run.{IsRun}
 use Rattle.sim_params.proofs.ForCallers.{start_kept, start_now, end_kept, end_last, paired_at_kept, since_kept, since_new, run_each, run_interleaving}
 use Rattle.sim_state.specs.Engine.{start_known, end_known}
-use Rattle.sim_state.specs.Awaited.{awaited_known, delivered_known}
+use Rattle.sim_state.specs.Awaited.{is_there, unmet, awaited_known, delivered_known, paired_since}
 use Rattle.sim_state.specs.Enabled.{time_known}
-use Rattle.sim_state.specs.Represents.{paired_known}
+use Rattle.sim_state.proofs.Handed.{arriving_none, undelivered, unpaired_unhanded}
 
 -- a number that is known alike
 known_alike : (b c : Bool) (m n : ℕ) → c ≡ b → (b ≡ true → n ≡ m) → (if c then Some n else None) ≡ (if b then Some m else None)
 known_alike true c m n e same = subst (λ c. (if c then Some n else None) ≡ Some m) (sym e) (ap Some (same refl))
 known_alike false c m n e same = subst (λ c. (if c then Some n else None) ≡ None) (sym e) refl
+
+-- where all pass, none fails
+none_fails : {A : Type 0} (p : A → Bool) (xs : List A) → list_all p xs ≡ true → count_by (λ (x : A). not (p x)) xs ≡ 0
+none_fails p [] e = refl
+none_fails {A} p (x ∷ xs) e =
+    let both = and_parts (p x) (list_all p xs) e in
+    let here = ap {B = ℕ} (λ (b : Bool). cond (not b) 1 0) both.0 in
+    let rest = none_fails p xs both.1 in
+    omega (arith, rest, here, count-cons (λ (x : A). not (p x)) x xs)
+
+module _ (plans : List Plan) (costs : CostModel) (l : List Timed) (x : OpId) where
+  -- what is ready waits for no moment
+  pub none_unmet : is_ready plans (is_eager plans costs) (plain l) x ≡ true → unmet plans costs l x ≡ 0
+  unfolding is_ready
+  none_unmet e = none_fails (is_there plans costs l x) (needs plans x) e
+
+  -- what has no partner is paired since no time
+  pub since_none : mate plans costs l x ≡ None → paired_since plans costs l x ≡ None
+  since_none e = ap (option_map (λ (y : OpId). paired_at plans costs l x)) e
+
+  -- what is paired has started
+  paired_started : (y : OpId) → mate plans costs l x ≡ Some y → IsInterleaving plans (is_eager plans costs) (plain l) → has_started plans x (plain l) ≡ true
+  paired_started y e between = elim (partners_met plans (plain l) x y e) [
+    | inl met ↦ started_send plans (plain l) x (fits_send plans y x met.fit) ∙ arrived_begun plans (is_eager plans costs) (plain l) x between met.arrived
+    | inr met ↦ started_receive plans (plain l) x (fits_receive plans x y met.fit) ∙ met.posted
+  ]
+
+  -- and what has not started is not paired
+  pub unstarted_unpaired : IsInterleaving plans (is_eager plans costs) (plain l) → has_started plans x (plain l) ≡ false → mate plans costs l x ≡ None
+  unstarted_unpaired between f = go (mate plans costs l x) refl
+    where
+      go : (o : Option OpId) → mate plans costs l x ≡ o → o ≡ None
+      go None e = refl
+      go (Some y) e = absurd (both_ways _ f (paired_started y e between))
 
 module _ (plans : List Plan) (costs : CostModel) (h : List Timed) (a : Timed) where
   -- the newest action is another one: of another operation, of another class
@@ -102,8 +138,15 @@ module _ (plans : List Plan) (costs : CostModel) (h : List Timed) (a : Timed) wh
   pub arriving_receive : (l : List Timed) (x : OpId) → IsReceive plans x → time_known plans costs l Arrive x ≡ None
   arriving_receive l x k = arriving_is l x _ k.kind ∙ never _ _
 
+  -- and what is paired arrives no more
+  arriving_paired : (l : List Timed) (x y : OpId) → mate plans costs l x ≡ Some y → time_known plans costs l Arrive x ≡ None
+  arriving_paired l x y e = elim (partners_met plans (plain l) x y e) [
+    | inl met ↦ arriving_none plans costs l x met.arrived
+    | inr met ↦ arriving_receive l x (fits_receive plans x y met.fit)
+  ]
+
   -- what an operation awaits once it has started
-  pub awaited_started : (l : List Timed) (x : OpId) → has_started plans x (plain l) ≡ true → awaited_known plans costs l x ≡ option_or (time_known plans costs l Arrive x) (delivered_known plans costs l x)
+  pub awaited_started : (l : List Timed) (x : OpId) → has_started plans x (plain l) ≡ true → awaited_known plans costs l x ≡ option_or (time_known plans costs l Arrive x) (option_or (delivered_known plans costs l x) (paired_since plans costs l x))
   awaited_started l x e = cond-true _ _ _ e
 
   pub started_this : a.class ≡ first_class (kind_at plans a.op) → has_started plans a.op (plain (a ∷ h)) ≡ true
@@ -137,18 +180,35 @@ module _ (plans : List Plan) (costs : CostModel) (h : List Timed) (a : Timed) wh
   there_new p e =
       cond-true _ _ _ (happened_this Data e) ∙ ap (λ (n : ℕ). Some (n + flight plans costs a.op)) (since_new (happened Data a.op) a h (fresh Data p e) (happened_this Data e))
 
-  -- the partner
-  pub paired_same : (x : OpId) → mate plans costs (a ∷ h) x ≡ mate plans costs h x → paired_known plans costs (a ∷ h) x ≡ paired_known plans costs h x
-  paired_same x e = go (mate plans costs h x) refl
+  -- since when it is paired
+  since_same : (x : OpId) → mate plans costs (a ∷ h) x ≡ mate plans costs h x → paired_since plans costs (a ∷ h) x ≡ paired_since plans costs h x
+  since_same x e = go (mate plans costs h x) refl
     where
-      go : (o : Option OpId) → mate plans costs h x ≡ o → paired_known plans costs (a ∷ h) x ≡ paired_known plans costs h x
-      go None s =
-          ap (option_map (λ (y : OpId). record { with = y; at = paired_at plans costs (a ∷ h) x })) (e ∙ s) ∙ sym (ap (option_map (λ (y : OpId). record { with = y; at = paired_at plans costs h x })) s)
+      go : (o : Option OpId) → mate plans costs h x ≡ o → paired_since plans costs (a ∷ h) x ≡ paired_since plans costs h x
+      go None s = since_none plans costs (a ∷ h) x (e ∙ s) ∙ sym (since_none plans costs h x s)
       go (Some m) s =
-          ap₂ (λ (n : ℕ) (o : Option OpId). option_map (λ (y : OpId). record { with = y; at = n }) o) (paired_at_kept plans costs a h x (is_some_from _ m s)) e
+          ap₂ (λ (n : ℕ) (o : Option OpId). option_map (λ (y : OpId). n) o) (paired_at_kept plans costs a h x (is_some_from _ m s)) e
 
-  pub paired_new : (x y : OpId) → mate plans costs h x ≡ None → mate plans costs (a ∷ h) x ≡ Some y → paired_known plans costs (a ∷ h) x ≡ Some (record { with = y; at = a.time })
-  paired_new x y e f =
+  since_now : (x y : OpId) → mate plans costs h x ≡ None → mate plans costs (a ∷ h) x ≡ Some y → paired_since plans costs (a ∷ h) x ≡ Some a.time
+  since_now x y e f =
       let before : is_paired (pairs plans (plain h)) x ≡ false = ap is_some e in
       let now : is_paired (pairs plans (plain (a ∷ h))) x ≡ true = ap is_some f in
-      ap₂ (λ (n : ℕ) (o : Option OpId). option_map (λ (y : OpId). record { with = y; at = n }) o) (since_new (λ l. is_paired (pairs plans l) x) a h before now) f
+      ap₂ (λ (n : ℕ) (o : Option OpId). option_map (λ (y : OpId). n) o) (since_new (λ l. is_paired (pairs plans l) x) a h before now) f
+
+  -- what has started and keeps its partner awaits what it did, unless it begins, arrives or hands over its bytes
+  pub awaited_same : (x : OpId) → mate plans costs (a ∷ h) x ≡ mate plans costs h x → is_act Arrive x (plain_act a) ≡ false → is_act Begin x (plain_act a) ≡ false → is_act Data x (plain_act a) ≡ false → has_started plans x (plain h) ≡ true → awaited_known plans costs (a ∷ h) x ≡ awaited_known plans costs h x
+  awaited_same x m e f g s =
+      awaited_started (a ∷ h) x (started_still x s) ∙ (λ i. option_or (arriving_same x e f i) (option_or (there_same x g i) (since_same x m i))) ∙ sym (awaited_started h x s)
+
+  module _ (run : IsRun plans costs h) (p : Possible plans costs h a) (x y : OpId) (taken : mate plans costs (a ∷ h) x ≡ Some y) where
+    -- what is paired then has started
+    pub started_then : has_started plans x (plain (a ∷ h)) ≡ true
+    unfolding plain
+    started_then =
+        paired_started plans costs (a ∷ h) x y taken (run_interleaving plans costs h run, p.allowed)
+
+    -- and what the action pairs awaits nothing more, but tells since when it is paired
+    pub awaited_paired : (place a.class == 2) ≡ false → mate plans costs h x ≡ None → awaited_known plans costs (a ∷ h) x ≡ Some a.time
+    awaited_paired e free =
+        let none : delivered_known plans costs (a ∷ h) x ≡ None = there_same x (other_class Data x e) ∙ undelivered plans costs h x (unpaired_unhanded plans costs h x run free) in
+        awaited_started (a ∷ h) x started_then ∙ (λ i. option_or (arriving_paired (a ∷ h) x y taken i) (option_or (none i) (since_now x y free taken i)))

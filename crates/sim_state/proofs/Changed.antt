@@ -17,17 +17,16 @@ use Rattle.sim_eager.specs.Messages.{IsMessage}
 use Rattle.sim_resources.specs.FreeTimes.{Holds, SameFreeTimes, hold_cpu, hold_tx, hold_rx}
 use Rattle.sim_state.specs.declared.entry.Change.{Change}
 use Rattle.sim_state.specs.declared.entry.Times.{Times}
-use Rattle.sim_state.specs.declared.pairing.Pairing.{Pairing}
 use Rattle.sim_state.specs.declared.work.Work.{Work}
 use Rattle.sim_state.specs.Changes.{IsChange}
 use Rattle.sim_state.specs.Tasks.{work_of}
 use Rattle.sim_state.specs.Tables.{with_times}
-use Rattle.sim_state.specs.Represents.{AreFreeTimes, KnowsPostsAndArrivals, entry_known, entry_then, times_known, paired_known}
+use Rattle.sim_state.specs.Represents.{AreFreeTimes, KnowsPostsAndArrivals, entry_known, entry_then, times_known}
 use Rattle.sim_state.proofs.Entries.{posted, arrived, data_sent, message_taken, sender_exists, receiver_exists}
 use Rattle.sim_state.proofs.Fits.{cpu_fits, tx_fits, rx_fits, bytes_fit, sends, posts, arrives, serves}
 use Rattle.sim_state.proofs.FreeTimes.{free_same, free_send, free_serve}
 use Rattle.sim_state.proofs.HoldTimes.{cpu_of_data, tx_of_data, sends_at_data, cpu_of_serve, rx_of_serve}
-use Rattle.sim_state.proofs.Pairings.{mate_of_known, known_mate}
+use Rattle.sim_state.proofs.Pairings.{served_mate}
 use Rattle.sim_state.proofs.PostsAndArrivals.{post_known, arrival_known, not_before}
 use Rattle.sim_state.proofs.Tasks.{is_message}
 
@@ -133,38 +132,38 @@ module _ (plans : List Plan) (costs : CostModel) (h : List Timed) (a : Timed) (r
     serve_receive = receive
 
     -- it has a partner
-    pub paired : (o : Option Pairing) → o ≡ paired_known plans costs h a.op → ((r : Pairing) → o ≡ Some r → ⊥) → ⊥
+    pub paired : (o : Option OpId) → o ≡ mate plans costs h a.op → ((m : OpId) → o ≡ Some m → ⊥) → ⊥
     paired o e none =
-        let told = known_mate plans costs h a a.op (serves plans costs h a run p is).1 in none told.0 (e ∙ told.1)
+        let told = served_mate plans costs h a a.op (serves plans costs h a run p is).1 in none told.0 (e ∙ told.1)
 
-    module _ (r : Pairing) (known : Some r ≡ paired_known plans costs h a.op) where
-      partner : mate plans costs h a.op ≡ Some r.with
-      partner = mate_of_known plans costs h a a.op r (sym known)
+    module _ (m : OpId) (known : Some m ≡ mate plans costs h a.op) where
+      partner : mate plans costs h a.op ≡ Some m
+      partner = sym known
 
-      pub sender : IsSend plans r.with
-      sender = partner_is_send plans (plain h) a.op r.with receive partner
+      pub sender : IsSend plans m
+      sender = partner_is_send plans (plain h) a.op m receive partner
 
-      pub sender_is_op : IsOp plans r.with
-      sender_is_op = send_is_op plans r.with sender
+      pub sender_is_op : IsOp plans m
+      sender_is_op = send_is_op plans m sender
 
-      pub taken_message : (w : Work) → w ≡ work_of plans costs r.with → IsMessage plans r.with w.to w.amount
-      taken_message w does = is_message plans costs r.with w does sender
+      pub taken_message : (w : Work) → w ≡ work_of plans costs m → IsMessage plans m w.to w.amount
+      taken_message w does = is_message plans costs m w does sender
 
-      serve_until : (n : ℕ) → n ≡ a.time + over plans costs r.with → n ≡ a.time + cpu_hold plans costs h a.class a.op (kind_at plans a.op)
+      serve_until : (n : ℕ) → n ≡ a.time + over plans costs m → n ≡ a.time + cpu_hold plans costs h a.class a.op (kind_at plans a.op)
       serve_until n e =
-          e ∙ ap (λ (n : ℕ). a.time + n) (sym (cpu_of_serve plans costs h a.class a.op receive r.with partner is))
+          e ∙ ap (λ (n : ℕ). a.time + n) (sym (cpu_of_serve plans costs h a.class a.op receive m partner is))
 
-      pub serve_over : a.time + over plans costs r.with < 2 ^ 63
+      pub serve_over : a.time + over plans costs m < 2 ^ 63
       serve_over = omega (arith, cpu_fits plans costs h a run p, serve_until _ refl, within)
 
-      pub serve_gap : a.time + gap plans costs r.with < 2 ^ 63
+      pub serve_gap : a.time + gap plans costs m < 2 ^ 63
       serve_gap =
-          omega (arith, rx_fits plans costs h a run p, rx_of_serve plans costs h a.class a.op receive r.with partner is, within)
+          omega (arith, rx_fits plans costs h a run p, rx_of_serve plans costs h a.class a.op receive m partner is, within)
 
-      pub serve_known : (until : ℕ) → until ≡ a.time + over plans costs r.with → (t : Times) → t ≡ record before { end = Some until } → Known t
+      pub serve_known : (until : ℕ) → until ≡ a.time + over plans costs m → (t : Times) → t ≡ record before { end = Some until } → Known t
       serve_known until ends t e =
           subst Known (sym e) (message_taken plans costs h a run p (entry_known plans costs h a.op) refl until (serve_until until ends) is receive)
 
-      pub serve_free : (q s : Holds) (until : ℕ) → until ≡ a.time + over plans costs r.with → AreFreeTimes plans costs h q → SameFreeTimes s (hold_rx (hold_cpu q a.op until) a.op (a.time + gap plans costs r.with)) → AreFreeTimes plans costs (a ∷ h) s
+      pub serve_free : (q s : Holds) (until : ℕ) → until ≡ a.time + over plans costs m → AreFreeTimes plans costs h q → SameFreeTimes s (hold_rx (hold_cpu q a.op until) a.op (a.time + gap plans costs m)) → AreFreeTimes plans costs (a ∷ h) s
       serve_free q s until ends free after =
-          free_serve plans costs h a q free s until (ap holds_cpu is) (serve_until until ends) (a.time + gap plans costs r.with) after (ap (λ (k : Class). holds_tx k (kind_at plans a.op)) is) (ap holds_rx is) (ap (λ (n : ℕ). a.time + n) (sym (rx_of_serve plans costs h a.class a.op receive r.with partner is)))
+          free_serve plans costs h a q free s until (ap holds_cpu is) (serve_until until ends) (a.time + gap plans costs m) after (ap (λ (k : Class). holds_tx k (kind_at plans a.op)) is) (ap holds_rx is) (ap (λ (n : ℕ). a.time + n) (sym (rx_of_serve plans costs h a.class a.op receive m partner is)))

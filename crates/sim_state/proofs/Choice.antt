@@ -18,6 +18,11 @@ use Rattle.sim_params.proofs.ForCallers.{possible_at}
 use Rattle.sim_state.specs.Enabled.{enabled_action, IsEnabledActionOf}
 use Rattle.sim_state.proofs.Started.{arrive_started, data_started}
 
+-- what is not there is none
+pub none_there : {A : Type 0} (o : Option A) → is_some o ≡ false → o ≡ None
+none_there None e = refl
+none_there (Some x) e = absurd (both_ways true e refl)
+
 -- the first of two that is there
 pub or_first : (a b : Option Timed) → is_some a ≡ true → a ≡ option_or a b
 or_first None b e = absurd (both_ways false refl e)

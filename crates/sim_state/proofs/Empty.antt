@@ -11,14 +11,14 @@ use Rattle.goal_graph.specs.Matching.{pairs, partner}
 use Rattle.goal_graph.specs.Allowed.{is_met}
 use Rattle.goal_graph.proofs.ForCallers.{count-cons}
 use Rattle.sim_params.specs.Costs.{CostModel, is_eager}
-use Rattle.sim_params.specs.Times.{cpu, tx, rx, greatest, met_at}
+use Rattle.sim_params.specs.Times.{cpu, tx, rx, greatest, mate, met_at}
 use Rattle.sim_match.specs.PostsAndArrivals.{PostsAndArrivals}
 use Rattle.sim_resources.specs.FreeTimes.{Holds, free_at, cpu_free, tx_free, rx_free, unheld, SameFreeTimes}
 use Rattle.sim_state.specs.Engine.{start_known, end_known}
 use Rattle.sim_state.specs.Awaited.{is_there, unmet, awaited_known}
 use Rattle.sim_state.specs.Tasks.{work_of}
 use Rattle.sim_state.specs.Tables.{fresh_entry}
-use Rattle.sim_state.specs.Represents.{paired_known, entry_known, AreFreeTimes, KnowsPostsAndArrivals}
+use Rattle.sim_state.specs.Represents.{entry_known, AreFreeTimes, KnowsPostsAndArrivals}
 
 module _ (plans : List Plan) (costs : CostModel) where
   module _ (x : OpId) where
@@ -58,14 +58,14 @@ module _ (plans : List Plan) (costs : CostModel) where
     all_unmet : length (needs plans x) ≡ unmet plans costs [] x
     all_unmet = all_of (needs plans x)
 
-    no_partner : paired_known plans costs [] x ≡ None
+    no_partner : mate plans costs [] x ≡ None
     unfolding plain pairs partner
     no_partner = refl
 
     -- nothing is known of any operation but what it does
     pub nothing_known : fresh_entry (work_of plans costs x) (length (needs plans x)) ≡ entry_known plans costs [] x
     nothing_known =
-        sym (λ i. record { work = work_of plans costs x; times = record { start = no_start i; end = no_end i; awaited = none_given i }; paired = no_partner i; unmet = sym all_unmet i })
+        sym (λ i. record { work = work_of plans costs x; times = record { start = no_start i; end = no_end i; awaited = none_given i }; link = record { unmet = sym all_unmet i; partner = no_partner i } })
 
     cpu_first : cpu_free (unheld plans) x ≡ cpu plans costs [] x
     unfolding free_at cpu

@@ -1,7 +1,7 @@
 -- What may happen next of one operation, class by class.
-use Rattle.std.proofs.Common.{◌≡◌, ◌+◌, ◌≤◌, ℕ, max, Bool, true, false, not, ◌||◌, List, Option, Some, None, is_some, if◌then◌else◌, refl, sym, ap, ◌∙◌, arith}
+use Rattle.std.proofs.Common.{◌≡◌, ◌+◌, ◌≤◌, ℕ, max, Bool, true, false, not, ◌||◌, List, Option, Some, None, is_some, if◌then◌else◌, inl, inr, refl, sym, ap, ◌∙◌, arith}
 use Rattle.std.specs.Option.{option_map}
-use Rattle.std.proofs.lemmas.Bool.{cond-true, cond-false, both_ways, false_from_ne_true, and_from, not_from_false}
+use Rattle.std.proofs.lemmas.Bool.{cases_Bool, cond-true, cond-false, both_ways, false_from_ne_true, and_from, not_from_false}
 use Rattle.std.proofs.lemmas.Option.{same_Some}
 use Rattle.goal_graph.specs.declared.action.OpId.{OpId}
 use Rattle.goal_graph.specs.declared.action.Timed.{Timed}
@@ -13,7 +13,7 @@ use Rattle.goal_graph.specs.Action.{happened, plain}
 use Rattle.goal_graph.specs.Matching.{pairs, is_paired}
 use Rattle.goal_graph.specs.Allowed.{first_class, has_started, has_ended, is_ready, is_served, may, allowed}
 use Rattle.goal_graph.specs.Laws.{IsCalc}
-use Rattle.goal_graph.proofs.ForCallers.{partner_is_send, partners_mutual, allowed_fresh, allowed_may, allowed_from, allowed_data, allowed_serve, first_of_calc, first_of_send, first_of_receive, ended_receive}
+use Rattle.goal_graph.proofs.ForCallers.{partner_is_send, partners_mutual, allowed_fresh, allowed_may, allowed_from, allowed_data, allowed_serve, arrived_begun, cases_some, first_of_calc, first_of_send, first_of_receive, ended_receive, last_of_eager, last_of_large}
 use Rattle.sim_params.specs.Costs.{CostModel, is_eager, eager_of, latency, flight}
 use Rattle.sim_params.specs.Times.{since, mate, ready, cpu, tx, rx, paired_at, there_at, time_of, time}
 use Rattle.sim_params.specs.Run.{IsRun}
@@ -21,11 +21,13 @@ use Rattle.sim_params.specs.Laws.{at_its_time}
 use Rattle.sim_params.specs.Budget.{budget}
 use Rattle.sim_params.proofs.ForCallers.{possible_budget, possible_at, run_each, run_interleaving}
 use Rattle.sim_state.specs.declared.entry.Entry.{Entry}
-use Rattle.sim_state.specs.declared.pairing.Pairing.{Pairing}
-use Rattle.sim_state.specs.Awaited.{delivered_known}
-use Rattle.sim_state.specs.Represents.{paired_known, message_known, entry_known}
+use Rattle.sim_state.specs.declared.task.Task.{Task}
+use Rattle.sim_state.specs.declared.task.Task.TheVariants as task
+use Rattle.sim_state.specs.Represents.{Pairing, message_known, entry_known}
 use Rattle.sim_state.specs.Enabled.{ready_known, time_known, enabled_action}
-use Rattle.sim_state.proofs.Handed.{awaited_arrived, awaited_unpaired, paired_arrived}
+use Rattle.sim_state.specs.Tasks.{task_of}
+use Rattle.sim_state.proofs.Handed.{awaited_handed, awaited_unpaired, paired_arrived, receive_waits, send_waits}
+use Rattle.sim_state.proofs.Tasks.{send_task}
 
 -- a number that is known, or not
 pub known_some : (b : Bool) (n m : ℕ) → (if b then Some n else None) ≡ Some m → (b ≡ true) × (n ≡ m)
@@ -103,9 +105,15 @@ module _ (plans : List Plan) (costs : CostModel) (h : List Timed) (x : OpId) whe
       go true = refl
       go false = refl
 
-  -- when its bytes are delivered, once it has arrived
-  pub delivery_told : IsRun plans costs h → IsSend plans x → happened Arrive x (plain h) ≡ true → (e : Entry) → e ≡ entry_known plans costs h x → e.times.awaited ≡ delivered_known plans costs h x
-  delivery_told run k t e told = ap (λ (e : Entry). e.times.awaited) told ∙ awaited_arrived plans costs h x run k t
+  -- whether it has ended, as its entry tells it
+  end_told : (e : Entry) → e ≡ entry_known plans costs h x → has_ended plans (is_eager plans costs) x (plain h) ≡ is_some e.times.end
+  end_told e told =
+      sym (is_known (has_ended plans (is_eager plans costs) x (plain h)) _) ∙ sym (ap (λ (e : Entry). is_some e.times.end) told)
+
+  -- a large send ends as it hands over its bytes
+  large_end : IsSend plans x → is_eager plans costs x ≡ false → (e : Entry) → e ≡ entry_known plans costs h x → happened Data x (plain h) ≡ is_some e.times.end
+  large_end k large e told =
+      sym (ap (λ (c : Class). happened c x (plain h)) (last_of_large plans (is_eager plans costs) x k large)) ∙ end_told e told
 
   -- nothing more of that class once it has started, nor while something that it needs is not there
   pub begun_not_enabled : (c : Class) → BeginsBy c → has_started plans x (plain h) ≡ true → None ≡ enabled_action plans costs h c x
@@ -142,43 +150,32 @@ module _ (plans : List Plan) (costs : CostModel) (h : List Timed) (x : OpId) whe
   unfolding time
   serve_time k = ap (time_of plans costs h Serve x) k.kind
 
-  -- the partner, as the entry tells it
+  -- its partner, and since when it is paired
   pub record IsPairing (p : Pairing) : Type 0 where
     pub mate_is : mate plans costs h x ≡ Some p.with
     pub at_is : paired_at plans costs h x ≡ p.at
 
-  pub known_pairing : (p : Pairing) → paired_known plans costs h x ≡ Some p → IsPairing p
-  known_pairing p is = go (mate plans costs h x) refl is
-    where
-      pairing : OpId → Pairing
-      pairing y = record { with = y; at = paired_at plans costs h x }
+  -- the partner that the entry tells
+  partner_told : (e : Entry) (o : Option OpId) → e ≡ entry_known plans costs h x → e.link.partner ≡ o → mate plans costs h x ≡ o
+  partner_told e o told is = sym (ap (λ (e : Entry). e.link.partner) told) ∙ is
 
-      go : (o : Option OpId) → mate plans costs h x ≡ o → option_map (λ (y : OpId). pairing y) o ≡ Some p → IsPairing p
-      go None m f = absurd (cc)
-      go (Some y) m f =
-          let same : pairing y ≡ p = same_Some (pairing y) p f in
-          record { mate_is = m ∙ ap (λ (q : Pairing). Some q.with) same; at_is = ap (λ (q : Pairing). q.at) same }
+  -- what the entry of a receive that is paired awaits tells since when it is
+  receive_since : IsRun plans costs h → IsReceive plans x → (e : Entry) (m : OpId) → e ≡ entry_known plans costs h x → e.link.partner ≡ Some m → e.times.awaited ≡ Some (paired_at plans costs h x)
+  receive_since run k e m told is =
+      ap (λ (e : Entry). e.times.awaited) told ∙ receive_waits plans costs h x run k m (partner_told e (Some m) told is)
 
-  pub paired_some : (e : Entry) (p : Pairing) → e ≡ entry_known plans costs h x → e.paired ≡ Some p → IsPairing p
-  paired_some e p told is = known_pairing p (sym (ap (λ (e : Entry). e.paired) told) ∙ is)
+  pub receive_pairing : IsRun plans costs h → IsReceive plans x → (e : Entry) (m : OpId) (n : ℕ) → e ≡ entry_known plans costs h x → e.link.partner ≡ Some m → e.times.awaited ≡ Some n → IsPairing (record { with = m; at = n })
+  receive_pairing run k e m n told is since_is = record {
+    mate_is = partner_told e (Some m) told is;
+    at_is = same_Some (paired_at plans costs h x) n (sym (receive_since run k e m told is) ∙ since_is);
+  }
 
-  pub paired_none : (e : Entry) → e ≡ entry_known plans costs h x → e.paired ≡ None → mate plans costs h x ≡ None
-  paired_none e told is =
-      go (mate plans costs h x) refl (sym (ap (λ (e : Entry). e.paired) told) ∙ is)
-    where
-      pairing : OpId → Pairing
-      pairing y = record { with = y; at = paired_at plans costs h x }
+  pub since_there : IsRun plans costs h → IsReceive plans x → (e : Entry) (m : OpId) → e ≡ entry_known plans costs h x → e.link.partner ≡ Some m → e.times.awaited ≡ None → ⊥
+  since_there run k e m told is none =
+      both_ways _ (ap is_some none) (ap is_some (receive_since run k e m told is))
 
-      go : (o : Option OpId) → mate plans costs h x ≡ o → option_map (λ (y : OpId). pairing y) o ≡ None → mate plans costs h x ≡ None
-      go None m f = m
-      go (Some y) m f = absurd (cc)
-
-  -- a send that is paired has arrived
-  pub pairing_arrived : IsSend plans x → (p : Pairing) → IsPairing p → happened Arrive x (plain h) ≡ true
-  pairing_arrived k p is = paired_arrived plans costs h x k (ap is_some is.mate_is)
-
-  -- no Data of an eager send, of one that has handed over its bytes, or of one that is not paired
-  pub eager_data : is_eager plans costs x ≡ true → None ≡ enabled_action plans costs h Data x
+  -- no Data of an eager send, or of one that is not paired
+  eager_data : is_eager plans costs x ≡ true → None ≡ enabled_action plans costs h Data x
   eager_data e =
       not_enabled Data (λ p. both_ways _ (allowed_data plans (is_eager plans costs) (plain h) x p).1 e)
 
@@ -187,36 +184,59 @@ module _ (plans : List Plan) (costs : CostModel) (h : List Timed) (x : OpId) whe
       not_enabled Data (λ p. both_ways _ (ap is_some n) (allowed_data plans (is_eager plans costs) (plain h) x p).2)
 
   -- and no Arrive of one that is paired
-  pub paired_arrive : IsSend plans x → (p : Pairing) → IsPairing p → None ≡ enabled_action plans costs h Arrive x
-  paired_arrive k p is = past_not_enabled Arrive (pairing_arrived k p is)
+  pub paired_arrive : IsSend plans x → is_some (mate plans costs h x) ≡ true → None ≡ enabled_action plans costs h Arrive x
+  paired_arrive k paired = past_not_enabled Arrive (paired_arrived plans costs h x k paired)
 
-  may_data : IsSend plans x → is_eager plans costs x ≡ false → (p : Pairing) → IsPairing p → may plans (is_eager plans costs) (plain h) Data x (kind_at plans x) ≡ true
-  may_data k large p is =
-      ap (may plans (is_eager plans costs) (plain h) Data x) k.kind ∙ and_from (not (is_eager plans costs x)) (is_paired (pairs plans (plain h)) x) (not_from_false _ large) (ap is_some is.mate_is)
+  -- the Data of a send that is paired
+  module _ (run : IsRun plans costs h) (k : IsSend plans x) (paired : is_some (mate plans costs h x) ≡ true) (e : Entry) (told : e ≡ entry_known plans costs h x) where
+    -- there is none once it has ended
+    pub ended_data : is_some e.times.end ≡ true → None ≡ enabled_action plans costs h Data x
+    ended_data s =
+        elim (cases_Bool (is_eager plans costs x)) [ inl eager ↦ eager_data eager | inr large ↦ past_not_enabled Data (large_end k large e told ∙ s) ]
 
-  -- what the entry of a send that is paired awaits tells whether it has handed over its bytes
-  module _ (run : IsRun plans costs h) (k : IsSend plans x) (e : Entry) (told : e ≡ entry_known plans costs h x) (p : Pairing) (is : IsPairing p) where
-    handed : happened Data x (plain h) ≡ is_some e.times.awaited
-    handed =
-        sym (is_known (happened Data x (plain h)) _) ∙ sym (ap is_some (delivery_told run k (pairing_arrived k p is) e told))
+    module _ (s : is_some e.times.end ≡ false) where
+      -- one that has not ended is large, since an eager one that is paired has begun, and has not handed over its bytes
+      unended_large : is_eager plans costs x ≡ false
+      unended_large =
+          false_from_ne_true _ (λ eager. both_ways _ (sym (ap (λ (c : Class). happened c x (plain h)) (last_of_eager plans (is_eager plans costs) x k eager)) ∙ end_told e told ∙ s) (arrived_begun plans (is_eager plans costs) (plain h) x (run_interleaving plans costs h run) (paired_arrived plans costs h x k paired)))
 
-    pub handed_data : is_some e.times.awaited ≡ true → None ≡ enabled_action plans costs h Data x
-    handed_data s = past_not_enabled Data (handed ∙ s)
+      unended_fresh : happened Data x (plain h) ≡ false
+      unended_fresh = large_end k unended_large e told ∙ s
 
-    module _ (large : is_eager plans costs x ≡ false) (s : is_some e.times.awaited ≡ false) where
+      -- what its entry awaits tells since when it is paired
+      send_since : e.times.awaited ≡ Some (paired_at plans costs h x)
+      send_since =
+          let with = cases_some (mate plans costs h x) paired in
+          ap (λ (e : Entry). e.times.awaited) told ∙ send_waits plans costs h x run k unended_fresh with.0 with.1
+
+      pub waiting_there : e.times.awaited ≡ None → ⊥
+      waiting_there none = both_ways _ (ap is_some none) (ap is_some send_since)
+
+      pub waiting_since : (n : ℕ) → e.times.awaited ≡ Some n → paired_at plans costs h x ≡ n
+      waiting_since n is = same_Some (paired_at plans costs h x) n (sym send_since ∙ is)
+
+      -- so its Data may happen
+      may_data : may plans (is_eager plans costs) (plain h) Data x (kind_at plans x) ≡ true
+      may_data =
+          ap (may plans (is_eager plans costs) (plain h) Data x) k.kind ∙ and_from (not (is_eager plans costs x)) (is_paired (pairs plans (plain h)) x) (not_from_false _ unended_large) paired
+
       pub data_enabled : (t : ℕ) → t ≡ time plans costs h Data x → Some (record { time = t; class = Data; op = x }) ≡ enabled_action plans costs h Data x
-      data_enabled t at = comes_enabled Data t (handed ∙ s) (may_data k large p is) at
+      data_enabled t at = comes_enabled Data t unended_fresh may_data at
 
       -- its clearance is back within the budget
-      pub clears : p.at + latency plans costs x ≤ budget plans costs
+      pub clears : paired_at plans costs h x + latency plans costs x ≤ budget plans costs
       clears =
-          let can = allowed_from plans (is_eager plans costs) (plain h) Data x (handed ∙ s) (may_data k large p is) in
-          omega (arith, possible_budget plans costs h (at_its_time plans costs h Data x) (run_each plans costs h run) (possible_at plans costs h Data x can), data_time k, is.at_is)
+          let can = allowed_from plans (is_eager plans costs) (plain h) Data x unended_fresh may_data in
+          omega (arith, possible_budget plans costs h (at_its_time plans costs h Data x) (run_each plans costs h run) (possible_at plans costs h Data x can), data_time k)
+
+  -- the message of a large send is there, once it has ended, as its bytes are delivered
+  pub ended_message : IsRun plans costs h → IsSend plans x → is_eager plans costs x ≡ false → (at : ℕ) (e : Entry) → e ≡ entry_known plans costs h x → is_some e.times.end ≡ true → e.times.awaited ≡ message_known plans costs h (record { with = x; at = at })
+  ended_message run k large at e told s =
+      ap (λ (e : Entry). e.times.awaited) told ∙ awaited_handed plans costs h x run (large_end k large e told ∙ s) ∙ sym (cond-false _ _ _ large)
 
   -- no Serve of a receive that has ended, that is not paired, or whose message is not there
   ended : IsReceive plans x → (e : Entry) → e ≡ entry_known plans costs h x → happened Serve x (plain h) ≡ is_some e.times.end
-  ended k e told =
-      sym (ended_receive plans (is_eager plans costs) (plain h) x k) ∙ sym (is_known (has_ended plans (is_eager plans costs) x (plain h)) _) ∙ sym (ap (λ (e : Entry). is_some e.times.end) told)
+  ended k e told = sym (ended_receive plans (is_eager plans costs) (plain h) x k) ∙ end_told e told
 
   pub ended_serve : IsReceive plans x → (e : Entry) → e ≡ entry_known plans costs h x → is_some e.times.end ≡ true → None ≡ enabled_action plans costs h Serve x
   ended_serve k e told s = past_not_enabled Serve (ended k e told ∙ s)
@@ -225,17 +245,12 @@ module _ (plans : List Plan) (costs : CostModel) (h : List Timed) (x : OpId) whe
   unserved n =
       not_enabled Serve (λ p. both_ways _ n (allowed_serve plans (is_eager plans costs) (plain h) x p).1)
 
-  pub unpaired_serve : (e : Entry) → e ≡ entry_known plans costs h x → e.paired ≡ None → None ≡ enabled_action plans costs h Serve x
+  pub unpaired_serve : (e : Entry) → e ≡ entry_known plans costs h x → e.link.partner ≡ None → None ≡ enabled_action plans costs h Serve x
   unpaired_serve e told n =
-      unserved (ap (is_served plans (is_eager plans costs) (plain h)) (paired_none e told n))
+      unserved (ap (is_served plans (is_eager plans costs) (plain h)) (partner_told e None told n))
 
   pub pairing_send : IsReceive plans x → (p : Pairing) → IsPairing p → IsSend plans p.with
   pairing_send k p is = partner_is_send plans (plain h) x p.with k is.mate_is
-
-  pub partner_arrived : IsRun plans costs h → IsReceive plans x → (p : Pairing) → IsPairing p → happened Arrive p.with (plain h) ≡ true
-  partner_arrived run k p is =
-      let back = partners_mutual plans (is_eager plans costs) (plain h) x p.with (run_interleaving plans costs h run) is.mate_is in
-      paired_arrived plans costs h p.with (pairing_send k p is) (ap is_some back)
 
   pub absent_serve : (p : Pairing) → IsPairing p → (r : Option ℕ) → r ≡ message_known plans costs h p → r ≡ None → None ≡ enabled_action plans costs h Serve x
   absent_serve p is r told n =
@@ -275,3 +290,8 @@ module _ (plans : List Plan) (costs : CostModel) (h : List Timed) (x : OpId) whe
 pub eager_read : (plans : List Plan) (costs : CostModel) (m : OpId) (bytes to tag : ℕ) → kind_at plans m ≡ Some (Send bytes to tag) → costs.eager m.rank to bytes ≡ is_eager plans costs m
 unfolding is_eager
 eager_read plans costs m bytes to tag k = sym (ap (eager_of costs.eager m.rank) k)
+
+-- a send of another task than that of one that goes out whole is large
+pub other_large : (plans : List Plan) (costs : CostModel) (x : OpId) (w : Task) → w ≡ task_of plans costs x → IsSend plans x → (w ≡ task.Eager → ⊥) → is_eager plans costs x ≡ false
+other_large plans costs x w e k other =
+    false_from_ne_true _ (λ eager. other (e ∙ sym (send_task plans costs x true k (sym eager))))

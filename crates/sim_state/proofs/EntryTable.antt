@@ -9,8 +9,3 @@ use Rattle.sim_state.specs.Tables.{with_entry}
 pub entry_changed : (plans : List Plan) (i : ℕ) (x : OpId) (entries : List Entry) (f : OpId → Entry) (change : Entry → Entry) (d : Entry) → entries ≡ map f (operations plans) → slice_get (operations plans) i ≡ Some x → slice_set entries i (change (get_or entries i d)) ≡ map (with_entry x (change (f x)) f) (operations plans)
 entry_changed plans i x entries f change d table is =
     ap (λ (es : List Entry). slice_set es i (change (get_or es i d))) table ∙ ap (λ (e : Entry). slice_set (map f (operations plans)) i (change e)) (entry_of f (operations plans) i x d is) ∙ written_entry plans i x (change (f x)) f is
-
--- what is no value is none
-pub absent : {A : Type 0} (o : Option A) → ((x : A) → o ≡ Some x → ⊥) → o ≡ None
-absent None never = refl
-absent (Some x) never = absurd (never x refl)

@@ -1,11 +1,11 @@
 -- The entries of the operations, while those that wait for an action's operation are given its moments one after another.
 use Rattle.std.proofs.Common.{◌≡◌, ◌≢◌, ◌&&◌, ◌+◌, ◌-◌, ◌<◌, ◌≤◌, ℕ, Bool, true, false, not, max, List, [], ◌∷◌, ◌++◌, count_by, Option, Some, None, if◌then◌else◌, inl, inr, refl, sym, ap, ap₂, ◌∙◌, arith}
 use Rattle.std.specs.List.{list_all}
-use Rattle.std.specs.Option.{option_map, option_or}
+use Rattle.std.specs.Option.{option_map}
 use Rattle.std.proofs.lemmas.Bool.{and_left, and_right, and_parts, cases_Bool, cond-true, cond-false}
 use Rattle.goal_graph.specs.declared.action.OpId.{OpId}
 use Rattle.goal_graph.specs.declared.action.Timed.{Timed}
-use Rattle.goal_graph.specs.declared.action.Class.TheVariants.{Arrive, Data, Begin}
+use Rattle.goal_graph.specs.declared.action.Class.TheVariants.{Arrive}
 use Rattle.goal_graph.specs.declared.plan.Need.{Need}
 use Rattle.goal_graph.specs.declared.plan.When.{When}
 use Rattle.goal_graph.specs.declared.plan.When.TheVariants.{AfterEnd, AfterStart}
@@ -13,7 +13,6 @@ use Rattle.goal_graph.specs.Schedule.{Plan, kind_at, needs, needed}
 use Rattle.goal_graph.specs.Concerned.{waiting_on}
 use Rattle.goal_graph.specs.Action.{same_op, plain}
 use Rattle.goal_graph.specs.Allowed.{first_class, has_started, is_ready}
-use Rattle.goal_graph.specs.Entries.{with_entry}
 use Rattle.goal_graph.proofs.ForCallers.{at_entry, cases_op, count-cons, entry_written, off_entry, same_op_itself, same_op_swapped}
 use Rattle.sim_params.specs.Costs.{CostModel}
 use Rattle.sim_params.specs.Times.{greatest, met_at, Possible}
@@ -24,8 +23,8 @@ use Rattle.sim_state.specs.declared.entry.Entry.{Entry}
 use Rattle.sim_state.specs.declared.entry.Times.{Times}
 use Rattle.sim_state.specs.Awaited.{is_there, unmet, last_given, awaited_known}
 use Rattle.sim_state.specs.Given.{given_times, with_given, moment_in}
-use Rattle.sim_state.specs.Represents.{times_known, entry_known, entry_then}
-use Rattle.sim_state.proofs.After.{arriving_same, happened_same, other_op, there_same}
+use Rattle.sim_state.specs.Represents.{times_known, link_known, entry_known, entry_then}
+use Rattle.sim_state.proofs.After.{happened_same, none_unmet, other_op}
 use Rattle.sim_state.proofs.GivenCounts.{counted_those, given_to, greatest_none, greatest_push, greatest_uncounted, last_those, names, one_if}
 use Rattle.sim_state.proofs.GivenMoments.{is_given, started_was_ready, there_now}
 
@@ -47,13 +46,6 @@ given_none t n e = ap (λ (o : Option ℕ). record t { awaited = o }) (raised_no
 given_twice : (t : Times) (m n k : ℕ) → k ≡ max m n → given_times n (given_times m t) ≡ given_times k t
 given_twice t m n k e = ap (λ (o : Option ℕ). record t { awaited = o }) (raised_twice t.awaited m n k e)
 
--- where all pass, none fails
-none_fails : {A : Type 0} (p : A → Bool) (xs : List A) → list_all p xs ≡ true → count_by (λ (x : A). not (p x)) xs ≡ 0
-none_fails p [] e = refl
-none_fails {A} p (x ∷ xs) e =
-    let parts = and_parts (p x) (list_all p xs) e in
-    count-cons (λ (x : A). not (p x)) x xs ∙ ap₂ (λ (b : Bool) (n : ℕ). one_if (not b) + n) parts.0 (none_fails p xs parts.1)
-
 module _ (plans : List Plan) (costs : CostModel) (h : List Timed) (a : Timed) where
   -- how many moments y waits for, before those entries are given theirs
   abbrev pub unmet_left : List Need → OpId → ℕ
@@ -65,23 +57,39 @@ module _ (plans : List Plan) (costs : CostModel) (h : List Timed) (a : Timed) wh
 
   -- that entry, which is given so late a moment, and waits for so many then
   abbrev given_entry : ℕ → ℕ → Entry → Entry
-  given_entry n left e = record e { times = given_times n e.times; unmet = left }
+  given_entry n left e = record e { times = given_times n e.times; link = record e.link { unmet = left } }
 
   -- the entry of y, after the first of those entries are given theirs, and before the rest are
   abbrev pub entry_so_far : List Need → List Need → OpId → Entry
   entry_so_far done rest y =
       given_entry (given_last done y) (unmet_left rest y) (entry_then plans costs h a y)
 
-  -- before that it waits for as many as before the action
-  unmet_then : (y : OpId) → (entry_then plans costs h a y).unmet ≡ unmet plans costs h y
-  unmet_then y = elim (cases_op y a.op) [ inl e ↦ ap (λ (d : Entry). d.unmet) (at_entry a.op own others y e) ∙ ap (unmet plans costs h) (sym e) | inr d ↦ ap (λ (d : Entry). d.unmet) (off_entry a.op own others y d) ]
-    where
-      own : Entry
-      own = record (entry_known plans costs (a ∷ h) a.op) { unmet = unmet plans costs h a.op }
+  -- what another operation awaits, before it is given its moments: what is known since, where it had started, and else what it did
+  abbrev awaited_then : OpId → Option ℕ
+  awaited_then x = if has_started plans x (plain h) then awaited_known plans costs (a ∷ h) x else awaited_known plans costs h x
 
-      others : OpId → Entry
-      others x =
-          record (entry_known plans costs (a ∷ h) x) { times = record (times_known plans costs (a ∷ h) x) { awaited = awaited_known plans costs h x }; unmet = unmet plans costs h x }
+  -- what is known of x since, but for what it awaits and how many moments it waits for
+  abbrev entry_with : OpId → Option ℕ → ℕ → Entry
+  entry_with x o n =
+      record (entry_known plans costs (a ∷ h) x) { times = record (times_known plans costs (a ∷ h) x) { awaited = o }; link = record (link_known plans costs (a ∷ h) x) { unmet = n } }
+
+  -- the entry of the action's operation before those moments are given, and that of another
+  abbrev own_then : OpId → Entry
+  own_then x = entry_with x (awaited_known plans costs (a ∷ h) x) (unmet plans costs h x)
+
+  abbrev other_then : OpId → Entry
+  other_then x = entry_with x (awaited_then x) (unmet plans costs h x)
+
+  own_is : (y : OpId) → y ≡ a.op → entry_then plans costs h a y ≡ own_then y
+  own_is y e = at_entry a.op (own_then a.op) other_then y e ∙ ap own_then (sym e)
+
+  other_is : (y : OpId) → same_op y a.op ≡ false → entry_then plans costs h a y ≡ other_then y
+  other_is y d = off_entry a.op (own_then a.op) other_then y d
+
+  -- before that it waits for as many as before the action
+  unmet_then : (y : OpId) → (entry_then plans costs h a y).link.unmet ≡ unmet plans costs h y
+  unmet_then y =
+      elim (cases_op y a.op) [ inl e ↦ ap (λ (d : Entry). d.link.unmet) (own_is y e) | inr d ↦ ap (λ (d : Entry). d.link.unmet) (other_is y d) ]
 
   -- the moment of the action's operation
   known_moment : (w : When) → moment_in (times_known plans costs (a ∷ h) a.op) w ≡ (if there_now plans costs h a w a.op then Some (met_at plans costs (a ∷ h) w a.op) else None)
@@ -158,9 +166,9 @@ module _ (plans : List Plan) (costs : CostModel) (h : List Timed) (a : Timed) wh
         left : unmet_left rest later ≡ unmet_left (d ∷ rest) later - 1
         left = omega (arith, counts_it rest)
 
-        here : entry_so_far (done ++ (d ∷ [])) rest later ≡ record (entry_so_far done (d ∷ rest) later) { times = given_times m (entry_so_far done (d ∷ rest) later).times; unmet = (entry_so_far done (d ∷ rest) later).unmet - 1 }
+        here : entry_so_far (done ++ (d ∷ [])) rest later ≡ record (entry_so_far done (d ∷ rest) later) { times = given_times m (entry_so_far done (d ∷ rest) later).times; link = record (entry_so_far done (d ∷ rest) later).link { unmet = (entry_so_far done (d ∷ rest) later).link.unmet - 1 } }
         here =
-            ap₂ (λ (t : Times) (n : ℕ). record (entry_then plans costs h a later) { times = t; unmet = n }) times left
+            ap₂ (λ (t : Times) (n : ℕ). record (entry_then plans costs h a later) { times = t; link = record (entry_then plans costs h a later).link { unmet = n } }) times left
 
         others : (x : OpId) → same_op later x ≡ false → entry_so_far (done ++ (d ∷ [])) rest x ≡ entry_so_far done (d ∷ rest) x
         others x e =
@@ -180,13 +188,12 @@ module _ (plans : List Plan) (costs : CostModel) (h : List Timed) (a : Timed) wh
       entry_first =
           let times = sym (given_none (entry_then plans costs h a y).times (given_last [] y) (greatest_none (given_to plans costs h a y))) in
           let left = unmet_then y ∙ counted_those plans costs h a run p y ws whom in
-          ap₂ (λ (t : Times) (n : ℕ). record (entry_then plans costs h a y) { times = t; unmet = n }) times left
+          ap₂ (λ (t : Times) (n : ℕ). record (entry_then plans costs h a y) { times = t; link = record (entry_then plans costs h a y).link { unmet = n } }) times left
 
       -- what has started is given none
       started_given_none : has_started plans y (plain (a ∷ h)) ≡ true → given_last ws y ≡ 0
-      unfolding is_ready
       started_given_none t =
-          let none : unmet plans costs h y ≡ 0 = none_fails (is_there plans costs h y) (needs plans y) (started_was_ready plans costs h a run p y t) in
+          let none : unmet plans costs h y ≡ 0 = none_unmet plans costs h y (started_was_ready plans costs h a run p y t) in
           greatest_uncounted (names plans costs h a y) (λ (d : Need). met_at plans costs (a ∷ h) d.when a.op) ws (omega (arith, none, counted_those plans costs h a run p y ws whom))
 
       -- what its entry awaits, of the action's operation, and of another
@@ -200,9 +207,9 @@ module _ (plans : List Plan) (costs : CostModel) (h : List Timed) (a : Timed) wh
               let same : max (last_given plans costs (a ∷ h) y) (given_last ws y) ≡ last_given plans costs (a ∷ h) y = omega (arith, last_those plans costs h a run p y ws whom) in
               ap (raised (given_last ws y)) is ∙ ap Some same ∙ sym is
 
-      other_awaited : same_op a.op y ≡ false → raised (given_last ws y) (awaited_known plans costs h y) ≡ awaited_known plans costs (a ∷ h) y
+      other_awaited : same_op a.op y ≡ false → raised (given_last ws y) (awaited_then y) ≡ awaited_known plans costs (a ∷ h) y
       other_awaited d =
-          elim (cases_Bool (has_started plans y (plain (a ∷ h)))) [ inl t ↦ raised_none _ _ (started_given_none t) ∙ cond-true _ _ _ (sym as_before ∙ t) ∙ sym (ap₂ option_or (arriving_same plans costs h a y (other_op plans costs h a Arrive y d) (other_op plans costs h a Begin y d)) (there_same plans costs h a y (other_op plans costs h a Data y d))) ∙ sym (cond-true _ _ _ t) | inr f ↦ ap (raised (given_last ws y)) (cond-false _ _ _ (sym as_before ∙ f)) ∙ ap Some (sym (last_those plans costs h a run p y ws whom)) ∙ sym (cond-false _ _ _ f) ]
+          elim (cases_Bool (has_started plans y (plain h))) [ inl t ↦ ap (raised (given_last ws y)) (cond-true _ _ _ t) ∙ raised_none _ _ (started_given_none (as_before ∙ t)) | inr f ↦ ap (raised (given_last ws y)) (cond-false _ _ _ f ∙ cond-false _ _ _ f) ∙ ap Some (sym (last_those plans costs h a run p y ws whom)) ∙ sym (cond-false _ _ _ (as_before ∙ f)) ]
         where
           as_before : has_started plans y (plain (a ∷ h)) ≡ has_started plans y (plain h)
           as_before =
@@ -212,28 +219,15 @@ module _ (plans : List Plan) (costs : CostModel) (h : List Timed) (a : Timed) wh
       pub entry_last : entry_so_far ws [] y ≡ entry_known plans costs (a ∷ h) y
       entry_last = elim (cases_op y a.op) [ inl e ↦ own e | inr d ↦ other d ]
         where
-          first : Entry
-          first = record (entry_known plans costs (a ∷ h) a.op) { unmet = unmet plans costs h a.op }
-
-          others : OpId → Entry
-          others x =
-              record (entry_known plans costs (a ∷ h) x) { times = record (times_known plans costs (a ∷ h) x) { awaited = awaited_known plans costs h x }; unmet = unmet plans costs h x }
-
           given : Entry → Entry
           given = given_entry (given_last ws y) (unmet_left [] y)
-
-          -- what it awaits, and how many it waits for
-          with_both : Option ℕ → ℕ → Entry
-          with_both o n =
-              record (entry_known plans costs (a ∷ h) y) { times = record (times_known plans costs (a ∷ h) y) { awaited = o }; unmet = n }
 
           left : unmet_left [] y ≡ unmet plans costs (a ∷ h) y
           left = omega arith
 
           own : y ≡ a.op → entry_so_far ws [] y ≡ entry_known plans costs (a ∷ h) y
-          own e =
-              ap given (at_entry a.op first others y e ∙ ap (λ (x : OpId). record (entry_known plans costs (a ∷ h) x) { unmet = unmet plans costs h x }) (sym e)) ∙ ap₂ with_both own_awaited left
+          own e = ap given (own_is y e) ∙ ap₂ (entry_with y) own_awaited left
 
           other : same_op y a.op ≡ false → entry_so_far ws [] y ≡ entry_known plans costs (a ∷ h) y
           other d =
-              ap given (off_entry a.op first others y d) ∙ ap₂ with_both (other_awaited (same_op_swapped y a.op d)) left
+              ap given (other_is y d) ∙ ap₂ (entry_with y) (other_awaited (same_op_swapped y a.op d)) left

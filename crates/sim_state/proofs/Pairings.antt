@@ -14,13 +14,11 @@ use Rattle.goal_graph.specs.Allowed.{is_served, allowed}
 use Rattle.goal_graph.specs.Interleaving.{IsInterleaving}
 use Rattle.goal_graph.proofs.ForCallers.{act_of, is_some_from, allowed_fresh, fits_receive, fits_send, IsNew, new_pair_is, pairs_same, partner_other, not_arrived, not_posted, IsListed, listed_partners}
 use Rattle.sim_params.specs.Costs.{CostModel, is_eager}
-use Rattle.sim_params.specs.Times.{mate, paired_at, Possible}
+use Rattle.sim_params.specs.Times.{mate, Possible}
 use Rattle.sim_params.specs.Run.{IsRun}
 use Rattle.sim_params.proofs.ForCallers.{run_interleaving}
 use Rattle.sim_match.specs.PostsAndArrivals.{is_post_or_arrival, is_post_or_arrival_class, send_for, receive_for}
 use Rattle.sim_match.proofs.ForCallers.{send_for_filtered, receive_for_filtered}
-use Rattle.sim_state.specs.declared.pairing.Pairing.{Pairing}
-use Rattle.sim_state.specs.Represents.{paired_known}
 
 unpaired : (ps : List Pair) (x : OpId) → is_paired ps x ≡ false → partner ps x ≡ None
 unpaired ps x e = go (partner ps x) refl
@@ -30,21 +28,13 @@ unpaired ps x e = go (partner ps x) refl
     go (Some y) s = absurd (both_ways _ e (is_some_from (partner ps x) y s))
 
 module _ (plans : List Plan) (costs : CostModel) (h : List Timed) (a : Timed) where
-  -- the partner that is known
-  pub mate_of_known : (x : OpId) (p : Pairing) → paired_known plans costs h x ≡ Some p → mate plans costs h x ≡ Some p.with
-  mate_of_known x p e = go (mate plans costs h x) refl e
+  -- a receive whose message is there has a partner
+  pub served_mate : (x : OpId) → is_served plans (is_eager plans costs) (plain h) (mate plans costs h x) ≡ true → (y : OpId) × (mate plans costs h x ≡ Some y)
+  served_mate x e = go (mate plans costs h x) refl e
     where
-      go : (o : Option OpId) → mate plans costs h x ≡ o → option_map (λ (y : OpId). record { with = y; at = paired_at plans costs h x }) o ≡ Some p → mate plans costs h x ≡ Some p.with
-      go None s f = absurd (cc)
-      go (Some y) s f = s ∙ ap (λ (q : Pairing). Some q.with) (same_Some (record { with = y; at = paired_at plans costs h x }) p f)
-
-  -- a receive whose message is there has one
-  pub known_mate : (x : OpId) → is_served plans (is_eager plans costs) (plain h) (mate plans costs h x) ≡ true → (p : Pairing) × (paired_known plans costs h x ≡ Some p)
-  known_mate x e = go (mate plans costs h x) refl e
-    where
-      go : (o : Option OpId) → mate plans costs h x ≡ o → is_served plans (is_eager plans costs) (plain h) o ≡ true → (p : Pairing) × (paired_known plans costs h x ≡ Some p)
+      go : (o : Option OpId) → mate plans costs h x ≡ o → is_served plans (is_eager plans costs) (plain h) o ≡ true → (y : OpId) × (mate plans costs h x ≡ Some y)
       go None s f = absurd (both_ways false refl f)
-      go (Some y) s f = (record { with = y; at = paired_at plans costs h x }, ap (option_map (λ (y : OpId). record { with = y; at = paired_at plans costs h x })) s)
+      go (Some y) s f = (y, s)
 
   -- the pair that the action makes
   abbrev pub pair_made : Option Pair

@@ -3,6 +3,8 @@ use Rattle.std.proofs.Common.{◌≡◌, ℕ, ◌<◌, ◌*◌, ◌^◌, Contain
 use Rattle.std.proofs.lemmas.List.{get_or-map, length-map}
 use Rattle.goal_graph.specs.declared.action.OpId.{OpId}
 use Rattle.goal_graph.specs.declared.action.Timed.{Timed}
+use Rattle.goal_graph.specs.declared.plan.When.{When}
+use Rattle.goal_graph.specs.declared.plan.When.TheVariants.{AfterEnd, AfterStart}
 use Rattle.goal_graph.specs.Schedule.{Plan, operations}
 use Rattle.goal_graph.specs.Action.{plain}
 use Rattle.goal_graph.specs.Fault.{IsOp}
@@ -14,8 +16,10 @@ use Rattle.sim_match.specs.PostsAndArrivals.{PostsAndArrivals}
 use Rattle.sim_resources.specs.FreeTimes.{Holds}
 use Rattle.sim_state.specs.declared.entry.Change.{Change}
 use Rattle.sim_state.specs.declared.entry.Entry.{Entry}
+use Rattle.sim_state.specs.declared.entry.Times.{Times}
 use Rattle.sim_state.specs.Changes.{IsChange}
 use Rattle.sim_state.specs.Engine.{View}
+use Rattle.sim_state.specs.Given.{moment_in}
 use Rattle.sim_state.specs.Tables.{with_change, with_pairing, with_partner, with_times}
 use Rattle.sim_state.specs.Represents.{Represents, times_known, entry_known, entry_then, KnowsPostsAndArrivals, AreFreeTimes}
 use Rattle.sim_state.proofs.Changed.{at_fits}
@@ -31,24 +35,33 @@ pub written_back : {X : Type 0} (count : ℕ) (written lent items : List X) → 
 written_back count written lent items kept same whole =
     whole_back count written items (kept ∙ ap length same) whole
 
--- the times that an action's change has are those that are known after it
+-- what the entries of two tables of the same operations are at one of these
 same_at : {Y : Type 0} (f g : OpId → Y) (xs : List OpId) (x : OpId) → Contains xs x → map f xs ≡ map g xs → f x ≡ g x
 same_at f g xs x c same =
     let default = f x in
     ap f (sym c.2) ∙ sym (get_or-map f xs c.0 x default c.1) ∙ ap (λ ys. get_or ys c.0 default) same ∙ get_or-map g xs c.0 x default c.1 ∙ ap g c.2
 
-module _ (y : OpId) (at : ℕ) where
-  paired_times : (x m : OpId) (f : OpId → Entry) → (with_pairing x m at f y).times ≡ (f y).times
-  paired_times x m f =
-      elim (cases_op y x) [ inl s ↦ ap (λ (e : Entry). e.times) (at_entry x (record (f x) { paired = Some (record { with = m; at = at }) }) f y s) ∙ ap (λ (z : OpId). (f z).times) (sym s) | inr d ↦ ap (λ (e : Entry). e.times) (off_entry x (record (f x) { paired = Some (record { with = m; at = at }) }) f y d) ]
+-- what is awaited is neither a start nor an end
+unawaited : (t : Times) (o : Option ℕ) (w : When) → moment_in (record t { awaited = o }) w ≡ moment_in t w
+unawaited t o AfterStart = refl
+unawaited t o AfterEnd = refl
 
-  partnered_times : (partner : Option OpId) (f : OpId → Entry) → (with_partner y partner at f y).times ≡ (f y).times
-  partnered_times None f = refl
-  partnered_times (Some m) f = paired_times m y (with_pairing y m at f) ∙ paired_times y m f
+-- a pairing leaves the start and the end of every entry, and a change writes those of its own
+module _ (y : OpId) (at : ℕ) (w : When) where
+  paired_moment : (x m : OpId) (f : OpId → Entry) → moment_in (with_pairing x m at f y).times w ≡ moment_in (f y).times w
+  paired_moment x m f =
+      elim (cases_op y x) [ inl s ↦ ap moment (at_entry x _ f y s) ∙ unawaited (f x).times (Some at) w ∙ ap (λ (z : OpId). moment (f z)) (sym s) | inr d ↦ ap moment (off_entry x _ f y d) ]
+    where
+      moment : Entry → Option ℕ
+      moment e = moment_in e.times w
 
-  written_times : (c : Change) (f : OpId → Entry) → (with_change y c at f y).times ≡ c.times
-  written_times c f =
-      partnered_times c.partner (with_times y c.times f) ∙ ap (λ (e : Entry). e.times) (at_entry y _ f y refl)
+  partnered_moment : (partner : Option OpId) (f : OpId → Entry) → moment_in (with_partner y partner at f y).times w ≡ moment_in (f y).times w
+  partnered_moment None f = refl
+  partnered_moment (Some m) f = paired_moment m y (with_pairing y m at f) ∙ paired_moment y m f
+
+  written_moment : (c : Change) (f : OpId → Entry) → moment_in (with_change y c at f y).times w ≡ moment_in c.times w
+  written_moment c f =
+      partnered_moment c.partner (with_times y c.times f) ∙ ap (λ (e : Entry). moment_in e.times w) (at_entry y _ f y refl)
 
 module _ (plans : List Plan) (costs : CostModel) (h : List Timed) (entries : List Entry) (matcher : PostsAndArrivals) (res : Holds) (has_room : ℕ → Type 0) (m : Represents plans costs h entries matcher res has_room) where
   -- each operation has its entry
@@ -68,11 +81,11 @@ module _ (plans : List Plan) (costs : CostModel) (h : List Timed) (entries : Lis
     pub room_left : (count : ℕ) × has_room count × (length h < count)
     room_left = (3 * length (operations plans), m.roomy, omega (arith, possible_room plans costs h a m.run next.possible))
 
-    -- its operation has the times of the change since
-    pub change_times : (c : Change) → IsChange plans costs h a c → c.times ≡ times_known plans costs (a ∷ h) a.op
-    change_times c is =
+    -- its operation has the start and the end of the change since
+    pub change_moments : (c : Change) → IsChange plans costs h a c → (w : When) → moment_in c.times w ≡ moment_in (times_known plans costs (a ∷ h) a.op) w
+    change_moments c is w =
         let listed = allowed_listed plans (is_eager plans costs) (plain h) a.class a.op next.possible.allowed in
-        sym (written_times a.op a.time c (entry_known plans costs h)) ∙ ap (λ (e : Entry). e.times) (same_at (with_change a.op c a.time (entry_known plans costs h)) (entry_then plans costs h a) (operations plans) a.op listed is.known ∙ own_next plans costs h a m.run next.possible)
+        sym (written_moment a.op a.time w c (entry_known plans costs h)) ∙ ap (λ (e : Entry). moment_in e.times w) (same_at (with_change a.op c a.time (entry_known plans costs h)) (entry_then plans costs h a) (operations plans) a.op listed is.known ∙ own_next plans costs h a m.run next.possible)
 
     pub performed : (history : List Timed) (key : Timed) → history ≡ key ∷ h → key ≡ a → (after : List Entry) → after ≡ map (entry_known plans costs (a ∷ h)) (operations plans) → (told : PostsAndArrivals) → KnowsPostsAndArrivals plans costs (a ∷ h) told → (held : Holds) → AreFreeTimes plans costs (a ∷ h) held → (still : ℕ → Type 0) → ((count : ℕ) → has_room count → still count) → Represents plans costs history after told held still
     performed history key pushed same after known told knows held free still roomy =

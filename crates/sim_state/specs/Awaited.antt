@@ -1,6 +1,6 @@
 -- Which moments an operation still waits for, the last of those that it was given, and what it waits for once it has started.
 use Rattle.std.specs.Prelude.{ℕ, ◌+◌, Bool, true, false, not, List, Option, Some, None, count_by, if◌then◌else◌}
-use Rattle.std.specs.Option.{option_or}
+use Rattle.std.specs.Option.{option_map, option_or}
 use Rattle.goal_graph.specs.declared.action.OpId.{OpId}
 use Rattle.goal_graph.specs.declared.action.Timed.{Timed}
 use Rattle.goal_graph.specs.declared.action.Class.{Class}
@@ -13,7 +13,7 @@ use Rattle.goal_graph.specs.Concerned.{waiting_on}
 use Rattle.goal_graph.specs.Action.{happened, plain}
 use Rattle.goal_graph.specs.Allowed.{is_met, has_started}
 use Rattle.sim_params.specs.Costs.{CostModel, flight, is_eager}
-use Rattle.sim_params.specs.Times.{greatest, met_at, since}
+use Rattle.sim_params.specs.Times.{greatest, mate, met_at, paired_at, since}
 use Rattle.sim_state.specs.Enabled.{time_known}
 
 -- an action of that class may give its operation the moment: a Begin its start and its end, a Post its start, a Data and a
@@ -46,10 +46,14 @@ module _ (plans : List Plan) (costs : CostModel) (h : List Timed) where
   abbrev pub delivered_known : OpId → Option ℕ
   delivered_known x = if happened Data x (plain h) then Some (since (happened Data x) h + flight plans costs x) else None
 
+  -- since when x is paired, once it is
+  abbrev pub paired_since : OpId → Option ℕ
+  paired_since x = option_map (λ (y : OpId). paired_at plans costs h x) (mate plans costs h x)
+
   -- What x waits for: before it starts the last moment that it was given; then when its message or its request arrives, while that
-  -- is under way; and once it has handed over its bytes, when these are delivered.
+  -- is under way; once it is paired, since when it is; and once it has handed over its bytes, when these are delivered.
   abbrev pub awaited_known : OpId → Option ℕ
   awaited_known x =
       if has_started plans x (plain h)
-      then option_or (time_known plans costs h Arrive x) (delivered_known x)
+      then option_or (time_known plans costs h Arrive x) (option_or (delivered_known x) (paired_since x))
       else Some (last_given x)

@@ -15,12 +15,13 @@ given_times moment t = record t { awaited = option_map (λ (last : ℕ). max las
 
 -- the entry of y is given that moment, and waits for one less, and the others are those of f
 abbrev pub with_given : OpId → ℕ → (OpId → Entry) → OpId → Entry
-with_given y moment f = with_entry y (record (f y) { times = given_times moment (f y).times; unmet = (f y).unmet - 1 }) f
+with_given y moment f =
+    with_entry y (record (f y) { times = given_times moment (f y).times; link = record (f y).link { unmet = (f y).link.unmet - 1 } }) f
 
 -- these are the entries of the operations, and that of y tells of a moment that is not there yet
 abbrev pub IsWaiting : List Plan → List Entry → OpId → Type 0
 IsWaiting plans entries y =
-    (f : OpId → Entry) × (entries ≡ map f (operations plans)) × (0 < (f y).unmet)
+    (f : OpId → Entry) × (entries ≡ map f (operations plans)) × (0 < (f y).link.unmet)
 
 -- the moment that a need is of, once it is there, of an operation of these times
 abbrev pub moment_in : Times → When → Option ℕ

@@ -2,7 +2,7 @@
 pub mod Engine
 -- What only the code keeps.
 pub mod Moments
-pub mod Partners
+pub mod Links
 pub mod Unkept
 pub mod Tables
 pub mod Enabled

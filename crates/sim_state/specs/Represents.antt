@@ -6,6 +6,7 @@ use Rattle.goal_graph.specs.declared.action.Timed.{Timed}
 use Rattle.goal_graph.specs.Schedule.{Plan, operations}
 use Rattle.goal_graph.specs.Action.{plain}
 use Rattle.goal_graph.specs.Entries.{with_entry}
+use Rattle.goal_graph.specs.Allowed.{has_started}
 use Rattle.goal_graph.specs.Fault.{IsAccepted}
 use Rattle.sim_params.specs.Costs.{CostModel, is_eager}
 use Rattle.sim_params.specs.Times.{mate, paired_at, cpu, tx, rx}
@@ -15,10 +16,15 @@ use Rattle.sim_match.specs.PostsAndArrivals.{PostsAndArrivals, is_post_or_arriva
 use Rattle.sim_resources.specs.FreeTimes.{Holds, cpu_free, tx_free, rx_free}
 use Rattle.sim_state.specs.declared.entry.Entry.{Entry}
 use Rattle.sim_state.specs.declared.entry.Times.{Times}
-use Rattle.sim_state.specs.declared.pairing.Pairing.{Pairing}
 use Rattle.sim_state.specs.Engine.{start_known, end_known}
+use Rattle.sim_state.specs.Links.{Linked}
 use Rattle.sim_state.specs.Awaited.{unmet, awaited_known, delivered_known}
 use Rattle.sim_state.specs.Tasks.{work_of}
+
+-- the operation that another is paired with, and since when
+pub record Pairing : Type 0 where
+  pub with : OpId
+  pub at : ℕ
 
 module _ (plans : List Plan) (costs : CostModel) (h : List Timed) where
   -- the operation that x is paired with, and since when, once it is
@@ -37,13 +43,16 @@ module _ (plans : List Plan) (costs : CostModel) (h : List Timed) where
     awaited = awaited_known plans costs h x;
   }
 
+  -- how many moments x waits for, and its partner
+  abbrev pub link_known : OpId → Linked
+  link_known x = record { unmet = unmet plans costs h x; partner = mate plans costs h x }
+
   -- what is kept of x
   abbrev pub entry_known : OpId → Entry
   entry_known x = record {
     work = work_of plans costs x;
     times = times_known x;
-    paired = paired_known x;
-    unmet = unmet plans costs h x;
+    link = link_known x;
   }
 
   -- the cpus and interfaces of the schedule are free when the history says so
@@ -69,13 +78,15 @@ module _ (plans : List Plan) (costs : CostModel) (h : List Timed) where
     pub roomy : has_room (3 * length (operations plans))
 
 -- What is kept of x once an action has happened, before those that wait for its operation are given its moments: what is known since,
--- but each waits for as many moments as before, and what the others await is what they did before.
+-- but each waits for as many moments as before, and what others await that have not started is what they did before.
 module _ (plans : List Plan) (costs : CostModel) (h : List Timed) (a : Timed) where
   abbrev pub entry_then : OpId → Entry
   entry_then =
       with_entry a.op
-      (record (entry_known plans costs (a ∷ h) a.op) { unmet = unmet plans costs h a.op })
+      (record (entry_known plans costs (a ∷ h) a.op) { link = record (link_known plans costs (a ∷ h) a.op) { unmet = unmet plans costs h a.op } })
       (λ x. record (entry_known plans costs (a ∷ h) x) {
-        times = record (times_known plans costs (a ∷ h) x) { awaited = awaited_known plans costs h x };
-        unmet = unmet plans costs h x;
+        times = record (times_known plans costs (a ∷ h) x) {
+          awaited = if has_started plans x (plain h) then awaited_known plans costs (a ∷ h) x else awaited_known plans costs h x;
+        };
+        link = record (link_known plans costs (a ∷ h) x) { unmet = unmet plans costs h x };
       })

@@ -9,15 +9,20 @@ use Rattle.sim_state.specs.declared.work.Work.{Work}
 
 -- of one that does that, needs so many moments, and has done nothing yet
 abbrev pub fresh_entry : Work → ℕ → Entry
-fresh_entry work unmet = record { work = work; times = record { start = None; end = None; awaited = Some 0 }; paired = None; unmet = unmet }
+fresh_entry work unmet = record {
+  work = work;
+  times = record { start = None; end = None; awaited = Some 0 };
+  link = record { unmet = unmet; partner = None };
+}
 
 -- the entry of y has these times, and the others are those of f
 abbrev pub with_times : OpId → Times → (OpId → Entry) → OpId → Entry
 with_times y times f = with_entry y (record (f y) { times = times }) f
 
--- the entry of y says that it is paired with m since that time, and the others are those of f
+-- the entry of y says that it is paired with m since that time, and waits for no moment, and the others are those of f
 abbrev pub with_pairing : OpId → OpId → ℕ → (OpId → Entry) → OpId → Entry
-with_pairing y m at f = with_entry y (record (f y) { paired = Some (record { with = m; at = at }) }) f
+with_pairing y m at f =
+    with_entry y (record (f y) { times = record (f y).times { awaited = Some at }; link = record { unmet = 0; partner = Some m } }) f
 
 -- where y has a partner, the entries of the two say that they are paired since that time
 abbrev pub with_partner : OpId → Option OpId → ℕ → (OpId → Entry) → OpId → Entry

@@ -8,8 +8,8 @@ ghost use Rattle.sim_state.specs.Represents.{entry_known};
 ghost use Rattle.sim_state.specs.Given.{given_times, with_given, IsWaiting};
 ghost use Rattle.sim_state.specs.Tables.{fresh_entry, with_times, with_pairing, with_change};
 
+use crate::link::Link;
 use crate::moment::Moment;
-use crate::pairing::Partner;
 use crate::work::{Work, work_of};
 use goal_graph::{OpId, Sched};
 use goal_progress::entry_of;
@@ -24,8 +24,8 @@ pub struct Times {
     /// When it ends.
     pub end: Moment,
     /// What it waits for: before it starts the last of the moments that it needs and that are there, 0 where none is; then when the
-    /// message of a send, or its request, arrives, while it is under way; and once a large send has handed over its bytes, when
-    /// these are delivered to its receive.
+    /// message of a send, or its request, arrives, while it is under way; once it is paired, since when it is; and once a large send
+    /// has handed over its bytes, when these are delivered to its receive.
     pub awaited: Moment,
 }
 
@@ -85,6 +85,17 @@ impl Times {
         }
     }
 
+    /// Paired since this time in nanoseconds.
+    pub fn with_pairing(self, at: u64) -> Times
+        requires { at < 2 ^ 63 }
+        ensures { result ≡ record self { awaited = Some at } }
+    {
+        Times {
+            awaited: Moment::at(at),
+            ..self
+        }
+    }
+
     /// No longer under way.
     pub fn with_no_arrival(self) -> Times
         ensures { result ≡ record self { awaited = None } }
@@ -96,18 +107,15 @@ impl Times {
     }
 }
 
-/// What is known of an operation, in 64 bytes: a run waits most for its tables to come from memory.
+/// What is known of an operation, in 48 bytes: a run waits most for its tables to come from memory.
 #[derive(Clone, Copy)]
 pub struct Entry {
     /// What it does.
     pub work: Work,
     /// Its times.
     pub times: Times,
-    /// How many of the moments that it needs are not there yet.
-    pub unmet: u32,
-    /// The operation that it is paired with. It stands last: the C library lets a large table begin 16 bytes into a line of memory, so
-    /// what stands before mostly comes with one line.
-    pub paired: Partner,
+    /// How many of the moments that it needs are not there yet, and the operation that it is paired with.
+    pub link: Link,
 }
 
 /// What an action changes of what is known of its operation: its times, and its partner where the action pairs it.
@@ -137,8 +145,7 @@ impl Entry {
         Entry {
             work,
             times: Times::first(),
-            paired: Partner::NONE,
-            unmet,
+            link: Link::waiting(unmet),
         }
     }
 }
@@ -182,12 +189,15 @@ fn write_times(sched: &Sched, entries: &mut [Entry], id: OpId, times: Times)
 // Writes that an operation is paired with another since a time.
 fn write_paired(sched: &Sched, entries: &mut [Entry], id: OpId, with: OpId, at: u64)
     requires exists { IsOp sched.now id }
+    requires other { IsOp sched.now with }
     requires fits { at < 2 ^ 63 }
     requires each { length entries.old ≡ length (operations sched.now) }
     ensures { (f : OpId → Entry) → entries.old ≡ map f (operations sched.now) → entries.new ≡ map (with_pairing id with at f) (operations sched.now) }
 {
+    let _plans = sched.plans();
     let kept = &mut entries[sched.index(id) as usize];
-    kept.paired = Partner::new(with, at);
+    kept.link = Link::paired(with);
+    kept.times = kept.times.with_pairing(at);
 }
 
 /// Writes what an action of an operation changes, at its time: where it pairs the operation, the two are paired since then.
@@ -216,6 +226,6 @@ pub fn write_given(sched: &Sched, entries: &mut [Entry], id: OpId, moment: u64)
     ensures { (f : OpId → Entry) → entries.old ≡ map f (operations sched.now) → entries.new ≡ map (with_given id moment f) (operations sched.now) }
 {
     let kept = &mut entries[sched.index(id) as usize];
-    kept.unmet -= 1;
+    kept.link = kept.link.with_one_met();
     kept.times = kept.times.with_given(moment);
 }

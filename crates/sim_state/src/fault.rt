@@ -1,7 +1,7 @@
 // Why a schedule can't be run.
 ghost use Rattle.std.specs.Prelude.{◌≡◌};
 
-use goal_base::NoMemory;
+use goal_limits::NoMemory;
 use std::alloc::AllocError;
 
 /// Why an engine is not made.

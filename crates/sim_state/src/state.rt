@@ -23,8 +23,8 @@ use crate::history::{History, Kept};
 use crate::record::Record;
 use crate::task::Task;
 use crate::work::Work;
-use goal_base::MAX_BUDGET;
 use goal_graph::{Need, OpId, Sched};
+use goal_limits::MAX_BUDGET;
 use sim_match::Matcher;
 use sim_order::CompactKey;
 use sim_params::{Costs, budget};
@@ -138,10 +138,7 @@ impl<'a, C: Costs, H: History> State<'a, C, H> {
         requires { IsOp self.now.plans id }
         ensures { result ≡ mate self.now.plans (C.model self.now.costs) self.now.history id }
     {
-        match self.entry(id).paired.get() {
-            Some(pairing) => Some(pairing.with),
-            None => None,
-        }
+        self.entry(id).link.partner()
     }
 
     /// When all that an operation waits for is free: its cpu and, where it sends or receives, that side of its interface.

@@ -1,20 +1,20 @@
 // What may happen next of one operation, and when.
-ghost use Rattle.std.specs.Prelude.{◌≡◌, true, false, Some, None};
+ghost use Rattle.std.specs.Prelude.{◌≡◌, true, false, Some, None, is_some};
 ghost use Rattle.goal_graph.specs.declared.action.Class.TheVariants.{Arrive, Serve, Data, Post, Begin};
-ghost use Rattle.goal_graph.specs.Action.{happened, plain};
+ghost use Rattle.goal_graph.specs.Action.{plain};
 ghost use Rattle.goal_graph.specs.Allowed.{has_started};
 ghost use Rattle.goal_graph.specs.Fault.{IsOp};
 ghost use Rattle.goal_graph.specs.Laws.{IsCalc};
 ghost use Rattle.goal_graph.specs.Schedule.{IsSend, IsReceive};
 ghost use Rattle.sim_params.specs.Costs.{is_eager};
 ghost use Rattle.sim_params.specs.Times.{mate};
-ghost use Rattle.sim_state.specs.Represents.{paired_known, message_known};
+ghost use Rattle.sim_state.specs.Represents.{message_known};
 ghost use Rattle.sim_state.specs.Tasks.{IsLast};
 ghost use Rattle.sim_state.specs.Enabled.{ready_known, enabled_action, IsEnabledActionOf};
 
 use super::State;
+use crate::entry::Entry;
 use crate::history::History;
-use crate::pairing::Pairing;
 use crate::task::Task;
 use goal_graph::{Class, OpId, Timed};
 use sim_eager::{begin_at, serve_at};
@@ -43,10 +43,10 @@ impl<'a, C: Costs, H: History> State<'a, C, H> {
         if !self.has_started(send) {
             return self.begin_of_send(send);
         }
-        let Some(pairing) = self.entry(send).paired.get() else {
+        if self.partner(send).is_none() {
             return self.arrival(send);
-        };
-        self.hand_over_of(send, pairing)
+        }
+        self.hand_over_of(send)
     }
 
     // The possible action of a receive, if it has one.
@@ -108,22 +108,19 @@ impl<'a, C: Costs, H: History> State<'a, C, H> {
     }
 
     // The Data of a send that is paired, where it is large: once its clearance is back, and its cpu and its interface are free.
-    fn hand_over_of(&self, send: OpId, pairing: Pairing) -> Option<Timed>
+    fn hand_over_of(&self, send: OpId) -> Option<Timed>
         requires op { IsSend self.now.plans send }
-        requires paired { paired_known self.now.plans (C.model self.now.costs) self.now.history send ≡ Some pairing }
+        requires paired { is_some (mate self.now.plans (C.model self.now.costs) self.now.history send) ≡ true }
         ensures { result ≡ enabled_action self.now.plans (C.model self.now.costs) self.now.history Data send }
     {
         self.known();
-        if self.is_eager(send) || self.entry(send).times.awaited.get().is_some() {
+        let Entry { work, times, .. } = *self.entry(send);
+        // an eager one has an end since it began, a large one once it has handed over its bytes
+        if times.end.get().is_some() {
             return None;
         }
-        let cleared = clear(
-            self.sched,
-            &self.costs,
-            send,
-            self.work(send).to,
-            pairing.at,
-        );
+        let paired = times.awaited.get()?;
+        let cleared = clear(self.sched, &self.costs, send, work.to, paired);
         Some(Timed {
             time: data_at(&self.resources, send, cleared),
             class: Class::Data,
@@ -157,8 +154,9 @@ impl<'a, C: Costs, H: History> State<'a, C, H> {
         if entry.times.end.get().is_some() {
             return None;
         }
-        let pairing = entry.paired.get()?;
-        let there = self.message_there(pairing)?;
+        let send = entry.link.partner()?;
+        let paired = entry.times.awaited.get()?;
+        let there = self.message_there(send, paired)?;
         Some(Timed {
             time: serve_at(&self.resources, recv, there),
             class: Class::Serve,
@@ -166,17 +164,18 @@ impl<'a, C: Costs, H: History> State<'a, C, H> {
         })
     }
 
-    // When the message of its partner, which has arrived or has a request that has, is there for a receive, once it is.
-    fn message_there(&self, pairing: Pairing) -> Option<u64>
-        requires op { IsSend self.now.plans pairing.with }
-        requires arrived { happened Arrive pairing.with (plain self.now.history) ≡ true }
-        ensures { result ≡ message_known self.now.plans (C.model self.now.costs) self.now.history pairing }
+    // When the message of a send is there for the receive that is paired with it since a time, once it is.
+    fn message_there(&self, send: OpId, paired: u64) -> Option<u64>
+        requires { IsSend self.now.plans send }
+        ensures { result ≡ message_known self.now.plans (C.model self.now.costs) self.now.history (record { with = send; at = paired }) }
     {
         self.known();
-        if self.is_eager(pairing.with) {
-            return Some(pairing.at);
+        let Entry { work, times, .. } = *self.entry(send);
+        if work.task == Task::Eager {
+            return Some(paired);
         }
-        self.entry(pairing.with).times.awaited.get()
+        times.end.get()?;
+        times.awaited.get()
     }
 
     /// Whether an action is told to be the last of its operation. The Data of a large send is not.
@@ -190,14 +189,6 @@ impl<'a, C: Costs, H: History> State<'a, C, H> {
             Class::Arrive => matches!(self.task(action.op), Task::Eager),
             Class::Post | Class::Data => false,
         }
-    }
-
-    // Whether a send goes out whole, with no request before it.
-    pub(super) fn is_eager(&self, send: OpId) -> bool
-        requires { IsSend self.now.plans send }
-        ensures { result ≡ is_eager self.now.plans (C.model self.now.costs) send }
-    {
-        self.task(send) == Task::Eager
     }
 
     // Whether an operation has started.
@@ -216,7 +207,7 @@ impl<'a, C: Costs, H: History> State<'a, C, H> {
         ensures { result ≡ ready_known self.now.plans (C.model self.now.costs) self.now.history id }
     {
         let entry = self.entry(id);
-        if entry.unmet > 0 {
+        if entry.link.unmet() > 0 {
             return None;
         }
         entry.times.awaited.get()

@@ -1,6 +1,7 @@
 // The moments that an action gives those that wait for its operation.
 ghost use Rattle.std.specs.Prelude.{◌≡◌, ◌≢◌, ◌≤◌, ◌+◌, ◌<◌, ◌^◌, ◌∷◌, All, map};
 ghost use Rattle.goal_graph.specs.declared.action.Class.TheVariants.{Arrive};
+ghost use Rattle.goal_graph.specs.declared.plan.When.{When};
 ghost use Rattle.goal_graph.specs.Schedule.{operations, needed};
 ghost use Rattle.goal_graph.specs.Concerned.{waiting_on};
 ghost use Rattle.goal_graph.specs.Fault.{IsOp};
@@ -29,8 +30,8 @@ fn moment_of(times: &Times, when: When) -> Option<u64>
     }
 }
 
-/// Gives those that wait for an action's operation the moments that the action gives: its operation has these times since. A counter
-/// tells how many moments it may give. The costs and the history are read by clauses alone.
+/// Gives those that wait for an action's operation the moments that the action gives: its operation has the start and the end of these
+/// times since. A counter tells how many moments it may give. The costs and the history are read by clauses alone.
 #[inline(always)]
 pub fn give<C: Costs, H: History, N: Ledger>(
     sched: &Sched,
@@ -45,7 +46,7 @@ pub fn give<C: Costs, H: History, N: Ledger>(
     requires run { IsRun sched.now (C.model costs.now) (H.actions history.now) }
     requires within { budget sched.now (C.model costs.now) < 2 ^ 63 }
     requires next { IsNext sched.now (C.model costs.now) (H.actions history.now) action }
-    requires times { times ≡ times_known sched.now (C.model costs.now) (action ∷ H.actions history.now) action.op }
+    requires times { (when : When) → moment_in times when ≡ moment_in (times_known sched.now (C.model costs.now) (action ∷ H.actions history.now) action.op) when }
     requires whom { action.class ≢ Arrive → waiting.now ≡ waiting_on sched.now action.op }
     requires exist { action.class ≢ Arrive → All (λ need. IsOp sched.now (needed action.op need)) waiting.now }
     requires entries { entries.old ≡ map (entry_then sched.now (C.model costs.now) (H.actions history.now) action) (operations sched.now) }

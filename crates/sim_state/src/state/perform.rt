@@ -98,12 +98,7 @@ fn change_of<C: Costs, H: History, M: Ledger>(
     ensures looked { looks.new ≤ looks.old + 8 }
 {
     let (id, at) = (action.op, action.time);
-    let Entry {
-        work,
-        times,
-        paired,
-        ..
-    } = *read(sched, entries, id);
+    let Entry { work, times, link } = *read(sched, entries, id);
     match action.class {
         Class::Begin => {
             Change::of_times(begin(sched, costs, history, resources, action, work, times))
@@ -121,11 +116,11 @@ fn change_of<C: Costs, H: History, M: Ledger>(
             Change::of_times(times.with_end(sent.end).with_arrival(sent.arrive))
         }
         Class::Serve => {
-            let Some(pairing) = paired.get() else {
+            let Some(send) = link.partner() else {
                 unreachable!()
             };
-            let Work { to, amount, .. } = read(sched, entries, pairing.with).work;
-            let end = serve(sched, costs, resources, id, pairing.with, to, amount, at);
+            let Work { to, amount, .. } = read(sched, entries, send).work;
+            let end = serve(sched, costs, resources, id, send, to, amount, at);
             Change::of_times(times.with_end(end))
         }
     }

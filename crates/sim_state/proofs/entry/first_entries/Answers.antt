@@ -1,6 +1,6 @@
-use Rattle.std.proofs.Common.{◌≡◌, ◌≤◌, ◌∙◌, length, ap, ap₂, arith, refl}
+use Rattle.std.proofs.Common.{◌≤◌, ◌∙◌, length, ap, ap₂, arith, refl}
 use Rattle.std.proofs.lemmas.List.{map_push, take_more}
-use Rattle.goal_base.specs.declared.limits.TheConstants.{MAX_DEPS}
+use Rattle.goal_limits.specs.declared.limits.TheConstants.{MAX_DEPS}
 use Rattle.goal_graph.specs.declared.action.OpId.{OpId}
 use Rattle.goal_graph.specs.Schedule.{needs}
 use Rattle.goal_progress.proofs.ForCallers.{few_needs}

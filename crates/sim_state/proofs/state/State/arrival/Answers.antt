@@ -1,6 +1,5 @@
-use Rattle.std.proofs.Common.{ℕ, Option, sym, ap, ◌∙◌}
+use Rattle.std.proofs.Common.{ℕ, sym, ap, ◌∙◌}
 use Rattle.std.specs.Option.{option_map}
-use Rattle.goal_graph.specs.declared.action.Timed.{Timed}
 use Rattle.goal_graph.specs.declared.action.Class.TheVariants.{Arrive}
 use Rattle.sim_state.proofs.EnabledLemmas.{arrival_told, arrival_enabled}
 use Rattle.sim_state.proofs.state.State.arrival.Goals as goal

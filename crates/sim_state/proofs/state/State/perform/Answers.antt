@@ -6,7 +6,7 @@ use Rattle.goal_graph.specs.Concerned.{waiting_on}
 use Rattle.goal_graph.specs.Fault.{IsOp}
 use Rattle.sim_state.specs.Engine.{View}
 use Rattle.sim_state.specs.Represents.{entry_known}
-use Rattle.sim_state.proofs.Performed.{next_at, written_back, each_entry, room_left, change_times, performed, is_op, time_fits}
+use Rattle.sim_state.proofs.Performed.{next_at, written_back, each_entry, room_left, change_moments, performed, is_op, time_fits}
 use Rattle.sim_state.proofs.state.State.perform.Goals as goal
 
 pub change_of-change-requires : goal.change_of-change-requires
@@ -39,7 +39,7 @@ give-requires g c =
       run = m.run;
       within = m.within;
       next = next;
-      times = change_times _ _ _ _ _ _ _ m c.args.action next c.change_of-change.result c.change_of-change.ensures.change;
+      times = change_moments _ _ _ _ _ _ _ m c.args.action next c.change_of-change.result c.change_of-change.ensures.change;
       whom = subst (λ (v : View _). c.args.action.class ≢ Arrive → c.args.waiting.now ≡ waiting_on v.plans c.args.action.op) (sym c.self.view_is) c.requires.whom;
       exist = subst (λ (v : View _). c.args.action.class ≢ Arrive → All (λ (need : Need). IsOp v.plans (needed c.args.action.op need)) c.args.waiting.now) (sym c.self.view_is) c.requires.exist;
       entries = c.deref_mut-2.ensures.value ∙ written_back _ _ _ _ c.write_change.auto.entries c.deref_mut.ensures.value c.self.inside.entries.ok.0 ∙ c.write_change.ensures (entry_known c.self.inside.sched.now (g.C.Costs.model c.self.inside.costs) (g.H.History.actions c.self.inside.history)) (c.deref_mut.ensures.value ∙ m.known) ∙ c.change_of-change.ensures.change.known;

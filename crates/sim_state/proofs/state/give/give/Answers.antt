@@ -4,8 +4,6 @@ use Rattle.std.proofs.lemmas.List.{take_all, drop_all}
 use Rattle.goal_graph.specs.declared.plan.Need.{Need}
 use Rattle.goal_graph.specs.declared.plan.When.TheVariants.{AfterEnd}
 use Rattle.goal_graph.specs.Schedule.{operations}
-use Rattle.sim_state.specs.declared.entry.Times.{Times}
-use Rattle.sim_state.specs.Given.{moment_in}
 use Rattle.sim_state.proofs.GivenEntries.{entry_so_far, moment_absent, moment_fits, moment_there}
 use Rattle.sim_state.proofs.GivenTables.{first_entries, given_counted, given_entries, given_in_all, last_entries, may_give, passed_counted, passed_entries, still_waiting}
 use Rattle.sim_state.proofs.state.give.give.Goals as goal
@@ -47,7 +45,7 @@ loop-need-preserved-in_default g c =
     let ws = c.args.waiting.now in
     let k = c.loop-need.need-index in
     let when = (get_or ws k nothing).when in
-    let absent = moment_absent plans costs h a when (λ m e. c.in_default.not-Some m (c.moment_of.ensures ∙ ap (λ (t : Times). moment_in t when) c.requires.times ∙ e)) in
+    let absent = moment_absent plans costs h a when (λ m e. c.in_default.not-Some m (c.moment_of.ensures ∙ c.requires.times when ∙ e)) in
     record {
       counted = given_counted plans costs h a ws k nothing c.loop-need-test.true c.loop-need.reads c.args.reads.now c.tick.new.self (sym c.gives.ensures ∙ c.if-not-gives.false) c.loop-need.invariant.counted c.tick.ensures;
       entries = passed_entries plans costs h a ws k nothing c.loop-need-test.true c.loop-need.entries (and_right _ _ absent) c.loop-need.invariant.entries;
@@ -63,7 +61,7 @@ write_given-requires-clause-waits g c =
     let ws = c.args.waiting.now in
     let k = c.loop-need.need-index in
     let when = (get_or ws k nothing).when in
-    let there = moment_there plans costs h a when c.in-Some.moment (ap (λ (t : Times). moment_in t when) (sym c.requires.times) ∙ sym c.moment_of.ensures ∙ c.in-Some.is) in
+    let there = moment_there plans costs h a when c.in-Some.moment (sym (c.requires.times when) ∙ sym c.moment_of.ensures ∙ c.in-Some.is) in
     let given = ap₂ (λ (b d : Bool). b && d) (sym c.gives.ensures ∙ c.if-not-gives.false) there.0 in
     still_waiting plans costs h a ws k nothing c.loop-need-test.true given c.loop-need.entries c.loop-need.invariant.entries
 
@@ -74,7 +72,7 @@ write_given-requires-clause-fits g c =
     let h = g.H.History.actions c.args.history.now in
     let a = c.args.action in
     let when = (get_or c.args.waiting.now c.loop-need.need-index nothing).when in
-    let there = moment_there plans costs h a when c.in-Some.moment (ap (λ (t : Times). moment_in t when) (sym c.requires.times) ∙ sym c.moment_of.ensures ∙ c.in-Some.is) in
+    let there = moment_there plans costs h a when c.in-Some.moment (sym (c.requires.times when) ∙ sym c.moment_of.ensures ∙ c.in-Some.is) in
     omega (arith, moment_fits plans costs h a c.requires.run c.requires.next.possible when there.0, there.1, c.requires.within)
 
 pub loop-need-preserved : goal.loop-need-preserved
@@ -86,7 +84,7 @@ loop-need-preserved g c =
     let ws = c.args.waiting.now in
     let k = c.loop-need.need-index in
     let when = (get_or ws k nothing).when in
-    let there = moment_there plans costs h a when c.in-Some.moment (ap (λ (t : Times). moment_in t when) (sym c.requires.times) ∙ sym c.moment_of.ensures ∙ c.in-Some.is) in
+    let there = moment_there plans costs h a when c.in-Some.moment (sym (c.requires.times when) ∙ sym c.moment_of.ensures ∙ c.in-Some.is) in
     let gives = sym c.gives.ensures ∙ c.if-not-gives.false in
     let given = ap₂ (λ (b d : Bool). b && d) gives there.0 in
     record {

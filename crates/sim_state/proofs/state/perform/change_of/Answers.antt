@@ -55,11 +55,11 @@ with_arrival-requires g c =
 
 pub unreachable-requires : goal.unreachable-requires
 unreachable-requires g c =
-    paired c.args.sched.now (g.C.Costs.model c.args.costs.now) (g.H.History.actions c.args.history.now) c.args.action c.requires.run c.requires.within c.requires.next.possible c.in-Serve.is _ (c.get.ensures ∙ ap (λ (e : Entry). e.paired) (c.read.ensures (entry_known c.args.sched.now (g.C.Costs.model c.args.costs.now) (g.H.History.actions c.args.history.now)) c.requires.known)) c.in_default.not-Some
+    paired c.args.sched.now (g.C.Costs.model c.args.costs.now) (g.H.History.actions c.args.history.now) c.args.action c.requires.run c.requires.within c.requires.next.possible c.in-Serve.is _ (c.partner.ensures ∙ ap (λ (e : Entry). e.link.partner) (c.read.ensures (entry_known c.args.sched.now (g.C.Costs.model c.args.costs.now) (g.H.History.actions c.args.history.now)) c.requires.known)) c.in_default.not-Some
 
 pub read-requires-in-Serve : goal.read-requires-in-Serve
 read-requires-in-Serve g c = record {
-  exists = sender_is_op c.args.sched.now (g.C.Costs.model c.args.costs.now) (g.H.History.actions c.args.history.now) c.args.action c.requires.run c.requires.within c.requires.next.possible c.in-Serve.is c.in-Some.pairing (sym c.in-Some.is ∙ c.get.ensures ∙ ap (λ (e : Entry). e.paired) (c.read.ensures (entry_known c.args.sched.now (g.C.Costs.model c.args.costs.now) (g.H.History.actions c.args.history.now)) c.requires.known));
+  exists = sender_is_op c.args.sched.now (g.C.Costs.model c.args.costs.now) (g.H.History.actions c.args.history.now) c.args.action c.requires.run c.requires.within c.requires.next.possible c.in-Serve.is c.in-Some.send (sym c.in-Some.is ∙ c.partner.ensures ∙ ap (λ (e : Entry). e.link.partner) (c.read.ensures (entry_known c.args.sched.now (g.C.Costs.model c.args.costs.now) (g.H.History.actions c.args.history.now)) c.requires.known));
   each = ap length c.requires.known ∙ length-map _ _;
 }
 
@@ -67,14 +67,14 @@ pub serve-end-requires : goal.serve-end-requires
 serve-end-requires g c = record {
   same_schedule = c.requires.free.same_plans;
   receives = serve_receive c.args.sched.now (g.C.Costs.model c.args.costs.now) (g.H.History.actions c.args.history.now) c.args.action c.requires.run c.requires.within c.requires.next.possible c.in-Serve.is;
-  message = taken_message c.args.sched.now (g.C.Costs.model c.args.costs.now) (g.H.History.actions c.args.history.now) c.args.action c.requires.run c.requires.within c.requires.next.possible c.in-Serve.is c.in-Some.pairing (sym c.in-Some.is ∙ c.get.ensures ∙ ap (λ (e : Entry). e.paired) (c.read.ensures (entry_known c.args.sched.now (g.C.Costs.model c.args.costs.now) (g.H.History.actions c.args.history.now)) c.requires.known)) c.read-in-Serve.result.now.work (ap (λ (e : Entry). e.work) (c.read-in-Serve.ensures (entry_known c.args.sched.now (g.C.Costs.model c.args.costs.now) (g.H.History.actions c.args.history.now)) c.requires.known));
-  over_fits = serve_over c.args.sched.now (g.C.Costs.model c.args.costs.now) (g.H.History.actions c.args.history.now) c.args.action c.requires.run c.requires.within c.requires.next.possible c.in-Serve.is c.in-Some.pairing (sym c.in-Some.is ∙ c.get.ensures ∙ ap (λ (e : Entry). e.paired) (c.read.ensures (entry_known c.args.sched.now (g.C.Costs.model c.args.costs.now) (g.H.History.actions c.args.history.now)) c.requires.known));
-  gap_fits = serve_gap c.args.sched.now (g.C.Costs.model c.args.costs.now) (g.H.History.actions c.args.history.now) c.args.action c.requires.run c.requires.within c.requires.next.possible c.in-Serve.is c.in-Some.pairing (sym c.in-Some.is ∙ c.get.ensures ∙ ap (λ (e : Entry). e.paired) (c.read.ensures (entry_known c.args.sched.now (g.C.Costs.model c.args.costs.now) (g.H.History.actions c.args.history.now)) c.requires.known));
+  message = taken_message c.args.sched.now (g.C.Costs.model c.args.costs.now) (g.H.History.actions c.args.history.now) c.args.action c.requires.run c.requires.within c.requires.next.possible c.in-Serve.is c.in-Some.send (sym c.in-Some.is ∙ c.partner.ensures ∙ ap (λ (e : Entry). e.link.partner) (c.read.ensures (entry_known c.args.sched.now (g.C.Costs.model c.args.costs.now) (g.H.History.actions c.args.history.now)) c.requires.known)) c.read-in-Serve.result.now.work (ap (λ (e : Entry). e.work) (c.read-in-Serve.ensures (entry_known c.args.sched.now (g.C.Costs.model c.args.costs.now) (g.H.History.actions c.args.history.now)) c.requires.known));
+  over_fits = serve_over c.args.sched.now (g.C.Costs.model c.args.costs.now) (g.H.History.actions c.args.history.now) c.args.action c.requires.run c.requires.within c.requires.next.possible c.in-Serve.is c.in-Some.send (sym c.in-Some.is ∙ c.partner.ensures ∙ ap (λ (e : Entry). e.link.partner) (c.read.ensures (entry_known c.args.sched.now (g.C.Costs.model c.args.costs.now) (g.H.History.actions c.args.history.now)) c.requires.known));
+  gap_fits = serve_gap c.args.sched.now (g.C.Costs.model c.args.costs.now) (g.H.History.actions c.args.history.now) c.args.action c.requires.run c.requires.within c.requires.next.possible c.in-Serve.is c.in-Some.send (sym c.in-Some.is ∙ c.partner.ensures ∙ ap (λ (e : Entry). e.link.partner) (c.read.ensures (entry_known c.args.sched.now (g.C.Costs.model c.args.costs.now) (g.H.History.actions c.args.history.now)) c.requires.known));
 }
 
 pub with_end-requires-in-Serve : goal.with_end-requires-in-Serve
 with_end-requires-in-Serve g c =
-    omega (arith, c.serve-end.ensures.end, serve_over c.args.sched.now (g.C.Costs.model c.args.costs.now) (g.H.History.actions c.args.history.now) c.args.action c.requires.run c.requires.within c.requires.next.possible c.in-Serve.is c.in-Some.pairing (sym c.in-Some.is ∙ c.get.ensures ∙ ap (λ (e : Entry). e.paired) (c.read.ensures (entry_known c.args.sched.now (g.C.Costs.model c.args.costs.now) (g.H.History.actions c.args.history.now)) c.requires.known)))
+    omega (arith, c.serve-end.ensures.end, serve_over c.args.sched.now (g.C.Costs.model c.args.costs.now) (g.H.History.actions c.args.history.now) c.args.action c.requires.run c.requires.within c.requires.next.possible c.in-Serve.is c.in-Some.send (sym c.in-Some.is ∙ c.partner.ensures ∙ ap (λ (e : Entry). e.link.partner) (c.read.ensures (entry_known c.args.sched.now (g.C.Costs.model c.args.costs.now) (g.H.History.actions c.args.history.now)) c.requires.known)))
 
 pub returns-in-Begin-clause-change : goal.returns-in-Begin-clause-change
 returns-in-Begin-clause-change g c =
@@ -126,11 +126,11 @@ returns-in-Data-clause-told g c =
 
 pub returns-in-Some-clause-change : goal.returns-in-Some-clause-change
 returns-in-Some-clause-change g c =
-    times_changed c.args.sched.now (g.C.Costs.model c.args.costs.now) (g.H.History.actions c.args.history.now) c.args.action c.requires.run c.requires.within c.requires.next.possible _ _ c.of_times-in-Serve.ensures (serve_known c.args.sched.now (g.C.Costs.model c.args.costs.now) (g.H.History.actions c.args.history.now) c.args.action c.requires.run c.requires.within c.requires.next.possible c.in-Serve.is c.in-Some.pairing (sym c.in-Some.is ∙ c.get.ensures ∙ ap (λ (e : Entry). e.paired) (c.read.ensures (entry_known c.args.sched.now (g.C.Costs.model c.args.costs.now) (g.H.History.actions c.args.history.now)) c.requires.known)) _ c.serve-end.ensures.end _ (c.with_end-in-Serve.ensures ∙ ap (λ (t : Times). record t { end = Some c.serve-end.result }) (ap (λ (e : Entry). e.times) (c.read.ensures (entry_known c.args.sched.now (g.C.Costs.model c.args.costs.now) (g.H.History.actions c.args.history.now)) c.requires.known))))
+    times_changed c.args.sched.now (g.C.Costs.model c.args.costs.now) (g.H.History.actions c.args.history.now) c.args.action c.requires.run c.requires.within c.requires.next.possible _ _ c.of_times-in-Serve.ensures (serve_known c.args.sched.now (g.C.Costs.model c.args.costs.now) (g.H.History.actions c.args.history.now) c.args.action c.requires.run c.requires.within c.requires.next.possible c.in-Serve.is c.in-Some.send (sym c.in-Some.is ∙ c.partner.ensures ∙ ap (λ (e : Entry). e.link.partner) (c.read.ensures (entry_known c.args.sched.now (g.C.Costs.model c.args.costs.now) (g.H.History.actions c.args.history.now)) c.requires.known)) _ c.serve-end.ensures.end _ (c.with_end-in-Serve.ensures ∙ ap (λ (t : Times). record t { end = Some c.serve-end.result }) (ap (λ (e : Entry). e.times) (c.read.ensures (entry_known c.args.sched.now (g.C.Costs.model c.args.costs.now) (g.H.History.actions c.args.history.now)) c.requires.known))))
 
 pub returns-in-Some-clause-free : goal.returns-in-Some-clause-free
 returns-in-Some-clause-free g c =
-    serve_free c.args.sched.now (g.C.Costs.model c.args.costs.now) (g.H.History.actions c.args.history.now) c.args.action c.requires.run c.requires.within c.requires.next.possible c.in-Serve.is c.in-Some.pairing (sym c.in-Some.is ∙ c.get.ensures ∙ ap (λ (e : Entry). e.paired) (c.read.ensures (entry_known c.args.sched.now (g.C.Costs.model c.args.costs.now) (g.H.History.actions c.args.history.now)) c.requires.known)) _ _ _ c.serve-end.ensures.end c.requires.free c.serve-end.ensures.holds
+    serve_free c.args.sched.now (g.C.Costs.model c.args.costs.now) (g.H.History.actions c.args.history.now) c.args.action c.requires.run c.requires.within c.requires.next.possible c.in-Serve.is c.in-Some.send (sym c.in-Some.is ∙ c.partner.ensures ∙ ap (λ (e : Entry). e.link.partner) (c.read.ensures (entry_known c.args.sched.now (g.C.Costs.model c.args.costs.now) (g.H.History.actions c.args.history.now)) c.requires.known)) _ _ _ c.serve-end.ensures.end c.requires.free c.serve-end.ensures.holds
 
 pub returns-in-Some-clause-told : goal.returns-in-Some-clause-told
 returns-in-Some-clause-told g c =
