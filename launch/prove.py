@@ -1,9 +1,10 @@
 """prove.py LOCK: proves the program with every crate that it uses, and builds it. `answer.py` starts it in the background.
 
 The libraries come alone, without their tests: first those with the longest way to the program, as many side by side as there are
-cores and memory, and one that finds cores idle gets them. They are built by rt's own function, since two commands `rt lib`
-would wait for one another. Then `rt run` builds the program. LOCK is the number of an open file, which holds the lock
-of this checkout. Standard output is the log, and tells how far the proof is."""
+cores and memory, and one that finds cores idle gets them. On a machine with no work on them to take up, each is built with its
+statements and not its proofs, as the gate builds it, since those above then load less. Else rt's own functions build them over the
+kept work (in this process, since two commands `rt lib` would wait for one another). LOCK is the number of an open file, which holds
+the lock of this checkout. Standard output is the log, and tells how far the proof is."""
 import glob
 import importlib.machinery
 import importlib.util
@@ -25,6 +26,8 @@ LOCK, LOG = f"{PROOF}/lock", f"{PROOF}/log"
 BEGUN, PROVED = f"{PROOF}/begun", f"{PROOF}/proved"
 # Why the proof of the sources as they were then failed.
 FAILED = f"{PROOF}/failed"
+# By library, what its statements were built from.
+STATEMENTS = f"{PROOF}/statements"
 # A check with more jobs than this seldom ends sooner.
 MOST_JOBS = 4
 # What a check with one job takes of the memory that rt plans for it, and what each further job takes of that: as measured.
@@ -148,19 +151,35 @@ def fail(why):
     os.replace(new, FAILED)
 
 
-def prove_libraries(rt, log, crates):
-    """Proves and builds the libraries; whether all are proved."""
-    rt.rtlib.guarded()
-    # (a kit of before 13f has no work that checkouts share)
-    if hasattr(rt, "share_work"):
-        rt.share_work(True)
-    locks = rt.rtlib.lock(crates)
+def made_from(rt, crate):
+    """What a library is built from, and what it was built as: the sources, and the sums of the libraries."""
+    return "\n".join([crate.stamp(), *(rt.rtlib.sum_of(f"{it.rlib}/format") for it in [*crate.below(), crate])])
+
+
+def build_statements(rt, crate, jobs):
+    """Proves a library, and builds what those above load of it: its statements. The status of the check."""
+    kept, stamp = f"{STATEMENTS}/{crate.name}", crate.stamp()
+    if crate.is_built() or text_of(kept) == made_from(rt, crate):
+        return 0
+    shutil.rmtree(os.path.dirname(crate.rlib), ignore_errors=True)
+    os.makedirs(os.path.dirname(crate.rlib))
+    words = crate.words(["--jobs", f"{jobs}"], keeps=False)
+    status = crate.call(rt.rtlib.RATTLE, "build", *words, "--statements", "-o", crate.rlib)
+    if status == 0 and stamp == crate.stamp():
+        os.makedirs(STATEMENTS, exist_ok=True)
+        with open(kept, "w", encoding="utf-8") as file:
+            file.write(made_from(rt, crate))
+    return status
+
+
+def prove_libraries(rt, log, crates, keeps):
+    """Proves and builds the libraries, over the work that is kept or from nothing; whether all are proved."""
 
     def prove(crate, jobs):
         status = 1
         with tempfile.TemporaryFile("w+", errors="replace") as crate.out:
             try:
-                status = crate.build_rlib(["--jobs", str(jobs)], anew=False)
+                status = crate.build_rlib(["--jobs", f"{jobs}"], anew=False) if keeps else build_statements(rt, crate, jobs)
             except SystemExit:
                 pass
             crate.out.seek(0)
@@ -169,28 +188,44 @@ def prove_libraries(rt, log, crates):
             fail(f"{crate.name} (rt says {status})")
         return status == 0
 
-    libraries = [it for it in crates if not it.is_program]
-    is_well = in_turn(libraries, prove, rt.processors(), 0.85 * rt.free(), rt.need)
-    for it in locks:
-        os.close(it)
-    return is_well
+    return in_turn(crates, prove, rt.processors(), 0.85 * rt.free(), rt.need)
 
 
-def build_program(rt, log, crates):
+def build_program(rt, log, program, locks, keeps):
     """Proves, builds and runs the program; whether its run is well. What it starts ends with this process."""
-    name = next(it.name for it in crates if it.is_program)
-    print(f"== {name}", flush=True)
-    words = [*rt.rtlib.guarded(), "rt", "run", "--jobs", str(MOST_JOBS), "--", "sim", "data/a"]
-    how = {"stdin": subprocess.DEVNULL, "stderr": subprocess.STDOUT, "cwd": os.path.dirname(os.path.dirname(PROGRAM))}
-    status = subprocess.run(words, **how).returncode
+    print(f"== {program.name}", flush=True)
+    # (what is held is closed before the program runs)
+    jobs, words, program.held = ["--jobs", f"{MOST_JOBS}"], ["sim", "data/a"], locks
+    if keeps:
+        for it in locks:
+            os.close(it)
+        how = {"stdin": subprocess.DEVNULL, "stderr": subprocess.STDOUT, "cwd": program.folder}
+        status = subprocess.run([*rt.rtlib.guarded(), "rt", "run", *jobs, "--", *words], **how).returncode
+    else:
+        status = program.build_and_run(jobs, words, False)
     if status == 0 and os.access(PROGRAM, os.X_OK):
-        log.add(name, "", True)
+        log.add(program.name, "", True)
         # (also where rt found it built: it is of the sources as they were)
         os.utime(PROGRAM)
         os.replace(BEGUN, PROVED)
         return True
-    fail(f"{name} (rt run ended with {status})")
+    fail(f"{program.name} (rt run ended with {status})")
     return False
+
+
+def prove(rt):
+    """Proves the program with what it uses, and builds it; whether that went well."""
+    # (what the program does not use, as crates of laws alone, is left to the gate)
+    program = next(it for it in rt.rtlib.crates_below(TOP) if it.is_program)
+    libraries = program.below()
+    log = Log(len(libraries) + 1)
+    rt.rtlib.guarded()
+    # (a kit of before 13f has no work that checkouts share)
+    if hasattr(rt, "share_work"):
+        rt.share_work(True)
+    locks = rt.rtlib.lock([*libraries, program])
+    keeps = 2 * sum(it.has_kept() for it in libraries) > len(libraries)
+    return prove_libraries(rt, log, libraries, keeps) and build_program(rt, log, program, locks, keeps)
 
 
 def main(lock):
@@ -199,12 +234,7 @@ def main(lock):
     os.nice(5)
     signal.signal(signal.SIGHUP, signal.SIG_IGN)
     try:
-        rt = kit()
-        # (what the program does not use, as crates of laws alone, is left to the gate)
-        program = next(it for it in rt.rtlib.crates_below(TOP) if it.is_program)
-        crates = [*program.below(), program]
-        log = Log(len(crates))
-        return 0 if prove_libraries(rt, log, crates) and build_program(rt, log, crates) else 1
+        return 0 if prove(kit()) else 1
     except SystemExit:
         fail("rt stopped")
     except Exception as error:
