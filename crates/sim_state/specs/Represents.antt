@@ -1,6 +1,5 @@
 -- What an engine keeps of its history.
 use Rattle.std.specs.Prelude.{ℕ, ◌∷◌, ◌≡◌, ◌<◌, ◌*◌, ◌^◌, List, filter, map, length, Option, Some, if◌then◌else◌}
-use Rattle.std.specs.Option.{option_map}
 use Rattle.goal_graph.specs.declared.action.OpId.{OpId}
 use Rattle.goal_graph.specs.declared.action.Timed.{Timed}
 use Rattle.goal_graph.specs.Schedule.{Plan, operations}
@@ -9,7 +8,7 @@ use Rattle.goal_graph.specs.Entries.{with_entry}
 use Rattle.goal_graph.specs.Allowed.{has_started}
 use Rattle.goal_graph.specs.Fault.{IsAccepted}
 use Rattle.sim_params.specs.Costs.{CostModel, is_eager}
-use Rattle.sim_params.specs.Times.{mate, paired_at, cpu, tx, rx}
+use Rattle.sim_params.specs.Times.{mate, cpu, tx, rx}
 use Rattle.sim_params.specs.Run.{IsRun}
 use Rattle.sim_params.specs.Budget.{budget}
 use Rattle.sim_match.specs.PostsAndArrivals.{PostsAndArrivals, is_post_or_arrival}
@@ -27,10 +26,6 @@ pub record Pairing : Type 0 where
   pub at : ℕ
 
 module _ (plans : List Plan) (costs : CostModel) (h : List Timed) where
-  -- the operation that x is paired with, and since when, once it is
-  abbrev pub paired_known : OpId → Option Pairing
-  paired_known x = option_map (λ (y : OpId). record { with = y; at = paired_at plans costs h x }) (mate plans costs h x)
-
   -- when the message of its partner is there for a receive, once it is
   abbrev pub message_known : Pairing → Option ℕ
   message_known p = if is_eager plans costs p.with then Some p.at else delivered_known plans costs h p.with

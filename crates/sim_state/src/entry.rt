@@ -74,8 +74,8 @@ impl Times {
         }
     }
 
-    /// Under way, until its message, its request or its bytes arrive at this time in nanoseconds.
-    pub fn with_arrival(self, at: u64) -> Times
+    /// With this time in nanoseconds for what it awaits: when its message, its request or its bytes arrive, or since when it is paired.
+    pub fn with_awaited(self, at: u64) -> Times
         requires { at < 2 ^ 63 }
         ensures { result ≡ record self { awaited = Some at } }
     {
@@ -85,19 +85,8 @@ impl Times {
         }
     }
 
-    /// Paired since this time in nanoseconds.
-    pub fn with_pairing(self, at: u64) -> Times
-        requires { at < 2 ^ 63 }
-        ensures { result ≡ record self { awaited = Some at } }
-    {
-        Times {
-            awaited: Moment::at(at),
-            ..self
-        }
-    }
-
-    /// No longer under way.
-    pub fn with_no_arrival(self) -> Times
+    /// Awaiting nothing.
+    pub fn with_nothing_awaited(self) -> Times
         ensures { result ≡ record self { awaited = None } }
     {
         Times {
@@ -197,7 +186,7 @@ fn write_paired(sched: &Sched, entries: &mut [Entry], id: OpId, with: OpId, at: 
     let _plans = sched.plans();
     let kept = &mut entries[sched.index(id) as usize];
     kept.link = Link::paired(with);
-    kept.times = kept.times.with_pairing(at);
+    kept.times = kept.times.with_awaited(at);
 }
 
 /// Writes what an action of an operation changes, at its time: where it pairs the operation, the two are paired since then.

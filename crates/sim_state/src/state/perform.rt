@@ -104,16 +104,16 @@ fn change_of<C: Costs, H: History, M: Ledger>(
             Change::of_times(begin(sched, costs, history, resources, action, work, times))
         }
         Class::Post => Change {
-            times: times.with_start(at).with_no_arrival(),
+            times: times.with_start(at).with_nothing_awaited(),
             partner: matcher.post_counted(id, looks),
         },
         Class::Arrive => Change {
-            times: times.with_no_arrival(),
+            times: times.with_nothing_awaited(),
             partner: matcher.arrive_counted(id, looks),
         },
         Class::Data => {
             let sent = data(sched, costs, resources, id, work.to, work.amount, at);
-            Change::of_times(times.with_end(sent.end).with_arrival(sent.arrive))
+            Change::of_times(times.with_end(sent.end).with_awaited(sent.arrive))
         }
         Class::Serve => {
             let Some(send) = link.partner() else {
@@ -154,15 +154,15 @@ fn begin<C: Costs, H: History>(
         Task::Calc => {
             let end = at + work.amount;
             resources.hold_cpu(id, end);
-            times.with_end(end).with_no_arrival()
+            times.with_end(end).with_nothing_awaited()
         }
         Task::Eager => {
             let sent = eager_begin(sched, costs, resources, id, work.to, work.amount, at);
-            times.with_end(sent.end).with_arrival(sent.arrive)
+            times.with_end(sent.end).with_awaited(sent.arrive)
         }
         Task::Large => {
             let arrive = request(sched, costs, resources, id, work.to, at);
-            times.with_arrival(arrive)
+            times.with_awaited(arrive)
         }
         Task::Receive => unreachable!(),
     }

@@ -12,7 +12,7 @@ paired-kept-requires c =
 
 pub returns : goal.returns
 returns c f table =
-    (λ i. set_at (c.with_pairing-kept.ensures i) (c.paired-kept.ensures i))
+    (λ i. set_at (c.with_awaited-kept.ensures i) (c.paired-kept.ensures i))
     ∙ entry_changed c.args.sched.now c.index.result c.args.id c.args.entries.now f (λ (e : Entry). record e { times = record e.times { awaited = Some c.args.at }; link = record { unmet = 0; partner = Some c.args.with } }) c.index-entries-index.result table c.index.ensures.index
   where
     set_at : Times → Linked → List Entry

@@ -36,8 +36,8 @@ pub with_end-requires-in-Eager : goal.with_end-requires-in-Eager
 with_end-requires-in-Eager g c =
     omega (arith, c.eager_begin-sent.ensures.end, eager_over c.args.sched.now (g.C.Costs.model c.args.costs.now) (g.H.History.actions c.args.history.now) c.args.action c.requires.run c.requires.within c.requires.next.possible c.requires.class c.args.work c.requires.work c.in-Eager.is)
 
-pub with_arrival-requires : goal.with_arrival-requires
-with_arrival-requires g c =
+pub with_awaited-requires : goal.with_awaited-requires
+with_awaited-requires g c =
     omega (arith, c.eager_begin-sent.ensures.arrive, eager_flight c.args.sched.now (g.C.Costs.model c.args.costs.now) (g.H.History.actions c.args.history.now) c.args.action c.requires.run c.requires.within c.requires.next.possible c.requires.class c.args.work c.requires.work c.in-Eager.is)
 
 pub request-arrive-requires : goal.request-arrive-requires
@@ -49,8 +49,8 @@ request-arrive-requires g c = record {
   flight_fits = request_flight c.args.sched.now (g.C.Costs.model c.args.costs.now) (g.H.History.actions c.args.history.now) c.args.action c.requires.run c.requires.within c.requires.next.possible c.requires.class c.args.work c.requires.work c.in-Large.is;
 }
 
-pub with_arrival-requires-in-Large : goal.with_arrival-requires-in-Large
-with_arrival-requires-in-Large g c =
+pub with_awaited-requires-in-Large : goal.with_awaited-requires-in-Large
+with_awaited-requires-in-Large g c =
     omega (arith, c.request-arrive.ensures.arrive, request_flight c.args.sched.now (g.C.Costs.model c.args.costs.now) (g.H.History.actions c.args.history.now) c.args.action c.requires.run c.requires.within c.requires.next.possible c.requires.class c.args.work c.requires.work c.in-Large.is)
 
 pub unreachable-requires : goal.unreachable-requires
@@ -59,7 +59,7 @@ unreachable-requires g c =
 
 pub returns-in-Calc-clause-known : goal.returns-in-Calc-clause-known
 returns-in-Calc-clause-known g c =
-    calc_known c.args.sched.now (g.C.Costs.model c.args.costs.now) (g.H.History.actions c.args.history.now) c.args.action c.requires.run c.requires.within c.requires.next.possible c.requires.class c.args.work c.requires.work c.in-Calc.is _ (c.with_no_arrival.ensures ∙ ap (λ (t : Times). record t { awaited = None }) (c.with_end.ensures ∙ ap (λ (t : Times). record t { end = Some (c.args.action.time + c.args.work.amount) }) (c.with_start-times.ensures ∙ ap (λ (t : Times). record t { start = Some c.args.action.time }) c.requires.times)))
+    calc_known c.args.sched.now (g.C.Costs.model c.args.costs.now) (g.H.History.actions c.args.history.now) c.args.action c.requires.run c.requires.within c.requires.next.possible c.requires.class c.args.work c.requires.work c.in-Calc.is _ (c.with_nothing_awaited.ensures ∙ ap (λ (t : Times). record t { awaited = None }) (c.with_end.ensures ∙ ap (λ (t : Times). record t { end = Some (c.args.action.time + c.args.work.amount) }) (c.with_start-times.ensures ∙ ap (λ (t : Times). record t { start = Some c.args.action.time }) c.requires.times)))
 
 pub returns-in-Calc-clause-free : goal.returns-in-Calc-clause-free
 returns-in-Calc-clause-free g c =
@@ -67,7 +67,7 @@ returns-in-Calc-clause-free g c =
 
 pub returns-in-Eager-clause-known : goal.returns-in-Eager-clause-known
 returns-in-Eager-clause-known g c =
-    eager_known c.args.sched.now (g.C.Costs.model c.args.costs.now) (g.H.History.actions c.args.history.now) c.args.action c.requires.run c.requires.within c.requires.next.possible c.requires.class c.args.work c.requires.work c.in-Eager.is _ _ c.eager_begin-sent.ensures.end c.eager_begin-sent.ensures.arrive _ (c.with_arrival.ensures ∙ ap (λ (t : Times). record t { awaited = Some c.eager_begin-sent.result.arrive }) (c.with_end-in-Eager.ensures ∙ ap (λ (t : Times). record t { end = Some c.eager_begin-sent.result.end }) (c.with_start-times.ensures ∙ ap (λ (t : Times). record t { start = Some c.args.action.time }) c.requires.times)))
+    eager_known c.args.sched.now (g.C.Costs.model c.args.costs.now) (g.H.History.actions c.args.history.now) c.args.action c.requires.run c.requires.within c.requires.next.possible c.requires.class c.args.work c.requires.work c.in-Eager.is _ _ c.eager_begin-sent.ensures.end c.eager_begin-sent.ensures.arrive _ (c.with_awaited.ensures ∙ ap (λ (t : Times). record t { awaited = Some c.eager_begin-sent.result.arrive }) (c.with_end-in-Eager.ensures ∙ ap (λ (t : Times). record t { end = Some c.eager_begin-sent.result.end }) (c.with_start-times.ensures ∙ ap (λ (t : Times). record t { start = Some c.args.action.time }) c.requires.times)))
 
 pub returns-in-Eager-clause-free : goal.returns-in-Eager-clause-free
 returns-in-Eager-clause-free g c =
@@ -75,7 +75,7 @@ returns-in-Eager-clause-free g c =
 
 pub returns-in-Large-clause-known : goal.returns-in-Large-clause-known
 returns-in-Large-clause-known g c =
-    request_known c.args.sched.now (g.C.Costs.model c.args.costs.now) (g.H.History.actions c.args.history.now) c.args.action c.requires.run c.requires.within c.requires.next.possible c.requires.class c.args.work c.requires.work c.in-Large.is _ c.request-arrive.ensures.arrive _ (c.with_arrival-in-Large.ensures ∙ ap (λ (t : Times). record t { awaited = Some c.request-arrive.result }) (c.with_start-times.ensures ∙ ap (λ (t : Times). record t { start = Some c.args.action.time }) c.requires.times))
+    request_known c.args.sched.now (g.C.Costs.model c.args.costs.now) (g.H.History.actions c.args.history.now) c.args.action c.requires.run c.requires.within c.requires.next.possible c.requires.class c.args.work c.requires.work c.in-Large.is _ c.request-arrive.ensures.arrive _ (c.with_awaited-in-Large.ensures ∙ ap (λ (t : Times). record t { awaited = Some c.request-arrive.result }) (c.with_start-times.ensures ∙ ap (λ (t : Times). record t { start = Some c.args.action.time }) c.requires.times))
 
 pub returns-in-Large-clause-free : goal.returns-in-Large-clause-free
 returns-in-Large-clause-free g c =

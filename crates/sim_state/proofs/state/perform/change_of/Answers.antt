@@ -49,8 +49,8 @@ pub with_end-requires : goal.with_end-requires
 with_end-requires g c =
     omega (arith, c.data-sent.ensures.end, data_over c.args.sched.now (g.C.Costs.model c.args.costs.now) (g.H.History.actions c.args.history.now) c.args.action c.requires.run c.requires.within c.requires.next.possible c.in-Data.is c.read.result.now.work (ap (λ (e : Entry). e.work) (c.read.ensures (entry_known c.args.sched.now (g.C.Costs.model c.args.costs.now) (g.H.History.actions c.args.history.now)) c.requires.known)))
 
-pub with_arrival-requires : goal.with_arrival-requires
-with_arrival-requires g c =
+pub with_awaited-requires : goal.with_awaited-requires
+with_awaited-requires g c =
     omega (arith, c.data-sent.ensures.arrive, data_flight c.args.sched.now (g.C.Costs.model c.args.costs.now) (g.H.History.actions c.args.history.now) c.args.action c.requires.run c.requires.within c.requires.next.possible c.in-Data.is c.read.result.now.work (ap (λ (e : Entry). e.work) (c.read.ensures (entry_known c.args.sched.now (g.C.Costs.model c.args.costs.now) (g.H.History.actions c.args.history.now)) c.requires.known)))
 
 pub unreachable-requires : goal.unreachable-requires
@@ -90,7 +90,7 @@ returns-in-Begin-clause-told g c =
 
 pub returns-in-Post-clause-change : goal.returns-in-Post-clause-change
 returns-in-Post-clause-change g c =
-    post_changes c.args.sched.now (g.C.Costs.model c.args.costs.now) (g.H.History.actions c.args.history.now) c.args.action c.requires.run c.requires.within c.requires.next.possible c.args.matcher.now c.requires.told c.in-Post.is _ _ (c.with_no_arrival.ensures ∙ ap (λ (t : Times). record t { awaited = None }) (c.with_start.ensures ∙ ap (λ (t : Times). record t { start = Some c.args.action.time }) (ap (λ (e : Entry). e.times) (c.read.ensures (entry_known c.args.sched.now (g.C.Costs.model c.args.costs.now) (g.H.History.actions c.args.history.now)) c.requires.known)))) c.post_counted.ensures.taken
+    post_changes c.args.sched.now (g.C.Costs.model c.args.costs.now) (g.H.History.actions c.args.history.now) c.args.action c.requires.run c.requires.within c.requires.next.possible c.args.matcher.now c.requires.told c.in-Post.is _ _ (c.with_nothing_awaited.ensures ∙ ap (λ (t : Times). record t { awaited = None }) (c.with_start.ensures ∙ ap (λ (t : Times). record t { start = Some c.args.action.time }) (ap (λ (e : Entry). e.times) (c.read.ensures (entry_known c.args.sched.now (g.C.Costs.model c.args.costs.now) (g.H.History.actions c.args.history.now)) c.requires.known)))) c.post_counted.ensures.taken
 
 pub returns-in-Post-clause-free : goal.returns-in-Post-clause-free
 returns-in-Post-clause-free g c =
@@ -102,7 +102,7 @@ returns-in-Post-clause-told g c =
 
 pub returns-in-Arrive-clause-change : goal.returns-in-Arrive-clause-change
 returns-in-Arrive-clause-change g c =
-    arrival_changes c.args.sched.now (g.C.Costs.model c.args.costs.now) (g.H.History.actions c.args.history.now) c.args.action c.requires.run c.requires.within c.requires.next.possible c.args.matcher.now c.requires.told c.in-Arrive.is _ _ (c.with_no_arrival-in-Arrive.ensures ∙ ap (λ (t : Times). record t { awaited = None }) (ap (λ (e : Entry). e.times) (c.read.ensures (entry_known c.args.sched.now (g.C.Costs.model c.args.costs.now) (g.H.History.actions c.args.history.now)) c.requires.known))) c.arrive_counted.ensures.taken
+    arrival_changes c.args.sched.now (g.C.Costs.model c.args.costs.now) (g.H.History.actions c.args.history.now) c.args.action c.requires.run c.requires.within c.requires.next.possible c.args.matcher.now c.requires.told c.in-Arrive.is _ _ (c.with_nothing_awaited-in-Arrive.ensures ∙ ap (λ (t : Times). record t { awaited = None }) (ap (λ (e : Entry). e.times) (c.read.ensures (entry_known c.args.sched.now (g.C.Costs.model c.args.costs.now) (g.H.History.actions c.args.history.now)) c.requires.known))) c.arrive_counted.ensures.taken
 
 pub returns-in-Arrive-clause-free : goal.returns-in-Arrive-clause-free
 returns-in-Arrive-clause-free g c =
@@ -114,7 +114,7 @@ returns-in-Arrive-clause-told g c =
 
 pub returns-in-Data-clause-change : goal.returns-in-Data-clause-change
 returns-in-Data-clause-change g c =
-    times_changed c.args.sched.now (g.C.Costs.model c.args.costs.now) (g.H.History.actions c.args.history.now) c.args.action c.requires.run c.requires.within c.requires.next.possible _ _ c.of_times-in-Data.ensures (data_known c.args.sched.now (g.C.Costs.model c.args.costs.now) (g.H.History.actions c.args.history.now) c.args.action c.requires.run c.requires.within c.requires.next.possible c.in-Data.is c.read.result.now.work (ap (λ (e : Entry). e.work) (c.read.ensures (entry_known c.args.sched.now (g.C.Costs.model c.args.costs.now) (g.H.History.actions c.args.history.now)) c.requires.known)) _ _ c.data-sent.ensures.end c.data-sent.ensures.arrive _ (c.with_arrival.ensures ∙ ap (λ (t : Times). record t { awaited = Some c.data-sent.result.arrive }) (c.with_end.ensures ∙ ap (λ (t : Times). record t { end = Some c.data-sent.result.end }) (ap (λ (e : Entry). e.times) (c.read.ensures (entry_known c.args.sched.now (g.C.Costs.model c.args.costs.now) (g.H.History.actions c.args.history.now)) c.requires.known)))))
+    times_changed c.args.sched.now (g.C.Costs.model c.args.costs.now) (g.H.History.actions c.args.history.now) c.args.action c.requires.run c.requires.within c.requires.next.possible _ _ c.of_times-in-Data.ensures (data_known c.args.sched.now (g.C.Costs.model c.args.costs.now) (g.H.History.actions c.args.history.now) c.args.action c.requires.run c.requires.within c.requires.next.possible c.in-Data.is c.read.result.now.work (ap (λ (e : Entry). e.work) (c.read.ensures (entry_known c.args.sched.now (g.C.Costs.model c.args.costs.now) (g.H.History.actions c.args.history.now)) c.requires.known)) _ _ c.data-sent.ensures.end c.data-sent.ensures.arrive _ (c.with_awaited.ensures ∙ ap (λ (t : Times). record t { awaited = Some c.data-sent.result.arrive }) (c.with_end.ensures ∙ ap (λ (t : Times). record t { end = Some c.data-sent.result.end }) (ap (λ (e : Entry). e.times) (c.read.ensures (entry_known c.args.sched.now (g.C.Costs.model c.args.costs.now) (g.H.History.actions c.args.history.now)) c.requires.known)))))
 
 pub returns-in-Data-clause-free : goal.returns-in-Data-clause-free
 returns-in-Data-clause-free g c =
