@@ -5,6 +5,7 @@ cores and memory, and one that finds cores idle gets them. On a machine with no 
 statements and not its proofs, as the gate builds it, since those above then load less. Else rt's own functions build them over the
 kept work (in this process, since two commands `rt lib` would wait for one another). LOCK is the number of an open file, which holds
 the lock of this checkout. Standard output is the log, and tells how far the proof is."""
+import contextlib
 import glob
 import importlib.machinery
 import importlib.util
@@ -30,6 +31,8 @@ FAILED = f"{PROOF}/failed"
 STATEMENTS = f"{PROOF}/statements"
 # A check with more jobs than this seldom ends sooner.
 MOST_JOBS = 4
+# How far the proof stands behind other work, in steps of `nice`: at 10 another process gets nine tenths of a core that they share.
+BEHIND = 10
 # What a check with one job takes of the memory that rt plans for it, and what each further job takes of that: as measured.
 MEMORY_OF_A_CHECK, MEMORY_OF_A_JOB = 0.6, 0.5
 
@@ -228,10 +231,17 @@ def prove(rt):
     return prove_libraries(rt, log, libraries, keeps) and build_program(rt, log, program, locks, keeps)
 
 
+def give_way():
+    """Has an answer from the sources, and all else, go before the proof."""
+    os.nice(BEHIND)
+    # (a kernel that shares the cores among sessions weighs this one by a number of its own)
+    with contextlib.suppress(OSError), open("/proc/self/autogroup", "w", encoding="ascii") as file:
+        file.write(f"{BEHIND}")
+
+
 def main(lock):
     os.set_inheritable(lock, False)
-    # an answer from the sources comes first
-    os.nice(5)
+    give_way()
     signal.signal(signal.SIGHUP, signal.SIG_IGN)
     try:
         return 0 if prove(kit()) else 1
