@@ -1,66 +1,107 @@
+ghost use Rattle.std.specs.Prelude.{◌<◌};
+
+use crate::same::{same, same_list};
 use goal_base::{
     Host, IoFault, MemHost, MemSink, ReadAll, TextOut, WriteStop, read_all, write_all, write_file,
 };
+use std::alloc::Global;
+use std::process::Abort;
 use std::test::Fail;
 
 // A line, of which a sink below takes the first 20 bytes.
 const TEXT: &[u8] = b"ranks 2 ops 2 stuck 0 unread 0 finish 5554\n";
 
-#[test]
-fn a_file_is_read_byte_by_byte(rt: HostRuntime) -> Result<(), Fail> {
-    let alloc = rt.alloc();
-    let mut host = MemHost::new(alloc, 1, &[])?;
-    host.add("b", b"another")?;
+// A host with a file "a", which moves at most so many bytes a call and fails at these calls.
+fn host_of(alloc: Global, most: usize, fails: &[u64]) -> Result<MemHost, Fail>
+    requires { 0 < most }
+{
+    let mut host = MemHost::new(alloc, most, fails)?;
     host.add("a", TEXT)?;
-    let bytes = read_all(alloc, &mut host, "a")?;
-    assert_eq!(rt; bytes.as_slice(), TEXT);
-    assert_eq!(rt;
-        read_all(alloc, &mut host, "b")?.as_slice(),
-        b"another".as_slice()
+    Ok(host)
+}
+
+// That a file is read as these bytes.
+fn reads(
+    rt: &impl Abort,
+    alloc: Global,
+    host: &mut MemHost,
+    name: &str,
+    wanted: &[u8],
+) -> Result<(), Fail> {
+    let found = read_all(alloc, host, name)?;
+    same_list(rt, found.as_slice(), wanted);
+    Ok(())
+}
+
+// That a file is not read.
+fn fails(rt: &impl Abort, alloc: Global, host: &mut MemHost, name: &str) {
+    same(
+        rt,
+        &read_all(alloc, host, name).err(),
+        &Some(ReadAll::Fault),
     );
+}
+
+// That the file "a" was made of these bytes.
+fn holds(rt: &impl Abort, host: &MemHost, wanted: &[u8]) -> Result<(), Fail> {
+    let file = host.file("a").ok_or("no file")?;
+    same(rt, &file, &wanted);
     Ok(())
 }
 
 #[test]
+fn a_file_is_read_byte_by_byte(rt: HostRuntime) -> Result<(), Fail> {
+    let mut host = host_of(rt.alloc(), 1, &[])?;
+    host.add("b", b"another")?;
+    reads(&rt, rt.alloc(), &mut host, "a", TEXT)?;
+    reads(&rt, rt.alloc(), &mut host, "b", b"another")
+}
+
+#[test]
 fn faults_of_a_host(rt: HostRuntime) -> Result<(), Fail> {
-    let alloc = rt.alloc();
-    let mut host = MemHost::new(alloc, 100, &[2])?;
-    host.add("a", TEXT)?;
-    assert_eq!(rt; read_all(alloc, &mut host, "a").err(), Some(ReadAll::Fault));
-    assert_eq!(rt;
-        read_all(alloc, &mut host, "absent").err(),
-        Some(ReadAll::Fault)
-    );
-    assert_eq!(rt; read_all(alloc, &mut host, "a")?.as_slice(), TEXT);
+    let mut host = host_of(rt.alloc(), 100, &[2])?;
+    fails(&rt, rt.alloc(), &mut host, "a");
+    fails(&rt, rt.alloc(), &mut host, "absent");
+    reads(&rt, rt.alloc(), &mut host, "a", TEXT)
+}
+
+// Makes the file "a" anew, of which the host takes four bytes a call.
+fn make(rt: &impl Abort, host: &mut MemHost) -> Result<(), Fail> {
+    host.create("a")?;
+    same(rt, &host.write(b"number")?, &4);
+    same(rt, &host.write(b"s")?, &1);
+    host.finish()?;
     Ok(())
 }
 
 #[test]
 fn a_file_is_made(rt: HostRuntime) -> Result<(), Fail> {
-    let alloc = rt.alloc();
-    let mut host = MemHost::new(alloc, 4, &[])?;
-    host.add("a", TEXT)?;
-    host.create("a")?;
-    assert_eq!(rt; host.write(b"number")?, 4);
-    assert_eq!(rt; host.write(b"s")?, 1);
-    host.finish()?;
-    let file = host.file("a").ok_or("no file")?;
-    assert_eq!(rt; file, b"numbs".as_slice());
-    Ok(())
+    let mut host = host_of(rt.alloc(), 4, &[])?;
+    make(&rt, &mut host)?;
+    holds(&rt, &host, b"numbs")
+}
+
+// That a sink takes these bytes, and has these then.
+fn takes(
+    rt: &impl Abort,
+    sink: &mut MemSink,
+    bytes: &[u8],
+    answer: Result<(), WriteStop>,
+    has: &[u8],
+) {
+    same(rt, &write_all(sink, bytes), &answer);
+    same(rt, &sink.bytes(), &has);
 }
 
 #[test]
 fn a_sink_stops(rt: HostRuntime) -> Result<(), Fail> {
-    let alloc = rt.alloc();
-    let mut sink = MemSink::new(alloc, 10, &[3])?;
+    let mut sink = MemSink::new(rt.alloc(), 10, &[3])?;
     let stop = WriteStop {
         done: 20,
         why: IoFault::Failed,
     };
-    assert_eq!(rt; write_all(&mut sink, TEXT), Err(stop));
-    assert_eq!(rt; sink.bytes(), b"ranks 2 ops 2 stuck ".as_slice());
-    assert_eq!(rt; write_all(&mut sink, b"0"), Ok(()));
-    assert_eq!(rt; sink.bytes(), b"ranks 2 ops 2 stuck 0".as_slice());
+    takes(&rt, &mut sink, TEXT, Err(stop), b"ranks 2 ops 2 stuck ");
+    takes(&rt, &mut sink, b"0", Ok(()), b"ranks 2 ops 2 stuck 0");
     Ok(())
 }
 
@@ -71,38 +112,27 @@ fn words_and_numbers(rt: HostRuntime) -> Result<(), Fail> {
     text.number(u128::MAX)?;
     text.word("\n")?;
     text.number(0)?;
-    assert_eq!(rt;
+    same_list(
+        &rt,
         text.into_bytes().as_slice(),
-        b"budget 340282366920938463463374607431768211455\n0".as_slice()
+        b"budget 340282366920938463463374607431768211455\n0".as_slice(),
     );
     Ok(())
 }
 
 #[test]
 fn a_file_is_written_whole(rt: HostRuntime) -> Result<(), Fail> {
-    let alloc = rt.alloc();
-    let mut host = MemHost::new(alloc, 4, &[])?;
-    host.add("a", TEXT)?;
+    let mut host = host_of(rt.alloc(), 4, &[])?;
     host.add("b", b"another")?;
     write_file(&mut host, "a", b"numbers")?;
-    assert_eq!(rt;
-        read_all(alloc, &mut host, "a")?.as_slice(),
-        b"numbers".as_slice()
-    );
-    assert_eq!(rt;
-        read_all(alloc, &mut host, "b")?.as_slice(),
-        b"another".as_slice()
-    );
-    Ok(())
+    reads(&rt, rt.alloc(), &mut host, "a", b"numbers")?;
+    reads(&rt, rt.alloc(), &mut host, "b", b"another")
 }
 
 #[test]
 fn a_file_is_cut_off(rt: HostRuntime) -> Result<(), Fail> {
-    let alloc = rt.alloc();
-    let mut host = MemHost::new(alloc, 4, &[3])?;
+    let mut host = host_of(rt.alloc(), 4, &[3])?;
     let answer = write_file(&mut host, "a", b"numbers");
-    assert_eq!(rt; answer, Err(IoFault::Failed));
-    let file = host.file("a").ok_or("no file")?;
-    assert_eq!(rt; file, b"numb".as_slice());
-    Ok(())
+    same(&rt, &answer, &Err(IoFault::Failed));
+    holds(&rt, &host, b"numb")
 }

@@ -1,10 +1,12 @@
 //! What no clause says: that the calls succeed, and the faults of files that are written out.
 ghost use Rattle.std.specs.Prelude.{◌≡◌, IfOk, IsOkUnless};
 
+use crate::same::{same, same_list};
 use goal_binary::{FileFault, decode, encode, encode_old};
 use goal_graph::{Dep, Kind, Note, Op, PlanFault, RankPlan, Sched, When};
 use goal_limits::NoMemory;
 use std::alloc::{AllocError, Global};
+use std::process::Abort;
 use std::test::Fail;
 
 /// The file of two ranks, of which one sends ten bytes to the other.
@@ -66,9 +68,9 @@ fn one_message(rt: HostRuntime) -> Result<(), Fail> {
     let alloc = rt.alloc();
     let sched = message(alloc)?;
     let bytes = encode(alloc, &sched)?;
-    assert_eq!(rt; bytes.as_slice(), MESSAGE.as_slice());
+    same_list(&rt, bytes.as_slice(), MESSAGE.as_slice());
     let old = encode_old(alloc, &sched)?;
-    assert_eq!(rt; old.as_slice(), OLD_MESSAGE.as_slice());
+    same_list(&rt, old.as_slice(), OLD_MESSAGE.as_slice());
     Ok(())
 }
 
@@ -95,10 +97,31 @@ fn written_as_before_and_read(alloc: Global, sched: &Sched) -> Result<Sched, Fil
     }
 }
 
+// The kinds of all operations.
+pub fn kinds_of(alloc: Global, sched: &Sched) -> Result<Vec<Kind>, AllocError> {
+    let mut kinds = Vec::new(alloc);
+    for id in sched.operations() {
+        kinds.push(sched.op(*id).kind)?;
+    }
+    Ok(kinds)
+}
+
+// That the schedule has these kinds, also when it was written in both versions and read again.
+fn stays(rt: &impl Abort, alloc: Global, sched: &Sched, wanted: &[Kind]) -> Result<(), Fail> {
+    let kinds = kinds_of(alloc, sched)?;
+    same_list(rt, &kinds, wanted);
+    let again = written_and_read(alloc, sched);
+    same(rt, &again.ok().map(|it| it.count()), &Some(2));
+    let again = written_as_before_and_read(alloc, sched);
+    same(rt, &again.ok().map(|it| it.count()), &Some(2));
+    Ok(())
+}
+
 #[test]
 fn the_message_is_read(rt: HostRuntime) -> Result<(), Fail> {
-    let alloc = rt.alloc();
-    let sched = decode(alloc, &MESSAGE).ok().ok_or("the bytes are a file")?;
+    let sched = decode(rt.alloc(), &MESSAGE)
+        .ok()
+        .ok_or("the bytes are a file")?;
     let send = Kind::Send {
         bytes: 10,
         to: 1,
@@ -109,31 +132,18 @@ fn the_message_is_read(rt: HostRuntime) -> Result<(), Fail> {
         from: Some(0),
         tag: Some(0),
     };
-    let mut kinds = Vec::new(alloc);
-    for id in sched.operations() {
-        kinds.push(sched.op(*id).kind)?;
-    }
-    assert_eq!(rt; kinds.as_slice(), [send, recv].as_slice());
-    let again = written_and_read(alloc, &sched)
-        .ok()
-        .ok_or("the file is read again")?;
-    assert_eq!(rt; again.count(), 2);
-    let again = written_as_before_and_read(alloc, &sched)
-        .ok()
-        .ok_or("the old file is read again")?;
-    assert_eq!(rt; again.count(), 2);
-    Ok(())
+    stays(&rt, rt.alloc(), &sched, &[send, recv])
 }
 
 #[test]
 fn a_cut_file_is_short(rt: HostRuntime) -> Result<(), Fail> {
     for (len, _) in MESSAGE.iter().enumerate() {
         let fault = decode(rt.alloc(), &MESSAGE[..len]).err();
-        assert_eq!(rt; fault, Some(FileFault::Short { at: len as u64 }));
+        same(&rt, &fault, &Some(FileFault::Short { at: len as u64 }));
     }
     for (len, _) in OLD_MESSAGE.iter().enumerate() {
         let fault = decode(rt.alloc(), &OLD_MESSAGE[..len]).err();
-        assert_eq!(rt; fault, Some(FileFault::Short { at: len as u64 }));
+        same(&rt, &fault, &Some(FileFault::Short { at: len as u64 }));
     }
     Ok(())
 }
@@ -173,13 +183,14 @@ fn faults(rt: HostRuntime) -> Result<(), Fail> {
         (17, 2, FileFault::Plan(PlanFault::Peer { rank: 0, op: 0 })),
         (26, 138, FileFault::Short { at: 27 }),
     ] {
-        assert_eq!(rt; damaged(alloc, &MESSAGE, place, byte)?, Some(fault));
+        same(&rt, &damaged(alloc, &MESSAGE, place, byte)?, &Some(fault));
     }
     let mut longer = Vec::from_slice(alloc, &MESSAGE)?;
     longer.push(0)?;
-    assert_eq!(rt;
-        decode(alloc, &longer).err(),
-        Some(FileFault::Extra { at: 27 })
+    same(
+        &rt,
+        &decode(alloc, &longer).err(),
+        &Some(FileFault::Extra { at: 27 }),
     );
     Ok(())
 }
@@ -187,17 +198,18 @@ fn faults(rt: HostRuntime) -> Result<(), Fail> {
 #[test]
 fn faults_of_a_calc(rt: HostRuntime) -> Result<(), Fail> {
     let alloc = rt.alloc();
-    assert_eq!(rt; decode(alloc, &ON_CPU_3).is_ok(), true);
+    same(&rt, &decode(alloc, &ON_CPU_3).is_ok(), &true);
     let field = Some(FileFault::Field { at: 17 });
-    assert_eq!(rt; damaged(alloc, &ON_CPU_3, 17, 0)?, field);
+    same(&rt, &damaged(alloc, &ON_CPU_3, 17, 0)?, &field);
     let field = Some(FileFault::Field { at: 16 });
-    assert_eq!(rt; damaged(alloc, &ON_CPU_3, 16, 48)?, field);
+    same(&rt, &damaged(alloc, &ON_CPU_3, 16, 48)?, &field);
     let mut longer = Vec::from_slice(alloc, &ON_CPU_3[..19])?;
     longer.push(0x82)?;
     longer.push(0x00)?;
-    assert_eq!(rt;
-        decode(alloc, &longer).err(),
-        Some(FileFault::Field { at: 18 })
+    same(
+        &rt,
+        &decode(alloc, &longer).err(),
+        &Some(FileFault::Field { at: 18 }),
     );
     Ok(())
 }
@@ -209,14 +221,19 @@ fn a_number_ends_with_its_tenth_byte(rt: HostRuntime) -> Result<(), Fail> {
     for _ in 0..9 {
         bytes.push(0x80)?;
         let at = bytes.len() as u64;
-        assert_eq!(rt; decode(alloc, &bytes).err(), Some(FileFault::Short { at }));
+        same(
+            &rt,
+            &decode(alloc, &bytes).err(),
+            &Some(FileFault::Short { at }),
+        );
     }
     for last in [0x80, 0x02, 0x01, 0x00] {
         let mut whole = Vec::from_slice(alloc, &bytes)?;
         whole.push(last)?;
-        assert_eq!(rt;
-            decode(alloc, &whole).err(),
-            Some(FileFault::Field { at: 18 })
+        same(
+            &rt,
+            &decode(alloc, &whole).err(),
+            &Some(FileFault::Field { at: 18 }),
         );
     }
     Ok(())
@@ -241,13 +258,18 @@ fn faults_of_version_1(rt: HostRuntime) -> Result<(), Fail> {
         (52, 0, FileFault::Extra { at: 64 }),
         (32, 2, FileFault::Plan(PlanFault::Peer { rank: 0, op: 0 })),
     ] {
-        assert_eq!(rt; damaged(alloc, &OLD_MESSAGE, place, byte)?, Some(fault));
+        same(
+            &rt,
+            &damaged(alloc, &OLD_MESSAGE, place, byte)?,
+            &Some(fault),
+        );
     }
     let mut longer = Vec::from_slice(alloc, &OLD_MESSAGE)?;
     longer.push(0)?;
-    assert_eq!(rt;
-        decode(alloc, &longer).err(),
-        Some(FileFault::Extra { at: 88 })
+    same(
+        &rt,
+        &decode(alloc, &longer).err(),
+        &Some(FileFault::Extra { at: 88 }),
     );
     Ok(())
 }
@@ -337,24 +359,34 @@ fn is_fault_or_file(alloc: Global, bytes: &[u8]) -> Result<bool, NoMemory> {
     Ok(file.as_slice() == bytes || old.as_slice() == bytes)
 }
 
+// That the file with any byte replaced by another is at fault or a file, and nothing else.
+fn is_whole(rt: &impl Abort, alloc: Global, file: &[u8]) -> Result<(), Fail> {
+    let mut bytes = Vec::from_slice(alloc, file)?;
+    let mut neighbour = 0;
+    for (place, there) in file.iter().enumerate() {
+        for byte in [0, 1, 127, 128, 255, neighbour] {
+            put(&mut bytes, place, byte);
+            same(rt, &is_fault_or_file(alloc, &bytes)?, &true);
+        }
+        put(&mut bytes, place, *there);
+        neighbour = *there;
+    }
+    Ok(())
+}
+
+// The file of a drawn schedule.
+fn drawn_file(alloc: Global, seed: u64) -> Result<Vec<u8>, Fail> {
+    let first = drawn_plan(alloc, next(seed), 0)?;
+    let second = drawn_plan(alloc, next(next(seed)), 1)?;
+    let sched = Sched::build(alloc, vec![in alloc; first, second]?)?;
+    Ok(encode(alloc, &sched)?)
+}
+
 #[test]
 fn each_byte_of_a_hundred_files_replaced(rt: HostRuntime) -> Result<(), Fail> {
-    let alloc = rt.alloc();
     for seed in 0..100u64 {
-        let first = drawn_plan(alloc, next(seed), 0)?;
-        let second = drawn_plan(alloc, next(next(seed)), 1)?;
-        let sched = Sched::build(alloc, vec![in alloc; first, second]?)?;
-        let file = encode(alloc, &sched)?;
-        let mut bytes = Vec::from_slice(alloc, &file)?;
-        let mut neighbour = 0;
-        for (place, there) in file.iter().enumerate() {
-            for byte in [0, 1, 127, 128, 255, neighbour] {
-                put(&mut bytes, place, byte);
-                assert_eq!(rt; is_fault_or_file(alloc, &bytes)?, true);
-            }
-            put(&mut bytes, place, *there);
-            neighbour = *there;
-        }
+        let file = drawn_file(rt.alloc(), seed)?;
+        is_whole(&rt, rt.alloc(), &file)?;
     }
     Ok(())
 }

@@ -1,6 +1,7 @@
 // Inputs that come in pieces, cut at each place.
 ghost use Rattle.std.specs.Prelude.{◌<◌};
 
+use crate::same::same;
 use goal_base::MemHost;
 use goal_binary::FileFault;
 use goal_graph::PlanFault;
@@ -81,9 +82,10 @@ fn unread_by(
 fn cut_at_each_place(rt: HostRuntime) -> Result<(), Fail> {
     for row in &ROWS {
         for most in 0..row.input.len() {
-            assert_eq!(&rt;
-                unread_by(rt.alloc(), row.input, most + 1, &[])?,
-                row.unread
+            same(
+                &rt,
+                &unread_by(rt.alloc(), row.input, most + 1, &[])?,
+                &row.unread,
             );
         }
     }
@@ -93,13 +95,15 @@ fn cut_at_each_place(rt: HostRuntime) -> Result<(), Fail> {
 // The host fails after the fault of the text was read: its failure is what is answered.
 #[test]
 fn failure_before_fault(rt: HostRuntime) -> Result<(), Fail> {
-    assert_eq!(&rt;
-        unread_by(rt.alloc(), TWO_FAULTS, 1, &[40])?,
-        Some(Unread::Fault)
+    same(
+        &rt,
+        &unread_by(rt.alloc(), TWO_FAULTS, 1, &[40])?,
+        &Some(Unread::Fault),
     );
-    assert_eq!(&rt;
-        unread_by(rt.alloc(), TWO_FAULTS, 1, &[80])?,
-        Some(Unread::Text(TextFault::Lex { at: 26 }))
+    same(
+        &rt,
+        &unread_by(rt.alloc(), TWO_FAULTS, 1, &[80])?,
+        &Some(Unread::Text(TextFault::Lex { at: 26 })),
     );
     Ok(())
 }

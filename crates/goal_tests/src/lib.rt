@@ -13,3 +13,5 @@ mod lexer;
 mod parser;
 #[cfg(test)]
 mod print;
+#[cfg(test)]
+mod same;

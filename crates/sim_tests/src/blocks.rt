@@ -2,6 +2,7 @@
 ghost use Rattle.std.specs.Prelude.{◌≡◌, ◌<◌, ◌≤◌, IfOk};
 
 use crate::plans::{noted_plan, op};
+use crate::same::{same, same_list};
 use goal_blocks::{Adding, Collective, SlotTable, Slots, Store, initial_size};
 use goal_graph::{Kind, Note, Sched};
 use std::alloc::Global;
@@ -62,15 +63,16 @@ fn slots_and_sums(rt: HostRuntime) -> Result<(), Fail> {
     let ids = sched.operations();
     assert_eq!(rt; ids.len(), 3);
     let sent = Slots::of(rt.alloc(), &sched, ids[0]).ok().ok_or("memory")?;
-    assert_eq!(rt; sent.as_slice(), [1, 2, 0].as_slice());
-    assert_eq!(rt; table.slots_of(ids[0]), [1, 2, 0].as_slice());
-    assert_eq!(rt; table.slots_of(ids[1]), [0, 4, 5].as_slice());
-    assert_eq!(rt; table.slots_of(ids[2]).len(), 0);
-    assert_eq!(rt;
+    same_list(&rt, sent.as_slice(), [1, 2, 0].as_slice());
+    same_list(&rt, table.slots_of(ids[0]), [1, 2, 0].as_slice());
+    same_list(&rt, table.slots_of(ids[1]), [0, 4, 5].as_slice());
+    same(&rt, &table.slots_of(ids[2]).len(), &0);
+    same_list(
+        &rt,
         table.adds_of(ids[2]),
-        [Adding { from: 4, to: 0 }].as_slice()
+        [Adding { from: 4, to: 0 }].as_slice(),
     );
-    assert_eq!(rt; table.adds_of(ids[1]).len(), 0);
+    same(&rt, &table.adds_of(ids[1]).len(), &0);
     Ok(())
 }
 
@@ -101,37 +103,39 @@ fn add(store: &mut Store, from: u32, to: u32) -> Result<(), Fail>
 #[test]
 fn contributions_add_up(rt: HostRuntime) -> Result<(), Fail> {
     let mut values = store(rt.alloc(), 2, Collective::Alltoall)?;
-    assert_eq!(rt; values.held(), 4);
+    same(&rt, &values.held(), &4);
     add(&mut values, 1, 0)?;
-    assert_eq!(rt; values.size_at(0, 0), 2);
-    assert_eq!(rt; values.held(), 5);
+    same(&rt, &values.size_at(0, 0), &2);
+    same(&rt, &values.held(), &5);
     add(&mut values, 0, 0)?;
-    assert_eq!(rt; values.size_at(0, 0), 4);
-    assert_eq!(rt; values.held(), 7);
+    same(&rt, &values.size_at(0, 0), &4);
+    same(&rt, &values.held(), &7);
     add(&mut values, 7, 0)?;
-    assert_eq!(rt; values.held(), 7);
+    same(&rt, &values.held(), &7);
     add(&mut values, 1, u32::MAX)?;
-    assert_eq!(rt; values.size_at(0, u32::MAX), 1);
-    assert_eq!(rt; values.held(), 8);
+    same(&rt, &values.size_at(0, u32::MAX), &1);
+    same(&rt, &values.held(), &8);
     Ok(())
 }
 
 #[test]
 fn first_wrong_slots(rt: HostRuntime) -> Result<(), Fail> {
     let one = store(rt.alloc(), 1, Collective::Barrier)?;
-    assert_eq!(rt; one.first_wrong(Collective::Barrier), None);
-    assert_eq!(rt; one.first_wrong(Collective::Allreduce), None);
+    same(&rt, &one.first_wrong(Collective::Barrier), &None);
+    same(&rt, &one.first_wrong(Collective::Allreduce), &None);
     let two = store(rt.alloc(), 2, Collective::Allgather)?;
-    assert_eq!(rt; two.first_wrong(Collective::Allgather), Some((0, 1)));
-    assert_eq!(rt; two.first_wrong(Collective::Scan), Some((1, 0)));
-    assert_eq!(rt; two.first_wrong(Collective::Alltoall), Some((0, 2)));
-    assert_eq!(rt;
-        two.first_wrong(Collective::Gather { root: 5 }),
-        Some((0, 0))
+    same(&rt, &two.first_wrong(Collective::Allgather), &Some((0, 1)));
+    same(&rt, &two.first_wrong(Collective::Scan), &Some((1, 0)));
+    same(&rt, &two.first_wrong(Collective::Alltoall), &Some((0, 2)));
+    same(
+        &rt,
+        &two.first_wrong(Collective::Gather { root: 5 }),
+        &Some((0, 0)),
     );
-    assert_eq!(rt;
-        two.first_wrong(Collective::Bcast { root: 0 }),
-        Some((1, 0))
+    same(
+        &rt,
+        &two.first_wrong(Collective::Bcast { root: 0 }),
+        &Some((1, 0)),
     );
     Ok(())
 }
@@ -162,13 +166,14 @@ fn hand_over(alloc: Global, values: &mut Store, sched: &Sched) -> Result<(), Fai
 fn payloads_overwrite(rt: HostRuntime) -> Result<(), Fail> {
     let sched = two_ranks(rt.alloc())?;
     let mut values = store(rt.alloc(), 2, Collective::Allreduce)?;
-    assert_eq!(rt;
-        values.first_wrong(Collective::Bcast { root: 0 }),
-        Some((1, 0))
+    same(
+        &rt,
+        &values.first_wrong(Collective::Bcast { root: 0 }),
+        &Some((1, 0)),
     );
     hand_over(rt.alloc(), &mut values, &sched)?;
-    assert_eq!(rt; values.size_at(1, 0), 0);
-    assert_eq!(rt; values.size_at(1, 5), 1);
-    assert_eq!(rt; values.held(), 2);
+    same(&rt, &values.size_at(1, 0), &0);
+    same(&rt, &values.size_at(1, 5), &1);
+    same(&rt, &values.held(), &2);
     Ok(())
 }

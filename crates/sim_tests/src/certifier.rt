@@ -2,6 +2,7 @@
 ghost use Rattle.std.specs.Prelude.{◌<◌};
 
 use crate::plans::noted_plan;
+use crate::same::same;
 use goal_blocks::{CertFault, Collective, Segment};
 use goal_certify::{SegmentFault, certify, certify_segments};
 use goal_graph::{Kind, Note, Op, OpId, PlanFault, RankPlan, Sched};
@@ -66,9 +67,9 @@ fn message(
 #[test]
 fn tells_the_least_rank_that_is_too_large(rt: HostRuntime) -> Result<(), Fail> {
     let fits = message(rt.alloc(), 8, 65_535, 65_535)?;
-    assert_eq!(rt; fits, None);
+    same(&rt, &fits, &None);
     let high = message(rt.alloc(), 8, 65_535, 65_536)?;
-    assert_eq!(rt; high, Some(CertFault::TooLarge { rank: 1 }));
+    same(&rt, &high, &Some(CertFault::TooLarge { rank: 1 }));
     Ok(())
 }
 
@@ -77,7 +78,7 @@ fn tells_the_first_wildcard_before_other_faults(rt: HostRuntime) -> Result<(), F
     let sends = noted_plan(rt.alloc(), &[send(8, 1, 0), send(8, 1, 0)], &[])?;
     let receives = [receive(Some(0), Some(0)), receive(Some(0), None)];
     let found = fault(rt.alloc(), sends, noted_plan(rt.alloc(), &receives, &[])?)?;
-    assert_eq!(rt; found, Some(CertFault::Wildcard { op: at(1, 1) }));
+    same(&rt, &found, &Some(CertFault::Wildcard { op: at(1, 1) }));
     Ok(())
 }
 
@@ -88,7 +89,11 @@ fn tells_the_least_second_of_a_channel_and_its_first(rt: HostRuntime) -> Result<
     let found = fault(rt.alloc(), sends, noted_plan(rt.alloc(), &[], &[])?)?;
     let first = at(0, 1);
     let second = at(0, 2);
-    assert_eq!(rt; found, Some(CertFault::DoubleChannel { first, second }));
+    same(
+        &rt,
+        &found,
+        &Some(CertFault::DoubleChannel { first, second }),
+    );
     Ok(())
 }
 
@@ -97,7 +102,7 @@ fn tells_the_least_unpaired_operation(rt: HostRuntime) -> Result<(), Fail> {
     let sends = noted_plan(rt.alloc(), &[send(8, 1, 0), send(8, 1, 2)], &[])?;
     let receives = [receive(Some(0), Some(1)), receive(Some(0), Some(0))];
     let found = fault(rt.alloc(), sends, noted_plan(rt.alloc(), &receives, &[])?)?;
-    assert_eq!(rt; found, Some(CertFault::Unpaired { op: at(0, 1) }));
+    same(&rt, &found, &Some(CertFault::Unpaired { op: at(0, 1) }));
     Ok(())
 }
 
@@ -105,11 +110,11 @@ fn tells_the_least_unpaired_operation(rt: HostRuntime) -> Result<(), Fail> {
 #[test]
 fn tells_lengths_that_differ(rt: HostRuntime) -> Result<(), Fail> {
     let alike = message(rt.alloc(), 100, 3, 3)?;
-    assert_eq!(rt; alike, None);
+    same(&rt, &alike, &None);
     let longer = message(rt.alloc(), 8, 3, 4)?;
     let send = at(0, 0);
     let recv = at(1, 0);
-    assert_eq!(rt; longer, Some(CertFault::Lengths { send, recv }));
+    same(&rt, &longer, &Some(CertFault::Lengths { send, recv }));
     Ok(())
 }
 
@@ -125,9 +130,13 @@ fn verdict(alloc: Global, what: Collective) -> Result<Option<CertFault>, PlanFau
 #[test]
 fn certifies_a_broadcast_of_two_from_its_root_alone(rt: HostRuntime) -> Result<(), Fail> {
     let from_first = verdict(rt.alloc(), Collective::Bcast { root: 0 })?;
-    assert_eq!(rt; from_first, None);
+    same(&rt, &from_first, &None);
     let from_second = verdict(rt.alloc(), Collective::Bcast { root: 1 })?;
-    assert_eq!(rt; from_second, Some(CertFault::Wrong { rank: 0, slot: 0 }));
+    same(
+        &rt,
+        &from_second,
+        &Some(CertFault::Wrong { rank: 0, slot: 0 }),
+    );
     Ok(())
 }
 
@@ -157,20 +166,34 @@ fn slot_by_slot(alloc: Global, lo: u32, hi: u32, into: u32) -> Result<Sched, Pla
     two(alloc, first, second)
 }
 
-// Four segments of a broadcast, of which the last is missing, or all but the first come one slot too late.
+// Four segments of a broadcast, and a fifth that is missing.
 #[test]
 fn certifies_segments_of_a_broadcast(rt: HostRuntime) -> Result<(), Fail> {
     let what = Collective::Bcast { root: 0 };
     let whole = slot_by_slot(rt.alloc(), 0, 3, 0)?;
-    assert_eq!(rt; certify_segments(rt.alloc(), &whole, what, 1, 4), Ok(()));
-    assert_eq!(rt; certify_segments(rt.alloc(), &whole, what, 1, 0), Ok(()));
-    let short = certify_segments(rt.alloc(), &whole, what, 1, 5);
+    same(
+        &rt,
+        &certify_segments(rt.alloc(), &whole, what, 1, 4),
+        &Ok(()),
+    );
+    same(
+        &rt,
+        &certify_segments(rt.alloc(), &whole, what, 1, 0),
+        &Ok(()),
+    );
     let fault = CertFault::Wrong { rank: 1, slot: 4 };
-    assert_eq!(rt; short, Err(SegmentFault { block: 4, fault }));
+    let short = certify_segments(rt.alloc(), &whole, what, 1, 5);
+    same(&rt, &short, &Err(SegmentFault { block: 4, fault }));
+    Ok(())
+}
+
+// Four segments, of which each comes one slot too late.
+#[test]
+fn tells_segments_that_are_one_too_late(rt: HostRuntime) -> Result<(), Fail> {
     let late = slot_by_slot(rt.alloc(), 0, 3, 1)?;
-    let found = certify_segments(rt.alloc(), &late, what, 1, 4);
+    let found = certify_segments(rt.alloc(), &late, Collective::Bcast { root: 0 }, 1, 4);
     let fault = CertFault::Wrong { rank: 1, slot: 0 };
-    assert_eq!(rt; found, Err(SegmentFault { block: 0, fault }));
+    same(&rt, &found, &Err(SegmentFault { block: 0, fault }));
     Ok(())
 }
 
@@ -191,10 +214,14 @@ fn certifies_blocks_of_slots(rt: HostRuntime) -> Result<(), Fail> {
     let first = noted_plan(rt.alloc(), &sends, &notes)?;
     let second = noted_plan(rt.alloc(), &receives, &notes)?;
     let sched = two(rt.alloc(), first, second)?;
-    assert_eq!(rt; certify_segments(rt.alloc(), &sched, what, 2, 2), Ok(()));
+    same(
+        &rt,
+        &certify_segments(rt.alloc(), &sched, what, 2, 2),
+        &Ok(()),
+    );
     let other = certify_segments(rt.alloc(), &sched, what, 3, 2);
     let fault = CertFault::Wrong { rank: 1, slot: 4 };
-    assert_eq!(rt; other, Err(SegmentFault { block: 1, fault }));
+    same(&rt, &other, &Err(SegmentFault { block: 1, fault }));
     Ok(())
 }
 
@@ -208,6 +235,6 @@ fn certifies_exchanged_notes(rt: HostRuntime) -> Result<(), Fail> {
     let first = noted_plan(rt.alloc(), &[send(8, 1, 7)], &notes)?;
     let second = noted_plan(rt.alloc(), &[receive(Some(0), Some(7))], &notes)?;
     let sched = two(rt.alloc(), first, second)?;
-    assert_eq!(rt; certify(rt.alloc(), &sched, what), Ok(()));
+    same(&rt, &certify(rt.alloc(), &sched, what), &Ok(()));
     Ok(())
 }

@@ -1,4 +1,5 @@
 // Machines, and texts that are none.
+use crate::same::same;
 use sim_classes::{Machine, MachineFault, read_machine};
 use sim_params::Costs;
 use std::test::Fail;
@@ -28,27 +29,27 @@ fn fault_of(rt: HostRuntime, rest: &str) -> Result<MachineFault, Fail> {
 #[test]
 fn classes_by_the_nodes(rt: HostRuntime) -> Result<(), Fail> {
     let one = machine_of(rt, "inside 1 default 0 ranks 2 0 0 pairs 0")?;
-    assert_eq!(rt; one.ranks(), 2);
-    assert_eq!(rt; one.class_of(0, 1), 1);
-    assert_eq!(rt; one.over(0, 1, 10), 300);
-    assert_eq!(rt; one.flight(0, 1, 10), 809);
+    same(&rt, &one.ranks(), &2);
+    same(&rt, &one.class_of(0, 1), &1);
+    same(&rt, &one.over(0, 1, 10), &300);
+    same(&rt, &one.flight(0, 1, 10), &809);
     assert!(rt; one.uniform().is_none());
     let two = machine_of(rt, "inside 1 default 0 ranks 2 0 1 pairs 0")?;
-    assert_eq!(rt; two.class_of(0, 1), 0);
-    assert_eq!(rt; two.flight(0, 1, 10), 4_054);
+    same(&rt, &two.class_of(0, 1), &0);
+    same(&rt, &two.flight(0, 1, 10), &4_054);
     let told = machine_of(rt, "inside 1 default 0 ranks 2 0 1 pairs 1 0 1 1")?;
-    assert_eq!(rt; told.class_of(0, 1), 1);
-    assert_eq!(rt; told.class_of(1, 0), 0);
+    same(&rt, &told.class_of(0, 1), &1);
+    same(&rt, &told.class_of(1, 0), &0);
     Ok(())
 }
 
 #[test]
 fn ranks_past_the_last_and_a_pair_of_one_node(rt: HostRuntime) -> Result<(), Fail> {
     let machine = machine_of(rt, "inside 1 default 0 ranks 2 7 7 pairs 1 7 7 0")?;
-    assert_eq!(rt; machine.class_of(0, 1), 1);
-    assert_eq!(rt; machine.class_of(1, 2), 0);
-    assert_eq!(rt; machine.class_of(9, 3), 0);
-    assert_eq!(rt; machine.class_of(9, 9), 1);
+    same(&rt, &machine.class_of(0, 1), &1);
+    same(&rt, &machine.class_of(1, 2), &0);
+    same(&rt, &machine.class_of(9, 3), &0);
+    same(&rt, &machine.class_of(9, 9), &1);
     Ok(())
 }
 
@@ -77,7 +78,7 @@ fn one_class(rt: HostRuntime) -> Result<(), Fail> {
     let text = "classes 1\tclass 1 2 3 4 5 6 7 8\ninside 0 default 0 ranks 1 0 pairs 0\n";
     match read_machine(rt.alloc(), text.as_bytes()) {
         Ok(machine) => match machine.uniform() {
-            Some(params) => assert_eq!(rt; params.overhead_picos, 7),
+            Some(params) => same(&rt, &params.overhead_picos, &7),
             None => assert!(rt; false),
         },
         Err(_) => assert!(rt; false),

@@ -1,4 +1,5 @@
 // The lines of knots.
+use crate::same::{same, same_list};
 use goal_graph::OpId;
 use sim_cycles::{Knot, OpList, knots, knots_text};
 use std::test::Fail;
@@ -22,7 +23,7 @@ fn alone_and_ring(rt: HostRuntime) -> Result<(), Fail> {
     let list = vec![in rt.alloc(); lone, round]?;
     let text = knots_text(rt.alloc(), &list)?;
     let lines = "alone 0 0 behind 3\nring 1 0 2 1 2 0 1 1 behind 4\n";
-    assert_eq!(rt; text.as_slice(), lines.as_bytes());
+    same_list(&rt, text.as_slice(), lines.as_bytes());
     Ok(())
 }
 
@@ -30,6 +31,6 @@ fn alone_and_ring(rt: HostRuntime) -> Result<(), Fail> {
 #[test]
 fn nothing_stuck(rt: HostRuntime) -> Result<(), Fail> {
     let found = knots(rt.alloc(), &[])?;
-    assert_eq!(rt; found.len(), 0);
+    same(&rt, &found.len(), &0);
     Ok(())
 }

@@ -1,5 +1,6 @@
 // A run with times worked by hand, and the engine beside a plain evaluator of the rules.
 use crate::plans::plan;
+use crate::same::{same, same_list};
 use goal_graph::{Class, Kind, OpId, Sched, Timed};
 use sim_events::{Engine, EngineFault, History, Record, Unkept};
 use sim_order::CompactKey;
@@ -73,14 +74,15 @@ fn at(time: u64, class: Class, rank: u32, op: u32) -> Timed {
     }
 }
 
-// A message of one byte more than may be sent at once, by its whole trace.
-#[test]
-fn a_large_message(rt: HostRuntime) -> Result<(), Fail> {
-    let sends = plan(rt.alloc(), &[send(65_536, 1)], &[])?;
-    let receives = plan(rt.alloc(), &[recv(65_536, Some(0))], &[])?;
-    let sched = Sched::build(rt.alloc(), vec![in rt.alloc(); sends, receives]?)?;
-    let mut engine = Engine::new(rt.alloc(), &sched, costs()?)?;
-    engine.run();
+// A message of one byte more than may be sent at once.
+fn large_message(alloc: Global) -> Result<Sched, Fail> {
+    let sends = plan(alloc, &[send(65_536, 1)], &[])?;
+    let receives = plan(alloc, &[recv(65_536, Some(0))], &[])?;
+    Ok(Sched::build(alloc, vec![in alloc; sends, receives]?)?)
+}
+
+// The trace of its run.
+fn traced(rt: &impl Abort, alloc: Global, engine: &Engine<'_, LogGops>) -> Result<(), Fail> {
     let trace = [
         at(0, Class::Post, 1, 0),
         at(0, Class::Begin, 0, 0),
@@ -88,16 +90,32 @@ fn a_large_message(rt: HostRuntime) -> Result<(), Fail> {
         at(6500, Class::Data, 0, 0),
         at(403_710, Class::Serve, 1, 0),
     ];
-    let actions = actions(rt.alloc(), engine.trace())?;
-    assert_eq!(rt; actions.as_slice(), trace.as_slice());
-    assert_eq!(rt; told(&rt, &engine, 0, 0), (Some(0), Some(8000), id(1, 0)));
-    assert_eq!(rt;
-        told(&rt, &engine, 1, 0),
-        (Some(0), Some(405_210), id(0, 0))
-    );
-    let mut unkept = Engine::<LogGops, Unkept>::start(rt.alloc(), &sched, costs()?)?;
-    unkept.run();
-    assert_eq!(rt; told(&rt, &unkept, 1, 0), told(&rt, &engine, 1, 0));
+    let actions = actions(alloc, engine.trace())?;
+    same_list(rt, actions.as_slice(), trace.as_slice());
+    Ok(())
+}
+
+#[test]
+fn a_large_message(rt: HostRuntime) -> Result<(), Fail> {
+    let sched = large_message(rt.alloc())?;
+    let mut engine = Engine::new(rt.alloc(), &sched, costs()?)?;
+    engine.run();
+    traced(&rt, rt.alloc(), &engine)?;
+    let sent = (Some(0), Some(8000), id(1, 0));
+    same(&rt, &told(&rt, &engine, 0, 0), &sent);
+    let received = (Some(0), Some(405_210), id(0, 0));
+    same(&rt, &told(&rt, &engine, 1, 0), &received);
+    Ok(())
+}
+
+// The same where no action is kept.
+#[test]
+fn a_large_message_unkept(rt: HostRuntime) -> Result<(), Fail> {
+    let sched = large_message(rt.alloc())?;
+    let mut engine = Engine::<LogGops, Unkept>::start(rt.alloc(), &sched, costs()?)?;
+    engine.run();
+    let received = (Some(0), Some(405_210), id(0, 0));
+    same(&rt, &told(&rt, &engine, 1, 0), &received);
     Ok(())
 }
 
@@ -119,6 +137,6 @@ fn a_budget_that_is_over(rt: HostRuntime) -> Result<(), Fail> {
     let sched = Sched::build(rt.alloc(), vec![in rt.alloc(); sends, receives]?)?;
     let fault = Engine::new(rt.alloc(), &sched, greatest_costs()?).err();
     let sum = 11_529_204_050_931_256_500;
-    assert_eq!(rt; fault, Some(EngineFault::Budget { sum }));
+    same(&rt, &fault, &Some(EngineFault::Budget { sum }));
     Ok(())
 }

@@ -26,4 +26,6 @@ mod queue;
 #[cfg(test)]
 mod rooted;
 #[cfg(test)]
+mod same;
+#[cfg(test)]
 mod stuck;

@@ -1,6 +1,7 @@
 // Events are ordered by time, at one time by class, then by rank and number.
 ghost use Rattle.std.specs.Prelude.{◌≡◌, ◌<◌};
 
+use crate::same::same;
 use goal_graph::{Class, OpId};
 use goal_limits::{MAX_OPS, MAX_RANKS};
 use sim_order::{CompactKey, EventKey, EventOrder, Steps};
@@ -93,7 +94,7 @@ fn reads_the_parts_of_a_compact_key(rt: HostRuntime) -> Result<(), Fail> {
         op: MAX_OPS - 1,
     };
     let key = CompactKey::new(u64::MAX, Class::Begin, last).at(5);
-    assert_eq!(rt; key.time(), 5);
+    same(&rt, &key.time(), &5);
     assert!(rt; key.class() == Class::Begin);
     assert!(rt; key.id() == last);
     Ok(())

@@ -2,6 +2,7 @@
 ghost use Rattle.std.specs.Prelude.{◌≡◌, ◌<◌, None, length, replicate};
 ghost use Rattle.goal_graph.specs.declared.action.Class.TheVariants.{Begin};
 
+use crate::same::same;
 use goal_graph::{Class, Kind, Op, OpId, RankPlan, Sched};
 use sim_order::{CompactKey, Counted, Steps};
 use sim_queue::{Arrivals, EventQueue, RankedQueue, SlotHeap, TopHeap, VecQueue};
@@ -48,9 +49,9 @@ fn least_alone<Q: EventQueue<Counted<u64>>, L: Ledger>(
 fn the_least_of_a_vec_queue(rt: HostRuntime) -> Result<(), Fail> {
     let mut queue = VecQueue::new(rt.alloc(), 12)?;
     let none = least_alone::<VecQueue<Counted<u64>>, Brand>(&queue, Blank::new(1));
-    assert_eq!(rt; none, None);
+    same(&rt, &none, &None);
     let least = least_of::<VecQueue<Counted<u64>>, Brand>(&mut queue, Blank::new(1));
-    assert_eq!(rt; least, Some((11, Counted(5))));
+    same(&rt, &least, &Some((11, Counted(5))));
     Ok(())
 }
 
@@ -58,9 +59,9 @@ fn the_least_of_a_vec_queue(rt: HostRuntime) -> Result<(), Fail> {
 fn the_least_of_a_heap(rt: HostRuntime) -> Result<(), Fail> {
     let mut queue = SlotHeap::new(rt.alloc(), 12)?;
     let none = least_alone::<SlotHeap<Counted<u64>>, Brand>(&queue, Blank::new(1));
-    assert_eq!(rt; none, None);
+    same(&rt, &none, &None);
     let least = least_of::<SlotHeap<Counted<u64>>, Brand>(&mut queue, Blank::new(1));
-    assert_eq!(rt; least, Some((11, Counted(5))));
+    same(&rt, &least, &Some((11, Counted(5))));
     Ok(())
 }
 
@@ -85,10 +86,10 @@ fn the_least_of_a_ranked_queue(rt: HostRuntime) -> Result<(), Fail> {
     let sched = Sched::build(alloc, plans)?;
     let mut queue = RankedQueue::new(alloc, &sched)?;
     let none = least_alone::<RankedQueue<Counted<u64>>, Brand>(&queue, Blank::new(1));
-    assert_eq!(rt; none, None);
+    same(&rt, &none, &None);
     assert_eq!(rt; sched.count(), 12);
     let least = least_of::<RankedQueue<Counted<u64>>, Brand>(&mut queue, Blank::new(1));
-    assert_eq!(rt; least, Some((11, Counted(5))));
+    same(&rt, &least, &Some((11, Counted(5))));
     Ok(())
 }
 
@@ -121,9 +122,9 @@ fn first_and_second<L: Ledger>(
 #[test]
 fn the_least_of_a_top_heap(rt: HostRuntime) -> Result<(), Fail> {
     let mut heap = TopHeap::new(rt.alloc(), 3)?;
-    assert_eq!(rt; heap.least(), None);
+    same(&rt, &heap.least(), &None);
     let (first, second) = first_and_second::<Brand>(&mut heap, Blank::new(1));
-    assert_eq!(rt; first, Some((1, begin(2))));
-    assert_eq!(rt; second, Some((2, begin(3))));
+    same(&rt, &first, &Some((1, begin(2))));
+    same(&rt, &second, &Some((2, begin(3))));
     Ok(())
 }

@@ -1,4 +1,5 @@
 // What no clause says: that the calls succeed. The counts are worked by hand from the rounds.
+use crate::same::same;
 use goal_blocks::Collective;
 use goal_rooted::{GenFault, generate_rooted};
 use std::test::Fail;
@@ -16,38 +17,41 @@ fn count(rt: &HostRuntime, what: Collective, ranks: u32) -> Result<u32, Fail> {
 
 #[test]
 fn few_ranks(rt: HostRuntime) -> Result<(), Fail> {
-    assert_eq!(rt; count(&rt, Collective::Reduce { root: 3 }, 5)?, 12);
-    assert_eq!(rt; count(&rt, Collective::Gather { root: 5 }, 7)?, 12);
-    assert_eq!(rt; count(&rt, Collective::Scatter { root: 5 }, 7)?, 12);
-    assert_eq!(rt; count(&rt, Collective::ReduceScatter, 3)?, 18);
-    assert_eq!(rt; count(&rt, Collective::Scan, 3)?, 6);
+    same(&rt, &count(&rt, Collective::Reduce { root: 3 }, 5)?, &12);
+    same(&rt, &count(&rt, Collective::Gather { root: 5 }, 7)?, &12);
+    same(&rt, &count(&rt, Collective::Scatter { root: 5 }, 7)?, &12);
+    same(&rt, &count(&rt, Collective::ReduceScatter, 3)?, &18);
+    same(&rt, &count(&rt, Collective::Scan, 3)?, &6);
     Ok(())
 }
 
 #[test]
 fn most_ranks(rt: HostRuntime) -> Result<(), Fail> {
-    assert_eq!(rt;
-        count(&rt, Collective::Reduce { root: 65_535 }, 65_536)?,
-        196_605
+    same(
+        &rt,
+        &count(&rt, Collective::Reduce { root: 65_535 }, 65_536)?,
+        &196_605,
     );
-    assert_eq!(rt;
-        count(&rt, Collective::Gather { root: 1 }, 65_536)?,
-        131_070
+    same(
+        &rt,
+        &count(&rt, Collective::Gather { root: 1 }, 65_536)?,
+        &131_070,
     );
-    assert_eq!(rt;
-        count(&rt, Collective::Scatter { root: 1 }, 65_536)?,
-        131_070
+    same(
+        &rt,
+        &count(&rt, Collective::Scatter { root: 1 }, 65_536)?,
+        &131_070,
     );
-    assert_eq!(rt; count(&rt, Collective::ReduceScatter, 128)?, 48_768);
-    assert_eq!(rt; count(&rt, Collective::Scan, 2_048)?, 6_141);
+    same(&rt, &count(&rt, Collective::ReduceScatter, 128)?, &48_768);
+    same(&rt, &count(&rt, Collective::Scan, 2_048)?, &6_141);
     Ok(())
 }
 
 #[test]
 fn no_schedule(rt: HostRuntime) -> Result<(), Fail> {
     let fault = generate_rooted(rt.alloc(), Collective::Scan, 2_049, 8).err();
-    assert_eq!(rt; fault, Some(GenFault::Ranks { limit: 2_048 }));
+    same(&rt, &fault, &Some(GenFault::Ranks { limit: 2_048 }));
     let fault = generate_rooted(rt.alloc(), Collective::Gather { root: 4 }, 4, 8).err();
-    assert_eq!(rt; fault, Some(GenFault::Root));
+    same(&rt, &fault, &Some(GenFault::Root));
     Ok(())
 }

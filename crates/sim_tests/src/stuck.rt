@@ -1,10 +1,12 @@
 // Runs that get stuck, with their lines.
 use crate::plans::{dep, plan};
-use goal_graph::{Kind, OpId, Sched, Stuck, When, Why};
+use crate::same::same_list;
+use goal_graph::{Dep, Kind, Sched, Stuck, When};
 use sim_events::Engine;
 use sim_params::{LogGops, Params};
 use sim_stuck::{explain, stuck_text};
 use std::alloc::Global;
+use std::process::Abort;
 use std::test::Fail;
 
 // The stuck operations of a whole run.
@@ -15,6 +17,21 @@ fn stuck(alloc: Global, sched: &Sched) -> Result<Vec<Stuck>, Fail> {
     let mut engine = Engine::new(alloc, sched, costs)?;
     engine.run();
     Ok(explain(alloc, sched, &engine)?)
+}
+
+// The schedule of two ranks with these dependencies each.
+fn two_ranks(alloc: Global, first: &[Kind], second: &[Kind], deps: &[Dep]) -> Result<Sched, Fail> {
+    let first = plan(alloc, first, deps)?;
+    let second = plan(alloc, second, deps)?;
+    Ok(Sched::build(alloc, vec![in alloc; first, second]?)?)
+}
+
+// That a whole run leaves stuck what these lines say.
+fn leaves(rt: &impl Abort, alloc: Global, sched: &Sched, lines: &str) -> Result<(), Fail> {
+    let list = stuck(alloc, sched)?;
+    let text = stuck_text(alloc, &list)?;
+    same_list(rt, text.as_slice(), lines.as_bytes());
+    Ok(())
 }
 
 // A receive whose message another one took.
@@ -35,16 +52,8 @@ fn a_message_that_is_taken(rt: HostRuntime) -> Result<(), Fail> {
         from: Some(0),
         tag: Some(7),
     };
-    let sends = plan(rt.alloc(), &[send], &[])?;
-    let receives = plan(rt.alloc(), &[any, exact], &[])?;
-    let sched = Sched::build(rt.alloc(), vec![in rt.alloc(); sends, receives]?)?;
-    let list = stuck(rt.alloc(), &sched)?;
-    let op = OpId { rank: 1, op: 1 };
-    let why = Why::Alone;
-    assert_eq!(rt; list.as_slice(), [Stuck { op, why }].as_slice());
-    let text = stuck_text(rt.alloc(), &list)?;
-    assert_eq!(rt; text.as_slice(), "stuck 1 1 alone\n".as_bytes());
-    Ok(())
+    let sched = two_ranks(rt.alloc(), &[send], &[any, exact], &[])?;
+    leaves(&rt, rt.alloc(), &sched, "stuck 1 1 alone\n")
 }
 
 // Two large sends that each wait for a receive after the other's send.
@@ -61,13 +70,13 @@ fn large_sends_face_to_face(rt: HostRuntime) -> Result<(), Fail> {
         tag: Some(0),
     };
     let need = dep(1, 0, When::AfterEnd);
-    let first = plan(rt.alloc(), &[send(1), recv(1)], &[need])?;
-    let second = plan(rt.alloc(), &[send(0), recv(0)], &[need])?;
-    let sched = Sched::build(rt.alloc(), vec![in rt.alloc(); first, second]?)?;
-    let list = stuck(rt.alloc(), &sched)?;
-    let text = stuck_text(rt.alloc(), &list)?;
+    let sched = two_ranks(
+        rt.alloc(),
+        &[send(1), recv(1)],
+        &[send(0), recv(0)],
+        &[need],
+    )?;
     let lines =
         "stuck 0 0 for partner 1 1\nstuck 0 1 for op 0 0\nstuck 1 0 for partner 0 1\nstuck 1 1 for op 1 0\n";
-    assert_eq!(rt; text.as_slice(), lines.as_bytes());
-    Ok(())
+    leaves(&rt, rt.alloc(), &sched, lines)
 }

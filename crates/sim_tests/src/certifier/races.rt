@@ -1,5 +1,6 @@
 // Races of schedules of one rank.
 use crate::plans::{CALC, dep, one_rank};
+use crate::same::same;
 use goal_blocks::{CertFault, Collective};
 use goal_certify::certify;
 use goal_graph::{Dep, Note, PlanFault, When};
@@ -28,16 +29,20 @@ fn race(first: u32, second: u32, slot: u32) -> Option<CertFault> {
 #[test]
 fn reads_do_not_race(rt: HostRuntime) -> Result<(), Fail> {
     let notes = [adds(0, 7, 1), adds(1, 7, 2), adds(2, 7, 3)];
-    assert_eq!(rt; fault_of(rt.alloc(), &[], &notes)?, None);
+    same(&rt, &fault_of(rt.alloc(), &[], &notes)?, &None);
     Ok(())
 }
 
 #[test]
 fn the_least_race_is_told(rt: HostRuntime) -> Result<(), Fail> {
     let notes = [adds(2, 9, 5), adds(1, 5, 3), adds(0, 9, 3), adds(1, 9, 9)];
-    assert_eq!(rt; fault_of(rt.alloc(), &[], &notes)?, race(0, 1, 3));
+    same(&rt, &fault_of(rt.alloc(), &[], &notes)?, &race(0, 1, 3));
     let ordered = [dep(0, 1, When::AfterEnd)];
-    assert_eq!(rt; fault_of(rt.alloc(), &ordered, &notes)?, race(1, 2, 5));
+    same(
+        &rt,
+        &fault_of(rt.alloc(), &ordered, &notes)?,
+        &race(1, 2, 5),
+    );
     Ok(())
 }
 
@@ -46,8 +51,12 @@ fn the_least_race_is_told(rt: HostRuntime) -> Result<(), Fail> {
 fn an_end_that_is_required_on_the_way(rt: HostRuntime) -> Result<(), Fail> {
     let notes = [adds(0, 1, 2), adds(2, 2, 3)];
     let ended = [dep(2, 1, When::AfterStart), dep(1, 0, When::AfterEnd)];
-    assert_eq!(rt; fault_of(rt.alloc(), &ended, &notes)?, None);
+    same(&rt, &fault_of(rt.alloc(), &ended, &notes)?, &None);
     let started = [dep(2, 1, When::AfterEnd), dep(1, 0, When::AfterStart)];
-    assert_eq!(rt; fault_of(rt.alloc(), &started, &notes)?, race(0, 2, 2));
+    same(
+        &rt,
+        &fault_of(rt.alloc(), &started, &notes)?,
+        &race(0, 2, 2),
+    );
     Ok(())
 }

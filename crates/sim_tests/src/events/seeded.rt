@@ -3,7 +3,8 @@ ghost use Rattle.std.specs.Prelude.{◌<◌};
 
 use super::evaluator::{Past, run};
 use super::{actions, told};
-use goal_graph::{Dep, Kind, Op, RankPlan, Sched, When};
+use crate::same::{same, same_list};
+use goal_graph::{Dep, Kind, Op, RankPlan, Sched, Timed, When};
 use sim_events::Engine;
 use sim_params::{LogGops, Params};
 use std::alloc::{AllocError, Global};
@@ -147,6 +148,25 @@ impl Seeded {
     }
 }
 
+// That an engine has done what the evaluator did, in the same order; whether an operation is stuck.
+fn compared(
+    rt: &impl Abort,
+    alloc: Global,
+    engine: &Engine<'_, LogGops>,
+    past: &Past<'_>,
+    history: &[Timed],
+) -> Result<bool, Fail> {
+    let actions = actions(alloc, engine.trace())?;
+    same_list(rt, actions.as_slice(), history);
+    let mut stuck = false;
+    for id in engine.sched().operations() {
+        let expected = (past.start(*id), past.end(*id), past.partner(*id));
+        same(rt, &told(rt, engine, id.rank, id.op), &expected);
+        stuck |= past.end(*id).is_none();
+    }
+    Ok(stuck)
+}
+
 // Runs one schedule both ways, and answers whether an operation is stuck.
 fn is_stuck(rt: &impl Abort, alloc: Global, params: Params, seed: u64) -> Result<bool, Fail> {
     let plans = Seeded { state: seed }.plans(alloc, params.sync)?;
@@ -155,15 +175,7 @@ fn is_stuck(rt: &impl Abort, alloc: Global, params: Params, seed: u64) -> Result
     let past = Past::of(alloc, sched.plans(), params, &history)?;
     let mut engine = Engine::new(alloc, &sched, LogGops { params })?;
     engine.run();
-    let actions = actions(alloc, engine.trace())?;
-    assert_eq!(rt; actions.as_slice(), history.as_slice(), "seed {seed}");
-    let mut stuck = false;
-    for id in sched.operations() {
-        let expected = (past.start(*id), past.end(*id), past.partner(*id));
-        assert_eq!(rt; told(rt, &engine, id.rank, id.op), expected, "seed {seed}");
-        stuck |= past.end(*id).is_none();
-    }
-    Ok(stuck)
+    compared(rt, alloc, &engine, &past, &history)
 }
 
 #[test]
