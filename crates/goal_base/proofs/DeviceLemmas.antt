@@ -3,22 +3,9 @@ use Rattle.std.proofs.Common.{◌≡◌, ◌<◌, ℕ, ◌+◌, true, List, ◌+
 use Rattle.std.specs.FinMap.{get, insert}
 use Rattle.std.proofs.Math.Seq.{take-add}
 use Rattle.goal_limits.specs.declared.limits.TheConstants.{MAX_INPUT}
-use Rattle.goal_base.specs.Device.{HostState, SinkState, Files, file_of, Held, Grows, SameRest, Holds, ReadFaulted, IsTooLong}
-use Rattle.goal_base.specs.DeviceCalls.{Takes, Writes, appended_to}
+use Rattle.goal_base.specs.Device.{HostState, SinkState, Files, file_of, Held, Grows, Holds, ReadFaulted, IsTooLong}
+use Rattle.goal_base.specs.DeviceCalls.{Writes, appended_to}
 use Rattle.goal_base.proofs.FilesLemmas.{get_inserted, appended_to_inserted}
-
--- taken from the rest, and then more of it
-pub takes_more : (a b c : HostState) (xs ys : List ℕ) → Takes a b xs → b.tells ≡ a.tells
-    → (b.tells ≡ true → b.rest ≡ ys ++ c.rest) → Takes a c (xs ++ ys)
-takes_more a b c xs ys first same more = record {
-  told = λ t. first.told t ∙ ap (λ (l : List ℕ). xs ++ l) (more (same ∙ t)) ∙ sym (append_assoc xs ys c.rest);
-}
-
--- nothing more was taken
-pub takes_same : (a b c : HostState) (xs : List ℕ) → Takes a b xs → b.tells ≡ a.tells → SameRest b c → Takes a c xs
-takes_same a b c xs first same more = record {
-  told = λ t. first.told t ∙ ap (λ (l : List ℕ). xs ++ l) (sym (more.told (same ∙ t)));
-}
 
 -- the first bytes of a piece, and then more of what was left of it
 pub grows_more : (a b c : SinkState) (piece left : List ℕ) (n k : ℕ) → Grows a b (take n piece) → b.tells ≡ a.tells
