@@ -9,6 +9,7 @@ pub mod Stepping
 pub mod Top
 pub mod Changing
 pub mod Bounds
+pub mod Wide
 pub mod Items
 pub mod ItemSteps
 pub mod ItemChanges

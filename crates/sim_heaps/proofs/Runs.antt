@@ -213,6 +213,12 @@ module _ {K : Type 0} (before : K → K → Bool) (laws : IsOrder before) (run :
             (record { slot = one.slot; key = one.key; has = one.has; first = through before laws x.key y.key one.key (behind 0 y stands) one.first })
 
   -- an item stands before the first of the run
+  pub led_in_order : (x : Item K) → IsAhead before run x → AreInOrder before (x ∷ run)
+  led_in_order x ahead zero zero y z h e f = absurd (omega (arith, h))
+  led_in_order x ahead zero (suc other) y z h e f = subst (λ (w : Item K). before z.key w.key ≡ false) (same_Some x y e) (ahead other z f)
+  led_in_order x ahead (suc one) zero y z h e f = absurd (omega (arith, h))
+  led_in_order x ahead (suc one) (suc other) y z h e f = is.in_order one other y z (omega (arith, h)) e f
+
   module _ (x : Item K) (slot_in : x.slot < length heap) (free : key_at (with_run run heap) x.slot ≡ None) where
     abbrev led : List (Item K)
     led = x ∷ run
@@ -242,17 +248,11 @@ module _ {K : Type 0} (before : K → K → Bool) (laws : IsOrder before) (run :
 
     module _ (ahead : IsAhead before run x) where
       pub led_run : IsRun before led heap
-      led_run = record { few = is.few; apart = led_apart; beside = beside; in_order = in_order }
+      led_run = record { few = is.few; apart = led_apart; beside = beside; in_order = led_in_order x ahead }
         where
           beside : (place : ℕ) (y : Item K) → slice_get led place ≡ Some y → key_at heap y.slot ≡ None
           beside zero y e = subst (λ (z : Item K). key_at heap z.slot ≡ None) (same_Some x y e) (free_in_heap x.slot free)
           beside (suc place) y e = is.beside place y e
-
-          in_order : (one other : ℕ) (y z : Item K) → one < other → slice_get led one ≡ Some y → slice_get led other ≡ Some z → before z.key y.key ≡ false
-          in_order zero zero y z h e f = absurd (omega (arith, h))
-          in_order zero (suc other) y z h e f = subst (λ (w : Item K). before z.key w.key ≡ false) (same_Some x y e) (ahead other z f)
-          in_order (suc one) zero y z h e f = absurd (omega (arith, h))
-          in_order (suc one) (suc other) y z h e f = is.in_order one other y z (omega (arith, h)) e f
 
       pub led_first : IsRunFirst before run heap → IsRunFirst before led heap
       led_first r = record {
