@@ -139,3 +139,52 @@ returns-clause-put g c =
     let long : length (new ++ drop (count + 1) sorted) ≡ size = omega (arith, length-append new (drop (count + 1) sorted), length-drop (count + 1) sorted, each, count_in) in
     ap (λ (xs : List Timed). keys_of xs c.settle_among-2.new.places) front ∙ c.settle_among-2.ensures.keys ∙ ap (λ (xs : List Timed). keys_of xs c.swap.new.places) at
     ∙ keys_entered keys slots places size heap slot within c.args.key count same absent c.swap.new.slots c.swap.new.places c.swap.ensures.swapped c.swap.ensures.places
+
+pub returns-then-place-count-clause-each : goal.returns-then-place-count-clause-each
+returns-then-place-count-clause-each g c =
+    let sorted = c.args.sorted.now in
+    let count = c.args.count in
+    let keys = take count sorted in
+    let many : length keys ≡ count = length-take-le count sorted c.requires.room in
+    omega (arith, length-append c.settle_among.new.sorted (drop count sorted), length-drop count sorted, c.settle_among.ensures.each, length-set keys (slice_index c.args.places.now c.args.slot) c.args.key, many, c.requires.room)
+
+pub returns-then-place-count-clause-room : goal.returns-then-place-count-clause-room
+returns-then-place-count-clause-room g c =
+    let sorted = c.args.sorted.now in
+    let count = c.args.count in
+    let keys = take count sorted in
+    let many : length keys ≡ count = length-take-le count sorted c.requires.room in
+    omega (arith, length-append c.settle_among.new.sorted (drop count sorted), c.settle_among.ensures.each, length-set keys (slice_index c.args.places.now c.args.slot) c.args.key, many)
+
+pub returns-then-place-count-clause-counted : goal.returns-then-place-count-clause-counted
+returns-then-place-count-clause-counted g c =
+    λ k few.
+    let keys = take c.args.count c.args.sorted.now in
+    let heap = c.requires.heap.heap in
+    c.settle_among.ensures.counted k (omega (arith, few, length-set keys (slice_index c.args.places.now c.args.slot) c.args.key, heap.room, heap.inverse.same_length))
+
+pub returns-clause-each : goal.returns-clause-each
+returns-clause-each g c =
+    let sorted = c.args.sorted.now in
+    let count = c.args.count in
+    let heap = c.requires.heap in
+    let count_in : count < length sorted = omega (arith, c.if-place-count.false, room_in (take count sorted) c.args.slots.now c.args.places.now (length sorted) heap c.args.slot c.requires.slot_in) in
+    omega (arith, length-append c.settle_among-2.new.sorted (drop (count + 1) sorted), length-drop (count + 1) sorted, c.settle_among-2.ensures.each, length-set (take (count + 1) sorted) count c.args.key, length-take-le (count + 1) sorted (omega (arith, count_in)), count_in)
+
+pub returns-clause-room : goal.returns-clause-room
+returns-clause-room g c =
+    let sorted = c.args.sorted.now in
+    let count = c.args.count in
+    let heap = c.requires.heap in
+    let count_in : count < length sorted = omega (arith, c.if-place-count.false, room_in (take count sorted) c.args.slots.now c.args.places.now (length sorted) heap c.args.slot c.requires.slot_in) in
+    omega (arith, length-append c.settle_among-2.new.sorted (drop (count + 1) sorted), c.settle_among-2.ensures.each, length-set (take (count + 1) sorted) count c.args.key, length-take-le (count + 1) sorted (omega (arith, count_in)))
+
+pub returns-clause-counted : goal.returns-clause-counted
+returns-clause-counted g c =
+    λ k few.
+    let sorted = c.args.sorted.now in
+    let count = c.args.count in
+    let inverse = c.requires.heap.heap.inverse in
+    let place_in = inverse.place_in c.args.slot (omega (arith, inverse.same_length, c.requires.slot_in)) in
+    let count_in : count < length sorted = omega (arith, c.if-place-count.false, room_in (take count sorted) c.args.slots.now c.args.places.now (length sorted) c.requires.heap c.args.slot c.requires.slot_in) in
+    c.settle_among-2.ensures.counted k (omega (arith, few, length-set (take (count + 1) sorted) count c.args.key, length-take-le (count + 1) sorted (omega (arith, count_in)), c.if-place-count.false, place_in, inverse.same_length))

@@ -10,6 +10,33 @@ use Rattle.sim_groups.proofs.InParts.{put_mid, part_read, length-written}
 use Rattle.sim_groups.proofs.SlotTable.{as_heaps, part_in, part_fits, places_long, slots_long, sorted_long, length_there, heap_there, slots_after, maps_after}
 use Rattle.sim_groups.proofs.slot_heaps.SlotHeaps.put.Goals as goal
 
+pub slice_bounds-write-end : goal.slice_bounds-write-end
+slice_bounds-write-end g c =
+    let h = c.self.inside in
+    let heaps = c.self.invariant in
+    let part = c.index-part.result.now in
+    let within : c.args.home.group < length h.parts.items = omega (arith, c.requires.group_in, ap length c.self.view_is, length-map h.parts.items (map_of_slots h.sorted.items h.places.items)) in
+    let inside = heaps.packed.within c.args.home.group part (part_read h.parts.items c.args.home.group part within c.index-part.ensures) in
+    omega (arith, inside, ap length c.deref_mut.ensures.value)
+
+pub slice_bounds-write-end-2 : goal.slice_bounds-write-end-2
+slice_bounds-write-end-2 g c =
+    let h = c.self.inside in
+    let heaps = c.self.invariant in
+    let part = c.index-part.result.now in
+    let within : c.args.home.group < length h.parts.items = omega (arith, c.requires.group_in, ap length c.self.view_is, length-map h.parts.items (map_of_slots h.sorted.items h.places.items)) in
+    let inside = heaps.packed.within c.args.home.group part (part_read h.parts.items c.args.home.group part within c.index-part.ensures) in
+    omega (arith, inside, ap length c.deref_mut-2.ensures.value, heaps.slots_each)
+
+pub slice_bounds-write-end-3 : goal.slice_bounds-write-end-3
+slice_bounds-write-end-3 g c =
+    let h = c.self.inside in
+    let heaps = c.self.invariant in
+    let part = c.index-part.result.now in
+    let within : c.args.home.group < length h.parts.items = omega (arith, c.requires.group_in, ap length c.self.view_is, length-map h.parts.items (map_of_slots h.sorted.items h.places.items)) in
+    let inside = heaps.packed.within c.args.home.group part (part_read h.parts.items c.args.home.group part within c.index-part.ensures) in
+    omega (arith, inside, ap length c.deref_mut-3.ensures.value, heaps.places_each)
+
 pub write-count-requires-clause-heap : goal.write-count-requires-clause-heap
 write-count-requires-clause-heap g c =
     let parts = c.self.inside.parts.items in
@@ -34,6 +61,21 @@ write-count-requires-clause-heap g c =
     (subst (λ (xs : List ℕ). IsSlotHeap event_before (take part.count (take (part.start + part.room - part.start) (drop part.start sorted))) (take (part.start + part.room - part.start) (drop part.start xs)) (take (part.start + part.room - part.start) (drop part.start c.deref_mut-3.result.now)) (length (take (part.start + part.room - part.start) (drop part.start sorted)))) (sym same_slots)
     (subst (λ (xs : List ℕ). IsSlotHeap event_before (take part.count (take (part.start + part.room - part.start) (drop part.start sorted))) (take (part.start + part.room - part.start) (drop part.start slots)) (take (part.start + part.room - part.start) (drop part.start xs)) (length (take (part.start + part.room - part.start) (drop part.start sorted)))) (sym same_places)
     (heap_there parts sorted slots places heaps home.group part at)))
+
+pub write-count-requires-clause-slot_in : goal.write-count-requires-clause-slot_in
+write-count-requires-clause-slot_in g c =
+    let parts = c.self.inside.parts.items in
+    let sorted = c.self.inside.sorted.items in
+    let slots = c.self.inside.slots.items in
+    let places = c.self.inside.places.items in
+    let heaps = c.self.invariant in
+    let home = c.args.home in
+    let part = c.index-part.result.now in
+    let within : home.group < length parts = omega (arith, c.requires.group_in, ap length c.self.view_is, length-map parts (map_of_slots sorted places)) in
+    let at = part_read parts home.group part within c.index-part.ensures in
+    let same_places : c.deref_mut-3.result.now ≡ places = c.deref_mut-3.ensures.value in
+    let places_are : length (take (part.start + part.room - part.start) (drop part.start places)) ≡ part.room = places_long parts sorted slots places heaps home.group part at in
+    omega (arith, c.requires.place_in, ap (λ hs. length (heap_at hs home.group)) c.self.view_is, length_there parts sorted slots places heaps home.group part at, ap (λ xs. length (take (part.start + part.room - part.start) (drop part.start xs))) same_places, places_are)
 
 pub write-count-requires-clause-room : goal.write-count-requires-clause-room
 write-count-requires-clause-room g c =
