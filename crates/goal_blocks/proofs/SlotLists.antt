@@ -1,14 +1,15 @@
 -- Lists of slots, note by note.
-use Rattle.std.proofs.Common.{ℕ, zero, suc, ◌+◌, ◌-◌, ◌<◌, ◌≤◌, ◌≡◌, true, List, [], ◌∷◌, ◌++◌, length, take, get_or, map, flat_map, Option, Some, None, slice_get, refl, sym, ap, ◌∙◌, subst, arith, append_assoc, append-nil, is_some, add-zero, unwrap_or}
+use Rattle.std.proofs.Common.{ℕ, zero, suc, ◌+◌, ◌-◌, ◌<◌, ◌≤◌, ◌≡◌, ◌≢◌, ◌⊎◌, inl, inr, true, eq-eqb, List, [], ◌∷◌, ◌++◌, length, take, get_or, map, flat_map, Option, Some, None, slice_get, refl, sym, ap, ◌∙◌, subst, arith, append_assoc, append-nil, is_some, add-zero, unwrap_or}
 use Rattle.std.specs.Option.{option_map, option_and_then}
-use Rattle.std.proofs.lemmas.Bool.{true≢false}
+use Rattle.std.proofs.lemmas.Bool.{cases_lt, true≢false, ne_eqb}
 use Rattle.std.proofs.lemmas.Option.{slice_get_within, slice_get-get_or}
-use Rattle.std.proofs.lemmas.List.{take_more}
+use Rattle.std.proofs.lemmas.List.{take_more, get_or_append_left, get_or-append-add}
 use Rattle.std.proofs.lemmas.List.Concat.{flat_map-cons}
 use Rattle.std.proofs.lemmas.Grind.{flat_map-append}
 use Rattle.std.proofs.lemmas.List.{map-append}
 use Rattle.goal_graph.specs.declared.action.OpId.{OpId}
 use Rattle.goal_graph.specs.declared.plan.Note.{Note}
+use Rattle.goal_graph.specs.declared.plan.Note.TheVariants.{Moves}
 use Rattle.goal_graph.specs.Schedule.{Plan, op_at}
 use Rattle.goal_graph.specs.Fault.{IsOp}
 use Rattle.goal_blocks.specs.Slots.{slots_from, notes_at, moved_by, added_by, slots, adds}
@@ -55,6 +56,32 @@ module _ {A : Type 0} (f : ℕ → A) (start : List A) (lo : ℕ) where
 pub note_more : {A : Type 0} (f : Note → List A) (notes : List Note) (i : ℕ) (d : Note) → i < length notes → flat_map f (take (i + 1) notes) ≡ flat_map f (take i notes) ++ f (get_or notes i d)
 note_more f notes i d l =
     ap (flat_map f) (take_more notes i d l) ∙ flat_map-append f (take i notes) (get_or notes i d ∷ []) ∙ ap (λ xs. flat_map f (take i notes) ++ xs) (flat_map-cons f (get_or notes i d) [] ∙ append-nil (f (get_or notes i d)))
+
+-- what holds of each element holds of each where one more stands behind them
+pub pushed_each : {X : Type 0} (P : X → Type 0) (xs : List X) (x : X) (n : ℕ) (d : X) → length xs ≡ n → ((k : ℕ) → k < n → P (get_or xs k d)) → P x → (k : ℕ) → k < n + 1 → P (get_or (xs ++ x ∷ []) k d)
+pushed_each P xs x n d long each last k h = go (cases_lt k n)
+  where
+    go : (k < n) ⊎ (n ≤ k) → P (get_or (xs ++ x ∷ []) k d)
+    go (inl l) = subst P (sym (get_or_append_left xs (x ∷ []) d k (omega (arith, l, long)))) (each k l)
+    go (inr l) =
+        let at : k ≡ length xs + 0 = omega (arith, h, l, long) in
+        subst P (sym (ap (λ j. get_or (xs ++ x ∷ []) j d) at ∙ get_or-append-add xs (x ∷ []) 0 d)) last
+
+-- where it is known which note it is
+module _ {A : Type 0} (f : Note → List A) (notes : List Note) (i : ℕ) (d n : Note) (inside : i < length notes) (is : get_or notes i d ≡ n) where
+  pub note_tells : flat_map f (take (i + 1) notes) ≡ flat_map f (take i notes) ++ f n
+  note_tells = note_more f notes i d inside ∙ ap (λ m. flat_map f (take i notes) ++ f m) is
+
+  pub note_tells_none : f n ≡ [] → flat_map f (take (i + 1) notes) ≡ flat_map f (take i notes)
+  note_tells_none none =
+      note_tells ∙ ap (λ xs. flat_map f (take i notes) ++ xs) none ∙ append-nil (flat_map f (take i notes))
+
+-- the operation of the note, or another
+pub own_moves : (of op lo hi : ℕ) → of ≡ op → moved_by op (Moves of lo hi) ≡ slots_from lo (hi + 1 - lo)
+own_moves of op lo hi same = rw (eq-eqb of op same) refl
+
+pub other_moves : (of op lo hi : ℕ) → of ≢ op → moved_by op (Moves of lo hi) ≡ []
+other_moves of op lo hi other = rw (ne_eqb of op other) refl
 
 module _ (plans : List Plan) (x : OpId) (is : IsOp plans x) where
   pub rank_below : x.rank < length plans
