@@ -1,18 +1,27 @@
 -- What came of an input.
-use Rattle.std.proofs.Common.{◌≡◌, ◌<◌, ℕ, Bool, true, List, [], ◌∷◌, ◌++◌, length, sym, ap, ◌∙◌, append_assoc, arith}
-use Rattle.goal_base.specs.Device.{HostState}
-use Rattle.goal_base.specs.DeviceCalls.{Takes}
+use Rattle.std.proofs.Common.{◌≡◌, ◌<◌, ◌≤◌, ℕ, Bool, List, [], ◌∷◌, length, IfErr, Result, arith}
+use Rattle.std.specs.declared.result.Result.TheVariants.{Ok, Err}
+use Rattle.goal_limits.specs.declared.limits.TheConstants.{MAX_INPUT}
+use Rattle.goal_base.specs.Device.{HostState, SameReadCounts}
 use Rattle.goal_input.specs.Input.{is_compiled}
-use Rattle.goal_input.specs.Intake.{Begins}
+use Rattle.goal_input.specs.declared.unread.Unread.{Unread}
+use Rattle.goal_input.specs.declared.unread.Unread.TheVariants as unread
+use Rattle.goal_input.specs.declared.intake.Intake.{Intake}
+use Rattle.goal_input.specs.Unread.{IsFaultIn, CountsReading}
+use Rattle.goal_input.specs.Intake.{Begins, Stands}
 
 -- an input that has a byte has a first one
 pub begins : (b : Bool) (input : List ℕ) → 0 < length input → is_compiled input ≡ b → Begins b input
 begins b [] some is = absurd (omega arith)
 begins b (x ∷ xs) some is = is
 
--- taken from the rest, and then more of it
-pub takes_more : (a b c : HostState) (xs ys : List ℕ) → Takes a b xs → b.tells ≡ a.tells
-    → (b.tells ≡ true → b.rest ≡ ys ++ c.rest) → Takes a c (xs ++ ys)
-takes_more a b c xs ys first same more = record {
-  told = λ t. first.told t ∙ ap (λ (l : List ℕ). xs ++ l) (more (same ∙ t)) ∙ sym (append_assoc xs ys c.rest);
-}
+-- an input that came to its end has no fault of the host
+pub counts_at_end : {A : Type 0} (result : Result A Unread) (a b : HostState) (faulted : Type 0) (kept : Intake) (input : List ℕ)
+    → SameReadCounts a b → IfErr result (λ why. (input : List ℕ) → length input ≤ MAX_INPUT → Stands kept input → IsFaultIn input why)
+    → length input ≤ MAX_INPUT → Stands kept input → CountsReading result a b faulted
+counts_at_end (Ok sched) a b faulted kept input same why short stands = same
+counts_at_end (Err unread.Fault) a b faulted kept input same why short stands = absurd (why input short stands)
+counts_at_end (Err unread.TooLong) a b faulted kept input same why short stands = same
+counts_at_end (Err (unread.Text fault)) a b faulted kept input same why short stands = same
+counts_at_end (Err (unread.File fault)) a b faulted kept input same why short stands = same
+counts_at_end (Err unread.NoMemory) a b faulted kept input same why short stands = same
