@@ -9,3 +9,6 @@ knots-requires-clause-short g c =
 
 pub knots-requires-clause-listed : goal.knots-requires-clause-listed
 knots-requires-clause-listed g c = rw c.deref.ensures.value (names_listed c.in_ok-stuck.stuck.items c.in_ok-stuck.ensures.named)
+
+pub knots-requires-clause-order : goal.knots-requires-clause-order
+knots-requires-clause-order g c = rw c.deref.ensures.value c.in_ok-stuck.ensures.order
