@@ -59,7 +59,7 @@ module _ (host : HostState) (P : List ℕ → Type 0) where
   if_all (Some name) p = λ tells input file. p input
 
   module _ (Q : List ℕ → Type 0) (turn : (input : List ℕ) → P input → Q input) where
-    for_turned : (o : Option (List ℕ)) → ForNamed host o P → ForNamed host o Q
+    pub for_turned : (o : Option (List ℕ)) → ForNamed host o P → ForNamed host o Q
     for_turned None p = turn [] p
     for_turned (Some name) p = λ told. let k = p told in (k.0, k.1, turn k.0 k.2)
 
@@ -127,7 +127,7 @@ read_out_from a b d (Some name) later kept out = λ tells. by tells (out (later.
     })
 
 -- what was got of a host whose files are those of another
-got_for : (a b : HostState) (text : List ℕ) (Q : List ℕ → Type 0) (o : Option (List ℕ)) → Later a b → KeepsFiles a b → IsGot b o text → Q text
+pub got_for : (a b : HostState) (text : List ℕ) (Q : List ℕ → Type 0) (o : Option (List ℕ)) → Later a b → KeepsFiles a b → IsGot b o text → Q text
     → ForNamed a o Q
 got_for a b text Q None later kept got q = subst Q got q
 got_for a b text Q (Some name) later kept got q =
@@ -225,7 +225,7 @@ module _ (a b d : HostState) (kept : KeepsFiles a b) (later : Later a b) where
   holds_part_from name bytes (inl same) = inl (same_from same)
   holds_part_from name bytes (inr part) = inr (part.0, part.1, holds_from name _ part.2)
 
-  keeps_from : KeepsFiles b d → KeepsFiles a d
+  pub keeps_from : KeepsFiles b d → KeepsFiles a d
   keeps_from same = record {
     files = same_from same.files;
     writing = same.writing ∙ kept.writing;

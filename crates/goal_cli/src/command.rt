@@ -1,17 +1,18 @@
 // The top call: from the words of a command line to what is written, and a status.
-ghost use Rattle.std.specs.Prelude.{ℕ, ◌≡◌, ◌⊎◌, List, Some, OnOk, OnErr, IsErrOf};
-ghost use Rattle.goal_base.specs.Device.{Rose, Held, SinkLater, KeepsReading, Grows};
+ghost use Rattle.std.specs.Prelude.{ℕ, ◌≡◌, ◌≤◌, ◌⊎◌, List, length, Some, OnOk, OnErr, IsErrOf};
+ghost use Rattle.goal_base.specs.Device.{HostState, Rose, Held, Later, SinkLater, KeepsFiles, KeepsReading, SameReadCounts, Grows};
+ghost use Rattle.goal_limits.specs.declared.limits.TheConstants.{MAX_INPUT};
 ghost use Rattle.goal_graph.specs.Schedule.{Plan};
 ghost use Rattle.sim_params.specs.Costs.{Numbers, log_gops};
 ghost use Rattle.goal_input.specs.Input.{IfFile};
 ghost use Rattle.sim_classes.specs.Machine.{Known, costs_of};
 ghost use Rattle.goal_words.specs.Words.{Sim, Nodes, command_in};
 ghost use Rattle.goal_words.specs.Sentences.{said, IsSized, IsPriced};
-ghost use Rattle.goal_cli.specs.Answer.{IfInput, GrowsByPart, ReadsHeld, InputHeld, goes_to, target_of, Gets, GetsPart, Elsewhere, WritesRose, WritesHeld, WritesSame, AnswersWhole, PrintsRun, IsCauseOf, IsCause, AnswersWith, Says, IsCutShort, Answered, IsTaken};
+ghost use Rattle.goal_cli.specs.Answer.{IfInput, ForRead, GrowsByPart, IsReadOut, ReadsHeld, InputHeld, goes_to, target_of, Gets, GetsPart, Elsewhere, WritesRose, WritesHeld, WritesSame, AnswersWhole, PrintsRun, IsCauseOf, IsCause, AnswersWith, Says, IsCutShort, Answered, IsTaken};
 ghost use Rattle.goal_cli.specs.World.{devices, world, WorldLater};
-ghost use Rattle.goal_cli.specs.Output.{HasOutput, HasRun, HasRunOn, IsRefused};
+ghost use Rattle.goal_cli.specs.Output.{machine_of, HasOutput, HasRun, HasRunOn, IsRefused};
 ghost use Rattle.goal_cli.specs.Pages.{text_of, Suits};
-ghost use Rattle.goal_cli.specs.Unmade.{IsToldOr, DevicesLater};
+ghost use Rattle.goal_cli.specs.Unmade.{IsGathered, IsToldOr, DevicesLater};
 ghost use Rattle.goal_cli.specs.Refusal.{refused_line};
 ghost use Rattle.goal_cli.specs.declared.answer.Refusal.{Refusal};
 
@@ -20,7 +21,7 @@ use crate::output::{Stop, output_of};
 use crate::pages::Output;
 use crate::printing::{let_go, print_output};
 use crate::refusal::refused_line;
-use crate::source::gather;
+use crate::source::{Gathered, gather};
 use goal_base::{Host, IoFault, Sink, write_all, write_file};
 use goal_limits::NoMemory;
 use goal_words::{LineFault, Sentence, View, read_words};
@@ -132,10 +133,31 @@ fn carry_out_sentence<H: Host, W: Sink>(
     ensures later { DevicesLater (devices (H.state host.old) (W.state out.old))
         (devices (H.state host.new) (W.state out.new)) }
 {
-    let work = match gather(alloc, host, sentence) {
-        Ok(work) => work,
-        Err(answer) => return answer,
-    };
+    match gather(alloc, host, sentence) {
+        Ok(work) => write_output(alloc, sentence, &work, host, out),
+        Err(answer) => answer,
+    }
+}
+
+// Makes the output of a sentence from what was gathered for it, and writes it.
+fn write_output<H: Host, W: Sink>(
+    alloc: Global,
+    sentence: &Sentence,
+    work: &Gathered,
+    host: &mut H,
+    out: &mut W,
+) -> Answer
+    requires priced { IsPriced (said sentence.now) }
+    requires short { length work.now.machine.items ≤ MAX_INPUT }
+    // The cause stands as the host was before the work was gathered from it.
+    ensures cause { (first : HostState) → Later first (H.state host.old) → KeepsFiles first (H.state host.old)
+        → SameReadCounts first (H.state host.old) → IsReadOut first (H.state host.old) (machine_of (said sentence.now))
+        → ForRead first (said sentence.now) (IsGathered (said sentence.now) work.now.sched work.now.machine.items)
+        → IsCauseOf (devices first (W.state out.old)) (devices (H.state host.new) (W.state out.new)) (said sentence.now) result }
+    ensures kept { KeepsReading (H.state host.old) (H.state host.new) }
+    ensures later { DevicesLater (devices (H.state host.old) (W.state out.old))
+        (devices (H.state host.new) (W.state out.new)) }
+{
     let mut output = match output_of(alloc, sentence, &work.sched, &work.machine) {
         Ok(output) => output,
         Err(Stop::Refused(refusal)) => return Answer::Refused(refusal),

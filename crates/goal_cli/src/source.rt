@@ -127,7 +127,6 @@ pub struct Gathered {
 
 // What a command works on. Each of its files is read to its end before one is refused. Where there is nothing to work on, this
 // is the answer.
-#[tactic(auto, using(crate::proofs::AnswerLemmas::taken_both))]
 pub fn gather<H: Host>(alloc: Global, host: &mut H, sentence: &Sentence) -> Result<Gathered, Answer>
     requires sized { IsSized (said sentence.now) }
     ensures work { IfOk result (λ work. ForRead (H.state host.old) (said sentence.now)
