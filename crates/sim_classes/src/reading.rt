@@ -1,5 +1,5 @@
 // From a text to its machine.
-ghost use Rattle.std.specs.Prelude.{ℕ, List, [], ◌∷◌, ◌++◌, ◌≡◌, ◌≢◌, ◌≤◌, ◌<◌, Ok, Err, None, map, length, Some, IfOk, IfErr};
+ghost use Rattle.std.specs.Prelude.{ℕ, List, [], ◌∷◌, ◌++◌, ◌≡◌, ◌≢◌, ◌≤◌, ◌<◌, Ok, Err, None, map, length, codes, Some, IfOk, IfErr};
 ghost use Rattle.goal_limits.specs.declared.limits.TheConstants.{MAX_RANKS};
 ghost use Rattle.sim_params.specs.Costs.{Numbers};
 ghost use Rattle.sim_params.specs.Numbers.{numbers};
@@ -8,7 +8,7 @@ ghost use Rattle.sim_classes.specs.declared.fault.MachineFault.TheVariants.{NoMe
 ghost use Rattle.sim_classes.specs.Machine.{Known, machine_with};
 ghost use Rattle.sim_classes.specs.Parts.{told_by};
 ghost use Rattle.sim_classes.specs.Known.{known};
-ghost use Rattle.sim_classes.specs.Form.{Form, Value, said, class_part, classes_part, places_part, nodes_part, triples_part, triples, new_target, machine};
+ghost use Rattle.sim_classes.specs.Form.{Form, Fixed, Value, between, said, class_part, classes_part, places_part, nodes_part, triples_part, triples, new_target, machine};
 
 use crate::fault::MachineFault;
 use crate::machine::{MAX_CLASSES, MAX_NODE, MAX_PAIRS, Machine};
@@ -133,6 +133,54 @@ fn read_pairs(
     Ok(told)
 }
 
+// The class inside a node, and the usual one between nodes.
+fn read_usual(words: &mut Words<'_>, count: u64) -> Result<(u32, u32), MachineFault>
+    requires { count ≤ 16 }
+    ensures next { IfOk result (λ p. (classes : List Numbers) → length classes ≡ count
+        → said (places_part classes) words.old.place words.old.words
+        ≡ said (Fixed (codes "ranks") (Value (between 1 MAX_RANKS) (λ ranks. nodes_part ranks classes p.0 p.1 []))) words.new.place words.new.words) }
+    ensures within { IfOk result (λ p. (p.0 < count) × (p.1 < count)) }
+    ensures fault { IfErr result (λ fault. (classes : List Numbers) → length classes ≡ count
+        → said (places_part classes) words.old.place words.old.words ≡ Err fault) }
+{
+    words.fixed("inside")?;
+    let inside = words.class_number(count)? as u32;
+    words.fixed("default")?;
+    let usual = words.class_number(count)? as u32;
+    Ok((inside, usual))
+}
+
+// The node of each rank.
+fn read_ranks(alloc: Global, words: &mut Words<'_>) -> Result<Vec<u32>, MachineFault>
+    ensures next { IfOk result (λ v. (classes : List Numbers) (inside usual : ℕ)
+        → said (Fixed (codes "ranks") (Value (between 1 MAX_RANKS) (λ ranks. nodes_part ranks classes inside usual []))) words.old.place words.old.words
+        ≡ said (triples_part classes inside usual v.items) words.new.place words.new.words) }
+    ensures few { IfOk result (λ v. length v.items ≤ MAX_RANKS) }
+    ensures fault { IfErr result (λ fault. fault ≢ NoMemory → (classes : List Numbers) (inside usual : ℕ)
+        → said (Fixed (codes "ranks") (Value (between 1 MAX_RANKS) (λ ranks. nodes_part ranks classes inside usual []))) words.old.place words.old.words ≡ Err fault) }
+{
+    words.fixed("ranks")?;
+    let ranks = words.number_from(1, u64::from(MAX_RANKS))?;
+    read_nodes(alloc, words, ranks)
+}
+
+// The class that is told for each pair of nodes, up to the end of the text.
+fn read_told(alloc: Global, words: &mut Words<'_>, classes: u64) -> Result<Told, MachineFault>
+    requires { classes ≤ 16 }
+    ensures next { IfOk result (λ told. (numbers : List Numbers) (inside usual : ℕ) (nodes : List ℕ) → length numbers ≡ classes
+        → said (triples_part numbers inside usual nodes) words.old.place words.old.words
+        ≡ Ok (machine_with numbers inside usual nodes (told_by told))) }
+    ensures within { IfOk result (λ told. (a b class : ℕ) → told_by told a b ≡ Some class → class < classes) }
+    ensures fault { IfErr result (λ fault. fault ≢ NoMemory
+        → (numbers : List Numbers) (inside usual : ℕ) (nodes : List ℕ) → length numbers ≡ classes
+        → said (triples_part numbers inside usual nodes) words.old.place words.old.words ≡ Err fault) }
+{
+    words.fixed("pairs")?;
+    let count = words.number_from(0, MAX_PAIRS)?;
+    let pairs = read_pairs(alloc, words, count, classes)?;
+    Ok(Told::of(alloc, pairs)?)
+}
+
 // What stands behind the classes.
 fn read_places(
     alloc: Global,
@@ -145,16 +193,9 @@ fn read_places(
         → said (places_part (map numbers classes.items)) words.old.place words.old.words ≡ Err fault) }
 {
     let count = classes.len() as u64;
-    words.fixed("inside")?;
-    let inside = words.class_number(count)? as u32;
-    words.fixed("default")?;
-    let usual = words.class_number(count)? as u32;
-    words.fixed("ranks")?;
-    let ranks = words.number_from(1, u64::from(MAX_RANKS))?;
-    let nodes = read_nodes(alloc, words, ranks)?;
-    words.fixed("pairs")?;
-    let pairs = words.number_from(0, MAX_PAIRS)?;
-    let told = Told::of(alloc, read_pairs(alloc, words, pairs, count)?)?;
+    let (inside, usual) = read_usual(words, count)?;
+    let nodes = read_ranks(alloc, words)?;
+    let told = read_told(alloc, words, count)?;
     Ok(Machine {
         classes,
         inside,
