@@ -236,7 +236,7 @@ impl<'a, C: Costs, H: History> Engine<'a, C, H> {
                 reads,
             );
         }
-        self.pending = None;
+        drop(self.pending.take());
     }
 
     // Lets all that is possible happen, with counters of its own.
