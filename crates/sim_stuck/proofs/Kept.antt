@@ -1,7 +1,8 @@
 -- What a filter keeps, what is found there, and where the elements of a mapped list come from.
-use Rattle.std.proofs.Common.{zero, suc, ◌≡◌, Bool, true, false, ◌&&◌, ◌⊎◌, inl, inr, cond, List, [], ◌∷◌, find, filter, Contains, Some, refl, ap, ◌∙◌, subst, arith}
+use Rattle.std.proofs.Common.{ℕ, zero, suc, ◌≡◌, ◌+◌, ◌<◌, Bool, true, false, ◌&&◌, ◌⊎◌, inl, inr, cond, List, [], ◌∷◌, ◌++◌, length, get_or, take, map, find, filter, Contains, Some, refl, sym, ap, ap₂, ◌∙◌, subst, arith}
 use Rattle.std.proofs.lemmas.Bool.{both_ways}
-use Rattle.std.proofs.lemmas.List.Elements.{All-contains, All-filter, All-contains_itself, filter_passes}
+use Rattle.std.proofs.lemmas.List.{append-nil, map-append, take_more}
+use Rattle.std.proofs.lemmas.List.Elements.{All-contains, All-filter, All-contains_itself, filter_more, filter_passes}
 use Rattle.goal_graph.proofs.ForCallers.{contains_first, contains_more}
 
 -- to find among what a filter keeps is to find what passes both tests
@@ -14,6 +15,21 @@ find_kept {X} p q (x ∷ xs) = go (q x) (p x) refl (find_kept p q xs)
     go true false e rest = ap (λ (t : Bool). cond t (Some x) (find p (filter q xs))) e ∙ rest
     go false true e rest = rest
     go false false e rest = rest
+
+-- the element at i is kept after those before it, or left out
+module _ {X : Type 0} (p : X → Bool) (xs : List X) (i : ℕ) (d : X) (kept : List X) (low : i < length xs) (so_far : kept ≡ filter p (take i xs)) where
+  pub one_kept : p (get_or xs i d) ≡ true → kept ++ get_or xs i d ∷ [] ≡ filter p (take (i + 1) xs)
+  one_kept e =
+      ap₂ (λ (ys : List X) (b : Bool). ys ++ cond b (get_or xs i d ∷ []) []) so_far (sym e) ∙ sym (filter_more p xs i d low)
+
+  pub one_left_out : p (get_or xs i d) ≡ false → kept ≡ filter p (take (i + 1) xs)
+  one_left_out e =
+      sym (append-nil kept) ∙ ap₂ (λ (ys : List X) (b : Bool). ys ++ cond b (get_or xs i d ∷ []) []) so_far (sym e) ∙ sym (filter_more p xs i d low)
+
+-- the value of the element at i stands after those of the elements before it
+pub one_mapped : {X Y : Type 0} (f : X → Y) (xs : List X) (i : ℕ) (d : X) (so_far more : List Y) (y : Y) → i < length xs → so_far ≡ map f (take i xs) → more ≡ so_far ++ y ∷ [] → y ≡ f (get_or xs i d) → more ≡ map f (take (i + 1) xs)
+one_mapped {X} {Y} f xs i d so_far more y low e pushed is =
+    pushed ∙ ap₂ (λ (ys : List Y) (z : Y). ys ++ z ∷ []) e is ∙ sym (ap (map f) (take_more xs i d low) ∙ map-append f (take i xs) (get_or xs i d ∷ []))
 
 contains_cases : {X : Type 0} (y : X) (xs : List X) (x : X) → Contains (y ∷ xs) x → (y ≡ x) ⊎ Contains xs x
 contains_cases y xs x (zero, b, e) = inl e

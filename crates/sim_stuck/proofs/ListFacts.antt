@@ -1,7 +1,6 @@
 -- What the list of stuck operations says.
-use Rattle.std.proofs.Common.{ℕ, ◌≡◌, ◌≤◌, ◌⊎◌, inl, inr, true, not, List, [], ◌∷◌, length, take, map, filter, Contains, AllPairs, refl, sym, ap, ◌∙◌, subst}
+use Rattle.std.proofs.Common.{◌≡◌, ◌≤◌, ◌⊎◌, inl, inr, true, not, List, [], ◌∷◌, length, map, filter, Contains, AllPairs, refl, sym, ap, ◌∙◌, subst, arith}
 use Rattle.std.proofs.lemmas.Bool.{not-true}
-use Rattle.std.proofs.lemmas.List.{take_all}
 use Rattle.std.proofs.lemmas.List.Elements.{All-contains}
 use Rattle.std.proofs.lemmas.List.Kept.{AllPairs-filter}
 use Rattle.goal_graph.specs.declared.action.OpId.{OpId}
@@ -84,12 +83,17 @@ module _ (plans : List Plan) (costs : CostModel) (h : List Timed) where
       let alone = ap (λ (t : Stuck). t.why) l.3 ∙ e in
       subst (λ (z : OpId). (has_started plans y (plain h) ≡ true) × IsTaken plans (plain h) y z) same (alone_is_alone plans (is_eager plans costs) (plain h) complete l.0 y (not-true _ l.2) alone (subst (λ (z : OpId). are_fit plans (is_eager plans costs) z y ≡ true) (sym same) fit))
 
+-- nothing is listed where all operations have an end
+pub none_listed : (plans : List Plan) (costs : CostModel) (h : List Timed) (stuck : List OpId) (list : List Stuck) → length stuck ≤ 0 → list ≡ [] → list ≡ map (with_reason plans costs h) stuck
+none_listed plans costs h [] list none e = e
+none_listed plans costs h (x ∷ xs) list none e = absurd (omega (arith, none))
+
 -- the list of all operations without an end, of a schedule that was read
-module _ (plans read : List Plan) (costs : CostModel) (h : List Timed) (stuck : List OpId) (k : ℕ) (list : List Stuck) (same : plans ≡ read) (are_all : stuck ≡ filter (lacks_end plans costs h) (operations plans)) (whole : length stuck ≤ k) (so_far : list ≡ map (with_reason plans costs h) (take k stuck)) where
+module _ (plans read : List Plan) (costs : CostModel) (h : List Timed) (stuck : List OpId) (list : List Stuck) (same : plans ≡ read) (are_all : stuck ≡ filter (lacks_end plans costs h) (operations plans)) (listed : list ≡ map (with_reason plans costs h) stuck) where
   pub list_is : list ≡ stuck_list read costs h
   unfolding stuck_list
   list_is =
-      so_far ∙ ap (map (with_reason plans costs h)) (take_all k stuck whole ∙ are_all) ∙ ap (λ (ps : List Plan). map (with_reason ps costs h) (filter (lacks_end ps costs h) (operations ps))) same
+      listed ∙ ap (map (with_reason plans costs h)) are_all ∙ ap (λ (ps : List Plan). map (with_reason ps costs h) (filter (lacks_end ps costs h) (operations ps))) same
 
   pub list_stuck : ListsStuck read costs h list
   list_stuck = subst (λ (xs : List Stuck). ListsStuck read costs h xs) (sym list_is) (lists_stuck read costs h)

@@ -1,5 +1,5 @@
 -- Patterns that are alike, and the receives that a message fits by its patterns.
-use Rattle.std.proofs.Common.{ℕ, ◌≡◌, ◌==◌, ◌&&◌, ◌||◌, Bool, true, false, Option, Some, None, refl, sym, ap₂, ◌∙◌}
+use Rattle.std.proofs.Common.{ℕ, ◌≡◌, ◌==◌, ◌&&◌, ◌||◌, Bool, true, false, Option, Some, None, cond, refl, sym, ap, ap₂, ◌∙◌}
 use Rattle.std.specs.Ordering.{nat_cmp, is_eq}
 use Rattle.std.specs.Option.{option_cmp}
 use Rattle.goal_graph.specs.Matching.{accepts}
@@ -58,3 +58,38 @@ four q source to with_tag = go (to == q.rank) q.from q.tag
     go s None (Some g) = none_some s (g == with_tag)
     go s (Some f) None = some_none s (f == source)
     go s (Some f) (Some g) = some_some s (f == source) (g == with_tag)
+
+choice_swapped : (a b : Option ℕ) → same_choice a b ≡ same_choice b a
+choice_swapped None None = refl
+choice_swapped None (Some n) = refl
+choice_swapped (Some k) None = refl
+choice_swapped (Some k) (Some n) = eqb-swapped k n
+
+alike_ahead : (p q : Pattern) → is_eq (pattern_cmp p q) ≡ is_alike p q
+alike_ahead p q =
+    alike_back q p ∙ ap₂ (λ (s t : Bool). s && t) (eqb-swapped q.rank p.rank) (ap₂ (λ (s t : Bool). s && t) (choice_swapped p.from q.from) (choice_swapped p.tag q.tag))
+
+put_once : {X : Type 0} (a b c d : Bool) (x y : X) → cond d x (cond c x (cond b x (cond a x y))) ≡ cond ((a || b) || (c || d)) x y
+put_once a b c true x y = ap (λ (t : Bool). cond t x y) (sym (last a b c))
+  where
+    last : (a b c : Bool) → ((a || b) || (c || true)) ≡ true
+    last true b c = refl
+    last false true c = refl
+    last false false true = refl
+    last false false false = refl
+put_once a b true false x y = ap (λ (t : Bool). cond t x y) (sym (third a b))
+  where
+    third : (a b : Bool) → ((a || b) || true) ≡ true
+    third true b = refl
+    third false true = refl
+    third false false = refl
+put_once true true false false x y = refl
+put_once true false false false x y = refl
+put_once false true false false x y = refl
+put_once false false false false x y = refl
+
+-- what is put at each of a message's four patterns is there for the patterns that ask for the message
+pub four_put : (q : Pattern) (source to with_tag : ℕ) {X : Type 0} (x y : X) → cond (is_eq (pattern_cmp (any_of to) q)) x (cond (is_eq (pattern_cmp (any_source_of to with_tag) q)) x (cond (is_eq (pattern_cmp (any_tag_of source to) q)) x (cond (is_eq (pattern_cmp (exact_of source to with_tag) q)) x y))) ≡ cond ((to == q.rank) && accepts q.from source && accepts q.tag with_tag) x y
+four_put q source to with_tag x y =
+    put_once (is_eq (pattern_cmp (exact_of source to with_tag) q)) (is_eq (pattern_cmp (any_tag_of source to) q)) (is_eq (pattern_cmp (any_source_of to with_tag) q)) (is_eq (pattern_cmp (any_of to) q)) x y
+    ∙ ap (λ (t : Bool). cond t x y) (ap₂ (λ (s t : Bool). s || t) (ap₂ (λ (s t : Bool). s || t) (alike_ahead (exact_of source to with_tag) q) (alike_ahead (any_tag_of source to) q)) (ap₂ (λ (s t : Bool). s || t) (alike_ahead (any_source_of to with_tag) q) (alike_ahead (any_of to) q)) ∙ sym (four q source to with_tag))

@@ -1,5 +1,5 @@
 // The reason of each stuck operation.
-ghost use Rattle.std.specs.Prelude.{◌≡◌, IfOk, filter, not};
+ghost use Rattle.std.specs.Prelude.{◌≡◌, All, IfOk, filter, map, not};
 ghost use Rattle.std.specs.Option.{option_map};
 ghost use Rattle.goal_graph.specs.Schedule.{operations, needed};
 ghost use Rattle.goal_graph.specs.Action.{plain};
@@ -9,7 +9,7 @@ ghost use Rattle.sim_params.specs.Costs.{is_eager};
 ghost use Rattle.sim_params.specs.Run.{IsFinished};
 ghost use Rattle.sim_params.specs.Stuck.{first_unmet};
 ghost use Rattle.sim_stuck.specs.Patterns.{AreFirsts};
-ghost use Rattle.sim_stuck.specs.StuckList.{stuck_list, reason_of};
+ghost use Rattle.sim_stuck.specs.StuckList.{stuck_list, reason_of, with_reason};
 ghost use Rattle.sim_stuck.specs.Laws.{IsInOrder, NamesListed, ListsStuck, AloneAreAlone};
 
 use crate::partner::Firsts;
@@ -52,10 +52,25 @@ pub fn explain<C: Costs, H: History>(
     if stuck.is_empty() {
         return Ok(Vec::new(alloc));
     }
+    with_reasons(alloc, sched, engine, &stuck)
+}
+
+// Operations that have no end, each with its reason.
+fn with_reasons<C: Costs, H: History>(
+    alloc: Global,
+    sched: &Sched,
+    engine: &Engine<'_, C, H>,
+    ids: &[OpId],
+) -> Result<Vec<Stuck>, NoMemory>
+    requires same { engine.now.plans ≡ sched.now }
+    requires ops { All (IsOp engine.now.plans) ids.now }
+    ensures { IfOk result (λ list.
+        list.items ≡ map (with_reason engine.now.plans (C.model engine.now.costs) engine.now.history) ids.now) }
+{
     let absent = unstarted(alloc, engine)?;
     let firsts = Firsts::of(alloc, sched, &absent)?;
     let mut list = Vec::new(alloc);
-    for id in &stuck {
+    for id in ids {
         list.push(Stuck {
             op: *id,
             why: reason(engine, &firsts, *id),

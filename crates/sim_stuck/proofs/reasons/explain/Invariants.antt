@@ -1,8 +1,0 @@
-use Rattle.std.proofs.Common.{◌≡◌, map, take}
-use Rattle.sim_stuck.specs.StuckList.{with_reason}
-use Rattle.sim_stuck.proofs.reasons.explain.Given as goal
-
--- the stuck operations so far
-abbrev pub invariant-loop-id : goal.invariant-loop-id
-invariant-loop-id g l =
-    l.list.items ≡ map (with_reason l.engine.plans (g.C.Costs.model l.engine.costs) l.engine.history) (take l.id-index l.id-items)
