@@ -1,5 +1,5 @@
 -- Rows of stations, of which the key of one is changed, or which goes over, or whose resources are held.
-use Rattle.std.proofs.Common.{◌≡◌, ◌≢◌, ◌⊎◌, ◌*◌, ◌<◌, ℕ, Bool, true, false, not, List, Option, Some, None, length, set, slice_get, slice_index, slice_index_or, IfSome, sym, ap, ◌∙◌, subst, arith, inl, inr}
+use Rattle.std.proofs.Common.{◌≡◌, ◌≢◌, ◌⊎◌, ◌*◌, ◌^◌, ◌<◌, ℕ, Bool, true, false, not, List, Option, Some, None, length, set, slice_get, slice_index, slice_index_or, IfSome, sym, ap, ◌∙◌, subst, arith, inl, inr}
 use Rattle.std.proofs.lemmas.Bool.{cases_eq}
 use Rattle.std.proofs.lemmas.List.{get_or-set_same, get_or-set_other, get_or_read, length-set}
 use Rattle.std.proofs.lemmas.Option.{same_Some, slice_get-get_or, slice_get_within, get_or_from_slice_get}
@@ -32,7 +32,41 @@ with_key rows place value = record { keys = set rows.keys place value; groups = 
 pub if_some : (o : Option Timed) → IfSome o (λ k. k.time ≡ 0) → (k : Timed) → o ≡ Some k → k.time ≡ 0
 if_some o h k e = subst (λ x. IfSome x (λ k. k.time ≡ 0)) e h
 
+-- there are as many resources as before
+pub held_long : (free : List ℕ) (p : Pair) (cpu side : ℕ) → length (held free p cpu side) ≡ length free
+held_long free p cpu side = length-set (set free p.cpu cpu) p.side side ∙ length-set free p.cpu cpu
+
+-- the heads are told anew where both resources of a pair are held, and those of the others stay
+pub both_told : (rows : Grouped Timed) (heads : List (Option Timed)) (free : List ℕ) (p : Pair) → length heads ≡ length free → length free < 2 ^ 32 → (cpu side : ℕ) (now : List (Option Timed)) → AreBothTold rows (held free p cpu side) heads now p → ((r : ℕ) → r < length free → r ≢ p.cpu → r ≢ p.side → IsHead rows r (slice_index free r) (key_at heads r)) → AreHeads rows now (held free p cpu side)
+both_told rows heads free p each few cpu side now told others = record {
+  each = told.each ∙ each ∙ sym (held_long free p cpu side);
+  few = omega (arith, few, held_long free p cpu side);
+  headed = λ r l. go r (omega (arith, l, held_long free p cpu side)) (cases_eq r p.cpu) (cases_eq r p.side);
+}
+  where
+    go : (r : ℕ) → r < length free → (r ≡ p.cpu) ⊎ (r ≢ p.cpu) → (r ≡ p.side) ⊎ (r ≢ p.side) → IsHead rows r (slice_index (held free p cpu side) r) (key_at now r)
+    go r l (inl e) b = subst (λ x. IsHead rows x (slice_index (held free p cpu side) x) (key_at now x)) (sym e) told.cpu
+    go r l (inr n) (inl e) = subst (λ x. IsHead rows x (slice_index (held free p cpu side) x) (key_at now x)) (sym e) told.side
+    go r l (inr n) (inr m) =
+        let stays : slice_index (held free p cpu side) r ≡ slice_index free r = get_or-set_other (set free p.cpu cpu) p.side r side 0 m ∙ get_or-set_other free p.cpu r cpu 0 n in
+        subst (IsHead rows r (slice_index (held free p cpu side) r)) (sym (told.others r n m)) (subst (λ t. IsHead rows r t (key_at heads r)) (sym stays) (others r l n m))
+
 module _ (rows : Grouped Timed) (heads : List (Option Timed)) (pairs : List Pair) (turned : List Bool) (free : List ℕ) (inside : IsInRows rows pairs turned free) (are : AreHeads rows heads free) where
+  -- so are the rows, where no key is changed
+  pub held_inside : (p : Pair) (cpu side : ℕ) → IsInRows rows pairs turned (held free p cpu side)
+  held_inside p cpu side = record {
+    groups = inside.groups;
+    each = inside.each;
+    both = inside.both;
+    few = inside.few;
+    exist = λ t q e. let was = inside.exist t q e in (omega (arith, was.0, held_long free p cpu side), omega (arith, was.1, held_long free p cpu side));
+    elsewhere = inside.elsewhere;
+    at_zero = inside.at_zero;
+  }
+
+  pub held_heads : (p : Pair) (cpu side : ℕ) (now : List (Option Timed)) → AreBothTold rows (held free p cpu side) heads now p → AreHeads rows now (held free p cpu side)
+  held_heads p cpu side now told = both_told rows heads free p are.each are.few cpu side now told (λ r l n m. are.headed r l)
+
   pub long : length rows.keys ≡ 2 * length turned
   long = omega (arith, inside.each, inside.both)
 
@@ -118,25 +152,11 @@ module _ (rows : Grouped Timed) (heads : List (Option Timed)) (pairs : List Pair
 
       -- so it is where its resources are held besides
       pub left_heads : (cpu side : ℕ) (now : List (Option Timed)) → AreBothTold new (held free p cpu side) heads now p → AreHeads new now (held free p cpu side)
-      left_heads cpu side now told = record {
-        each = told.each ∙ are.each ∙ sym held_long;
-        few = omega (arith, are.few, held_long);
-        headed = λ r l. go r (omega (arith, l, held_long)) (cases_eq r p.cpu) (cases_eq r p.side);
-      }
+      left_heads cpu side now told = both_told new heads free p are.each are.few cpu side now told (λ r l n m. head_there r (slice_index free r) (key_at heads r) (not_here r (turned_at turned s) n m) (are.headed r l))
         where
-          held_long : length (held free p cpu side) ≡ length free
-          held_long = length-set (set free p.cpu cpu) p.side side ∙ length-set free p.cpu cpu
-
           not_here : (r : ℕ) (b : Bool) → r ≢ p.cpu → r ≢ p.side → r ≢ side_of p b
           not_here r false n m = n
           not_here r true n m = m
-
-          go : (r : ℕ) → r < length free → (r ≡ p.cpu) ⊎ (r ≢ p.cpu) → (r ≡ p.side) ⊎ (r ≢ p.side) → IsHead new r (slice_index (held free p cpu side) r) (key_at now r)
-          go r l (inl e) b = subst (λ x. IsHead new x (slice_index (held free p cpu side) x) (key_at now x)) (sym e) told.cpu
-          go r l (inr n) (inl e) = subst (λ x. IsHead new x (slice_index (held free p cpu side) x) (key_at now x)) (sym e) told.side
-          go r l (inr n) (inr m) =
-              let stays : slice_index (held free p cpu side) r ≡ slice_index free r = get_or-set_other (set free p.cpu cpu) p.side r side 0 m ∙ get_or-set_other free p.cpu r cpu 0 n in
-              subst (IsHead new r (slice_index (held free p cpu side) r)) (sym (told.others r n m)) (subst (λ t. IsHead new r t (key_at heads r)) (sym stays) (head_there r (slice_index free r) (key_at heads r) (not_here r (turned_at turned s) n m) (are.headed r l)))
 
     -- the key of the station is at time 0
     pub key_zero : (key : Timed) → key_at (seen turned rows.keys) s ≡ Some key → key.time ≡ 0

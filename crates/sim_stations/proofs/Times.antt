@@ -8,6 +8,7 @@ use Rattle.sim_order.specs.EventLaws.{event_laws}
 use Rattle.sim_heaps.proofs.ForCallers.{through}
 use Rattle.sim_stations.specs.declared.pair.Pair.{Pair}
 use Rattle.sim_stations.specs.Stations.{waits_for_room, at_time, both_free, earliest, when_free}
+use Rattle.sim_stations.proofs.Heads.{at_own}
 
 -- an event is not before itself at an earlier time
 pub later_not_before : (t : ℕ) (k : Timed) → k.time ≤ t → event_before (at_time t k) k ≡ false
@@ -51,6 +52,12 @@ module _ (free : List ℕ) (p : Pair) where
   when_zero k w =
       let same : max 0 (both_free free p) ≡ both_free free p = omega arith in
       ap (λ t. at_time t k) (earliest_waits (at_time 0 k) w ∙ same)
+
+  -- an event is due where its resources are free by its own moment
+  pub due_itself : (k : Timed) → waits_for_room k.class ≡ true → both_free free p ≤ k.time → when_free free p k ≡ k
+  due_itself k w l =
+      let same : max k.time (both_free free p) ≡ k.time = omega (arith, l) in
+      at_own k (earliest free p k) (sym (earliest_waits k w ∙ same))
 
 -- it is raised where its resources are free later
 pub raised_again : (free now : List ℕ) (p : Pair) → both_free free p ≤ both_free now p → (k : Timed) → when_free now p k ≡ when_free now p (when_free free p k)

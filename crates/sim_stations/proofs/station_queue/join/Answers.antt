@@ -1,9 +1,10 @@
-use Rattle.std.proofs.Common.{Some, length, set, sym, ap, ◌∙◌, refl, subst, arith}
+use Rattle.std.proofs.Common.{◌+◌, Some, length, set, sym, ap, ◌∙◌, refl, subst, arith}
 use Rattle.goal_graph.specs.declared.action.Timed.{Timed}
 use Rattle.sim_stations.specs.Stations.{at_time}
 use Rattle.sim_stations.specs.Rows.{Rowed}
 use Rattle.sim_stations.specs.Kept.{AreShown, IsBeforeAll, HasOneBefore}
 use Rattle.sim_stations.proofs.Shown.{told_station, kept_station, first_joined, later_joined}
+use Rattle.sim_stations.proofs.Settling.{twice}
 use Rattle.sim_stations.proofs.station_queue.join.Goals as goal
 
 pub returns-then-is_first-clause-shown : goal.returns-then-is_first-clause-shown
@@ -27,3 +28,16 @@ returns-else-is_first-clause-shown g c =
     let put = c.put-else-is_first.ensures.put ∙ ap (λ (k : Timed). record { keys = set c.args.waiting.now.keys c.args.slot (Some (at_time 0 k)); groups = c.args.waiting.now.groups }) c.at-key.ensures in
     let head = later_joined c.args.waiting.now c.args.slot station c.group-station.ensures c.requires.slot_in (Some key) c.put-else-is_first.new.self put key refl refl c.requires.free later _ (c.requires.shown station exists) in
     kept_station c.args.waiting.now c.args.slot station c.group-station.ensures c.requires.slot_in (Some key) c.put-else-is_first.new.self put c.args.rows.now.keys (length c.args.rows.now.pairs) c.requires.shown head
+
+pub returns-then-is_first-clause-counted : goal.returns-then-is_first-clause-counted
+returns-then-is_first-clause-counted g c =
+    λ k l m n.
+    let put = c.put.ensures.counted k l in
+    let told = c.tell.ensures.counted (k + 1) (omega (arith, m, twice k)) n in
+    omega (arith, c.is_first.ensures.counted, put, told)
+
+pub returns-else-is_first-clause-counted : goal.returns-else-is_first-clause-counted
+returns-else-is_first-clause-counted g c =
+    λ k l m n.
+    let put = c.put-else-is_first.ensures.counted k l in
+    omega (arith, c.is_first.ensures.counted, put)

@@ -7,7 +7,7 @@ use Rattle.sim_heaps.specs.Map.{IsEmptyMap, IsLeast}
 use Rattle.sim_stations.specs.Stations.{both_free, pair_at, AreOfSlots}
 use Rattle.sim_stations.proofs.Listed.{listed_exists}
 use Rattle.sim_stations.proofs.Least.{listed, least_found, found_slot, sole_ahead, ahead_slot, row_key, turn_late, slot_within, not_empty, empty_both}
-use Rattle.sim_stations.proofs.Settling.{settling, went_over, over_less}
+use Rattle.sim_stations.proofs.Settling.{settling, waited, waited_less, went_over, over_less}
 use Rattle.sim_stations.proofs.station_queue.settle.Goals as goal
 
 pub looks-init : goal.looks-init
@@ -75,6 +75,14 @@ begin_to_wait-requires-clause-key g c =
     let is_slot : slice_get (operations plans) c.index-slot.result ≡ Some c.in-Some.look.key.op = c.index-slot.ensures.index ∙ ap Some c.id.ensures in
     ahead_slot c.looks.ahead c.looks.waiting c.looks.rows c.looks.stands c.looks.invariant.kept c.in-Some.look.key c.in-Some.look.is_ahead c.in-Some.ensures.first plans of_slots c.index-slot.result is_slot c.if-is_ahead.true
 
+pub looks-smaller-then-is_ahead : goal.looks-smaller-then-is_ahead
+looks-smaller-then-is_ahead g c =
+    waited_less c.args.ahead.now c.args.waiting.now c.args.rows.now c.args.stands.now c.args.steps.now c.args.moves.now c.looks.ahead c.looks.waiting c.looks.rows c.looks.stands c.looks.steps c.looks.moves c.looks.invariant c.begin_to_wait.new.ahead c.begin_to_wait.new.waiting c.begin_to_wait.new.rows c.begin_to_wait.new.stands c.is_held_up.new.steps c.begin_to_wait.new.steps c.begin_to_wait.ensures.kept c.begin_to_wait.ensures.seen c.begin_to_wait.ensures.groups c.begin_to_wait.ensures.pairs c.begin_to_wait.ensures.turned c.begin_to_wait.ensures.free c.begin_to_wait.ensures.fewer (omega (arith, c.first.ensures.counted, c.is_held_up.ensures.counted)) c.begin_to_wait.ensures.counted
+
+pub looks-preserved-then-is_ahead : goal.looks-preserved-then-is_ahead
+looks-preserved-then-is_ahead g c =
+    waited c.args.ahead.now c.args.waiting.now c.args.rows.now c.args.stands.now c.args.steps.now c.args.moves.now c.looks.ahead c.looks.waiting c.looks.rows c.looks.stands c.looks.steps c.looks.moves c.looks.invariant c.begin_to_wait.new.ahead c.begin_to_wait.new.waiting c.begin_to_wait.new.rows c.begin_to_wait.new.stands c.is_held_up.new.steps c.begin_to_wait.new.steps c.begin_to_wait.ensures.kept c.begin_to_wait.ensures.seen c.begin_to_wait.ensures.groups c.begin_to_wait.ensures.pairs c.begin_to_wait.ensures.turned c.begin_to_wait.ensures.free c.begin_to_wait.ensures.fewer (omega (arith, c.first.ensures.counted, c.is_held_up.ensures.counted)) c.begin_to_wait.ensures.counted
+
 pub group-station-requires : goal.group-station-requires
 group-station-requires g c =
     let plans = c.args.sched.now in
@@ -116,3 +124,21 @@ pub returns-clause-none : goal.returns-clause-none
 returns-clause-none g c =
     let both = c.first.ensures.none.0 (ap is_some c.in_default.is) in
     (λ e. subst IsEmptyMap c.looks.invariant.seen (empty_both c.looks.ahead c.looks.waiting c.looks.rows c.looks.stands c.looks.invariant.kept both.0 both.1), λ e. refl)
+
+pub begin_to_wait-requires-clause-late : goal.begin_to_wait-requires-clause-late
+begin_to_wait-requires-clause-late g c = λ station e.
+    let same = get_or_from_slice_get c.looks.waiting.groups c.index-slot.result station 0 e in
+    let held = subst (λ s. c.in-Some.look.key.time < both_free c.looks.rows.free (pair_at c.looks.rows.pairs s)) same (c.is_held_up.ensures.held_up c.if-not-is_held_up.false).1 in
+    omega (arith, held)
+
+pub turn-requires-clause-exists : goal.turn-requires-clause-exists
+turn-requires-clause-exists g c =
+    c.looks.invariant.kept.mapped.within c.index-slot.result c.group-station.result c.group-station.ensures
+
+pub returns-then-not-is_held_up-clause-counted : goal.returns-then-not-is_held_up-clause-counted
+returns-then-not-is_held_up-clause-counted g c = λ k l.
+    let was = c.looks.invariant.counted k l in omega (arith, was, c.first.ensures.counted, c.is_held_up.ensures.counted)
+
+pub returns-clause-counted : goal.returns-clause-counted
+returns-clause-counted g c = λ k l.
+    let was = c.looks.invariant.counted k l in omega (arith, was, c.first.ensures.counted)

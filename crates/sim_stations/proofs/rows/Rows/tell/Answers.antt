@@ -1,6 +1,6 @@
-use Rattle.std.proofs.Common.{◌≡◌, ◌<◌, Some, length, set, slice_get, ap, ◌∙◌, subst, arith}
+use Rattle.std.proofs.Common.{◌≡◌, ◌<◌, Some, length, set, slice_get, sym, ap, ◌∙◌, subst, arith}
 use Rattle.sim_stations.specs.Rows.{Rowed, place_in, side_of, turned_at, IsTold}
-use Rattle.sim_stations.proofs.InRows.{with_key, if_some, pair_read, turned_read, written_inside, written_heads, written_seen}
+use Rattle.sim_stations.proofs.InRows.{side_in, with_key, if_some, pair_read, turned_read, written_inside, written_heads, written_seen}
 use Rattle.sim_stations.proofs.rows.Rows.tell.Given.{Over}
 use Rattle.sim_stations.proofs.rows.Rows.tell.Goals.{After-tell}
 use Rattle.sim_stations.proofs.rows.Rows.tell.Goals as goal
@@ -24,6 +24,17 @@ module _ (g : Over) (c : After-tell g) where
   told =
       subst (IsTold c.write.new.rows c.self.inside.free.items c.self.inside.heads c.tell.new.heads) (c.side_of-resource.ensures ∙ ap (side_of c.index-pair.result.now) turned) (subst (λ f. IsTold c.write.new.rows f c.self.inside.heads c.tell.new.heads c.side_of-resource.result) c.deref.ensures.value c.tell.ensures.told)
 
+pub tell-requires-clause-exists : goal.tell-requires-clause-exists
+tell-requires-clause-exists g c =
+    let q = c.self.inside in
+    let p = c.index-pair.result.now in
+    let there : c.args.station < length q.pairs.items = omega (arith, c.requires.exists, ap (λ (r : Rowed). length r.pairs) c.self.view_is) in
+    let side = side_in q.rows q.heads q.pairs.items q.turned.items q.free.items c.self.invariant.0 c.self.invariant.1 c.args.station p c.index-turned.result.now (pair_read q.pairs.items c.args.station p there c.index-pair.ensures) in
+    omega (arith, side, c.side_of-resource.ensures, c.self.invariant.1.each)
+
+pub tell-requires-clause-each : goal.tell-requires-clause-each
+tell-requires-clause-each g c = c.self.invariant.1.each ∙ sym (ap length c.deref.ensures.value)
+
 pub invariant_of-self : goal.invariant_of-self
 invariant_of-self g c =
     let q = c.self.inside in
@@ -36,3 +47,10 @@ returns-clause-told g c =
     let zero = if_some c.args.key c.requires.at_zero in
     let keys = written_seen q.rows q.heads q.pairs.items q.turned.items q.free.items c.self.invariant.0 c.self.invariant.1 c.args.station c.index-pair.result.now (at g c) c.args.key zero c.write.new.rows (is_new g c) in
     (λ i. record { keys = keys i; pairs = q.pairs.items; turned = q.turned.items; free = q.free.items }) ∙ ap (λ (r : Rowed). record { keys = set r.keys c.args.station c.args.key; pairs = r.pairs; turned = r.turned; free = r.free }) c.self.view_is
+
+pub returns-clause-counted : goal.returns-clause-counted
+returns-clause-counted g c =
+    λ k l m.
+    let written = c.write.ensures.counted k (omega (arith, l, c.self.invariant.0.each, ap (λ (r : Rowed). length r.pairs) c.self.view_is)) in
+    let told = c.tell.ensures.counted k (omega (arith, m, c.self.invariant.1.each, ap (λ (r : Rowed). length r.free) c.self.view_is)) in
+    omega (arith, written, told)

@@ -1,5 +1,8 @@
-use Rattle.std.proofs.Common.{◌≡◌, ◌<◌, Some, None, not, length, set, slice_get, sym, ap, ◌∙◌, subst, arith}
+use Rattle.std.proofs.Common.{◌≡◌, ◌<◌, ◌≤◌, ◌^◌, Some, None, not, length, set, slice_get, sym, ap, ◌∙◌, subst, arith}
+use Rattle.std.proofs.lemmas.List.{length-set}
+use Rattle.goal_graph.specs.declared.action.Timed.{Timed}
 use Rattle.sim_heaps.specs.Map.{key_at}
+use Rattle.sim_groups.specs.Groups.{Grouped}
 use Rattle.sim_stations.specs.Stations.{at_time}
 use Rattle.sim_stations.specs.Rows.{Rowed, place_in, turned_at, seen, AreBothTold, IsInRows}
 use Rattle.sim_stations.proofs.Heads.{at_own}
@@ -70,6 +73,17 @@ module _ (g : Over) (c : After-tell_both g) where
   over : set c.self.inside.turned.items c.args.station (not c.index-turned.result.now) ≡ set c.self.inside.turned.items c.args.station (not (turned_at c.self.inside.turned.items c.args.station))
   over = ap (λ b. set c.self.inside.turned.items c.args.station (not b)) turned
 
+pub tell_both-requires-clause-cpu : goal.tell_both-requires-clause-cpu
+tell_both-requires-clause-cpu g c =
+    omega (arith, c.self.invariant.1.each, (c.self.invariant.0.exist c.args.station c.index-pair.result.now (at_before g c)).0)
+
+pub tell_both-requires-clause-side : goal.tell_both-requires-clause-side
+tell_both-requires-clause-side g c =
+    omega (arith, c.self.invariant.1.each, (c.self.invariant.0.exist c.args.station c.index-pair.result.now (at_before g c)).1)
+
+pub tell_both-requires-clause-each : goal.tell_both-requires-clause-each
+tell_both-requires-clause-each g c = c.self.invariant.1.each ∙ sym (ap length c.deref.ensures.value)
+
 pub tell_both-requires-clause-at_zero : goal.tell_both-requires-clause-at_zero
 tell_both-requires-clause-at_zero g c =
     let q = c.self.inside in
@@ -86,3 +100,13 @@ returns-clause-turned g c =
     let q = c.self.inside in
     let keys = ap (λ bs. seen bs c.put.new.self.keys) (over g c) ∙ turned_seen q.rows q.heads q.pairs.items q.turned.items q.free.items c.self.invariant.0 c.self.invariant.1 c.args.station c.index-pair.result.now (at g c) c.args.key (has g c) c.drop_slot.new.self c.put.new.self (mid g c) (new g c) in
     (λ i. record { keys = keys i; pairs = q.pairs.items; turned = over g c i; free = q.free.items }) ∙ ap (λ (r : Rowed). record { keys = r.keys; pairs = r.pairs; turned = set r.turned c.args.station (not (turned_at r.turned c.args.station)); free = r.free }) c.self.view_is
+
+pub returns-clause-counted : goal.returns-clause-counted
+returns-clause-counted g c =
+    λ k l m.
+    let q = c.self.inside in
+    let few : length q.rows.keys ≤ 2 ^ k = omega (arith, l, c.self.invariant.0.each, ap (λ (r : Rowed). length r.pairs) c.self.view_is) in
+    let dropped = c.drop_slot.ensures.counted k few in
+    let put = c.put.ensures.counted k (omega (arith, few, ap (λ (r : Grouped Timed). length r.keys) (mid g c), length-set q.rows.keys (place_in c.args.station (turned_at q.turned.items c.args.station)) None)) in
+    let told = c.tell_both.ensures.counted k (omega (arith, m, c.self.invariant.1.each, ap (λ (r : Rowed). length r.free) c.self.view_is)) in
+    omega (arith, dropped, put, told)
