@@ -1,5 +1,5 @@
 -- Match lists that stand one after another, after a write.
-use Rattle.std.proofs.Common.{ℕ, zero, suc, ◌<◌, ◌≤◌, ◌+◌, ◌-◌, ◌≡◌, ◌⊎◌, inl, inr, List, [], ◌∷◌, ◌++◌, length, Some, map, take, drop, slice_get, slice_set, get_or, refl, arith, sym, ap, ap₂, ◌∙◌, subst}
+use Rattle.std.proofs.Common.{ℕ, zero, suc, ◌<◌, ◌≤◌, ◌+◌, ◌-◌, ◌^◌, ◌≡◌, ◌⊎◌, inl, inr, List, [], ◌∷◌, ◌++◌, length, Some, map, take, drop, slice_get, slice_set, get_or, refl, arith, sym, ap, ap₂, ◌∙◌, subst}
 use Rattle.std.specs.Option.{option_map}
 use Rattle.std.proofs.lemmas.Bool.{cases_eq, cases_lt}
 use Rattle.std.proofs.lemmas.Option.{none-some, same_Some, slice_get-map, slice_get_read, slice_get_within}
@@ -196,6 +196,24 @@ pub record AreBuilt (side : Side) (capacities : List Capacity) (spans : List Str
   pub fits : (i : ℕ) (s : Stretch) → slice_get spans i ≡ Some s → s.start + s.len ≤ s.end
   pub within : (i : ℕ) (s : Stretch) → slice_get spans i ≡ Some s → s.end ≤ end
   pub empty : (entries : List MatchEntry) → map (list_at entries) spans ≡ map (empty_list side) capacities
+
+-- none yet
+pub built_none : (side : Side) → AreBuilt side [] [] 0
+built_none side = record {
+  apart = λ i j s t l e f. absurd (none-some s e);
+  fits = λ i s e. absurd (none-some s e);
+  within = λ i s e. absurd (none-some s e);
+  empty = λ entries. refl;
+}
+
+-- they are apart among so many entries
+pub built_packed : (side : Side) (capacities : List Capacity) (spans : List Stretch) (end : ℕ) → AreBuilt side capacities spans end → (entries : List MatchEntry) → length entries ≡ end → end < 2 ^ 32 → ArePacked spans entries
+built_packed side capacities spans end b entries long few = record {
+  apart = b.apart;
+  fits = b.fits;
+  within = λ i s e. let low = b.within i s e in omega (arith, low, long);
+  few = omega (arith, long, few);
+}
 
 -- one more
 pub built_more : (side : Side) (capacities : List Capacity) (spans : List Stretch) (end : ℕ) → AreBuilt side capacities spans end → (c : Capacity) (stop : ℕ) → stop ≡ end + room_of side c → AreBuilt side (capacities ++ c ∷ []) (spans ++ record { start = end; len = 0; head = 0; end = stop } ∷ []) stop

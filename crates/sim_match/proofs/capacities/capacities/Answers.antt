@@ -1,6 +1,9 @@
-use Rattle.std.proofs.Common.{◌<◌, ◌^◌, Some, length, get_or, arith, ap, ◌∙◌}
+use Rattle.std.proofs.Common.{◌<◌, ◌^◌, List, Some, length, get_or, arith, ap, ◌∙◌, subst}
+use Rattle.std.proofs.lemmas.List.{take_all}
+use Rattle.goal_graph.specs.declared.action.OpId.{OpId}
 use Rattle.goal_graph.specs.declared.plan.Kind.{Kind}
 use Rattle.goal_graph.specs.Schedule.{IsSend}
+use Rattle.sim_match.specs.Capacities.{AreCapacities}
 use Rattle.sim_match.proofs.PatternLemmas.{lists_once, lists_within}
 use Rattle.sim_match.proofs.CapacityLemmas.{receives_fit, receive_more, its_lists, sends_fit, send_more, calc_more}
 use Rattle.sim_match.proofs.capacities.capacities.Goals as goal
@@ -62,3 +65,11 @@ loop-id-preserved c = λ n. elim c.match-op.branch [
       rw (w.capacities-is, back) (send_more _ _ c.operations-id-items.result.now c.loop-id.id-index (record { rank = 0; op = 0 }) (omega arith) _ (c.loop-id.invariant n) _ c.op.ensures.op _ _ _ w.in-Send.is w.count_send.new.capacities counted)
   | in-Calc w ↦ rw w.capacities-is (calc_more _ _ c.operations-id-items.result.now c.loop-id.id-index (record { rank = 0; op = 0 }) (omega arith) _ (c.loop-id.invariant n) _ c.op.ensures.op _ w.in-Calc.is)
 ]
+
+pub op-requires : goal.op-requires
+op-requires c = c.operations-id-items.ensures.exist c.loop-id.id-index (record { rank = 0; op = 0 }) (omega arith)
+
+pub returns : goal.returns
+returns c = λ n.
+    let all = take_all c.loop-id.id-index c.operations-id-items.result.now c.loop-id-test.false ∙ c.operations-id-items.ensures.all in
+    subst (λ (xs : List OpId). AreCapacities c.args.sched.now n.keys xs c.loop-id.capacities.items) all (c.loop-id.invariant n)

@@ -1,9 +1,11 @@
-use Rattle.std.proofs.Common.{◌≡◌, length, take, get_or, is_some, arith, refl, sym, ap, ◌∙◌}
-use Rattle.std.proofs.lemmas.List.{map_push, take_more}
+use Rattle.std.proofs.Common.{◌≡◌, length, map, take, get_or, is_some, arith, refl, sym, ap, ◌∙◌, subst}
+use Rattle.std.proofs.lemmas.List.{map_push, take_all, take_more}
 use Rattle.std.proofs.lemmas.List.Elements.{All-nil, All-push}
 use Rattle.goal_graph.specs.declared.action.OpId.{OpId}
 use Rattle.goal_graph.specs.Schedule.{kind_at}
 use Rattle.sim_match.specs.Patterns.{own_pattern, own_list}
+use Rattle.sim_match.specs.ListNumbers.{coded}
+use Rattle.sim_match.specs.ListOrder.{HaveNumbers}
 use Rattle.sim_match.proofs.InTurn.{each_again, coded_again, own_place}
 use Rattle.sim_match.proofs.list_numbers.numbers_in_turn.Goals as goal
 
@@ -42,3 +44,17 @@ loop-id-preserved c =
       count = omega (arith, c.push_reserved.ensures.len, before.count);
       room = omega (arith, c.push_reserved.ensures.capacity, before.room);
     }
+
+pub own_list-place-requires : goal.own_list-place-requires
+own_list-place-requires c =
+    c.operations-id-items.ensures.exist c.loop-id.id-index (record { rank = 0; op = 0 }) (omega arith)
+
+pub returns-clause-each : goal.returns-clause-each
+returns-clause-each c =
+    let all = take_all c.loop-id.id-index c.operations-id-items.result.now c.loop-id-test.false ∙ c.operations-id-items.ensures.all in
+    subst (HaveNumbers c.args.sched.now c.args.patterns.now c.loop-id.order.keys.items) all c.loop-id.invariant.each
+
+pub returns-clause-numbers : goal.returns-clause-numbers
+returns-clause-numbers c =
+    let all = take_all c.loop-id.id-index c.operations-id-items.result.now c.loop-id-test.false ∙ c.operations-id-items.ensures.all in
+    c.loop-id.invariant.coded ∙ ap (map (λ (x : OpId). coded (own_list c.args.sched.now c.loop-id.order.keys.items x))) all

@@ -1,5 +1,8 @@
-use Rattle.std.proofs.Common.{arith, refl}
-use Rattle.std.proofs.lemmas.List.{map_push, take_more}
+use Rattle.std.proofs.Common.{map, arith, refl, ap, ◌∙◌}
+use Rattle.std.proofs.lemmas.List.{map_push, take_all, take_more}
+use Rattle.goal_graph.specs.declared.action.OpId.{OpId}
+use Rattle.sim_match.specs.Patterns.{own_list}
+use Rattle.sim_match.specs.ListNumbers.{coded}
 use Rattle.sim_match.proofs.Numbering.{own_codable}
 use Rattle.sim_match.proofs.list_numbers.own_numbers.Goals as goal
 
@@ -13,3 +16,12 @@ loop-id-preserved c = record {
   count = omega (arith, c.push_reserved.ensures.len, c.loop-id.invariant.count);
   room = omega (arith, c.push_reserved.ensures.capacity, c.loop-id.invariant.room);
 }
+
+pub own_list-number-requires : goal.own_list-number-requires
+own_list-number-requires c =
+    c.operations-id-items.ensures.exist c.loop-id.id-index (record { rank = 0; op = 0 }) (omega arith)
+
+pub returns-clause-numbers : goal.returns-clause-numbers
+returns-clause-numbers c = λ some.
+    let all = take_all c.loop-id.id-index c.operations-id-items.result.now c.loop-id-test.false ∙ c.operations-id-items.ensures.all in
+    c.loop-id.invariant.coded ∙ ap (map (λ (x : OpId). coded (own_list c.args.sched.now c.args.patterns.now x))) all

@@ -1,6 +1,8 @@
-use Rattle.std.proofs.Common.{arith, refl, sym, ◌∙◌}
-use Rattle.std.proofs.lemmas.List.{map_push, take_more}
-use Rattle.sim_match.specs.Patterns.{is_wild}
+use Rattle.std.proofs.Common.{map, arith, refl, sym, ap, ◌∙◌}
+use Rattle.std.proofs.lemmas.List.{map_push, take_all, take_more}
+use Rattle.goal_graph.specs.declared.action.OpId.{OpId}
+use Rattle.sim_match.specs.Patterns.{is_wild, wild_list}
+use Rattle.sim_match.specs.ListNumbers.{coded}
 use Rattle.sim_match.proofs.InTurn.{wild_place, wild_kept, none_in_turn}
 use Rattle.sim_match.proofs.list_numbers.wild_numbers.Goals as goal
 
@@ -20,3 +22,12 @@ loop-id-preserved c =
       count = omega (arith, c.push_reserved.ensures.len, c.loop-id.invariant.count);
       room = omega (arith, c.push_reserved.ensures.capacity, c.loop-id.invariant.room);
     }
+
+pub wild_list-place-requires-clause-op : goal.wild_list-place-requires-clause-op
+wild_list-place-requires-clause-op c =
+    c.operations-id-items.ensures.exist c.loop-id.id-index (record { rank = 0; op = 0 }) (omega arith)
+
+pub returns : goal.returns
+returns c =
+    let all = take_all c.loop-id.id-index c.operations-id-items.result.now c.loop-id-test.false ∙ c.operations-id-items.ensures.all in
+    c.loop-id.invariant.coded ∙ ap (map (λ (x : OpId). coded (wild_list c.args.sched.now c.args.order.now.keys.items c.args.wild x))) all

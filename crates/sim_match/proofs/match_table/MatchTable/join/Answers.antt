@@ -1,9 +1,10 @@
-use Rattle.std.proofs.Common.{ℕ, ◌+◌, ◌≤◌, ◌<◌, ◌≡◌, length, arith, refl, ap, ◌∙◌}
-use Rattle.std.proofs.lemmas.List.{length-set}
+use Rattle.std.proofs.Common.{ℕ, ◌+◌, ◌≤◌, ◌<◌, ◌≡◌, false, [], Option, Some, None, is_some, length, arith, refl, sym, ap, ◌∙◌, subst}
+use Rattle.std.proofs.lemmas.List.{length-set, take_all}
+use Rattle.sim_match.specs.declared.match_list.MatchEntry.{MatchEntry}
 use Rattle.sim_match.specs.Patterns.{lists_for}
 use Rattle.sim_match.specs.Looks.{unseen}
 use Rattle.sim_match.specs.MatchLists.{pushed}
-use Rattle.sim_match.specs.Matcher.{actions_of, side_by_side, IsKept}
+use Rattle.sim_match.specs.Matcher.{actions_of, side_by_side, IsJoined, IsKept}
 use Rattle.sim_match.proofs.Kept.{length-actions_of, arrival_counted, joined_none, sought_without, sought_with, stood_without, stood_with, join_within, join_ready, join_room}
 use Rattle.sim_match.proofs.Unmet.{unmet_short}
 use Rattle.sim_match.proofs.Unseen.{unseen_read, found_covered, joined_covered}
@@ -92,6 +93,29 @@ seek-preserved g c =
       }
     ]
 
+-- what is said of no entry
+no_entry : (o : Option MatchEntry) → is_some o ≡ false → o ≡ None
+no_entry None e = refl
+no_entry (Some x) e = absurd (cc)
+
+pub stand-init : goal.stand-init
+stand-init g c = record {
+  joined = λ kept.
+      let lists = lists_for c.args.sched.now kept.numbered.keys c.args.send in
+      let all = take_all c.seek.number-index lists (omega (arith, c.seek-test.false, ap length (c.lists_of_send-numbers.ensures kept.numbered))) in
+      let none = no_entry c.seek.met (sym c.is_some.ensures ∙ c.if-is_some.false) in
+      subst (IsJoined c.args.sched.now kept.numbered.keys (actions_of c.args.sched.now c.args.self.now.events.items) c.args.send [] lists (side_by_side c.seek.self.receives c.seek.self.sends)) none (subst (λ looked. IsJoined c.args.sched.now kept.numbered.keys (actions_of c.args.sched.now c.args.self.now.events.items) c.args.send [] looked (side_by_side c.seek.self.receives c.seek.self.sends) c.seek.met) all (c.seek.invariant.joined kept));
+  as_many = c.seek.invariant.as_many;
+  numbers = c.seek.invariant.numbers;
+  marks = c.seek.invariant.marks;
+  events = c.seek.invariant.events;
+  count = c.seek.invariant.count;
+  standing = ap (λ n. n + 1) c.seek.invariant.standing;
+  covered = c.seek.invariant.covered;
+  bounded = omega (arith, c.seek.invariant.bounded, c.seek.auto.number-index-end);
+  counted = omega (arith, c.seek.invariant.counted, c.seek.auto.number-index-end);
+}
+
 pub overflow_add-self : goal.overflow_add-self
 overflow_add-self g c =
     let counted = arrival_counted _ _ _ _ _ c.requires.kept.mirrors c.args.send c.requires.send c.requires.fresh in
@@ -159,3 +183,20 @@ stand-preserved g c =
         standing = rw w.self-is c.stand.invariant.standing;
       }
     ]
+
+pub returns : goal.returns
+returns g c = record {
+  joined = λ kept.
+      let lists = lists_for c.args.sched.now kept.numbered.keys c.args.send in
+      let all = take_all c.stand.number-index lists (omega (arith, c.stand-test.false, ap length (c.lists_of_send-numbers.ensures kept.numbered))) in
+      subst (λ stood. IsJoined c.args.sched.now kept.numbered.keys (actions_of c.args.sched.now c.args.self.now.events.items) c.args.send stood lists (side_by_side c.stand.self.receives c.stand.self.sends) None) all (c.stand.invariant.joined kept);
+  numbers = c.stand.invariant.numbers;
+  as_many = c.stand.invariant.as_many;
+  marks = c.stand.invariant.marks;
+  events = c.stand.invariant.events;
+  count = c.stand.invariant.count;
+  standing = c.stand.invariant.standing;
+  covered = c.stand.invariant.covered;
+  bounded = omega (arith, c.stand.invariant.bounded, c.stand.auto.number-index-end);
+  counted = omega (arith, c.stand.invariant.counted, c.stand.auto.number-index-end);
+}
