@@ -1,5 +1,5 @@
 -- An operation, a dependency or a note of version 1 that is read is spelled so.
-use Rattle.std.proofs.Common.{◌≡◌, ℕ, zero, suc, ◌≤◌, List, [], ◌∷◌, Ok, refl, sym, ap, subst, ◌∙◌, arith}
+use Rattle.std.proofs.Common.{◌≡◌, ℕ, zero, suc, ◌≤◌, List, [], ◌∷◌, Ok, refl, sym, ap, subst, arith}
 use Rattle.goal_graph.specs.declared.plan.Op.{Op}
 use Rattle.goal_graph.specs.declared.plan.Dep.{Dep}
 use Rattle.goal_graph.specs.declared.plan.Note.{Note}
@@ -105,9 +105,33 @@ module _ (bytes : List ℕ) where
         let made : Note × ℕ = (note_of a.0.0 b.0.0 c.0.0 d.0.0, d.0.1) in
         subst (λ (y : Note × ℕ). Takes bytes at (fixed_note y.0) y.1) {x = made} (ok_is made x d.2) (rw (note_of-fields a.0.0 b.0.0 c.0.0 d.0.0 k.1) all)
 
-    -- a form that is the one of a kind and its flags
-    form_swap : (P : Form → Type 0) (f g : Form) → f ≡ g → P g → P f
-    form_swap P f g same = subst P (sym same)
+    -- the fields of an operation, one after another
+    op_taken : (at cpu_at nic_at peer_at tag_at unused_at size_at after : ℕ) (kind flags cpu nic peer tag size : ℕ) → AreFields kind flags nic peer tag → Takes bytes at (kind ∷ flags ∷ []) cpu_at → Takes bytes cpu_at (cpu ∷ []) nic_at → Takes bytes nic_at (nic ∷ []) peer_at → Takes bytes peer_at (spelled_u32 peer) tag_at → Takes bytes tag_at (spelled_u32 tag) unused_at → Takes bytes unused_at (spelled_u32 0) size_at → Takes bytes size_at (spelled_u64 size) after → Takes bytes at (fixed_op (made_op kind flags cpu nic peer tag size)) after
+    op_taken at cpu_at nic_at peer_at tag_at unused_at size_at after kind flags cpu nic peer tag size fields form its_cpu its_nic its_peer its_tag none its_size =
+        let all : Takes bytes at (op_bytes kind flags cpu nic peer tag size) after =
+        Takes-then bytes at (kind ∷ flags ∷ []) cpu_at _ after form
+        (Takes-then bytes cpu_at (cpu ∷ []) nic_at _ after its_cpu
+        (Takes-then bytes nic_at (nic ∷ []) peer_at _ after its_nic
+        (Takes-then bytes peer_at (spelled_u32 peer) tag_at _ after its_peer
+        (Takes-then bytes tag_at (spelled_u32 tag) unused_at _ after its_tag
+        (Takes-then bytes unused_at (spelled_u32 0) size_at (spelled_u64 size) after none its_size))))) in
+        subst (λ (text : List ℕ). Takes bytes at text after) (sym (made_op-spelled kind flags cpu nic peer tag size fields)) all
+
+    -- a field that has to be 0
+    none_taken : (at n after : ℕ) → Takes bytes at (spelled_u32 n) after × (n ≤ 0) → Takes bytes at (spelled_u32 0) after
+    none_taken at n after t = subst (λ (m : ℕ). Takes bytes at (spelled_u32 m) after) (is_zero n t.1) t.0
+
+    -- an operation of that form, whose other fields are within its limits
+    formed : (at cpu_at nic_at peer_at tag_at unused_at size_at after : ℕ) (form : Form) (cpu nic peer tag size : ℕ) → FormTaken at form cpu_at → nic ≤ most_nic form → peer ≤ most_peer form → tag ≤ most_tag form → Takes bytes cpu_at (cpu ∷ []) nic_at → Takes bytes nic_at (nic ∷ []) peer_at → Takes bytes peer_at (spelled_u32 peer) tag_at → Takes bytes tag_at (spelled_u32 tag) unused_at → Takes bytes unused_at (spelled_u32 0) size_at → Takes bytes size_at (spelled_u64 size) after → Takes bytes at (fixed_op (record { kind = kind_of form peer tag size; cpu = cpu; nic = nic })) after
+    formed at cpu_at nic_at peer_at tag_at unused_at size_at after form cpu nic peer tag size taken nic_fits peer_fits tag_fits its_cpu its_nic its_peer its_tag none its_size =
+        let fields : AreFields taken.kind taken.flags nic peer tag = record {
+          kind_fits = taken.kind_fits;
+          flags_fit = taken.flags_fit;
+          nic_fits = subst (λ (f : Form). nic ≤ most_nic f) (sym taken.form_is) nic_fits;
+          peer_fits = subst (λ (f : Form). peer ≤ most_peer f) (sym taken.form_is) peer_fits;
+          tag_fits = subst (λ (f : Form). tag ≤ most_tag f) (sym taken.form_is) tag_fits;
+        } in
+        subst (λ (f : Form). Takes bytes at (fixed_op (record { kind = kind_of f peer tag size; cpu = cpu; nic = nic })) after) taken.form_is (op_taken at cpu_at nic_at peer_at tag_at unused_at size_at after taken.kind taken.flags cpu nic peer tag size fields taken.takes its_cpu its_nic its_peer its_tag none its_size)
 
     pub fixed_op_taken : (at : ℕ) (x : Op × ℕ) → fixed_op_at bytes at ≡ Ok x → Takes bytes at (fixed_op x.0) x.1
     unfolding fixed_op_at
@@ -119,29 +143,11 @@ module _ (bytes : List ℕ) where
         let g = bind_ok (u32_up_to bytes (most_tag a.0.0) d.0.1) _ x d.2 in
         let z = bind_ok (u32_up_to bytes 0 g.0.1) _ x g.2 in
         let s = bind_ok (u64_up_to bytes (most_size a.0.0) z.0.1) _ x z.2 in
-        let form = form_taken at a.0 a.1 in
         let nic = byte_up_to_ok bytes (most_nic a.0.0) b.0.1 c.0 c.1 in
         let peer = u32_below (most_peer a.0.0) c.0.1 d.0 d.1 in
         let tag = u32_below (most_tag a.0.0) d.0.1 g.0 g.1 in
-        let unused = u32_below 0 g.0.1 z.0 z.1 in
+        let none = none_taken g.0.1 z.0.0 z.0.1 (u32_below 0 g.0.1 z.0 z.1) in
         let size = u64_up_to_ok bytes (most_size a.0.0) z.0.1 s.0 s.1 in
-        let none : Takes bytes g.0.1 (spelled_u32 0) z.0.1 = subst (λ (n : ℕ). Takes bytes g.0.1 (spelled_u32 n) z.0.1) (is_zero z.0.0 unused.1) unused.0 in
-        let all : Takes bytes at (op_bytes form.kind form.flags b.0.0 c.0.0 d.0.0 g.0.0 s.0.0) s.0.1 =
-        Takes-then bytes at (form.kind ∷ form.flags ∷ []) a.0.1 _ s.0.1 form.takes
-        (Takes-then bytes a.0.1 (b.0.0 ∷ []) b.0.1 _ s.0.1 (byte_taken bytes a.0.1 b.0 b.1)
-        (Takes-then bytes b.0.1 (c.0.0 ∷ []) c.0.1 _ s.0.1 (byte_taken bytes b.0.1 c.0 nic.0)
-        (Takes-then bytes c.0.1 (spelled_u32 d.0.0) d.0.1 _ s.0.1 peer.0
-        (Takes-then bytes d.0.1 (spelled_u32 g.0.0) g.0.1 _ s.0.1 tag.0
-        (Takes-then bytes g.0.1 (spelled_u32 0) z.0.1 (spelled_u64 s.0.0) s.0.1 none (u64_taken bytes fits z.0.1 s.0 size.0)))))) in
-        let fields : AreFields form.kind form.flags c.0.0 d.0.0 g.0.0 = record {
-          kind_fits = form.kind_fits;
-          flags_fit = form.flags_fit;
-          nic_fits = form_swap (λ f. c.0.0 ≤ most_nic f) (form_of form.kind form.flags) a.0.0 form.form_is nic.1;
-          peer_fits = form_swap (λ f. d.0.0 ≤ most_peer f) (form_of form.kind form.flags) a.0.0 form.form_is peer.1;
-          tag_fits = form_swap (λ f. g.0.0 ≤ most_tag f) (form_of form.kind form.flags) a.0.0 form.form_is tag.1;
-        } in
-        let op = made_op form.kind form.flags b.0.0 c.0.0 d.0.0 g.0.0 s.0.0 in
-        let spelled : Takes bytes at (fixed_op op) s.0.1 = subst (λ (text : List ℕ). Takes bytes at text s.0.1) (sym (made_op-spelled form.kind form.flags b.0.0 c.0.0 d.0.0 g.0.0 s.0.0 fields)) all in
-        let same : op ≡ record { kind = kind_of a.0.0 d.0.0 g.0.0 s.0.0; cpu = b.0.0; nic = c.0.0 } = ap (λ (f : Form). record { kind = kind_of f d.0.0 g.0.0 s.0.0; cpu = b.0.0; nic = c.0.0 }) form.form_is in
-        let is = ok_is (record { kind = kind_of a.0.0 d.0.0 g.0.0 s.0.0; cpu = b.0.0; nic = c.0.0 }, s.0.1) x s.2 in
-        subst (λ (y : Op × ℕ). Takes bytes at (fixed_op y.0) y.1) {x = (op, s.0.1)} (ap (λ (o : Op). (o, s.0.1)) same ∙ is) spelled
+        let spelled = formed at a.0.1 b.0.1 c.0.1 d.0.1 g.0.1 z.0.1 s.0.1 a.0.0 b.0.0 c.0.0 d.0.0 g.0.0 s.0.0 (form_taken at a.0 a.1) nic.1 peer.1 tag.1 (byte_taken bytes a.0.1 b.0 b.1) (byte_taken bytes b.0.1 c.0 nic.0) peer.0 tag.0 none (u64_taken bytes fits z.0.1 s.0 size.0) in
+        let made : Op × ℕ = (record { kind = kind_of a.0.0 d.0.0 g.0.0 s.0.0; cpu = b.0.0; nic = c.0.0 }, s.0.1) in
+        subst (λ (y : Op × ℕ). Takes bytes at (fixed_op y.0) y.1) {x = made} (ok_is made x s.2) spelled

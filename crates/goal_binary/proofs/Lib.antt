@@ -32,3 +32,4 @@ pub mod PackedTaken
 pub mod FixedAgain
 pub mod PackedAgain
 pub mod ItemsRead
+mod Appended

@@ -6,6 +6,7 @@ use Rattle.goal_limits.specs.declared.limits.TheConstants.{MAX_OPS, MAX_DEPS, MA
 use Rattle.goal_graph.specs.Schedule.{Plan}
 use Rattle.goal_graph.specs.Fault.{op_count, dep_count, note_count}
 use Rattle.goal_binary.specs.File.{header, spelled_rank, written}
+use Rattle.goal_binary.proofs.Appended.{one_appended}
 use Rattle.goal_binary.proofs.encoding.write.Goals as goal
 
 -- a rank has no more than all ranks together
@@ -35,6 +36,11 @@ put_rank-requires-clause-notes c =
     let plans = c.plans-plans.result.now in
     let all : note_count plans ≤ MAX_NOTES = rw c.plans-plans.ensures.plans c.plans-plans.ensures.counts.notes in
     omega (arith, within_all (λ (p : Plan). length p.notes) plans c.loop-plan.plan-index c.plan-item.result _ c.loop-plan-test.true c.plan-item.is all)
+
+pub loop-plan-preserved : goal.loop-plan-preserved
+loop-plan-preserved c =
+    let now = c.in_ok-put_rank.ensures ∙ ap (λ (p : Plan). c.loop-plan.out.items ++ spelled_rank c.args.layout p) c.plan-item.is in
+    one_appended (spelled_rank c.args.layout) _ _ _ c.plans-plans.result.now c.loop-plan.plan-index c.plan-item.result c.loop-plan-test.true c.loop-plan.invariant now
 
 pub returns : goal.returns
 unfolding written
