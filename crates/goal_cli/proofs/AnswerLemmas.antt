@@ -4,6 +4,7 @@ use Rattle.std.proofs.Math.Seq.{take-length}
 use Rattle.std.specs.FinMap.{get, insert}
 use Rattle.goal_limits.specs.declared.limits.TheConstants.{MAX_INPUT}
 use Rattle.goal_base.specs.Device.{HostState, SinkState, Files, Later, KeepsFiles, KeepsReading, SameFiles, SameRest, ReadsAtMost, Holds, HoldsPart, Held, Grows, file_of, ReadFaulted, SameReadCounts, IsTooLong}
+use Rattle.goal_base.proofs.ForCallers.{kept_then}
 use Rattle.goal_graph.specs.Schedule.{Plan}
 use Rattle.sim_params.specs.Costs.{Numbers, CostModel, log_gops}
 use Rattle.sim_classes.specs.Machine.{Known, costs_of}
@@ -225,13 +226,6 @@ module _ (a b d : HostState) (kept : KeepsFiles a b) (later : Later a b) where
   holds_part_from name bytes (inl same) = inl (same_from same)
   holds_part_from name bytes (inr part) = inr (part.0, part.1, holds_from name _ part.2)
 
-  pub keeps_from : KeepsFiles b d → KeepsFiles a d
-  keeps_from same = record {
-    files = same_from same.files;
-    writing = same.writing ∙ kept.writing;
-    write_count = same.write_count ∙ kept.write_count;
-  }
-
 -- the same of an output, of a part of it, of where the command doesn't write, and of the counts
 module _ (a b : HostState) (out : SinkState) (new : Devices) (kept : KeepsFiles a b) (later : Later a b) where
   gets_from : (t : Target) (bytes : List ℕ) → Gets (devices b out) new t bytes → Gets (devices a out) new t bytes
@@ -243,7 +237,7 @@ module _ (a b : HostState) (out : SinkState) (new : Devices) (kept : KeepsFiles 
   part_from (ToFile name) bytes part = holds_part_from a b new.host kept later name bytes part
 
   elsewhere_from : (t : Target) → Elsewhere (devices b out) new t → Elsewhere (devices a out) new t
-  elsewhere_from ToOut same = keeps_from a b new.host kept later same
+  elsewhere_from ToOut same = kept_then a b new.host later kept same
   elsewhere_from (ToFile name) same = same
 
   same_count_from : (t : Target) → WritesSame (devices b out) new t → WritesSame (devices a out) new t

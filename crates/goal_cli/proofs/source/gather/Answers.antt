@@ -12,8 +12,8 @@ use Rattle.goal_cli.specs.declared.answer.Refusal.TheVariants as refusal
 use Rattle.goal_cli.specs.Answer.{ForNamed, ForRead, IsReadOut}
 use Rattle.goal_cli.specs.Output.{input_of, machine_of, input_with, IsFrom, IsRefused}
 use Rattle.goal_cli.specs.Unmade.{IsUnmade, IsUntold, IsIdle, IsGot, IsGathered}
-use Rattle.goal_base.proofs.ForCallers.{later_then, counts_then}
-use Rattle.goal_cli.proofs.AnswerLemmas.{for_turned, got_for, idle_refused, keeps_from, read_out_from, taken_both, taken_first}
+use Rattle.goal_base.proofs.ForCallers.{later_then, kept_then, counts_then}
+use Rattle.goal_cli.proofs.AnswerLemmas.{for_turned, got_for, idle_refused, read_out_from, taken_both, taken_first}
 use Rattle.goal_cli.proofs.source.gather.Goals as goal
 
 -- what was got of both files
@@ -88,8 +88,8 @@ returns-in-Ok-take_machine-clause-work g c =
 
 pub returns-in-Ok-take_machine-clause-kept : goal.returns-in-Ok-take_machine-clause-kept
 returns-in-Ok-take_machine-clause-kept g c =
-    keeps_from (g.H.Host.state c.args.host.now) (g.H.Host.state c.schedule_of.new.host) (g.H.Host.state c.take_machine.new.host) c.schedule_of.ensures.kept
-    c.schedule_of.ensures.later c.take_machine.ensures.kept
+    kept_then (g.H.Host.state c.args.host.now) (g.H.Host.state c.schedule_of.new.host) (g.H.Host.state c.take_machine.new.host) c.schedule_of.ensures.later
+    c.schedule_of.ensures.kept c.take_machine.ensures.kept
 
 pub returns-in-Ok-take_machine-clause-later : goal.returns-in-Ok-take_machine-clause-later
 returns-in-Ok-take_machine-clause-later g c =
@@ -103,8 +103,8 @@ returns-in-Ok-take_machine-clause-taken g c =
 
 pub returns-in-Err-take_machine-clause-kept : goal.returns-in-Err-take_machine-clause-kept
 returns-in-Err-take_machine-clause-kept g c =
-    keeps_from (g.H.Host.state c.args.host.now) (g.H.Host.state c.schedule_of.new.host) (g.H.Host.state c.take_machine.new.host) c.schedule_of.ensures.kept
-    c.schedule_of.ensures.later c.take_machine.ensures.kept
+    kept_then (g.H.Host.state c.args.host.now) (g.H.Host.state c.schedule_of.new.host) (g.H.Host.state c.take_machine.new.host) c.schedule_of.ensures.later
+    c.schedule_of.ensures.kept c.take_machine.ensures.kept
 
 pub returns-in-Err-take_machine-clause-later : goal.returns-in-Err-take_machine-clause-later
 returns-in-Err-take_machine-clause-later g c =
@@ -118,8 +118,8 @@ returns-in-Err-take_machine-clause-taken g c =
 
 pub returns-in-Ok-take_machine-2-clause-kept : goal.returns-in-Ok-take_machine-2-clause-kept
 returns-in-Ok-take_machine-2-clause-kept g c =
-    keeps_from (g.H.Host.state c.args.host.now) (g.H.Host.state c.schedule_of.new.host) (g.H.Host.state c.take_machine-in-Err-Refused.new.host) c.schedule_of.ensures.kept
-    c.schedule_of.ensures.later c.take_machine-in-Err-Refused.ensures.kept
+    kept_then (g.H.Host.state c.args.host.now) (g.H.Host.state c.schedule_of.new.host) (g.H.Host.state c.take_machine-in-Err-Refused.new.host) c.schedule_of.ensures.later
+    c.schedule_of.ensures.kept c.take_machine-in-Err-Refused.ensures.kept
 
 pub returns-in-Ok-take_machine-2-clause-later : goal.returns-in-Ok-take_machine-2-clause-later
 returns-in-Ok-take_machine-2-clause-later g c =
@@ -133,8 +133,8 @@ returns-in-Ok-take_machine-2-clause-taken g c =
 
 pub returns-in-Err-take_machine-2-clause-kept : goal.returns-in-Err-take_machine-2-clause-kept
 returns-in-Err-take_machine-2-clause-kept g c =
-    keeps_from (g.H.Host.state c.args.host.now) (g.H.Host.state c.schedule_of.new.host) (g.H.Host.state c.take_machine-in-Err-Refused.new.host) c.schedule_of.ensures.kept
-    c.schedule_of.ensures.later c.take_machine-in-Err-Refused.ensures.kept
+    kept_then (g.H.Host.state c.args.host.now) (g.H.Host.state c.schedule_of.new.host) (g.H.Host.state c.take_machine-in-Err-Refused.new.host) c.schedule_of.ensures.later
+    c.schedule_of.ensures.kept c.take_machine-in-Err-Refused.ensures.kept
 
 pub returns-in-Err-take_machine-2-clause-later : goal.returns-in-Err-take_machine-2-clause-later
 returns-in-Err-take_machine-2-clause-later g c =
