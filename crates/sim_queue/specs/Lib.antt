@@ -8,4 +8,3 @@ pub use Rattle.goal_graph.specs.Schedule
 pub use Rattle.sim_order.specs.Events
 pub use Rattle.sim_heaps.specs.Map
 pub use Rattle.sim_groups.specs.Groups
-pub use Rattle.sim_floors.specs.Floors

@@ -1,6 +1,0 @@
-pub mod Floors
-pub mod FloorSteps
-pub mod FloorLeast
-pub mod FloorStands
-pub mod FloorNew
-pub mod FloorMates
