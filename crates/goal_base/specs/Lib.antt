@@ -6,4 +6,3 @@ pub mod DeviceCalls
 pub mod Calls
 pub mod Memory
 pub mod NamedFiles
-pub mod Digits

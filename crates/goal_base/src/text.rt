@@ -1,7 +1,6 @@
 //! Text that is made piece by piece.
 ghost use Rattle.std.specs.Prelude.{◌≡◌, ◌+◌, ◌≤◌, [], ◌++◌, length, take, decimal, IfOk, OnOk, OnErr};
 
-use crate::line::put_long;
 use goal_limits::NoMemory;
 use itoa::Buffer;
 use std::alloc::Global;
@@ -80,19 +79,6 @@ impl TextOut {
 
     /// Appends a number in decimal. The text is as it was where there was no memory left.
     pub fn number(&mut self, n: u128) -> Result<(), NoMemory>
-        ensures ok { OnOk result (self.new ≡ self.old ++ decimal n) }
-        ensures err { OnErr result (self.new ≡ self.old) }
-    {
-        if n > u64::MAX as u128 {
-            return self.wide(n);
-        }
-        let mut line = [0; 20];
-        let end = put_long(&mut line, 0, n as u64);
-        self.piece(&line[..end])
-    }
-
-    // A number of more than 64 bits.
-    fn wide(&mut self, n: u128) -> Result<(), NoMemory>
         ensures ok { OnOk result (self.new ≡ self.old ++ decimal n) }
         ensures err { OnErr result (self.new ≡ self.old) }
     {
