@@ -3,7 +3,7 @@ use Rattle.std.specs.Prelude.{ℕ, nat_lt, Option, Some, None, if◌then◌else�
 use Rattle.goal_limits.specs.declared.limits.TheConstants.{MAX_PARAM, MAX_PER_BYTE}
 use Rattle.sim_params.specs.declared.params.TheConstants.{MAX_PICOS}
 use Rattle.sim_params.specs.declared.params.Param.{Param}
-use Rattle.sim_params.specs.declared.params.Param.TheVariants.{Latency, Overhead, Gap, GapPerByte, GapPicos, OverheadPerByte, OverheadPicos, Sync}
+use Rattle.sim_params.specs.declared.params.Param.TheVariants.{Latency, Overhead, Gap, GapPerByte, Gp, OverheadPerByte, Op, Sync}
 use Rattle.sim_params.specs.Costs.{Numbers}
 
 -- this parameter where its value is over the limit, and else what is found of the others
@@ -17,7 +17,7 @@ first_over n =
     (over_or MAX_PARAM n.overhead Overhead
     (over_or MAX_PARAM n.gap Gap
     (over_or MAX_PER_BYTE n.gap_per_byte GapPerByte
-    (over_or MAX_PICOS n.gap_picos GapPicos
+    (over_or MAX_PICOS n.gap_picos Gp
     (over_or MAX_PER_BYTE n.overhead_per_byte OverheadPerByte
-    (over_or MAX_PICOS n.overhead_picos OverheadPicos
+    (over_or MAX_PICOS n.overhead_picos Op
     (over_or MAX_PARAM n.sync Sync None)))))))

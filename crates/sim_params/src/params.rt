@@ -38,11 +38,11 @@ pub enum Param {
     /// G, in nanoseconds per byte.
     GapPerByte,
     /// Gp, in picoseconds per byte.
-    GapPicos,
+    Gp,
     /// O, in nanoseconds per byte.
     OverheadPerByte,
     /// Op, in picoseconds per byte.
-    OverheadPicos,
+    Op,
     /// S, in bytes.
     Sync,
 }
@@ -120,9 +120,9 @@ impl Params {
         at_most(o, MAX_PARAM, Param::Overhead)?;
         at_most(g, MAX_PARAM, Param::Gap)?;
         at_most(gb, MAX_PER_BYTE, Param::GapPerByte)?;
-        at_most(gp, MAX_PICOS, Param::GapPicos)?;
+        at_most(gp, MAX_PICOS, Param::Gp)?;
         at_most(ob, MAX_PER_BYTE, Param::OverheadPerByte)?;
-        at_most(op, MAX_PICOS, Param::OverheadPicos)?;
+        at_most(op, MAX_PICOS, Param::Op)?;
         at_most(s, MAX_PARAM, Param::Sync)?;
         Ok(Params {
             latency: l,
