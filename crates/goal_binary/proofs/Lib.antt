@@ -32,4 +32,5 @@ pub mod PackedTaken
 pub mod FixedAgain
 pub mod PackedAgain
 pub mod ItemsRead
+pub mod FixedNumbers
 mod Appended

@@ -5,6 +5,7 @@ ghost use Rattle.goal_binary.specs.declared.layout.TheConstants.{MAGIC};
 ghost use Rattle.goal_binary.specs.File.{spelled_u32, spelled_u64, groups, packed, kind_code, any_flag, flags_of, peer_in, tag_in, size_of, op_bytes, when_code, fixed_op, fixed_dep, note_bytes, fixed_note, byte_unless_zero, flag_unless_zero, packed_if_some, head_code, packed_op, packed_dep, packed_note_bytes, packed_note, spelled_count, spelled_op, spelled_dep, spelled_note, spelled_counts, spelled_rank, header, written, file, old};
 
 use crate::layout::{Layout, MAGIC};
+use byteorder::{ByteOrder, LittleEndian};
 use goal_graph::{Dep, Kind, Note, Op, RankPlan, Sched, When};
 use goal_limits::NoMemory;
 use std::alloc::Global;
@@ -403,17 +404,23 @@ fn put_groups(out: &mut Vec<u8>, left: u32, number: u64) -> Result<(), NoMemory>
 }
 
 // Appends a number in four bytes.
+#[tactic(auto, using(crate::proofs::FixedNumbers::bytes_of_4))]
 fn put_u32(out: &mut Vec<u8>, n: u32) -> Result<(), NoMemory>
     ensures { OnOk result (out.new.items ≡ out.old.items ++ spelled_u32 n) }
 {
-    out.extend_from_slice(&n.to_le_bytes())?;
+    let mut field = [0; 4];
+    LittleEndian::write_u32(&mut field, n);
+    out.extend_from_slice(&field)?;
     Ok(())
 }
 
 // Appends a number in eight bytes.
+#[tactic(auto, using(crate::proofs::FixedNumbers::bytes_of_8))]
 fn put_u64(out: &mut Vec<u8>, n: u64) -> Result<(), NoMemory>
     ensures { OnOk result (out.new.items ≡ out.old.items ++ spelled_u64 n) }
 {
-    out.extend_from_slice(&n.to_le_bytes())?;
+    let mut field = [0; 8];
+    LittleEndian::write_u64(&mut field, n);
+    out.extend_from_slice(&field)?;
     Ok(())
 }

@@ -4,6 +4,7 @@ ghost use Rattle.goal_binary.specs.Fields.{byte_at, u32_at, u64_at, below, group
 
 use crate::fault::FileFault;
 use crate::layout::{Layout, MAGIC, layout_of};
+use byteorder::{ByteOrder, LittleEndian};
 use goal_limits::MAX_RANKS;
 
 /// The input ends before a field is whole.
@@ -35,31 +36,25 @@ pub fn byte_at(bytes: &[u8], at: usize) -> Result<(u8, usize), FileFault>
 }
 
 /// A number of four bytes, the lowest first.
-#[tactic(auto, unfolding(crate::specs::Fields::u32_at))]
+#[tactic(auto, using(crate::proofs::FixedNumbers::number_of_4_bytes), unfolding(crate::specs::Fields::u32_at))]
 pub fn u32_at(bytes: &[u8], at: usize) -> Result<(u32, usize), FileFault>
     ensures { result ≡ u32_at bytes.now at }
 {
     if bytes.len().saturating_sub(at) < 4 {
         return Err(short(bytes));
     }
-    let field = &bytes[at..at + 4];
-    let number = u32::from_le_bytes([field[0], field[1], field[2], field[3]]);
-    Ok((number, at + 4))
+    Ok((LittleEndian::read_u32(&bytes[at..]), at + 4))
 }
 
 /// A number of eight bytes, the lowest first.
-#[tactic(auto, unfolding(crate::specs::Fields::u64_at))]
+#[tactic(auto, using(crate::proofs::FixedNumbers::number_of_8_bytes), unfolding(crate::specs::Fields::u64_at))]
 pub fn u64_at(bytes: &[u8], at: usize) -> Result<(u64, usize), FileFault>
     ensures { result ≡ u64_at bytes.now at }
 {
     if bytes.len().saturating_sub(at) < 8 {
         return Err(short(bytes));
     }
-    let field = &bytes[at..at + 8];
-    let number = u64::from_le_bytes([
-        field[0], field[1], field[2], field[3], field[4], field[5], field[6], field[7],
-    ]);
-    Ok((number, at + 8))
+    Ok((LittleEndian::read_u64(&bytes[at..]), at + 8))
 }
 
 /// A group of seven bits of a packed number, and the number of the groups above it where there is one. There is none
