@@ -1,5 +1,8 @@
 """Reads the canonical text of a schedule, which `goal show` prints. Nothing of it is proved."""
-from dataclasses import dataclass
+from dataclasses import dataclass, field
+from typing import Container, Dict, Iterable, List, Optional, Tuple
+
+Key = Tuple[int, int]
 
 
 @dataclass
@@ -11,7 +14,7 @@ class Op:
     cpu: int
     peer: str = ""
     tag: str = ""
-    needs: list = None  # of pairs: the number of an operation, and whether its end is waited for (else its start)
+    needs: List[Tuple[int, bool]] = field(default_factory=list)  # of pairs: the number of an operation, and whether its end is waited for (else its start)
 
 
 @dataclass
@@ -19,15 +22,15 @@ class Schedule:
     """The number of ranks, operations by (rank, number), and the bytes of every send."""
 
     ranks: int
-    ops: dict
-    sizes: dict
+    ops: Dict[Key, Op]
+    sizes: Dict[Key, int]
 
 
-def read_canonical(lines, wanted=None):
+def read_canonical(lines: Iterable[str], wanted: Optional[Container[int]] = None) -> Schedule:
     """The schedule of a canonical text; with `wanted`, it has the operations of these ranks alone."""
     lines = iter(lines)
     schedule = Schedule(int(next(lines).split()[1]), {}, {})
-    rank = None
+    rank = 0
     for line in lines:
         words = line.split()
         if words[0] == "rank":
@@ -41,11 +44,11 @@ def read_canonical(lines, wanted=None):
     return schedule
 
 
-def take_item(ops, key, words):
+def take_item(ops: Dict[Key, Op], key: Key, words: List[str]) -> None:
     """Takes an operation or a dependency; a note tells nothing of times."""
     if words[1] == "calc":
-        ops[key] = Op("calc", int(words[2]), int(words[4]), needs=[])
+        ops[key] = Op("calc", int(words[2]), int(words[4]))
     elif words[1] in ("send", "recv"):
-        ops[key] = Op(words[1], int(words[2][:-1]), int(words[8]), words[4], words[6], needs=[])
+        ops[key] = Op(words[1], int(words[2][:-1]), int(words[8]), words[4], words[6])
     elif words[1] in ("requires", "irequires"):
         ops[key].needs.append((int(words[2][1:]) - 1, words[1] == "requires"))

@@ -3,6 +3,7 @@ import argparse
 import os
 import re
 import sys
+from typing import Callable, NoReturn, Optional
 
 FAULT = 2
 WRITE_FAULT = 5
@@ -15,19 +16,19 @@ class Fault(Exception):
 class Parser(argparse.ArgumentParser):
     """A parser of words that raises a Fault where they are wrong."""
 
-    def error(self, message):
+    def error(self, message: str) -> NoReturn:
         raise Fault(f"{message} (--help tells more)")
 
 
-def parser(description, epilog=None):
+def parser(description: Optional[str], epilog: Optional[str] = None) -> Parser:
     """A parser for the tool with this description, both texts printed as they are written."""
     return Parser(description=description, epilog=epilog, formatter_class=argparse.RawDescriptionHelpFormatter)
 
 
-def number(low, high):
+def number(low: int, high: int) -> Callable[[str], int]:
     """The type of an argument that is a decimal number from `low` up to `high`."""
 
-    def read(word):
+    def read(word: str) -> int:
         if not re.fullmatch("[0-9]{1,20}", word) or not low <= int(word) <= high:
             raise argparse.ArgumentTypeError(f"{word!r} is no number from {low} up to {high}")
         return int(word)
@@ -35,7 +36,7 @@ def number(low, high):
     return read
 
 
-def read_file(name):
+def read_file(name: str) -> bytes:
     """The bytes of the file NAME, of standard input where it is `-`."""
     try:
         if name == "-":
@@ -46,7 +47,7 @@ def read_file(name):
         raise Fault(f"{name}: {error.strerror}") from error
 
 
-def run(main):
+def run(main: Callable[[], int]) -> NoReturn:
     """Ends the program with the status that `main` returns, and tells its Fault. A reader of the output that has gone is
     no fault of the user: no line, and the status of a fault of writing."""
     name = os.path.basename(sys.argv[0])
