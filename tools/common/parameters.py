@@ -3,8 +3,10 @@
 A rate, G or O, may be one number of nanoseconds a byte with up to three decimals, 0.080 for 80 ps: goal takes it in two
 options, G and Gp.
 """
+import argparse
 import re
 from dataclasses import dataclass
+from typing import Dict, List, Protocol, Tuple
 
 DEFAULTS = {"L": 2500, "o": 1500, "g": 1000, "G": 6, "Gp": 0, "O": 0, "Op": 0, "S": 65535}
 # The greatest value of each: goal takes no greater one.
@@ -23,7 +25,7 @@ MEANINGS = {
 RATES = {"G": "Gp", "O": "Op"}
 
 
-def options_of(name, text):
+def options_of(name: str, text: str) -> Dict[str, int]:
     """The options of goal that give a parameter this value, by name."""
     if name in RATES and re.fullmatch(r"\d+\.\d{1,3}", text):
         whole, part = text.split(".")
@@ -34,21 +36,21 @@ def options_of(name, text):
     raise ValueError(f"{name} is {text}, not {wanted}")
 
 
-def words_of(options):
+def words_of(options: Dict[str, int]) -> List[str]:
     """Options by name as the words of a command line."""
     return [word for name, value in options.items() for word in (f"--{name}", str(value))]
 
 
-def add_options(parser):
+def add_options(parser: argparse.ArgumentParser) -> None:
     """The eight options of goal for a run."""
     group = parser.add_argument_group("parameters, as those of `goal sim`")
     for name, meaning in MEANINGS.items():
         group.add_argument(f"--{name}", metavar="N", dest=f"parameter_{name}", help=f"{meaning} ({DEFAULTS[name]})")
 
 
-def given_options(arguments):
+def given_options(arguments: argparse.Namespace) -> Dict[str, int]:
     """The options that the words of a command line give, by name."""
-    options = {}
+    options: Dict[str, int] = {}
     for name in DEFAULTS:
         text = getattr(arguments, f"parameter_{name}")
         if text is not None:
@@ -59,7 +61,7 @@ def given_options(arguments):
     return options
 
 
-def up(nanos, picos, size):
+def up(nanos: int, picos: int, size: int) -> int:
     """What the bytes of a message cost: for each but the first, the sum rounded up."""
     rest = max(size - 1, 0)
     return nanos * rest + -(-picos * rest // 1000)
@@ -76,38 +78,45 @@ class Parameters:
     Op: int
     S: int
 
-    def over(self, size):
+    def over(self, size: int) -> int:
         """How long a cpu is busy with a message."""
         return self.o + up(self.O, self.Op, size)
 
-    def is_eager(self, size):
+    def is_eager(self, size: int) -> bool:
         return size <= self.S
 
 
-def parameters_of(options):
+def parameters_of(options: Dict[str, int]) -> Parameters:
     return Parameters(**{**DEFAULTS, **options})
+
+
+class Costs(Protocol):
+    """What gives the parameters of a message by its ranks."""
+
+    def between(self, source: int, target: int) -> Parameters:
+        """The parameters of a message from the one rank to the other."""
 
 
 @dataclass
 class Machine:
     """The parameters of each message by the nodes of its ranks, from the text that `goal nodes` reads as MACHINE."""
 
-    classes: list
+    classes: List[Parameters]
     inside: int
     default: int
-    nodes: list
-    pairs: dict
+    nodes: List[int]
+    pairs: Dict[Tuple[int, int], int]
 
-    def between(self, source, target):
+    def between(self, source: int, target: int) -> Parameters:
         one, other = self.nodes[source], self.nodes[target]
         return self.classes[self.inside if one == other else self.pairs.get((one, other), self.default)]
 
 
-def machine_of(text):
+def machine_of(text: str) -> Machine:
     """The machine of a text that `goal nodes` has taken."""
     words = iter(text.split())
 
-    def after(name):
+    def after(name: str) -> int:
         if next(words, "") != name:
             raise ValueError(f"no machine: no `{name}` where it must stand")
         return int(next(words, ""))
@@ -130,5 +139,5 @@ class Alike:
 
     parameters: Parameters
 
-    def between(self, source, target):
+    def between(self, source: int, target: int) -> Parameters:
         return self.parameters

@@ -1,14 +1,17 @@
 """Reads the run that `goal sim` or `goal nodes` has printed. Nothing of it is proved."""
 from dataclasses import dataclass, field
+from typing import Container, Dict, Iterable, List, Optional, Tuple
+
+Key = Tuple[int, int]
 
 
 @dataclass(frozen=True)
 class Timed:
     """An operation of a run: its times in nanoseconds and its partner, each None where the run has none."""
 
-    start: int
-    end: int
-    partner: tuple
+    start: Optional[int]
+    end: Optional[int]
+    partner: Optional[Key]
 
 
 @dataclass
@@ -20,27 +23,28 @@ class Run:
     stuck: int
     unread: int
     finish: int
-    timed: dict = field(default_factory=dict)
-    reasons: dict = field(default_factory=dict)
+    timed: Dict[Key, Timed] = field(default_factory=dict)
+    reasons: Dict[Key, str] = field(default_factory=dict)
 
 
 class NoRun(ValueError):
     """What was read is no printed run."""
 
 
-def first_line(line):
+def first_line(line: str) -> Run:
     """The run that a first line tells, without its operations."""
     words = line.split()
     if words[::2] != ["ranks", "ops", "stuck", "unread", "finish"] or len(words) != 10:
         raise NoRun("no first line `ranks P ops N stuck K unread U finish T`")
-    return Run(*(int(word) for word in words[1::2]))
+    ranks, ops, stuck, unread, finish = map(int, words[1::2])
+    return Run(ranks, ops, stuck, unread, finish)
 
 
-def moment(word):
+def moment(word: str) -> Optional[int]:
     return None if word == "-" else int(word)
 
 
-def read_run(lines, ranks=None):
+def read_run(lines: Iterable[str], ranks: Optional[Container[int]] = None) -> Run:
     """The run that the lines tell; with `ranks`, the operations of these alone."""
     lines = iter(lines)
     run = first_line(next(lines, ""))
@@ -61,7 +65,7 @@ def read_run(lines, ranks=None):
     return run
 
 
-def timed_of(words):
+def timed_of(words: List[str]) -> Timed:
     """From `op R I KIND start A end B [match Q J]`."""
-    partner = tuple(int(word) for word in words[9:11]) if len(words) == 11 else None
+    partner = (int(words[9]), int(words[10])) if len(words) == 11 else None
     return Timed(moment(words[5]), moment(words[7]), partner)

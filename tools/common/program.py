@@ -1,7 +1,9 @@
 """Calls of the program `goal`. Nothing of it is proved."""
+import argparse
 import os
 import subprocess
 from dataclasses import dataclass
+from typing import Optional, Sequence
 
 from common.command import Fault
 
@@ -21,17 +23,17 @@ class Answer:
     err: str
 
 
-def add_option(parser):
+def add_option(parser: argparse.ArgumentParser) -> None:
     """Lets the user name the program."""
     parser.add_argument("--goal", metavar="PATH", help="the program (else that of the environment's GOAL, else ../goal)")
 
 
-def chosen(path=None):
+def chosen(path: Optional[str] = None) -> str:
     """The program: the one with this path, else that of GOAL, else `goal` beside the folder of the tools."""
     return path or os.environ.get("GOAL") or BESIDE
 
 
-def call(program, words, text=None):
+def call(program: str, words: Sequence[str], text: Optional[str] = None) -> Answer:
     """What the program answers to these words. A text that is given is its standard input: name it `/dev/stdin`."""
     try:
         done = subprocess.run([program, *words], input=text, capture_output=True, encoding="utf-8", errors="replace", check=False)
@@ -40,7 +42,7 @@ def call(program, words, text=None):
     return Answer(done.returncode, done.stdout, done.stderr.rstrip("\n"))
 
 
-def expect(answer, *statuses):
+def expect(answer: Answer, *statuses: int) -> Answer:
     """The answer, where its status is one of these; else a Fault with what the program says."""
     if answer.status not in statuses:
         said = answer.err.splitlines()[-1] if answer.err else f"it ended with status {answer.status}"
