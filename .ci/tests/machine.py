@@ -64,6 +64,17 @@ class Machines(unittest.TestCase):
         said = self.machine(CLASSES + BOUNDS + "nodes 4 of 1\npair 0 1 c\noneway 2 3 a\n")
         self.assertEqual(latencies(said, 4, [(0, 1), (1, 0), (2, 3), (3, 2)]), [10000, 10000, 100, 1000])
 
+    def test_ranks_in_turn(self):
+        said = self.machine(CLASSES + BOUNDS + "nodes 2 of 3 cyclic\nnodes 2 of 1 cyclic\n")
+        self.assertIn("ranks 8\n0 1 0\n1 0 1\n2 3\n", said)
+
+    def test_cards_are_not_in_it(self):
+        whole = self.machine(CLASSES + BOUNDS + "nodes 2 of 3\ncards own\n")
+        for cards in ("1", "2 in turn"):
+            ended = written(CLASSES + BOUNDS + f"nodes 2 of 3\ncards {cards}\n")
+            self.assertEqual((ended.returncode, ended.stdout), (0, whole))
+            self.assertEqual(ended.stderr, f"machine: MACHINE has a card for each rank: for `cards {cards}` take tools/fold\n")
+
     def test_usual_values_are_those_of_sim(self):
         said = self.machine("class a\nnodes 1 of 1\ninside a\nbetween a\n")
         self.assertIn("class 2500 1500 1000 6 0 0 0 65535\n", said)
@@ -79,6 +90,9 @@ class Machines(unittest.TestCase):
     def test_what_is_wrong_is_told_in_one_line(self):
         for description, why in (
                 ("nods 2 of 2", "-:1: 'nods' begins no line"), (CLASSES + "nodes 2 by 2", "-:4: it is `nodes COUNT of SIZE`"),
+                ("nodes 2 of 2 round", "-:1: it is `nodes COUNT of SIZE`"), ("groups 2 of 2 cyclic", "-:1: it is `groups COUNT of SIZE`"),
+                ("cards", "-:1: it is `cards own`"), ("cards 0", "-:1: a node has at least one card"), ("cards 257", "-:1: '257' is no number up to 256"),
+                ("cards 1\ncards 1", "-:2: `cards` is told twice"), ("cards own in turn", "-:1: 'own' is no number up to 256"),
                 ("nodes 0 of 2", "-:1: both numbers are above 0"), ("nodes 300 of 300", "-:1: more than 65536 ranks"),
                 ("class a L=3 L=4", "-:1: L is told twice"), ("class a G=0.0801", "-:1: G is 0.0801"), ("class a X=1", "-:1: 'X=1' is no"),
                 ("class a Gp=1000", "-:1: Gp is 1000, and at most 999"), ("class a G=0.1 Gp=3", "-:1: Gp is told twice"),

@@ -57,7 +57,8 @@ class Axes(unittest.TestCase):
             ["L=1"], ["schedule=x", "ranks=4"], ["algorithm=bcast", "ranks=4"], ["algorithm=none", "ranks=4", "size=8"],
             [f"schedule={EXCHANGE}", "L=1.5"], [f"schedule={EXCHANGE}", "L=5..1x0"], [f"schedule={EXCHANGE}", "L=1..5+0"],
             [f"schedule={EXCHANGE}", "L="], [f"schedule={EXCHANGE}", "L=1", "L=2"], [f"schedule={EXCHANGE}", "X=1"],
-            [f"schedule={EXCHANGE}", "machine=x", "L=1"], [f"schedule={EXCHANGE}", "--plot", "/tmp/x.svg"], ["schedule=/no/such/file"],
+            [f"schedule={EXCHANGE}", "machine=x", "L=1"], [f"schedule={EXCHANGE}", "cards=1"], [f"schedule={EXCHANGE}", "machine=x", "cards=0"],
+            [f"schedule={EXCHANGE}", "machine=x", "placement=none"], [f"schedule={EXCHANGE}", "--plot", "/tmp/x.svg"], ["schedule=/no/such/file"],
             [f"schedule={EXCHANGE}", "L=1,2", "--plot", "/no/such/file"],
         ):  # fmt: skip
             with self.subTest(words):
@@ -85,7 +86,28 @@ class Results(unittest.TestCase):
 
     def test_a_machine(self):
         machines = ",".join(os.path.join(TOP, "examples", name) for name in ("two_nodes", "one_class"))
-        self.assertEqual(column("finish", "algorithm=allreduce", "ranks=16", "size=1000", f"machine={machines}"), ["5080", "9520"])
+        words = ["algorithm=allreduce", "ranks=16", "size=1000", f"machine={machines}"]
+        self.assertEqual(column("finish", *words, "cards=own"), ["5080", "9520"])
+        done = sweep(*words)
+        self.assertEqual((done.returncode, done.stderr), (0, "sweep: each rank has a card of its own here; cards=1 lets the ranks of a node share one\n"))
+
+    def test_cards_and_placements(self):
+        """Two nodes of two ranks, of which 0 and 1 send to 2 and 3: over one card the second message waits for the first."""
+        with tempfile.TemporaryDirectory() as folder:
+            names = [os.path.join(folder, name) for name in ("schedule", "cluster", "shared")]
+            cluster = "class memory L=10 o=5 g=1 G=0\nclass cable L=1000 o=100 g=50 G=1\ninside memory\nbetween cable\nnodes 2 of 2\n"
+            pairs = "".join(f"rank {rank} {{ send 1000b to {rank + 2} }} rank {rank + 2} {{ recv 1000b from {rank} }} " for rank in (0, 1))
+            for name, text in zip(names, ("num_ranks 4 " + pairs, cluster, cluster + "cards 1\n")):
+                with open(name, "w", encoding="utf-8") as file:
+                    file.write(text)
+            words = [f"schedule={names[0]}", f"machine={names[1]}"]
+            self.assertEqual(table(*words, "cards=own,1,2,2 in turn", "placement=block,cyclic")[1:], [
+                [*names[:2], cards, placement, finish, "0", wait] for cards, placement, finish, wait in (
+                    ("own", "block", "2199", "2099"), ("own", "cyclic", "20", "15"), ("1", "block", "3248", "3148"),
+                    ("1", "cyclic", "20", "15"), ("2", "block", "2199", "2099"), ("2", "cyclic", "20", "15"),
+                    ("2 in turn", "block", "2199", "2099"), ("2 in turn", "cyclic", "20", "15"))])
+            self.assertEqual(column("finish", words[0], f"machine={names[2]}"), ["3248"])
+            self.assertEqual(column("finish", words[0], f"machine={names[2]}", "cards=own"), ["2199"])
 
     def test_runs_that_are_refused_are_told_and_the_others_stand(self):
         done = sweep("algorithm=allreduce", "ranks=4..8+1", "size=8")

@@ -7,7 +7,7 @@ Key = Tuple[int, int]
 
 @dataclass
 class Op:
-    """An operation: `size` in nanoseconds of a calc, in bytes else; `peer` and `tag` are text, maybe `any`."""
+    """An operation: `size` in nanoseconds of a calc, else in bytes; `peer` and `tag` are text, maybe `any`."""
 
     kind: str
     size: int
@@ -15,6 +15,7 @@ class Op:
     peer: str = ""
     tag: str = ""
     needs: List[Tuple[int, bool]] = field(default_factory=list)  # of pairs: the number of an operation, and whether its end is waited for (else its start)
+    nic: int = 0
 
 
 @dataclass
@@ -49,6 +50,6 @@ def take_item(ops: Dict[Key, Op], key: Key, words: List[str]) -> None:
     if words[1] == "calc":
         ops[key] = Op("calc", int(words[2]), int(words[4]))
     elif words[1] in ("send", "recv"):
-        ops[key] = Op(words[1], int(words[2][:-1]), int(words[8]), words[4], words[6])
+        ops[key] = Op(words[1], int(words[2][:-1]), int(words[8]), words[4], words[6], nic=int(words[10]))
     elif words[1] in ("requires", "irequires"):
         ops[key].needs.append((int(words[2][1:]) - 1, words[1] == "requires"))

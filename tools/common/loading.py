@@ -1,17 +1,21 @@
 """The run of a schedule with its stories, as `timeline` and `trace` are asked for it. Nothing of it is proved."""
+import argparse
 import re
 import sys
 from dataclasses import dataclass
+from typing import Dict, List, Optional, Set, Tuple
 
-from common import command, program
-from common.canonical import read_canonical
+from common import command, folding, program
+from common.canonical import Key, read_canonical
 from common.command import Fault
-from common.parameters import Alike, add_options, given_options, machine_of, parameters_of, words_of
-from common.phases import Window, stories_of
+from common.description import cluster_of, is_description
+from common.parameters import Alike, Costs, add_options, given_options, parameters_of, words_of
+from common.phases import Story, Window, stories_of
 from common.printed_run import Run, first_line, read_run
 
 MOST_TIME = 2**63 - 1
 STANDARD_INPUT = "/dev/stdin"
+STANDARD_INPUTS = ("-", STANDARD_INPUT)
 
 
 @dataclass
@@ -20,39 +24,39 @@ class Loaded:
 
     name: str
     run: Run
-    stories: dict
+    stories: Dict[Key, Story]
     window: Window
 
-    def by_rank(self):
+    def by_rank(self) -> Dict[int, List[Story]]:
         """The stories of each rank of the window."""
-        ranks = {rank: [] for rank in self.window.ranks}
+        ranks: Dict[int, List[Story]] = {rank: [] for rank in self.window.ranks}
         for story in self.stories.values():
             ranks[story.key[0]].append(story)
         return ranks
 
-    def messages(self):
+    def messages(self) -> List[Tuple[Story, Story]]:
         """The sends whose receives are in it too, each with its receive."""
-        sends = (story for story in self.stories.values() if story.op.kind == "send" and story.timed.partner in self.stories)
-        pairs = ((story, self.stories[story.timed.partner]) for story in sends)
-        return [(story, taken) for story, taken in pairs if story.stuck_from is None and taken.busy]
+        sends = (story for story in self.stories.values() if story.op.kind == "send" and story.stuck_from is None)
+        pairs = ((story, self.stories.get(story.timed.partner) if story.timed.partner else None) for story in sends)
+        return [(story, taken) for story, taken in pairs if taken and taken.busy]
 
-    def is_stuck(self):
+    def is_stuck(self) -> bool:
         """Whether something in it is stuck."""
         return any(story.never or story.stuck_from is not None for story in self.stories.values())
 
-    def last_moment(self):
+    def last_moment(self) -> int:
         """The last end; where something is stuck, a while after the last that happens, so that it shows."""
         if not self.is_stuck():
             return self.run.finish
         return max((span[1] for it in self.stories.values() for span in it.busy), default=0) * 5 // 4
 
 
-def add_run_words(parser, limit):
+def add_run_words(parser: argparse.ArgumentParser, limit: int) -> None:
     """The words that say which run, and what of it."""
     number = command.number(0, MOST_TIME)
     parser.add_argument("name", metavar="NAME", help="the schedule, a text or a compiled file (- is a text on standard input)")
     parser.add_argument("--run", metavar="FILE", help="a run of it that is printed already (- is standard input), in place of a new one")
-    parser.add_argument("--machine", metavar="MACHINE", help="run it on this machine, as `goal nodes` does")
+    parser.add_argument("--machine", metavar="MACHINE", help="run it on this machine: MACHINE of `goal nodes`, or a description (tools/fold)")
     parser.add_argument("-o", "--out", metavar="FILE", help="write to FILE, not to standard output")
     window = parser.add_argument_group("a part of the run")
     window.add_argument("--ranks", metavar="A-B", help="these ranks alone, as 0-7 or 0,4-5,9")
@@ -63,11 +67,11 @@ def add_run_words(parser, limit):
     program.add_option(parser)
 
 
-def ranks_of(text, count):
+def ranks_of(text: Optional[str], count: int) -> Dict[int, None]:
     """The ranks that a list such as 0-7 or 0,4-5,9 names, in order, as the keys of a dictionary; all without a list."""
     if text is None:
         return dict.fromkeys(range(count))
-    ranks = set()
+    ranks: Set[int] = set()
     for part in text.split(","):
         found = re.fullmatch(r"(\d+)(?:-(\d+))?", part)
         if not found:
@@ -79,7 +83,7 @@ def ranks_of(text, count):
     return dict.fromkeys(sorted(ranks))
 
 
-def load(arguments):
+def load(arguments: argparse.Namespace) -> Loaded:
     """The run that the words ask for."""
     try:
         options = given_options(arguments)
@@ -97,50 +101,61 @@ def load(arguments):
     return Loaded(arguments.name, run, stories, window)
 
 
-def window_of(arguments, ranks):
+def window_of(arguments: argparse.Namespace, ranks: int) -> Window:
     if arguments.until is not None and arguments.until <= arguments.since:
         raise Fault("--to is not after --from")
     return Window(ranks_of(arguments.ranks, ranks), arguments.since, arguments.until)
 
 
-def source_of(arguments):
+def source_of(arguments: argparse.Namespace) -> Tuple[str, Optional[str]]:
     """The name of the schedule for the program, and the text that is to be its standard input, if any."""
-    if arguments.name not in ("-", STANDARD_INPUT):
-        return arguments.name, None
-    if arguments.run == "-":
+    if arguments.run == "-" and arguments.name in STANDARD_INPUTS:
         raise Fault("the schedule and its run can not both be standard input")
-    return STANDARD_INPUT, text_of("-")
+    return schedule_of(arguments.name)
 
 
-def text_of(name):
+def schedule_of(name: str) -> Tuple[str, Optional[str]]:
+    """The name of a schedule for the program, and the text that is to be its standard input, if any."""
+    return (STANDARD_INPUT, text_of("-")) if name in STANDARD_INPUTS else (name, None)
+
+
+def text_of(name: str) -> str:
     return command.read_file(name).decode("utf-8", "replace")
 
 
-def output_of(arguments, text, *words):
+def output_of(arguments: argparse.Namespace, text: Optional[str], *words: str) -> List[str]:
     """The lines that the program prints."""
     answer = program.call(program.chosen(arguments.goal), words, text)
     return program.expect(answer, program.DONE, program.STUCK).out.splitlines()
 
 
-def run_lines(arguments, options, name, text):
+def run_lines(arguments: argparse.Namespace, options: Dict[str, int], name: str, text: Optional[str]) -> List[str]:
     """The printed run: the one that is given, or a new one."""
     if arguments.run is not None:
         return text_of(arguments.run).splitlines()
     if arguments.machine is not None:
-        return output_of(arguments, text, "nodes", name, arguments.machine)
+        return machine_lines(arguments, name, text)
     return output_of(arguments, text, "sim", name, *words_of(options))
 
 
-def costs_of(arguments, options):
+def machine_lines(arguments: argparse.Namespace, name: str, text: Optional[str]) -> List[str]:
+    """The printed run on a machine, which a description may have with cards that ranks share."""
+    machine = text_of(arguments.machine)
+    if is_description(machine):
+        return folding.run_lines(program.chosen(arguments.goal), name, text, cluster_of(arguments.machine, machine))
+    return output_of(arguments, text, "nodes", name, arguments.machine)
+
+
+def costs_of(arguments: argparse.Namespace, options: Dict[str, int]) -> Costs:
     """What messages cost in the run."""
     if arguments.machine is None:
         return Alike(parameters_of(options))
     if options:
         raise Fault("a machine has its own parameters: give no others")
-    return machine_of(text_of(arguments.machine))
+    return cluster_of(arguments.machine, text_of(arguments.machine)).machine
 
 
-def write_out(text, path):
+def write_out(text: str, path: Optional[str]) -> None:
     """Writes a tool's text to a file, or to standard output."""
     if path is None:
         sys.stdout.write(text)

@@ -5,6 +5,13 @@ keeps a cpu from the parameters: so the rest of its time is waiting.
 """
 from dataclasses import dataclass, field
 from heapq import heappop, heappush
+from typing import Collection, Dict, Iterable, Iterator, List, Optional, Tuple
+
+from common.canonical import Key, Op, Schedule
+from common.parameters import Costs, Parameters
+from common.printed_run import Run, Timed
+
+Span = Tuple[int, int]
 
 
 class Misfit(ValueError):
@@ -19,78 +26,85 @@ class Story:
     it is stuck, where it has begun; `never` says that it never begins. `bytes` are those of the message.
     """
 
-    key: tuple
-    op: object
-    timed: object
+    key: Key
+    op: Op
+    timed: Timed
     bytes: int
-    ready: int
-    waits: list = field(default_factory=list)
-    busy: list = field(default_factory=list)
-    stuck_from: int = None
+    ready: Optional[int]
+    waits: List[Span] = field(default_factory=list)
+    busy: List[Span] = field(default_factory=list)
+    stuck_from: Optional[int] = None
     never: bool = False
     reason: str = ""
 
     @property
-    def begin(self):
+    def begin(self) -> Optional[int]:
         """The first moment that is told of it, or none."""
         spans = self.waits + self.busy
         return min((span[0] for span in spans), default=self.stuck_from)
 
     @property
-    def wait(self):
+    def wait(self) -> int:
         """How long it waits, as `goal waits` says: from its ready time to its last action, 0 where it has no end."""
-        return 0 if self.timed.end is None else self.busy[-1][0] - self.ready
+        return 0 if self.timed.end is None or self.ready is None else self.busy[-1][0] - self.ready
 
     @property
-    def leaves(self):
+    def leaves(self) -> int:
         """When its message goes: the end of what its cpu does for it last."""
         return self.busy[-1][1]
 
     @property
-    def is_unread(self):
+    def is_unread(self) -> bool:
         """Whether its message is sent and no receive takes it."""
         return self.op.kind == "send" and self.timed.end is not None and self.timed.partner is None
 
 
-def ready_time(key, ops, timed):
+def ready_time(key: Key, ops: Dict[Key, Op], timed: Dict[Key, Timed]) -> Optional[int]:
     """When all that it needs has come, or none."""
     moments = [
         timed[key[0], number].end if by_end else timed[key[0], number].start for number, by_end in ops[key].needs
     ]
-    return None if None in moments else max(moments, default=0)
+    known = [moment for moment in moments if moment is not None]
+    return max(known, default=0) if len(known) == len(moments) else None
 
 
-def story_of(key, schedule, run, costs):
+def story_of(key: Key, schedule: Schedule, run: Run, costs: Costs) -> Story:
     """The story of an operation; `costs.between` gives the parameters of a message."""
     op, timed = schedule.ops[key], run.timed[key]
     ready = ready_time(key, schedule.ops, run.timed)
     story = Story(key, op, timed, op.size, ready, reason=run.reasons.get(key, ""))
-    if timed.start is None:
+    if timed.start is None or ready is None:
         story.never = True
     elif op.kind == "calc":
         add_wait(story, ready, timed.start)
-        story.busy.append((timed.start, timed.end))
+        story.busy.append((timed.start, end_of(story)))
     elif op.kind == "send":
-        tell_send(story, ready, costs.between(key[0], int(op.peer)))
+        tell_send(story, ready, timed.start, costs.between(key[0], int(op.peer)))
     else:
-        tell_receive(story, schedule.sizes, costs)
+        tell_receive(story, timed.start, schedule.sizes, costs)
     return story
 
 
-def add_wait(story, begin, end):
+def end_of(story: Story) -> int:
+    """The end of an operation that begins, is eager or a calc, and so ends."""
+    if story.timed.end is None:
+        raise Misfit(f"the run is not of these parameters: see operation {story.key[1]} of rank {story.key[0]}")
+    return story.timed.end
+
+
+def add_wait(story: Story, begin: int, end: int) -> None:
     if end < begin:
         raise Misfit(f"the run is not of these parameters: see operation {story.key[1]} of rank {story.key[0]}")
     if begin < end:
         story.waits.append((begin, end))
 
 
-def tell_send(story, ready, parameters):
-    start, end = story.timed.start, story.timed.end
+def tell_send(story: Story, ready: int, start: int, parameters: Parameters) -> None:
     add_wait(story, ready, start)
     if parameters.is_eager(story.bytes):
-        story.busy.append((start, end))
+        story.busy.append((start, end_of(story)))
         return
-    asked = start + parameters.over(1)
+    end, asked = story.timed.end, start + parameters.over(1)
     story.busy.append((start, asked))
     if end is None:
         story.stuck_from = asked
@@ -100,12 +114,12 @@ def tell_send(story, ready, parameters):
         story.busy.append((handed, end))
 
 
-def tell_receive(story, sizes, costs):
-    start, end, partner = story.timed.start, story.timed.end, story.timed.partner
+def tell_receive(story: Story, start: int, sizes: Dict[Key, int], costs: Costs) -> None:
+    end, partner = story.timed.end, story.timed.partner
     if end is None:
         story.stuck_from = start
         return
-    if partner not in sizes:
+    if partner is None or partner not in sizes:
         raise Misfit(f"the run is not of this schedule: operation {story.key[1]} of rank {story.key[0]} has another partner")
     story.bytes = sizes[partner]
     taken = end - costs.between(partner[0], story.key[0]).over(story.bytes)
@@ -117,28 +131,30 @@ def tell_receive(story, sizes, costs):
 class Window:
     """The ranks, in order, and the times that are looked at; `until` is none where there is no end."""
 
-    ranks: dict
+    ranks: Collection[int]
     since: int = 0
-    until: int = None
+    until: Optional[int] = None
 
-    def has(self, story):
+    def has(self, story: Story) -> bool:
         """Whether something of the operation lies in the window, a wait or what never begins included."""
-        if story.never:
+        if story.begin is None:
             return self.until is None
         return self.meets(story.begin, story.timed.end)
 
-    def sees(self, story):
+    def sees(self, story: Story) -> bool:
         """Whether the operation does something in the window, or is stuck there: it does not only wait."""
         stuck = story.stuck_from is not None and self.meets(story.stuck_from, None)
         return stuck or any(self.meets(begin, end) for begin, end in story.busy)
 
-    def meets(self, begin, end):
+    def meets(self, begin: int, end: Optional[int]) -> bool:
         return (end is None or end >= self.since) and (self.until is None or begin <= self.until)
 
 
-def rows_of(spans):
+def rows_of(spans: Iterable[Tuple[int, float]]) -> Iterator[int]:
     """The first row that is free for each span of time, where these come in the order of their begins."""
-    taken, free, count = [], [], 0
+    taken: List[Tuple[float, int]] = []
+    free: List[int] = []
+    count = 0
     for begin, end in spans:
         while taken and taken[0][0] <= begin:
             heappush(free, heappop(taken)[1])
@@ -148,7 +164,7 @@ def rows_of(spans):
         yield row
 
 
-def stories_of(schedule, run, costs, window):
+def stories_of(schedule: Schedule, run: Run, costs: Costs, window: Window) -> Dict[Key, Story]:
     """The stories of the operations in a window, by key. Both have the operations of its ranks alone."""
     for key in schedule.ops.keys() ^ run.timed.keys():
         raise Misfit(f"the run is not of this schedule: see operation {key[1]} of rank {key[0]}")

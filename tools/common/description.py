@@ -1,0 +1,326 @@
+"""Reads a machine: the text that `goal nodes` takes as MACHINE, or a description of it by classes, nodes, groups and cards.
+Nothing of it is proved."""
+import re
+from dataclasses import astuple, dataclass, field
+from typing import Callable, Dict, Iterator, List, Optional, Sequence, Tuple
+
+from common import command
+from common.command import Fault
+from common.parameters import DEFAULTS, LIMITS, Machine, machine_of, options_of, parameters_of
+
+MOST_CLASSES = 16
+MOST_RANKS = 65536
+MOST_NODES = 65536
+MOST_PAIRS = 65536
+MOST_CARDS = 256
+PLACEMENTS = ("block", "cyclic")
+
+
+@dataclass(frozen=True)
+class Cards:
+    """The cards of a node: `count` of them, shared by its ranks in blocks or in turn, or one for each rank where `count` is 0."""
+
+    count: int = 0
+    in_turn: bool = False
+
+    def of(self, place: int, ranks: int) -> int:
+        """The card of the rank at this place of a node with this many ranks."""
+        return place % self.count if self.in_turn else place * self.count // ranks
+
+    def __str__(self) -> str:
+        return f"{self.count or 'own'}{' in turn' if self.in_turn else ''}"
+
+
+def cards_of(text: str) -> Cards:
+    """The cards that these words name: `own`, `2` or `2 in turn`."""
+    words = text.split()
+    if words == ["own"]:
+        return Cards()
+    if not words or words[1:] not in ([], ["in", "turn"]):
+        raise Fault("it is `cards own`, `cards COUNT` or `cards COUNT in turn`")
+    count = number(words[0], MOST_CARDS)
+    if not count:
+        raise Fault("a node has at least one card")
+    return Cards(count, len(words) > 1)
+
+
+@dataclass
+class Cluster:
+    """A machine, and what is said of the cards of its nodes, if anything."""
+
+    machine: Machine
+    cards: Optional[Cards] = None
+
+    def text(self) -> str:
+        """The text of MACHINE, which says nothing of cards."""
+        return "".join(line + "\n" for line in lines_of(self.machine))
+
+    def has_neighbours(self) -> bool:
+        """Whether a node has several ranks."""
+        return len(set(self.machine.nodes)) < len(self.machine.nodes)
+
+    def placed(self, placement: str) -> "Cluster":
+        """The same with all ranks dealt anew to nodes of the same sizes: each node filled after the other (`block`), or
+        round and round to those that have room (`cyclic`)."""
+        sizes: Dict[int, int] = {}
+        for node in self.machine.nodes:
+            sizes[node] = sizes.get(node, 0) + 1
+        seats = [(place if placement == "cyclic" else 0, node) for node in sorted(sizes) for place in range(sizes[node])]
+        machine = self.machine
+        nodes = [node for _, node in sorted(seats)]
+        return Cluster(Machine(machine.classes, machine.inside, machine.default, nodes, machine.pairs), self.cards)
+
+
+def lines_of(machine: Machine) -> Iterator[str]:
+    """The lines of the text of MACHINE."""
+    yield f"classes {len(machine.classes)}"
+    for parameters in machine.classes:
+        yield "class " + " ".join(map(str, astuple(parameters)))
+    yield f"inside {machine.inside} default {machine.default}"
+    ranks, width = len(machine.nodes), machine.nodes.count(machine.nodes[0])
+    yield f"ranks {ranks}"
+    for first in range(0, ranks, width):
+        yield " ".join(map(str, machine.nodes[first:first + width]))
+    yield f"pairs {len(machine.pairs)}"
+    for (one, other), name in machine.pairs.items():
+        yield f"{one} {other} {name}"
+
+
+@dataclass
+class Division:
+    """Things told apart by where they belong: ranks by their nodes, nodes by their groups."""
+
+    thing: str
+    place: str
+    most: int
+    places: List[List[int]] = field(default_factory=list)
+    of: Dict[int, int] = field(default_factory=dict)
+
+    def add(self, things: Sequence[int]) -> None:
+        """Adds a place with these things."""
+        for one in things:
+            if one in self.of:
+                raise Fault(f"{self.thing} {one} is in two {self.place}s")
+            self.of[one] = len(self.places)
+        self.places.append(list(things))
+
+    def add_next(self, count: int, size: int, cyclic: bool = False) -> None:
+        """Adds `count` places, each with the next `size` things, or with every count-th of the next ones."""
+        first = max(self.of, default=-1) + 1
+        end = first + count * size
+        if end > self.most:
+            raise Fault(f"more than {self.most} {self.thing}s")
+        for place in range(count):
+            self.add(range(first + place, end, count) if cyclic else range(first + place * size, first + (place + 1) * size))
+
+    def check(self, count: int) -> None:
+        """Each of `count` things has a place."""
+        for one in range(count):
+            if one not in self.of:
+                raise Fault(f"{self.thing} {one} is in no {self.place}")
+        if len(self.of) > count:
+            raise Fault(f"{self.thing} {max(self.of)} is in a {self.place}, and there are {count} {self.thing}s")
+
+
+class Description:
+    """The lines of a description so far."""
+
+    def __init__(self) -> None:
+        self.classes: Dict[str, Dict[str, int]] = {}
+        self.nodes = Division("rank", "node", MOST_RANKS)
+        self.groups = Division("node", "group", MOST_NODES)
+        self.named: Dict[str, str] = {}
+        self.pairs: Dict[Tuple[int, int], str] = {}
+        self.cards: Optional[Cards] = None
+
+    def take(self, words: List[str]) -> None:
+        """Takes the words of one line."""
+        takes: Dict[str, Callable[[List[str]], None]] = {
+            "class": self.take_class, "nodes": self.take_nodes, "node": self.take_node, "groups": self.take_groups,
+            "group": self.take_group, "inside": self.take_named, "between": self.take_named, "across": self.take_named,
+            "pair": self.take_pair, "oneway": self.take_pair, "cards": self.take_cards}
+        if words[0] not in takes:
+            raise Fault(f"{words[0]!r} begins no line: {' '.join(takes)} do")
+        takes[words[0]](words)
+
+    def take_class(self, words: List[str]) -> None:
+        if len(words) < 2 or "=" in words[1]:
+            raise Fault("a class is `class NAME L=.. o=.. ..`")
+        if words[1] in self.classes:
+            raise Fault(f"the class {words[1]} is told twice")
+        told: Dict[str, int] = {}
+        for word in words[2:]:
+            name, equals, value = word.partition("=")
+            if name not in DEFAULTS or not equals:
+                raise Fault(f"{word!r} is no parameter: they are {' '.join(DEFAULTS)}, as L=300")
+            told.update(self.value_of(name, value, told))
+        self.classes[words[1]] = told
+
+    @staticmethod
+    def value_of(name: str, value: str, told: Dict[str, int]) -> Dict[str, int]:
+        try:
+            options = options_of(name, value)
+        except ValueError as why:
+            raise Fault(str(why)) from None
+        for option, given in options.items():
+            if option in told:
+                raise Fault(f"{option} is told twice")
+            if given > LIMITS[option]:
+                raise Fault(f"{option} is {given}, and at most {LIMITS[option]}")
+        return options
+
+    def take_nodes(self, words: List[str]) -> None:
+        cyclic = words[4:] == ["cyclic"]
+        count, size = count_and_size(words[:4] if cyclic else words)
+        self.nodes.add_next(count, size, cyclic)
+
+    def take_node(self, words: List[str]) -> None:
+        self.nodes.add(numbers(words, MOST_RANKS))
+
+    def take_groups(self, words: List[str]) -> None:
+        self.groups.add_next(*count_and_size(words))
+
+    def take_group(self, words: List[str]) -> None:
+        self.groups.add(numbers(words, MOST_NODES))
+
+    def take_cards(self, words: List[str]) -> None:
+        if self.cards is not None:
+            raise Fault("`cards` is told twice")
+        self.cards = cards_of(" ".join(words[1:]))
+
+    def take_named(self, words: List[str]) -> None:
+        if len(words) != 2:
+            raise Fault(f"it is `{words[0]} NAME`")
+        if words[0] in self.named:
+            raise Fault(f"`{words[0]}` is told twice")
+        self.named[words[0]] = words[1]
+
+    def take_pair(self, words: List[str]) -> None:
+        if len(words) != 4:
+            raise Fault(f"it is `{words[0]} A B NAME`")
+        one, other = (number(word, MOST_NODES - 1) for word in words[1:3])
+        for pair in [(one, other), (other, one)][:2 if words[0] == "pair" else 1]:
+            if pair in self.pairs:
+                raise Fault(f"the pair {pair[0]} {pair[1]} is told twice")
+            self.pairs[pair] = words[3]
+
+    def check(self) -> None:
+        """All that must be told is told, once, and of things that are there."""
+        for what in ("inside", "between", *(["across"] if self.groups.places else [])):
+            if what not in self.named:
+                raise Fault(f"there is no `{what} NAME`")
+        if "across" in self.named and not self.groups.places:
+            raise Fault("`across` is between groups, and there are none")
+        if not 1 <= len(self.classes) <= MOST_CLASSES:
+            raise Fault(f"{len(self.classes)} classes: a machine has 1 to {MOST_CLASSES}")
+        for name in (*self.named.values(), *self.pairs.values()):
+            if name not in self.classes:
+                raise Fault(f"there is no class {name}")
+        if not self.nodes.places:
+            raise Fault("there are no nodes")
+        self.nodes.check(len(self.nodes.of))
+        if self.groups.places:
+            self.groups.check(len(self.nodes.places))
+        for one, other in self.pairs:
+            if one == other or max(one, other) >= len(self.nodes.places):
+                raise Fault(f"the pair {one} {other} is none of two nodes")
+
+    def default_and_pairs(self) -> Tuple[str, Dict[Tuple[int, int], str]]:
+        """The class between most nodes, and the pairs of nodes that have another."""
+        default = self.named["between"]
+        pairs: Dict[Tuple[int, int], str] = {}
+        if self.groups.places:
+            count = len(self.nodes.places)
+            near = sum(len(group) * (len(group) - 1) for group in self.groups.places)
+            far = count * (count - 1) - near
+            if min(near, far) > MOST_PAIRS:
+                raise Fault(f"{min(near, far)} pairs of nodes are told apart by groups: a machine has {MOST_PAIRS} at most")
+            if near < far:
+                default = self.named["across"]
+                pairs = {(one, other): self.named["between"] for group in self.groups.places for one in group for other in group
+                         if one != other}
+            else:
+                pairs = {(one, other): self.named["across"] for one in range(count) for other in range(count)
+                         if self.groups.of[one] != self.groups.of[other]}
+        pairs.update(self.pairs)
+        return default, {pair: name for pair, name in sorted(pairs.items()) if name != default}
+
+    def cluster(self) -> Cluster:
+        """The machine of a description that is checked."""
+        default, pairs = self.default_and_pairs()
+        if len(pairs) > MOST_PAIRS:
+            raise Fault(f"{len(pairs)} pairs of nodes: a machine has {MOST_PAIRS} at most")
+        class_numbers = {name: place for place, name in enumerate(self.classes)}
+        machine = Machine(
+            [parameters_of(values) for values in self.classes.values()], class_numbers[self.named["inside"]],
+            class_numbers[default], [self.nodes.of[rank] for rank in range(len(self.nodes.of))],
+            {pair: class_numbers[name] for pair, name in pairs.items()})
+        return Cluster(machine, self.cards)
+
+
+def number(word: str, most: int) -> int:
+    if not re.fullmatch("[0-9]{1,20}", word) or int(word) > most:
+        raise Fault(f"{word!r} is no number up to {most}")
+    return int(word)
+
+
+def count_and_size(words: List[str]) -> Tuple[int, int]:
+    """The two numbers of a line such as `nodes 8 of 16`."""
+    if len(words) != 4 or words[2] != "of":
+        raise Fault(f"it is `{words[0]} COUNT of SIZE`")
+    count, size = number(words[1], MOST_RANKS), number(words[3], MOST_RANKS)
+    if not count or not size:
+        raise Fault("both numbers are above 0")
+    return count, size
+
+
+def numbers(words: List[str], most: int) -> List[int]:
+    """The numbers of a line such as `node 0 4 8-11`."""
+    found: List[int] = []
+    for word in words[1:]:
+        first, dash, last = word.partition("-")
+        low = number(first, most - 1)
+        high = number(last, most - 1) if dash else low
+        if high < low:
+            raise Fault(f"{word!r} is no range")
+        found.extend(range(low, high + 1))
+    if not found:
+        raise Fault(f"the {words[0]} is empty")
+    return found
+
+
+def read(name: str, text: str) -> Cluster:
+    """The machine of a description."""
+    description = Description()
+    for place, line in enumerate(text.split("\n"), 1):
+        words = line.split("#", 1)[0].split()
+        try:
+            if words:
+                description.take(words)
+        except Fault as fault:
+            raise Fault(f"{name}:{place}: {fault}") from None
+    try:
+        description.check()
+    except Fault as fault:
+        raise Fault(f"{name}: {fault}") from None
+    return description.cluster()
+
+
+def is_description(text: str) -> bool:
+    """Whether a text does not begin as MACHINE does."""
+    return text.split(None, 1)[:1] != ["classes"]
+
+
+def cluster_of(name: str, text: str) -> Cluster:
+    """The machine of a text, which is MACHINE, as `goal nodes` takes it, or a description of it."""
+    if is_description(text):
+        return read(name, text)
+    try:
+        return Cluster(machine_of(text))
+    except (ValueError, RuntimeError, StopIteration):
+        raise Fault(f"{name} is no MACHINE, as `goal nodes` takes it") from None
+
+
+def read_cluster(name: str) -> Cluster:
+    """The machine of a file."""
+    return cluster_of(name, command.read_file(name).decode("utf-8", "replace"))
