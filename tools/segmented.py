@@ -1,15 +1,49 @@
 """Certifying the segments of a collective one by one, by exchanging the numbers of slots. Nothing of it is proved."""
+from __future__ import annotations
+
 import re
+from dataclasses import dataclass
+from typing import Dict, Iterator, List, Optional, Set, Tuple
 
 from common import program
+from common.canonical import Key, Schedule, read_canonical
+from common.order import order_of, senders_of
 
 NOTE = re.compile(r"^(l\d+) (moves|adds) (\d+) to (\d+)$", re.MULTILINE)
-BLOCK = re.compile(r"^rank \d+ \{\n(.*?)^\}$", re.MULTILINE | re.DOTALL)
-OPERATION = re.compile(r"^(l\d+): ", re.MULTILINE)
 SLOT = re.compile(r"slot (\d+)$")
+# What `certify` says of one segment alone: all its other faults are those of all. And where it does not judge.
+OF_ONE = ("weight", "wrong")
+UNDECIDED = ("too large", "weight")
+# A slot that holds what began in several segments.
+SEVERAL = -1
 
 
-def exchange(slot, block, width):
+def width_of(kind: str, ranks: int) -> int:
+    """How many slots the collective has."""
+    return {"allgather": ranks, "gather": ranks, "scatter": ranks, "reduce_scatter": ranks, "alltoall": 2 * ranks}.get(kind, 1)
+
+
+def begins_at(kind: str, ranks: int, root: int, rank: int) -> Iterator[int]:
+    """The slots of a collective that hold something at the start, at this rank."""
+    if kind in ("bcast", "scatter") and rank != root:
+        return iter(())
+    if kind in ("allgather", "gather"):
+        return iter((rank,))
+    return iter(range(ranks) if kind in ("scatter", "alltoall", "reduce_scatter") else (0,))
+
+
+def wanted_at(kind: str, ranks: int, root: int, rank: int) -> Iterator[int]:
+    """The slots that it wants something of at the end, at this rank."""
+    if kind in ("reduce", "gather") and rank != root:
+        return iter(())
+    if kind in ("scatter", "reduce_scatter"):
+        return iter((rank,))
+    if kind == "alltoall":
+        return iter(range(ranks, 2 * ranks))
+    return iter(range(ranks) if kind in ("allgather", "gather") else (0,))
+
+
+def exchange(slot: int, block: int, width: int) -> int:
     """The slot's number after the exchange of the first `width` slots with those of the block."""
     first = block * width
     if slot < width:
@@ -19,13 +53,13 @@ def exchange(slot, block, width):
     return slot
 
 
-def exchanged(text, block, width):
+def exchanged(text: str, block: int, width: int) -> str:
     """The canonical text with these slots exchanged in all notes. A note that moves a range of slots is split where the
     exchange cuts it."""
     first = block * width
     cuts = (width, first, first + width)
 
-    def renamed(note):
+    def renamed(note: "re.Match[str]") -> str:
         label, word, low, high = note[1], note[2], int(note[3]), int(note[4])
         if word == "adds":
             return f"{label} adds {exchange(low, block, width)} to {exchange(high, block, width)}"
@@ -37,48 +71,136 @@ def exchanged(text, block, width):
     return NOTE.sub(renamed, text)
 
 
-def filled(text, blocks, width):
-    """The canonical text where each rank first copies what its first `width` slots hold into these blocks. The copy is its
-    last operation by number, so the others keep theirs, and all of them require it."""
-    notes = "".join(f"copy adds {slot} to {block * width + slot}\n" for block in blocks for slot in range(width))
+@dataclass(frozen=True)
+class Use:
+    """What makes a slot one of a segment: an operation that reads what it holds at the start, or leaves something in it."""
 
-    def begun(block):
-        needs = "".join(f"{label} requires copy\n" for label in OPERATION.findall(block[1]))
-        return f"{block[0][:-1]}copy: calc 0\n{needs}{notes}}}"
+    slot: int
+    key: Key
+    does: str
 
-    return BLOCK.sub(begun, text)
+    def __str__(self) -> str:
+        return f"slot {self.slot}, which operation {self.key[1]} of rank {self.key[0]} {self.does}"
+
+
+def uses_of(schedule: Schedule, order: List[Key]) -> Dict[int, Use]:
+    """The slots that are no passing ones, each with a use. A passing slot has at each rank where it is used only what was
+    put into it there, and all that was put into it last is read again."""
+    uses: Dict[int, Use] = {}
+    last: Dict[Tuple[int, int], Optional[Use]] = {}
+
+    def read(key: Key, slot: int, does: str) -> None:
+        if (key[0], slot) not in last:
+            uses.setdefault(slot, Use(slot, key, does))
+        last[key[0], slot] = None
+
+    for key in order:
+        op = schedule.ops[key]
+        if op.kind == "calc":
+            for source, target in op.notes:
+                read(key, source, "reads")
+                last[key[0], target] = Use(target, key, "adds to")
+        for slot in op.moved() if op.kind != "calc" else ():
+            if op.kind == "send":
+                read(key, slot, "moves")
+            else:
+                last[key[0], slot] = Use(slot, key, "moves")
+    for use in last.values():
+        if use:
+            uses.setdefault(use.slot, use)
+    return uses
 
 
 class Segments:
-    """A schedule whose collective works on `count` blocks of `width` slots, each as the collective does on the first."""
+    """A schedule whose collective works on blocks of slots, each as the collective does on the first. `fault` is what is wrong
+    with all segments alike, if anything is; only where nothing is, the other parts are there."""
 
-    def __init__(self, goal, kind, text, count, width=1, root=0):
-        self.goal = goal
+    def __init__(self, goal: str, kind: str, text: str, root: int = 0) -> None:
+        self.goal, self.kind, self.text, self.root = goal, kind, text, root
         self.words = ["certify", kind, "/dev/stdin", *(["--root", str(root)] if kind in program.ROOTED else [])]
-        self.text = text
-        self.count = count
-        self.width = width
-
-    def fault(self, block):
-        """What is wrong with this block, in the schedule's own numbers, or None where it is certified: by itself, and where
-        all other blocks begin with values too, none of which may get into it."""
-        text = exchanged(self.text, block, self.width)
+        self.ranks = int(text.split(None, 2)[1])
+        self.width = width_of(kind, self.ranks)
         fault = self._certify(text)
-        if fault is None:
-            fault = self._mixed(text, range(1, self.count))
+        self.fault = None if fault is None or fault.startswith(OF_ONE) else fault
+        if self.fault is None:
+            self.schedule = read_canonical(text.splitlines())
+            self.order = list(order_of(self.schedule.ops, senders_of(self.schedule)))
+            self.uses = uses_of(self.schedule, self.order)
+            self._touched = {slot // self.width for op in self.schedule.ops.values() for slot in op.touched()}
+            self._verdicts: Dict[int, Optional[str]] = {0: fault}
+
+    def count(self) -> int:
+        """How many segments there are: all up to the first without a slot that is no passing one."""
+        used = {slot // self.width for slot in self.uses}
+        return next(block for block in range(1, len(used) + 2) if block not in used)
+
+    def left_out(self, count: int) -> Optional[Use]:
+        """The first slot that is no passing one, and in none of so many segments."""
+        return next((use for slot, use in sorted(self.uses.items()) if slot >= count * self.width), None)
+
+    def stretches(self, count: int) -> List[range]:
+        """The segments one by one, and those that no note touches together."""
+        found: List[range] = []
+        for block in range(count):
+            alike = block not in self._touched and found and found[-1][0] not in self._touched
+            found[-1:] = [range(found[-1][0], block + 1)] if alike else [*found[-1:], range(block, block + 1)]
+        return found
+
+    def verdicts(self, count: int) -> Iterator[Tuple[range, Optional[str]]]:
+        """For each stretch of segments what is wrong with its first one, in the schedule's own numbers, or None where it is
+        certified: by itself, and where all begin at once, for what gets into it from the others."""
+        mixed = self.mixed(count) if count > 1 else {}
+        for blocks in self.stretches(count):
+            yield blocks, self.verdict(blocks[0]) or mixed.get(blocks[0])
+
+    def verdict(self, block: int) -> Optional[str]:
+        """What is wrong with the segment by itself."""
+        if block not in self._verdicts:
+            self._verdicts[block] = self._certify(exchanged(self.text, block, self.width))
+        fault = self._verdicts[block]
         return fault and SLOT.sub(lambda found: f"slot {exchange(int(found[1]), block, self.width)}", fault)
 
-    def _mixed(self, text, others):
-        """Where what begins in the other blocks gets into the first. Too many values at once are tried in two parts."""
-        fault = self._certify(filled(text, others, self.width)) if others else None
-        if fault is None or fault.startswith("wrong"):
-            return fault and fault.replace("wrong", "mixed", 1)
-        if fault.startswith("weight") and len(others) > 1:
-            half = len(others) // 2
-            return self._mixed(text, others[:half]) or self._mixed(text, others[half:])
-        return f"with the others filled: {fault}"
+    def mixed(self, count: int) -> Dict[int, str]:
+        """By segment, the first of its slots that gets what begins in another one, where all have their values at once. (A
+        barrier has no values: it wants to have heard of all, and may hear of more.)"""
+        held = self._held_at_end(count)
+        found: Dict[int, str] = {}
+        for rank in range(self.ranks if self.kind != "barrier" else 0):
+            for block in range(count):
+                for slot in wanted_at(self.kind, self.ranks, self.root, rank):
+                    at = block * self.width + slot
+                    if held.get((rank, at), block) != block:
+                        found.setdefault(block, f"mixed {rank} slot {at}")
+        return found
 
-    def _certify(self, text):
+    def _held_at_end(self, count: int) -> Dict[Tuple[int, int], int]:
+        """For each rank and slot that holds something at the end, the segment in which that began. One order shows it, since
+        nothing races."""
+        held = {(rank, block * self.width + slot): block for rank in range(self.ranks) for block in range(count)
+                for slot in begins_at(self.kind, self.ranks, self.root, rank)}
+        senders, sent = senders_of(self.schedule), {}
+        for key in self.order:
+            op = self.schedule.ops[key]
+            if op.kind == "send":
+                sent[key] = [held.get((key[0], slot)) for slot in op.moved()]
+            elif op.kind == "recv":
+                for slot, block in zip(op.moved(), sent[senders[key]]):
+                    put(held, (key[0], slot), block)
+            else:
+                for source, target in op.notes:
+                    one, other = held.get((key[0], source)), held.get((key[0], target))
+                    put(held, (key[0], target), one if other in (one, None) else other if one is None else SEVERAL)
+        return held
+
+    def _certify(self, text: str) -> Optional[str]:
         """The fault that the program finds, or None."""
         answer = program.expect(program.call(self.goal, self.words, text), program.DONE, program.NOT_CERTIFIED)
         return None if answer.status == program.DONE else answer.out.strip().replace("not certified: ", "", 1)
+
+
+def put(held: Dict[Tuple[int, int], int], place: Tuple[int, int], block: Optional[int]) -> None:
+    """Puts what began in a segment into a slot, or nothing."""
+    if block is None:
+        held.pop(place, None)
+    else:
+        held[place] = block

@@ -62,9 +62,10 @@ def verdict(algorithm, wish, text):
 
 def fault_in(algorithm, wish, text):
     """The first verdict on a segment that is not certified, or None."""
-    count = segments_of(algorithm, wish)
-    checks = segmented.Segments(GOAL, algorithm.kind(), text, count, 1, wish.root)
-    return next((fault for fault in map(checks.fault, range(count)) if fault), None)
+    segments = segmented.Segments(GOAL, algorithm.kind(), text, wish.root)
+    if segments.fault:
+        return segments.fault
+    return next((fault for _, fault in segments.verdicts(segments_of(algorithm, wish)) if fault), None)
 
 
 class Certified(unittest.TestCase):

@@ -1,7 +1,9 @@
 #!/usr/bin/env python3
 """Tests of tools/segments: whole segments are certified, each spoilt one is found and told in the schedule's own numbers, and
-so is one that gets what belongs to another."""
+so is one that gets what belongs to another. Where a note is spoilt, all is found that a check of every slot finds."""
 import os
+import random
+import re
 import subprocess
 import sys
 import tempfile
@@ -11,9 +13,12 @@ TOP = os.path.dirname(os.path.dirname(os.path.dirname(os.path.abspath(__file__))
 sys.path.insert(0, os.path.join(TOP, "tools"))
 import segmented
 from algorithms.collectives import Wish, bcast_chain
+from algorithms.table import ALGORITHMS
 from common import program
+from common.canonical import read_canonical
 
 GOAL = program.chosen()
+SEED = 20261201
 
 
 def made(kind, ranks, *options):
@@ -92,11 +97,15 @@ KINDS = {
 }
 
 
-class Segments(unittest.TestCase):
-    def faults(self, kind, text, count, width, root=0):
-        segments = segmented.Segments(GOAL, kind, canonical(text), count, width, root)
-        return [segments.fault(block) for block in range(count)]
+def faults_of(kind, text, count, root=0):
+    """What is said of each segment, or of all of them."""
+    segments = segmented.Segments(GOAL, kind, canonical(text), root)
+    if segments.fault:
+        return segments.fault
+    return [fault for blocks, fault in segments.verdicts(count) for _ in blocks]
 
+
+class Segments(unittest.TestCase):
     def test_each_collective_in_three_segments(self):
         for kind, (width, spare) in KINDS.items():
             for ranks in (1, 2, 3, 4, 5, 8):
@@ -106,7 +115,10 @@ class Segments(unittest.TestCase):
                 options = ["--root", str(root)] if kind in program.ROOTED else []
                 text = side_by_side(made(kind, ranks, *options), 3, width(ranks), spare)
                 with self.subTest(f"{kind} {ranks}"):
-                    self.assertEqual(self.faults(kind, text, 3, width(ranks), root), [None] * 3)
+                    segments = segmented.Segments(GOAL, kind, canonical(text), root)
+                    self.assertEqual((segments.width, faults_of(kind, text, 3, root)), (width(ranks), [None] * 3))
+                    if ranks > 1:
+                        self.assertEqual((segments.count(), segments.left_out(3)), (3, None))
 
     def test_each_spoilt_one_is_found(self):
         whole = "".join(bcast_chain(Wish(4, 100, segments=8)).text())
@@ -114,32 +126,173 @@ class Segments(unittest.TestCase):
             text = whole.replace(f"moves {spoilt} to {spoilt}", "moves 8 to 8")
             self.assertTrue(program.call(GOAL, ["certify", "bcast", "/dev/stdin"], text).out.startswith("certified"))
             wanted = [f"wrong 1 slot {spoilt}" if block == spoilt else None for block in range(8)]
-            self.assertEqual(self.faults("bcast", text, 8, 1), wanted)
+            self.assertEqual(faults_of("bcast", text, 8), wanted)
 
     def test_a_spoilt_block_of_slots_is_found(self):
         text = side_by_side(made("allgather", 3), 2, 3, 0).replace("moves 4 to 4", "moves 9 to 9")
-        self.assertEqual(self.faults("allgather", text, 2, 3), [None, "wrong 0 slot 4"])
+        self.assertEqual(faults_of("allgather", text, 2), [None, "wrong 0 slot 4"])
 
-    def test_a_race_has_the_numbers_of_the_schedule(self):
+    def test_a_race_is_told_once_in_the_numbers_of_the_schedule(self):
         text = "".join(bcast_chain(Wish(3, 100, segments=3)).text()).replace("l4 requires l3\n", "")
-        self.assertEqual(self.faults("bcast", text, 3, 1), ["race 1 2 and 1 3 slot 1"] * 3)
+        self.assertEqual(faults_of("bcast", text, 3), "race 1 2 and 1 3 slot 1")
 
-    def test_what_gets_into_another_segment_is_found(self):
+    def test_segments_that_no_note_touches_are_told_together(self):
+        segments = segmented.Segments(GOAL, "bcast", canonical("".join(bcast_chain(Wish(3, 100, segments=2)).text())))
+        said = [(list(blocks), fault) for blocks, fault in segments.verdicts(5)]
+        self.assertEqual(said, [([0], None), ([1], None), ([2, 3, 4], "wrong 1 slot 2")])
+
+    def test_what_is_added_to_another_segment_is_found(self):
         both = side_by_side(made("reduce", 2), 2, 1, 9)
         for mixed, faults in (("c adds 1 to 0", ["mixed 0 slot 0", None]), ("c adds 0 to 1", [None, "mixed 0 slot 1"])):
             last = "c: calc 0 c requires l2_0 c requires l2_1 " + mixed
             text = both.replace("rank 0 {", f"rank 0 {{ {last}", 1)
-            self.assertEqual(self.faults("reduce", text, 2, 1), faults)
+            self.assertEqual(faults_of("reduce", text, 2), faults)
 
-    def test_what_is_too_heavy_at_once_is_tried_in_parts(self):
-        # three segments of a barrier of one rank that doubles each 23 times: two at once weigh 2^24, three are too heavy
+    def test_what_is_mixed_is_what_certify_finds_where_all_other_blocks_begin_filled(self):
+        """The values that are followed here against those that `certify` follows, of sums over segments that are drawn."""
+        draw = random.Random(SEED)
+        found = 0
+        for kind in ("reduce", "allgather", "alltoall", "scan"):
+            width, spare = KINDS[kind]
+            for _ in range(12):
+                ranks = draw.randrange(2, 4)
+                text = with_sums(draw, side_by_side(made(kind, ranks), 2, width(ranks), spare), 2 * width(ranks))
+                segments = segmented.Segments(GOAL, kind, text)
+                alone = [segments.verdict(block) for block in range(2)]
+                mixed = segments.mixed(2)
+                for block in (0, 1):
+                    if alone[block] is None:
+                        theirs = segments._certify(filled(segmented.exchanged(text, block, segments.width), [1], segments.width))
+                        self.assertEqual(mixed.get(block) is None, theirs is None, (kind, ranks, text))
+                        found += theirs is not None
+        self.assertGreater(found, 5)
+
+    def test_what_weighs_much_alone_is_not_weighed_together(self):
+        # three segments of a barrier of one rank that doubles each 23 times: each weighs 2^23, two would weigh 2^24
         doubled = "".join(f"l1 adds {slot} to {slot}\n" * 23 for slot in range(3))
-        self.assertEqual(self.faults("barrier", f"num_ranks 1 rank 0 {{ l1: calc 0\n{doubled}}}", 3, 1), [None] * 3)
+        self.assertEqual(faults_of("barrier", f"num_ranks 1 rank 0 {{ l1: calc 0\n{doubled}}}", 3), [None] * 3)
 
-    def test_what_is_too_large_with_the_others_is_told_so(self):
-        text = "num_ranks 1 rank 0 { " + "calc 0 " * 2048 + "}"
-        self.assertEqual(self.faults("barrier", text, 1, 1), [None])
-        self.assertEqual(self.faults("barrier", text, 2, 1), ["with the others filled: too large 0"] * 2)
+    def test_as_many_operations_as_certify_takes(self):
+        text = "num_ranks 1 rank 0 {{ {0} l: calc 0 l adds 0 to 0 l adds 1 to 1 }}"
+        self.assertEqual(faults_of("barrier", text.format("calc 0 " * 2047), 2), [None, None])
+        self.assertEqual(faults_of("barrier", text.format("calc 0 " * 2048), 2), "too large 0")
+
+
+def filled(text, blocks, width):
+    """The canonical text where each rank first copies what its first `width` slots hold into these blocks."""
+    notes = "".join(f"copy adds {slot} to {block * width + slot}\n" for block in blocks for slot in range(width))
+
+    def begun(block):
+        needs = "".join(f"{label} requires copy\n" for label in re.findall(r"^(l\d+): ", block[1], re.MULTILINE))
+        return f"{block[0][:-1]}copy: calc 0\n{needs}{notes}}}"
+
+    return re.sub(r"^rank \d+ \{\n(.*?)^\}$", begun, text, flags=re.MULTILINE | re.DOTALL)
+
+
+def with_sums(draw, text, slots):
+    """The text where one rank adds a slot to another after all else."""
+    rank = draw.randrange(2)
+    source, target = draw.sample(range(slots), 2)
+
+    def ended(block):
+        needs = "".join(f"sum requires {label}\n" for label in re.findall(r"^(l\d+): ", block[0], re.MULTILINE))
+        return f"{block[0][:-1]}sum: calc 0\n{needs}sum adds {source} to {target}\n}}"
+
+    text = re.sub(rf"^rank {rank} \{{\n(.*?)^\}}$", ended, canonical(text), flags=re.MULTILINE | re.DOTALL)
+    return canonical(text)
+
+
+class Count(unittest.TestCase):
+    def test_it_is_that_of_the_pieces(self):
+        for algorithm, wish, text in segmented_schedules():
+            segments = segmented.Segments(GOAL, algorithm.kind(), text, wish.root)
+            self.assertEqual((segments.count(), segments.left_out(segments.count())), (len(algorithm.make(wish).sizes), None))
+
+    def test_of_what_gen_makes_it_is_one(self):
+        for kind in KINDS:
+            segments = segmented.Segments(GOAL, kind, made(kind, 8))
+            self.assertEqual((segments.count(), segments.left_out(1)), (1, None), kind)
+
+    def test_a_copy_that_is_sent_on_is_a_passing_slot(self):
+        text = ("num_ranks 2 rank 0 { c: calc 0 c adds 0 to 5 s: send 8b to 1 s moves 5 to 5 s requires c }"
+                "rank 1 { r: recv 8b from 0 r moves 7 to 7 c: calc 0 c requires r c adds 7 to 0 }")
+        segments = segmented.Segments(GOAL, "bcast", canonical(text))
+        self.assertEqual((segments.count(), segments.left_out(1), list(segments.verdicts(1))), (1, None, [(range(1), None)]))
+
+
+def segmented_schedules():
+    """Of each algorithm that cuts its vector, schedules of few ranks, with their wishes."""
+    for algorithm in ALGORITHMS:
+        if algorithm.kind() in ("bcast", "allreduce"):
+            for ranks in (2, 3, 4):
+                wish = Wish(ranks, 100, root=ranks - 1 if "root" in algorithm.options else 0,
+                            segments=3 if "segments" in algorithm.options else 1, node=2 if ranks > 2 else 1)
+                yield algorithm, wish, canonical("".join(algorithm.make(wish).text()))
+
+
+def is_wrong(draw, algorithm, wish, text):
+    """Whether some slot does not end with what is wanted, or something has no end, where what can happen is drawn at random:
+    a check of every slot, for a collective that has one in each segment."""
+    ops = read_canonical(text.splitlines()).ops
+    count = len(algorithm.make(wish).sizes)
+    is_bcast = algorithm.kind() == "bcast"
+    held = {(rank, slot): [(rank, slot)] for rank in range(wish.ranks) for slot in range(count) if not is_bcast or rank == wish.root}
+    done, sent, left = set(), {}, set(ops)
+    while left:
+        able = [key for key in sorted(left) if all((key[0], number) in done for number, _ in ops[key].needs)
+                and (ops[key].kind != "recv" or (int(ops[key].peer), key[0], ops[key].tag) in sent)]
+        if not able:
+            return True
+        key = draw.choice(able)
+        op = ops[key]
+        if op.kind == "send":
+            sent[key[0], int(op.peer), op.tag] = [held.get((key[0], slot), []) for slot in op.moved()]
+        elif op.kind == "recv":
+            values = sent[int(op.peer), key[0], op.tag]
+            if len(values) != len(op.moved()):
+                return True
+            held.update(zip(((key[0], slot) for slot in op.moved()), values))
+        else:
+            for source, target in op.notes:
+                held[key[0], target] = sorted(held.get((key[0], target), []) + held.get((key[0], source), []))
+        done.add(key)
+        left.remove(key)
+    return any(held.get((rank, slot), []) != ([(wish.root, slot)] if is_bcast else [(one, slot) for one in range(wish.ranks)])
+               for rank in range(wish.ranks) for slot in range(count))
+
+
+def is_certified(kind, text, root):
+    """Whether the tool certifies the schedule, with the segments that it finds."""
+    segments = segmented.Segments(GOAL, kind, text, root)
+    if segments.fault:
+        return False
+    count = segments.count()
+    return segments.left_out(count) is None and all(fault is None for _, fault in segments.verdicts(count))
+
+
+class Spoilt(unittest.TestCase):
+    def test_what_a_check_of_every_slot_finds_is_found(self):
+        """Of each algorithm that cuts its vector, with each note in turn on other slots, as many and drawn at random."""
+        draw = random.Random(SEED)
+        found = tried = 0
+        for algorithm, wish, text in segmented_schedules():
+            most = max(int(slot) for slot in re.findall(r"to (\d+)$", text, re.MULTILINE)) + 3
+            for note in segmented.NOTE.finditer(text):
+                low, high = int(note[3]), int(note[4])
+                if note[2] == "moves":
+                    start = draw.choice([slot for slot in range(most) if slot != low])
+                    other = f"{note[1]} moves {start} to {start + high - low}"
+                else:
+                    pair = [low, high]
+                    pair[draw.randrange(2)] = draw.randrange(most)
+                    other = f"{note[1]} adds {pair[0]} to {pair[1]}"
+                spoilt = text[:note.start()] + other + text[note.end():]
+                tried += 1
+                if any(is_wrong(draw, algorithm, wish, spoilt) for _ in range(3)):
+                    found += 1
+                    with self.subTest(f"{algorithm.name} {wish}: {note[0]} is {other}"):
+                        self.assertFalse(is_certified(algorithm.kind(), spoilt, wish.root))
+        self.assertGreater(found, 0.8 * tried)
 
 
 class Words(unittest.TestCase):
@@ -152,18 +305,51 @@ class Words(unittest.TestCase):
 
     def test_lines_and_statuses(self):
         text = "".join(bcast_chain(Wish(3, 100, 1, segments=2)).text())
-        ended = self.ended(text, "bcast", "FILE", "2", "--root", "1")
-        self.assertEqual((ended.returncode, ended.stderr), (0, ""))
-        self.assertEqual(ended.stdout, "segment 0: certified\nsegment 1: certified\ncertified bcast ranks 3 segments 2\n")
+        for count in ([], ["2"]):
+            ended = self.ended(text, "bcast", "FILE", *count, "--root", "1")
+            self.assertEqual((ended.returncode, ended.stderr), (0, ""))
+            self.assertEqual(ended.stdout, "segment 0: certified\nsegment 1: certified\ncertified bcast ranks 3 segments 2\n")
         ended = self.ended(text, "bcast", "FILE", "3", "--root", "1")
         self.assertEqual(ended.returncode, 6)
         self.assertEqual(ended.stdout.splitlines()[2:], ["segment 2: not certified: wrong 0 slot 2", "not certified: 1 of 3 segments"])
 
+    def test_a_fault_of_all_is_one_line(self):
+        text = "".join(bcast_chain(Wish(3, 100, segments=3)).text()).replace("l4 requires l3\n", "")
+        ended = self.ended(text, "bcast", "FILE")
+        self.assertEqual((ended.returncode, ended.stdout), (6, "not certified: race 1 2 and 1 3 slot 1\n"))
+
+    def test_a_slot_in_no_segment_is_told(self):
+        text = "".join(bcast_chain(Wish(2, 100, segments=2)).text()) + "\n"
+        ended = self.ended(text.replace("moves 1 to 1", "moves 7 to 7", 1), "bcast", "FILE")
+        self.assertEqual((ended.returncode, ended.stdout.splitlines()[1:]), (6, [
+            "segment 1: not certified: wrong 1 slot 1", "not certified: in no segment is slot 7, which operation 1 of rank 0 moves"]))
+
+    def test_what_certify_does_not_judge_has_a_status_of_its_own(self):
+        large = "num_ranks 1 rank 0 { " + "calc 0 " * 2049 + "}"
+        ended = self.ended(large, "barrier", "FILE")
+        self.assertEqual((ended.returncode, ended.stdout), (10, "undecided: too large 0\n"))
+        heavy = "num_ranks 1 rank 0 { l: calc 0 " + "l adds 1 to 1 " * 25 + "}"
+        ended = self.ended(heavy, "barrier", "FILE")
+        self.assertEqual((ended.returncode, ended.stdout.splitlines()),
+                         (10, ["segment 0: certified", "segment 1: undecided: weight 33554432", "undecided: 1 of 2 segments"]))
+
+    def test_standard_input(self):
+        text = "".join(bcast_chain(Wish(3, 100, segments=2)).text())
+        for name in ("-", "/dev/stdin"):
+            ended = subprocess.run([os.path.join(TOP, "tools", "segments"), "bcast", name], input=text, capture_output=True,
+                                   text=True, check=False)
+            self.assertEqual((ended.returncode, ended.stdout.splitlines()[-1]), (0, "certified bcast ranks 3 segments 2"))
+
     def test_what_is_wrong_is_told_in_one_line(self):
+        ring = "".join(bcast_chain(Wish(2, 100, segments=3)).text())
         for text, words, why in (
                 ("num_ranks 1 rank", "bcast FILE 2", "goal: refused: text: syntax at 16"),
                 ("num_ranks 1", "barrier FILE 2 --root 0", "barrier has no root"),
-                ("num_ranks 1", "barrier FILE 300 --width 300", "300 segments of 300 slots"),
+                ("num_ranks 3", "bcast FILE --root 3", "the root 3 is none of 3 ranks"),
+                ("num_ranks 300", "allgather FILE 300", "300 segments of 300 slots"),
+                (ring, "bcast FILE 2", "2 segments of 1 slots leave out slot 2, which operation 2 of rank 0 moves"),
+                ("num_ranks 1", "bcast FILE 1 --width 1", "unrecognized arguments: --width 1"),
+                ("num_ranks 1", "bcast FILE --roo 0", "unrecognized arguments: --roo 0"),
                 ("num_ranks 1", "bcast /no/such/file 2", "goal: reading failed"),
                 ("num_ranks 1", "bcast FILE 0", "argument COUNT")):
             ended = self.ended(text, *words.split())

@@ -1,21 +1,35 @@
 """Reads the canonical text of a schedule, which `goal show` prints. Nothing of it is proved."""
-from dataclasses import dataclass, field
-from typing import Container, Dict, Iterable, List, Optional, Tuple
+from __future__ import annotations
 
+from dataclasses import dataclass, field
+from typing import Container, Dict, Iterable, List, Optional, Set, Tuple
+
+# an operation by its rank and its number there
 Key = Tuple[int, int]
 
 
 @dataclass
 class Op:
-    """An operation: `size` in nanoseconds of a calc, else in bytes; `peer` and `tag` are text, maybe `any`."""
+    """An operation: `size` in nanoseconds of a calc, in bytes else; `peer` and `tag` are text, maybe `any`."""
 
     kind: str
     size: int
     cpu: int
     peer: str = ""
     tag: str = ""
-    needs: List[Tuple[int, bool]] = field(default_factory=list)  # of pairs: the number of an operation, and whether its end is waited for (else its start)
+    # the number of an operation of its rank, and whether its end is waited for (else its start)
+    needs: List[Tuple[int, bool]] = field(default_factory=list)
+    # the two slots of each note: a range that is moved, or the slot that is added and the one that gets the sum
+    notes: List[Tuple[int, int]] = field(default_factory=list)
     nic: int = 0
+
+    def moved(self) -> List[int]:
+        """The slots that a send reads or a receive sets, in order."""
+        return [slot for first, last in self.notes for slot in range(first, last + 1)]
+
+    def touched(self) -> Set[int]:
+        """All slots that it reads or sets."""
+        return {slot for note in self.notes for slot in note} if self.kind == "calc" else set(self.moved())
 
 
 @dataclass
@@ -46,10 +60,12 @@ def read_canonical(lines: Iterable[str], wanted: Optional[Container[int]] = None
 
 
 def take_item(ops: Dict[Key, Op], key: Key, words: List[str]) -> None:
-    """Takes an operation or a dependency; a note tells nothing of times."""
+    """Takes an operation, a dependency or a note."""
     if words[1] == "calc":
         ops[key] = Op("calc", int(words[2]), int(words[4]))
     elif words[1] in ("send", "recv"):
         ops[key] = Op(words[1], int(words[2][:-1]), int(words[8]), words[4], words[6], nic=int(words[10]))
     elif words[1] in ("requires", "irequires"):
         ops[key].needs.append((int(words[2][1:]) - 1, words[1] == "requires"))
+    else:
+        ops[key].notes.append((int(words[2]), int(words[4])))

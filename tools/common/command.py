@@ -1,12 +1,19 @@
 """The command line of a tool, and how it fails: one line on standard error and status 2. Nothing of it is proved."""
+from __future__ import annotations
+
 import argparse
+import errno
 import os
 import re
 import sys
-from typing import Callable, NoReturn, Optional
+from typing import IO, Callable, NoReturn, Optional
 
 FAULT = 2
 WRITE_FAULT = 5
+INTERRUPTED = 130
+STANDARD_INPUT = "/dev/stdin"
+# What may follow a number of bytes, and what it stands for.
+FACTORS = {"": 1, "K": 1024, "M": 1024**2}
 
 
 class Fault(Exception):
@@ -14,35 +21,59 @@ class Fault(Exception):
 
 
 class Parser(argparse.ArgumentParser):
-    """A parser of words that raises a Fault where they are wrong."""
+    """A parser of words that raises a Fault where they are wrong. Options are given in full."""
 
     def error(self, message: str) -> NoReturn:
         raise Fault(f"{message} (--help tells more)")
 
+    def _print_message(self, message: str, file: Optional[IO[str]] = None) -> None:
+        """Writes the help: where that fails it is a fault, as with all other output."""
+        (file or sys.stdout).write(message)
+
 
 def parser(description: Optional[str], epilog: Optional[str] = None) -> Parser:
     """A parser for the tool with this description, both texts printed as they are written."""
-    return Parser(description=description, epilog=epilog, formatter_class=argparse.RawDescriptionHelpFormatter)
+    how = argparse.RawDescriptionHelpFormatter
+    return Parser(description=description, epilog=epilog, formatter_class=how, allow_abbrev=False)
 
 
-def number(low: int, high: int) -> Callable[[str], int]:
-    """The type of an argument that is a decimal number from `low` up to `high`."""
+def number(low: int, high: int, unit: str = "") -> Callable[[str], int]:
+    """The type of an argument that is a decimal number from `low` up to `high`, of this unit if there is one."""
 
     def read(word: str) -> int:
         if not re.fullmatch("[0-9]{1,20}", word) or not low <= int(word) <= high:
-            raise argparse.ArgumentTypeError(f"{word!r} is no number from {low} up to {high}")
+            raise argparse.ArgumentTypeError(f"{word!r} is no number{unit and f' of {unit}'} from {low} up to {high}")
         return int(word)
 
     return read
 
 
+def size(low: int, high: int) -> Callable[[str], int]:
+    """The type of an argument that is a number of bytes, as 4096, 4K or 16M."""
+
+    def read(word: str) -> int:
+        found = re.fullmatch("([0-9]{1,20})([KM]?)", word)
+        if not found or not low <= int(found[1]) * FACTORS[found[2]] <= high:
+            raise argparse.ArgumentTypeError(f"{word!r} is no number of bytes from {low} up to {high}, as 4096, 4K or 16M")
+        return int(found[1]) * FACTORS[found[2]]
+
+    return read
+
+
+def source(name: str) -> str:
+    """A file for the program to read: `-` is standard input."""
+    return STANDARD_INPUT if name == "-" else name
+
+
 def read_file(name: str) -> bytes:
     """The bytes of the file NAME, of standard input where it is `-`."""
     try:
-        if name == "-":
-            return sys.stdin.buffer.read()
-        with open(name, "rb") as file:
-            return file.read()
+        if source(name) != STANDARD_INPUT:
+            with open(name, "rb") as file:
+                return file.read()
+        if sys.stdin is None:
+            raise Fault("standard input is closed")
+        return sys.stdin.buffer.read()
     except OSError as error:
         raise Fault(f"{name}: {error.strerror}") from error
 
@@ -50,18 +81,64 @@ def read_file(name: str) -> bytes:
 def run(main: Callable[[], int]) -> NoReturn:
     """Ends the program with the status that `main` returns, and tells its Fault. A reader of the output that has gone is
     no fault of the user: no line, and the status of a fault of writing."""
-    name = os.path.basename(sys.argv[0])
+    hold_streams()
     try:
-        status = main()
+        status = ended(main)
         sys.stdout.flush()
-    except Fault as fault:
-        print(f"{name}: {fault}", file=sys.stderr)
-        status = FAULT
-    except OSError as error:
-        if not isinstance(error, BrokenPipeError):
-            print(f"{name}: {error.strerror}", file=sys.stderr)
-        os.dup2(os.open(os.devnull, os.O_WRONLY), sys.stdout.fileno())
+    except BrokenPipeError:
         status = WRITE_FAULT
+    except OSError as error:
+        why = "it is closed" if error.errno == errno.EBADF else error.strerror
+        tell(f"{error.filename}: {error.strerror}" if error.filename else f"standard output: {why}")
+        status = FAULT
+    leave(status)
+
+
+def ended(main: Callable[[], int]) -> int:
+    """The status of `main`, whose faults are told."""
+    try:
+        return main()
+    except Fault as fault:
+        tell(str(fault))
+        return FAULT
+    except MemoryError:
+        tell("out of memory")
+        return FAULT
     except KeyboardInterrupt:
-        status = 130
+        return INTERRUPTED
+    except SystemExit as end:
+        return end.code if isinstance(end.code, int) else 0
+
+
+def tell(line: str) -> None:
+    """Says a line on standard error, if that can be."""
+    try:
+        print(f"{os.path.basename(sys.argv[0])}: {line}", file=sys.stderr, flush=True)
+    except OSError:
+        pass
+
+
+def hold_streams() -> None:
+    """Sees that no file takes the place of a standard stream that is closed, and that any name can be told."""
+    for stream in range(3):
+        try:
+            os.fstat(stream)
+        except OSError:
+            # (what is written to it fails, as it must)
+            os.open(os.devnull, os.O_WRONLY if stream == 0 else os.O_RDONLY)
+    if sys.stdout is None:
+        sys.stdout = open(1, "w", encoding="utf-8", closefd=False)
+    if sys.stderr is None:
+        sys.stderr = open(2, "w", encoding="utf-8", closefd=False)
+    for output in (sys.stdout, sys.stderr):
+        output.reconfigure(encoding="utf-8", errors="surrogateescape")  # type: ignore[attr-defined]
+
+
+def leave(status: int) -> NoReturn:
+    """Ends the program. What could not be written is not tried again."""
+    for stream, output in ((1, sys.stdout), (2, sys.stderr)):
+        try:
+            output.flush()
+        except OSError:
+            os.dup2(os.open(os.devnull, os.O_WRONLY), stream)
     sys.exit(status)
