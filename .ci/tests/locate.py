@@ -4,6 +4,7 @@ import os
 import re
 import subprocess
 import sys
+import tempfile
 import unittest
 
 TOP = os.path.dirname(os.path.dirname(os.path.dirname(os.path.abspath(__file__))))
@@ -73,11 +74,45 @@ class Words(unittest.TestCase):
         self.assertEqual(located("--word", "-", "10", text=machine.encode()).stdout.decode(),
                          "-:3:1\ninside 0 default 0\n^\n")
 
+    def test_lines_are_read_as_they_are_printed(self):
+        """Of each form of line: what stands below it."""
+        text = b"num_ranks 2\nrank 0 { a: send 8b to 1  b: calc 5 b requires a a moves 0 to 0 }\nrank 1 { recv 8b from 0 }\n"
+        a, b, c = "0 0 is a: send 8b to 1", "0 1 is b: calc 5", "1 0 is recv 8b from 0"
+        with tempfile.NamedTemporaryFile() as file:
+            file.write(text)
+            file.flush()
+            for line, wanted in (
+                    ("ring 0 0 1 0 0 1 behind 3", [a, c, b]), ("alone 1 0 behind 2", [c]), ("stuck 0 1 for op 0 0", [b, a]),
+                    ("stuck 0 0 for partner 1 0", [a, c]), ("stuck 1 0 alone", [c]), ("op 0 0 send start 0 end 100 match 1 0", [a, c]),
+                    ("op 0 1 calc start - end -", [b]), ("op 1 0 recv start 0 end - match -", [c]), ("wait 1 0 4154", [c]),
+                    ("oversize 1 0 room 4 message 10", [c]), ("not certified: race 0 0 and 0 1 slot 0", [a, b]),
+                    ("not certified: wildcard 1 0", [c]), ("not certified: double channel 0 0 and 1 0", [a, c]),
+                    ("not certified: stalls 0 1", [b]), ("segment 3: not certified: wrong 1 slot 3", ["block is rank 1"]),
+                    ("not certified: in no segment is slot 9, which operation 1 of rank 0 moves", [b]), ("too large 1", ["block is rank 1"]),
+                    ("goal: refused: plan: cycle 0 1", [b]), ("goal: refused: plan: dependency 0 0", ["dependency 0 0 is b requires a"]),
+                    ("goal: refused: plan: note 0 0", ["note 0 0 is a moves 0 to 0"]), ("ranks 2 ops 3 stuck 0 unread 0 finish 5", []),
+                    ("certified bcast ranks 2", [])):
+                said = located(file.name, text=line.encode() + b"\n").stdout.decode().splitlines()
+                self.assertEqual((said[0], [one.split(": ", 1)[1] for one in said[1:]]), (line, wanted))
+            said = located(file.name, text=b"goal: refused: text: syntax at 13\n").stdout.decode().splitlines()
+            self.assertEqual(said[1:3], [f"  {file.name}:2:2", "  rank 0 { a: send 8b to 1  b: calc 5 b requires a a moves 0 to"])
+            ended = located(file.name, text=b"alone 7 0 behind 1\n")
+            self.assertEqual((ended.returncode, ended.stderr.decode()), (2, f"locate: {file.name}: rank 7 has no operation 0\n"))
+
+    def test_all_that_goal_prints_is_taken(self):
+        folder = os.path.join(TOP, "examples")
+        for name in ("both_send_first", "alltoall_send_first", "exchange", "waits", "cycle"):
+            path = os.path.join(folder, name)
+            for words in (["sim", path], ["waits", path], ["knots", path], ["certify", "bcast", path]):
+                answer = program.call(GOAL, words)
+                ended = located(path, text=(answer.out + answer.err + "\n").encode())
+                self.assertEqual((ended.returncode, ended.stderr), (0, b""), words)
+
     def test_what_is_wrong_is_told_in_one_line(self):
         for words, text, why in ((["-", "9"], b"abc", "- has only 3 bytes"), (["-", "0", "1"], b"num_ranks 1", "-: rank 0 has no operation 1"),
                                  (["-", "0", "1", "2"], b"", "give one number"), (["--word", "-", "0", "1"], b"", "give one number"),
                                  (["--word", "-", "3"], b"a b", "- has only 2 words"), (["-", "0"], b"\x89GOAL", "- is a compiled file"),
-                                 (["/no/such/file", "0"], b"", "/no/such/file: No such file"), (["-"], b"", "the following arguments")):
+                                 (["/no/such/file", "0"], b"", "/no/such/file: No such file"), (["-"], b"", "standard input has the lines"), (["--word", "-"], b"a", "give one number")):
             ended = located(*words, text=text)
             self.assertEqual((ended.returncode, ended.stdout, ended.stderr.count(b"\n")), (2, b"", 1), words)
             self.assertTrue(ended.stderr.decode().startswith(f"locate: {why}"), ended.stderr)

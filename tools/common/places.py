@@ -1,16 +1,22 @@
-"""Where things stand in a text: lines and columns, and the operations of a schedule as they are written. It takes any text, with
+"""Where things stand in a text: lines and columns, and the items of a schedule as they are written. It takes any text, with
 faults too. Nothing of it is proved."""
+from __future__ import annotations
+
 import re
 from dataclasses import dataclass
+from typing import Dict, Iterator, List, Optional, Tuple
 
+COMPILED = b"\x89"
 TOKEN = re.compile(rb"//[^\n]*|/\*.*?\*/|[A-Za-z0-9_]+|[{}:]|[^ \t\r\n]", re.DOTALL)
 NUMBER = re.compile(rb"[0-9]+b?")
 ACTIONS = (b"calc", b"send", b"recv")
-# what may stand in an action after its first word, besides numbers and sizes
+NEEDS, NOTES = (b"requires", b"irequires"), (b"moves", b"adds")
+# what may follow in an action after its first word, except numbers and sizes
 OPTIONS = (b"to", b"from", b"tag", b"cpu", b"nic", b"any")
+OPERATION, DEPENDENCY, NOTE, BLOCK = "operation", "dependency", "note", "block"
 
 
-def line_and_column(text, byte):
+def line_and_column(text: bytes, byte: int) -> Tuple[int, int, str]:
     """The line and the column, from 1, of a byte, and the whole line. A column is a character."""
     start = text.rfind(b"\n", 0, byte) + 1
     end = text.find(b"\n", byte)
@@ -18,11 +24,11 @@ def line_and_column(text, byte):
     return text.count(b"\n", 0, byte) + 1, len(decoded(line[:byte - start])) + 1, decoded(line).rstrip("\r")
 
 
-def decoded(line):
+def decoded(line: bytes) -> str:
     return line.decode("utf-8", "replace")
 
 
-def tokens(text):
+def tokens(text: bytes) -> Iterator[Tuple[bytes, int]]:
     """The tokens of a schedule's text, and where each begins. Comments are none."""
     for found in TOKEN.finditer(text):
         if not found[0].startswith((b"//", b"/*")):
@@ -30,35 +36,87 @@ def tokens(text):
 
 
 @dataclass
-class Operation:
-    """An operation by its rank and number, the byte where it begins, and its words, with its label where it has one."""
+class Item:
+    """An operation, a dependency or a note by its rank and its number among those there, or the block of a rank; the byte where
+    it begins, and its words, those of an operation with its label."""
 
+    kind: str
     rank: int
     number: int
     byte: int
-    words: list
+    words: List[bytes]
 
-    def __str__(self):
+    def __str__(self) -> str:
         return decoded(b" ".join(self.words)).replace(" :", ":")
 
+    def goes_on(self, word: bytes) -> bool:
+        """Whether this word belongs to it."""
+        if self.kind == OPERATION:
+            return word in OPTIONS or NUMBER.fullmatch(word) is not None
+        return len(self.words) < {DEPENDENCY: 3, NOTE: 5, BLOCK: 2}[self.kind]
 
-def operations(text):
-    """The operations of a schedule's text, in its order."""
-    rank, number, current = None, 0, None
+
+def items(text: bytes) -> Iterator[Item]:
+    """The items of a schedule's text, in its order."""
+    rank, counts = 0, dict.fromkeys((OPERATION, DEPENDENCY, NOTE), 0)
+    current: Optional[Item] = None
     before = [(b"", 0), (b"", 0)]
     for word, byte in tokens(text):
-        if current and (word in OPTIONS or NUMBER.fullmatch(word)):
+        if current and current.goes_on(word):
             current.words.append(word)
+            if current.kind == BLOCK and word.isdigit():
+                rank = current.rank = current.number = int(word)
+                counts = dict.fromkeys(counts, 0)
         else:
             if current:
                 yield current
-            current = None
-            if before[1][0] == b"rank" and word.isdigit():
-                rank, number = int(word), 0
-            elif word in ACTIONS:
-                start = before if before[1][0] == b":" else []
-                current = Operation(rank, number, (start + [(word, byte)])[0][1], [part for part, _ in start] + [word])
-                number += 1
+            current = started(word, byte, before, rank, counts)
         before = [before[1], (word, byte)]
     if current:
         yield current
+
+
+def started(word: bytes, byte: int, before: List[Tuple[bytes, int]], rank: int, counts: Dict[str, int]) -> Optional[Item]:
+    """The item that begins with this word, or with those before it."""
+    if word == b"rank":
+        return Item(BLOCK, rank, rank, byte, [word])
+    if word in ACTIONS:
+        start = before if before[1][0] == b":" else []
+        kind = OPERATION
+    elif word in NEEDS + NOTES:
+        start = before[1:]
+        kind = DEPENDENCY if word in NEEDS else NOTE
+    else:
+        return None
+    counts[kind] += 1
+    return Item(kind, rank, counts[kind] - 1, (start + [(word, byte)])[0][1], [part for part, _ in start] + [word])
+
+
+def operations(text: bytes) -> Iterator[Item]:
+    """The operations of a schedule's text, in its order."""
+    return (item for item in items(text) if item.kind == OPERATION)
+
+
+class Places:
+    """Where the items of a schedule stand, for messages. A compiled file has no lines: its operations are told as `text`, the
+    canonical text, has them."""
+
+    def __init__(self, name: str, text: bytes, has_lines: bool = True) -> None:
+        self.name, self.text, self.has_lines = name, text, has_lines
+        self._found: Dict[Tuple[str, int, int], Item] = {}
+        for item in items(text):
+            self._found.setdefault((item.kind, item.rank, item.number), item)
+
+    def at(self, byte: int) -> str:
+        """A byte as an editor names it."""
+        line, column, _ = line_and_column(self.text, byte)
+        return f"{self.name}:{line}:{column}"
+
+    def told(self, rank: int, number: int, kind: str = OPERATION) -> Optional[str]:
+        """Where the item stands and how it is written, or None where there is none."""
+        item = self._found.get((kind, rank, number))
+        if item is None:
+            return None
+        place = self.at(item.byte) if self.has_lines else self.name
+        what = f"{rank} {number}" if kind == OPERATION else str(kind) if kind == BLOCK else f"{kind} {rank} {number}"
+        return f"{place}: {what} is {item}"
