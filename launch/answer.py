@@ -13,6 +13,7 @@ import sys
 import tempfile
 import time
 
+import explain
 from prove import BEGUN, FAILED, LOCK, LOG, PROGRAM, PROOF, TOP, are_sources_as_at, folders, is_current, text_of
 
 NO_PROOF, WRITE_FAULT = 9, 5
@@ -193,7 +194,7 @@ def run_program(words, copies, folder):
         signal.signal(number, signal.SIG_DFL)
     # (large pages, as `goal` asks for them)
     os.environ.setdefault("GLIBC_TUNABLES", "glibc.malloc.hugetlb=1")
-    os.execv(PROGRAM, [PROGRAM, *words])
+    explain.become(PROGRAM, words)
 
 
 def wait_for(proof):

@@ -1,0 +1,328 @@
+"""explain.py PROGRAM STATUS WORD..: what the launcher knows of a failure and the program's line does not say, on standard error.
+
+The program says one line that its rules fix, and ends with 2 (no command line), 3 (refused) or 4 (reading failed). Where a person
+reads it, which is where standard error is a terminal or GOAL_EXPLAIN=1 is set, the launcher adds a line: the word at fault and what
+may stand there, the file that can not be read and why, or the place of a byte by line and column. Elsewhere not a byte is added.
+Nothing of this is proved: the rules are those of docs/COMMANDS.md, and the tests compare them with the program."""
+from __future__ import annotations
+
+import difflib
+import errno
+import os
+import re
+import stat
+import subprocess
+import sys
+from typing import Dict, List, NoReturn, Optional, Sequence, Tuple
+
+TOP = os.path.dirname(os.path.dirname(os.path.abspath(__file__)))
+BAD_LINE, REFUSED, READ_FAULT = 2, 3, 4
+EXPLAINED = (BAD_LINE, REFUSED, READ_FAULT)
+
+NANOS, BYTES, PER_BYTE, PICOS = "ns", "bytes", "ns per byte", "ps per byte"
+# The greatest value of each option of a run, and its unit.
+RUN_OPTIONS: Dict[str, Tuple[int, str]] = {
+    "--L": (2**40 - 1, NANOS), "--o": (2**40 - 1, NANOS), "--g": (2**40 - 1, NANOS), "--G": (2**20 - 1, PER_BYTE), "--Gp": (999, PICOS),
+    "--O": (2**20 - 1, PER_BYTE), "--Op": (999, PICOS), "--S": (2**40 - 1, BYTES),
+}
+ROOT_OPTION: Dict[str, Tuple[int, str]] = {"--root": (65535, "a rank")}
+# The plain words of each command, its options, and what it is for.
+COMMANDS: Dict[str, Tuple[Tuple[str, ...], Dict[str, Tuple[int, str]], str]] = {
+    "sim": (("NAME",), RUN_OPTIONS, "runs a schedule: when each operation starts and ends, and with whom"),
+    "waits": (("NAME",), RUN_OPTIONS, "how long its operations wait"),
+    "knots": (("NAME",), RUN_OPTIONS, "what holds up all else, where it hangs"),
+    "nodes": (("NAME", "MACHINE"), {}, "runs it on a machine with several classes of messages"),
+    "compile": (("NAME", "OUT"), {}, "writes its compiled file"),
+    "show": (("NAME",), {}, "prints its canonical text"),
+    "gen": (("KIND", "RANKS", "BYTES"), ROOT_OPTION, "prints the schedule of a collective"),
+    "certify": (("KIND", "NAME"), ROOT_OPTION, "whether a schedule does what a collective wants"),
+    "probe": (("ROUNDS", "SEED"), RUN_OPTIONS, "runs a schedule that is drawn at random"),
+}
+# The limits of the plain words that are numbers.
+NUMBERS: Dict[str, Tuple[int, int, str]] = {
+    "RANKS": (1, 65536, "ranks"), "BYTES": (0, 2**40 - 1, BYTES), "ROUNDS": (1, 300000, "rounds"), "SEED": (0, 2**64 - 1, "a seed")}
+KINDS = ("bcast", "barrier", "allgather", "allreduce", "alltoall", "reduce", "gather", "scatter", "reduce_scatter", "scan")
+ROOTED = ("bcast", "reduce", "gather", "scatter")
+READ = ("NAME", "MACHINE")
+# How files begin that are something else.
+MARKS = ((b"\xef\xbb\xbf", "begins with a byte-order mark: save it as UTF-8 without one"), (b"\xff\xfe", "is UTF-16: save it as UTF-8"),
+         (b"\xfe\xff", "is UTF-16: save it as UTF-8"), (b"\x1f\x8b", "is packed by gzip: unpack it first"),
+         (b"PK\x03\x04", "is a zip file: unpack it first"))
+DESCRIBES = (b"class", b"nodes", b"node", b"groups", b"group", b"inside", b"between", b"across", b"pair", b"oneway")
+LONGEST = 40
+
+
+def form_of(command: str) -> str:
+    """The form of a command's line."""
+    plain, options, _ = COMMANDS[command]
+    told = " ".join(f"[{name} N]" for name in options)
+    return f"goal {command} {' '.join(plain)}" + (f" {told}" if told else "")
+
+
+def shown(word: str) -> str:
+    """A word as it is told: one that is empty or has blanks in quotes, a long one cut."""
+    cut = word if len(word) <= LONGEST else word[:LONGEST] + ".."
+    return cut if re.fullmatch(r"[!-~]+", cut) else repr(cut)
+
+
+def commands() -> List[str]:
+    """The commands in ten lines."""
+    width = max(len(f"{name} {' '.join(plain)}") for name, (plain, _, _) in COMMANDS.items())
+    return ["the commands; docs/COMMANDS.md has their options and statuses",
+            *(f"  goal {f'{name} ' + ' '.join(plain):{width}}  {what}" for name, (plain, _, what) in COMMANDS.items())]
+
+
+def version() -> str:
+    """The version of the sources."""
+    try:
+        said = subprocess.run(["git", "-C", TOP, "describe", "--always", "--dirty", "--tags"], capture_output=True, text=True, check=False)
+    except OSError:
+        return "the sources are in no git checkout that can be asked"
+    return f"the sources are {said.stdout.strip()}" if said.returncode == 0 else "the sources are in no git checkout"
+
+
+def near(word: str, names: Sequence[str]) -> str:
+    """The name that is meant, if one is like the word."""
+    alike = [name for name in names if name.lower() == word.lower()] or difflib.get_close_matches(word, names, 1, 0.6)
+    return f": is it {alike[0]}?" if alike else f": it is one of {' '.join(names)}"
+
+
+def number_fault(word: str, low: int, high: int, unit: str) -> Optional[str]:
+    """What is wrong with a number."""
+    what = unit if unit.startswith("a ") else f"in {unit}"
+    if re.fullmatch("[0-9]{1,20}", word):
+        if low <= int(word) <= high:
+            return None
+        return f"{word} is not from {low} to {high}, {what}"
+    told = f"{shown(word)} is not a number: 1 to 20 digits, {what}"
+    rate = re.fullmatch(r"([0-9]{1,7})\.([0-9]{1,3})", word)
+    if rate and unit == PER_BYTE:
+        return f"{told}; {word} is {int(rate[1])}, with {int(rate[2].ljust(3, '0'))} for its option of ps (--Gp, --Op)"
+    large = re.fullmatch("([0-9]{1,9})([KMG])i?B?", word)
+    if large and unit == BYTES:
+        return f"{told}; {word} is {int(large[1]) * 1024 ** ('KMG'.index(large[2]) + 1)}"
+    return told
+
+
+def line_fault(words: Sequence[str]) -> Optional[str]:
+    """What is wrong with the words as a command line, or None where they are one."""
+    if not words:
+        return "there is no word"
+    if words[0] not in COMMANDS:
+        return f"word 1: {shown(words[0])} is no command{near(words[0], tuple(COMMANDS))}"
+    fault = words_fault(words)
+    return fault and f"{fault}. The form is: {form_of(words[0])}"
+
+
+def words_fault(words: Sequence[str]) -> Optional[str]:
+    """What is wrong with the words after those of a command."""
+    names, options, _ = COMMANDS[words[0]]
+    plain: List[Tuple[int, str]] = []
+    root: Optional[int] = None
+    given = set()
+    at = 1
+    while at < len(words):
+        place, word = at + 1, words[at]
+        at += 1
+        if not word.startswith("-"):
+            plain.append((place, word))
+            continue
+        name, equals, value = word.partition("=")
+        if name not in options:
+            return f"word {place}: {shown(name)} is no option of {words[0]}" + (near(name, tuple(options)) if options else ", which has none")
+        if name in given:
+            return f"word {place}: {name} stands twice"
+        given.add(name)
+        root = place if name == "--root" else root
+        if not equals:
+            if at == len(words):
+                return f"word {place}: after {name} its number is missing"
+            place, value = at + 1, words[at]
+            at += 1
+        fault = number_fault(value, 0, *options[name])
+        if fault:
+            return f"word {place}: {fault}"
+    return plain_fault(names, plain) or root_fault(plain, root)
+
+
+def plain_fault(names: Sequence[str], plain: Sequence[Tuple[int, str]]) -> Optional[str]:
+    """What is wrong with the words that are no options."""
+    for name, (place, word) in zip(names, plain):
+        fault = None
+        if name == "KIND" and word not in KINDS:
+            swapped = "; KIND goes before NAME" if any(other in KINDS for _, other in plain) and "NAME" in names else near(word, KINDS)
+            fault = f"{shown(word)} is no KIND{swapped}"
+        elif name in NUMBERS:
+            fault = number_fault(word, *NUMBERS[name])
+        if fault:
+            return f"word {place}: {fault}"
+    if len(plain) < len(names):
+        return f"{names[len(plain)]} is missing"
+    if len(plain) > len(names):
+        return f"word {plain[len(names)][0]}: {shown(plain[len(names)][1])} is a word too many"
+    return None
+
+
+def root_fault(plain: Sequence[Tuple[int, str]], root: Optional[int]) -> Optional[str]:
+    """What is wrong with a root."""
+    if root is not None and plain[0][1] not in ROOTED:
+        return f"word {root}: --root goes with {' '.join(ROOTED)} alone, and not with {plain[0][1]}"
+    return None
+
+
+def files_of(words: Sequence[str]) -> List[Tuple[str, str]]:
+    """The files that a command line reads, each with what it is: NAME or MACHINE."""
+    plain = [word for at, word in enumerate(words) if at and not word.startswith("-") and (not words[at - 1].startswith("-") or "=" in words[at - 1])]
+    return [(what, name) for what, name in zip(COMMANDS[words[0]][0], plain) if what in READ]
+
+
+def reading_fault(words: Sequence[str]) -> Optional[str]:
+    """Why a file can not be read."""
+    for _, name in files_of(words):
+        try:
+            with open(os.open(name, os.O_RDONLY | os.O_NONBLOCK), "rb") as file:
+                if stat.S_ISDIR(os.fstat(file.fileno()).st_mode):
+                    return f"{shown(name)} is a folder"
+        except OSError as why:
+            reasons = {errno.ENOENT: "is not there", errno.EACCES: "may not be read", errno.EISDIR: "is a folder", errno.ENOTDIR: "lies below a file"}
+            return f"{shown(name)} {reasons.get(why.errno or 0, f'can not be read: {why.strerror}')}"
+        except ValueError:
+            return f"{name!r} is no name of a file"
+    return None
+
+
+def content_of(name: str) -> Optional[bytes]:
+    """The bytes of a file that can be read again, else None."""
+    try:
+        if not stat.S_ISREG(os.stat(name).st_mode) or name.startswith(("/dev/", "/proc/")):
+            return None
+        with open(name, "rb") as file:
+            return file.read(2**27 + 1)
+    except OSError:
+        return None
+
+
+def place_of(name: str, text: bytes, byte: int) -> str:
+    """The line and column of a byte, and the word there."""
+    start = text.rfind(b"\n", 0, byte) + 1
+    column = len(text[start:byte].decode("utf-8", "replace")) + 1
+    found = re.match(rb"[A-Za-z0-9_]+|[^ \t\r\n]", text[byte:byte + 200])
+    word = shown(found[0].decode("utf-8", "replace")) if found else "the end" if byte >= len(text) else "a blank"
+    return f"{shown(name)}:{text.count(bytes([10]), 0, byte) + 1}:{column}: here is {word}"
+
+
+def odd_content(what: str, name: str, text: bytes) -> Optional[str]:
+    """What the file is, where it is none of its kind at all."""
+    words = text.split(None, 1)[:1]
+    first = words[0] if words else b""
+    for mark, told in MARKS:
+        if text.startswith(mark):
+            return f"{shown(name)} {told}"
+    if not text:
+        return f"{shown(name)} is empty"
+    lines = (line.split(b"#", 1)[0].split() for line in text[:4096].split(b"\n"))
+    said = next((line[0] for line in lines if line), b"")
+    if first == b"classes" and what == "NAME":
+        return f"{shown(name)} is a MACHINE: the schedule stands before it"
+    if said in DESCRIBES:
+        return f"{shown(name)} is a description: `tools/machine {shown(name)}` writes the MACHINE"
+    if first == b"num_ranks" and what == "MACHINE":
+        return f"{shown(name)} is a schedule: it stands before the MACHINE"
+    return None
+
+
+def refusal_fault(words: Sequence[str], said: str) -> Optional[str]:
+    """What more is known of a refusal, which the program said in that line."""
+    found = re.search(r"refused: (text|file|plan|machine|generator|budget)\b:? ?(.*)", said)
+    if not found:
+        return None
+    kind, rest = found[1], found[2]
+    if kind == "generator":
+        return {"power of two": "an allreduce has 1, 2, 4, 8 .. ranks; tools/schedule writes allreduces of any number",
+                "root": "the root is less than RANKS"}.get(rest, f"it is made for at most {rest.split()[-1]} ranks")
+    if kind == "budget":
+        return "the times, sizes and costs are so large that a run could last 2^63 ns or more"
+    what = "MACHINE" if kind == "machine" else "NAME"
+    name = next((name for kind_of_file, name in files_of(words) if kind_of_file == what), None)
+    text = content_of(name) if name is not None else None
+    if name is None or text is None:
+        return None
+    if kind == "plan":
+        return operation_of(name, text, rest)
+    if kind == "machine" and rest.startswith("ranks"):
+        return f"{shown(name)} has nodes for {rest.split()[-1]} ranks, and the schedule has another number of ranks"
+    byte = re.search(r" at (\d+)$", rest)
+    odd = odd_content(what, name, text) if not byte or int(byte[1]) < 8 else None
+    if odd or not byte:
+        return odd
+    places = [word.start() for word in re.finditer(rb"[^ \t\r\n]+", text)] + [len(text)] if kind == "machine" else []
+    at = places[min(int(byte[1]), len(places) - 1)] if places else int(byte[1])
+    return place_of(name, text, at) if kind != "file" else f"{shown(name)} is a compiled file"
+
+
+def operation_of(name: str, text: bytes, rest: str) -> Optional[str]:
+    """Where the operation, dependency or note of a refusal of the plan stands."""
+    found = re.fullmatch(r"(peer|cycle|dependency|note) (\d+) (\d+)", rest)
+    if not found or text.startswith(b"\x89"):
+        return None
+    sys.path.insert(0, os.path.join(TOP, "tools"))
+    from common.places import OPERATION, Places
+    kind = found[1] if found[1] in ("dependency", "note") else OPERATION
+    return Places(name, text).told(int(found[2]), int(found[3]), kind)
+
+
+def explain(words: Sequence[str], status: int, said: str = "") -> List[str]:
+    """The lines that are added where the program has ended with this status, and said this line for a refusal."""
+    if status == BAD_LINE and (not words or words[0] in ("--help", "-h", "help")):
+        return commands()
+    if status == BAD_LINE and words[0] in ("--version", "-V", "version"):
+        return [version()]
+    fault = None
+    if status == BAD_LINE:
+        fault = line_fault(words)
+    elif status == READ_FAULT:
+        fault = reading_fault(words)
+    elif status == REFUSED:
+        fault = refusal_fault(words, said)
+    return [fault] if fault else []
+
+
+def is_wanted() -> bool:
+    """Whether a person reads standard error."""
+    return os.environ.get("GOAL_EXPLAIN") == "1" or os.isatty(2)
+
+
+def say(lines: Sequence[str]) -> None:
+    """Writes lines on standard error, if that can be."""
+    try:
+        os.write(2, b"".join(os.fsencode(f"{line if line.startswith('  ') else f'goal: {line}'}\n") for line in lines))
+    except OSError:
+        pass
+
+
+def said_again(program: str, words: Sequence[str]) -> str:
+    """The line of a refusal, which the program says again where all that it reads can be read again."""
+    if any(content_of(name) is None for _, name in files_of(words)):
+        return ""
+    ended = subprocess.run([program, *words], stdin=subprocess.DEVNULL, stdout=subprocess.DEVNULL, stderr=subprocess.PIPE, check=False)
+    return ended.stderr.decode("utf-8", "replace").strip()
+
+
+def explain_ended(program: str, words: Sequence[str], status: int) -> None:
+    """Says what is added where the program has ended."""
+    said = said_again(program, words) if status == REFUSED and words and words[0] in COMMANDS else ""
+    say(explain(words, status, said))
+
+
+def become(program: str, words: Sequence[str]) -> NoReturn:
+    """Becomes the program; where a person reads, runs it and adds what is known of a failure."""
+    if not is_wanted():
+        os.execv(program, [program, *words])
+    status = subprocess.run([program, *words], check=False).returncode
+    if status in EXPLAINED:
+        explain_ended(program, words, status)
+    sys.exit(status if status >= 0 else 128 - status)
+
+
+if __name__ == "__main__":
+    explain_ended(sys.argv[1], sys.argv[3:], int(sys.argv[2]))
