@@ -19,7 +19,7 @@ class Told(unittest.TestCase):
             self.text = file.read()
 
     def test_each_file_is_told(self):
-        told = set(re.findall(r"^\| `(\w+)` \||^\*\*A description\*\*, `(\w+)`", self.text, re.MULTILINE))
+        told = set(re.findall(r"^\| `(\w+)` \||^\*\*An? \w+\*\*, `([\w.]+)`", self.text, re.MULTILINE))
         self.assertEqual({one or other for one, other in told}, set(os.listdir(EXAMPLES)) - {"README.md"})
 
     def test_they_end_as_told(self):

@@ -1,5 +1,6 @@
 """The algorithms: each makes the plan of its schedule from the wishes of the user. Nothing of it is proved."""
 from dataclasses import dataclass
+from typing import List, Sequence
 
 from algorithms import rings, trees
 from algorithms.plan import Message, Plan, cut
@@ -18,57 +19,57 @@ class Wish:
     node: int = 1
     sum_ps: int = 0
 
-    def cut_plan(self, count):
+    def cut_plan(self, count: int) -> Plan:
         """A plan whose own slots are the pieces of the vector, `count` of them."""
         return Plan(self.ranks, cut(self.size, count), self.sum_ps)
 
-    def item_plan(self, count):
+    def item_plan(self, count: int) -> Plan:
         """A plan with `count` own slots, each an item."""
         return Plan(self.ranks, [self.size] * count)
 
-    def from_root(self):
+    def from_root(self) -> List[int]:
         """All ranks, from the root on."""
         return trees.rotated(self.ranks, self.root)
 
 
-def one_by_one(count):
+def one_by_one(count: int) -> List[List[int]]:
     """The slots 0 up to count - 1, each for itself."""
     return [[slot] for slot in range(count)]
 
 
-def bcast_chain(wish):
+def bcast_chain(wish: Wish) -> Plan:
     plan = wish.cut_plan(wish.segments)
     trees.broadcast(plan, wish.from_root(), trees.chain(wish.ranks), one_by_one(wish.segments))
     return plan
 
 
-def bcast_binary(wish):
+def bcast_binary(wish: Wish) -> Plan:
     plan = wish.cut_plan(wish.segments)
     trees.broadcast(plan, wish.from_root(), trees.binary(wish.ranks), one_by_one(wish.segments))
     return plan
 
 
-def bcast_scatter_allgather(wish):
+def bcast_scatter_allgather(wish: Wish) -> Plan:
     plan = wish.cut_plan(wish.ranks)
     trees.scatter(plan, wish.from_root(), lambda place: place)
     rings.allgather(plan, wish.from_root(), one_by_one(wish.ranks))
     return plan
 
 
-def allreduce_ring(wish):
+def allreduce_ring(wish: Wish) -> Plan:
     plan = wish.cut_plan(wish.ranks * wish.segments)
     ring_allreduce(plan, range(wish.ranks), wish.segments)
     return plan
 
 
-def ring_allreduce(plan, members, segments):
+def ring_allreduce(plan: Plan, members: Sequence[int], segments: int) -> None:
     """An allreduce around a ring, each block of the vector in so many segments."""
     blocks = [range(place * segments, (place + 1) * segments) for place in range(len(members))]
     rings.reduce_scatter(plan, members, blocks)
     rings.allgather(plan, members, blocks, shift=1)
 
 
-def allreduce_halving_doubling(wish):
+def allreduce_halving_doubling(wish: Wish) -> Plan:
     """As many ranks as the greatest power of two take part; of the others, each hands its vector to its neighbour first, and
     gets the sum from it last."""
     count = 1 << (wish.ranks.bit_length() - 1)
@@ -85,13 +86,13 @@ def allreduce_halving_doubling(wish):
     return plan
 
 
-def aligned(place, length):
+def aligned(place: int, length: int) -> range:
     """The stretch of so many slots that has this place, where slots are cut into such stretches from 0 on."""
     first = place - place % length
     return range(first, first + length)
 
 
-def allreduce_reduce_bcast(wish):
+def allreduce_reduce_bcast(wish: Wish) -> Plan:
     plan = wish.cut_plan(wish.segments)
     tree = trees.binomial(wish.ranks)
     trees.reduce(plan, wish.from_root(), tree, one_by_one(wish.segments))
@@ -99,7 +100,7 @@ def allreduce_reduce_bcast(wish):
     return plan
 
 
-def allreduce_two_level(wish):
+def allreduce_two_level(wish: Wish) -> Plan:
     """Each node sums up at its first rank, these sum up around a ring, and each node broadcasts."""
     nodes = [range(first, min(first + wish.node, wish.ranks)) for first in range(0, wish.ranks, wish.node)]
     plan = wish.cut_plan(len(nodes))
@@ -112,7 +113,7 @@ def allreduce_two_level(wish):
     return plan
 
 
-def allgather_doubling(wish):
+def allgather_doubling(wish: Wish) -> Plan:
     if wish.ranks & (wish.ranks - 1):
         raise Fault("allgather-doubling needs a power of two of ranks")
     plan = wish.item_plan(wish.ranks)
@@ -121,7 +122,7 @@ def allgather_doubling(wish):
     return plan
 
 
-def allgather_bruck(wish):
+def allgather_bruck(wish: Wish) -> Plan:
     """In each round a rank sends what it has, or what is left to send, as far back as it has items."""
     plan = wish.item_plan(wish.ranks)
     for distance in trees.powers(wish.ranks):
@@ -131,7 +132,7 @@ def allgather_bruck(wish):
     return plan
 
 
-def allgather_neighbour(wish):
+def allgather_neighbour(wish: Wish) -> Plan:
     """Two neighbours exchange their items; then each rank hands on, to its left and right in turn, the two that came last."""
     if wish.ranks % 2:
         raise Fault("allgather-neighbour needs an even number of ranks")
@@ -145,7 +146,7 @@ def allgather_neighbour(wish):
     return plan
 
 
-def alltoall_bruck(wish):
+def alltoall_bruck(wish: Wish) -> Plan:
     """An item for the rank that is d ahead goes by the binary digits of d, with all others that have the same digit."""
     ranks = wish.ranks
     plan = alltoall_plan(wish)
@@ -159,12 +160,12 @@ def alltoall_bruck(wish):
             messages.append(Message(rank, target, [where[rank][ahead] for ahead in moved], into, len(moved) * wish.size))
         plan.exchange(messages)
         for message in messages:
-            for ahead, slot in zip(moved, message.into):
+            for ahead, slot in zip(moved, message.into or ()):
                 where[message.target][ahead] = slot
     return plan
 
 
-def alltoall_pairwise(wish):
+def alltoall_pairwise(wish: Wish) -> Plan:
     """In each step a rank exchanges with one other: with the rank xor the step where the ranks are a power of two, else to the
     one so far ahead from the one so far behind. A step begins when the one before has ended."""
     plan = alltoall_plan(wish)
@@ -180,7 +181,7 @@ def alltoall_pairwise(wish):
     return plan
 
 
-def alltoall_plan(wish):
+def alltoall_plan(wish: Wish) -> Plan:
     """A plan where each rank has copied the item for itself."""
     plan = wish.item_plan(2 * wish.ranks)
     for rank in range(wish.ranks):
@@ -188,7 +189,7 @@ def alltoall_plan(wish):
     return plan
 
 
-def barrier_tree(wish):
+def barrier_tree(wish: Wish) -> Plan:
     plan = wish.item_plan(1)
     members, tree = range(wish.ranks), trees.binomial(wish.ranks)
     trees.reduce(plan, members, tree, [[0]])
@@ -196,14 +197,14 @@ def barrier_tree(wish):
     return plan
 
 
-def gather_tree(wish):
+def gather_tree(wish: Wish) -> Plan:
     plan = wish.item_plan(wish.ranks)
     members = wish.from_root()
     trees.gather(plan, members, lambda place: members[place])
     return plan
 
 
-def scatter_tree(wish):
+def scatter_tree(wish: Wish) -> Plan:
     plan = wish.item_plan(wish.ranks)
     members = wish.from_root()
     trees.scatter(plan, members, lambda place: members[place])

@@ -1,44 +1,74 @@
-"""A schedule in the making: messages and sums among ranks, and its canonical text. Nothing of it is proved.
+"""A plan: messages, sums and calcs among ranks, from which a schedule with notes is written. Nothing of it is proved.
 
-Three ideas stand here once, for all algorithms:
-- Both ends of a message are made together, so they agree in bytes, slots and tag. The tag is the number of messages from the
-  one rank to the other before it, so no two of them share a channel.
-- An operation requires those before it that it would else race with: what set a slot that it reads, and what read or set a
-  slot that it sets. Nothing else is ordered, unless the algorithm says that a step ends.
-- Slots that only hold what comes in are spare slots, after the collective's own; none is used twice.
+An algorithm is a function that makes a Plan and returns it:
+
+    from algorithms.plan import Message, Plan, cut
+
+    def to_neighbour(ranks: int, size: int) -> Plan:
+        plan = Plan(ranks, cut(size, 1))
+        plan.exchange([Message(0, 1, [0])])
+        return plan
+
+Each rank has slots, which hold values. The first slots are those of the collective, and have sizes in bytes; `spare` gives
+slots for what comes in. A message moves the values of some slots, and has as many bytes as these slots.
+
+    plan.exchange(messages)       one round: all messages are sent, then all are received
+    plan.combine(messages)        the same, and what comes in is added to the slots of the same numbers
+    plan.add(rank, pairs, cost)   a calc: the value of the first slot of each pair is added to the second, or copied if that is empty
+    plan.calc(rank, cost, slots)  a calc of `cost` ns that uses these slots and leaves their values
+    plan.spare(rank, count)       slots of the rank that nothing uses yet
+    plan.end_step()               a step ends: each rank goes on only when all that it did has ended
+
+Tags, sizes, notes and dependencies are worked out:
+- Both ends of a message are made together, so they agree in bytes, slots and tag. The tag is the number of earlier messages
+  between the two ranks, so no two of them share a channel.
+- An operation requires those earlier ones that it would race with: what set a slot that it reads, and what read or set a
+  slot that it sets. Nothing else is ordered, except by `end_step`.
+- So a rank that sends a slot and receives into it in one round receives after its send has ended. Where two ranks do this
+  with each other, both wait for ever once messages are large: receive into spare slots, as `combine` does.
+
+`cpu` and `nic` of a message are those of its two ranks. Operations of one rank that nothing orders run at once where they
+are on several of them.
 """
 from dataclasses import dataclass
-from typing import Optional, Sequence
+from typing import Dict, Iterator, List, Optional, Sequence, Set, Tuple
 
 from common.command import Fault
 
+MOST_RANKS = 65536
 MOST_OPERATIONS = 1 << 20
 MOST_NEEDS = 1 << 22
 MOST_NOTES = 1 << 20
 MOST_BYTES = (1 << 40) - 1
 MOST_NANOSECONDS = (1 << 48) - 1
+MOST_SLOT = (1 << 32) - 1
+MOST_DEVICE = 255
 
 
 @dataclass(frozen=True)
 class Message:
-    """The values of some slots of one rank, for another: for the same slots there, or for those of `into`, in order. It has
-    so many bytes as its slots have, or as `size` says."""
+    """The values of `slots` of rank `source`, for rank `target`: for the same slots there, or for those of `into`, in order.
+
+    It has as many bytes as its slots, or `size`. At both ranks it takes this cpu and this nic.
+    """
 
     source: int
     target: int
     slots: Sequence[int]
     into: Optional[Sequence[int]] = None
     size: Optional[int] = None
+    cpu: int = 0
+    nic: int = 0
 
 
-def cut(size, count):
-    """So many bytes cut into `count` pieces that differ by one byte at most: the size of each."""
+def cut(size: int, count: int) -> List[int]:
+    """The sizes of `count` pieces of `size` bytes, which differ by one byte at most."""
     return [(number + 1) * size // count - number * size // count for number in range(count)]
 
 
-def runs(slots):
+def runs(slots: Sequence[int]) -> List[Tuple[int, int]]:
     """The slots as ranges (first, last), in order: the fewest that give the same list."""
-    found = []
+    found: List[Tuple[int, int]] = []
     for slot in slots:
         if found and slot == found[-1][1] + 1:
             found[-1] = (found[-1][0], slot)
@@ -50,17 +80,17 @@ def runs(slots):
 class Rank:
     """The operations of one rank so far, and what they did to its slots."""
 
-    def __init__(self, own):
-        self.operations = []
-        self.needs = []
-        self.notes = []
+    def __init__(self, own: int) -> None:
+        self.operations: List[str] = []
+        self.needs: List[List[int]] = []
+        self.notes: List[str] = []
         self.spare = own
-        self.setter = {}
-        self.readers = {}
+        self.setter: Dict[int, int] = {}
+        self.readers: Dict[int, List[int]] = {}
         self.step = 0
         self.step_before = range(0)
 
-    def append(self, action, reads, sets, notes):
+    def append(self, action: str, reads: Sequence[int], sets: Sequence[int], notes: Sequence[str]) -> int:
         """Adds an operation that reads some slots and then sets some, and returns how many needs it has."""
         number = len(self.operations)
         before = set(self.step_before)
@@ -77,9 +107,10 @@ class Rank:
             self.readers[slot] = []
         return len(self.needs[number])
 
-    def last_of(self, before):
+    def last_of(self, before: Set[int]) -> List[int]:
         """Those of these operations that no other of them requires, directly or through more."""
-        kept, reached = [], set()
+        kept: List[int] = []
+        reached: Set[int] = set()
         first = min(before, default=0)
         for operation in sorted(before, reverse=True):
             if operation in reached:
@@ -93,7 +124,7 @@ class Rank:
                         ahead.append(earlier)
         return kept[::-1]
 
-    def lines(self):
+    def lines(self) -> Iterator[str]:
         """The lines of its block."""
         for number, action in enumerate(self.operations):
             yield f"l{number + 1}: {action}"
@@ -104,77 +135,116 @@ class Rank:
 
 
 class Plan:
-    """A schedule among so many ranks. The collective's own slots, from 0, have these sizes in bytes; a sum costs
-    `sum_ps` picoseconds a byte, rounded up to whole nanoseconds."""
+    """A schedule among `ranks` ranks. The collective's own slots, from 0, have these `sizes` in bytes; a sum costs `sum_ps`
+    picoseconds per byte, rounded up to whole nanoseconds."""
 
-    def __init__(self, ranks, sizes, sum_ps=0):
+    def __init__(self, ranks: int, sizes: Sequence[int], sum_ps: int = 0) -> None:
+        check("the number of ranks", ranks, MOST_RANKS, 1)
+        for size in sizes:
+            check("the size of a slot", size, MOST_BYTES)
+        check("the cost of a sum", sum_ps, MOST_NANOSECONDS)
         self.sizes = sizes
         self.sum_ps = sum_ps
         self.ranks = [Rank(len(sizes)) for _ in range(ranks)]
-        self.messages = {}
+        self.messages: Dict[Tuple[int, int], int] = {}
         self.operations = self.needs = self.notes = 0
 
-    def exchange(self, messages):
+    def exchange(self, messages: Sequence[Message]) -> None:
         """One round of messages: all are sent, and then all received."""
         tags = []
         for message in messages:
+            self._check(message)
             channel = (message.source, message.target)
             tags.append(self.messages.get(channel, 0))
             self.messages[channel] = tags[-1] + 1
-            self._append(message.source, f"send {self._bytes(message)}b to {message.target} tag {tags[-1]} cpu 0 nic 0",
+            self._append(message.source, f"send {self._bytes(message)}b to {message.target} {self._options(message, tags[-1])}",
                          message.slots, (), self._moves(message.slots))
         for message, tag in zip(messages, tags):
             into = message.slots if message.into is None else message.into
-            self._append(message.target, f"recv {self._bytes(message)}b from {message.source} tag {tag} cpu 0 nic 0",
+            self._append(message.target, f"recv {self._bytes(message)}b from {message.source} {self._options(message, tag)}",
                          (), into, self._moves(into))
 
-    def combine(self, messages):
-        """One round of messages whose values are added to the slots of the same numbers."""
+    def combine(self, messages: Sequence[Message]) -> None:
+        """One round of messages whose values are added to the slots of the same numbers, or to those of `into`."""
+        for message in messages:
+            self._check(message)
         spares = [self.spare(message.target, len(message.slots)) for message in messages]
-        self.exchange([Message(message.source, message.target, message.slots, spare) for message, spare in zip(messages, spares)])
+        self.exchange([Message(message.source, message.target, message.slots, spare, message.size, message.cpu, message.nic)
+                       for message, spare in zip(messages, spares)])
         for message, spare in zip(messages, spares):
             cost = -(-self._bytes(message) * self.sum_ps // 1000)
-            self.add(message.target, list(zip(spare, message.slots)), cost)
+            into = message.slots if message.into is None else message.into
+            self.add(message.target, list(zip(spare, into)), cost, message.cpu)
 
-    def add(self, rank, pairs, cost=0):
+    def add(self, rank: int, pairs: Sequence[Tuple[int, int]], cost: int = 0, cpu: int = 0) -> None:
         """A calc of `cost` nanoseconds: for each pair, the value of the first slot is added to that of the second. Where
         the second is empty, it is a copy."""
-        if cost > MOST_NANOSECONDS:
-            raise Fault(f"a sum of {cost} ns: a calc has at most {MOST_NANOSECONDS}")
-        self._append(rank, f"calc {cost} cpu 0", [slot for pair in pairs for slot in pair], [into for _, into in pairs],
-                     [f"adds {slot} to {into}" for slot, into in pairs])
+        self._calc(rank, cost, cpu, [slot for pair in pairs for slot in pair], [into for _, into in pairs],
+                   [f"adds {slot} to {into}" for slot, into in pairs])
 
-    def spare(self, rank, count):
-        """So many slots of the rank that nothing uses yet."""
+    def calc(self, rank: int, cost: int, slots: Sequence[int] = (), cpu: int = 0) -> None:
+        """A calc of `cost` nanoseconds. It comes after what set these slots, and what reads or sets them later comes after it."""
+        self._calc(rank, cost, cpu, slots, slots, [])
+
+    def spare(self, rank: int, count: int) -> range:
+        """`count` slots of the rank that nothing uses yet."""
+        check("a rank", rank, len(self.ranks) - 1)
         here = self.ranks[rank]
         here.spare += count
         return range(here.spare - count, here.spare)
 
-    def end_step(self):
+    def end_step(self) -> None:
         """A step ends: each rank goes on only after the end of all that it did in it."""
         for rank in self.ranks:
             if len(rank.operations) > rank.step:
                 rank.step_before = range(rank.step, len(rank.operations))
                 rank.step = len(rank.operations)
 
-    def text(self):
+    def text(self) -> Iterator[str]:
         """The canonical text, in pieces."""
         yield f"num_ranks {len(self.ranks)}\n"
         for number, rank in enumerate(self.ranks):
             if rank.operations:
                 yield "\n".join([f"rank {number} {{", *rank.lines(), "}\n"])
 
-    def _bytes(self, message):
+    def _check(self, message: Message) -> None:
+        """The message is one between ranks that are there, of slots that may be."""
+        for rank in (message.source, message.target):
+            check("a rank", rank, len(self.ranks) - 1)
+        for slot in (*message.slots, *(message.into or ())):
+            check("a slot", slot, MOST_SLOT)
+        if message.into is not None and len(message.into) != len(message.slots):
+            raise Fault(f"a message of {len(message.slots)} slots into {len(message.into)}")
+        if message.size is None and any(slot >= len(self.sizes) for slot in message.slots):
+            raise Fault(f"slot {max(message.slots)} has no size, as the plan has {len(self.sizes)} sizes: give the message a size")
+        check("the cpu of a message", message.cpu, MOST_DEVICE)
+        check("the nic of a message", message.nic, MOST_DEVICE)
+
+    def _bytes(self, message: Message) -> int:
         size = sum(self.sizes[slot] for slot in message.slots) if message.size is None else message.size
         if size > MOST_BYTES:
             raise Fault(f"a message of {size} bytes: it has at most {MOST_BYTES}")
-        return size
+        return check("the size of a message", size, MOST_BYTES)
 
     @staticmethod
-    def _moves(slots):
+    def _options(message: Message, tag: int) -> str:
+        return f"tag {tag} cpu {message.cpu} nic {message.nic}"
+
+    @staticmethod
+    def _moves(slots: Sequence[int]) -> List[str]:
         return [f"moves {first} to {last}" for first, last in runs(slots)]
 
-    def _append(self, rank, action, reads, sets, notes):
+    def _calc(self, rank: int, cost: int, cpu: int, reads: Sequence[int], sets: Sequence[int], notes: Sequence[str]) -> None:
+        check("a rank", rank, len(self.ranks) - 1)
+        for slot in (*reads, *sets):
+            check("a slot", slot, MOST_SLOT)
+        if cost > MOST_NANOSECONDS:
+            raise Fault(f"a sum of {cost} ns: a calc has at most {MOST_NANOSECONDS}")
+        check("the cost of a calc", cost, MOST_NANOSECONDS)
+        check("the cpu of a calc", cpu, MOST_DEVICE)
+        self._append(rank, f"calc {cost} cpu {cpu}", reads, sets, notes)
+
+    def _append(self, rank: int, action: str, reads: Sequence[int], sets: Sequence[int], notes: Sequence[str]) -> None:
         self.operations += 1
         self.needs += self.ranks[rank].append(action, reads, sets, notes)
         self.notes += len(notes)
@@ -182,3 +252,12 @@ class Plan:
                                   (self.notes, MOST_NOTES, "notes")):
             if count > most:
                 raise Fault(f"more than {most} {what}: take fewer ranks or segments")
+
+
+def check(what: str, number: object, most: int, least: int = 0) -> int:
+    """The number, where it is a whole one within these limits."""
+    if not isinstance(number, int):
+        raise Fault(f"{what} is {number!r}, and no whole number")
+    if not least <= number <= most:
+        raise Fault(f"{what} is {number}: it is {least} to {most}")
+    return number

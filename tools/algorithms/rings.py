@@ -1,22 +1,24 @@
 """Rings among some ranks. Nothing of it is proved.
 
 The vector is cut into as many blocks as there are members, each a list of slots; each slot of a block is a message."""
-from algorithms.plan import Message
+from typing import Callable, Sequence
+
+from algorithms.plan import Message, Plan
 
 
-def reduce_scatter(plan, members, blocks):
+def reduce_scatter(plan: Plan, members: Sequence[int], blocks: Sequence[Sequence[int]]) -> None:
     """Block after block goes around and is added up: at the end, place p has the sum of block p + 1."""
     for step in range(len(members) - 1):
         _send_on(plan.combine, members, blocks, -step)
 
 
-def allgather(plan, members, blocks, shift=0):
+def allgather(plan: Plan, members: Sequence[int], blocks: Sequence[Sequence[int]], shift: int = 0) -> None:
     """Place p begins with block p + shift; block after block goes around until all have all."""
     for step in range(len(members) - 1):
         _send_on(plan.exchange, members, blocks, shift - step)
 
 
-def _send_on(send, members, blocks, shift):
+def _send_on(send: Callable[[Sequence[Message]], None], members: Sequence[int], blocks: Sequence[Sequence[int]], shift: int) -> None:
     """Each place p sends block p + shift to the next."""
     count = len(members)
     for segment in range(len(blocks[0])):

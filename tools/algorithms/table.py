@@ -3,6 +3,8 @@ from dataclasses import dataclass
 from typing import Callable, Tuple
 
 from algorithms import collectives
+from algorithms.collectives import Wish
+from algorithms.plan import Plan
 
 CLUSTERS = "Pješivac-Grbović, Angskun, Bosilca, Fagg, Gabriel and Dongarra, *Performance Analysis of MPI Collective Operations*, 2007"
 MPICH = "Thakur, Rabenseifner and Gropp, *Optimization of Collective Communication Operations in MPICH*, 2005"
@@ -16,7 +18,7 @@ class Algorithm:
     """One algorithm: P are the ranks, n the bytes of the vector, b those of an item, K the segments, N the ranks of a node."""
 
     name: str
-    make: Callable
+    make: Callable[[Wish], Plan]
     options: Tuple[str, ...]
     limit: str
     steps: str
@@ -24,7 +26,7 @@ class Algorithm:
     size: str
     source: str
 
-    def kind(self):
+    def kind(self) -> str:
         """The collective: KIND of `goal certify`."""
         return self.name.split("-", 1)[0]
 
@@ -71,7 +73,7 @@ ALGORITHMS = [
 ]
 
 
-def printed():
+def printed() -> str:
     """The table as docs/COLLECTIVES.md has it."""
     lines = ["| algorithm | ranks | options | steps | messages | bytes in all | described in |", "|---|---|---|---|---|---|---|"]
     for one in ALGORITHMS:

@@ -2,64 +2,68 @@
 
 The members of a tree are a list of ranks, the root first; a tree is the list of its edges (parent, child), by the places of
 the ranks in that list, in the order in which a broadcast takes them."""
-from algorithms.plan import Message
+from typing import Callable, List, Sequence, Tuple
+
+from algorithms.plan import Message, Plan
+
+Tree = List[Tuple[int, int]]
 
 
-def chain(count):
+def chain(count: int) -> Tree:
     """Each to the next."""
     return [(place, place + 1) for place in range(count - 1)]
 
 
-def binary(count):
+def binary(count: int) -> Tree:
     """A complete binary tree, row by row."""
     return [((child - 1) // 2, child) for child in range(1, count)]
 
 
-def binomial(count):
+def binomial(count: int) -> Tree:
     """A binomial tree: in each round the distance is half of that before, and who has the value sends it so far."""
-    edges = []
+    edges: Tree = []
     for distance in reversed(powers(count)):
         edges += [(parent, parent + distance) for parent in range(0, count - distance, 2 * distance)]
     return edges
 
 
-def powers(count):
+def powers(count: int) -> List[int]:
     """The powers of two below the count, from 1."""
     return [1 << digit for digit in range((count - 1).bit_length())]
 
 
-def rotated(ranks, root):
+def rotated(ranks: int, root: int) -> List[int]:
     """All ranks in order, from the root on and around."""
     return [(root + place) % ranks for place in range(ranks)]
 
 
-def broadcast(plan, members, tree, messages):
+def broadcast(plan: Plan, members: Sequence[int], tree: Tree, messages: Sequence[Sequence[int]]) -> None:
     """The root's values go down the tree: a message for each list of slots."""
     for slots in messages:
         for parent, child in tree:
             plan.exchange([Message(members[parent], members[child], slots)])
 
 
-def reduce(plan, members, tree, messages):
+def reduce(plan: Plan, members: Sequence[int], tree: Tree, messages: Sequence[Sequence[int]]) -> None:
     """The sum of all values goes up the tree to the root: a message for each list of slots."""
     for slots in messages:
         for parent, child in reversed(tree):
             plan.combine([Message(members[child], members[parent], slots)])
 
 
-def part(child, count):
+def part(child: int, count: int) -> range:
     """The places in the part of the binomial tree that hangs on this child of it."""
     return range(child, min(child + (child & -child), count))
 
 
-def scatter(plan, members, slot_of):
+def scatter(plan: Plan, members: Sequence[int], slot_of: Callable[[int], int]) -> None:
     """The root's slot for each place goes down the binomial tree, with all that lie behind it."""
     for parent, child in binomial(len(members)):
         slots = [slot_of(place) for place in part(child, len(members))]
         plan.exchange([Message(members[parent], members[child], slots)])
 
 
-def gather(plan, members, slot_of):
+def gather(plan: Plan, members: Sequence[int], slot_of: Callable[[int], int]) -> None:
     """The slot of each place goes up the binomial tree to the root, with all that have come from below."""
     for parent, child in reversed(binomial(len(members))):
         slots = [slot_of(place) for place in part(child, len(members))]
