@@ -5,10 +5,13 @@ cores and memory, and one that finds cores idle gets them. On a machine with no 
 statements and not its proofs, as the gate builds it, since those above then load less. Else rt's own functions build them over the
 kept work (in this process, since two commands `rt lib` would wait for one another). LOCK is the number of an open file, which holds
 the lock of this checkout. Standard output is the log, and tells how far the proof is."""
+from __future__ import annotations
+
 import contextlib
-import glob
+import hashlib
 import importlib.machinery
 import importlib.util
+import json
 import os
 import shutil
 import signal
@@ -17,74 +20,36 @@ import sys
 import tempfile
 import threading
 import time
-from concurrent.futures import FIRST_COMPLETED, ThreadPoolExecutor, wait
+from concurrent.futures import FIRST_COMPLETED, Future, ThreadPoolExecutor, wait
+from typing import Any, Callable
 
-TOP = os.path.dirname(os.path.dirname(os.path.abspath(__file__)))
-PROGRAM = f"{TOP}/crates/goal_prog/out/goal_prog"
-PROOF = f"{TOP}/.proof"
-LOCK, LOG = f"{PROOF}/lock", f"{PROOF}/log"
-# Written as a proof begins, with how many folders of sources there are; so named once all is proved.
-BEGUN, PROVED = f"{PROOF}/begun", f"{PROOF}/proved"
-# Why the proof of the sources as they were then failed.
-FAILED = f"{PROOF}/failed"
+import sources
+from sources import BEGUN, PROGRAM, PROOF, TOP, put, text_of
+
+# The kit's command rt as a module, and its crates, have the types that they have there.
+Kit = Any
+Crate = Any
+
 # By library, what its statements were built from.
 STATEMENTS = f"{PROOF}/statements"
+# The digest of sources whose proof failed, the kit, and why it failed.
+FAILED = f"{PROOF}/failed"
 # A check with more jobs than this seldom ends sooner.
 MOST_JOBS = 4
 # How far the proof stands behind other work, in steps of `nice`: at 10 another process gets nine tenths of a core that they share.
 BEHIND = 10
 # What a check with one job takes of the memory that rt plans for it, and what each further job takes of that: as measured.
 MEMORY_OF_A_CHECK, MEMORY_OF_A_JOB = 0.6, 0.5
+FAILING = threading.Lock()
 
 
-def folders():
-    """The folders of sources: what is proved stands in these and in crates.txt."""
-    return [it for part in ("src", "specs", "proofs") for it in glob.glob(f"{glob.escape(TOP)}/crates/*/{part}")]
-
-
-def are_sources_as_at(path):
-    """Whether no source was touched since this file was."""
-    try:
-        since = os.stat(path).st_mtime_ns
-        if os.stat(f"{TOP}/crates").st_mtime_ns > since or os.stat(f"{TOP}/crates.txt").st_ctime_ns > since:
-            return False
-        for folder in folders():
-            for at, _, names in os.walk(folder):
-                if any(os.lstat(it).st_ctime_ns > since for it in [at, *(f"{at}/{name}" for name in names)]):
-                    return False
-        return path not in (BEGUN, PROVED) or text_of(path) == f"{len(folders())}"
-    except OSError:
-        return False
-
-
-def is_current():
-    """Whether the program was built from the sources as they stand: by this proof, or by the gate."""
-    for path in (PROVED, f"{TOP}/.git/rt-ci.lock"):
-        try:
-            is_newer = os.stat(PROGRAM).st_mtime_ns > os.stat(path).st_mtime_ns
-        except OSError:
-            continue
-        if is_newer and os.access(PROGRAM, os.X_OK) and are_sources_as_at(path):
-            return True
-    return False
-
-
-def text_of(path):
-    """What a small file holds, without the blanks around it; nothing where it cannot be read."""
-    try:
-        with open(path, encoding="utf-8", errors="replace") as file:
-            return file.read().strip()
-    except OSError:
-        return ""
-
-
-def seconds(crates):
+def seconds(crates: list[Crate]) -> dict[str, float]:
     """By name, about how many seconds of one core the proof of a crate takes: a fit to thirty crates that were measured."""
     lines = {it.name: it.count(rb"\n") for it in crates}
     return {it.name: 5 + lines[it.name] / 16 + sum(lines[dep.name] for dep in it.below()) / 500 for it in crates}
 
 
-def ways(crates):
+def ways(crates: list[Crate]) -> dict[str, float]:
     """By name, how long the proof of a crate takes with the longest chain of others that wait for it."""
     found = seconds(crates)
     for crate in sorted(crates, key=lambda it: -len(it.below())):
@@ -93,12 +58,14 @@ def ways(crates):
     return found
 
 
-def in_turn(crates, prove, cores, memory, need):
+def in_turn(crates: list[Crate], prove: Callable[[Crate, int], bool], cores: int, memory: float, need: Callable[[Crate], float]) -> bool:
     """Calls prove(crate, jobs) for each crate, once those that it uses are proved, side by side; whether each call says that it is.
 
     The longest way is taken first. The idle cores are shared among the crates that could start, and no more run than fit the memory."""
-    way, running, proved, is_well = ways(crates), {}, set(), True
-    left = sorted(crates, key=lambda it: -way[it.name])
+    way, is_well = ways(crates), True
+    running: dict[Future[bool], tuple[Crate, int, float]] = {}
+    proved: set[str] = set()
+    left = sorted(crates, key=lambda it: -way[str(it.name)])
     needs = {it.name: MEMORY_OF_A_CHECK * need(it) for it in crates}
     with ThreadPoolExecutor(cores) as pool:
         while True:
@@ -120,11 +87,13 @@ def in_turn(crates, prove, cores, memory, need):
                 is_well = done.result() and is_well
 
 
-def kit():
+def kit() -> Kit:
     """The kit's command rt, as a module."""
-    path = os.path.realpath(shutil.which("rt"))
+    path = os.path.realpath(shutil.which("rt") or "rt")
     loader = importlib.machinery.SourceFileLoader("rt", path)
-    found = importlib.util.module_from_spec(importlib.util.spec_from_loader("rt", loader))
+    spec = importlib.util.spec_from_loader("rt", loader)
+    assert spec
+    found = importlib.util.module_from_spec(spec)
     loader.exec_module(found)
     return found
 
@@ -132,11 +101,11 @@ def kit():
 class Log:
     """What is said of the proof, a crate at a time."""
 
-    def __init__(self, count):
+    def __init__(self, count: int) -> None:
         self.count, self.proved, self.start, self.alone = count, 0, time.time(), threading.Lock()
         print(f"goal: {count} crates to prove", flush=True)
 
-    def add(self, name, said, is_proved):
+    def add(self, name: str, said: str, is_proved: bool) -> None:
         """Adds what was said of a crate, and how far the proof is then."""
         with self.alone:
             self.proved += is_proved
@@ -146,20 +115,18 @@ class Log:
             print(f"goal: {what}: {name}" if is_proved else f"goal: {name} is not proved", flush=True)
 
 
-def fail(why):
-    """Notes why there is no proof, for this call and the next."""
-    new = f"{FAILED}.{threading.get_ident()}"
-    with open(new, "w", encoding="utf-8") as file:
-        file.write(why)
-    os.replace(new, FAILED)
+def fail(why: str) -> None:
+    """Notes why there is no proof of these sources, for this call and the next."""
+    with FAILING:
+        put(FAILED, "\n".join([*text_of(BEGUN).split("\n")[:2], why]))
 
 
-def made_from(rt, crate):
+def made_from(rt: Kit, crate: Crate) -> str:
     """What a library is built from, and what it was built as: the sources, and the sums of the libraries."""
     return "\n".join([crate.stamp(), *(rt.rtlib.sum_of(f"{it.rlib}/format") for it in [*crate.below(), crate])])
 
 
-def build_statements(rt, crate, jobs):
+def build_statements(rt: Kit, crate: Crate, jobs: int) -> int:
     """Proves a library, and builds what those above load of it: its statements. The status of the check."""
     kept, stamp = f"{STATEMENTS}/{crate.name}", crate.stamp()
     if crate.is_built() or text_of(kept) == made_from(rt, crate):
@@ -167,7 +134,7 @@ def build_statements(rt, crate, jobs):
     shutil.rmtree(os.path.dirname(crate.rlib), ignore_errors=True)
     os.makedirs(os.path.dirname(crate.rlib))
     words = crate.words(["--jobs", f"{jobs}"], keeps=False)
-    status = crate.call(rt.rtlib.RATTLE, "build", *words, "--statements", "-o", crate.rlib)
+    status: int = crate.call(rt.rtlib.RATTLE, "build", *words, "--statements", "-o", crate.rlib)
     if status == 0 and stamp == crate.stamp():
         os.makedirs(STATEMENTS, exist_ok=True)
         with open(kept, "w", encoding="utf-8") as file:
@@ -175,10 +142,10 @@ def build_statements(rt, crate, jobs):
     return status
 
 
-def prove_libraries(rt, log, crates, keeps):
+def prove_libraries(rt: Kit, log: Log, crates: list[Crate], keeps: bool) -> bool:
     """Proves and builds the libraries, over the work that is kept or from nothing; whether all are proved."""
 
-    def prove(crate, jobs):
+    def prove(crate: Crate, jobs: int) -> bool:
         status = 1
         with tempfile.TemporaryFile("w+", errors="replace") as crate.out:
             try:
@@ -194,7 +161,7 @@ def prove_libraries(rt, log, crates, keeps):
     return in_turn(crates, prove, rt.processors(), 0.85 * rt.free(), rt.need)
 
 
-def build_program(rt, log, program, locks, keeps):
+def build_program(rt: Kit, log: Log, program: Crate, locks: list[int], keeps: bool) -> bool:
     """Proves, builds and runs the program; whether its run is well. What it starts ends with this process."""
     print(f"== {program.name}", flush=True)
     # (what is held is closed before the program runs)
@@ -202,21 +169,50 @@ def build_program(rt, log, program, locks, keeps):
     if keeps:
         for it in locks:
             os.close(it)
-        how = {"stdin": subprocess.DEVNULL, "stderr": subprocess.STDOUT, "cwd": program.folder}
+        how: dict[str, Any] = {"stdin": subprocess.DEVNULL, "stderr": subprocess.STDOUT, "cwd": program.folder}
         status = subprocess.run([*rt.rtlib.guarded(), "rt", "run", *jobs, "--", *words], **how).returncode
     else:
         status = program.build_and_run(jobs, words, False)
     if status == 0 and os.access(PROGRAM, os.X_OK):
         log.add(program.name, "", True)
-        # (also where rt found it built: it is of the sources as they were)
-        os.utime(PROGRAM)
-        os.replace(BEGUN, PROVED)
+        if not sources.end():
+            print("goal: a source was touched during the proof, so the next call proves the sources as they are then", flush=True)
         return True
     fail(f"{program.name} (rt run ended with {status})")
     return False
 
 
-def prove(rt):
+def take_from_gate() -> bool:
+    """Whether a plain `rt ci` proved the program that is here from the sources as they are; if so it is recorded.
+
+    The gate names what it proved by the sum of all that it was made from, and keeps the sums of what it made: that of a library is
+    part of the name of those above it. So no time is asked for, but what the kit keeps."""
+    try:
+        begun, rt = sources.state(), kit()
+        with open(os.devnull, "w", encoding="utf-8") as nothing, contextlib.redirect_stderr(nothing):
+            rt.Crate.allowed = rt.handles_of(TOP)
+            program = next(it for it in rt.crates_of(TOP) if it.is_program)
+        return is_kept(rt, program) and sources.record(begun.strip())
+    except (OSError, SystemExit, AttributeError, LookupError, TypeError, ValueError, StopIteration):
+        # (another kit keeps it in another way: then it is proved again)
+        return False
+
+
+def is_kept(rt: Kit, program: Crate) -> bool:
+    """Whether the gate has kept a proof of these sources that made this program."""
+    kept, files = rt.Kept([]), {}
+    for crate in [*program.below(), program]:
+        key = kept.key(crate)
+        with open(f"{kept.place(crate, False, key)}/made.json", encoding="utf-8") as file:
+            made = json.load(file)
+        if made["key"] != key:
+            return False
+        files = dict(made["files"])
+        kept.rlibs[crate.name] = hashlib.sha256(repr(list(files.items())).encode()).hexdigest()
+    return files.get(program.name) == sources.sum_of(PROGRAM)
+
+
+def prove(rt: Kit) -> bool:
     """Proves the program with what it uses, and builds it; whether that went well."""
     # (what the program does not use, as crates of laws alone, is left to the gate)
     program = next(it for it in rt.rtlib.crates_below(TOP) if it.is_program)
@@ -231,7 +227,7 @@ def prove(rt):
     return prove_libraries(rt, log, libraries, keeps) and build_program(rt, log, program, locks, keeps)
 
 
-def give_way():
+def give_way() -> None:
     """Has an answer from the sources, and all else, go before the proof."""
     os.nice(BEHIND)
     # (a kernel that shares the cores among sessions weighs this one by a number of its own)
@@ -239,7 +235,7 @@ def give_way():
         file.write(f"{BEHIND}")
 
 
-def main(lock):
+def main(lock: int) -> int:
     os.set_inheritable(lock, False)
     give_way()
     signal.signal(signal.SIGHUP, signal.SIG_IGN)

@@ -1,9 +1,13 @@
 """Calls of the program `goal`. Nothing of it is proved."""
+from __future__ import annotations
+
 import argparse
 import os
 import subprocess
+import sys
 from dataclasses import dataclass
-from typing import Optional, Sequence
+from functools import lru_cache
+from typing import Sequence
 
 from common.command import Fault
 
@@ -11,7 +15,8 @@ DONE, STUCK, REFUSED, NOT_CERTIFIED = 0, 1, 3, 6
 # the words KIND of `goal gen` and `goal certify`, and those of them that take a root
 KINDS = ("bcast", "barrier", "allgather", "allreduce", "alltoall", "reduce", "gather", "scatter", "reduce_scatter", "scan")
 ROOTED = ("bcast", "reduce", "gather", "scatter")
-BESIDE = os.path.join(os.path.dirname(os.path.dirname(os.path.dirname(os.path.abspath(__file__)))), "goal")
+TOP = os.path.dirname(os.path.dirname(os.path.dirname(os.path.abspath(__file__))))
+BESIDE = os.path.join(TOP, "goal")
 
 
 @dataclass(frozen=True)
@@ -28,12 +33,25 @@ def add_option(parser: argparse.ArgumentParser) -> None:
     parser.add_argument("--goal", metavar="PATH", help="the program (else that of the environment's GOAL, else ../goal)")
 
 
-def chosen(path: Optional[str] = None) -> str:
-    """The program: the one with this path, else that of GOAL, else `goal` beside the folder of the tools."""
-    return path or os.environ.get("GOAL") or BESIDE
+def chosen(path: str | None = None) -> str:
+    """The program: the one with this path, else that of GOAL, else the one beside the folder of the tools: if it is proved, itself, so
+    that its launcher is asked once and not by each call."""
+    return path or os.environ.get("GOAL") or proved() or BESIDE
 
 
-def call(program: str, words: Sequence[str], text: Optional[str] = None) -> Answer:
+@lru_cache(maxsize=None)
+def proved() -> str | None:
+    """The path of the proved program, if it is proved; it is asked for once. With GOAL_PROVED=1
+    this waits for its proof."""
+    words = [sys.executable, "-B", os.path.join(TOP, "launch", "answer.py"), "--where"]
+    found = subprocess.run(words, stdout=subprocess.PIPE, check=False).stdout.decode("utf-8", "surrogateescape").rstrip("\n")
+    if found:
+        # (large pages, as the launcher asks for them)
+        os.environ.setdefault("GLIBC_TUNABLES", "glibc.malloc.hugetlb=1")
+    return found or None
+
+
+def call(program: str, words: Sequence[str], text: str | None = None) -> Answer:
     """What the program answers to these words. A text that is given is its standard input: name it `/dev/stdin`."""
     try:
         done = subprocess.run([program, *words], input=text, capture_output=True, encoding="utf-8", errors="replace", check=False)

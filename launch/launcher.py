@@ -1,0 +1,257 @@
+"""Answers where the program is not known to be current.
+
+Where the contents of the sources are those that the program was proved from, the program answers. Else the proof goes on in the
+background (prove.py), one per checkout. Until it is done the answer comes from the sources, by `rt try`. Where that gives none, or
+GOAL_PROVED=1 is set, this waits for the proved program. Exit status 9: there is no proof. Nothing of this is proved."""
+from __future__ import annotations
+
+import fcntl
+import os
+import re
+import shutil
+import signal
+import subprocess
+import sys
+import tempfile
+import time
+from typing import IO, Any
+
+import sources
+from sources import BEGUN, PROGRAM, PROOF, TOP, text_of
+from trial import Trial, say
+
+# The lock is held by the process that proves.
+LOCK, LOG = f"{PROOF}/lock", f"{PROOF}/log"
+# The digest of sources whose proof failed, the kit, and why it failed.
+FAILED = f"{PROOF}/failed"
+NO_PROOF, NO_TEXT = 9, 8
+SIGNALS = (signal.SIGTERM, signal.SIGHUP, signal.SIGINT)
+LOOK_SECONDS = 0.1
+# How the log says how far the proof is.
+PROGRESS = re.compile(r"(?m)^goal: (\d+ of \d+ crates proved after .*)$")
+TO_PROVE = re.compile(r"(?m)^goal: (\d+) crates to prove$")
+
+
+def held(path: str) -> IO[str] | None:
+    """The file with its lock, or None where another process holds that."""
+    file = open(path, "a", encoding="utf-8")
+    try:
+        fcntl.flock(file, fcntl.LOCK_EX | fcntl.LOCK_NB)
+        return file
+    except BlockingIOError:
+        file.close()
+        return None
+
+
+class Proof:
+    """The proof of this checkout, as this call sees it."""
+
+    def __init__(self, is_tried_again: bool) -> None:
+        self.is_tried_again, self.is_begun, self.told = is_tried_again, False, 0
+
+    def is_done(self) -> bool:
+        """Whether the program is proved. Starts the proof where none goes on; ends this process where it failed."""
+        # (first the lock, so that no proof can end between these questions)
+        lock = held(LOCK)
+        if not lock:
+            return False
+        if sources.is_current():
+            return True
+        failed = text_of(FAILED)
+        is_over = self.is_begun or not self.is_tried_again
+        if failed and is_over and sources.is_of(failed):
+            say(f"not proved: {failed.split(chr(10), 2)[2]}. GOAL_PROVED=1 tries it again; log {LOG}")
+            sys.exit(NO_PROOF)
+        if self.is_begun and not failed and sources.is_as_begun():
+            say(f"the proof was stopped, and the next call takes it up again; log {LOG}")
+            sys.exit(NO_PROOF)
+        if not self.is_begun and is_taken_from_gate():
+            return sources.is_current()
+        self.begin(lock)
+        return False
+
+    def begin(self, lock: IO[str]) -> None:
+        """Starts the proof, which holds the lock from here on."""
+        self.is_begun, self.told = True, 0
+        if os.path.exists(FAILED):
+            os.remove(FAILED)
+        sources.begin()
+        words = [sys.executable, "-B", f"{TOP}/launch/prove.py", f"{lock.fileno()}"]
+        with open(LOG, "w", encoding="utf-8") as log:
+            how: dict[str, Any] = {"stdin": subprocess.DEVNULL, "stdout": log, "stderr": log, "start_new_session": True}
+            subprocess.Popen(words, pass_fds=[lock.fileno()], cwd=TOP, **how)
+        lock.close()
+
+    def how_far(self) -> str:
+        """How far it is, in a line."""
+        said = text_of(LOG)
+        self.told, begun = len(PROGRESS.findall(said)), BEGUN if os.path.exists(BEGUN) else PROOF
+        count = TO_PROVE.findall(said)
+        minutes = max(0, int(time.time() - os.stat(begun).st_mtime)) // 60
+        return f"{self.told}{f' of {count[0]}' if count else ''} crates proved after {minutes} min; log {LOG}"
+
+    def tell(self) -> None:
+        """Says each crate that was proved since it was last said how far it is."""
+        for line in PROGRESS.findall(text_of(LOG))[self.told :]:
+            say(line)
+            self.told += 1
+
+
+def is_taken_from_gate() -> bool:
+    """Whether `rt ci` proved the program that is here from the sources as they are. Where it left one of which that is not known, it is said."""
+    if sources.is_recorded() or not os.access(PROGRAM, os.X_OK):
+        return False
+    import prove
+
+    if prove.take_from_gate():
+        return True
+    say("rt ci kept nothing that says that the program here is of these sources, so they are proved again")
+    return False
+
+
+class Call:
+    """This call: its words, and what it began, which ends with it."""
+
+    def __init__(self, words: list[str]) -> None:
+        self.words, self.folder = words, tempfile.mkdtemp(prefix="goal-")
+        self.trial: Trial | None = None
+        for number in SIGNALS:
+            signal.signal(number, self.interrupted)
+
+    def interrupted(self, number: int, _: object) -> None:
+        """Ends this process by a signal, where it stands: with no other exception, and no word."""
+        for each in SIGNALS:
+            signal.signal(each, signal.SIG_IGN)
+        if self.trial:
+            self.trial.stop()
+        shutil.rmtree(self.folder, ignore_errors=True)
+        os._exit(128 + number)
+
+    def end(self) -> None:
+        """Ends what it began."""
+        if self.trial:
+            self.trial.stop()
+            self.trial.wait()
+        shutil.rmtree(self.folder, ignore_errors=True)
+
+    def run_program(self) -> None:
+        """Becomes the proved program. A device that was read is read from its copy."""
+        words = list(self.words)
+        for number, path in self.trial.copies.items() if self.trial else ():
+            given = os.open(path, os.O_RDONLY)
+            os.set_inheritable(given, True)
+            words[number] = f"/proc/self/fd/{given}"
+        self.end()
+        become(words)
+
+    def status_from_sources(self, proof: Proof) -> int | None:
+        """The status of an answer from the sources, or None where the proof is done first, or where there is none."""
+        self.trial = trial = Trial(self.words, self.folder)
+        if not trial.can_be:
+            return None
+        say("this answer comes from the sources, before their proof on this machine: it takes a minute or two")
+        turn = None
+        while not proof.is_done():
+            if not trial.ran:
+                # (one at a time per checkout, so that many calls leave the cores to the proof)
+                turn = held(f"{PROOF}/trial")
+                if turn:
+                    trial.begin()
+            elif trial.is_over():
+                if turn:
+                    turn.close()
+                status = trial.status(proof.how_far())
+                if status is None:
+                    say("the sources give no answer without a proof (one of more than 1 MiB or a minute, say)")
+                return status
+            time.sleep(LOOK_SECONDS)
+        say("the proof is done: the proved program answers")
+        return None
+
+
+def become(words: list[str]) -> None:
+    """Becomes the proved program."""
+    for number in (signal.SIGPIPE, *SIGNALS):
+        signal.signal(number, signal.SIG_DFL)
+    # (large pages, as `goal` asks for them)
+    os.environ.setdefault("GLIBC_TUNABLES", "glibc.malloc.hugetlb=1")
+    import explain
+
+    explain.become(PROGRAM, words)
+
+
+def wait_for(proof: Proof) -> None:
+    """Waits until the program is proved, and says how far that is."""
+    say(f"waiting for the proof: {proof.how_far()}")
+    while not proof.is_done():
+        proof.tell()
+        time.sleep(LOOK_SECONDS)
+    proof.tell()
+
+
+def answer(words: list[str]) -> int:
+    """The status of the answer to these words; often this process becomes the program that has it."""
+    os.makedirs(PROOF, exist_ok=True)
+    waits = os.environ.get("GOAL_PROVED") == "1"
+    proof, call = Proof(waits), Call(words)
+    try:
+        if not proof.is_done():
+            if not waits and not all(is_text(it) for it in words):
+                say("a word of the command line is not UTF-8")
+                return NO_TEXT
+            status = None if waits else call.status_from_sources(proof)
+            if status is not None:
+                return status
+            if not proof.is_done():
+                wait_for(proof)
+        call.run_program()
+    finally:
+        call.end()
+    return NO_PROOF
+
+
+def is_text(word: str) -> bool:
+    """Whether a word of the command line is UTF-8, as the program wants it."""
+    try:
+        os.fsencode(word).decode("utf-8")
+        return True
+    except UnicodeDecodeError:
+        return False
+
+
+def where() -> int:
+    """Prints the path of a program that is proved; the status."""
+    if not sources.is_current():
+        os.makedirs(PROOF, exist_ok=True)
+        proof = Proof(True)
+        if os.environ.get("GOAL_PROVED") != "1":
+            if not is_taken_from_gate():
+                return NO_PROOF
+        elif not proof.is_done():
+            wait_for(proof)
+    print(PROGRAM)
+    return 0
+
+
+def main(words: list[str]) -> int:
+    """The status of an answer to these words."""
+    for it in SIGNALS:
+        signal.signal(it, lambda number, _: os._exit(128 + number))
+    # (`goal` has an interrupt wait for this)
+    signal.pthread_sigmask(signal.SIG_UNBLOCK, {signal.SIGINT})
+    # (a standard stream that is closed cannot be written, and no file takes its place)
+    for number in range(3):
+        try:
+            os.fstat(number)
+        except OSError:
+            os.open(os.devnull, os.O_RDONLY)
+    try:
+        if words[:1] == ["--"] and sources.is_current():
+            become(words[1:])
+        if not shutil.which("rt") and not sources.is_current():
+            say("the command rt is not here. It comes with the Rattle kit, which proves and builds this program.")
+            return NO_PROOF
+        return where() if words == ["--where"] else answer(words[1:])
+    except OSError as error:
+        say(f"no answer: {error}")
+        return NO_PROOF
