@@ -1,17 +1,17 @@
 -- An operation is free at the time of its slot, and a later time there is worth one hold more.
-use Rattle.std.proofs.Common.{ℕ, zero, suc, ◌<◌, ◌≤◌, ◌≡◌, inl, inr, max, Bool, true, false, List, [], ◌∷◌, length, replicate, map, Option, Some, None, slice_get, slice_set, get_or, refl, ap, sym, ◌∙◌, subst, arith, if◌then◌else◌, is_some}
+use Rattle.std.proofs.Common.{ℕ, zero, suc, ◌<◌, ◌≤◌, ◌≡◌, inl, inr, max, true, false, List, [], ◌∷◌, length, replicate, map, Option, Some, None, slice_get, slice_set, get_or, refl, ap, sym, ◌∙◌, subst, arith, if◌then◌else◌}
 use Rattle.std.proofs.lemmas.Bool.{both_ways, cases_Bool}
 use Rattle.std.proofs.lemmas.List.{get_or-set_same, get_or-set_other, get_or-replicate, length-set}
-use Rattle.std.proofs.lemmas.Option.{same_Some, slice_get_within, slice_get-get_or, get_or_from_slice_get}
+use Rattle.std.proofs.lemmas.Option.{same_Some, slice_get-get_or}
 use Rattle.goal_graph.specs.declared.action.OpId.{OpId}
 use Rattle.goal_graph.specs.declared.plan.Op.{Op}
 use Rattle.goal_graph.specs.Schedule.{Plan, op_at, operations}
 use Rattle.goal_graph.specs.Fault.{IsOp}
 use Rattle.goal_graph.proofs.ForCallers.{cases_some, is_some_from}
-use Rattle.sim_resources.specs.FreeTimes.{Hold, shares_place, shares, free_at, hold}
+use Rattle.sim_resources.specs.FreeTimes.{Hold, shares, free_at, hold}
 use Rattle.sim_resources.specs.Slots.{place_among, IsPlaced, held}
 use Rattle.sim_resources.proofs.Placed.{listed}
-use Rattle.sim_resources.proofs.Shares.{shares_itself, shares_back}
+use Rattle.sim_resources.proofs.Shares.{shares_itself}
 
 abbrev pub raised : List ℕ → ℕ → ℕ → ℕ → List ℕ
 raised times s t until = slice_set times s (max t until)

@@ -1,5 +1,5 @@
 -- The slots that operations are given: each has one, and two have the same exactly where they share.
-use Rattle.std.proofs.Common.{ℕ, zero, suc, ◌≡◌, ◌<◌, inl, inr, ◌==◌, ◌&&◌, Bool, true, false, List, [], ◌∷◌, length, map, Option, Some, None, slice_get, get_or, refl, sym, ap, ◌∙◌, subst, arith, eqb-true, eq-eqb, is_some, if◌then◌else◌}
+use Rattle.std.proofs.Common.{ℕ, zero, suc, ◌≡◌, ◌<◌, inl, inr, ◌==◌, Bool, true, false, List, [], ◌∷◌, length, map, Option, Some, None, slice_get, get_or, refl, sym, ap, ◌∙◌, subst, arith, eqb-true, eq-eqb}
 use Rattle.std.specs.Option.{option_and_then}
 use Rattle.std.specs.List.{list_all}
 use Rattle.std.proofs.lemmas.Bool.{both_ways, and_parts, and_from, cond-false}
@@ -10,12 +10,11 @@ use Rattle.goal_graph.specs.declared.action.OpId.{OpId}
 use Rattle.goal_graph.specs.declared.plan.Op.{Op}
 use Rattle.goal_graph.specs.Schedule.{Plan, op_at, operations}
 use Rattle.goal_graph.specs.Fault.{IsOp}
-use Rattle.goal_graph.specs.Action.{same_op}
-use Rattle.goal_graph.proofs.ForCallers.{cases_op, cases_some, is_some_from, listed_places, one_place, same_op_from, same_op_swapped}
+use Rattle.goal_graph.proofs.ForCallers.{cases_op, cases_some, is_some_from, listed_places, one_place, same_op_from}
 use Rattle.sim_resources.specs.declared.slots.Slots.{Slots}
 use Rattle.sim_resources.specs.FreeTimes.{shares}
-use Rattle.sim_resources.specs.Slots.{uses_first, use_first, place_among, slots_of, IsWhole, HasSlot, IsNumbered, IsPlaced}
-use Rattle.sim_resources.proofs.Shares.{Share, share_of, shares-is, shares_on, shares_back}
+use Rattle.sim_resources.specs.Slots.{uses_first, use_first, place_among, slots_of, IsWhole, IsNumbered, IsPlaced}
+use Rattle.sim_resources.proofs.Shares.{share_of, shares-is, shares_on, shares_back}
 
 -- an operation stands at its place
 at_place : (xs : List OpId) (i : ℕ) (x : OpId) → slice_get xs i ≡ Some x → slice_get xs (place_among xs x) ≡ Some x

@@ -1,6 +1,7 @@
 -- What only the code keeps.
 pub mod FreeTimes
 pub mod Slots
+pub mod Numbers
 -- Laws.
 pub mod Laws
 -- What the clauses cite of lower crates.

@@ -1,5 +1,5 @@
 -- Slots of operations: two operations have the same slot exactly where they use the same cpu, or the same interface.
-use Rattle.std.specs.Prelude.{ℕ, suc, ◌≡◌, ◌≢◌, ◌<◌, ◌==◌, ◌&&◌, ◌⊎◌, Bool, true, List, [], ◌∷◌, ◌++◌, length, Option, Some, map, get_or, slice_get, slice_set, if◌then◌else◌}
+use Rattle.std.specs.Prelude.{ℕ, suc, ◌≡◌, ◌<◌, ◌==◌, ◌&&◌, ◌⊎◌, Bool, true, List, [], ◌∷◌, length, Some, map, get_or, slice_get, if◌then◌else◌}
 use Rattle.std.specs.List.{list_all}
 use Rattle.goal_graph.specs.declared.action.OpId.{OpId}
 use Rattle.goal_graph.specs.declared.plan.Op.{Op}
@@ -7,7 +7,6 @@ use Rattle.goal_graph.specs.Schedule.{Plan, operations}
 use Rattle.goal_graph.specs.Fault.{IsOp}
 use Rattle.goal_graph.specs.Action.{same_op}
 use Rattle.sim_resources.specs.FreeTimes.{shares, Hold, hold}
-use Rattle.sim_resources.specs.declared.slots.Latest.{Latest}
 use Rattle.sim_resources.specs.declared.slots.Slots.{Slots}
 
 -- whether an operation, and every one of a rank, uses cpu 0 and interface 0
@@ -76,21 +75,3 @@ cpu_of s = s.cpu
 
 abbrev pub nic_of : Slots → ℕ
 nic_of s = s.nic
-
--- What each number was given last, before and after a slot is given to the number of the operation x, and the first users.
-module _ (latest latest' : List (Option Latest)) (users users' : List OpId) (x : OpId) (number slot : ℕ) where
-  -- the slot that the number was given last, for the same rank
-  pub record IsOld : Type 0 where
-    pub given : slice_get latest number ≡ Some (Some (record { rank = x.rank; slot = slot }))
-    pub same_latest : latest' ≡ latest
-    pub same_users : users' ≡ users
-
-  -- a new slot, where the number was given none for the rank, which x uses first
-  pub record IsNew : Type 0 where
-    pub fresh : (s : ℕ) → slice_get latest number ≢ Some (Some (record { rank = x.rank; slot = s }))
-    pub slot_is : slot ≡ length users
-    pub latest_is : latest' ≡ slice_set latest number (Some (record { rank = x.rank; slot = slot }))
-    pub users_is : users' ≡ users ++ x ∷ []
-
-  abbrev pub IsGiven : Type 0
-  IsGiven = IsOld ⊎ IsNew

@@ -1,12 +1,14 @@
 // Slots of operations: two operations have the same slot where they use the same cpu, or the same interface.
-ghost use Rattle.std.specs.Prelude.{◌≡◌, ◌≢◌, ℕ, ◌<◌, ◌^◌, max, Some, None, replicate, IfOk, IfSome, IfNone, length, slice_get, slice_set};
+ghost use Rattle.std.specs.Prelude.{◌≡◌, ℕ, ◌+◌, ◌<◌, ◌^◌, max, [], Some, None, IfOk, OnOk, length, slice_get, slice_set};
 ghost use Rattle.std.specs.List.{list_all};
 ghost use Rattle.goal_graph.specs.declared.plan.Op.{Op};
 ghost use Rattle.goal_graph.specs.Fault.{IsOp};
-ghost use Rattle.sim_resources.specs.Slots.{uses_first, use_first, slots_of, cpu_slot, nic_slot, IsWhole, IsPlaced, IsGiven};
+ghost use Rattle.sim_resources.specs.Slots.{uses_first, use_first, slots_of, cpu_slot, nic_slot, IsWhole, IsPlaced};
+ghost use Rattle.sim_resources.specs.Numbers.{IsAt, IsGiven, IsKnown};
 
 use goal_graph::{Op, OpId, RankPlan, Sched};
 use goal_limits::NoMemory;
+use indexmap::IndexSet;
 use std::alloc::Global;
 
 /// The slots of an operation: that of its cpu and that of its interface.
@@ -25,56 +27,88 @@ pub struct Numbering {
     pub nics: usize,
 }
 
-// The slot that a number was given last, and the rank whose cpu or interface it is.
+// A cpu or a NIC of a rank, and its slot.
 #[derive(Clone, Copy)]
-pub struct Latest {
-    pub rank: u32,
+pub struct Numbered {
+    pub number: u8,
     pub slot: u32,
 }
 
-// The slot that a number was given last, where that was of this rank.
-fn given(latest: Option<Latest>, rank: u32) -> Option<u32>
-    ensures some { IfSome result (λ slot. latest ≡ Some (record { rank = rank; slot = slot })) }
-    ensures none { IfNone result ((slot : ℕ) → latest ≢ Some (record { rank = rank; slot = slot })) }
-{
-    match latest {
-        Some(latest) if latest.rank == rank => Some(latest.slot),
-        _ => None,
-    }
+/// The slots of the cpus, or of the NICs, that the operations so far use. They are numbered rank by rank, and in each rank
+/// in the order of first use.
+#[derive(Drop)]
+pub struct Numbers {
+    /// The rank of the last operation.
+    pub rank: u32,
+    /// The number of slots of the ranks before it.
+    pub before: u32,
+    /// The cpus, or the NICs, that it uses. The slot of one is `before` plus its index.
+    pub used: IndexSet<u8>,
+    /// What its last operation uses. The next one often uses the same, and skips the set.
+    pub newest: Option<Numbered>,
 }
 
-// How many cpus a rank has, and how many interfaces.
-const NUMBERS: usize = 256;
-
-// No number was given a slot.
-fn no_slots() -> [Option<Latest>; NUMBERS]
-    ensures { result ≡ replicate 256 None }
-{
-    [None; NUMBERS]
-}
-
-// The slot of a number of a rank: that which it was given last, where that was of this rank, and else a new one, which the
-// operation `id` uses first.
-fn slot_of(
-    latest: &mut [Option<Latest>; NUMBERS],
-    users: &mut Vec<OpId>,
-    id: OpId,
-    number: u8,
-) -> Result<u32, NoMemory>
-    requires few { length users.old.items < 2 ^ 32 }
-    ensures { IfOk result (λ slot. IsGiven latest.old latest.new users.old.items users.new.items id number slot) }
-{
-    match given(latest[number as usize], id.rank) {
-        Some(slot) => Ok(slot),
-        None => {
-            let slot = users.len() as u32;
-            users.push(id)?;
-            latest[number as usize] = Some(Latest {
-                rank: id.rank,
-                slot,
-            });
-            Ok(slot)
+impl Numbers {
+    // No operation has a slot.
+    fn new(alloc: Global) -> Numbers
+        ensures rank { result.rank ≡ 0 }
+        ensures before { result.before ≡ 0 }
+        ensures none { result.used.keys ≡ [] }
+        ensures newest { result.newest ≡ None }
+    {
+        Numbers {
+            rank: 0,
+            before: 0,
+            used: IndexSet::new(alloc),
+            newest: None,
         }
+    }
+
+    // Moves to a rank. The operations of each rank follow one another, so the set of another rank is cleared.
+    fn go_to(&mut self, rank: u32)
+        requires few { self.old.before + length self.old.used.keys < 2 ^ 32 }
+        ensures { IsAt self.old self.new rank }
+    {
+        if rank == self.rank {
+            return;
+        }
+        self.rank = rank;
+        self.before += self.used.len() as u32;
+        self.used.clear();
+        self.newest = None;
+    }
+
+    // The slot of a cpu or a NIC of the rank: a new one at its first use.
+    fn slot_of(&mut self, number: u8) -> Result<u32, NoMemory>
+        requires few { self.old.before + length self.old.used.keys < 2 ^ 32 }
+        requires newest { IsKnown self.old }
+        ensures given { IfOk result (λ slot. IsGiven self.old self.new number slot) }
+        ensures newest { OnOk result (IsKnown self.new) }
+    {
+        match self.newest {
+            Some(newest) if newest.number == number => Ok(newest.slot),
+            _ => self.insert(number),
+        }
+    }
+
+    // The same by the set.
+    fn insert(&mut self, number: u8) -> Result<u32, NoMemory>
+        requires few { self.old.before + length self.old.used.keys < 2 ^ 32 }
+        ensures given { IfOk result (λ slot. IsGiven self.old self.new number slot) }
+        ensures newest { OnOk result (IsKnown self.new) }
+    {
+        let (index, _new) = self.used.insert_full(number)?;
+        let slot = self.before + index as u32;
+        self.newest = Some(Numbered { number, slot });
+        Ok(slot)
+    }
+
+    // The number of slots.
+    fn count(&self) -> usize
+        requires few { self.now.before + length self.now.used.keys < 2 ^ 32 }
+        ensures { result ≡ self.now.before + length self.now.used.keys }
+    {
+        self.before as usize + self.used.len()
     }
 }
 
@@ -92,30 +126,27 @@ fn all_use_first(plans: &[RankPlan]) -> bool
     plans.iter().all(|plan| use_first(&plan.ops))
 }
 
-// Numbers the cpus and the interfaces that the operations use, each in the order in which they first use it.
-//
-// The operations of a rank stand one after another, so what a number was given last is of the same rank, or of one that is
-// over.
+// Numbers the cpus and the NICs that the operations use, rank by rank, in the order of first use.
 fn number_each(alloc: Global, sched: &Sched) -> Result<Numbering, NoMemory>
     ensures whole { IfOk result (λ n. IsWhole sched.now n.slots.items) }
     ensures cpus { IfOk result (λ n. IsPlaced (λ (o : Op). o.cpu) sched.now (cpu_slot sched.now n.slots.items) n.cpus) }
     ensures nics { IfOk result (λ n. IsPlaced (λ (o : Op). o.nic) sched.now (nic_slot sched.now n.slots.items) n.nics) }
 {
-    let mut latest_cpus = no_slots();
-    let mut latest_nics = no_slots();
     let mut slots = Vec::with_capacity(alloc, sched.count() as usize)?;
-    let mut cpus = Vec::new(alloc);
-    let mut nics = Vec::new(alloc);
+    let mut cpus = Numbers::new(alloc);
+    let mut nics = Numbers::new(alloc);
     for id in sched.operations() {
+        cpus.go_to(id.rank);
+        nics.go_to(id.rank);
         let op = sched.op(*id);
-        let cpu = slot_of(&mut latest_cpus, &mut cpus, *id, op.cpu)?;
-        let nic = slot_of(&mut latest_nics, &mut nics, *id, op.nic)?;
+        let cpu = cpus.slot_of(op.cpu)?;
+        let nic = nics.slot_of(op.nic)?;
         slots.push_reserved(Slots { cpu, nic });
     }
     Ok(Numbering {
         slots,
-        cpus: cpus.len(),
-        nics: nics.len(),
+        cpus: cpus.count(),
+        nics: nics.count(),
     })
 }
 

@@ -1,4 +1,4 @@
-use Rattle.std.proofs.Common.{ℕ, ◌≡◌, true, List, length, sym, ◌∙◌, subst}
+use Rattle.std.proofs.Common.{◌≡◌, true, List, length, sym, ◌∙◌, subst}
 use Rattle.std.specs.List.{list_all}
 use Rattle.goal_graph.specs.declared.action.OpId.{OpId}
 use Rattle.goal_graph.specs.declared.plan.Op.{Op}

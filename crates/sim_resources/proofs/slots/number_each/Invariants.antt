@@ -7,7 +7,7 @@ use Rattle.sim_resources.proofs.slots.number_each.Given as goal
 
 abbrev pub invariant-loop-id : goal.invariant-loop-id
 invariant-loop-id l = record {
-  cpus : IsSoFar (λ (o : Op). o.cpu) l.sched l.id-index l.latest_cpus (map cpu_of l.slots.items) l.cpus.items;
-  nics : IsSoFar (λ (o : Op). o.nic) l.sched l.id-index l.latest_nics (map nic_of l.slots.items) l.nics.items;
+  cpus : IsSoFar (λ (o : Op). o.cpu) l.sched l.id-index l.cpus (map cpu_of l.slots.items);
+  nics : IsSoFar (λ (o : Op). o.nic) l.sched l.id-index l.nics (map nic_of l.slots.items);
   room : length (operations l.sched) ≤ vec_capacity l.slots;
 }
