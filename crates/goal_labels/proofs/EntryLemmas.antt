@@ -7,10 +7,8 @@ use Rattle.std.proofs.lemmas.Slice.Eq.{bytes_eq-Decides}
 use Rattle.std.proofs.lemmas.Bool.Decides.{Decides-ltb, not_from_Decides}
 use Rattle.std.proofs.lemmas.Option.{slice_get_within}
 use Rattle.goal_labels.specs.declared.label_map.Slot.{Slot}
-use Rattle.goal_labels.specs.declared.label_map.Found.{Found}
-use Rattle.goal_labels.specs.declared.label_map.Found.TheVariants.{At, Behind, Absent}
 use Rattle.goal_labels.specs.Entries.{Entries, put, is_at, IsAt, IsAbsent, AreUnique}
-use Rattle.goal_labels.proofs.ChainLemmas.{slice_get-left, slice_get-before, slice_get-last}
+use Rattle.goal_labels.proofs.PlaceLemmas.{slice_get-left, slice_get-before, slice_get-last}
 
 equal : (x y : List ℕ) → bytes_eq x y ≡ true → x ≡ y
 equal x y h = (bytes_eq-Decides x y).0 h
@@ -36,10 +34,8 @@ is_at-no es label i h there =
     absurd (cc)
 
 -- a guess that is compared
-pub is_at-guess : (read es : Entries) (label : List ℕ) (guess i : ℕ) → is_at read label guess ≡ true → read ≡ es → At guess ≡ At i → IsAt es label i
-is_at-guess read es label guess i told same one =
-    let number : guess ≡ i = ap (λ (f : Found). elim f [ At k ↦ k | Behind ↦ 0 | Absent hash ↦ 0 ]) one in
-    subst (λ (ds : Entries). IsAt ds label i) same (subst (IsAt read label) number (is_at-yes read label guess told))
+pub is_at-guess : (read es : Entries) (label : List ℕ) (guess : ℕ) → is_at read label guess ≡ true → read ≡ es → IsAt es label guess
+is_at-guess read es label guess told same = subst (λ (ds : Entries). IsAt ds label guess) same (is_at-yes read label guess told)
 
 -- an entry is added
 
@@ -62,7 +58,7 @@ IsAt-added es fs label slot n same last =
     subst (λ (ds : Entries). IsAt ds label (length es)) (sym same) (IsAt-last es label slot) in
     subst (λ (k : ℕ). IsAt fs label k) (sym last) there
 
-last-label : (es : Entries) (label q : List ℕ) (slot : Slot) (i : ℕ) → i ≡ length es → IsAt (es ++ (label, slot) ∷ []) q i → q ≡ label
+pub last-label : (es : Entries) (label q : List ℕ) (slot : Slot) (i : ℕ) → i ≡ length es → IsAt (es ++ (label, slot) ∷ []) q i → q ≡ label
 last-label es label q slot i same at =
     let one : Some (q, at.0) ≡ Some (label, slot) = sym at.1 ∙ ap (slice_get (es ++ (label, slot) ∷ [])) same ∙ slice_get-last es (label, slot) in
     ap (λ (o : Option (List ℕ × Slot)). option_map_or (λ e. e.0) o []) one

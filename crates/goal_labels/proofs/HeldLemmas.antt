@@ -9,7 +9,7 @@ use Rattle.std.proofs.Math.Seq.{drop-append_seam, take-length}
 use Rattle.goal_labels.specs.declared.label_map.Slot.{Slot}
 use Rattle.goal_labels.specs.declared.label_map.Entry.{Entry}
 use Rattle.goal_labels.specs.Entries.{Entries, is_at, label_of, entries_of, IsAt, IsHeld, AreHeld}
-use Rattle.goal_labels.proofs.ChainLemmas.{slice_get-before, slice_get-last, slice_get-set, slice_get-apart}
+use Rattle.goal_labels.proofs.PlaceLemmas.{slice_get-before, slice_get-last, slice_get-set, slice_get-apart}
 
 pub entries_of-none : (bytes : List ℕ) → entries_of bytes [] ≡ []
 unfolding entries_of

@@ -1,6 +1,7 @@
-mod ChainLemmas
+mod PlaceLemmas
 mod EndsLemmas
 mod EntryLemmas
 mod HeldLemmas
 mod OrderedLemmas
+mod NumberLemmas
 mod IndexLemmas

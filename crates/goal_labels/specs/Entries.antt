@@ -28,7 +28,7 @@ AreUnique entries = (i j : ℕ) (label : List ℕ) → IsAt entries label i → 
 unfoldable pub is_at : Entries → List ℕ → ℕ → Bool
 is_at entries label i = option_map_or (λ e. bytes_eq e.0 label) (slice_get entries i) false
 
--- The labels' bytes stand one behind another, and an entry says which of them are its label.
+-- The labels' bytes stand one after another, and an entry says which of them are its label.
 
 -- the label of an entry
 abbrev pub label_of : List ℕ → Entry → List ℕ

@@ -1,5 +1,5 @@
 -- What only the code keeps.
 pub mod Entries
-pub mod Chains
+pub mod Numbers
 pub mod Ordered
 pub mod Indexed

@@ -1,4 +1,4 @@
--- Labels in their order. Most blocks number their labels and define them in that order: each goes behind all before it.
+-- Labels in their order. Most blocks number their labels and define them in that order: each comes after all before it.
 use Rattle.std.specs.Prelude.{◌≡◌, ℕ, ◌<◌, List, length}
 use Rattle.std.specs.Ordering.{nat_cmp}
 use Rattle.std.specs.declared.cmp.Ordering.{Ordering}
@@ -20,7 +20,7 @@ label_cmp one other = or_else (nat_cmp (length one) (length other)) (slice_cmp n
 abbrev pub AreBefore : Entries → List ℕ → Type 0
 AreBefore entries label = (i : ℕ) (one : List ℕ) → IsAt entries one i → label_cmp one label ≡ Less
 
--- each entry's label goes before those of all entries behind it
-abbrev pub AreAscending : Entries → Type 0
-AreAscending entries =
-    (i j : ℕ) (one other : List ℕ) → i < j → IsAt entries one i → IsAt entries other j → label_cmp one other ≡ Less
+-- the first `count` labels ascend
+abbrev pub AreAscending : Entries → ℕ → Type 0
+AreAscending entries count =
+    (i j : ℕ) (one other : List ℕ) → i < j → j < count → IsAt entries one i → IsAt entries other j → label_cmp one other ≡ Less

@@ -1,14 +1,13 @@
-//! The labels of a block, in the order in which they stood first, each with what is known of it.
+//! The labels of a block, in the order of their first appearance, each with what is known of it.
 //!
-//! Most labels are numbered, and come in that order: as long as each goes behind all before it, a [`LabelMap`] keeps nothing but
-//! the labels, and finds one by a search. Else it finds a label by its hash. It finds a mention often before that, since mentions
-//! mostly go on in order. Whoever writes the text may choose labels whose hashes collide: a label whose chain is long already is
-//! found by an ordered map.
-//! So a call takes some steps at most, and else a number that grows as the logarithm of the labels, whatever they are.
+//! Most texts number their labels and define them in that order. As long as each label comes after all before it, a
+//! [`LabelMap`] finds a label by binary search. Later labels are found by their hashes, up to a fixed number of them, and in an
+//! ordered map: the author of a text may choose labels of one hash. So a call takes a number of steps that grows as the logarithm
+//! of the labels, whatever they are. Most mentions take none of them: the label is near one that was mentioned before.
 #![tactic(auto)]
 
-mod chains;
 mod label_map;
+mod numbers;
 mod sorted;
 
 pub use label_map::{LabelMap, Slot};

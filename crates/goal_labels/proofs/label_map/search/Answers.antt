@@ -3,8 +3,7 @@ use Rattle.std.proofs.lemmas.Option.{slice_get-get_or}
 use Rattle.goal_labels.specs.declared.label_map.Entry.{Entry}
 use Rattle.goal_labels.specs.Entries.{entries_of, label_of, IsAt}
 use Rattle.goal_labels.specs.Ordered.{label_cmp}
-use Rattle.goal_labels.proofs.HeldLemmas.{IsAt-entry, length-entries_of}
-use Rattle.goal_labels.proofs.EntryLemmas.{IsAt-within}
+use Rattle.goal_labels.proofs.HeldLemmas.{IsAt-entry}
 use Rattle.goal_labels.proofs.OrderedLemmas.{label_cmp-back, label_cmp-tied, stands_before}
 use Rattle.goal_labels.proofs.label_map.search.Goals as goal
 
@@ -19,19 +18,13 @@ middle_within : (low high count : ℕ) → low < high → high ≤ count → low
 middle_within low high count some within = omega (arith, some, within)
 
 pub loop-low-init : goal.loop-low-init
-loop-low-init c =
-    let bytes = c.args.bytes.now in
-    let held = c.args.entries.now in
-    let es = entries_of bytes held in (
-      omega arith,
-      λ i at. (omega arith, omega (arith, IsAt-within es c.args.label.now i at, length-entries_of bytes held)),
-    )
+loop-low-init c = (omega arith, λ i within at. (omega arith, within))
 
 pub label_of-requires : goal.label_of-requires
 label_of-requires c =
     let held = c.args.entries.now in
-    let within = middle_within c.loop-low.low c.loop-low.high (length held) c.loop-low-test.true c.loop-low.invariant.0 in
-    record { held = c.requires.held _ _ (slice_get-get_or held _ _ within) }
+    let within = middle_within c.loop-low.low c.loop-low.high c.args.ascending c.loop-low-test.true c.loop-low.invariant.0 in
+    record { held = c.requires.held _ _ (slice_get-get_or held _ _ (omega (arith, within, c.requires.within))) }
 
 pub loop-low-preserved-in-Less : goal.loop-low-preserved-in-Less
 loop-low-preserved-in-Less c =
@@ -40,13 +33,14 @@ loop-low-preserved-in-Less c =
     let label = c.args.label.now in
     let read = c.label_of.result.now in
     let middle = c.loop-low.low + (c.loop-low.high - c.loop-low.low) / 2 in
-    let within = middle_within c.loop-low.low c.loop-low.high (length held) c.loop-low-test.true c.loop-low.invariant.0 in
-    let there : IsAt es read middle = looked_at c.args.bytes.now held middle read _ within c.label_of.ensures in
+    let within = middle_within c.loop-low.low c.loop-low.high c.args.ascending c.loop-low-test.true c.loop-low.invariant.0 in
+    let there : IsAt es read middle =
+    looked_at c.args.bytes.now held middle read _ (omega (arith, within, c.requires.within)) c.label_of.ensures in
     let less : label_cmp read label ≡ Less = sym c.order.ensures ∙ c.in-Less.is in (
       c.loop-low.invariant.0,
-      λ i at. (
-        omega (arith, stands_before es read label middle i c.requires.ascending there at less),
-        (c.loop-low.invariant.1 i at).1,
+      λ i below at. (
+        omega (arith, stands_before es read label middle i c.args.ascending c.requires.ascending within there at less),
+        (c.loop-low.invariant.1 i below at).1,
       ),
     )
 
@@ -56,8 +50,9 @@ returns-in-Equal-clause-found c =
     let es = entries_of c.args.bytes.now held in
     let read = c.label_of.result.now in
     let middle = c.loop-low.low + (c.loop-low.high - c.loop-low.low) / 2 in
-    let within = middle_within c.loop-low.low c.loop-low.high (length held) c.loop-low-test.true c.loop-low.invariant.0 in
-    let there : IsAt es read middle = looked_at c.args.bytes.now held middle read _ within c.label_of.ensures in
+    let within = middle_within c.loop-low.low c.loop-low.high c.args.ascending c.loop-low-test.true c.loop-low.invariant.0 in
+    let there : IsAt es read middle =
+    looked_at c.args.bytes.now held middle read _ (omega (arith, within, c.requires.within)) c.label_of.ensures in
     subst (λ k. IsAt es k middle) (label_cmp-tied read c.args.label.now (sym c.order.ensures ∙ c.in-Equal.is)) there
 
 pub loop-low-preserved : goal.loop-low-preserved
@@ -67,14 +62,18 @@ loop-low-preserved c =
     let label = c.args.label.now in
     let read = c.label_of.result.now in
     let middle = c.loop-low.low + (c.loop-low.high - c.loop-low.low) / 2 in
-    let within = middle_within c.loop-low.low c.loop-low.high (length held) c.loop-low-test.true c.loop-low.invariant.0 in
-    let there : IsAt es read middle = looked_at c.args.bytes.now held middle read _ within c.label_of.ensures in
+    let within = middle_within c.loop-low.low c.loop-low.high c.args.ascending c.loop-low-test.true c.loop-low.invariant.0 in
+    let there : IsAt es read middle =
+    looked_at c.args.bytes.now held middle read _ (omega (arith, within, c.requires.within)) c.label_of.ensures in
     let less : label_cmp label read ≡ Less = label_cmp-back read label (sym c.order.ensures ∙ c.in-Greater.is) in (
       omega (arith, within),
-      λ i at. ((c.loop-low.invariant.1 i at).0, stands_before es label read i middle c.requires.ascending at there less),
+      λ i below at. (
+        (c.loop-low.invariant.1 i below at).0,
+        stands_before es label read i middle c.args.ascending c.requires.ascending below at there less,
+      ),
     )
 
 pub returns-clause-absent : goal.returns-clause-absent
-returns-clause-absent c = λ i at.
-    let found = c.loop-low.invariant.1 i at in
+returns-clause-absent c = λ i below at.
+    let found = c.loop-low.invariant.1 i below at in
     absurd (omega (arith, c.loop-low-test.false, found.0, found.1))

@@ -1,10 +1,10 @@
-use Rattle.std.proofs.Common.{ℕ, ◌-◌, ◌<◌, ◌≤◌, length}
+use Rattle.std.proofs.Common.{ℕ, ◌-◌, ◌<◌, ◌≤◌}
 use Rattle.goal_labels.specs.Entries.{entries_of, IsAt}
 use Rattle.goal_labels.proofs.label_map.search.Given as goal
 
 abbrev pub invariant-loop-low : goal.invariant-loop-low
 invariant-loop-low l =
-    (l.high ≤ length l.entries) × ((i : ℕ) → IsAt (entries_of l.bytes l.entries) l.label i → (l.low ≤ i) × (i < l.high))
+    (l.high ≤ l.ascending) × ((i : ℕ) → i < l.ascending → IsAt (entries_of l.bytes l.entries) l.label i → (l.low ≤ i) × (i < l.high))
 
 abbrev pub decreases-loop-low : goal.decreases-loop-low
 decreases-loop-low l = l.high - l.low

@@ -1,12 +1,17 @@
-use Rattle.std.proofs.Common.{sym, subst}
-use Rattle.goal_labels.specs.declared.label_map.Found.{Found}
-use Rattle.goal_labels.specs.Entries.{Entries, IsAt}
-use Rattle.goal_labels.specs.Indexed.{IsFinding}
+use Rattle.std.proofs.Common.{◌∙◌, sym, subst}
+use Rattle.goal_labels.specs.Entries.{entries_of, AreUnique}
+use Rattle.goal_labels.proofs.EntryLemmas.{is_at-guess}
+use Rattle.goal_labels.proofs.HeldLemmas.{entries_of-read}
 use Rattle.goal_labels.proofs.label_map.LabelMap.find_near.Goals as goal
 
-pub returns-in-At-clause-found : goal.returns-in-At-clause-found
-returns-in-At-clause-found c =
-    let label = c.args.label.now in
-    let found = c.find_numbered-found in
-    subst (λ (ds : Entries). IsAt ds label c.in-At.i) (sym c.self-2.view_is)
-    (subst (λ (f : Found). IsFinding found.new.self label f) c.in-At.is found.ensures.found)
+pub returns-then-not-is_at-clause-unique : goal.returns-then-not-is_at-clause-unique
+returns-then-not-is_at-clause-unique c = subst AreUnique c.self.view_is c.self.invariant.1.unique
+
+pub returns-clause-found : goal.returns-clause-found
+returns-clause-found c =
+    let bytes = c.self.inside.bytes.items in
+    let held = c.self.inside.entries.items in
+    let read = c.deref-4.result.now in
+    let seen = c.deref-3.result.now in
+    let same = entries_of-read read bytes seen held c.deref-4.ensures.value c.deref-3.ensures.value in
+    is_at-guess (entries_of read seen) (entries_of bytes held) c.args.label.now c.number_near-guess.result (sym c.is_at.ensures ∙ c.if-not-is_at.false) same

@@ -4,11 +4,11 @@ use Rattle.goal_labels.specs.declared.label_map.Entry.{Entry}
 use Rattle.goal_labels.specs.Entries.{entries_of, IsAt}
 use Rattle.goal_labels.proofs.EntryLemmas.{IsAt-within}
 use Rattle.goal_labels.proofs.HeldLemmas.{IsAt-entry, length-entries_of}
-use Rattle.goal_labels.proofs.OrderedLemmas.{label_cmp-tied, before_last}
-use Rattle.goal_labels.proofs.label_map.find_at_end.Goals as goal
+use Rattle.goal_labels.proofs.OrderedLemmas.{before_last}
+use Rattle.goal_labels.proofs.label_map.comes_after_all.Goals as goal
 
 pub returns-in_default : goal.returns-in_default
-returns-in_default c = λ i one at.
+returns-in_default c = λ told i one at.
     let bytes = c.args.bytes.now in
     let held = c.args.entries.now in
     let last = length held - 1 in
@@ -18,7 +18,7 @@ returns-in_default c = λ i one at.
     absurd (none-some _ (c.in_default.ensures.value ∙ slice_get-get_or held last any within))
 
 pub returns-then-is_just_before : goal.returns-then-is_just_before
-returns-then-is_just_before c =
+returns-then-is_just_before c = λ told.
     let bytes = c.args.bytes.now in
     let held = c.args.entries.now in
     let es = entries_of bytes held in
@@ -28,11 +28,12 @@ returns-then-is_just_before c =
     let there : IsAt es read last =
     subst (λ k. IsAt es k last) (sym c.label_of-before.ensures) (IsAt-entry bytes held last c.in-Some.last.now entry) in
     let within : last < length held = slice_get_within held last c.in-Some.last.now entry in
-    before_last es read c.args.label.now last c.requires.ascending (omega (arith, length-entries_of bytes held, within)) there
-    (c.is_just_before.ensures c.if-is_just_before.true)
+    let count = length-entries_of bytes held in
+    before_last es read c.args.label.now last c.args.ascending c.requires.ascending (omega (arith, c.if-ascending-entries.false, count))
+    (omega (arith, count, within)) there (c.is_just_before.ensures c.if-is_just_before.true)
 
 pub returns-in-Less : goal.returns-in-Less
-returns-in-Less c =
+returns-in-Less c = λ told.
     let bytes = c.args.bytes.now in
     let held = c.args.entries.now in
     let es = entries_of bytes held in
@@ -42,15 +43,6 @@ returns-in-Less c =
     let there : IsAt es read last =
     subst (λ k. IsAt es k last) (sym c.label_of-before.ensures) (IsAt-entry bytes held last c.in-Some.last.now entry) in
     let within : last < length held = slice_get_within held last c.in-Some.last.now entry in
-    before_last es read c.args.label.now last c.requires.ascending (omega (arith, length-entries_of bytes held, within)) there
-    (sym c.order.ensures ∙ c.in-Less.is)
-
-pub returns-in-Equal : goal.returns-in-Equal
-returns-in-Equal c =
-    let bytes = c.args.bytes.now in
-    let held = c.args.entries.now in
-    let es = entries_of bytes held in
-    let last = length held - 1 in
-    let same = label_cmp-tied c.label_of-before.result.now c.args.label.now (sym c.order.ensures ∙ c.in-Equal.is) in
-    subst (λ k. IsAt es k last) (sym c.label_of-before.ensures ∙ same)
-    (IsAt-entry bytes held last c.in-Some.last.now (sym c.in-Some.ensures.value))
+    let count = length-entries_of bytes held in
+    before_last es read c.args.label.now last c.args.ascending c.requires.ascending (omega (arith, c.if-ascending-entries.false, count))
+    (omega (arith, count, within)) there (sym c.order.ensures ∙ c.in-Less.is)

@@ -1,0 +1,75 @@
+//! Numbers of labels.
+ghost use Rattle.std.specs.Prelude.{◌≡◌, ℕ, ◌<◌, ◌≤◌, List, Some, None, length, bytes_eq, if◌then◌else◌, OnOk};
+ghost use Rattle.goal_labels.specs.Numbers.{number_of, AreFew};
+
+use crate::sorted::Sorted;
+use goal_lexer::Label;
+use indexmap::IndexMap;
+use std::alloc::{AllocError, Global};
+use std::collections::BTreeMap;
+
+/// The most labels that are found by their hashes. All of them may have one hash, and a lookup then compares each.
+const MOST_HASHED: usize = 1024;
+
+/// Labels with their numbers, found by their hashes. The author of a text can choose labels of one hash: labels beyond
+/// [`MOST_HASHED`] are therefore found in an ordered map.
+#[derive(Drop)]
+pub struct Numbers {
+    /// The first labels.
+    pub hashed: IndexMap<Label, usize>,
+    /// The labels after them.
+    pub ordered: BTreeMap<Sorted, usize>,
+}
+
+impl Numbers {
+    /// No labels.
+    pub fn new(alloc: Global) -> Numbers
+        ensures none { (label : List ℕ) → number_of result label ≡ None }
+        ensures few { AreFew result }
+    {
+        Numbers {
+            hashed: IndexMap::new(alloc),
+            ordered: BTreeMap::new(alloc),
+        }
+    }
+
+    /// Removes all labels, and keeps their memory.
+    pub fn clear(&mut self)
+        ensures none { (label : List ℕ) → number_of self.new label ≡ None }
+        ensures few { AreFew self.new }
+    {
+        self.hashed.clear();
+        self.ordered.clear();
+    }
+
+    /// The number of a label.
+    pub fn get(&self, label: &[u8]) -> Option<usize>
+        requires some { 0 < length label.now }
+        requires short { length label.now ≤ 64 }
+        ensures { result ≡ number_of self.now label.now }
+    {
+        if let Some(number) = self.hashed.get(&Label::of(label)) {
+            return Some(*number);
+        }
+        match self.ordered.get(&Sorted::of(label)) {
+            Some(number) => Some(*number),
+            None => None,
+        }
+    }
+
+    /// Gives a number to a label that has none.
+    pub fn insert(&mut self, label: &[u8], number: usize) -> Result<(), AllocError>
+        requires some { 0 < length label.now }
+        requires short { length label.now ≤ 64 }
+        requires absent { number_of self.old label.now ≡ None }
+        ensures numbered { OnOk result ((other : List ℕ) → number_of self.new other ≡ if bytes_eq label.now other then Some number else number_of self.old other) }
+        ensures few { OnOk result (AreFew self.old → AreFew self.new) }
+    {
+        if self.hashed.len() < MOST_HASHED {
+            self.hashed.insert(Label::of(label), number)?;
+        } else {
+            self.ordered.insert(Sorted::of(label), number)?;
+        }
+        Ok(())
+    }
+}
