@@ -17,6 +17,7 @@ mod Rows
 mod Turns
 mod Depth
 mod Before
+mod Paths
 mod Touches
 mod Table
 mod OpenPairs

@@ -1,12 +1,12 @@
 // Which operations of a rank end before each of them starts.
-ghost use Rattle.std.specs.Prelude.{ℕ, ◌≡◌, ◌+◌, ◌*◌, ◌<◌, ◌≤◌, ◌⊎◌, true, false, length, All, OnOk, slice_index_or};
+ghost use Rattle.std.specs.Prelude.{ℕ, ◌≡◌, ◌+◌, ◌*◌, ◌<◌, ◌≤◌, ◌⊎◌, true, false, [], length, OnOk, MatchOption, slice_index_or};
 ghost use Rattle.goal_graph.specs.declared.plan.When.TheVariants.{AfterEnd};
-ghost use Rattle.goal_graph.specs.Schedule.{needs, ops_at};
-ghost use Rattle.goal_graph.specs.Fault.{IsOp, is_below};
+ghost use Rattle.goal_graph.specs.Schedule.{ops_at};
+ghost use Rattle.goal_graph.specs.Fault.{IsOp};
 ghost use Rattle.goal_blocks.specs.Race.{EndsBefore};
 ghost use Rattle.goal_certify.specs.Rows.{has};
 ghost use Rattle.goal_certify.specs.Table.{AreEmpty};
-ghost use Rattle.goal_certify.specs.Before.{op_id, AreRows};
+ghost use Rattle.goal_certify.specs.Before.{op_id, AreRows, HasNeedsDone, IsMissing};
 
 use crate::races::rows::{join_within, make_room, put};
 use goal_graph::{Need, OpId, Sched, When};
@@ -28,51 +28,86 @@ pub(crate) fn rows_before(
     let count = sched.op_count(rank) as usize;
     make_room(rows, count)?;
     let mut done = vec![in alloc; false; count]?;
-    fill_all(sched, rank, rows, &mut done);
+    fill_all(alloc, sched, rank, rows, &mut done)?;
     Ok(())
 }
 
 // The rows of all operations of the rank are done.
-fn fill_all(sched: &Sched, rank: u32, rows: &mut [u64], done: &mut [bool])
+fn fill_all(
+    alloc: Global,
+    sched: &Sched,
+    rank: u32,
+    rows: &mut [u64],
+    done: &mut [bool],
+) -> Result<(), AllocError>
     requires rank { rank < length sched.now }
     requires few { length (ops_at sched.now rank) ≤ 2048 }
     requires room { 32 * length (ops_at sched.now rank) ≤ length rows.old }
     requires marks { length done.old ≡ length (ops_at sched.now rank) }
     requires rows { AreRows sched.now rank rows.old (λ k. slice_index_or done.old k false ≡ true) }
-    ensures rows { AreRows sched.now rank rows.new (λ op. op < length (ops_at sched.now rank)) }
+    ensures rows { OnOk result (AreRows sched.now rank rows.new (λ op. op < length (ops_at sched.now rank))) }
 {
-    sched.known();
     let count = sched.op_count(rank);
+    let mut path = Vec::with_capacity(alloc, count as usize)?;
     for op in 0..count {
-        fill(sched, OpId { rank, op }, count, rows, done);
+        fill(sched, OpId { rank, op }, rows, done, &mut path)?;
     }
+    Ok(())
 }
 
-// The row of an operation is done, after those of what it needs. Its depth is below `depth`.
-fn fill(sched: &Sched, id: OpId, depth: u32, rows: &mut [u64], done: &mut [bool])
+// The row of an operation is done, after those of what it needs. On the path from the operation to the next one to be done, each
+// operation needs the one after it. The path is empty before and after.
+fn fill(
+    sched: &Sched,
+    id: OpId,
+    rows: &mut [u64],
+    done: &mut [bool],
+    path: &mut Vec<u32>,
+) -> Result<(), AllocError>
     requires exists { IsOp sched.now id }
-    requires depth { is_below sched.now depth id ≡ true }
     requires few { length (ops_at sched.now id.rank) ≤ 2048 }
     requires room { 32 * length (ops_at sched.now id.rank) ≤ length rows.old }
     requires marks { length done.old ≡ length (ops_at sched.now id.rank) }
     requires rows { AreRows sched.now id.rank rows.old (λ k. slice_index_or done.old k false ≡ true) }
-    ensures rows { AreRows sched.now id.rank rows.new (λ k. slice_index_or done.new k false ≡ true) }
-    ensures done { slice_index_or done.new id.op false ≡ true }
-    ensures kept { (k : ℕ) → slice_index_or done.old k false ≡ true → slice_index_or done.new k false ≡ true }
+    requires path { path.old.items ≡ [] }
+    ensures rows { OnOk result (AreRows sched.now id.rank rows.new (λ k. slice_index_or done.new k false ≡ true)) }
+    ensures done { OnOk result (slice_index_or done.new id.op false ≡ true) }
+    ensures kept { OnOk result ((k : ℕ) → slice_index_or done.old k false ≡ true → slice_index_or done.new k false ≡ true) }
+    ensures path { OnOk result (path.new.items ≡ []) }
 {
-    let op = id.op as usize;
-    if done[op] {
-        return;
+    if done[id.op as usize] {
+        return Ok(());
     }
+    sched.known();
+    path.push(id.op)?;
+    while let Some(op) = path.pop() {
+        let last = OpId { rank: id.rank, op };
+        match first_missing(sched, last, done) {
+            Some(needed) => {
+                path.push(op)?;
+                path.push(needed)?;
+            }
+            None => {
+                gather(sched, last, rows, done);
+                done[op as usize] = true;
+            }
+        }
+    }
+    Ok(())
+}
+
+// The first operation that this one needs and whose row is not done.
+fn first_missing(sched: &Sched, id: OpId, done: &[bool]) -> Option<u32>
+    requires exists { IsOp sched.now id }
+    requires marks { length done.now ≡ length (ops_at sched.now id.rank) }
+    ensures { MatchOption result (HasNeedsDone sched.now done.now id) (IsMissing sched.now done.now id) }
+{
     for need in sched.needs(id) {
-        let needed = OpId {
-            rank: id.rank,
-            op: need.op,
-        };
-        fill(sched, needed, depth - 1, rows, done);
+        if !done[need.op as usize] {
+            return Some(need.op);
+        }
     }
-    gather(sched, id, rows, done);
-    done[op] = true;
+    None
 }
 
 // The row of an operation gets what the rows of its needs have, and those that it needs to end.
@@ -82,7 +117,7 @@ fn gather(sched: &Sched, id: OpId, rows: &mut [u64], done: &[bool])
     requires room { 32 * length (ops_at sched.now id.rank) ≤ length rows.old }
     requires marks { length done.now ≡ length (ops_at sched.now id.rank) }
     requires rows { AreRows sched.now id.rank rows.old (λ k. slice_index_or done.now k false ≡ true) }
-    requires needs { All (λ d. slice_index_or done.now d.op false ≡ true) (needs sched.now id) }
+    requires needs { HasNeedsDone sched.now done.now id }
     ensures rows { AreRows sched.now id.rank rows.new (λ k. slice_index_or done.now k false ≡ true) }
     ensures row { (k : ℕ) → k < 2048 → EndsBefore sched.now (op_id id.rank k) id → has rows.new id.op k ≡ true }
 {

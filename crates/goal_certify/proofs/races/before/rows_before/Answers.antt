@@ -16,5 +16,5 @@ returns c =
     let back : take rows.len (new ++ drop (length new) rows.items) ≡ new = whole_back rows.len new rows.items same (omega (arith, rows.ok.0)) in
     record {
       room = omega (arith, ap length back, same, c.in_ok-make_room.ensures.room, c.op_count-count.ensures.count);
-      rows = rows_same c.args.sched.now c.args.rank _ new _ back c.fill_all.ensures.rows;
+      rows = rows_same c.args.sched.now c.args.rank _ new _ back c.in_ok-fill_all.ensures.rows;
     }
