@@ -33,8 +33,9 @@ class Example(unittest.TestCase):
         for ranks in (*range(1, 10), 17):
             for size in (0, 5, 4096):
                 text = "".join(make(Wish(ranks, size, sum_ps=250)).text())
-                checks = segmented.Segments(GOAL, "allreduce", text, ranks)
-                self.assertEqual([checks.fault(block) for block in range(ranks)], [None] * ranks, (ranks, size))
+                checks = segmented.Segments(GOAL, "allreduce", text)
+                self.assertEqual((checks.fault, checks.count()), (None, ranks), (ranks, size))
+                self.assertEqual([fault for _, fault in checks.verdicts(ranks) if fault], [], (ranks, size))
                 for eager in ("0", "65535"):
                     self.assertRegex(program.call(GOAL, ["sim", "/dev/stdin", "--S", eager], text).out, "stuck 0 unread 0")
 
