@@ -1,8 +1,11 @@
 #!/usr/bin/env python3
 """Tests of what the tools share: the program is called and told apart, and faults are one line and status 2."""
 import os
+import re
+import shlex
 import subprocess
 import sys
+import tempfile
 import unittest
 
 TOP = os.path.dirname(os.path.dirname(os.path.dirname(os.path.abspath(__file__))))
@@ -43,6 +46,69 @@ class Tools(unittest.TestCase):
                 ended = self.ended(name, "--help")
                 self.assertEqual((ended.returncode, ended.stderr), (0, ""))
                 self.assertIn("proved", ended.stdout)
+
+    def test_no_option_is_abbreviated(self):
+        """Of each option, all but its last letter, where that is no option."""
+        for name in self.names():
+            options = set(re.findall(r"--[A-Za-z][A-Za-z-]*", self.ended(name, "--help").stdout))
+            for option in sorted(options):
+                if len(option) > 4 and option[:-1] not in options:
+                    ended = self.ended(name, "x", option[:-1], "1")
+                    self.assertEqual((ended.returncode, ended.stdout, ended.stderr.count("\n")), (2, "", 1), (name, option))
+
+    def test_an_output_that_is_closed_or_full_is_one_line_and_status_2(self):
+        works = self.works()
+        for name in self.names():
+            for words in (["--help"], works[name]):
+                for output, why in ((">&-", "it is closed"), (">/dev/full", "No space left on device")):
+                    call = " ".join(shlex.quote(word) for word in [os.path.join(TOP, "tools", name), *words])
+                    ended = subprocess.run(["bash", "-c", f"{call} {output}"], stdin=subprocess.DEVNULL, capture_output=True, text=True, check=False)
+                    told = [line for line in ended.stderr.splitlines() if "standard output" in line]
+                    self.assertEqual((ended.returncode, told), (2, [f"{name}: standard output: {why}"]), (name, words, output, ended.stderr))
+                    self.assertNotIn("Traceback", ended.stderr)
+
+    def test_standard_input_is_a_file_everywhere(self):
+        """By both of its names, a text and, of a schedule, a compiled file."""
+        for name, words in self.works().items():
+            for place, word in enumerate(words):
+                key, equals, path = word.rpartition("=")
+                if not path.startswith(os.path.join(TOP, "examples")):
+                    continue
+                wanted = self.ended(name, *words)
+                with open(path, "rb") as file:
+                    contents = [file.read()]
+                if "exchange" in path and name != "locate":
+                    with tempfile.NamedTemporaryFile() as file:
+                        program.call(program.chosen(), ["compile", path, file.name])
+                        contents.append(file.read())
+                for content in contents:
+                    for one in ("-", "/dev/stdin"):
+                        given = [*words[:place], f"{key}{equals}{one}", *words[place + 1:]]
+                        ended = subprocess.run([os.path.join(TOP, "tools", name), *given], input=content, capture_output=True, check=False)
+                        self.assertEqual((ended.returncode, ended.stderr.decode()), (wanted.returncode, wanted.stderr), (name, given))
+                        if content == contents[0]:
+                            self.assertEqual(ended.stdout.decode().replace("standard input", path).replace(one, path), wanted.stdout.replace(one, path), (name, given))
+
+    def works(self):
+        """For each tool words with which it writes something."""
+        exchange = os.path.join(TOP, "examples", "exchange")
+        return {"check": [exchange], "fold": [exchange, self.pair()], "locate": [exchange, "0", "0"], "machine": [os.path.join(TOP, "examples", "eight_nodes")],
+                "schedule": ["bcast-chain", "2", "8"], "segments": ["bcast", exchange], "sweep": [f"schedule={exchange}", "L=1,2"],
+                "timeline": [exchange], "trace": [exchange, "--machine", self.pair()]}
+
+    def pair(self):
+        """A description of two ranks."""
+        path = os.path.join(self.folder.name, "pair")
+        with open(path, "w", encoding="utf-8") as file:
+            file.write("class a L=5\nnodes 2 of 1\ninside a\nbetween a\n")
+        return path
+
+    def setUp(self):
+        self.folder = tempfile.TemporaryDirectory()
+        self.addCleanup(self.folder.cleanup)
+
+    def test_each_tool_has_words_here(self):
+        self.assertEqual(sorted(self.works()), self.names())
 
     def test_wrong_words_are_one_line_and_status_2(self):
         for name in self.names():

@@ -153,6 +153,21 @@ class Pictures(unittest.TestCase):
             picture = self.drawn(file.name, "--ranks", "0-3", "--to", "50000")
             self.assertLess(float(picture.get("height")), 400)
 
+    def test_the_limit_is_kept_before_the_run_is_printed(self):
+        with tempfile.TemporaryDirectory() as folder:
+            schedule, logging, log = (os.path.join(folder, name) for name in ("schedule", "goal", "log"))
+            with open(schedule, "w") as file:
+                file.write(goal("gen", "alltoall", "8", "8"))
+            with open(logging, "w") as file:
+                file.write(f"#!/bin/sh\necho $1 >>{log}\nexec {os.path.abspath(program.chosen())} \"$@\"\n")
+            os.chmod(logging, 0o755)
+            for words, count in ((["--limit", "100"], "120 operations"), (["--limit", "20", "--ranks", "0-1"], "30 operations")):
+                done = timeline(schedule, "--goal", logging, *words)
+                self.assertEqual((done.returncode, done.stdout), (2, ""))
+                self.assertIn(f"{count}, and the limit is", done.stderr)
+            with open(log) as file:
+                self.assertEqual(file.read().split(), ["waits", "waits"])
+
     def test_faults_are_one_line(self):
         name = os.path.join(EXAMPLES, "exchange")
         for words in (

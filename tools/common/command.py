@@ -6,6 +6,7 @@ import errno
 import os
 import re
 import sys
+from functools import lru_cache
 from typing import IO, Callable, NoReturn, Optional
 
 FAULT = 2
@@ -71,11 +72,17 @@ def read_file(name: str) -> bytes:
         if source(name) != STANDARD_INPUT:
             with open(name, "rb") as file:
                 return file.read()
-        if sys.stdin is None:
-            raise Fault("standard input is closed")
-        return sys.stdin.buffer.read()
+        return standard_input()
     except OSError as error:
         raise Fault(f"{name}: {error.strerror}") from error
+
+
+@lru_cache(maxsize=None)
+def standard_input() -> bytes:
+    """The bytes of standard input, which is read once."""
+    if sys.stdin is None:
+        raise Fault("standard input is closed")
+    return sys.stdin.buffer.read()
 
 
 def run(main: Callable[[], int]) -> NoReturn:

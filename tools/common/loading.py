@@ -14,8 +14,6 @@ from common.phases import Story, Window, stories_of
 from common.printed_run import Run, first_line, read_run
 
 MOST_TIME = 2**63 - 1
-STANDARD_INPUT = "/dev/stdin"
-STANDARD_INPUTS = ("-", STANDARD_INPUT)
 
 
 @dataclass
@@ -53,16 +51,17 @@ class Loaded:
 
 def add_run_words(parser: argparse.ArgumentParser, limit: int) -> None:
     """The words that say which run, and what of it."""
-    number = command.number(0, MOST_TIME)
-    parser.add_argument("name", metavar="NAME", help="the schedule, a text or a compiled file (- is a text on standard input)")
-    parser.add_argument("--run", metavar="FILE", help="a run of it that is printed already (- is standard input), in place of a new one")
+    time = command.number(0, MOST_TIME, "ns")
+    parser.add_argument("name", metavar="NAME", help="the schedule, a text or a compiled file (- is standard input, as of the two below)")
+    parser.add_argument("--run", metavar="FILE", help="a run of it that is printed already, in place of a new one")
     parser.add_argument("--machine", metavar="MACHINE", help="run it on this machine: MACHINE of `goal nodes`, or a description (tools/fold)")
     parser.add_argument("-o", "--out", metavar="FILE", help="write to FILE, not to standard output")
     window = parser.add_argument_group("a part of the run")
     window.add_argument("--ranks", metavar="A-B", help="these ranks alone, as 0-7 or 0,4-5,9")
-    window.add_argument("--from", metavar="T", dest="since", type=number, default=0, help="from this time on, in ns")
-    window.add_argument("--to", metavar="T", dest="until", type=number, help="up to this time")
-    window.add_argument("--limit", metavar="N", type=number, default=limit, help="at most so many operations (%(default)s)")
+    window.add_argument("--from", metavar="T", dest="since", type=time, default=0, help="from this time on, in ns")
+    window.add_argument("--to", metavar="T", dest="until", type=time, help="up to this time")
+    count = command.number(0, MOST_TIME, "operations")
+    window.add_argument("--limit", metavar="N", type=count, default=limit, help="at most so many operations (%(default)s)")
     add_options(parser)
     program.add_option(parser)
 
@@ -87,36 +86,57 @@ def load(arguments: argparse.Namespace) -> Loaded:
     """The run that the words ask for."""
     try:
         options = given_options(arguments)
-        name, text = source_of(arguments)
+        check_words(arguments, options)
+        costs = costs_of(arguments, options)
+        name, text = schedule_of(arguments.name, program.chosen(arguments.goal))
+        check_ended(arguments, options, name, text)
         lines = run_lines(arguments, options, name, text)
-        window = window_of(arguments, first_line(lines[0] if lines else "").ranks)
+        run = first_line(lines[0] if lines else "")
+        window = Window(ranks_of(arguments.ranks, run.ranks), arguments.since, arguments.until)
+        if is_whole(arguments) and arguments.ranks is None:
+            check_limit(arguments, run.ops - run.stuck)
         run = read_run(lines, window.ranks)
         schedule = read_canonical(output_of(arguments, text, "show", name), window.ranks)
-        stories = stories_of(schedule, run, costs_of(arguments, options), window)
+        stories = stories_of(schedule, run, costs, window)
     except ValueError as why:
         raise Fault(str(why)) from None
-    seen = sum(window.sees(story) for story in stories.values())
-    if seen > arguments.limit:
-        raise Fault(f"{seen} operations, and the limit is {arguments.limit}: choose some by --ranks, --from and --to, or raise --limit")
+    check_limit(arguments, sum(window.sees(story) for story in stories.values()))
     return Loaded(arguments.name, run, stories, window)
 
 
-def window_of(arguments: argparse.Namespace, ranks: int) -> Window:
+def check_words(arguments: argparse.Namespace, options: Dict[str, int]) -> None:
+    """What can be wrong with the words, before anything is read."""
     if arguments.until is not None and arguments.until <= arguments.since:
         raise Fault("--to is not after --from")
-    return Window(ranks_of(arguments.ranks, ranks), arguments.since, arguments.until)
+    if arguments.machine is not None and options:
+        raise Fault("a machine has its own parameters: give no others")
+    files = [name for name in (arguments.name, arguments.run, arguments.machine) if name is not None]
+    if sum(command.source(name) == command.STANDARD_INPUT for name in files) > 1:
+        raise Fault("only one of the schedule, its run and the machine can be standard input")
 
 
-def source_of(arguments: argparse.Namespace) -> Tuple[str, Optional[str]]:
-    """The name of the schedule for the program, and the text that is to be its standard input, if any."""
-    if arguments.run == "-" and arguments.name in STANDARD_INPUTS:
-        raise Fault("the schedule and its run can not both be standard input")
-    return schedule_of(arguments.name)
+def is_whole(arguments: argparse.Namespace) -> bool:
+    """Whether all times are looked at."""
+    return arguments.since == 0 and arguments.until is None
 
 
-def schedule_of(name: str) -> Tuple[str, Optional[str]]:
+def check_limit(arguments: argparse.Namespace, seen: int) -> None:
+    if seen > arguments.limit:
+        raise Fault(f"{seen} operations, and the limit is {arguments.limit}: choose some by --ranks, --from and --to, or raise --limit")
+
+
+def check_ended(arguments: argparse.Namespace, options: Dict[str, int], name: str, text: Optional[str]) -> None:
+    """Keeps the limit before the run is printed and read, by the operations of each rank that end, where these are soon known."""
+    if arguments.run is None and arguments.machine is None and is_whole(arguments):
+        lines = [line.split() for line in output_of(arguments, text, "waits", name, *words_of(options)) if line.startswith("rank ")]
+        check_limit(arguments, sum(int(lines[rank][3]) for rank in ranks_of(arguments.ranks, len(lines))))
+
+
+def schedule_of(name: str, goal: str) -> Tuple[str, Optional[str]]:
     """The name of a schedule for the program, and the text that is to be its standard input, if any."""
-    return (STANDARD_INPUT, text_of("-")) if name in STANDARD_INPUTS else (name, None)
+    if command.source(name) != command.STANDARD_INPUT:
+        return name, None
+    return command.STANDARD_INPUT, program.expect(program.call(goal, ["show", command.STANDARD_INPUT]), program.DONE).out
 
 
 def text_of(name: str) -> str:
@@ -143,6 +163,8 @@ def machine_lines(arguments: argparse.Namespace, name: str, text: Optional[str])
     machine = text_of(arguments.machine)
     if is_description(machine):
         return folding.run_lines(program.chosen(arguments.goal), name, text, cluster_of(arguments.machine, machine))
+    if command.source(arguments.machine) == command.STANDARD_INPUT:
+        return output_of(arguments, machine, "nodes", name, command.STANDARD_INPUT)
     return output_of(arguments, text, "nodes", name, arguments.machine)
 
 
@@ -150,8 +172,6 @@ def costs_of(arguments: argparse.Namespace, options: Dict[str, int]) -> Costs:
     """What messages cost in the run."""
     if arguments.machine is None:
         return Alike(parameters_of(options))
-    if options:
-        raise Fault("a machine has its own parameters: give no others")
     return cluster_of(arguments.machine, text_of(arguments.machine)).machine
 
 

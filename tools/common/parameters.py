@@ -8,6 +8,8 @@ import re
 from dataclasses import dataclass
 from typing import Dict, List, Protocol, Tuple
 
+from common.command import FACTORS
+
 DEFAULTS = {"L": 2500, "o": 1500, "g": 1000, "G": 6, "Gp": 0, "O": 0, "Op": 0, "S": 65535}
 # The greatest value of each: goal takes no greater one.
 LIMITS = {"L": 2**40 - 1, "o": 2**40 - 1, "g": 2**40 - 1, "G": 2**20 - 1, "Gp": 999, "O": 2**20 - 1, "Op": 999, "S": 2**40 - 1}
@@ -21,6 +23,7 @@ MEANINGS = {
     "Op": "picoseconds besides O",
     "S": "greatest eager size, bytes",
 }
+UNITS = {"L": "ns", "o": "ns", "g": "ns", "G": "ns per byte", "Gp": "ps per byte", "O": "ns per byte", "Op": "ps per byte", "S": "bytes"}
 # The parameters that goal splits into nanoseconds and picoseconds, and the name of the second part.
 RATES = {"G": "Gp", "O": "Op"}
 
@@ -30,10 +33,14 @@ def options_of(name: str, text: str) -> Dict[str, int]:
     if name in RATES and re.fullmatch(r"\d+\.\d{1,3}", text):
         whole, part = text.split(".")
         return {name: int(whole), RATES[name]: int(part.ljust(3, "0"))}
-    if re.fullmatch(r"\d{1,20}", text):
-        return {name: int(text)}
-    wanted = "a number, with up to three decimals" if name in RATES else "a number without a sign"
-    raise ValueError(f"{name} is {text}, not {wanted}")
+    found = re.fullmatch(r"(\d{1,20})([KM]?)", text)
+    if found and (name == "S" or not found[2]):
+        number = int(found[1]) * FACTORS[found[2]]
+        if number > LIMITS[name]:
+            raise ValueError(f"{name} is {number}, and at most {LIMITS[name]} {UNITS[name]}")
+        return {name: number}
+    wanted = ", with up to three decimals" if name in RATES else ", as 65535, 64K or 1M" if name == "S" else ""
+    raise ValueError(f"{name} is {text}, not a number of {UNITS[name]}{wanted}")
 
 
 def words_of(options: Dict[str, int]) -> List[str]:
