@@ -4,5 +4,5 @@
 mod receiving;
 mod sending;
 
-pub use receiving::{serve, serve_at};
-pub use sending::{Sent, begin_at, eager_begin, transfer};
+pub use receiving::{serve, serve_at, serve_message};
+pub use sending::{Begun, begin_at, eager_begin, eager_begin_message, transfer};

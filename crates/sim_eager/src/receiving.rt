@@ -1,6 +1,6 @@
 // A receive takes its message.
 ghost use Rattle.std.specs.Prelude.{◌≡◌, ◌+◌, ◌<◌, ◌^◌, max};
-ghost use Rattle.goal_graph.specs.Schedule.{IsReceive};
+ghost use Rattle.goal_graph.specs.Schedule.{IsReceive, IsSend};
 ghost use Rattle.sim_params.specs.Costs.{over, gap};
 ghost use Rattle.sim_resources.specs.FreeTimes.{SameFreeTimes, cpu_free, rx_free, hold_cpu, hold_rx};
 ghost use Rattle.sim_eager.specs.Messages.{IsMessage};
@@ -19,10 +19,33 @@ pub fn serve_at(res: &Resources, recv: OpId, from: u64) -> u64
     from.max(res.cpu(recv).max(res.rx(recv)))
 }
 
-/// Takes the message of the send, of so many bytes to a rank, at the time `at`, and answers when the receive ends: it
-/// holds its cpu and the receiving side of its interface by the size of the message, and nothing else changes.
-#[tactic(auto, using(goal_graph::proofs::ForCallers::receive_is_op))]
+/// The receive takes the message of the send at the time `at`. Returns when the receive ends, in nanoseconds. The receive
+/// holds its cpu and the receiving side of its NIC by the size of the message, and nothing else changes.
 pub fn serve<C: Costs>(
+    sched: &Sched,
+    costs: &C,
+    res: &mut Resources,
+    recv: OpId,
+    send: OpId,
+    at: u64,
+) -> u64
+    requires same_schedule { res.old.plans ≡ sched.now }
+    requires receives { IsReceive sched.now recv }
+    requires sends { IsSend sched.now send }
+    requires over_fits { at + over sched.now (C.model costs.now) send < 2 ^ 63 }
+    requires gap_fits { at + gap sched.now (C.model costs.now) send < 2 ^ 63 }
+
+    ensures end { result ≡ at + over sched.now (C.model costs.now) send }
+    ensures holds { SameFreeTimes res.new
+        (hold_rx (hold_cpu res.old recv result) recv (at + gap sched.now (C.model costs.now) send)) }
+{
+    let message = sched.message(send);
+    serve_message(sched, costs, res, recv, send, message.to, message.bytes, at)
+}
+
+/// `serve` of a send whose message has `bytes` bytes and goes to the rank `to`. It does not look the message up.
+#[tactic(auto, using(goal_graph::proofs::ForCallers::receive_is_op))]
+pub fn serve_message<C: Costs>(
     sched: &Sched,
     costs: &C,
     res: &mut Resources,

@@ -9,9 +9,9 @@ use goal_graph::{OpId, Sched, laws_of_schedules};
 use sim_params::Costs;
 use sim_resources::Resources;
 
-/// When a send whose bytes go lets go of its cpu, and when they arrive.
+/// When a send that has begun releases its cpu, and when its bytes arrive, in nanoseconds.
 #[derive(Clone, Copy, Debug, PartialEq, Eq)]
-pub struct Sent {
+pub struct Begun {
     pub end: u64,
     pub arrive: u64,
 }
@@ -25,8 +25,9 @@ pub fn begin_at(res: &Resources, send: OpId, ready: u64) -> u64
     ready.max(res.cpu(send).max(res.tx(send)))
 }
 
-/// Sends so many bytes to a rank at the time `at`: the send holds its cpu and the sending side of its interface, and
-/// nothing else changes. So an eager send begins, a large one sends its request, and later hands over its bytes.
+/// Sends `bytes` bytes to the rank `to` at the time `at`. The send holds its cpu and the sending side of its NIC, and
+/// nothing else changes. An eager send begins by one transfer. A rendezvous send makes two: its request to send, and its
+/// bytes.
 #[tactic(auto, using(goal_graph::proofs::ForCallers::send_is_op))]
 pub fn transfer<C: Costs>(
     costs: &C,
@@ -35,7 +36,7 @@ pub fn transfer<C: Costs>(
     to: u32,
     bytes: u64,
     at: u64,
-) -> Sent
+) -> Begun
     requires sends { IsSend res.old.plans send }
     requires size { bytes < 2 ^ 40 }
     requires over_fits { at + (C.model costs.now).over send.rank to bytes < 2 ^ 63 }
@@ -53,12 +54,35 @@ pub fn transfer<C: Costs>(
     let arrive = at + spans.flight;
     res.hold_cpu(send, end);
     res.hold_tx(send, sent);
-    Sent { end, arrive }
+    Begun { end, arrive }
 }
 
-/// Begins an eager send, of so many bytes to a rank, at the time `at`: it holds its cpu and the sending side of its
-/// interface, and nothing else changes.
+/// Begins an eager send at the time `at`. The send holds its cpu and the sending side of its NIC, and nothing else
+/// changes.
 pub fn eager_begin<C: Costs>(
+    sched: &Sched,
+    costs: &C,
+    res: &mut Resources,
+    send: OpId,
+    at: u64,
+) -> Begun
+    requires same_schedule { res.old.plans ≡ sched.now }
+    requires sends { IsSend sched.now send }
+    requires over_fits { at + over sched.now (C.model costs.now) send < 2 ^ 63 }
+    requires gap_fits { at + gap sched.now (C.model costs.now) send < 2 ^ 63 }
+    requires flight_fits { at + flight sched.now (C.model costs.now) send < 2 ^ 63 }
+
+    ensures end { result.end ≡ at + over sched.now (C.model costs.now) send }
+    ensures arrive { result.arrive ≡ at + flight sched.now (C.model costs.now) send }
+    ensures holds { SameFreeTimes res.new
+        (hold_tx (hold_cpu res.old send result.end) send (at + gap sched.now (C.model costs.now) send)) }
+{
+    let message = sched.message(send);
+    eager_begin_message(sched, costs, res, send, message.to, message.bytes, at)
+}
+
+/// `eager_begin` of a send whose message has `bytes` bytes and goes to the rank `to`. It does not look the message up.
+pub fn eager_begin_message<C: Costs>(
     sched: &Sched,
     costs: &C,
     res: &mut Resources,
@@ -66,7 +90,7 @@ pub fn eager_begin<C: Costs>(
     to: u32,
     bytes: u64,
     at: u64,
-) -> Sent
+) -> Begun
     requires same_schedule { res.old.plans ≡ sched.now }
     requires message { IsMessage sched.now send to bytes }
     requires over_fits { at + over sched.now (C.model costs.now) send < 2 ^ 63 }

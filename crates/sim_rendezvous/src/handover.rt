@@ -1,4 +1,4 @@
-// A large send hands over its bytes.
+// A rendezvous send hands over its bytes.
 ghost use Rattle.std.specs.Prelude.{◌≡◌, ◌+◌, ◌<◌, ◌^◌, max};
 ghost use Rattle.goal_graph.specs.Schedule.{IsSend};
 ghost use Rattle.sim_params.specs.Costs.{over, gap, flight};
@@ -6,12 +6,12 @@ ghost use Rattle.sim_resources.specs.FreeTimes.{SameFreeTimes, cpu_free, tx_free
 ghost use Rattle.sim_eager.specs.Messages.{IsMessage};
 
 use goal_graph::{OpId, Sched, laws_of_schedules};
-use sim_eager::{Sent, begin_at, transfer};
+use sim_eager::{begin_at, transfer};
 use sim_params::Costs;
 use sim_resources::Resources;
 
-/// When a large send that is cleared at `cleared` may hand over its bytes: once its cpu and the sending side of its
-/// interface are free.
+/// When a rendezvous send whose clear to send is back at `cleared` may hand over its bytes: once its cpu and the sending
+/// side of its NIC are free.
 pub fn data_at(res: &Resources, send: OpId, cleared: u64) -> u64
     requires { IsSend res.now.plans send }
     ensures { result ≡ max cleared (max (cpu_free res.now send) (tx_free res.now send)) }
@@ -19,9 +19,33 @@ pub fn data_at(res: &Resources, send: OpId, cleared: u64) -> u64
     begin_at(res, send, cleared)
 }
 
-/// Hands over the bytes of a large send, so many to a rank, at the time `at`: it holds its cpu and the sending side of
-/// its interface, and nothing else changes.
-pub fn data<C: Costs>(
+/// When a rendezvous send that has handed over its bytes ends, and when its receive can take them, in nanoseconds.
+#[derive(Clone, Copy, Debug, PartialEq, Eq)]
+pub struct Sent {
+    pub end: u64,
+    pub available: u64,
+}
+
+/// Hands over the bytes of a rendezvous send at the time `at`. The send holds its cpu and the sending side of its NIC, and
+/// nothing else changes.
+pub fn data<C: Costs>(sched: &Sched, costs: &C, res: &mut Resources, send: OpId, at: u64) -> Sent
+    requires same_schedule { res.old.plans ≡ sched.now }
+    requires sends { IsSend sched.now send }
+    requires over_fits { at + over sched.now (C.model costs.now) send < 2 ^ 63 }
+    requires gap_fits { at + gap sched.now (C.model costs.now) send < 2 ^ 63 }
+    requires flight_fits { at + flight sched.now (C.model costs.now) send < 2 ^ 63 }
+
+    ensures end { result.end ≡ at + over sched.now (C.model costs.now) send }
+    ensures available { result.available ≡ at + flight sched.now (C.model costs.now) send }
+    ensures holds { SameFreeTimes res.new
+        (hold_tx (hold_cpu res.old send result.end) send (at + gap sched.now (C.model costs.now) send)) }
+{
+    let message = sched.message(send);
+    data_message(sched, costs, res, send, message.to, message.bytes, at)
+}
+
+/// `data` of a send whose message has `bytes` bytes and goes to the rank `to`. It does not look the message up.
+pub fn data_message<C: Costs>(
     sched: &Sched,
     costs: &C,
     res: &mut Resources,
@@ -37,11 +61,15 @@ pub fn data<C: Costs>(
     requires flight_fits { at + flight sched.now (C.model costs.now) send < 2 ^ 63 }
 
     ensures end { result.end ≡ at + over sched.now (C.model costs.now) send }
-    ensures arrive { result.arrive ≡ at + flight sched.now (C.model costs.now) send }
+    ensures available { result.available ≡ at + flight sched.now (C.model costs.now) send }
     ensures holds { SameFreeTimes res.new
         (hold_tx (hold_cpu res.old send result.end) send (at + gap sched.now (C.model costs.now) send)) }
 {
     sched.known();
     laws_of_schedules();
-    transfer(costs, res, send, to, bytes, at)
+    let begun = transfer(costs, res, send, to, bytes, at);
+    Sent {
+        end: begun.end,
+        available: begun.arrive,
+    }
 }

@@ -1,5 +1,6 @@
-// The request of a large send, and its clearance.
+// The request to send of a rendezvous send, and its clear to send.
 ghost use Rattle.std.specs.Prelude.{◌≡◌, ℕ, ◌+◌, ◌<◌, ◌^◌};
+ghost use Rattle.goal_graph.specs.Schedule.{IsSend};
 ghost use Rattle.sim_params.specs.Costs.{over_one, gap_one, flight_one, latency};
 ghost use Rattle.sim_resources.specs.FreeTimes.{SameFreeTimes, hold_cpu, hold_tx};
 ghost use Rattle.sim_eager.specs.Messages.{IsMessage};
@@ -9,12 +10,28 @@ use sim_eager::transfer;
 use sim_params::Costs;
 use sim_resources::Resources;
 
-/// The bytes of a request.
+/// The bytes of a request to send.
 const REQUEST: u64 = 1;
 
-/// Begins a large send to a rank at the time `at`, and answers when its request arrives: the request of one byte holds
-/// the cpu of the send and the sending side of its interface, and nothing else changes.
-pub fn request<C: Costs>(
+/// Begins a rendezvous send at the time `at`. Returns when its request to send arrives, in nanoseconds. The request, of one
+/// byte, holds the cpu of the send and the sending side of its NIC, and nothing else changes.
+pub fn request<C: Costs>(sched: &Sched, costs: &C, res: &mut Resources, send: OpId, at: u64) -> u64
+    requires same_schedule { res.old.plans ≡ sched.now }
+    requires sends { IsSend sched.now send }
+    requires over_fits { at + over_one sched.now (C.model costs.now) send < 2 ^ 63 }
+    requires gap_fits { at + gap_one sched.now (C.model costs.now) send < 2 ^ 63 }
+    requires flight_fits { at + flight_one sched.now (C.model costs.now) send < 2 ^ 63 }
+
+    ensures arrive { result ≡ at + flight_one sched.now (C.model costs.now) send }
+    ensures holds { SameFreeTimes res.new
+        (hold_tx (hold_cpu res.old send (at + over_one sched.now (C.model costs.now) send)) send (at + gap_one sched.now (C.model costs.now) send)) }
+{
+    let message = sched.message(send);
+    request_to(sched, costs, res, send, message.to, at)
+}
+
+/// `request` of a send whose message goes to the rank `to`. It does not look the message up.
+pub fn request_to<C: Costs>(
     sched: &Sched,
     costs: &C,
     res: &mut Resources,
@@ -35,8 +52,18 @@ pub fn request<C: Costs>(
     transfer(costs, res, send, to, REQUEST, at).arrive
 }
 
-/// When the clearance of a large send to the rank `to`, paired at `paired`, is back at its sender.
-pub fn clear<C: Costs>(sched: &Sched, costs: &C, send: OpId, to: u32, paired: u64) -> u64
+/// When the clear to send of a rendezvous send that is paired at `paired` reaches its sender, in nanoseconds.
+pub fn clear<C: Costs>(sched: &Sched, costs: &C, send: OpId, paired: u64) -> u64
+    requires sends { IsSend sched.now send }
+    requires latency_fits { paired + latency sched.now (C.model costs.now) send < 2 ^ 63 }
+    ensures { result ≡ paired + latency sched.now (C.model costs.now) send }
+{
+    let message = sched.message(send);
+    clear_to(sched, costs, send, message.to, paired)
+}
+
+/// `clear` of a send whose message goes to the rank `to`. It does not look the message up.
+pub fn clear_to<C: Costs>(sched: &Sched, costs: &C, send: OpId, to: u32, paired: u64) -> u64
     requires goes_to { (bytes : ℕ) × IsMessage sched.now send to bytes }
     requires latency_fits { paired + latency sched.now (C.model costs.now) send < 2 ^ 63 }
     ensures { result ≡ paired + latency sched.now (C.model costs.now) send }

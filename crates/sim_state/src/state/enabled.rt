@@ -19,7 +19,7 @@ use crate::task::Task;
 use goal_graph::{Class, OpId, Timed};
 use sim_eager::{begin_at, serve_at};
 use sim_params::Costs;
-use sim_rendezvous::{clear, data_at};
+use sim_rendezvous::{clear_to, data_at};
 
 impl<'a, C: Costs, H: History> State<'a, C, H> {
     /// The possible action of an operation, if it has one.
@@ -120,7 +120,7 @@ impl<'a, C: Costs, H: History> State<'a, C, H> {
             return None;
         }
         let paired = times.awaited.get()?;
-        let cleared = clear(self.sched, &self.costs, send, work.to, paired);
+        let cleared = clear_to(self.sched, &self.costs, send, work.to, paired);
         Some(Timed {
             time: data_at(&self.resources, send, cleared),
             class: Class::Data,

@@ -20,11 +20,11 @@ use crate::key::compact;
 use crate::task::Task;
 use crate::work::Work;
 use goal_graph::{Class, Need, Sched, Timed};
-use sim_eager::{eager_begin, serve};
+use sim_eager::{eager_begin_message, serve_message};
 use sim_match::Matcher;
 use sim_order::Steps;
 use sim_params::Costs;
-use sim_rendezvous::{data, request};
+use sim_rendezvous::{data_message, request_to};
 use sim_resources::Resources;
 use std::sync::ledger::Ledger;
 
@@ -112,15 +112,15 @@ fn change_of<C: Costs, H: History, M: Ledger>(
             partner: matcher.arrive_counted(id, looks),
         },
         Class::Data => {
-            let sent = data(sched, costs, resources, id, work.to, work.amount, at);
-            Change::of_times(times.with_end(sent.end).with_awaited(sent.arrive))
+            let sent = data_message(sched, costs, resources, id, work.to, work.amount, at);
+            Change::of_times(times.with_end(sent.end).with_awaited(sent.available))
         }
         Class::Serve => {
             let Some(send) = link.partner() else {
                 unreachable!()
             };
             let Work { to, amount, .. } = read(sched, entries, send).work;
-            let end = serve(sched, costs, resources, id, send, to, amount, at);
+            let end = serve_message(sched, costs, resources, id, send, to, amount, at);
             Change::of_times(times.with_end(end))
         }
     }
@@ -157,11 +157,11 @@ fn begin<C: Costs, H: History>(
             times.with_end(end).with_nothing_awaited()
         }
         Task::Eager => {
-            let sent = eager_begin(sched, costs, resources, id, work.to, work.amount, at);
-            times.with_end(sent.end).with_awaited(sent.arrive)
+            let begun = eager_begin_message(sched, costs, resources, id, work.to, work.amount, at);
+            times.with_end(begun.end).with_awaited(begun.arrive)
         }
         Task::Large => {
-            let arrive = request(sched, costs, resources, id, work.to, at);
+            let arrive = request_to(sched, costs, resources, id, work.to, at);
             times.with_awaited(arrive)
         }
         Task::Receive => unreachable!(),

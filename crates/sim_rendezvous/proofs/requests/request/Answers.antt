@@ -1,6 +1,5 @@
-use Rattle.sim_eager.proofs.ForCallers.{message_is_send}
 use Rattle.sim_rendezvous.proofs.requests.request.Goals as goal
 
-pub transfer-requires-clause-sends : goal.transfer-requires-clause-sends
-transfer-requires-clause-sends g c =
-    rw c.requires.same_schedule (message_is_send _ _ _ _ c.requires.goes_to.1)
+pub request_to-requires-clause-goes_to : goal.request_to-requires-clause-goes_to
+request_to-requires-clause-goes_to g c =
+    (c.message-message.result.bytes, record { tag = c.message-message.result.tag; kind = c.message-message.ensures.kind })

@@ -23,8 +23,8 @@ pub with_end-requires : goal.with_end-requires
 with_end-requires g c =
     calc_fits c.args.sched.now (g.C.Costs.model c.args.costs.now) (g.H.History.actions c.args.history.now) c.args.action c.requires.run c.requires.within c.requires.next.possible c.requires.class c.args.work c.requires.work c.in-Calc.is
 
-pub eager_begin-sent-requires : goal.eager_begin-sent-requires
-eager_begin-sent-requires g c = record {
+pub eager_begin_message-begun-requires : goal.eager_begin_message-begun-requires
+eager_begin_message-begun-requires g c = record {
   same_schedule = c.requires.free.same_plans;
   message = eager_message c.args.sched.now (g.C.Costs.model c.args.costs.now) (g.H.History.actions c.args.history.now) c.args.action c.requires.run c.requires.within c.requires.next.possible c.requires.class c.args.work c.requires.work c.in-Eager.is;
   over_fits = eager_over c.args.sched.now (g.C.Costs.model c.args.costs.now) (g.H.History.actions c.args.history.now) c.args.action c.requires.run c.requires.within c.requires.next.possible c.requires.class c.args.work c.requires.work c.in-Eager.is;
@@ -34,14 +34,14 @@ eager_begin-sent-requires g c = record {
 
 pub with_end-requires-in-Eager : goal.with_end-requires-in-Eager
 with_end-requires-in-Eager g c =
-    omega (arith, c.eager_begin-sent.ensures.end, eager_over c.args.sched.now (g.C.Costs.model c.args.costs.now) (g.H.History.actions c.args.history.now) c.args.action c.requires.run c.requires.within c.requires.next.possible c.requires.class c.args.work c.requires.work c.in-Eager.is)
+    omega (arith, c.eager_begin_message-begun.ensures.end, eager_over c.args.sched.now (g.C.Costs.model c.args.costs.now) (g.H.History.actions c.args.history.now) c.args.action c.requires.run c.requires.within c.requires.next.possible c.requires.class c.args.work c.requires.work c.in-Eager.is)
 
 pub with_awaited-requires : goal.with_awaited-requires
 with_awaited-requires g c =
-    omega (arith, c.eager_begin-sent.ensures.arrive, eager_flight c.args.sched.now (g.C.Costs.model c.args.costs.now) (g.H.History.actions c.args.history.now) c.args.action c.requires.run c.requires.within c.requires.next.possible c.requires.class c.args.work c.requires.work c.in-Eager.is)
+    omega (arith, c.eager_begin_message-begun.ensures.arrive, eager_flight c.args.sched.now (g.C.Costs.model c.args.costs.now) (g.H.History.actions c.args.history.now) c.args.action c.requires.run c.requires.within c.requires.next.possible c.requires.class c.args.work c.requires.work c.in-Eager.is)
 
-pub request-arrive-requires : goal.request-arrive-requires
-request-arrive-requires g c = record {
+pub request_to-arrive-requires : goal.request_to-arrive-requires
+request_to-arrive-requires g c = record {
   same_schedule = c.requires.free.same_plans;
   goes_to = (_, large_message c.args.sched.now (g.C.Costs.model c.args.costs.now) (g.H.History.actions c.args.history.now) c.args.action c.requires.run c.requires.within c.requires.next.possible c.requires.class c.args.work c.requires.work c.in-Large.is);
   over_fits = request_over c.args.sched.now (g.C.Costs.model c.args.costs.now) (g.H.History.actions c.args.history.now) c.args.action c.requires.run c.requires.within c.requires.next.possible c.requires.class c.args.work c.requires.work c.in-Large.is;
@@ -51,7 +51,7 @@ request-arrive-requires g c = record {
 
 pub with_awaited-requires-in-Large : goal.with_awaited-requires-in-Large
 with_awaited-requires-in-Large g c =
-    omega (arith, c.request-arrive.ensures.arrive, request_flight c.args.sched.now (g.C.Costs.model c.args.costs.now) (g.H.History.actions c.args.history.now) c.args.action c.requires.run c.requires.within c.requires.next.possible c.requires.class c.args.work c.requires.work c.in-Large.is)
+    omega (arith, c.request_to-arrive.ensures.arrive, request_flight c.args.sched.now (g.C.Costs.model c.args.costs.now) (g.H.History.actions c.args.history.now) c.args.action c.requires.run c.requires.within c.requires.next.possible c.requires.class c.args.work c.requires.work c.in-Large.is)
 
 pub unreachable-requires : goal.unreachable-requires
 unreachable-requires g c =
@@ -67,16 +67,16 @@ returns-in-Calc-clause-free g c =
 
 pub returns-in-Eager-clause-known : goal.returns-in-Eager-clause-known
 returns-in-Eager-clause-known g c =
-    eager_known c.args.sched.now (g.C.Costs.model c.args.costs.now) (g.H.History.actions c.args.history.now) c.args.action c.requires.run c.requires.within c.requires.next.possible c.requires.class c.args.work c.requires.work c.in-Eager.is _ _ c.eager_begin-sent.ensures.end c.eager_begin-sent.ensures.arrive _ (c.with_awaited.ensures ∙ ap (λ (t : Times). record t { awaited = Some c.eager_begin-sent.result.arrive }) (c.with_end-in-Eager.ensures ∙ ap (λ (t : Times). record t { end = Some c.eager_begin-sent.result.end }) (c.with_start-times.ensures ∙ ap (λ (t : Times). record t { start = Some c.args.action.time }) c.requires.times)))
+    eager_known c.args.sched.now (g.C.Costs.model c.args.costs.now) (g.H.History.actions c.args.history.now) c.args.action c.requires.run c.requires.within c.requires.next.possible c.requires.class c.args.work c.requires.work c.in-Eager.is _ _ c.eager_begin_message-begun.ensures.end c.eager_begin_message-begun.ensures.arrive _ (c.with_awaited.ensures ∙ ap (λ (t : Times). record t { awaited = Some c.eager_begin_message-begun.result.arrive }) (c.with_end-in-Eager.ensures ∙ ap (λ (t : Times). record t { end = Some c.eager_begin_message-begun.result.end }) (c.with_start-times.ensures ∙ ap (λ (t : Times). record t { start = Some c.args.action.time }) c.requires.times)))
 
 pub returns-in-Eager-clause-free : goal.returns-in-Eager-clause-free
 returns-in-Eager-clause-free g c =
-    eager_free c.args.sched.now (g.C.Costs.model c.args.costs.now) (g.H.History.actions c.args.history.now) c.args.action c.requires.run c.requires.within c.requires.next.possible c.requires.class c.args.work c.requires.work c.in-Eager.is _ _ _ c.eager_begin-sent.ensures.end c.requires.free c.eager_begin-sent.ensures.holds
+    eager_free c.args.sched.now (g.C.Costs.model c.args.costs.now) (g.H.History.actions c.args.history.now) c.args.action c.requires.run c.requires.within c.requires.next.possible c.requires.class c.args.work c.requires.work c.in-Eager.is _ _ _ c.eager_begin_message-begun.ensures.end c.requires.free c.eager_begin_message-begun.ensures.holds
 
 pub returns-in-Large-clause-known : goal.returns-in-Large-clause-known
 returns-in-Large-clause-known g c =
-    request_known c.args.sched.now (g.C.Costs.model c.args.costs.now) (g.H.History.actions c.args.history.now) c.args.action c.requires.run c.requires.within c.requires.next.possible c.requires.class c.args.work c.requires.work c.in-Large.is _ c.request-arrive.ensures.arrive _ (c.with_awaited-in-Large.ensures ∙ ap (λ (t : Times). record t { awaited = Some c.request-arrive.result }) (c.with_start-times.ensures ∙ ap (λ (t : Times). record t { start = Some c.args.action.time }) c.requires.times))
+    request_known c.args.sched.now (g.C.Costs.model c.args.costs.now) (g.H.History.actions c.args.history.now) c.args.action c.requires.run c.requires.within c.requires.next.possible c.requires.class c.args.work c.requires.work c.in-Large.is _ c.request_to-arrive.ensures.arrive _ (c.with_awaited-in-Large.ensures ∙ ap (λ (t : Times). record t { awaited = Some c.request_to-arrive.result }) (c.with_start-times.ensures ∙ ap (λ (t : Times). record t { start = Some c.args.action.time }) c.requires.times))
 
 pub returns-in-Large-clause-free : goal.returns-in-Large-clause-free
 returns-in-Large-clause-free g c =
-    request_free c.args.sched.now (g.C.Costs.model c.args.costs.now) (g.H.History.actions c.args.history.now) c.args.action c.requires.run c.requires.within c.requires.next.possible c.requires.class c.args.work c.requires.work c.in-Large.is _ _ c.requires.free c.request-arrive.ensures.holds
+    request_free c.args.sched.now (g.C.Costs.model c.args.costs.now) (g.H.History.actions c.args.history.now) c.args.action c.requires.run c.requires.within c.requires.next.possible c.requires.class c.args.work c.requires.work c.in-Large.is _ _ c.requires.free c.request_to-arrive.ensures.holds

@@ -36,8 +36,8 @@ post_counted-requires g c = record { receive = post_receive c.args.sched.now (g.
 pub arrive_counted-requires : goal.arrive_counted-requires
 arrive_counted-requires g c = record { send = arrival_send c.args.sched.now (g.C.Costs.model c.args.costs.now) (g.H.History.actions c.args.history.now) c.args.action c.requires.run c.requires.within c.requires.next.possible c.args.matcher.now c.requires.told c.in-Arrive.is; fresh = arrival_fresh c.args.sched.now (g.C.Costs.model c.args.costs.now) (g.H.History.actions c.args.history.now) c.args.action c.requires.run c.requires.within c.requires.next.possible c.args.matcher.now c.requires.told c.in-Arrive.is }
 
-pub data-sent-requires : goal.data-sent-requires
-data-sent-requires g c = record {
+pub data_message-sent-requires : goal.data_message-sent-requires
+data_message-sent-requires g c = record {
   same_schedule = c.requires.free.same_plans;
   message = data_message c.args.sched.now (g.C.Costs.model c.args.costs.now) (g.H.History.actions c.args.history.now) c.args.action c.requires.run c.requires.within c.requires.next.possible c.in-Data.is c.read.result.now.work (ap (λ (e : Entry). e.work) (c.read.ensures (entry_known c.args.sched.now (g.C.Costs.model c.args.costs.now) (g.H.History.actions c.args.history.now)) c.requires.known));
   over_fits = data_over c.args.sched.now (g.C.Costs.model c.args.costs.now) (g.H.History.actions c.args.history.now) c.args.action c.requires.run c.requires.within c.requires.next.possible c.in-Data.is c.read.result.now.work (ap (λ (e : Entry). e.work) (c.read.ensures (entry_known c.args.sched.now (g.C.Costs.model c.args.costs.now) (g.H.History.actions c.args.history.now)) c.requires.known));
@@ -47,11 +47,11 @@ data-sent-requires g c = record {
 
 pub with_end-requires : goal.with_end-requires
 with_end-requires g c =
-    omega (arith, c.data-sent.ensures.end, data_over c.args.sched.now (g.C.Costs.model c.args.costs.now) (g.H.History.actions c.args.history.now) c.args.action c.requires.run c.requires.within c.requires.next.possible c.in-Data.is c.read.result.now.work (ap (λ (e : Entry). e.work) (c.read.ensures (entry_known c.args.sched.now (g.C.Costs.model c.args.costs.now) (g.H.History.actions c.args.history.now)) c.requires.known)))
+    omega (arith, c.data_message-sent.ensures.end, data_over c.args.sched.now (g.C.Costs.model c.args.costs.now) (g.H.History.actions c.args.history.now) c.args.action c.requires.run c.requires.within c.requires.next.possible c.in-Data.is c.read.result.now.work (ap (λ (e : Entry). e.work) (c.read.ensures (entry_known c.args.sched.now (g.C.Costs.model c.args.costs.now) (g.H.History.actions c.args.history.now)) c.requires.known)))
 
 pub with_awaited-requires : goal.with_awaited-requires
 with_awaited-requires g c =
-    omega (arith, c.data-sent.ensures.arrive, data_flight c.args.sched.now (g.C.Costs.model c.args.costs.now) (g.H.History.actions c.args.history.now) c.args.action c.requires.run c.requires.within c.requires.next.possible c.in-Data.is c.read.result.now.work (ap (λ (e : Entry). e.work) (c.read.ensures (entry_known c.args.sched.now (g.C.Costs.model c.args.costs.now) (g.H.History.actions c.args.history.now)) c.requires.known)))
+    omega (arith, c.data_message-sent.ensures.available, data_flight c.args.sched.now (g.C.Costs.model c.args.costs.now) (g.H.History.actions c.args.history.now) c.args.action c.requires.run c.requires.within c.requires.next.possible c.in-Data.is c.read.result.now.work (ap (λ (e : Entry). e.work) (c.read.ensures (entry_known c.args.sched.now (g.C.Costs.model c.args.costs.now) (g.H.History.actions c.args.history.now)) c.requires.known)))
 
 pub unreachable-requires : goal.unreachable-requires
 unreachable-requires g c =
@@ -63,8 +63,8 @@ read-requires-in-Serve g c = record {
   each = ap length c.requires.known ∙ length-map _ _;
 }
 
-pub serve-end-requires : goal.serve-end-requires
-serve-end-requires g c = record {
+pub serve_message-end-requires : goal.serve_message-end-requires
+serve_message-end-requires g c = record {
   same_schedule = c.requires.free.same_plans;
   receives = serve_receive c.args.sched.now (g.C.Costs.model c.args.costs.now) (g.H.History.actions c.args.history.now) c.args.action c.requires.run c.requires.within c.requires.next.possible c.in-Serve.is;
   message = taken_message c.args.sched.now (g.C.Costs.model c.args.costs.now) (g.H.History.actions c.args.history.now) c.args.action c.requires.run c.requires.within c.requires.next.possible c.in-Serve.is c.in-Some.send (sym c.in-Some.is ∙ c.partner.ensures ∙ ap (λ (e : Entry). e.link.partner) (c.read.ensures (entry_known c.args.sched.now (g.C.Costs.model c.args.costs.now) (g.H.History.actions c.args.history.now)) c.requires.known)) c.read-in-Serve.result.now.work (ap (λ (e : Entry). e.work) (c.read-in-Serve.ensures (entry_known c.args.sched.now (g.C.Costs.model c.args.costs.now) (g.H.History.actions c.args.history.now)) c.requires.known));
@@ -74,7 +74,7 @@ serve-end-requires g c = record {
 
 pub with_end-requires-in-Serve : goal.with_end-requires-in-Serve
 with_end-requires-in-Serve g c =
-    omega (arith, c.serve-end.ensures.end, serve_over c.args.sched.now (g.C.Costs.model c.args.costs.now) (g.H.History.actions c.args.history.now) c.args.action c.requires.run c.requires.within c.requires.next.possible c.in-Serve.is c.in-Some.send (sym c.in-Some.is ∙ c.partner.ensures ∙ ap (λ (e : Entry). e.link.partner) (c.read.ensures (entry_known c.args.sched.now (g.C.Costs.model c.args.costs.now) (g.H.History.actions c.args.history.now)) c.requires.known)))
+    omega (arith, c.serve_message-end.ensures.end, serve_over c.args.sched.now (g.C.Costs.model c.args.costs.now) (g.H.History.actions c.args.history.now) c.args.action c.requires.run c.requires.within c.requires.next.possible c.in-Serve.is c.in-Some.send (sym c.in-Some.is ∙ c.partner.ensures ∙ ap (λ (e : Entry). e.link.partner) (c.read.ensures (entry_known c.args.sched.now (g.C.Costs.model c.args.costs.now) (g.H.History.actions c.args.history.now)) c.requires.known)))
 
 pub returns-in-Begin-clause-change : goal.returns-in-Begin-clause-change
 returns-in-Begin-clause-change g c =
@@ -114,11 +114,11 @@ returns-in-Arrive-clause-told g c =
 
 pub returns-in-Data-clause-change : goal.returns-in-Data-clause-change
 returns-in-Data-clause-change g c =
-    times_changed c.args.sched.now (g.C.Costs.model c.args.costs.now) (g.H.History.actions c.args.history.now) c.args.action c.requires.run c.requires.within c.requires.next.possible _ _ c.of_times-in-Data.ensures (data_known c.args.sched.now (g.C.Costs.model c.args.costs.now) (g.H.History.actions c.args.history.now) c.args.action c.requires.run c.requires.within c.requires.next.possible c.in-Data.is c.read.result.now.work (ap (λ (e : Entry). e.work) (c.read.ensures (entry_known c.args.sched.now (g.C.Costs.model c.args.costs.now) (g.H.History.actions c.args.history.now)) c.requires.known)) _ _ c.data-sent.ensures.end c.data-sent.ensures.arrive _ (c.with_awaited.ensures ∙ ap (λ (t : Times). record t { awaited = Some c.data-sent.result.arrive }) (c.with_end.ensures ∙ ap (λ (t : Times). record t { end = Some c.data-sent.result.end }) (ap (λ (e : Entry). e.times) (c.read.ensures (entry_known c.args.sched.now (g.C.Costs.model c.args.costs.now) (g.H.History.actions c.args.history.now)) c.requires.known)))))
+    times_changed c.args.sched.now (g.C.Costs.model c.args.costs.now) (g.H.History.actions c.args.history.now) c.args.action c.requires.run c.requires.within c.requires.next.possible _ _ c.of_times-in-Data.ensures (data_known c.args.sched.now (g.C.Costs.model c.args.costs.now) (g.H.History.actions c.args.history.now) c.args.action c.requires.run c.requires.within c.requires.next.possible c.in-Data.is c.read.result.now.work (ap (λ (e : Entry). e.work) (c.read.ensures (entry_known c.args.sched.now (g.C.Costs.model c.args.costs.now) (g.H.History.actions c.args.history.now)) c.requires.known)) _ _ c.data_message-sent.ensures.end c.data_message-sent.ensures.available _ (c.with_awaited.ensures ∙ ap (λ (t : Times). record t { awaited = Some c.data_message-sent.result.available }) (c.with_end.ensures ∙ ap (λ (t : Times). record t { end = Some c.data_message-sent.result.end }) (ap (λ (e : Entry). e.times) (c.read.ensures (entry_known c.args.sched.now (g.C.Costs.model c.args.costs.now) (g.H.History.actions c.args.history.now)) c.requires.known)))))
 
 pub returns-in-Data-clause-free : goal.returns-in-Data-clause-free
 returns-in-Data-clause-free g c =
-    data_free c.args.sched.now (g.C.Costs.model c.args.costs.now) (g.H.History.actions c.args.history.now) c.args.action c.requires.run c.requires.within c.requires.next.possible c.in-Data.is c.read.result.now.work (ap (λ (e : Entry). e.work) (c.read.ensures (entry_known c.args.sched.now (g.C.Costs.model c.args.costs.now) (g.H.History.actions c.args.history.now)) c.requires.known)) _ _ _ c.data-sent.ensures.end c.requires.free c.data-sent.ensures.holds
+    data_free c.args.sched.now (g.C.Costs.model c.args.costs.now) (g.H.History.actions c.args.history.now) c.args.action c.requires.run c.requires.within c.requires.next.possible c.in-Data.is c.read.result.now.work (ap (λ (e : Entry). e.work) (c.read.ensures (entry_known c.args.sched.now (g.C.Costs.model c.args.costs.now) (g.H.History.actions c.args.history.now)) c.requires.known)) _ _ _ c.data_message-sent.ensures.end c.requires.free c.data_message-sent.ensures.holds
 
 pub returns-in-Data-clause-told : goal.returns-in-Data-clause-told
 returns-in-Data-clause-told g c =
@@ -126,11 +126,11 @@ returns-in-Data-clause-told g c =
 
 pub returns-in-Some-clause-change : goal.returns-in-Some-clause-change
 returns-in-Some-clause-change g c =
-    times_changed c.args.sched.now (g.C.Costs.model c.args.costs.now) (g.H.History.actions c.args.history.now) c.args.action c.requires.run c.requires.within c.requires.next.possible _ _ c.of_times-in-Serve.ensures (serve_known c.args.sched.now (g.C.Costs.model c.args.costs.now) (g.H.History.actions c.args.history.now) c.args.action c.requires.run c.requires.within c.requires.next.possible c.in-Serve.is c.in-Some.send (sym c.in-Some.is ∙ c.partner.ensures ∙ ap (λ (e : Entry). e.link.partner) (c.read.ensures (entry_known c.args.sched.now (g.C.Costs.model c.args.costs.now) (g.H.History.actions c.args.history.now)) c.requires.known)) _ c.serve-end.ensures.end _ (c.with_end-in-Serve.ensures ∙ ap (λ (t : Times). record t { end = Some c.serve-end.result }) (ap (λ (e : Entry). e.times) (c.read.ensures (entry_known c.args.sched.now (g.C.Costs.model c.args.costs.now) (g.H.History.actions c.args.history.now)) c.requires.known))))
+    times_changed c.args.sched.now (g.C.Costs.model c.args.costs.now) (g.H.History.actions c.args.history.now) c.args.action c.requires.run c.requires.within c.requires.next.possible _ _ c.of_times-in-Serve.ensures (serve_known c.args.sched.now (g.C.Costs.model c.args.costs.now) (g.H.History.actions c.args.history.now) c.args.action c.requires.run c.requires.within c.requires.next.possible c.in-Serve.is c.in-Some.send (sym c.in-Some.is ∙ c.partner.ensures ∙ ap (λ (e : Entry). e.link.partner) (c.read.ensures (entry_known c.args.sched.now (g.C.Costs.model c.args.costs.now) (g.H.History.actions c.args.history.now)) c.requires.known)) _ c.serve_message-end.ensures.end _ (c.with_end-in-Serve.ensures ∙ ap (λ (t : Times). record t { end = Some c.serve_message-end.result }) (ap (λ (e : Entry). e.times) (c.read.ensures (entry_known c.args.sched.now (g.C.Costs.model c.args.costs.now) (g.H.History.actions c.args.history.now)) c.requires.known))))
 
 pub returns-in-Some-clause-free : goal.returns-in-Some-clause-free
 returns-in-Some-clause-free g c =
-    serve_free c.args.sched.now (g.C.Costs.model c.args.costs.now) (g.H.History.actions c.args.history.now) c.args.action c.requires.run c.requires.within c.requires.next.possible c.in-Serve.is c.in-Some.send (sym c.in-Some.is ∙ c.partner.ensures ∙ ap (λ (e : Entry). e.link.partner) (c.read.ensures (entry_known c.args.sched.now (g.C.Costs.model c.args.costs.now) (g.H.History.actions c.args.history.now)) c.requires.known)) _ _ _ c.serve-end.ensures.end c.requires.free c.serve-end.ensures.holds
+    serve_free c.args.sched.now (g.C.Costs.model c.args.costs.now) (g.H.History.actions c.args.history.now) c.args.action c.requires.run c.requires.within c.requires.next.possible c.in-Serve.is c.in-Some.send (sym c.in-Some.is ∙ c.partner.ensures ∙ ap (λ (e : Entry). e.link.partner) (c.read.ensures (entry_known c.args.sched.now (g.C.Costs.model c.args.costs.now) (g.H.History.actions c.args.history.now)) c.requires.known)) _ _ _ c.serve_message-end.ensures.end c.requires.free c.serve_message-end.ensures.holds
 
 pub returns-in-Some-clause-told : goal.returns-in-Some-clause-told
 returns-in-Some-clause-told g c =
