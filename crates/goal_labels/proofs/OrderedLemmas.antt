@@ -1,8 +1,8 @@
 -- Labels in their order.
-use Rattle.std.proofs.Common.{◌≡◌, ℕ, zero, suc, ◌+◌, ◌<◌, ◌≤◌, Bool, true, false, List, [], ◌∷◌, ◌++◌, Option, length, take, get_or, nat_cmp, bytes_eq}
+use Rattle.std.proofs.Common.{◌≡◌, ℕ, ◌+◌, ◌<◌, ◌≤◌, Bool, true, false, List, [], ◌∷◌, ◌++◌, Option, length, nat_cmp}
 use Rattle.std.proofs.Common.{refl, sym, ap, subst, ◌∙◌, arith, ltb, Decides}
 use Rattle.std.specs.Cmp.Lexicographic.{slice_cmp}
-use Rattle.std.specs.Cmp.{IsTotalOrder, nat_cmp_is}
+use Rattle.std.specs.Cmp.{IsTotalOrder}
 use Rattle.std.specs.Option.{option_map_or}
 use Rattle.std.specs.Ordering.{ordering_then, ordering_reverse, is_eq}
 use Rattle.std.specs.declared.cmp.Ordering.{Ordering}
@@ -111,24 +111,3 @@ module _ (es : Entries) (label : List ℕ) (slot : Slot) (count : ℕ) (ascendin
           let last : j ≡ length es = omega (arith, all, below, not_from_Decides false p refl) in
           ap (label_cmp one) (IsAt-same more other label (length es) (subst (IsAt more other) last b) (IsAt-last es label slot))
           ∙ before i one (IsAt-before es _ one i (omega (arith, less, last)) a)
-
--- the first pair of numbers that is not equal decides
-cmp_at : (xs ys : List ℕ) (n : ℕ) → n < length xs → n < length ys → take n xs ≡ take n ys → get_or xs n 0 < get_or ys n 0 →
-    slice_cmp nat_cmp xs ys ≡ Less
-cmp_at [] ys n one other same less = absurd (omega arith)
-cmp_at (x ∷ xs) [] n one other same less = absurd (omega arith)
-cmp_at (x ∷ xs) (y ∷ ys) zero one other same less =
-    ap (λ (o : Ordering). ordering_then o (slice_cmp nat_cmp xs ys)) (sym (nat_cmp_is x y Less less))
-cmp_at (x ∷ xs) (y ∷ ys) (suc n) one other same less =
-    let first : x ≡ y = cc in
-    let behind : take n xs ≡ take n ys = cc in
-    ap (λ (o : Ordering). ordering_then o (slice_cmp nat_cmp xs ys)) (sym (nat_cmp_is x y Equal first))
-    ∙ cmp_at xs ys n (omega (arith, one)) (omega (arith, other)) behind less
-
--- labels of one length that differ in their last bytes alone
-pub before_at_last : (xs ys : List ℕ) (last : ℕ) → length xs ≡ last + 1 → length ys ≡ last + 1 →
-    bytes_eq (take last xs) (take last ys) ≡ true → get_or xs last 0 < get_or ys last 0 → label_cmp xs ys ≡ Less
-before_at_last xs ys last one other alike less =
-    let same : length xs ≡ length ys = omega (arith, one, other) in
-    ap (λ (o : Ordering). or_else o (slice_cmp nat_cmp xs ys)) (sym (nat_cmp_is (length xs) (length ys) Equal same))
-    ∙ cmp_at xs ys last (omega (arith, one)) (omega (arith, other)) ((bytes_eq-Decides (take last xs) (take last ys)).0 alike) less

@@ -156,22 +156,6 @@ fn order(one: &[u8], other: &[u8]) -> Ordering
     }
 }
 
-// Whether two labels differ in their last bytes alone, and the first goes before the other, as l8 goes before l9.
-#[inline(always)]
-fn is_just_before(one: &[u8], other: &[u8]) -> bool
-    ensures { result ≡ true → label_cmp one.now other.now ≡ Ordering.Less }
-{
-    let count = one.len();
-    if count == 0 || count != other.len() {
-        return false;
-    }
-    let last = count - 1;
-    if one[last] >= other[last] {
-        return false;
-    }
-    are_same(&one[..last], &other[..last])
-}
-
 // The number of a label among the first `ascending` labels.
 fn search(entries: &[Entry], bytes: &[u8], ascending: usize, label: &[u8]) -> Option<usize>
     requires held { AreHeld bytes.now entries.now }
@@ -206,11 +190,7 @@ fn comes_after_all(entries: &[Entry], bytes: &[u8], ascending: usize, label: &[u
     let Some(last) = entries.last() else {
         return true;
     };
-    let before = label_of(bytes, last);
-    if is_just_before(before, label) {
-        return true;
-    }
-    match order(before, label) {
+    match order(label_of(bytes, last), label) {
         Ordering::Less => true,
         Ordering::Equal | Ordering::Greater => false,
     }

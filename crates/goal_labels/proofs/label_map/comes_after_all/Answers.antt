@@ -17,31 +17,16 @@ returns-in_default c = λ told i one at.
     let within : last < length held = omega (arith, IsAt-within es one i at, length-entries_of bytes held) in
     absurd (none-some _ (c.in_default.ensures.value ∙ slice_get-get_or held last any within))
 
-pub returns-then-is_just_before : goal.returns-then-is_just_before
-returns-then-is_just_before c = λ told.
-    let bytes = c.args.bytes.now in
-    let held = c.args.entries.now in
-    let es = entries_of bytes held in
-    let read = c.label_of-before.result.now in
-    let last = length held - 1 in
-    let entry : slice_get held last ≡ Some c.in-Some.last.now = sym c.in-Some.ensures.value in
-    let there : IsAt es read last =
-    subst (λ k. IsAt es k last) (sym c.label_of-before.ensures) (IsAt-entry bytes held last c.in-Some.last.now entry) in
-    let within : last < length held = slice_get_within held last c.in-Some.last.now entry in
-    let count = length-entries_of bytes held in
-    before_last es read c.args.label.now last c.args.ascending c.requires.ascending (omega (arith, c.if-ascending-entries.false, count))
-    (omega (arith, count, within)) there (c.is_just_before.ensures c.if-is_just_before.true)
-
 pub returns-in-Less : goal.returns-in-Less
 returns-in-Less c = λ told.
     let bytes = c.args.bytes.now in
     let held = c.args.entries.now in
     let es = entries_of bytes held in
-    let read = c.label_of-before.result.now in
+    let read = c.label_of.result.now in
     let last = length held - 1 in
     let entry : slice_get held last ≡ Some c.in-Some.last.now = sym c.in-Some.ensures.value in
     let there : IsAt es read last =
-    subst (λ k. IsAt es k last) (sym c.label_of-before.ensures) (IsAt-entry bytes held last c.in-Some.last.now entry) in
+    subst (λ k. IsAt es k last) (sym c.label_of.ensures) (IsAt-entry bytes held last c.in-Some.last.now entry) in
     let within : last < length held = slice_get_within held last c.in-Some.last.now entry in
     let count = length-entries_of bytes held in
     before_last es read c.args.label.now last c.args.ascending c.requires.ascending (omega (arith, c.if-ascending-entries.false, count))
