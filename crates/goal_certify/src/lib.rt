@@ -11,4 +11,5 @@ mod slot_counts;
 mod walk;
 
 pub use certifier::certify;
+pub use goal_blocks::CertFault;
 pub use segments::{SegmentFault, certify_segments};

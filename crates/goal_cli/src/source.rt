@@ -2,6 +2,7 @@
 ghost use Rattle.std.specs.Prelude.{◌≡◌, ◌≤◌, true, false, length, Some, OnOk, IfOk, IfErr};
 ghost use Rattle.goal_limits.specs.declared.limits.TheConstants.{MAX_INPUT};
 ghost use Rattle.goal_base.specs.Device.{HostState, Later, KeepsFiles, SameReadCounts};
+ghost use Rattle.goal_blocks.specs.GenFaults.{IsGenFault};
 ghost use Rattle.goal_input.specs.Input.{IsReadAs, ForFile};
 ghost use Rattle.goal_collectives.specs.Probe.{probed};
 ghost use Rattle.goal_words.specs.declared.sentence.View.{View};
@@ -22,6 +23,19 @@ use goal_rooted::generate_rooted;
 use goal_words::{Costing, Sentence, Source};
 use std::alloc::Global;
 
+// The schedule of a collective, or why it has none.
+fn generated(alloc: Global, what: Collective, ranks: u32, bytes: u64) -> Result<Sched, GenFault>
+    requires { bytes ≤ MAX_BYTES }
+    ensures made { IfOk result (λ sched. IsMade what ranks bytes sched) }
+    ensures fault { IfErr result (λ fault. IsGenFault what ranks fault) }
+{
+    if what.is_made_by_generate() {
+        generate(alloc, what, ranks, bytes)
+    } else {
+        Ok(generate_rooted(alloc, what, ranks, bytes)?)
+    }
+}
+
 // The schedule of a collective.
 fn make_schedule(alloc: Global, what: Collective, ranks: u32, bytes: u64) -> Result<Sched, Answer>
     requires size { bytes ≤ MAX_BYTES }
@@ -29,12 +43,7 @@ fn make_schedule(alloc: Global, what: Collective, ranks: u32, bytes: u64) -> Res
     ensures unmade { IfErr result (λ answer. (costs : Pricing) (view : View) (host : HostState)
         → IsUnmade host host (asks (Source.Made what ranks bytes) costs view) answer) }
 {
-    let made = if what.is_made_by_generate() {
-        generate(alloc, what, ranks, bytes)
-    } else {
-        generate_rooted(alloc, what, ranks, bytes)
-    };
-    match made {
+    match generated(alloc, what, ranks, bytes) {
         Ok(sched) => Ok(sched),
         Err(GenFault::NoMemory) => Err(Answer::NoMemory),
         Err(fault) => Err(Answer::Refused(Refusal::Generator(fault))),

@@ -1,3 +1,5 @@
+-- What a reader must believe.
+pub mod Faults
 -- What the clauses cite of lower crates.
 pub use Rattle.goal_blocks.specs.Collectives
 pub use Rattle.goal_blocks.specs.Generated

@@ -5,26 +5,27 @@ ghost use Rattle.goal_blocks.specs.Makers.{is_made_by_generate};
 ghost use Rattle.goal_blocks.specs.Certified.{IsCertifiedFor};
 ghost use Rattle.goal_blocks.specs.Right.{IsCertifiedByProof, IsRightFor};
 ghost use Rattle.goal_blocks.specs.Generated.{made, IsPossible};
-ghost use Rattle.goal_blocks.specs.GenFaults.{IsGenFault};
+ghost use Rattle.goal_rooted.specs.Faults.{IsRootedFault};
 
+use crate::fault::RootedFault;
 use crate::formula::Asked;
-use goal_blocks::{Collective, GenFault, possible, schedule_by};
+use goal_blocks::{Collective, schedule_by};
 use goal_graph::Sched;
 use goal_limits::MAX_BYTES;
 use std::alloc::Global;
 
-/// The schedule of a reduce, gather, scatter, reduce_scatter or scan among so many ranks, with messages of so many bytes. It
-/// is made in one pass over the ranks and their operations.
+/// The schedule of a reduce, gather, scatter, reduce_scatter or scan among `ranks` ranks, with messages of `bytes` bytes. One
+/// pass over the ranks and their operations makes it.
 ///
 /// # Errors
 ///
-/// The first of these: no ranks, or more than the collective may have; a root that is no rank; want of memory.
+/// The first of these: no ranks, or more than the collective may have; a root that is no rank; out of memory.
 pub fn generate_rooted(
     alloc: Global,
     what: Collective,
     ranks: u32,
     bytes: u64,
-) -> Result<Sched, GenFault>
+) -> Result<Sched, RootedFault>
     requires made_here { is_made_by_generate what ≡ false }
     requires size { bytes ≤ MAX_BYTES }
 
@@ -38,12 +39,21 @@ pub fn generate_rooted(
     ensures right { IfOk result (λ sched. IsRightFor what sched) }
 
     // A fault is told exactly where it is the first one; memory can only run out where there is none.
-    ensures fault { IfErr result (λ fault. IsGenFault what ranks fault) }
-    ensures faults { (fault : GenFault) → IsGenFault what ranks fault → fault ≢ GenFault.NoMemory
+    ensures fault { IfErr result (λ fault. IsRootedFault what ranks fault) }
+    ensures faults { (fault : RootedFault) → IsRootedFault what ranks fault → fault ≢ RootedFault.NoMemory
         → IsErrOf result fault }
-    ensures possible { IsPossible what ranks → IsOkUnless result GenFault.NoMemory }
+    ensures possible { IsPossible what ranks → IsOkUnless result RootedFault.NoMemory }
 {
-    possible(what, ranks)?;
+    let limit = what.most_ranks();
+    if ranks == 0 || limit < ranks {
+        return Err(RootedFault::Ranks { limit });
+    }
+    if !what.has_root(ranks) {
+        return Err(RootedFault::Root);
+    }
     let asked = Asked { what, ranks, bytes };
-    schedule_by(alloc, what, ranks, bytes, &asked)
+    match schedule_by(alloc, what, ranks, bytes, &asked) {
+        Ok(sched) => Ok(sched),
+        Err(_) => Err(RootedFault::NoMemory),
+    }
 }

@@ -1,7 +1,7 @@
 // What no clause says: that the calls succeed. The counts are worked by hand from the rounds.
 use crate::same::same;
 use goal_blocks::Collective;
-use goal_rooted::{GenFault, generate_rooted};
+use goal_rooted::{RootedFault, generate_rooted};
 use std::test::Fail;
 
 // How many operations the schedule has, with messages of eight bytes.
@@ -50,8 +50,8 @@ fn most_ranks(rt: HostRuntime) -> Result<(), Fail> {
 #[test]
 fn no_schedule(rt: HostRuntime) -> Result<(), Fail> {
     let fault = generate_rooted(rt.alloc(), Collective::Scan, 2_049, 8).err();
-    same(&rt, &fault, &Some(GenFault::Ranks { limit: 2_048 }));
+    same(&rt, &fault, &Some(RootedFault::Ranks { limit: 2_048 }));
     let fault = generate_rooted(rt.alloc(), Collective::Gather { root: 4 }, 4, 8).err();
-    same(&rt, &fault, &Some(GenFault::Root));
+    same(&rt, &fault, &Some(RootedFault::Root));
     Ok(())
 }
