@@ -10,6 +10,8 @@ mod classes;
 #[cfg(test)]
 mod collectives;
 #[cfg(test)]
+mod crossed;
+#[cfg(test)]
 mod cycles;
 #[cfg(test)]
 mod events;
