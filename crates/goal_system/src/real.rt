@@ -1,6 +1,7 @@
 // The real outside: files and streams of the system. They tell nothing of what they hold.
 ghost use Rattle.std.specs.Prelude.{◌≡◌, ◌≤◌, ◌<◌, true, is_some, length, IfOk, OnOk, IsErrOf};
 ghost use Rattle.std.specs.IoError.{error_kind};
+ghost use Rattle.std.specs.Io.KnownBytes.{ReadConsumes, WriteAppends};
 ghost use Rattle.goal_base.specs.Device.{Rose};
 ghost use Rattle.goal_system.specs.Faults.{fault_of, fault_of_open};
 
@@ -62,11 +63,12 @@ fn fault_of_open(error: &io::Error) -> OpenFault
     }
 }
 
-// Reads into a buffer, again where a signal interrupts it.
+// Reads into a buffer, again where a signal interrupts it. The interrupted tries take nothing from the input.
 fn read_again<T: Read>(input: &mut T, buf: &mut [u8]) -> io::Result<usize>
-    ensures { IfOk result (λ n. n ≤ length buf.new) }
+    ensures bound { IfOk result (λ n. n ≤ length buf.new) }
+    ensures bytes { ReadConsumes (T.remaining input.old) (T.remaining input.new) result buf.new }
 {
-    for _ in 0..u64::MAX {
+    'tries: for _ in 0..u64::MAX {
         match input.read(buf) {
             Ok(moved) => return Ok(moved),
             Err(error) => match error.kind() {
@@ -78,13 +80,14 @@ fn read_again<T: Read>(input: &mut T, buf: &mut [u8]) -> io::Result<usize>
     Err(io::Error::from(ErrorKind::Interrupted))
 }
 
-// Writes the front of a piece, again where a signal interrupts it. To write nothing of a piece that is not empty is an
-// error.
+// Writes the front of a piece, again where a signal interrupts it. The interrupted tries write nothing. To write nothing
+// of a piece that is not empty is an error.
 fn write_again<T: Write>(output: &mut T, piece: &[u8]) -> io::Result<usize>
     ensures bound { IfOk result (λ n. n ≤ length piece.now) }
     ensures moves { IfOk result (λ n. 0 < length piece.now → 0 < n) }
+    ensures bytes { WriteAppends (T.contents output.old) (T.contents output.new) result piece.now }
 {
-    for _ in 0..u64::MAX {
+    'tries: for _ in 0..u64::MAX {
         match output.write(piece) {
             Ok(0) if !piece.is_empty() => return Err(io::Error::from(ErrorKind::WriteZero)),
             Ok(moved) => return Ok(moved),
