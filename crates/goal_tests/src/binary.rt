@@ -5,6 +5,7 @@ use crate::same::{same, same_list};
 use goal_binary::{FileFault, decode, encode, encode_old};
 use goal_graph::{Dep, Kind, Note, Op, PlanFault, RankPlan, Sched, When};
 use goal_limits::NoMemory;
+use goal_parser::read_text;
 use std::alloc::{AllocError, Global};
 use std::process::Abort;
 use std::test::Fail;
@@ -15,6 +16,10 @@ const MESSAGE: [u8; 27] = [
     0x01, 0x00, 0x00, 0x01, 0x01, 0x00, 0x0A, //
     0x01, 0x00, 0x00, 0x02, 0x00, 0x00, 0x0A,
 ];
+
+/// The text of the message.
+pub const MESSAGE_TEXT: &[u8] =
+    b"num_ranks 2 rank 0 { l1: send 10b to 1 tag 0 cpu 0 nic 0 } rank 1 { l1: recv 10b from 0 tag 0 cpu 0 nic 0 }";
 
 /// The file of one rank, which calculates for 300 nanoseconds on cpu 3.
 const ON_CPU_3: [u8; 20] = [
@@ -63,15 +68,25 @@ pub fn message(alloc: Global) -> Result<Sched, PlanFault> {
     Sched::build(alloc, plans)
 }
 
+// That the files of a schedule are those of the message.
+fn is_message(rt: &impl Abort, alloc: Global, sched: &Sched) -> Result<(), Fail> {
+    let bytes = encode(alloc, sched)?;
+    same_list(rt, bytes.as_slice(), MESSAGE.as_slice());
+    let old = encode_old(alloc, sched)?;
+    same_list(rt, old.as_slice(), OLD_MESSAGE.as_slice());
+    Ok(())
+}
+
 #[test]
 fn one_message(rt: HostRuntime) -> Result<(), Fail> {
-    let alloc = rt.alloc();
-    let sched = message(alloc)?;
-    let bytes = encode(alloc, &sched)?;
-    same_list(&rt, bytes.as_slice(), MESSAGE.as_slice());
-    let old = encode_old(alloc, &sched)?;
-    same_list(&rt, old.as_slice(), OLD_MESSAGE.as_slice());
-    Ok(())
+    let sched = message(rt.alloc())?;
+    is_message(&rt, rt.alloc(), &sched)
+}
+
+#[test]
+fn text_of_the_message(rt: HostRuntime) -> Result<(), Fail> {
+    let sched = read_text(rt.alloc(), MESSAGE_TEXT)?;
+    is_message(&rt, rt.alloc(), &sched)
 }
 
 /// The schedule, written in both versions and read again: the contracts of the calls give that it is the same.

@@ -1,18 +1,18 @@
 // Inputs that come in pieces, cut at each place.
 ghost use Rattle.std.specs.Prelude.{◌<◌};
 
-use crate::same::same;
+use super::binary::MESSAGE_TEXT;
+use super::print::MESSAGE_PRINTED;
+use crate::same::{same, same_list};
 use goal_base::MemHost;
 use goal_binary::FileFault;
 use goal_graph::PlanFault;
 use goal_input::{Unread, read_schedule};
 use goal_parser::TextFault;
+use goal_print::print_text;
 use std::alloc::Global;
 use std::process::Abort;
 use std::test::Fail;
-
-const MESSAGE: &[u8] =
-    b"num_ranks 2 rank 0 { l1: send 10b to 1 tag 0 cpu 0 nic 0 } rank 1 { l1: recv 10b from 0 tag 0 cpu 0 nic 0 }";
 
 const FILE: &[u8] = b"\x89GOAL\r\n\x1a\x02\0\0\0\x02\x01\0\0\x01\x01\0\n\x01\0\0\x02\0\0\n";
 
@@ -23,58 +23,67 @@ const REPEATED: &[u8] = b"num_ranks 2 rank 0 { send 10b to 1 } rank 0 { }";
 
 const CYCLE: &[u8] = b"num_ranks 2 rank 1 { calc 5 l1: calc 5 l1 requires l1 }";
 
-// An input, and why it is not read, if it is not.
+// An input, and what is printed of its schedule, or why it is not read.
 #[derive(Clone, Copy)]
 struct Row<'a> {
     input: &'a [u8],
-    unread: Option<Unread>,
+    printed: Result<&'a [u8], Unread>,
 }
 
 const ROWS: [Row<'static>; 7] = [
     Row {
-        input: MESSAGE,
-        unread: None,
+        input: MESSAGE_TEXT,
+        printed: Ok(MESSAGE_PRINTED),
     },
     Row {
         input: FILE,
-        unread: None,
+        printed: Ok(MESSAGE_PRINTED),
     },
     Row {
         input: b"",
-        unread: Some(Unread::Text(TextFault::Syntax { at: 0 })),
+        printed: Err(Unread::Text(TextFault::Syntax { at: 0 })),
     },
     Row {
         input: TWO_FAULTS,
-        unread: Some(Unread::Text(TextFault::Lex { at: 26 })),
+        printed: Err(Unread::Text(TextFault::Lex { at: 26 })),
     },
     Row {
         input: REPEATED,
-        unread: Some(Unread::Text(TextFault::Repeat { at: 42 })),
+        printed: Err(Unread::Text(TextFault::Repeat { at: 42 })),
     },
     Row {
         input: CYCLE,
-        unread: Some(Unread::Text(TextFault::Plan(PlanFault::Cycle { rank: 1, op: 1 }))),
+        printed: Err(Unread::Text(TextFault::Plan(PlanFault::Cycle { rank: 1, op: 1 }))),
     },
     Row {
         input: b"\x89GOAL",
-        unread: Some(Unread::File(FileFault::Short { at: 5 })),
+        printed: Err(Unread::File(FileFault::Short { at: 5 })),
     },
 ];
 
-// Reads an input from a host that moves at most so many bytes a call, and fails at these calls.
-fn unread_by(
+// Reads an input from a host that moves at most `most` bytes per call and fails at the calls `fails`, and prints its
+// schedule.
+fn print_by(
     alloc: Global,
     input: &[u8],
     most: usize,
     fails: &[u64],
-) -> Result<Option<Unread>, Fail>
+) -> Result<Result<Vec<u8>, Unread>, Fail>
     requires { 0 < most }
 {
     let mut host = MemHost::new(alloc, most, fails)?;
     host.add("a", input)?;
     match read_schedule(alloc, &mut host, "a") {
-        Ok(_) => Ok(None),
-        Err(unread) => Ok(Some(unread)),
+        Ok(sched) => Ok(Ok(print_text(alloc, &sched)?)),
+        Err(unread) => Ok(Err(unread)),
+    }
+}
+
+// That what was printed, or why nothing was read, is as wanted.
+fn is_printed(rt: &impl Abort, found: Result<Vec<u8>, Unread>, wanted: Result<&[u8], Unread>) {
+    match (found, wanted) {
+        (Ok(found), Ok(wanted)) => same_list(rt, found.as_slice(), wanted),
+        (found, wanted) => same(rt, &found.err(), &wanted.err()),
     }
 }
 
@@ -82,11 +91,8 @@ fn unread_by(
 fn cut_at_each_place(rt: HostRuntime) -> Result<(), Fail> {
     for row in &ROWS {
         for most in 0..row.input.len() {
-            same(
-                &rt,
-                &unread_by(rt.alloc(), row.input, most + 1, &[])?,
-                &row.unread,
-            );
+            let found = print_by(rt.alloc(), row.input, most + 1, &[])?;
+            is_printed(&rt, found, row.printed);
         }
     }
     Ok(())
@@ -95,15 +101,9 @@ fn cut_at_each_place(rt: HostRuntime) -> Result<(), Fail> {
 // The host fails after the fault of the text was read: its failure is what is answered.
 #[test]
 fn failure_before_fault(rt: HostRuntime) -> Result<(), Fail> {
-    same(
-        &rt,
-        &unread_by(rt.alloc(), TWO_FAULTS, 1, &[40])?,
-        &Some(Unread::Fault),
-    );
-    same(
-        &rt,
-        &unread_by(rt.alloc(), TWO_FAULTS, 1, &[80])?,
-        &Some(Unread::Text(TextFault::Lex { at: 26 })),
-    );
+    let found = print_by(rt.alloc(), TWO_FAULTS, 1, &[40])?;
+    is_printed(&rt, found, Err(Unread::Fault));
+    let found = print_by(rt.alloc(), TWO_FAULTS, 1, &[80])?;
+    is_printed(&rt, found, Err(Unread::Text(TextFault::Lex { at: 26 })));
     Ok(())
 }

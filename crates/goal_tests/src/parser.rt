@@ -1,9 +1,12 @@
 //! What no clause says: the faults of texts that are written out.
 ghost use Rattle.std.specs.Prelude.{◌≤◌, length};
 
+use crate::same::same_list;
 use goal_graph::Sched;
 use goal_parser::{TextFault, TextReader, read_text};
+use goal_print::print_text;
 use std::alloc::Global;
+use std::process::Abort;
 use std::test::Fail;
 
 /// Six operations with a comment between them.
@@ -17,6 +20,23 @@ l2 requires l1
 rank 1 {
 l1: recv 10b from 0 tag 0 cpu 0 nic 0
 l2: calc 200 cpu 0 // work
+l3: send 10b to 0 tag 0 cpu 0 nic 0
+l2 requires l1
+l3 requires l2
+}
+";
+
+/// What is printed of it.
+const LONGER_PRINTED: &str = "num_ranks 2
+rank 0 {
+l1: calc 100 cpu 0
+l2: send 10b to 1 tag 0 cpu 0 nic 0
+l3: recv 10b from 1 tag 0 cpu 0 nic 0
+l2 requires l1
+}
+rank 1 {
+l1: recv 10b from 0 tag 0 cpu 0 nic 0
+l2: calc 200 cpu 0
 l3: send 10b to 0 tag 0 cpu 0 nic 0
 l2 requires l1
 l3 requires l2
@@ -95,29 +115,30 @@ fn read_cut(alloc: Global, text: &[u8], cut: usize) -> Result<Sched, TextFault>
     reader.finish()
 }
 
-/// How many ranks, operations and dependencies a text has. It is handed over in two pieces.
-fn counted(alloc: Global, text: &[u8], cut: usize) -> Result<(usize, usize, usize), TextFault>
-    requires { cut ≤ length text.now }
-{
-    let sched = read_cut(alloc, text, cut)?;
-    let mut ops = 0usize;
-    let mut deps = 0usize;
-    for plan in sched.plans().iter() {
-        ops = ops.saturating_add(plan.ops.len());
-        deps = deps.saturating_add(plan.deps.len());
+/// What is read of a text that is handed over byte by byte.
+fn read_by_bytes(alloc: Global, text: &[u8]) -> Result<Sched, TextFault> {
+    let mut reader = TextReader::new(alloc);
+    for (place, _) in text.iter().enumerate() {
+        reader.feed(&text[place..place + 1])?;
     }
-    Ok((sched.plans().len(), ops, deps))
+    reader.finish()
+}
+
+// That a schedule is the one that the longer text says.
+fn is_longer(rt: &impl Abort, alloc: Global, sched: &Sched) -> Result<(), Fail> {
+    let text = print_text(alloc, sched)?;
+    same_list(rt, text.as_slice(), LONGER_PRINTED.as_bytes());
+    Ok(())
 }
 
 #[test]
 fn plans(rt: HostRuntime) -> Result<(), Fail> {
+    let alloc = rt.alloc();
     let text = LONGER.as_bytes();
+    is_longer(&rt, alloc, &read_text(alloc, text)?)?;
+    is_longer(&rt, alloc, &read_by_bytes(alloc, text)?)?;
     for cut in 0..=text.len() {
-        assert_eq!(rt;
-            counted(rt.alloc(), text, cut),
-            Ok((2, 6, 3)),
-            "cut at {cut}"
-        );
+        is_longer(&rt, alloc, &read_cut(alloc, text, cut)?)?;
     }
     Ok(())
 }

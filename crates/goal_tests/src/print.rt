@@ -4,14 +4,16 @@ use goal_graph::{Kind, Sched};
 use goal_print::{print_text, read_printed};
 use std::test::Fail;
 
+/// What is printed of the message.
+pub const MESSAGE_PRINTED: &[u8] =
+    b"num_ranks 2\nrank 0 {\nl1: send 10b to 1 tag 0 cpu 0 nic 0\n}\nrank 1 {\nl1: recv 10b from 0 tag 0 cpu 0 nic 0\n}\n";
+
 #[test]
 fn one_message(rt: HostRuntime) -> Result<(), Fail> {
     let alloc = rt.alloc();
     let sched = message(alloc)?;
     let text = print_text(alloc, &sched)?;
-    let lines =
-        b"num_ranks 2\nrank 0 {\nl1: send 10b to 1 tag 0 cpu 0 nic 0\n}\nrank 1 {\nl1: recv 10b from 0 tag 0 cpu 0 nic 0\n}\n";
-    same_list(&rt, text.as_slice(), lines.as_slice());
+    same_list(&rt, text.as_slice(), MESSAGE_PRINTED);
     Ok(())
 }
 
