@@ -156,6 +156,8 @@ TOLD = {
     "bcast-scatter-allgather": (7 * 9, 7 * 8000 + 8000 // 2 * 3),
     "allreduce-ring": (2 * 8 * 7 * 2, 2 * 7 * 8000),
     "allreduce-halving-doubling": (2 * 8 * 3, 2 * 7 * 8000),
+    "allreduce-halving-doubling-near": (2 * 8 * 3, 2 * 7 * 8000),
+    "allreduce-hierarchical": (2 * 8 * 3, 2 * 7 * 8000),
     "allreduce-reduce-bcast": (2 * 7 * 2, 2 * 7 * 8000),
     "allreduce-two-level": (2 * 6 + 2 * 2, 2 * 7 * 8000),
     "allgather-doubling": (8 * 3, 8 * 7 * 1000),
@@ -185,6 +187,25 @@ class Table(unittest.TestCase):
     def test_six_ranks_of_which_four_take_part(self):
         sends = self.sends("allreduce-halving-doubling", Wish(6, 4000))
         self.assertEqual((len(sends), sum(sends)), (2 * 4 * 2 + 2 * 2, 2 * 5 * 4000))
+
+    def crossings(self, name, wish, node):
+        """The bytes that go between nodes, and the largest message that does."""
+        algorithm = next(algorithm for algorithm in ALGORITHMS if algorithm.name == name)
+        sizes, source = [], 0
+        for line in "".join(algorithm.make(wish).text()).splitlines():
+            words = line.split()
+            source = int(words[1]) if words[0] == "rank" else source
+            if words[1:2] == ["send"] and source // node != int(words[4]) // node:
+                sizes.append(int(words[2][:-1]))
+        return sum(sizes), max(sizes)
+
+    def test_what_leaves_a_node(self):
+        """Where the largest messages go far, each rank sends three quarters of the vector to other nodes; where they stay near,
+        or the sums of a node are made inside it, three sixteenths."""
+        self.assertEqual(self.crossings("allreduce-halving-doubling", Wish(16, 16000), 4), (2 * 12 * 16000, 8000))
+        self.assertEqual(self.crossings("allreduce-halving-doubling-near", Wish(16, 16000), 4), (2 * 3 * 16000, 2000))
+        self.assertEqual(self.crossings("allreduce-hierarchical", Wish(16, 16000, node=4), 4), (2 * 3 * 16000, 2000))
+        self.assertEqual(self.crossings("allreduce-hierarchical", Wish(18, 18000, node=6), 6), (2 * 2 * 18000, 1000))
 
     def test_pieces_differ_by_a_byte(self):
         self.assertEqual(self.sends("bcast-chain", Wish(2, 10, segments=4)), [2, 3, 2, 3])

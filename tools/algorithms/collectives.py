@@ -3,6 +3,7 @@ from dataclasses import dataclass
 from typing import List, Sequence
 
 from algorithms import rings, trees
+from algorithms.parts import Halving, aligned, parts_of, power
 from algorithms.plan import Message, Plan, cut
 from common.command import Fault
 
@@ -26,6 +27,10 @@ class Wish:
     def item_plan(self, count: int) -> Plan:
         """A plan with `count` own slots, each an item."""
         return Plan(self.ranks, [self.size] * count)
+
+    def nodes(self) -> List[range]:
+        """The ranks of each node; the last one may have fewer."""
+        return [range(first, min(first + self.node, self.ranks)) for first in range(0, self.ranks, self.node)]
 
     def from_root(self) -> List[int]:
         """All ranks, from the root on."""
@@ -70,26 +75,22 @@ def ring_allreduce(plan: Plan, members: Sequence[int], segments: int) -> None:
 
 
 def allreduce_halving_doubling(wish: Wish) -> Plan:
-    """As many ranks as the greatest power of two take part; of the others, each hands its vector to its neighbour first, and
-    gets the sum from it last."""
-    count = 1 << (wish.ranks.bit_length() - 1)
+    """The largest messages go to the rank that is half of all ranks away."""
+    return halved_and_doubled(wish, near=False)
+
+
+def allreduce_halving_doubling_near(wish: Wish) -> Plan:
+    """The largest messages go to the next rank."""
+    return halved_and_doubled(wish, near=True)
+
+
+def halved_and_doubled(wish: Wish, near: bool) -> Plan:
+    count = power(wish.ranks)
     plan = wish.cut_plan(count)
-    outside = range(0, 2 * (wish.ranks - count), 2)
-    members = [rank for rank in range(wish.ranks) if rank not in outside]
-    plan.combine([Message(rank, rank + 1, range(count)) for rank in outside])
-    for distance in reversed(trees.powers(count)):
-        plan.combine([Message(members[place], members[place ^ distance], aligned(place ^ distance, distance))
-                      for place in range(count)])
-    for distance in trees.powers(count):
-        plan.exchange([Message(members[place], members[place ^ distance], aligned(place, distance)) for place in range(count)])
-    plan.exchange([Message(rank + 1, rank, range(count)) for rank in outside])
+    halving = Halving(plan, range(wish.ranks), range(count), near)
+    halving.add_up()
+    halving.spread()
     return plan
-
-
-def aligned(place: int, length: int) -> range:
-    """The stretch of so many slots that has this place, where slots are cut into such stretches from 0 on."""
-    first = place - place % length
-    return range(first, first + length)
 
 
 def allreduce_reduce_bcast(wish: Wish) -> Plan:
@@ -102,7 +103,7 @@ def allreduce_reduce_bcast(wish: Wish) -> Plan:
 
 def allreduce_two_level(wish: Wish) -> Plan:
     """Each node sums up at its first rank, these sum up around a ring, and each node broadcasts."""
-    nodes = [range(first, min(first + wish.node, wish.ranks)) for first in range(0, wish.ranks, wish.node)]
+    nodes = wish.nodes()
     plan = wish.cut_plan(len(nodes))
     vector = [range(len(nodes))]
     for node in nodes:
@@ -110,6 +111,26 @@ def allreduce_two_level(wish: Wish) -> Plan:
     ring_allreduce(plan, [node[0] for node in nodes], 1)
     for node in nodes:
         trees.broadcast(plan, node, trees.binomial(len(node)), vector)
+    return plan
+
+
+def allreduce_hierarchical(wish: Wish) -> Plan:
+    """The ranks of a node divide the sum of its vectors among them; each part is summed up between the nodes, by one rank of each;
+    and the ranks of a node hand the sums to one another. By halving and doubling where ranks or nodes are a power of two, else
+    around a ring."""
+    nodes = wish.nodes()
+    count, width = len(nodes[0]), len(nodes)
+    plan = wish.cut_plan(count * width)
+    inside = [parts_of(plan, node, range(count * width), width) for node in nodes]
+    for node in inside:
+        node.add_up()
+    for part in range(count):
+        owners = [node.takers[part * len(node.takers) // count] for node in inside]
+        between = parts_of(plan, owners, range(part * width, (part + 1) * width))
+        between.add_up()
+        between.spread()
+    for node in inside:
+        node.spread()
     return plan
 
 
