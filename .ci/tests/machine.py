@@ -79,6 +79,11 @@ class Machines(unittest.TestCase):
         said = self.machine("class a\nnodes 1 of 1\ninside a\nbetween a\n")
         self.assertIn("class 2500 1500 1000 6 0 0 0 65535\n", said)
 
+    def test_a_rate_finer_than_a_picosecond_scales_all_times(self):
+        ended = written("class a L=300 o=200 g=100 G=0.0025\nclass b S=7\nnodes 2 of 1\ninside a\nbetween b\n")
+        self.assertIn("class 3000 2000 1000 0 25 0 0 65535\nclass 25000 15000 10000 60 0 0 0 7\n", ended.stdout)
+        self.assertEqual((ended.returncode, ended.stderr.startswith("machine: all times are 10 times as long")), (0, True))
+
     def test_the_largest(self):
         said = self.machine(CLASSES + BOUNDS + "nodes 65536 of 1\n")
         one_calc = "num_ranks 65536 rank 65535 { calc 7 }"
@@ -94,7 +99,8 @@ class Machines(unittest.TestCase):
                 ("cards", "-:1: it is `cards own`"), ("cards 0", "-:1: a node has at least one card"), ("cards 257", "-:1: '257' is no number up to 256"),
                 ("cards 1\ncards 1", "-:2: `cards` is told twice"), ("cards own in turn", "-:1: 'own' is no number up to 256"),
                 ("nodes 0 of 2", "-:1: both numbers are above 0"), ("nodes 300 of 300", "-:1: more than 65536 ranks"),
-                ("class a L=3 L=4", "-:1: L is told twice"), ("class a G=0.0801", "-:1: G is 0.0801"), ("class a X=1", "-:1: 'X=1' is no"),
+                ("class a L=3 L=4", "-:1: L is told twice"), ("class a G=0.0000801", "-:1: G is 0.0000801"), ("class a L=1099511627775 G=0.0801", "-:1: L is 1099511627775: for a rate"),
+                ("class a G=0.0025 Op=5", "-:1: Op can not be given beside"), ("class a S=16X", "-:1: S is 16X, not a number of bytes, as"), ("class a X=1", "-:1: 'X=1' is no"),
                 ("class a Gp=1000", "-:1: Gp is 1000, and at most 999"), ("class a G=0.1 Gp=3", "-:1: Gp is told twice"),
                 ("class L=3", "-:1: a class is `class NAME"), ("class a\nclass a", "-:2: the class a is told twice"),
                 ("inside a\ninside b", "-:2: `inside` is told twice"), ("node 0\nnode 1 0", "-:2: rank 0 is in two nodes"),

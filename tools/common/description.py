@@ -6,7 +6,7 @@ from typing import Callable, Dict, Iterator, List, Optional, Sequence, Tuple
 
 from common import command
 from common.command import Fault
-from common.parameters import DEFAULTS, LIMITS, Machine, machine_of, options_of, parameters_of
+from common.parameters import DEFAULTS, LIMITS, Machine, machine_of, parameters_of, scale_for, scaled_defaults, scaled_options
 
 MOST_CLASSES = 16
 MOST_RANKS = 65536
@@ -125,7 +125,8 @@ class Division:
 class Description:
     """The lines of a description so far."""
 
-    def __init__(self) -> None:
+    def __init__(self, scale: int = 1) -> None:
+        self.scale = scale
         self.classes: Dict[str, Dict[str, int]] = {}
         self.nodes = Division("rank", "node", MOST_RANKS)
         self.groups = Division("node", "group", MOST_NODES)
@@ -149,17 +150,17 @@ class Description:
         if words[1] in self.classes:
             raise Fault(f"the class {words[1]} is told twice")
         told: Dict[str, int] = {}
+        defaults = scaled_defaults(self.scale)
         for word in words[2:]:
             name, equals, value = word.partition("=")
             if name not in DEFAULTS or not equals:
                 raise Fault(f"{word!r} is no parameter: they are {' '.join(DEFAULTS)}, as L=300")
             told.update(self.value_of(name, value, told))
-        self.classes[words[1]] = told
+        self.classes[words[1]] = {**defaults, **told}
 
-    @staticmethod
-    def value_of(name: str, value: str, told: Dict[str, int]) -> Dict[str, int]:
+    def value_of(self, name: str, value: str, told: Dict[str, int]) -> Dict[str, int]:
         try:
-            options = options_of(name, value)
+            options = scaled_options(name, value, self.scale)
         except ValueError as why:
             raise Fault(str(why)) from None
         for option, given in options.items():
@@ -289,9 +290,16 @@ def numbers(words: List[str], most: int) -> List[int]:
     return found
 
 
-def read(name: str, text: str) -> Cluster:
-    """The machine of a description."""
-    description = Description()
+def scale_of(text: str) -> int:
+    """By what the times of a description are multiplied, so that each rate is a whole number of picoseconds."""
+    classes = (line.split("#", 1)[0].split() for line in text.split("\n"))
+    rates = (word[2:] for words in classes if words[:1] == ["class"] for word in words[2:] if re.fullmatch(r"[GO]=\d{1,20}\.\d{1,6}", word))
+    return scale_for(rates)
+
+
+def read(name: str, text: str, scale: int = 1) -> Cluster:
+    """The machine of a description, with times `scale` times as long."""
+    description = Description(scale)
     for place, line in enumerate(text.split("\n"), 1):
         words = line.split("#", 1)[0].split()
         try:

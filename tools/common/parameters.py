@@ -6,7 +6,8 @@ options, G and Gp.
 import argparse
 import re
 from dataclasses import dataclass
-from typing import Dict, List, Protocol, Tuple
+from decimal import Decimal
+from typing import Dict, Iterable, List, Protocol, Tuple
 
 from common.command import FACTORS
 
@@ -26,12 +27,46 @@ MEANINGS = {
 UNITS = {"L": "ns", "o": "ns", "g": "ns", "G": "ns per byte", "Gp": "ps per byte", "O": "ns per byte", "Op": "ps per byte", "S": "bytes"}
 # The parameters that goal splits into nanoseconds and picoseconds, and the name of the second part.
 RATES = {"G": "Gp", "O": "Op"}
+# The decimals of a rate in ns that goal takes, and those that are taken with scaled times.
+DECIMALS, MOST_DECIMALS = 3, 6
+
+
+def scale_for(rates: Iterable[str]) -> int:
+    """By what times are multiplied, a power of ten, so that each of these rates is a whole number of picoseconds."""
+    decimals = [len(rate.partition(".")[2].rstrip("0")) for rate in rates]
+    scale: int = 10 ** max(0, max(decimals, default=0) - DECIMALS)
+    return scale
+
+
+def scaled_options(name: str, text: str, scale: int) -> Dict[str, int]:
+    """The options of goal that give a parameter this value where all times are `scale` times as long. A rate may have more
+    decimals then."""
+    if scale == 1 or name == "S":
+        return options_of(name, text)
+    if name in RATES.values():
+        raise ValueError(f"{name} can not be given beside a rate finer than a picosecond per byte: give {name[0]} as one number, as 0.0025")
+    if name in RATES and re.fullmatch(rf"\d{{1,20}}\.\d{{1,{MOST_DECIMALS}}}", text):
+        picos = int(Decimal(text) * 1000 * scale)
+        options = {name: picos // 1000, RATES[name]: picos % 1000}
+    else:
+        options = {option: value * scale for option, value in options_of(name, text).items()}
+    if options[name] > LIMITS[name]:
+        raise ValueError(f"{name} is {text}: for a rate finer than a picosecond per byte all times are taken {scale} times, and `goal` takes "
+                         f"at most {LIMITS[name]} {UNITS[name]}")
+    return options
+
+
+def scaled_defaults(scale: int) -> Dict[str, int]:
+    """The parameters that goal takes where none is given, with times `scale` times as long."""
+    return {name: value * (scale if name != "S" else 1) for name, value in DEFAULTS.items()}
 
 
 def options_of(name: str, text: str) -> Dict[str, int]:
     """The options of goal that give a parameter this value, by name."""
     if name in RATES and re.fullmatch(r"\d+\.\d{1,3}", text):
         whole, part = text.split(".")
+        if int(whole) > LIMITS[name]:
+            raise ValueError(f"{name} is {text}, and at most {LIMITS[name]} {UNITS[name]}")
         return {name: int(whole), RATES[name]: int(part.ljust(3, "0"))}
     found = re.fullmatch(r"(\d{1,20})([KM]?)", text)
     if found and (name == "S" or not found[2]):
@@ -39,6 +74,8 @@ def options_of(name: str, text: str) -> Dict[str, int]:
         if number > LIMITS[name]:
             raise ValueError(f"{name} is {number}, and at most {LIMITS[name]} {UNITS[name]}")
         return {name: number}
+    if name in RATES and re.fullmatch(rf"\d{{1,20}}\.\d{{1,{MOST_DECIMALS}}}", text):
+        raise ValueError(f"{name} is {text}: a rate finer than a picosecond per byte is for tools/sweep and tools/machine, which scale all times")
     wanted = ", with up to three decimals" if name in RATES else ", as 65535, 64K or 1M" if name == "S" else ""
     raise ValueError(f"{name} is {text}, not a number of {UNITS[name]}{wanted}")
 
