@@ -23,8 +23,19 @@ def sweep(*words):
 def table(*words):
     """The lines of the table, as lists of fields."""
     done = sweep(*words)
-    assert (done.returncode, done.stderr) == (0, ""), done.stderr
+    assert (done.returncode, told(done)) == (0, []), done.stderr
     return [line.split(",") for line in done.stdout.splitlines()]
+
+
+def told(done):
+    """The lines on standard error, without the one that names what was not given."""
+    return [line for line in done.stderr.splitlines() if not line.startswith("sweep: not given: ")]
+
+
+def rows(names, *words):
+    """These columns of the table, line by line."""
+    lines = table(*words)
+    return [[line[lines[0].index(name)] for name in names] for line in lines[1:]]
 
 
 def column(name, *words):
@@ -63,12 +74,14 @@ class Axes(unittest.TestCase):
         ):  # fmt: skip
             with self.subTest(words):
                 done = sweep(*words)
-                self.assertEqual((done.returncode, done.stderr.count("\n")), (2, 1), done.stderr)
+                self.assertEqual((done.returncode, len(told(done))), (2, 1), done.stderr)
 
 
 class Results(unittest.TestCase):
     def test_the_exchange(self):
-        self.assertEqual(table(f"schedule={EXCHANGE}")[1:], [[EXCHANGE, "11408", "0", "9908"]])
+        self.assertEqual(table(f"schedule={EXCHANGE}"), [
+            ["schedule", "L", "o", "g", "G", "O", "S", "finish", "stuck", "wait", "protocol"],
+            [EXCHANGE, "2500", "1500", "1000", "6", "0", "65535", "11408", "0", "9908", "eager"]])
 
     def test_what_goal_says(self):
         for size in ("8", "100000"):
@@ -77,8 +90,8 @@ class Results(unittest.TestCase):
             finish = program.call(program.chosen(), ["sim", "/dev/stdin", *words], text).out.split()[9]
             waits = program.call(program.chosen(), ["waits", "/dev/stdin", *words], text).out
             greatest = next(line.split()[3] for line in waits.splitlines() if line.startswith("wait"))
-            lines = table("algorithm=reduce", "ranks=6", f"size={size}", "root=2", "G=0.080", "L=700")
-            self.assertEqual(lines[1][6:], [finish, "0", greatest])
+            lines = rows(["finish", "stuck", "wait", "protocol"], "algorithm=reduce", "ranks=6", f"size={size}", "root=2", "G=0.080", "L=700")
+            self.assertEqual(lines, [[finish, "0", greatest, "eager" if size == "8" else "rendezvous"]])
 
     def test_stuck_runs(self):
         hung = os.path.join(TOP, "examples", "both_send_first")
@@ -102,7 +115,7 @@ class Results(unittest.TestCase):
                     file.write(text)
             words = [f"schedule={names[0]}", f"machine={names[1]}"]
             self.assertEqual(table(*words, "cards=own,1,2,2 in turn", "placement=block,cyclic")[1:], [
-                [*names[:2], cards, placement, finish, "0", wait] for cards, placement, finish, wait in (
+                [*names[:2], cards, placement, finish, "0", wait, "eager"] for cards, placement, finish, wait in (
                     ("own", "block", "2199", "2099"), ("own", "cyclic", "20", "15"), ("1", "block", "3248", "3148"),
                     ("1", "cyclic", "20", "15"), ("2", "block", "2199", "2099"), ("2", "cyclic", "20", "15"),
                     ("2 in turn", "block", "2199", "2099"), ("2 in turn", "cyclic", "20", "15"))])
@@ -113,11 +126,11 @@ class Results(unittest.TestCase):
         done = sweep("algorithm=allreduce", "ranks=4..8+1", "size=8")
         self.assertEqual(done.returncode, 2)
         self.assertIn("3 of 5 runs failed, the first at algorithm=allreduce ranks=5 size=8: goal: refused: generator: power of two", done.stderr)
-        self.assertEqual([line.count(",,") for line in done.stdout.splitlines()[1:]], [0, 1, 1, 1, 0])
+        self.assertEqual([line.endswith(",,,") for line in done.stdout.splitlines()[1:]], [False, True, True, True, False])
 
     def test_no_run_at_all_is_told_and_no_picture_is_drawn(self):
         done = sweep("algorithm=bcast", "ranks=70000,80000", "size=8", "--plot", "/no/such/picture")
-        self.assertEqual((done.returncode, done.stderr.count("\n")), (2, 1))
+        self.assertEqual((done.returncode, len(told(done))), (2, 1))
         self.assertIn("2 of 2 runs failed, the first at algorithm=bcast ranks=70000 size=8: goal: ", done.stderr)
 
     def test_how_far_it_is_on_a_terminal(self):
@@ -134,12 +147,75 @@ class Results(unittest.TestCase):
         self.assertEqual(sweep(*words, "--jobs", "1").stdout, sweep(*words, "--jobs", "8").stdout)
 
 
+class Parameters(unittest.TestCase):
+    def test_all_are_in_the_table_and_those_not_given_are_named(self):
+        done = sweep("algorithm=bcast,allreduce-ring", "ranks=4", "size=8", "g=5")
+        self.assertEqual(done.stdout.splitlines(), [
+            "algorithm,ranks,size,g,root,segments,sum-ps,L,o,G,O,S,finish,stuck,wait,protocol",
+            "bcast,4,8,5,0,,,2500,1500,6,0,65535,11084,0,9584,eager", "allreduce-ring,4,8,5,,1,0,2500,1500,6,0,65535,33036,0,19024,eager"])
+        self.assertEqual(done.stderr, "sweep: not given: root=0, segments=1, sum-ps=0 ps per byte (sums cost no time), L=2500 ns, o=1500 ns, "
+                                      "G=6 ns per byte (1.3 Gbit/s), O=0 ns per byte, S=65535 bytes\n")
+
+    def test_what_is_given_is_not_named(self):
+        done = sweep(f"schedule={EXCHANGE}", "L=1", "o=1", "g=1", "G=1", "O=1", "S=1")
+        self.assertEqual((done.returncode, done.stderr), (0, ""))
+
+    def test_those_of_one_size_for_any_items_are_refused(self):
+        for name in ("gather", "scatter"):
+            done = sweep(f"algorithm={name}", "ranks=4", "size=8")
+            self.assertEqual((done.returncode, done.stdout), (2, ""))
+            self.assertIn(f"take {name}-tree", done.stderr)
+
+    def test_the_protocol(self):
+        words = ["algorithm=bcast-chain", "ranks=3", "segments=4"]
+        self.assertEqual(column("protocol", *words, "size=7,8", "S=1"), ["both", "rendezvous"])
+        self.assertEqual(column("protocol", *words, "size=64K..512Kx2"), ["eager", "eager", "rendezvous", "rendezvous"])
+        self.assertEqual(column("protocol", "algorithm=barrier", "ranks=1", "size=8"), [""])
+        machine = os.path.join(TOP, "examples", "two_nodes")
+        self.assertEqual(column("protocol", "algorithm=allreduce", "ranks=16", "size=8,100000", f"machine={machine}", "cards=own"), ["eager", "rendezvous"])
+
+
+class Scaled(unittest.TestCase):
+    """Rates finer than a picosecond per byte."""
+
+    def test_it_is_exact(self):
+        """Against times that are ten times as long, run by hand, and against rates that need no scale."""
+        with open(EXCHANGE, encoding="utf-8") as file:
+            text = file.read().replace("calc 100", "calc 1000").replace("calc 200", "calc 2000").replace("10b", "999b")
+        words = ["--L", "25000", "--o", "15000", "--g", "10000", "--G", "0", "--Gp", "25"]
+        finish = int(program.call(program.chosen(), ["sim", "/dev/stdin", *words], text).out.split()[9])
+        with tempfile.NamedTemporaryFile("w") as file:
+            file.write(text.replace("calc 1000", "calc 100").replace("calc 2000", "calc 200"))
+            file.flush()
+            done = sweep(f"schedule={file.name}", "G=0.0025,0.0000,0.001000")
+            self.assertEqual(told(done), ["sweep: times are taken 10 times, for rates finer than a picosecond per byte: bytes cost whole 1/10 ns"])
+            lines = [line.split(",") for line in done.stdout.splitlines()[1:]]
+            self.assertEqual([line[1] for line in lines], ["0.0025", "0", "0.001"])
+            self.assertEqual(lines[0][7], f"{finish / 10:g}")
+            self.assertEqual(lines[1][7], column("finish", f"schedule={file.name}", "G=0")[0])
+            self.assertEqual(column("finish", f"schedule={file.name}", "G=0.001"), [str(-(-int(float(lines[2][7]) * 10) // 10))])
+
+    def test_limits_are_refused_before_any_run(self):
+        for words, why in ((["G=0.0025", "L=1099511627775"], "L is 1099511627775: for a rate finer than a picosecond per byte all times are taken 10 times"),
+                           (["G=0.0000025"], "G: 0.0000025 is no number of ns per byte, with up to 6 decimals"),
+                           (["O=0.00001", "G=1048575"], "G is 1048575: for a rate finer than a picosecond per byte all times are taken 100 times")):
+            done = sweep(f"schedule={EXCHANGE}", *words)
+            self.assertEqual((done.returncode, done.stdout), (2, ""))
+            self.assertTrue(done.stderr.startswith(f"sweep: {why}"), done.stderr)
+
+    def test_a_calc_that_is_too_long_is_told(self):
+        with tempfile.NamedTemporaryFile("w") as file:
+            file.write(f"num_ranks 1 rank 0 {{ calc {2**48 - 1} }}")
+            file.flush()
+            self.assertIn("a calc is so long that 10 times as much", sweep(f"schedule={file.name}", "G=0.0025").stderr)
+
+
 class Curves(unittest.TestCase):
     def drawn(self, *words):
         with tempfile.TemporaryDirectory() as folder:
             path = os.path.join(folder, "curves.svg")
             done = sweep(*words, "--plot", path)
-            self.assertEqual((done.returncode, done.stderr), (0, ""))
+            self.assertEqual((done.returncode, told(done)), (0, []))
             return xml.etree.ElementTree.parse(path).getroot()
 
     def texts(self, picture):
@@ -149,6 +225,17 @@ class Curves(unittest.TestCase):
         texts = self.texts(self.drawn("algorithm=bcast,bcast-chain", "ranks=8", "size=1K..4Mx8", "segments=2,4"))
         for name in ("bcast", "bcast-chain, segments 2", "bcast-chain, segments 4", "1 KiB", "finish by size: ranks 8"):
             self.assertIn(name, texts)
+
+    def test_too_many_are_refused_before_anything_runs(self):
+        done = sweep("algorithm=bcast", "ranks=2..30+1", "size=1K,2K", "--x", "size", "--plot", "/no/such/picture", "--goal", "/no/such/program")
+        self.assertEqual((done.returncode, done.stdout, done.stderr), (2, "", "sweep: 29 curves: a picture has at most 20\n"))
+
+    def test_the_step_to_rendezvous_is_marked(self):
+        picture = self.drawn("algorithm=bcast", "ranks=8", "size=16K..256Kx2")
+        fills = [circle.get("fill") for circle in picture.iter(SVG + "circle")][:5]
+        self.assertEqual(([fill == "#ffffff" for fill in fills], self.texts(picture).count("filled: rendezvous")), ([True, True, False, False, False], 1))
+        bars = [line for line in picture.iter(SVG + "line") if line.get("stroke-width") == "2" and line.get("x1") == line.get("x2")]
+        self.assertEqual(len(bars), 1)
 
     def test_a_linear_axis(self):
         texts = self.texts(self.drawn(f"schedule={EXCHANGE}", "L=0..2000+500"))

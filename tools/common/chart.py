@@ -1,5 +1,6 @@
 """Curves over an axis, as an SVG. Nothing of it is proved."""
 from dataclasses import dataclass, field
+from typing import Dict, List, Optional, Sequence, Set, Tuple
 
 from common.scales import SIZE_UNITS, TIME_UNITS, Scale, in_unit, log_ends, plain, unit_for
 from common.svg import Drawing, text_width
@@ -7,15 +8,24 @@ from common.svg import Drawing, text_width
 COLOURS = ("#2f6fc4", "#e07b24", "#2f9461", "#c8324b", "#7a55b5", "#8a6540", "#d262a8", "#5d6b7a", "#a6a12c", "#2aa6b8")
 MOST_CURVES = 2 * len(COLOURS)
 WIDTH, HEIGHT, TOP, LEFT, BELOW, TEXT = 900, 480, 52, 84, 58, 12
+RENDEZVOUS, LARGE = "filled: rendezvous", ": some messages are over S and wait for their receive"
 GRID, FRAME, STUCK = "#e4e7ec", "#9aa3af", "#cc2233"
 
 
 @dataclass
 class Curve:
-    """Its points in order, each a value of the axis and of what is measured, or none where the run is stuck."""
+    """Its points in order, each a value of the axis and of what is measured, or none where the run is stuck. At the values in
+    `large` some messages wait for their receive: these points are filled, and a bar across the curve marks the step to them."""
 
     name: str
-    points: list = field(default_factory=list)
+    points: List[Tuple[float, Optional[float]]] = field(default_factory=list)
+    large: Set[float] = field(default_factory=set)
+
+    def steps(self) -> List[Tuple[Tuple[float, float], Tuple[float, float]]]:
+        """The neighbouring points of which one is large and the other is not."""
+        pairs = zip(self.points, self.points[1:])
+        return [((x, y), (to_x, to_y)) for (x, y), (to_x, to_y) in pairs
+                if y is not None and to_y is not None and (x in self.large) != (to_x in self.large)]
 
 
 @dataclass
@@ -28,20 +38,20 @@ class Axis:
     name: str
     is_log: bool = False
     unit: str = ""
-    given: list = field(default_factory=list)
+    given: List[float] = field(default_factory=list)
 
-    def ticks(self, scale, count):
+    def ticks(self, scale: Scale, count: int) -> List[float]:
         """The ticks that are given, every second, third .. of them where there are many; else rounded ones."""
         return self.given[:: -(-len(self.given) // count)] if self.given else scale.ticks(count)
 
-    def ends(self, values, from_zero):
+    def ends(self, values: Sequence[float], from_zero: bool) -> Tuple[float, float]:
         if self.is_log:
             return log_ends(min(values), max(values)) if from_zero else (min(values), max(values))
         if not from_zero:
             return min(values), max(values)
         return 0, rounded_up(max(values))
 
-    def labels(self, ticks):
+    def labels(self, ticks: Sequence[float]) -> Tuple[List[str], str]:
         """What stands at the ticks, and what the axis is called."""
         units = {"size": SIZE_UNITS, "time": TIME_UNITS}.get(self.unit)
         if units and (self.is_log or self.unit == "size"):
@@ -52,17 +62,17 @@ class Axis:
         return [plain(tick) for tick in ticks], f"{self.name} ({self.unit})" if self.unit else self.name
 
 
-def rounded_up(value):
+def rounded_up(value: float) -> float:
     """The end of a scale from 0 that has this value: the tick at it or the next one."""
     step = Scale(0, max(value, 1), 0, 1).ticks(6)[1]
     return step * -(-max(value, 1) // step)
 
 
-def chart(title, curves, x_axis, y_axis):
+def chart(title: str, curves: List[Curve], x_axis: Axis, y_axis: Axis) -> str:
     """The picture of the curves, with a legend in the order of their last values."""
     values = [y for curve in curves for _, y in curve.points if y is not None]
     xs = [x for curve in curves for x, _ in curve.points]
-    room = 60 + max(text_width(curve.name, TEXT) for curve in curves)
+    room = 60 + max(text_width(name, TEXT) for name in [*(curve.name for curve in curves), RENDEZVOUS])
     right, bottom = WIDTH - room, HEIGHT - BELOW
     x_scale = Scale(*x_axis.ends(xs, False), LEFT, right, x_axis.is_log)
     y_scale = Scale(*y_axis.ends(values or [1], True), bottom, TOP, y_axis.is_log)
@@ -77,13 +87,13 @@ def chart(title, curves, x_axis, y_axis):
     return drawing.written()
 
 
-def style_of(number):
+def style_of(number: int) -> Dict[str, str]:
     """A colour for each curve, and after these the colours with dashes."""
     style = {"stroke": COLOURS[number % len(COLOURS)]}
     return style if number < len(COLOURS) else {**style, "stroke_dasharray": "5 3"}
 
 
-def draw_x_axis(drawing, axis, scale, bottom):
+def draw_x_axis(drawing: Drawing, axis: Axis, scale: Scale, bottom: float) -> None:
     ticks = axis.ticks(scale, 9)
     labels, name = axis.labels(ticks)
     for tick, label in zip(ticks, labels):
@@ -93,7 +103,7 @@ def draw_x_axis(drawing, axis, scale, bottom):
     drawing.text((scale.start + scale.end) / 2, bottom + 42, name, size=TEXT, text_anchor="middle")
 
 
-def draw_y_axis(drawing, axis, scale, right):
+def draw_y_axis(drawing: Drawing, axis: Axis, scale: Scale, right: float) -> None:
     ticks = axis.ticks(scale, 8)
     labels, name = axis.labels(ticks)
     for tick, label in zip(ticks, labels):
@@ -104,11 +114,12 @@ def draw_y_axis(drawing, axis, scale, right):
     drawing.text(18, middle, name, size=TEXT, text_anchor="middle", transform=f"rotate(-90 18 {middle:.0f})")
 
 
-def draw_curve(drawing, curve, x_scale, y_scale, style):
+def draw_curve(drawing: Drawing, curve: Curve, x_scale: Scale, y_scale: Scale, style: Dict[str, str]) -> None:
     """A line through the points, with a gap and a red cross below where a run is stuck."""
-    stretch = []
-    for x, y in curve.points + [(None, None)]:
-        if y is not None:
+    stretch: List[Tuple[float, float]] = []
+    ended: List[Tuple[Optional[float], Optional[float]]] = [*curve.points, (None, None)]
+    for x, y in ended:
+        if x is not None and y is not None:
             stretch.append((x_scale(x), y_scale(y)))
             continue
         if len(stretch) > 1:
@@ -118,14 +129,18 @@ def draw_curve(drawing, curve, x_scale, y_scale, style):
             drawing.text(x_scale(x), y_scale.start - 4, "✕", fill=STUCK, text_anchor="middle", note=f"{curve.name}: stuck at {plain(x)}")
     for x, y in curve.points:
         if y is not None:
-            note = f"{curve.name}: {plain(x)}, {plain(y)}"
-            drawing.shape("circle", note=note, cx=x_scale(x), cy=y_scale(y), r=3, fill="#ffffff", stroke=style["stroke"], stroke_width=2)
+            note = f"{curve.name}: {plain(x)}, {plain(y)}" + (LARGE if x in curve.large else "")
+            fill = style["stroke"] if x in curve.large else "#ffffff"
+            drawing.shape("circle", note=note, cx=x_scale(x), cy=y_scale(y), r=3, fill=fill, stroke=style["stroke"], stroke_width=2)
+    for (x, y), (to_x, to_y) in curve.steps():
+        at, high = (x_scale(x) + x_scale(to_x)) / 2, (y_scale(y) + y_scale(to_y)) / 2
+        drawing.line(at, high - 7, at, high + 7, style["stroke"], stroke_width=2)
 
 
-def draw_legend(drawing, curves, x):
+def draw_legend(drawing: Drawing, curves: List[Curve], x: float) -> None:
     """The names, the curve that is highest at the end first."""
 
-    def last(numbered):
+    def last(numbered: Tuple[int, Curve]) -> float:
         values = [y for _, y in numbered[1].points if y is not None]
         return -(values[-1] if values else 0)
 
@@ -134,3 +149,7 @@ def draw_legend(drawing, curves, x):
         drawing.line(x, y, x + 22, y, stroke_width=2, **style_of(number))
         drawing.shape("circle", cx=x + 11, cy=y, r=3, fill="#ffffff", stroke=style_of(number)["stroke"], stroke_width=2)
         drawing.text(x + 30, y + 4, curve.name, size=TEXT)
+    if any(curve.large for curve in curves):
+        y = TOP + 8 + 20 * len(curves)
+        drawing.shape("circle", cx=x + 11, cy=y, r=3, fill=FRAME, stroke=FRAME, stroke_width=2)
+        drawing.text(x + 30, y + 4, RENDEZVOUS, size=TEXT)

@@ -1,33 +1,36 @@
 """Scales of axes, with ticks at rounded values, and units for times and sizes. Nothing of it is proved."""
 import math
 from dataclasses import dataclass
+from typing import List, Sequence, Tuple
+
+Units = Sequence[Tuple[int, str]]
 
 TIME_UNITS = ((1, "ns"), (1_000, "µs"), (1_000_000, "ms"), (1_000_000_000, "s"))
 SIZE_UNITS = ((1, "B"), (1 << 10, "KiB"), (1 << 20, "MiB"), (1 << 30, "GiB"))
 
 
-def plain(value):
+def plain(value: float) -> str:
     """A number without zeros at its end, its thousands apart."""
     text = f"{value:,.6f}".rstrip("0").rstrip(".")
     return text or "0"
 
 
-def unit_for(greatest, units=TIME_UNITS):
+def unit_for(greatest: float, units: Units = TIME_UNITS) -> Tuple[int, str]:
     """The unit in which the greatest of some numbers is written: a factor and a name."""
     fitting = [unit for unit in units if greatest >= 2 * unit[0]]
     return (fitting or [units[0]])[-1]
 
 
-def in_unit(value, units):
+def in_unit(value: float, units: Units) -> str:
     """A number in the greatest unit that it reaches, as `16 KiB`."""
     factor, name = [unit for unit in units if value >= unit[0]][-1] if value >= 1 else units[0]
     return f"{plain(round(value / factor, 3))} {name}"
 
 
-def rounded_step(span, count):
+def rounded_step(span: float, count: int) -> float:
     """The least of 1, 2 and 5 times a power of ten that divides a span into at most `count` parts."""
     least = span / count
-    power = 10 ** math.floor(math.log10(least))
+    power: float = 10 ** math.floor(math.log10(least))
     return next(factor * power for factor in (1, 2, 5, 10) if factor * power >= least * (1 - 1e-9))
 
 
@@ -41,12 +44,12 @@ class Scale:
     end: float
     is_log: bool = False
 
-    def __call__(self, value):
+    def __call__(self, value: float) -> float:
         low, high, at = (map(math.log, (self.low, self.high, value)) if self.is_log else (self.low, self.high, value))
         share = (at - low) / (high - low) if high > low else 0.5
         return self.start + share * (self.end - self.start)
 
-    def ticks(self, count):
+    def ticks(self, count: int) -> List[float]:
         """At most about `count` rounded values of the scale."""
         if self.is_log:
             return log_ticks(self.low, self.high, count)
@@ -58,7 +61,7 @@ class Scale:
         return [int(round(tick)) for tick in ticks] if whole else [round(tick, 9) for tick in ticks]
 
 
-def log_ticks(low, high, count):
+def log_ticks(low: float, high: float, count: int) -> List[float]:
     """Powers of ten from low to high, or every second, third .. of them; where there is room, 2 and 5 between."""
     first, last = math.ceil(math.log10(low) - 1e-9), math.floor(math.log10(high) + 1e-9)
     if 3 * (last - first + 1) <= count:
@@ -68,7 +71,7 @@ def log_ticks(low, high, count):
     return [10.0**k for k in range(first, last + 1, every)]
 
 
-def log_ends(low, high):
+def log_ends(low: float, high: float) -> Tuple[float, float]:
     """The ends of a log scale that has these values: powers of ten times 1, 2 or 5."""
     below, above = 10 ** math.floor(math.log10(low) + 1e-9), 10 ** math.floor(math.log10(high) + 1e-9)
     return (

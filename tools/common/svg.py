@@ -3,6 +3,7 @@
 Coordinates are rounded to a tenth of a pixel, so that the same drawing gives the same bytes everywhere.
 """
 from contextlib import contextmanager
+from typing import Any, Iterable, Iterator, Optional, Sequence, Tuple, Union
 from xml.sax.saxutils import escape, quoteattr
 
 FONT = "Helvetica, Arial, 'DejaVu Sans', sans-serif"
@@ -10,19 +11,19 @@ FONT = "Helvetica, Arial, 'DejaVu Sans', sans-serif"
 NARROW, WIDE = "ijlt.,:;|!'() frI", "mwMW@%→·"
 
 
-def number(value):
+def number(value: float) -> str:
     """A coordinate as it is written."""
     text = f"{value:.1f}"
     text = text[:-2] if text.endswith(".0") else text
     return "0" if text == "-0" else text
 
 
-def text_width(text, size):
+def text_width(text: str, size: float) -> float:
     """About how many pixels a text of this size takes."""
     return size * sum(0.34 if c in NARROW else 0.9 if c in WIDE else 0.58 for c in text)
 
 
-def longest_fit(texts, room, size):
+def longest_fit(texts: Iterable[str], room: float, size: float) -> str:
     """The first of the texts that has room, or none."""
     return next((text for text in texts if text_width(text, size) <= room), "")
 
@@ -30,7 +31,7 @@ def longest_fit(texts, room, size):
 class Drawing:
     """A drawing of this width and height. Each shape may have a `note`, which a browser shows under the pointer."""
 
-    def __init__(self, width, height, about):
+    def __init__(self, width: float, height: float, about: str) -> None:
         self.width, self.height = width, height
         self.lines = [
             f'<svg xmlns="http://www.w3.org/2000/svg" width="{number(width)}" height="{number(height)}"'
@@ -39,50 +40,50 @@ class Drawing:
             f'<rect width="{number(width)}" height="{number(height)}" fill="#ffffff"/>',
         ]
 
-    def shape(self, name, note=None, text=None, **attributes):
+    def shape(self, name: str, note: Optional[str] = None, text: Optional[str] = None, **attributes: Any) -> None:
         """A shape of this name. An underscore in an attribute's name stands for a hyphen."""
         told = "".join(f" {key.replace('_', '-')}={self.value(value)}" for key, value in attributes.items() if value is not None)
         inner = (f"<title>{escape(note)}</title>" if note else "") + (escape(text) if text else "")
         self.lines.append(f"<{name}{told}>{inner}</{name}>" if inner else f"<{name}{told}/>")
 
     @staticmethod
-    def value(value):
+    def value(value: Union[str, float]) -> str:
         return quoteattr(number(value) if isinstance(value, (int, float)) else value)
 
-    def rect(self, x, y, width, height, **attributes):
+    def rect(self, x: float, y: float, width: float, height: float, **attributes: Any) -> None:
         self.shape("rect", x=x, y=y, width=width, height=height, **attributes)
 
-    def line(self, x1, y1, x2, y2, stroke, **attributes):
+    def line(self, x1: float, y1: float, x2: float, y2: float, stroke: str, **attributes: Any) -> None:
         self.shape("line", x1=x1, y1=y1, x2=x2, y2=y2, stroke=stroke, **attributes)
 
-    def text(self, x, y, text, size=11, fill="#333333", **attributes):
+    def text(self, x: float, y: float, text: str, size: float = 11, fill: str = "#333333", **attributes: Any) -> None:
         self.shape("text", text=text, x=x, y=y, font_size=size, fill=fill, **attributes)
 
-    def path(self, points, stroke, **attributes):
+    def path(self, points: Sequence[Tuple[float, float]], stroke: str, **attributes: Any) -> None:
         """A line through the points."""
         told = "M" + "L".join(f"{number(x)} {number(y)}" for x, y in points)
         self.shape("path", d=told, stroke=stroke, fill="none", **attributes)
 
     @contextmanager
-    def group(self, note=None, **attributes):
+    def group(self, note: Optional[str] = None, **attributes: Union[str, float]) -> Iterator[None]:
         told = "".join(f" {key.replace('_', '-')}={self.value(value)}" for key, value in attributes.items())
         self.lines.append(f"<g{told}>" + (f"<title>{escape(note)}</title>" if note else ""))
         yield
         self.lines.append("</g>")
 
-    def arrow_head(self, name, colour):
+    def arrow_head(self, name: str, colour: str) -> None:
         """The head of arrows whose `marker_end` is `url(#name)`."""
         self.lines.append(
             f'<marker id="{name}" viewBox="0 0 8 8" refX="7" refY="4" markerWidth="7" markerHeight="7"'
             f' markerUnits="userSpaceOnUse" orient="auto"><path d="M0 0.8L8 4L0 7.2z" fill="{colour}"/></marker>'
         )
 
-    def window(self, name, x, y, width, height):
+    def window(self, name: str, x: float, y: float, width: float, height: float) -> None:
         """What has `clip_path="url(#name)"` is drawn within this rectangle alone."""
         self.lines.append(
             f'<clipPath id="{name}"><rect x="{number(x)}" y="{number(y)}" width="{number(width)}"'
             f' height="{number(height)}"/></clipPath>'
         )
 
-    def written(self):
+    def written(self) -> str:
         return "\n".join(self.lines + ["</svg>", ""])
