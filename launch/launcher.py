@@ -65,8 +65,10 @@ class Proof:
         if self.is_begun and not failed and sources.is_as_begun():
             say(f"the proof was stopped, and the next call takes it up again; log {LOG}")
             sys.exit(NO_PROOF)
-        if not self.is_begun and is_taken_from_gate():
-            return sources.is_current()
+        if not self.is_begun and sources.is_left():
+            if is_taken_from_gate():
+                return sources.is_current()
+            say("rt ci kept nothing that says that the program here is of these sources, so they are proved again")
         self.begin(lock)
         return False
 
@@ -98,15 +100,10 @@ class Proof:
 
 
 def is_taken_from_gate() -> bool:
-    """Whether `rt ci` proved the program that is here from the sources as they are. Where it left one of which that is not known, it is said."""
-    if sources.is_recorded() or not os.access(PROGRAM, os.X_OK):
-        return False
+    """Whether `rt ci` proved the program that is here from the sources as they are."""
     import prove
 
-    if prove.take_from_gate():
-        return True
-    say("rt ci kept nothing that says that the program here is of these sources, so they are proved again")
-    return False
+    return prove.take_from_gate()
 
 
 class Call:
@@ -225,7 +222,7 @@ def where() -> int:
         os.makedirs(PROOF, exist_ok=True)
         proof = Proof(True)
         if os.environ.get("GOAL_PROVED") != "1":
-            if not is_taken_from_gate():
+            if not sources.is_left() or not is_taken_from_gate():
                 return NO_PROOF
         elif not proof.is_done():
             wait_for(proof)

@@ -139,6 +139,11 @@ def checked() -> list[str]:
     return [it for it in names if os.path.lexists(os.path.join(TOP, it))]
 
 
+def is_left() -> bool:
+    """Whether there is a program without a record of its own, as `rt ci` leaves one."""
+    return os.access(PROGRAM, os.X_OK) and not is_recorded()
+
+
 def keep_check(names: list[str], lines: list[str]) -> None:
     """Has the next calls compare only this, unless a file changed a moment ago."""
     now, size = time.time_ns(), -(-len(names) // CALLS)
