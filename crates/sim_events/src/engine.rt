@@ -17,7 +17,7 @@ ghost use Rattle.sim_events.specs.Cost.{cost_of_start, cost_of_run, most_reads};
 use crate::follow::{Queue, is_empty};
 use crate::pending::{at_the_start, run_on, step_once};
 use goal_graph::{OpId, Sched, Timed};
-use sim_order::{CompactKey, Steps};
+use sim_order::Steps;
 use sim_params::Costs;
 use sim_state::{EngineFault, History, Kept, Record, State};
 use std::alloc::Global;
@@ -154,7 +154,7 @@ fn start_by<'a, C: Costs + Drop, H: History, L: Ledger, N: Ledger>(
 
 impl<'a, C: Costs> Engine<'a, C> {
     /// What has happened, oldest first.
-    pub fn trace(&self) -> &[CompactKey]
+    pub fn trace(&self) -> &[Timed]
         ensures { result.now ≡ reverse self.now.history }
     {
         self.state.trace()

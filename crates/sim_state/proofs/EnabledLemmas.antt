@@ -13,7 +13,7 @@ use Rattle.goal_graph.specs.Action.{happened, plain}
 use Rattle.goal_graph.specs.Matching.{pairs, is_paired}
 use Rattle.goal_graph.specs.Allowed.{first_class, has_started, has_ended, is_ready, is_served, may, allowed}
 use Rattle.goal_graph.specs.Laws.{IsCalc}
-use Rattle.goal_graph.proofs.ForCallers.{partner_is_send, partners_mutual, allowed_fresh, allowed_may, allowed_from, allowed_data, allowed_serve, arrived_begun, cases_some, first_of_calc, first_of_send, first_of_receive, ended_receive, last_of_eager, last_of_large}
+use Rattle.goal_graph.proofs.ForCallers.{partner_is_send, allowed_fresh, allowed_may, allowed_from, allowed_data, allowed_serve, arrived_begun, cases_some, first_of_calc, first_of_send, first_of_receive, ended_receive, last_of_eager, last_of_large}
 use Rattle.sim_params.specs.Costs.{CostModel, is_eager, eager_of, latency, flight}
 use Rattle.sim_params.specs.Times.{since, mate, ready, cpu, tx, rx, paired_at, there_at, time_of, time}
 use Rattle.sim_params.specs.Run.{IsRun}

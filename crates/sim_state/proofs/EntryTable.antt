@@ -1,5 +1,5 @@
 -- The table of entries, after one of them is changed.
-use Rattle.std.proofs.Common.{◌≡◌, ℕ, List, map, get_or, slice_get, slice_set, Option, Some, None, refl, ap, ◌∙◌}
+use Rattle.std.proofs.Common.{◌≡◌, ℕ, List, map, get_or, slice_get, slice_set, Some, ap, ◌∙◌}
 use Rattle.goal_graph.specs.declared.action.OpId.{OpId}
 use Rattle.goal_graph.specs.Schedule.{Plan, operations}
 use Rattle.goal_graph.proofs.ForCallers.{entry_of, written_entry}

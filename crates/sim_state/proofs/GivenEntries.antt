@@ -1,18 +1,17 @@
 -- The entries of the operations, while those that wait for an action's operation are given its moments one after another.
-use Rattle.std.proofs.Common.{◌≡◌, ◌≢◌, ◌&&◌, ◌+◌, ◌-◌, ◌<◌, ◌≤◌, ℕ, Bool, true, false, not, max, List, [], ◌∷◌, ◌++◌, count_by, Option, Some, None, if◌then◌else◌, inl, inr, refl, sym, ap, ap₂, ◌∙◌, arith}
-use Rattle.std.specs.List.{list_all}
+use Rattle.std.proofs.Common.{◌≡◌, ◌≢◌, ◌&&◌, ◌+◌, ◌-◌, ◌<◌, ◌≤◌, ℕ, Bool, true, false, max, List, [], ◌∷◌, ◌++◌, count_by, Option, Some, None, if◌then◌else◌, inl, inr, refl, sym, ap, ap₂, ◌∙◌, arith}
 use Rattle.std.specs.Option.{option_map}
-use Rattle.std.proofs.lemmas.Bool.{and_left, and_right, and_parts, cases_Bool, cond-true, cond-false}
+use Rattle.std.proofs.lemmas.Bool.{and_left, and_right, cases_Bool, cond-true, cond-false}
 use Rattle.goal_graph.specs.declared.action.OpId.{OpId}
 use Rattle.goal_graph.specs.declared.action.Timed.{Timed}
 use Rattle.goal_graph.specs.declared.action.Class.TheVariants.{Arrive}
 use Rattle.goal_graph.specs.declared.plan.Need.{Need}
 use Rattle.goal_graph.specs.declared.plan.When.{When}
 use Rattle.goal_graph.specs.declared.plan.When.TheVariants.{AfterEnd, AfterStart}
-use Rattle.goal_graph.specs.Schedule.{Plan, kind_at, needs, needed}
+use Rattle.goal_graph.specs.Schedule.{Plan, kind_at, needed}
 use Rattle.goal_graph.specs.Concerned.{waiting_on}
 use Rattle.goal_graph.specs.Action.{same_op, plain}
-use Rattle.goal_graph.specs.Allowed.{first_class, has_started, is_ready}
+use Rattle.goal_graph.specs.Allowed.{first_class, has_started}
 use Rattle.goal_graph.proofs.ForCallers.{at_entry, cases_op, count-cons, entry_written, off_entry, same_op_itself, same_op_swapped}
 use Rattle.sim_params.specs.Costs.{CostModel}
 use Rattle.sim_params.specs.Times.{greatest, met_at, Possible}
@@ -21,7 +20,7 @@ use Rattle.sim_params.specs.Budget.{budget}
 use Rattle.sim_params.proofs.ForCallers.{run_each, within_budget}
 use Rattle.sim_state.specs.declared.entry.Entry.{Entry}
 use Rattle.sim_state.specs.declared.entry.Times.{Times}
-use Rattle.sim_state.specs.Awaited.{is_there, unmet, last_given, awaited_known}
+use Rattle.sim_state.specs.Awaited.{unmet, last_given, awaited_known}
 use Rattle.sim_state.specs.Given.{given_times, with_given, moment_in}
 use Rattle.sim_state.specs.Represents.{times_known, link_known, entry_known, entry_then}
 use Rattle.sim_state.proofs.After.{happened_same, none_unmet, other_op}

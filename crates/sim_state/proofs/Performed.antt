@@ -87,10 +87,9 @@ module _ (plans : List Plan) (costs : CostModel) (h : List Timed) (entries : Lis
         let listed = allowed_listed plans (is_eager plans costs) (plain h) a.class a.op next.possible.allowed in
         sym (written_moment a.op a.time w c (entry_known plans costs h)) ∙ ap (λ (e : Entry). moment_in e.times w) (same_at (with_change a.op c a.time (entry_known plans costs h)) (entry_then plans costs h a) (operations plans) a.op listed is.known ∙ own_next plans costs h a m.run next.possible)
 
-    pub performed : (history : List Timed) (key : Timed) → history ≡ key ∷ h → key ≡ a → (after : List Entry) → after ≡ map (entry_known plans costs (a ∷ h)) (operations plans) → (told : PostsAndArrivals) → KnowsPostsAndArrivals plans costs (a ∷ h) told → (held : Holds) → AreFreeTimes plans costs (a ∷ h) held → (still : ℕ → Type 0) → ((count : ℕ) → has_room count → still count) → Represents plans costs history after told held still
-    performed history key pushed same after known told knows held free still roomy =
-        let list : a ∷ h ≡ history = sym (pushed ∙ ap (λ (b : Timed). b ∷ h) same) in
-        subst (λ (h : List Timed). Represents plans costs h after told held still) list (record {
+    pub performed : (history : List Timed) → history ≡ a ∷ h → (after : List Entry) → after ≡ map (entry_known plans costs (a ∷ h)) (operations plans) → (told : PostsAndArrivals) → KnowsPostsAndArrivals plans costs (a ∷ h) told → (held : Holds) → AreFreeTimes plans costs (a ∷ h) held → (still : ℕ → Type 0) → ((count : ℕ) → has_room count → still count) → Represents plans costs history after told held still
+    performed history pushed after known told knows held free still roomy =
+        subst (λ (h : List Timed). Represents plans costs h after told held still) (sym pushed) (record {
           accepted = m.accepted;
           within = m.within;
           run = (m.run, next);

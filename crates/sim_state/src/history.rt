@@ -2,7 +2,7 @@
 ghost use Rattle.std.specs.Prelude.{◌≡◌, ◌+◌, ◌<◌, ℕ, List, [], ◌∷◌, IfOk, length};
 ghost use Rattle.goal_graph.specs.declared.action.Timed.{Timed};
 
-use sim_order::CompactKey;
+use goal_graph::Timed;
 use std::alloc::{AllocError, Global};
 
 /// The actions that have happened, as a state has them. Contracts see them all, whether they are kept or not.
@@ -18,33 +18,33 @@ pub trait History: Drop {
         ensures empty { IfOk result (λ h. actions h ≡ []) }
         ensures roomy { IfOk result (λ h. has_room h count) };
 
-    /// One action more.
-    fn push(&mut self, key: CompactKey)
+    /// Adds the next action.
+    fn push(&mut self, action: Timed)
         requires room { (count : ℕ) × has_room self.old count × (length (actions self.old) < count) }
-        ensures pushed { actions self.new ≡ key ∷ actions self.old }
+        ensures pushed { actions self.new ≡ action ∷ actions self.old }
         ensures roomy { (count : ℕ) → has_room self.old count → has_room self.new count };
 }
 
-/// Each action is kept, in 16 bytes.
+/// Keeps each action.
 #[derive(Drop)]
 pub struct Kept {
     // oldest first
-    pub(crate) keys: Vec<CompactKey>,
+    pub(crate) timed: Vec<Timed>,
 }
 
 impl History for Kept {
     ghost use Rattle.std.specs.Prelude.{◌≤◌, reverse, vec_capacity};
 
-    ghost actions = { λ h. reverse h.keys.items };
+    ghost actions = { λ h. reverse h.timed.items };
 
-    ghost has_room = { λ h count. count ≤ vec_capacity h.keys };
+    ghost has_room = { λ h count. count ≤ vec_capacity h.timed };
 
     fn with_room(alloc: Global, count: usize) -> Result<Kept, AllocError> {
-        let keys = Vec::with_capacity(alloc, count)?;
-        Ok(Kept { keys })
+        let timed = Vec::with_capacity(alloc, count)?;
+        Ok(Kept { timed })
     }
 
-    fn push(&mut self, key: CompactKey) {
-        self.keys.push_reserved(key);
+    fn push(&mut self, action: Timed) {
+        self.timed.push_reserved(action);
     }
 }

@@ -23,10 +23,9 @@ use crate::history::{History, Kept};
 use crate::record::Record;
 use crate::task::Task;
 use crate::work::Work;
-use goal_graph::{Need, OpId, Sched};
+use goal_graph::{Need, OpId, Sched, Timed};
 use goal_limits::MAX_BUDGET;
 use sim_match::Matcher;
-use sim_order::CompactKey;
 use sim_params::{Costs, budget};
 use sim_resources::Resources;
 use std::alloc::Global;
@@ -110,10 +109,10 @@ impl<'a, C: Costs + Drop, H: History> State<'a, C, H> {
 
 impl<'a, C: Costs> State<'a, C> {
     /// What has happened, oldest first.
-    pub fn trace(&self) -> &[CompactKey]
+    pub fn trace(&self) -> &[Timed]
         ensures { result.now ≡ reverse self.now.history }
     {
-        self.history.keys.as_slice()
+        self.history.timed.as_slice()
     }
 }
 

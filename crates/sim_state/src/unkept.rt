@@ -5,7 +5,7 @@ ghost use Rattle.goal_graph.specs.declared.action.Timed.{Timed};
 ghost use Rattle.sim_state.specs.Unkept.{actions_code};
 
 use crate::history::History;
-use sim_order::CompactKey;
+use goal_graph::Timed;
 use std::alloc::{AllocError, Global};
 use std::marker::Model;
 
@@ -30,8 +30,8 @@ impl Unkept {
 
     // What has happened once this action has too.
     #[inline(always)]
-    fn after(&self, _key: &CompactKey) -> Unkept
-        ensures { result.past ≡ _key.now ∷ self.now.past }
+    fn after(&self, _action: &Timed) -> Unkept
+        ensures { result.past ≡ _action.now ∷ self.now.past }
     {
         Unkept {}
     }
@@ -49,7 +49,7 @@ impl History for Unkept {
     }
 
     #[inline(always)]
-    fn push(&mut self, key: CompactKey) {
-        *self = self.after(&key);
+    fn push(&mut self, action: Timed) {
+        *self = self.after(&action);
     }
 }

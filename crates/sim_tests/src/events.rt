@@ -3,9 +3,8 @@ use crate::plans::plan;
 use crate::same::{same, same_list};
 use goal_graph::{Class, Kind, OpId, Sched, Timed};
 use sim_events::{Engine, EngineFault, History, Record, Unkept};
-use sim_order::CompactKey;
 use sim_params::{LogGops, Params};
-use std::alloc::{AllocError, Global};
+use std::alloc::Global;
 use std::process::Abort;
 use std::test::Fail;
 
@@ -49,19 +48,6 @@ fn told<H: History>(
     (start, end, partner)
 }
 
-// The actions of a trace, which has their keys.
-fn actions(alloc: Global, trace: &[CompactKey]) -> Result<Vec<Timed>, AllocError> {
-    let mut actions = Vec::new(alloc);
-    for key in trace {
-        actions.push(Timed {
-            time: key.time(),
-            class: key.class(),
-            op: key.id(),
-        })?;
-    }
-    Ok(actions)
-}
-
 fn id(rank: u32, op: u32) -> Option<OpId> {
     Some(OpId { rank, op })
 }
@@ -82,7 +68,7 @@ fn large_message(alloc: Global) -> Result<Sched, Fail> {
 }
 
 // The trace of its run.
-fn traced(rt: &impl Abort, alloc: Global, engine: &Engine<'_, LogGops>) -> Result<(), Fail> {
+fn traced(rt: &impl Abort, engine: &Engine<'_, LogGops>) {
     let trace = [
         at(0, Class::Post, 1, 0),
         at(0, Class::Begin, 0, 0),
@@ -90,9 +76,7 @@ fn traced(rt: &impl Abort, alloc: Global, engine: &Engine<'_, LogGops>) -> Resul
         at(6500, Class::Data, 0, 0),
         at(403_710, Class::Serve, 1, 0),
     ];
-    let actions = actions(alloc, engine.trace())?;
-    same_list(rt, actions.as_slice(), trace.as_slice());
-    Ok(())
+    same_list(rt, engine.trace(), trace.as_slice());
 }
 
 #[test]
@@ -100,7 +84,7 @@ fn a_large_message(rt: HostRuntime) -> Result<(), Fail> {
     let sched = large_message(rt.alloc())?;
     let mut engine = Engine::new(rt.alloc(), &sched, costs()?)?;
     engine.run();
-    traced(&rt, rt.alloc(), &engine)?;
+    traced(&rt, &engine);
     let sent = (Some(0), Some(8000), id(1, 0));
     same(&rt, &told(&rt, &engine, 0, 0), &sent);
     let received = (Some(0), Some(405_210), id(0, 0));

@@ -16,7 +16,6 @@ use super::State;
 use super::give::give;
 use crate::entry::{Change, Entry, Times, read, write_change};
 use crate::history::History;
-use crate::key::compact;
 use crate::task::Task;
 use crate::work::Work;
 use goal_graph::{Class, Need, Sched, Timed};
@@ -69,7 +68,7 @@ impl<'a, C: Costs, H: History> State<'a, C, H> {
             waiting,
             reads,
         );
-        self.history.push(compact(sched, action));
+        self.history.push(action);
     }
 }
 

@@ -2,7 +2,7 @@
 ghost use Rattle.std.specs.Prelude.{◌<◌};
 
 use super::evaluator::{Past, run};
-use super::{actions, told};
+use super::told;
 use crate::same::{same, same_list};
 use goal_graph::{Dep, Kind, Op, RankPlan, Sched, Timed, When};
 use sim_events::Engine;
@@ -151,20 +151,18 @@ impl Seeded {
 // That an engine has done what the evaluator did, in the same order; whether an operation is stuck.
 fn compared(
     rt: &impl Abort,
-    alloc: Global,
     engine: &Engine<'_, LogGops>,
     past: &Past<'_>,
     history: &[Timed],
-) -> Result<bool, Fail> {
-    let actions = actions(alloc, engine.trace())?;
-    same_list(rt, actions.as_slice(), history);
+) -> bool {
+    same_list(rt, engine.trace(), history);
     let mut stuck = false;
     for id in engine.sched().operations() {
         let expected = (past.start(*id), past.end(*id), past.partner(*id));
         same(rt, &told(rt, engine, id.rank, id.op), &expected);
         stuck |= past.end(*id).is_none();
     }
-    Ok(stuck)
+    stuck
 }
 
 // Runs one schedule both ways, and answers whether an operation is stuck.
@@ -175,7 +173,7 @@ fn is_stuck(rt: &impl Abort, alloc: Global, params: Params, seed: u64) -> Result
     let past = Past::of(alloc, sched.plans(), params, &history)?;
     let mut engine = Engine::new(alloc, &sched, LogGops { params })?;
     engine.run();
-    compared(rt, alloc, &engine, &past, &history)
+    Ok(compared(rt, &engine, &past, &history))
 }
 
 #[test]

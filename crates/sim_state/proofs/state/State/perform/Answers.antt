@@ -45,10 +45,6 @@ give-requires g c =
       entries = c.deref_mut-2.ensures.value ∙ written_back _ _ _ _ c.write_change.auto.entries c.deref_mut.ensures.value c.self.inside.entries.ok.0 ∙ c.write_change.ensures (entry_known c.self.inside.sched.now (g.C.Costs.model c.self.inside.costs) (g.H.History.actions c.self.inside.history)) (c.deref_mut.ensures.value ∙ m.known) ∙ c.change_of-change.ensures.change.known;
     }
 
-pub compact-requires : goal.compact-requires
-compact-requires g c =
-    is_op _ _ _ _ _ _ _ c.self.invariant c.args.action (next_at g.C.Costs.model _ _ c.args.action c.self.view_is c.requires.next)
-
 pub push-requires : goal.push-requires
 push-requires g c =
     record { room = room_left _ _ _ _ _ _ _ c.self.invariant c.args.action (next_at g.C.Costs.model _ _ c.args.action c.self.view_is c.requires.next) }
@@ -61,4 +57,4 @@ invariant_of-self g c =
     let changed = c.write_change.new.entries in
     let first : take count (changed ++ drop (length changed) items) ≡ changed = written_back count changed _ items c.write_change.auto.entries c.deref_mut.ensures.value c.self.inside.entries.ok.0 in
     let table : take count (c.give.new.entries ++ drop (length c.give.new.entries) (take count (changed ++ drop (length changed) items))) ≡ c.give.new.entries = written_back count c.give.new.entries _ _ c.give.auto.entries c.deref_mut-2.ensures.value (c.self.inside.entries.ok.0 ∙ sym (ap length (first) ∙ c.write_change.auto.entries ∙ ap length c.deref_mut.ensures.value)) in
-    performed _ _ _ _ _ _ _ c.self.invariant c.args.action next _ c.compact.result c.push.ensures.pushed c.compact.ensures _ (table ∙ c.give.ensures.entries) _ c.change_of-change.ensures.told _ c.change_of-change.ensures.free _ c.push.ensures.roomy
+    performed _ _ _ _ _ _ _ c.self.invariant c.args.action next _ c.push.ensures.pushed _ (table ∙ c.give.ensures.entries) _ c.change_of-change.ensures.told _ c.change_of-change.ensures.free _ c.push.ensures.roomy
