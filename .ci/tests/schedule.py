@@ -242,7 +242,7 @@ class Words(unittest.TestCase):
                 ("bcast-chain 2 1099511627775 --segments 1", None),
                 ("gather-tree 4 1099511627775", "a message of 2199023255550 bytes: it has at most 1099511627775"),
                 ("allreduce-reduce-bcast 2 1099511627775 --sum-ps 999999999", "a sum of"),
-                ("bcast-chain 0 8", "argument RANKS: '0' is no number from 1 up to 65536"),
+                ("bcast-chain 0 8", "argument RANKS: '0' is no number of ranks from 1 up to 65536"),
                 ("bcast-line 4 8", "argument ALGORITHM: invalid choice")):
             ended = self.ended(*words.split())
             if why is None:
