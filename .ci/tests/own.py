@@ -7,7 +7,7 @@ import subprocess
 import sys
 import tempfile
 import unittest
-from typing import List
+from typing import Callable, List, Tuple
 
 TOP = os.path.dirname(os.path.dirname(os.path.dirname(os.path.abspath(__file__))))
 sys.path.insert(0, os.path.join(TOP, "tools"))
@@ -93,7 +93,7 @@ class Plans(unittest.TestCase):
 
     def test_what_can_not_be_is_a_fault(self) -> None:
         plan = Plan(2, [8])
-        for call, why in (
+        cases: List[Tuple[Callable[[], object], str]] = [
                 (lambda: plan.exchange([Message(0, 2, [0])]), "a rank is 2: it is 0 to 1"),
                 (lambda: plan.exchange([Message(-1, 1, [0])]), "a rank is -1: it is 0 to 1"),
                 (lambda: plan.exchange([Message(0, 1, [0.5])]), "a slot is 0.5, and no whole number"),  # type: ignore[list-item]
@@ -103,7 +103,8 @@ class Plans(unittest.TestCase):
                 (lambda: plan.exchange([Message(0, 1, [0], size=-1)]), "the size of a message is -1"),
                 (lambda: plan.add(2, [(0, 0)]), "a rank is 2"), (lambda: plan.add(0, [(0, -1)]), "a slot is -1"),
                 (lambda: plan.calc(0, -1), "the cost of a calc is -1"), (lambda: plan.spare(2, 1), "a rank is 2"),
-                (lambda: Plan(0, [8]), "the number of ranks is 0: it is 1 to 65536"), (lambda: Plan(2, [-8]), "the size of a slot is -8")):
+                (lambda: Plan(0, [8]), "the number of ranks is 0: it is 1 to 65536"), (lambda: Plan(2, [-8]), "the size of a slot is -8")]
+        for call, why in cases:
             with self.assertRaises(command.Fault) as told:
                 call()
             self.assertTrue(str(told.exception).startswith(why), str(told.exception))
@@ -130,10 +131,9 @@ class Mistakes(unittest.TestCase):
                 if words and tool == "sweep":
                     continue
                 done = ended(tool, *more)
-                # (a sweep also names the parameters that are not given)
-                told = [line for line in done.stderr.splitlines() if not line.startswith("sweep: not given: ")]
-                self.assertEqual((done.returncode, len(told)), (2, 1), done.stderr)
-                self.assertRegex(told[0], f"^{tool}: (1 of 1 runs failed, .*: schedule: )?{re.escape(path)}{why}")
+                self.assertEqual((done.returncode, done.stderr.count("\n")), (2, 1), done.stderr)
+                self.assertNotIn("Traceback", done.stderr)
+                self.assertRegex(done.stderr, f"^{tool}: (1 of 1 runs failed, .*: schedule: )?{re.escape(path)}{why}")
             self.assertEqual(os.listdir(folder), ["mine.py"])
 
     def test_each_is_reported_with_its_line(self) -> None:
