@@ -1,7 +1,7 @@
 -- The entries' labels among the bytes.
 use Rattle.std.proofs.Common.{◌≡◌, ℕ, suc, ◌<◌, ◌≤◌, Bool, true, false, List, [], ◌∷◌, ◌++◌, Option, Some, None, length, take, drop, get_or, slice_get, slice_set, refl, sym, ap, subst, ◌∙◌, arith, bytes_eq, inl, inr, ◌⊎◌, ◌≢◌, length-append, length-drop, eqb, option_map}
 use Rattle.std.specs.Option.{option_map_or}
-use Rattle.std.proofs.lemmas.Option.{slice_get-map, slice_get_within, slice_get_read}
+use Rattle.std.proofs.lemmas.Option.{slice_get-get_or, slice_get-map, slice_get_within, slice_get_read}
 use Rattle.std.proofs.lemmas.List.{map-append, map-set, length-map, take-append-le, drop-append-le, length-take-le}
 use Rattle.std.proofs.lemmas.Bool.Decides.{eqb_tells}
 use Rattle.std.proofs.lemmas.Slice.Eq.{bytes_eq-Decides}
@@ -37,6 +37,12 @@ entry-there bytes es i e there = slice_get-map _ es i ∙ ap (option_map (λ (k 
 pub IsAt-entry : (bytes : List ℕ) (es : List Entry) (i : ℕ) (e : Entry) → slice_get es i ≡ Some e → IsAt (entries_of bytes es) (label_of bytes e) i
 IsAt-entry bytes es i e there = (e.slot, entry-there bytes es i e there)
 
+-- an entry whose label was read
+pub looked_at : (bytes : List ℕ) (es : List Entry) (i : ℕ) (label : List ℕ) (e : Entry) → i < length es
+    → label ≡ label_of bytes (get_or es i e) → IsAt (entries_of bytes es) label i
+looked_at bytes es i label e within same =
+    subst (λ k. IsAt (entries_of bytes es) k i) (sym same) (IsAt-entry bytes es i _ (slice_get-get_or es i e within))
+
 pub entry-read : (bytes : List ℕ) (es : List Entry) (i : ℕ) → slice_get (entries_of bytes es) i ≡ option_map (λ (e : Entry). (label_of bytes e, e.slot)) (slice_get es i)
 unfolding entries_of
 entry-read bytes es i = slice_get-map _ es i
@@ -55,6 +61,14 @@ entry-same bytes es label i e slot there at =
 -- the length of a label
 pub length-label_of : (bytes : List ℕ) (e : Entry) → IsHeld bytes e → length (label_of bytes e) ≡ e.len
 length-label_of bytes e held = length-take-le e.len (drop e.from bytes) (omega (arith, length-drop e.from bytes, held.within))
+
+-- a label that was read has 1 to 64 bytes
+pub read-length : (bytes : List ℕ) (es : List Entry) (i : ℕ) (label : List ℕ) (e : Entry) → AreHeld bytes es → i < length es
+    → label ≡ label_of bytes (get_or es i e) → (0 < length label) × (length label ≤ 64)
+read-length bytes es i label e held within same =
+    let read = held i (get_or es i e) (slice_get-get_or es i e within) in
+    let count : length label ≡ (get_or es i e).len = ap length same ∙ length-label_of bytes (get_or es i e) read in
+    (omega (arith, count, read.some), omega (arith, count, read.short))
 
 -- the test of an entry
 pub is_at-entry : (bytes : List ℕ) (es : List Entry) (label : List ℕ) (i : ℕ) (e : Entry) → slice_get es i ≡ Some e → is_at (entries_of bytes es) label i ≡ bytes_eq (label_of bytes e) label

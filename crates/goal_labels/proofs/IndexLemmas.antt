@@ -11,14 +11,14 @@ use Rattle.std.proofs.lemmas.List.{length-set}
 use Rattle.goal_labels.specs.declared.numbers.Numbers.{Numbers}
 use Rattle.goal_labels.specs.declared.label_map.Slot.{Slot}
 use Rattle.goal_labels.specs.declared.label_map.Entry.{Entry}
-use Rattle.goal_labels.specs.Entries.{Entries, entries_of, IsAt, IsAbsent, AreHeld}
+use Rattle.goal_labels.specs.Entries.{Entries, entries_of, IsAt, IsAbsent, AreUnique, AreHeld}
 use Rattle.goal_labels.specs.Indexed.{IsMap}
 use Rattle.goal_labels.specs.Numbers.{number_of, AreFew}
 use Rattle.goal_labels.specs.Ordered.{AreBefore}
 use Rattle.goal_labels.proofs.PlaceLemmas.{slice_get-set, slice_get-apart}
-use Rattle.goal_labels.proofs.EntryLemmas.{IsAt-within, IsAt-before, IsAt-left, IsAt-last, AreUnique-more, last-label}
+use Rattle.goal_labels.proofs.EntryLemmas.{IsAt-within, IsAt-before, IsAt-left, IsAt-last, AreUnique-more}
 use Rattle.goal_labels.proofs.HeldLemmas.{AreHeld-none, entries_of-empty}
-use Rattle.goal_labels.proofs.OrderedLemmas.{ascending_left, ascending_more}
+use Rattle.goal_labels.proofs.OrderedLemmas.{IsAt-same, ascending_left, ascending_more}
 
 -- what a call that succeeded says
 pub on_success : {T E P : Type 0} (r : Result T E) → false ≡ is_err r → OnOk r P → P
@@ -26,104 +26,156 @@ on_success (Ok x) told said = said
 on_success (Err e) told said = absurd (cc)
 
 -- a map has no labels
-module _ (bytes : List ℕ) (es : List Entry) (ascending : ℕ) (numbers : Numbers) (none : es ≡ []) (first : ascending ≡ 0)
+module _ (bytes : List ℕ) (es : List Entry) (first ascending : ℕ) (numbers : Numbers) (none : es ≡ []) (start : first ≡ 0) (end : ascending ≡ 0)
     (unnumbered : (label : List ℕ) → number_of numbers label ≡ None) (few : AreFew numbers) where
   empty : entries_of bytes es ≡ []
   empty = entries_of-empty bytes es none
 
-  pub keeps-none : AreHeld bytes es × IsMap (entries_of bytes es) ascending numbers
+  pub keeps-none : AreHeld bytes es × IsMap (entries_of bytes es) first ascending numbers
   keeps-none = (
     AreHeld-none bytes es none,
     record {
-      within = omega (arith, first);
-      ascend = λ i j one other less below a b. absurd (omega (arith, below, first));
-      numbered = λ i label past at. absurd (omega (arith, IsAt-within (entries_of bytes es) label i at, ap length empty));
+      begins = omega (arith, start, end);
+      within = omega (arith, end);
+      ascend = λ i j one other from less below a b. absurd (omega (arith, below, end));
+      numbered_before = λ i label below at. absurd (omega (arith, below, start));
+      numbered_after = λ i label past at. absurd (omega (arith, IsAt-within (entries_of bytes es) label i at, ap length empty));
       there = λ i label is. absurd (none-some i (sym (unnumbered label) ∙ is));
+      apart = λ i label is from. omega (arith, end);
       few = few;
       unique = λ i j label a b. absurd (omega (arith, IsAt-within (entries_of bytes es) label i a, ap length empty));
     },
   )
 
--- a label that is not among the first, and has no number, has no entry
-pub find-absent : (es : Entries) (ascending : ℕ) (numbers : Numbers) (label : List ℕ) → IsMap es ascending numbers
-    → ((i : ℕ) → i < ascending → IsAt es label i → ⊥) → (o : Option ℕ) → o ≡ number_of numbers label → IfNone o (IsAbsent es label)
-find-absent es ascending numbers label map not_first (Some i) is = tt
-find-absent es ascending numbers label map not_first None is = absent
+-- a label that is not in the run, and has no number, has no entry
+pub find-absent : (es : Entries) (first ascending : ℕ) (numbers : Numbers) (label : List ℕ) → IsMap es first ascending numbers
+    → ((i : ℕ) → first ≤ i → i < ascending → IsAt es label i → ⊥) → (o : Option ℕ) → o ≡ number_of numbers label → IfNone o (IsAbsent es label)
+find-absent es first ascending numbers label map not_in_run (Some i) is = tt
+find-absent es first ascending numbers label map not_in_run None is = absent
   where
     absent : IsAbsent es label
-    absent i at = by (ltb i ascending) (Decides-ltb _ _)
+    absent i at = by (ltb i first) (Decides-ltb _ _) (ltb i ascending) (Decides-ltb _ _)
       where
-        by : (c : Bool) → Decides c (i < ascending) → ⊥
-        by true p = not_first i (p.0 refl) at
-        by false p = none-some i (is ∙ map.numbered i label (omega (arith, not_from_Decides false p refl)) at)
+        by : (b : Bool) → Decides b (i < first) → (c : Bool) → Decides c (i < ascending) → ⊥
+        by true p c q = none-some i (is ∙ map.numbered_before i label (p.0 refl) at)
+        by false p true q = not_in_run i (omega (arith, not_from_Decides false p refl)) (q.0 refl) at
+        by false p false q = none-some i (is ∙ map.numbered_after i label (omega (arith, not_from_Decides false q refl)) at)
 
 -- a label that has no entry has no number
-pub unnumbered : (es : Entries) (ascending : ℕ) (numbers : Numbers) (label : List ℕ) → IsMap es ascending numbers → IsAbsent es label
+pub unnumbered : (es : Entries) (first ascending : ℕ) (numbers : Numbers) (label : List ℕ) → IsMap es first ascending numbers → IsAbsent es label
     → number_of numbers label ≡ None
-unnumbered es ascending numbers label map absent = by (number_of numbers label) refl
+unnumbered es first ascending numbers label map absent = by (number_of numbers label) refl
   where
     by : (o : Option ℕ) → number_of numbers label ≡ o → o ≡ None
     by None told = refl
     by (Some i) told = absurd (absent i (map.there i label told))
 
+-- the run's first label has no number
+pub unnumbered_first : (es : Entries) (first ascending : ℕ) (numbers : Numbers) (label : List ℕ) → IsMap es first ascending numbers → first < ascending
+    → IsAt es label first → number_of numbers label ≡ None
+unnumbered_first es first ascending numbers label map some at = by (number_of numbers label) refl
+  where
+    by : (o : Option ℕ) → number_of numbers label ≡ o → o ≡ None
+    by None told = refl
+    by (Some i) told =
+        let here : i ≡ first = map.unique i first label (map.there i label told) at in
+        absurd (omega (arith, some, here, map.apart i label told (omega (arith, here))))
+
+-- the label of an entry gets its number
+module _ (es : Entries) (label : List ℕ) (n : ℕ) (unique : AreUnique es) (at : IsAt es label n) (numbers new : Numbers)
+    (gives : (q : List ℕ) → number_of new q ≡ (if bytes_eq label q then Some n else number_of numbers q)) where
+  given : (q : List ℕ) (b : Bool) → bytes_eq label q ≡ b → number_of new q ≡ (if b then Some n else number_of numbers q)
+  given q b told = gives q ∙ ap (λ (c : Bool). if c then Some n else number_of numbers q) told
+
+  -- it has this number, and each other label the one that it had
+  given-number : (i : ℕ) (q : List ℕ) → IsAt es q i → (i ≢ n → number_of numbers q ≡ Some i) → number_of new q ≡ Some i
+  given-number i q is had = by (bytes_eq label q) refl
+    where
+      by : (b : Bool) → bytes_eq label q ≡ b → number_of new q ≡ Some i
+      by true same =
+          let there : IsAt es q n = subst (λ (k : List ℕ). IsAt es k n) ((bytes_eq-Decides label q).0 same) at in
+          given q true same ∙ ap Some (unique n i q there is)
+      by false other =
+          given q false other ∙ had (λ here.
+          let same : q ≡ label = IsAt-same es q label n (subst (IsAt es q) here is) at in
+          let told : bytes_eq label q ≡ true = ap (bytes_eq label) same ∙ nat_list_eq_equiv.refl label in
+          absurd cc)
+
+  -- a number is the new one, or was there
+  given-there : (i : ℕ) (q : List ℕ) (P : ℕ → List ℕ → Type 0) → P n label → (number_of numbers q ≡ Some i → P i q) → number_of new q ≡ Some i → P i q
+  given-there i q P here had is = by (bytes_eq label q) refl
+    where
+      by : (b : Bool) → bytes_eq label q ≡ b → P i q
+      by true same =
+          let number : n ≡ i = ap (λ (o : Option ℕ). unwrap_or o 0) (sym (given q true same) ∙ is) in
+          subst (λ (k : List ℕ). P i k) ((bytes_eq-Decides label q).0 same) (subst (λ (k : ℕ). P k label) number here)
+      by false other = had (sym (given q false other) ∙ is)
+
+-- a run of one label ends: its label gets a number
+module _ (es : Entries) (first ascending : ℕ) (numbers : Numbers) (map : IsMap es first ascending numbers) (label : List ℕ) (at : IsAt es label first)
+    (one : first + 1 ≡ ascending) where
+  pub IsMap-ended : (new : Numbers) → AreFew new → ((q : List ℕ) → number_of new q ≡ (if bytes_eq label q then Some first else number_of numbers q))
+      → IsMap es ascending ascending new
+  IsMap-ended new few gives = record {
+    begins = omega arith;
+    within = map.within;
+    ascend = λ i j a b from less below p q. absurd (omega (arith, from, less, below));
+    numbered_before = λ i q below is.
+        given-number es label first map.unique at numbers new gives i q is (λ other. map.numbered_before i q (omega (arith, other, below, one)) is);
+    numbered_after = λ i q past is. given-number es label first map.unique at numbers new gives i q is (λ other. map.numbered_after i q past is);
+    there = λ i q is. given-there es label first map.unique at numbers new gives i q (λ k l. IsAt es l k) at (map.there i q) is;
+    apart = λ i q is from. from;
+    few = few;
+    unique = map.unique;
+  }
+
 -- a label is added
-module _ (es : Entries) (label : List ℕ) (slot : Slot) (ascending : ℕ) (numbers : Numbers) (map : IsMap es ascending numbers) (absent : IsAbsent es label) where
+module _ (es : Entries) (label : List ℕ) (slot : Slot) (first ascending : ℕ) (numbers : Numbers) (map : IsMap es first ascending numbers) (absent : IsAbsent es label) where
   abbrev pub more : Entries
   more = es ++ (label, slot) ∷ []
 
   count : length more ≡ length es + 1
   count = length-append es ((label, slot) ∷ [])
 
-  -- all labels still ascend
-  pub IsMap-ascending : ascending ≡ length es → AreBefore es label → IsMap more (ascending + 1) numbers
-  IsMap-ascending all before = record {
+  unique : AreUnique more
+  unique = AreUnique-more es label slot map.unique absent
+
+  -- it joins the run
+  pub IsMap-joined : ascending ≡ length es → AreBefore es first label → IsMap more first (ascending + 1) numbers
+  IsMap-joined all before = record {
+    begins = omega (arith, map.begins);
     within = omega (arith, count, all);
-    ascend = ascending_more es label slot ascending map.ascend all before;
-    numbered = λ i q past at. absurd (omega (arith, past, all, count, IsAt-within more q i at));
+    ascend = ascending_more es label slot first ascending map.ascend all before;
+    numbered_before = λ i q below at.
+        map.numbered_before i q below (IsAt-before es (label, slot) q i (omega (arith, below, map.begins, map.within)) at);
+    numbered_after = λ i q past at. absurd (omega (arith, past, all, count, IsAt-within more q i at));
     there = λ i q is. IsAt-left es (label, slot) q i (map.there i q is);
+    apart = λ i q is from. absurd (omega (arith, all, map.apart i q is from, IsAt-within es q i (map.there i q is)));
     few = map.few;
-    unique = AreUnique-more es label slot map.unique absent;
+    unique = unique;
   }
 
   -- it gets a number
-  module _ (new : Numbers) (n : ℕ) (last : n ≡ length es) (few : AreFew new)
-      (gives : (q : List ℕ) → number_of new q ≡ (if bytes_eq label q then Some n else number_of numbers q)) where
-    given : (q : List ℕ) (b : Bool) → bytes_eq label q ≡ b → number_of new q ≡ (if b then Some n else number_of numbers q)
-    given q b told = gives q ∙ ap (λ (c : Bool). if c then Some n else number_of numbers q) told
+  pub IsMap-numbered : (new : Numbers) (n : ℕ) → n ≡ length es → AreFew new
+      → ((q : List ℕ) → number_of new q ≡ (if bytes_eq label q then Some n else number_of numbers q)) → IsMap more first ascending new
+  IsMap-numbered new n last few gives = record {
+    begins = map.begins;
+    within = omega (arith, count, map.within);
+    ascend = ascending_left es label slot first ascending map.ascend map.within;
+    numbered_before = λ i q below is. given-number more label n unique here numbers new gives i q is (λ other. map.numbered_before i q below (earlier i q is other));
+    numbered_after = λ i q past is. given-number more label n unique here numbers new gives i q is (λ other. map.numbered_after i q past (earlier i q is other));
+    there = λ i q is. given-there more label n unique here numbers new gives i q (λ k l. IsAt more l k) here (λ was. IsAt-left es (label, slot) q i (map.there i q was)) is;
+    apart = λ i q is from.
+        given-there more label n unique here numbers new gives i q (λ k l. first ≤ k → ascending ≤ k) (λ past. omega (arith, last, map.within)) (map.apart i q) is from;
+    few = few;
+    unique = unique;
+  }
+    where
+      here : IsAt more label n
+      here = subst (IsAt more label) (sym last) (IsAt-last es label slot)
 
-    numbered : (i : ℕ) (q : List ℕ) → ascending ≤ i → IsAt more q i → number_of new q ≡ Some i
-    numbered i q past at = by (eqb_tells i (length es))
-      where
-        by : ((eqb i (length es) ≡ true) × (i ≡ length es)) ⊎ ((eqb i (length es) ≡ false) × (i ≢ length es)) → number_of new q ≡ Some i
-        by (inl told) =
-            let same : q ≡ label = last-label es label q slot i told.1 at in
-            given q true (ap (bytes_eq label) same ∙ nat_list_eq_equiv.refl label) ∙ ap Some (last ∙ sym told.1)
-        by (inr told) =
-            let was : IsAt es q i = IsAt-before es (label, slot) q i (omega (arith, told.1, count, IsAt-within more q i at)) at in
-            before (bytes_eq label q) refl was
-          where
-            before : (b : Bool) → bytes_eq label q ≡ b → IsAt es q i → number_of new q ≡ Some i
-            before true same was = absurd (absent i (subst (λ (k : List ℕ). IsAt es k i) (sym ((bytes_eq-Decides label q).0 same)) was))
-            before false other was = given q false other ∙ map.numbered i q past was
-
-    there : (i : ℕ) (q : List ℕ) → number_of new q ≡ Some i → IsAt more q i
-    there i q is = by (bytes_eq label q) refl
-      where
-        by : (b : Bool) → bytes_eq label q ≡ b → IsAt more q i
-        by true same =
-            let number : length es ≡ i = sym last ∙ ap (λ (o : Option ℕ). unwrap_or o 0) (sym (given q true same) ∙ is) in
-            subst (λ (k : List ℕ). IsAt more k i) ((bytes_eq-Decides label q).0 same) (subst (IsAt more label) number (IsAt-last es label slot))
-        by false other = IsAt-left es (label, slot) q i (map.there i q (sym (given q false other) ∙ is))
-
-    pub IsMap-numbered : IsMap more ascending new
-    IsMap-numbered = record {
-      within = omega (arith, count, map.within);
-      ascend = ascending_left es label slot ascending map.ascend map.within;
-      numbered = numbered;
-      there = there;
-      few = few;
-      unique = AreUnique-more es label slot map.unique absent;
-    }
+      earlier : (i : ℕ) (q : List ℕ) → IsAt more q i → i ≢ n → IsAt es q i
+      earlier i q is other = IsAt-before es (label, slot) q i (omega (arith, other, last, count, IsAt-within more q i is)) is
 
 -- an entry's slot changes
 module _ (es : Entries) (i : ℕ) (label : List ℕ) (old slot : Slot) (at : slice_get es i ≡ Some (label, old)) where
@@ -154,12 +206,15 @@ module _ (es : Entries) (i : ℕ) (label : List ℕ) (old slot : Slot) (at : sli
           (slot, ap (slice_get now) told.1 ∙ here ∙ ap (λ k. Some (k, slot)) same)
       by (inr told) = (is.0, slice_get-apart es i j (label, slot) told.1 ∙ is.1)
 
-  pub IsMap-set : (ascending : ℕ) (numbers : Numbers) → IsMap es ascending numbers → IsMap now ascending numbers
-  IsMap-set ascending numbers map = record {
+  pub IsMap-set : (first ascending : ℕ) (numbers : Numbers) → IsMap es first ascending numbers → IsMap now first ascending numbers
+  IsMap-set first ascending numbers map = record {
+    begins = map.begins;
     within = omega (arith, map.within, length-set es i (label, slot));
-    ascend = λ j k one other less below a b. map.ascend j k one other less below (was one j a) (was other k b);
-    numbered = λ j q past is. map.numbered j q past (was q j is);
+    ascend = λ j k one other from less below a b. map.ascend j k one other from less below (was one j a) (was other k b);
+    numbered_before = λ j q below is. map.numbered_before j q below (was q j is);
+    numbered_after = λ j q past is. map.numbered_after j q past (was q j is);
     there = λ j q is. stays q j (map.there j q is);
+    apart = map.apart;
     few = map.few;
     unique = λ j k q a b. map.unique j k q (was q j a) (was q k b);
   }

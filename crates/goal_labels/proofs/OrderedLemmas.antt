@@ -55,59 +55,63 @@ label_cmp-tied x y tied =
     by Equal told = told
     by Greater told = absurd (cc)
 
--- a label that comes after all is none of them
-pub before_absent : (es : Entries) (label : List ℕ) → AreBefore es label → IsAbsent es label
-before_absent es label before i at = label_cmp-apart label label (before i label at) refl
+-- a label that comes after all from `first` on is none of them
+pub before_apart : (es : Entries) (first : ℕ) (label : List ℕ) → AreBefore es first label → (i : ℕ) → first ≤ i → IsAt es label i → ⊥
+before_apart es first label before i from at = label_cmp-apart label label (before i label from at) refl
+
+-- one that comes after all is none of all
+pub before_absent : (es : Entries) (label : List ℕ) → AreBefore es 0 label → IsAbsent es label
+before_absent es label before i at = before_apart es 0 label before i (omega arith) at
 
 -- an entry has one label
-IsAt-same : (es : Entries) (one other : List ℕ) (i : ℕ) → IsAt es one i → IsAt es other i → one ≡ other
+pub IsAt-same : (es : Entries) (one other : List ℕ) (i : ℕ) → IsAt es one i → IsAt es other i → one ≡ other
 IsAt-same es one other i a b = ap (λ (o : Option (List ℕ × Slot)). option_map_or (λ e. e.0) o []) (sym a.1 ∙ b.1)
 
--- the last label goes before this one, and all ascend: so all go before it
-pub before_last : (es : Entries) (last label : List ℕ) (n count : ℕ) → AreAscending es count → count ≡ length es → length es ≡ n + 1
-    → IsAt es last n → label_cmp last label ≡ Less → AreBefore es label
-before_last es last label n count ascending all many there less i one at = by (ltb i n) (Decides-ltb _ _)
+-- the last label goes before this one, and those from `first` on ascend: so all of these go before it
+pub before_last : (es : Entries) (last label : List ℕ) (first n count : ℕ) → AreAscending es first count → count ≡ length es → length es ≡ n + 1
+    → IsAt es last n → label_cmp last label ≡ Less → AreBefore es first label
+before_last es last label first n count ascending all many there less i one from at = by (ltb i n) (Decides-ltb _ _)
   where
     by : (c : Bool) → Decides c (i < n) → label_cmp one label ≡ Less
-    by true p = label_cmp-trans one last label (ascending i n one last (p.0 refl) (omega (arith, all, many)) at there) less
+    by true p = label_cmp-trans one last label (ascending i n one last from (p.0 refl) (omega (arith, all, many)) at there) less
     by false p =
         let here : i ≡ n = omega (arith, many, IsAt-within es one i at, not_from_Decides false p refl) in
         ap (λ (k : List ℕ). label_cmp k label) (IsAt-same es one last n (subst (IsAt es one) here at) there) ∙ less
 
 -- among labels that ascend, one that goes before another stands before it
-pub stands_before : (es : Entries) (one other : List ℕ) (i j count : ℕ) → AreAscending es count → i < count → IsAt es one i → IsAt es other j
+pub stands_before : (es : Entries) (one other : List ℕ) (first i j count : ℕ) → AreAscending es first count → first ≤ j → i < count → IsAt es one i → IsAt es other j
     → label_cmp one other ≡ Less → i < j
-stands_before es one other i j count ascending within a b less = by (ltb i j) (Decides-ltb _ _) (ltb j i) (Decides-ltb _ _)
+stands_before es one other first i j count ascending from within a b less = by (ltb i j) (Decides-ltb _ _) (ltb j i) (Decides-ltb _ _)
   where
     by : (c : Bool) → Decides c (i < j) → (d : Bool) → Decides d (j < i) → i < j
     by true p d q = p.0 refl
     by false p true q =
-        let back = ascending j i other one (q.0 refl) within b a in
+        let back = ascending j i other one from (q.0 refl) within b a in
         absurd (label_cmp-apart one one (label_cmp-trans one other one less back) refl)
     by false p false q =
         let here : i ≡ j = omega (arith, not_from_Decides false p refl, not_from_Decides false q refl) in
         absurd (label_cmp-apart one other less (IsAt-same es one other j (subst (IsAt es one) here a) b))
 
 -- a label is added
-module _ (es : Entries) (label : List ℕ) (slot : Slot) (count : ℕ) (ascending : AreAscending es count) where
+module _ (es : Entries) (label : List ℕ) (slot : Slot) (first count : ℕ) (ascending : AreAscending es first count) where
   abbrev more : Entries
   more = es ++ (label, slot) ∷ []
 
-  -- the first ones ascend as before
-  pub ascending_left : count ≤ length es → AreAscending (es ++ (label, slot) ∷ []) count
-  ascending_left within i j one other less below a b =
-      ascending i j one other less below (IsAt-before es _ one i (omega (arith, less, below, within)) a) (IsAt-before es _ other j (omega (arith, below, within)) b)
+  -- the others ascend as before
+  pub ascending_left : count ≤ length es → AreAscending (es ++ (label, slot) ∷ []) first count
+  ascending_left within i j one other from less below a b =
+      ascending i j one other from less below (IsAt-before es _ one i (omega (arith, less, below, within)) a) (IsAt-before es _ other j (omega (arith, below, within)) b)
 
-  -- it comes after all, and all still ascend
-  pub ascending_more : count ≡ length es → AreBefore es label → AreAscending (es ++ (label, slot) ∷ []) (count + 1)
-  ascending_more all before i j one other less below a b = by (ltb j (length es)) (Decides-ltb _ _)
+  -- it comes after these, and all of them still ascend
+  pub ascending_more : count ≡ length es → AreBefore es first label → AreAscending (es ++ (label, slot) ∷ []) first (count + 1)
+  ascending_more all before i j one other from less below a b = by (ltb j (length es)) (Decides-ltb _ _)
     where
       by : (c : Bool) → Decides c (j < length es) → label_cmp one other ≡ Less
       by true p =
           let within = p.0 refl in
-          let first = IsAt-before es _ one i (omega (arith, less, within)) a in
-          ascending i j one other less (omega (arith, all, within)) first (IsAt-before es _ other j within b)
+          let earlier = IsAt-before es _ one i (omega (arith, less, within)) a in
+          ascending i j one other from less (omega (arith, all, within)) earlier (IsAt-before es _ other j within b)
       by false p =
           let last : j ≡ length es = omega (arith, all, below, not_from_Decides false p refl) in
           ap (label_cmp one) (IsAt-same more other label (length es) (subst (IsAt more other) last b) (IsAt-last es label slot))
-          ∙ before i one (IsAt-before es _ one i (omega (arith, less, last)) a)
+          ∙ before i one from (IsAt-before es _ one i (omega (arith, less, last)) a)

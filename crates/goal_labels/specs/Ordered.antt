@@ -1,5 +1,5 @@
 -- Labels in their order. Most blocks number their labels and define them in that order: each comes after all before it.
-use Rattle.std.specs.Prelude.{◌≡◌, ℕ, ◌<◌, List, length}
+use Rattle.std.specs.Prelude.{◌≡◌, ℕ, ◌<◌, ◌≤◌, List, length}
 use Rattle.std.specs.Ordering.{nat_cmp}
 use Rattle.std.specs.declared.cmp.Ordering.{Ordering}
 use Rattle.std.specs.declared.cmp.Ordering.TheVariants.{Less, Equal, Greater}
@@ -16,11 +16,11 @@ or_else Greater second = Greater
 abbrev pub label_cmp : List ℕ → List ℕ → Ordering
 label_cmp one other = or_else (nat_cmp (length one) (length other)) (slice_cmp nat_cmp one other)
 
--- each entry's label goes before this one
-abbrev pub AreBefore : Entries → List ℕ → Type 0
-AreBefore entries label = (i : ℕ) (one : List ℕ) → IsAt entries one i → label_cmp one label ≡ Less
+-- the label of each entry from `first` on goes before this one
+abbrev pub AreBefore : Entries → ℕ → List ℕ → Type 0
+AreBefore entries first label = (i : ℕ) (one : List ℕ) → first ≤ i → IsAt entries one i → label_cmp one label ≡ Less
 
--- the first `count` labels ascend
-abbrev pub AreAscending : Entries → ℕ → Type 0
-AreAscending entries count =
-    (i j : ℕ) (one other : List ℕ) → i < j → j < count → IsAt entries one i → IsAt entries other j → label_cmp one other ≡ Less
+-- the labels from `first` up to `end` ascend
+abbrev pub AreAscending : Entries → ℕ → ℕ → Type 0
+AreAscending entries first end =
+    (i j : ℕ) (one other : List ℕ) → first ≤ i → i < j → j < end → IsAt entries one i → IsAt entries other j → label_cmp one other ≡ Less

@@ -34,15 +34,17 @@ pub struct Entry {
 
 /// Labels with their slots, in the order of their first appearance. Contracts see the list of them.
 ///
-/// Most texts number their labels and define them in that order. Such a label is appended, and found by binary search. From the
-/// first label on that is out of order, each new one gets an entry in [`Numbers`].
+/// Most texts number their labels and define them in that order. Such labels are a run, which ascends: a label joins it at its
+/// end, and binary search finds it. All labels outside the run have an entry in [`Numbers`].
 pub struct LabelMap {
     entries: Vec<Entry>,
     // The bytes of all labels, one label after another: a short label takes little memory.
     bytes: Vec<u8>,
-    // The number of labels, from the first on, that ascend.
+    // The number of the run's first label.
+    first: usize,
+    // The labels from `first` up to this number are the run: they ascend.
     ascending: usize,
-    // The numbers of all later labels.
+    // The numbers of all other labels.
     numbers: Numbers,
     // The numbers of the last two mentions, the last one first. They only save time: any values are right.
     recent: [usize; 2],
@@ -54,6 +56,7 @@ impl Drop for LabelMap {
         let LabelMap {
             entries: _entries,
             bytes: _bytes,
+            first: _,
             ascending: _,
             numbers: _numbers,
             recent: _,
@@ -70,7 +73,7 @@ impl Model for LabelMap {
 
     ghost view = { λ m. entries_of m.bytes.items m.entries.items };
 
-    ghost invariant = { λ m. AreHeld m.bytes.items m.entries.items × IsMap (entries_of m.bytes.items m.entries.items) m.ascending m.numbers };
+    ghost invariant = { λ m. AreHeld m.bytes.items m.entries.items × IsMap (entries_of m.bytes.items m.entries.items) m.first m.ascending m.numbers };
 }
 
 // The label of an entry.
@@ -156,15 +159,21 @@ fn order(one: &[u8], other: &[u8]) -> Ordering
     }
 }
 
-// The number of a label among the first `ascending` labels.
-fn search(entries: &[Entry], bytes: &[u8], ascending: usize, label: &[u8]) -> Option<usize>
+// The number of a label among those from `first` up to `ascending`.
+fn search(
+    entries: &[Entry],
+    bytes: &[u8],
+    first: usize,
+    ascending: usize,
+    label: &[u8],
+) -> Option<usize>
     requires held { AreHeld bytes.now entries.now }
     requires within { ascending ≤ length entries.now }
-    requires ascending { AreAscending (entries_of bytes.now entries.now) ascending }
+    requires ascending { AreAscending (entries_of bytes.now entries.now) first ascending }
     ensures found { IfSome result (IsAt (entries_of bytes.now entries.now) label.now) }
-    ensures absent { IfNone result ((i : ℕ) → i < ascending → IsAt (entries_of bytes.now entries.now) label.now i → ⊥) }
+    ensures absent { IfNone result ((i : ℕ) → first ≤ i → i < ascending → IsAt (entries_of bytes.now entries.now) label.now i → ⊥) }
 {
-    let mut low = 0;
+    let mut low = first;
     let mut high = ascending;
     while low < high {
         let middle = low + (high - low) / 2;
@@ -177,16 +186,12 @@ fn search(entries: &[Entry], bytes: &[u8], ascending: usize, label: &[u8]) -> Op
     None
 }
 
-// Whether all labels ascend, and this one comes after the last.
+// Whether this label comes after the last one. If the last labels ascend, it comes after all of these.
 #[inline(always)]
-fn comes_after_all(entries: &[Entry], bytes: &[u8], ascending: usize, label: &[u8]) -> bool
+fn comes_after_last(entries: &[Entry], bytes: &[u8], label: &[u8]) -> bool
     requires held { AreHeld bytes.now entries.now }
-    requires ascending { AreAscending (entries_of bytes.now entries.now) ascending }
-    ensures { result ≡ true → AreBefore (entries_of bytes.now entries.now) label.now }
+    ensures { result ≡ true → (first : ℕ) → AreAscending (entries_of bytes.now entries.now) first (length entries.now) → AreBefore (entries_of bytes.now entries.now) first label.now }
 {
-    if ascending != entries.len() {
-        return false;
-    }
     let Some(last) = entries.last() else {
         return true;
     };
@@ -200,6 +205,7 @@ fn comes_after_all(entries: &[Entry], bytes: &[u8], ascending: usize, label: &[u
 fn find(
     entries: &[Entry],
     bytes: &[u8],
+    first: usize,
     ascending: usize,
     numbers: &Numbers,
     label: &[u8],
@@ -207,11 +213,14 @@ fn find(
     requires some { 0 < length label.now }
     requires short { length label.now ≤ 64 }
     requires held { AreHeld bytes.now entries.now }
-    requires map { IsMap (entries_of bytes.now entries.now) ascending numbers.now }
+    requires map { IsMap (entries_of bytes.now entries.now) first ascending numbers.now }
     ensures found { IfSome result (IsAt (entries_of bytes.now entries.now) label.now) }
     ensures absent { IfNone result (IsAbsent (entries_of bytes.now entries.now) label.now) }
 {
-    match search(entries, bytes, ascending, label) {
+    if 0 < first && ascending == entries.len() && comes_after_last(entries, bytes, label) {
+        return numbers.get(label);
+    }
+    match search(entries, bytes, first, ascending, label) {
         Some(i) => Some(i),
         None => numbers.get(label),
     }
@@ -243,11 +252,46 @@ fn hold(
     Ok(())
 }
 
-// Appends a label that has no entry. Unless all labels then ascend, it gets a number.
+// Whether a new label joins the run at its end. Where it is out of order, and the run has one label, the last of all, that one
+// gets a number, and the new label begins a run.
+#[inline(always)]
+fn join_run(
+    entries: &[Entry],
+    bytes: &[u8],
+    first: &mut usize,
+    ascending: usize,
+    numbers: &mut Numbers,
+    label: &[u8],
+    after_all: bool,
+) -> Result<bool, AllocError>
+    requires held { AreHeld bytes.now entries.now }
+    requires map { IsMap (entries_of bytes.now entries.now) first.old ascending numbers.old }
+    requires before { after_all ≡ true → AreBefore (entries_of bytes.now entries.now) 0 label.now }
+    ensures map { OnOk result (IsMap (entries_of bytes.now entries.now) first.new ascending numbers.new) }
+    ensures all { IfOk result (λ joins. joins ≡ true → ascending ≡ length entries.now) }
+    ensures before { IfOk result (λ joins. joins ≡ true → AreBefore (entries_of bytes.now entries.now) first.new label.now) }
+{
+    if ascending != entries.len() {
+        return Ok(false);
+    }
+    if after_all || comes_after_last(entries, bytes, label) {
+        return Ok(true);
+    }
+    if *first + 1 != ascending {
+        return Ok(false);
+    }
+    let number = *first;
+    numbers.insert(label_of(bytes, &entries[number]), number)?;
+    *first = ascending;
+    Ok(true)
+}
+
+// Appends a label that has no entry. It joins the run, or gets a number.
 #[inline(always)]
 fn append(
     entries: &mut Vec<Entry>,
     bytes: &mut Vec<u8>,
+    first: &mut usize,
     ascending: &mut usize,
     numbers: &mut Numbers,
     label: &[u8],
@@ -257,16 +301,17 @@ fn append(
     requires some { 0 < length label.now }
     requires short { length label.now ≤ 64 }
     requires held { AreHeld bytes.old.items entries.old.items }
-    requires map { IsMap (entries_of bytes.old.items entries.old.items) ascending.old numbers.old }
+    requires map { IsMap (entries_of bytes.old.items entries.old.items) first.old ascending.old numbers.old }
     requires absent { IsAbsent (entries_of bytes.old.items entries.old.items) label.now }
-    requires before { after_all ≡ true → AreBefore (entries_of bytes.old.items entries.old.items) label.now }
+    requires before { after_all ≡ true → AreBefore (entries_of bytes.old.items entries.old.items) 0 label.now }
     ensures entries { OnOk result (entries_of bytes.new.items entries.new.items ≡ entries_of bytes.old.items entries.old.items ++ (label.now, slot) ∷ []) }
     ensures held { OnOk result (AreHeld bytes.new.items entries.new.items) }
-    ensures map { OnOk result (IsMap (entries_of bytes.new.items entries.new.items) ascending.new numbers.new) }
+    ensures map { OnOk result (IsMap (entries_of bytes.new.items entries.new.items) first.new ascending.new numbers.new) }
 {
     let number = entries.len();
+    let joins = join_run(entries, bytes, first, *ascending, numbers, label, after_all)?;
     hold(entries, bytes, label, slot)?;
-    if after_all && *ascending == number {
+    if joins {
         *ascending = number + 1;
         return Ok(());
     }
@@ -277,16 +322,19 @@ fn append(
 fn forget(
     entries: &mut Vec<Entry>,
     bytes: &mut Vec<u8>,
+    first: &mut usize,
     ascending: &mut usize,
     numbers: &mut Numbers,
 )
     ensures entries { entries.new.items ≡ [] }
+    ensures first { first.new ≡ 0 }
     ensures ascending { ascending.new ≡ 0 }
     ensures none { (label : List ℕ) → number_of numbers.new label ≡ None }
     ensures few { AreFew numbers.new }
 {
     entries.truncate(0);
     bytes.truncate(0);
+    *first = 0;
     *ascending = 0;
     numbers.clear();
 }
@@ -299,6 +347,7 @@ impl LabelMap {
         LabelMap {
             entries: Vec::new(alloc),
             bytes: Vec::new(alloc),
+            first: 0,
             ascending: 0,
             numbers: Numbers::new(alloc),
             recent: [0; 2],
@@ -312,6 +361,7 @@ impl LabelMap {
         forget(
             &mut self.entries,
             &mut self.bytes,
+            &mut self.first,
             &mut self.ascending,
             &mut self.numbers,
         );
@@ -347,6 +397,7 @@ impl LabelMap {
         find(
             &self.entries,
             &self.bytes,
+            self.first,
             self.ascending,
             &self.numbers,
             label,
@@ -356,9 +407,11 @@ impl LabelMap {
     // Whether all labels ascend, and this one comes after the last.
     #[inline(always)]
     fn comes_after_all(&self, label: &[u8]) -> bool
-        ensures { result ≡ true → AreBefore self.now label.now }
+        ensures { result ≡ true → AreBefore self.now 0 label.now }
     {
-        comes_after_all(&self.entries, &self.bytes, self.ascending, label)
+        self.first == 0
+            && self.ascending == self.entries.len()
+            && comes_after_last(&self.entries, &self.bytes, label)
     }
 
     // The number of a label that is near the label mentioned before the last one. A dependency mentions two labels, and most
@@ -384,12 +437,13 @@ impl LabelMap {
         requires some { 0 < length label.now }
         requires short { length label.now ≤ 64 }
         requires absent { IsAbsent self.old label.now }
-        requires before { after_all ≡ true → AreBefore self.old label.now }
+        requires before { after_all ≡ true → AreBefore self.old 0 label.now }
         ensures { OnOk result (self.new ≡ self.old ++ (label.now, slot) ∷ []) }
     {
         let added = append(
             &mut self.entries,
             &mut self.bytes,
+            &mut self.first,
             &mut self.ascending,
             &mut self.numbers,
             label,
@@ -400,6 +454,7 @@ impl LabelMap {
             forget(
                 &mut self.entries,
                 &mut self.bytes,
+                &mut self.first,
                 &mut self.ascending,
                 &mut self.numbers,
             );
@@ -444,9 +499,8 @@ impl LabelMap {
             self.recent = [i, self.recent[0]];
             return Ok(i);
         }
-        let after_all = self.comes_after_all(label);
         let number = self.entries.len();
-        self.add(label, slot, after_all)?;
+        self.add(label, slot, false)?;
         Ok(number)
     }
 

@@ -4,7 +4,11 @@ use Rattle.goal_labels.proofs.label_map.search.Given as goal
 
 abbrev pub invariant-loop-low : goal.invariant-loop-low
 invariant-loop-low l =
-    (l.high ≤ l.ascending) × ((i : ℕ) → i < l.ascending → IsAt (entries_of l.bytes l.entries) l.label i → (l.low ≤ i) × (i < l.high))
+    record {
+      from : l.first ≤ l.low;
+      within : l.high ≤ l.ascending;
+      among : (i : ℕ) → l.first ≤ i → i < l.ascending → IsAt (entries_of l.bytes l.entries) l.label i → (l.low ≤ i) × (i < l.high);
+    }
 
 abbrev pub decreases-loop-low : goal.decreases-loop-low
 decreases-loop-low l = l.high - l.low

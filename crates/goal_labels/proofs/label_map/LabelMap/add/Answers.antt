@@ -8,9 +8,9 @@ pub append-added-requires-clause-absent : goal.append-added-requires-clause-abse
 append-added-requires-clause-absent c = subst (λ (es : Entries). IsAbsent es c.args.label.now) (sym c.self.view_is) c.requires.absent
 
 pub append-added-requires-clause-before : goal.append-added-requires-clause-before
-append-added-requires-clause-before c = λ told. subst (λ (es : Entries). AreBefore es c.args.label.now) (sym c.self.view_is) (c.requires.before told)
+append-added-requires-clause-before c = λ told. subst (λ (es : Entries). AreBefore es 0 c.args.label.now) (sym c.self.view_is) (c.requires.before told)
 
 pub invariant_of-self : goal.invariant_of-self
 invariant_of-self c =
     let now = c.forget.new in
-    keeps-none now.bytes.items now.entries.items now.ascending now.numbers c.forget.ensures.entries c.forget.ensures.ascending c.forget.ensures.none c.forget.ensures.few
+    keeps-none now.bytes.items now.entries.items now.first now.ascending now.numbers c.forget.ensures.entries c.forget.ensures.first c.forget.ensures.ascending c.forget.ensures.none c.forget.ensures.few

@@ -43,8 +43,8 @@ invariant_of-self c =
     let e = c.index_mut.result.now in
     let at : IsAt es label i = subst (λ (ds : Entries). IsAt ds label i) (sym c.self.view_is) c.in-Some.ensures.found in (
       AreHeld-set bytes held label i e c.args.slot at c.index_mut.ensures.value c.self.invariant.0,
-      subst (λ (ds : Entries). IsMap ds c.self.inside.ascending c.self.inside.numbers) (sym (entries_of-set bytes held label i e c.args.slot at c.index_mut.ensures.value))
-          (IsMap-set es i label at.0 c.args.slot at.1 c.self.inside.ascending c.self.inside.numbers c.self.invariant.1),
+      subst (λ (ds : Entries). IsMap ds c.self.inside.first c.self.inside.ascending c.self.inside.numbers) (sym (entries_of-set bytes held label i e c.args.slot at c.index_mut.ensures.value))
+          (IsMap-set es i label at.0 c.args.slot at.1 c.self.inside.first c.self.inside.ascending c.self.inside.numbers c.self.invariant.1),
     )
 
 pub returns-in-Some-clause-old : goal.returns-in-Some-clause-old

@@ -5,10 +5,10 @@ use Rattle.goal_labels.specs.Entries.{entries_of, IsAt}
 use Rattle.goal_labels.proofs.EntryLemmas.{IsAt-within}
 use Rattle.goal_labels.proofs.HeldLemmas.{IsAt-entry, length-entries_of}
 use Rattle.goal_labels.proofs.OrderedLemmas.{before_last}
-use Rattle.goal_labels.proofs.label_map.comes_after_all.Goals as goal
+use Rattle.goal_labels.proofs.label_map.comes_after_last.Goals as goal
 
 pub returns-in_default : goal.returns-in_default
-returns-in_default c = λ told i one at.
+returns-in_default c = λ told first ascending i one from at.
     let bytes = c.args.bytes.now in
     let held = c.args.entries.now in
     let last = length held - 1 in
@@ -18,7 +18,7 @@ returns-in_default c = λ told i one at.
     absurd (none-some _ (c.in_default.ensures.value ∙ slice_get-get_or held last any within))
 
 pub returns-in-Less : goal.returns-in-Less
-returns-in-Less c = λ told.
+returns-in-Less c = λ told first ascending.
     let bytes = c.args.bytes.now in
     let held = c.args.entries.now in
     let es = entries_of bytes held in
@@ -29,5 +29,5 @@ returns-in-Less c = λ told.
     subst (λ k. IsAt es k last) (sym c.label_of.ensures) (IsAt-entry bytes held last c.in-Some.last.now entry) in
     let within : last < length held = slice_get_within held last c.in-Some.last.now entry in
     let count = length-entries_of bytes held in
-    before_last es read c.args.label.now last c.args.ascending c.requires.ascending (omega (arith, c.if-ascending-entries.false, count))
+    before_last es read c.args.label.now first last (length held) ascending (sym count)
     (omega (arith, count, within)) there (sym c.order.ensures ∙ c.in-Less.is)
