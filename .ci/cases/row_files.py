@@ -31,7 +31,7 @@ What may stand in a row, in any order (a line that is indented goes on with the 
     prints: COMMAND        what it must print: what this bash command prints
     checked: COMMAND       instead of both: this bash command, with the output on its standard input, must succeed
     ! LINE                 what it must write to standard error, line by line (nothing)
-    wrote NAME: HEX        a file that it must leave, with these bytes; `none` where it must leave none
+    wrote NAME: HEX        a file that it must leave, with these bytes; `as OTHER` with those of a file of the row, `none` for no file
     kilobytes N            how much address space it has (no limit)
     seconds N              how long it may take (60)
     with KEY=VALUE ..      a row for each such line, with each {KEY} replaced; a value N..M makes a row for each number
