@@ -4,6 +4,7 @@ use crate::same::{same, same_list};
 use goal_graph::{Class, Kind, OpId, Sched, Timed};
 use sim_events::{Engine, EngineFault, History, Record, Unkept};
 use sim_params::{LogGops, Params};
+use sim_timeline::timeline;
 use std::alloc::Global;
 use std::process::Abort;
 use std::test::Fail;
@@ -79,12 +80,22 @@ fn traced(rt: &impl Abort, engine: &Engine<'_, LogGops>) {
     same_list(rt, engine.trace(), trace.as_slice());
 }
 
+// The timeline of its run.
+fn printed(rt: &impl Abort, alloc: Global, engine: &Engine<'_, LogGops>) -> Result<(), Fail> {
+    let text = timeline(alloc, engine.sched(), engine)?;
+    let lines =
+        b"ranks 2 ops 2 stuck 0 unread 0 finish 405210\nop 0 0 send start 0 end 8000 match 1 0\nop 1 0 recv start 0 end 405210 match 0 0\n";
+    same_list(rt, text.as_slice(), lines.as_slice());
+    Ok(())
+}
+
 #[test]
 fn a_large_message(rt: HostRuntime) -> Result<(), Fail> {
     let sched = large_message(rt.alloc())?;
     let mut engine = Engine::new(rt.alloc(), &sched, costs()?)?;
     engine.run();
-    traced(&rt, &engine);
+    use sim_timeline::timeline;
+    use std::alloc::Global;
     let sent = (Some(0), Some(8000), id(1, 0));
     same(&rt, &told(&rt, &engine, 0, 0), &sent);
     let received = (Some(0), Some(405_210), id(0, 0));

@@ -4,8 +4,9 @@ ghost use Rattle.goal_graph.specs.declared.action.Class.TheVariants.{Begin};
 
 use crate::same::same;
 use goal_graph::{Class, Kind, Op, OpId, RankPlan, Sched};
+use goal_limits::NoMemory;
 use sim_order::{CompactKey, Counted, Steps};
-use sim_queue::{Arrivals, EventQueue, RankedQueue, SlotHeap, TopHeap, VecQueue};
+use sim_queue::{Arrivals, EventQueue, RankedQueue, SlotHeap, TopHeap, VecQueue, row_28};
 use std::alloc::{AllocError, Global};
 use std::marker::Brand;
 use std::sync::ledger::{Blank, Ledger};
@@ -126,5 +127,26 @@ fn the_least_of_a_top_heap(rt: HostRuntime) -> Result<(), Fail> {
     let (first, second) = first_and_second::<Brand>(&mut heap, Blank::new(1));
     same(&rt, &first, &Some((1, begin(2))));
     same(&rt, &second, &Some((2, begin(3))));
+    Ok(())
+}
+
+// The least of the heap that is given twelve keys as it is made.
+fn least_of_twelve<L: Ledger>(
+    alloc: Global,
+    blank: Blank,
+) -> Result<Option<(u32, Counted<u64>)>, NoMemory>
+    requires name { blank.name ≡ L.name }
+    requires parts { blank.parts ≡ L.parts }
+    requires some { 0 < blank.parts }
+{
+    let mut steps = Steps::<L>::new(blank);
+    let heap = row_28(alloc, &mut steps)?;
+    Ok(heap.least(&mut steps))
+}
+
+#[test]
+fn the_least_of_twelve_keys(rt: HostRuntime) -> Result<(), Fail> {
+    let least = least_of_twelve::<Brand>(rt.alloc(), Blank::new(1))?;
+    same(&rt, &least, &Some((0, Counted(1))));
     Ok(())
 }
