@@ -1,5 +1,7 @@
 #!/usr/bin/env python3
 """Tests of .ci/docs: it runs what a document shows, and says where that differs."""
+from __future__ import annotations
+
 import os
 import subprocess
 import tempfile
@@ -39,7 +41,7 @@ $ tools/timeline examples/exchange -o exchange.svg
 
 
 class Documents(unittest.TestCase):
-    def checked(self, text, *words):
+    def checked(self, text: str, *words: str) -> tuple[bool, str]:
         """What .ci/docs says of a document, and whether it passes."""
         with tempfile.TemporaryDirectory() as folder:
             path = os.path.join(folder, "text.md")
@@ -48,17 +50,17 @@ class Documents(unittest.TestCase):
             done = subprocess.run([os.path.join(TOP, ".ci", "docs"), *words, path], capture_output=True, text=True, check=False)
         return done.returncode == 0, done.stdout
 
-    def test_what_is_shown_is_printed(self):
+    def test_what_is_shown_is_printed(self) -> None:
         passes, said = self.checked(HONEST, "--draw")
         self.assertTrue(passes, said)
         self.assertIn("5 commands, all as shown", said)
 
-    def test_a_picture_must_be_there_as_it_is_drawn(self):
+    def test_a_picture_must_be_there_as_it_is_drawn(self) -> None:
         passes, said = self.checked(HONEST)
         self.assertFalse(passes)
         self.assertIn("the picture exchange.svg is not the one that its commands draw", said)
 
-    def test_what_differs_is_told(self):
+    def test_what_differs_is_told(self) -> None:
         for old, new, line in (("finish 100", "finish 101", 15), ("    ...\n", "", 4), ("    c\n", "    d\n", 4), ("    3\n", "", 15)):
             with self.subTest(new):
                 passes, said = self.checked(HONEST.replace(old, new), "--draw")

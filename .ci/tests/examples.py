@@ -14,15 +14,15 @@ EXAMPLES = os.path.join(TOP, "examples")
 
 
 class Told(unittest.TestCase):
-    def setUp(self):
+    def setUp(self) -> None:
         with open(os.path.join(EXAMPLES, "README.md"), encoding="utf-8") as file:
             self.text = file.read()
 
-    def test_each_file_is_told(self):
+    def test_each_file_is_told(self) -> None:
         told = set(re.findall(r"^\| `(\w+)` \||^\*\*An? \w+\*\*, `([\w.]+)`", self.text, re.MULTILINE))
         self.assertEqual({one or other for one, other in told}, set(os.listdir(EXAMPLES)) - {"README.md"})
 
-    def test_they_end_as_told(self):
+    def test_they_end_as_told(self) -> None:
         rows = re.findall(r"^\| `(\w+)` \| .* \| (\d) \|$", self.text, re.MULTILINE)
         self.assertEqual(len(rows), 12)
         for name, status in rows:

@@ -1,6 +1,8 @@
 #!/usr/bin/env python3
 """Tests of launch/explain.py: it finds a fault in words exactly where the program says that they are no command line; it names the
 word, the file and the place of a byte; and where nobody reads, not a byte is added."""
+from __future__ import annotations
+
 import gzip
 import os
 import pty
@@ -9,6 +11,7 @@ import subprocess
 import sys
 import tempfile
 import unittest
+from typing import Any, Sequence
 
 TOP = os.path.dirname(os.path.dirname(os.path.dirname(os.path.abspath(__file__))))
 sys.path[:0] = [os.path.join(TOP, "tools"), os.path.join(TOP, "launch")]
@@ -20,7 +23,7 @@ SEED = 20261201
 EXCHANGE = os.path.join(TOP, "examples", "exchange")
 
 
-def explained(words, **how):
+def explained(words: Sequence[str], **how: Any) -> tuple[int, str, list[str]]:
     """What the program says with these words where a person reads: its status, standard output and standard error."""
     code = "import sys; sys.path.insert(0, sys.argv[1]); import explain; explain.become(sys.argv[2], sys.argv[3:])"
     command = [sys.executable, "-c", code, os.path.join(TOP, "launch"), GOAL, *words]
@@ -30,7 +33,7 @@ def explained(words, **how):
 
 
 class Lines(unittest.TestCase):
-    def test_the_word_at_fault(self):
+    def test_the_word_at_fault(self) -> None:
         for words, wanted in (
                 ("sim --L 1us x", "word 3: 1us is not a number: 1 to 20 digits, in ns. The form is: goal sim NAME [--L N]"),
                 ("sim x --L=1us", "word 3: 1us is not a number: 1 to 20 digits, in ns."),
@@ -49,7 +52,7 @@ class Lines(unittest.TestCase):
             self.assertEqual(len(said), 1, words)
             self.assertTrue(said[0].startswith(wanted), (words, said[0]))
 
-    def test_a_fault_is_found_where_the_program_finds_one(self):
+    def test_a_fault_is_found_where_the_program_finds_one(self) -> None:
         draw = random.Random(SEED)
         pieces = [*explain.COMMANDS, *explain.KINDS, *explain.RUN_OPTIONS, "--root", "--L=5", "--G=x", "--S=", "--Gp=999", "--Gp=1000", "--l=1", "-",
                   "", "/dev/null", "0", "1", "8", "007", "65536", "65537", "300000", "300001", "99999999999999999999", "123456789012345678901",
@@ -76,32 +79,32 @@ class Lines(unittest.TestCase):
 
 
 class Files(unittest.TestCase):
-    def setUp(self):
+    def setUp(self) -> None:
         folder = tempfile.TemporaryDirectory()
         self.addCleanup(folder.cleanup)
         self.folder = folder.name
 
-    def file(self, content, name="it"):
+    def file(self, content: bytes, name: str = "it") -> str:
         path = os.path.join(self.folder, name)
         with open(path, "wb") as file:
             file.write(content)
         return path
 
-    def added(self, *words):
+    def added(self, *words: str) -> str:
         """The line that is added, without the folder."""
         status, out, lines = explained(words)
         self.assertEqual((out, len(lines), status in (3, 4)), ("", 2, True), (words, lines))
         self.assertEqual(lines[0], program.call(GOAL, words).err)
         return lines[1].replace(self.folder + "/", "")
 
-    def test_a_file_that_can_not_be_read(self):
+    def test_a_file_that_can_not_be_read(self) -> None:
         path = self.file(b"num_ranks 1")
         self.assertEqual(self.added("sim", path + "x"), "goal: itx is not there")
         self.assertEqual(self.added("sim", path + "/x"), "goal: it/x lies below a file")
         self.assertEqual(self.added("nodes", path, self.folder), f"goal: {self.folder} is a folder")
         self.assertEqual(self.added("sim", ""), "goal: '' is not there")
 
-    def test_a_file_that_is_something_else(self):
+    def test_a_file_that_is_something_else(self) -> None:
         text = b"num_ranks 1\nrank 0 { calc 5 }\n"
         with open(os.path.join(TOP, "examples", "two_nodes"), "rb") as file:
             machine = file.read()
@@ -115,39 +118,39 @@ class Files(unittest.TestCase):
         self.assertEqual(self.added("nodes", path, self.file(b"class a L=5\n", "cluster")), "goal: cluster is a description: `tools/machine cluster` writes the MACHINE")
         self.assertEqual(self.added("nodes", path, path), "goal: it is a schedule: it stands before the MACHINE")
 
-    def test_the_place_of_a_byte(self):
+    def test_the_place_of_a_byte(self) -> None:
         path = self.file(b"num_ranks 2\nrank 0 {\n  a: calc 100\n  b: send 10b 1\n}\n")
         self.assertEqual(self.added("sim", path), "goal: it:4:15: here is 1")
         self.assertEqual(self.added("sim", self.file(b"num_ranks 2 rank 0 {")), "goal: it:1:21: here is the end")
         self.assertEqual(self.added("nodes", EXCHANGE, self.file(b"classes 1\nclass 1 2 x")), "goal: it:2:11: here is x")
         self.assertEqual(self.added("sim", self.file(b"num_ranks 1\nrank 0 { a: calc 1 b: calc 2 a requires b b requires a }")), "goal: it:2:10: 0 0 is a: calc 1")
 
-    def test_what_needs_more_than_a_place(self):
+    def test_what_needs_more_than_a_place(self) -> None:
         self.assertEqual(self.added("gen", "allreduce", "6", "8"), "goal: an allreduce has 1, 2, 4, 8 .. ranks; tools/schedule writes allreduces of any number")
         self.assertEqual(self.added("gen", "alltoall", "600", "8"), "goal: it is made for at most 512 ranks")
         machine = os.path.join(TOP, "examples", "two_nodes")
         self.assertEqual(self.added("nodes", EXCHANGE, machine), f"goal: {explain.shown(machine)} has nodes for 16 ranks, and the schedule has another number of ranks")
 
-    def test_what_came_through_a_pipe_is_gone(self):
+    def test_what_came_through_a_pipe_is_gone(self) -> None:
         status, _, lines = explained(["sim", "/dev/stdin"], input=b"num_ranks")
         self.assertEqual((status, lines), (3, ["goal: refused: text: syntax at 9"]))
 
 
 class Help(unittest.TestCase):
-    def test_the_commands_in_ten_lines(self):
-        for words in ([], ["--help"]):
+    def test_the_commands_in_ten_lines(self) -> None:
+        for words in ((), ["--help"]):
             status, out, lines = explained(words)
             self.assertEqual((status, out, lines[0], len(lines)), (2, "", "goal: the words are not a command line of goal", 11))
             for name, line in zip(explain.COMMANDS, lines[2:]):
                 self.assertTrue(line.startswith(f"  goal {name} "), line)
             self.assertLess(max(map(len, lines)), 100)
 
-    def test_the_version(self):
+    def test_the_version(self) -> None:
         status, _, lines = explained(["--version"])
         self.assertEqual((status, len(lines)), (2, 2))
         self.assertIn("the sources are", lines[1])
 
-    def test_the_documents_have_the_forms(self):
+    def test_the_documents_have_the_forms(self) -> None:
         with open(os.path.join(TOP, "docs", "COMMANDS.md"), encoding="utf-8") as file:
             text = file.read()
         self.assertIn(explain.form_of("sim"), text)
@@ -156,19 +159,19 @@ class Help(unittest.TestCase):
 
 
 class Quiet(unittest.TestCase):
-    def test_without_a_reader_nothing_is_added(self):
+    def test_without_a_reader_nothing_is_added(self) -> None:
         env = {key: value for key, value in os.environ.items() if key != "GOAL_EXPLAIN"}
-        for words in ([], ["--help"], ["sim"], ["sim", "/no/such/file"], ["sim", "/dev/null"], ["knots", EXCHANGE],
+        for words in ((), ["--help"], ["sim"], ["sim", "/no/such/file"], ["sim", "/dev/null"], ["knots", EXCHANGE],
                       ["knots", os.path.join(TOP, "examples", "both_send_first")]):
             answer = program.call(GOAL, words)
             self.assertEqual(explained(words, env=env), (answer.status, answer.out, answer.err.splitlines()), words)
 
-    def test_what_succeeds_has_nothing_added(self):
+    def test_what_succeeds_has_nothing_added(self) -> None:
         for words in (["knots", EXCHANGE], ["knots", os.path.join(TOP, "examples", "both_send_first")]):
             answer = program.call(GOAL, words)
             self.assertEqual(explained(words), (answer.status, answer.out, []), words)
 
-    def test_on_a_terminal(self):
+    def test_on_a_terminal(self) -> None:
         ours, its = pty.openpty()
         code = "import sys; sys.path.insert(0, sys.argv[1]); import explain; explain.become(sys.argv[2], sys.argv[3:])"
         env = {key: value for key, value in os.environ.items() if key != "GOAL_EXPLAIN"}
@@ -179,7 +182,7 @@ class Quiet(unittest.TestCase):
         os.close(ours)
         self.assertEqual((done.returncode, told), (4, ["goal: reading failed", "goal: /no/such/file is not there"]))
 
-    def test_the_words_of_the_launcher(self):
+    def test_the_words_of_the_launcher(self) -> None:
         done = subprocess.run([sys.executable, os.path.join(TOP, "launch", "explain.py"), GOAL, "4", "sim", "/no/such/file"], capture_output=True, text=True, check=False)
         self.assertEqual((done.returncode, done.stdout, done.stderr), (0, "", "goal: /no/such/file is not there\n"))
 

@@ -1,5 +1,7 @@
 #!/usr/bin/env python3
 """Tests of tools/locate: bytes of refusals, words of machines, and operations as they are written."""
+from __future__ import annotations
+
 import os
 import re
 import subprocess
@@ -23,17 +25,17 @@ rank 0{recv 8b from 2 tag 4 calc 7}// \xc3\xa4
 rank 1 { }"""
 
 
-def located(*words, text=None):
+def located(*words: str, text: bytes | None = None) -> subprocess.CompletedProcess[bytes]:
     return subprocess.run([os.path.join(TOP, "tools", "locate"), *words], input=text, capture_output=True, check=False)
 
 
 class Operations(unittest.TestCase):
-    def test_they_are_found_as_written(self):
+    def test_they_are_found_as_written(self) -> None:
         said = [(one.rank, one.number, str(one), line_and_column(TEXT, one.byte)[:2]) for one in operations(TEXT)]
         self.assertEqual(said, [(2, 0, "a: calc 5 cpu 1", (3, 2)), (2, 1, "b: send 8b to 0 tag 4 nic 1", (4, 16)),
                                 (0, 0, "recv 8b from 2 tag 4", (7, 8)), (0, 1, "calc 7", (7, 29))])
 
-    def test_they_are_those_that_the_program_reads(self):
+    def test_they_are_those_that_the_program_reads(self) -> None:
         """Of each example: as many for each rank, of the same kind and size."""
         folder = os.path.join(TOP, "examples")
         for name in sorted(os.listdir(folder)):
@@ -48,33 +50,33 @@ class Operations(unittest.TestCase):
 
 
 class Words(unittest.TestCase):
-    def test_a_byte_is_shown(self):
+    def test_a_byte_is_shown(self) -> None:
         text = b"num_ranks 2\nrank 0 {\n\tsend 8b too 1\n}\n"
         said = program.call(GOAL, ["sim", "/dev/stdin"], text.decode()).err
         self.assertEqual(said, "goal: refused: text: syntax at 30")
         self.assertEqual(located("-", "30", text=text).stdout.decode(), "-:3:10\n\tsend 8b too 1\n\t        ^\n")
 
-    def test_the_end_is_a_place(self):
+    def test_the_end_is_a_place(self) -> None:
         self.assertEqual(located("-", "2", text=b"a\n").stdout, b"-:2:1\n\n^\n")
         self.assertEqual(located("-", "0", text=b"").stdout, b"-:1:1\n\n^\n")
 
-    def test_columns_are_characters_and_long_lines_are_cut(self):
+    def test_columns_are_characters_and_long_lines_are_cut(self) -> None:
         self.assertEqual(located("-", "3", text=b"\xc3\xa4 b").stdout.decode(), "-:1:3\nä b\n  ^\n")
         said = located("-", "200", text=b"x" * 400).stdout.decode().split("\n")
         self.assertEqual((said[0], said[1], said[2]), ("-:1:201", "x" * 120, " " * 60 + "^"))
 
-    def test_operations_are_shown_in_the_order_asked(self):
+    def test_operations_are_shown_in_the_order_asked(self) -> None:
         said = located("-", "0", "1", "2", "0", text=TEXT).stdout.decode()
         self.assertEqual(said, "-:7:29: 0 1 is calc 7\n-:3:2: 2 0 is a: calc 5 cpu 1\n")
 
-    def test_a_word_of_a_machine(self):
+    def test_a_word_of_a_machine(self) -> None:
         machine = "classes 1\nclass 1 2 3 4 5 6 7\ninside 0 default 0"
         said = program.call(GOAL, ["nodes", os.path.join(TOP, "examples", "one_calc"), "/dev/stdin"], machine).err
         self.assertEqual(said, "goal: refused: machine: syntax at 10")
         self.assertEqual(located("--word", "-", "10", text=machine.encode()).stdout.decode(),
                          "-:3:1\ninside 0 default 0\n^\n")
 
-    def test_lines_are_read_as_they_are_printed(self):
+    def test_lines_are_read_as_they_are_printed(self) -> None:
         """Of each form of line: what stands below it."""
         text = b"num_ranks 2\nrank 0 { a: send 8b to 1  b: calc 5 b requires a a moves 0 to 0 }\nrank 1 { recv 8b from 0 }\n"
         a, b, c = "0 0 is a: send 8b to 1", "0 1 is b: calc 5", "1 0 is recv 8b from 0"
@@ -99,7 +101,7 @@ class Words(unittest.TestCase):
             ended = located(file.name, text=b"alone 7 0 behind 1\n")
             self.assertEqual((ended.returncode, ended.stderr.decode()), (2, f"locate: {file.name}: rank 7 has no operation 0\n"))
 
-    def test_all_that_goal_prints_is_taken(self):
+    def test_all_that_goal_prints_is_taken(self) -> None:
         folder = os.path.join(TOP, "examples")
         for name in ("both_send_first", "alltoall_send_first", "exchange", "waits", "cycle"):
             path = os.path.join(folder, name)
@@ -108,7 +110,7 @@ class Words(unittest.TestCase):
                 ended = located(path, text=(answer.out + answer.err + "\n").encode())
                 self.assertEqual((ended.returncode, ended.stderr), (0, b""), words)
 
-    def test_what_is_wrong_is_told_in_one_line(self):
+    def test_what_is_wrong_is_told_in_one_line(self) -> None:
         for words, text, why in ((["-", "9"], b"abc", "- has only 3 bytes"), (["-", "0", "1"], b"num_ranks 1", "-: rank 0 has no operation 1"),
                                  (["-", "0", "1", "2"], b"", "give one number"), (["--word", "-", "0", "1"], b"", "give one number"),
                                  (["--word", "-", "3"], b"a b", "- has only 2 words"), (["-", "0"], b"\x89GOAL", "- is a compiled file"),

@@ -2,12 +2,15 @@
 """Tests of tools/schedule: each algorithm is certified over many ranks, roots, segments and sizes, and in each segment; it
 ends with large messages and small ones; it has the messages, bytes and sums that its table says; and what is spoilt in its
 slots, needs or tags is refused."""
+from __future__ import annotations
+
 import os
 import random
 import re
 import subprocess
 import sys
 import unittest
+from typing import Iterator
 from unittest import mock
 
 TOP = os.path.dirname(os.path.dirname(os.path.dirname(os.path.abspath(__file__))))
@@ -15,7 +18,7 @@ sys.path.insert(0, os.path.join(TOP, "tools"))
 import segmented
 from algorithms import plan
 from algorithms.collectives import Wish
-from algorithms.table import ALGORITHMS, printed
+from algorithms.table import ALGORITHMS, Algorithm, printed
 from common import command, program
 
 GOAL = program.chosen()
@@ -24,13 +27,13 @@ SIZES = (0, 1, 7, 1000, 65537)
 LARGER = (32, 33, 64)
 
 
-def allowed(algorithm, ranks):
+def allowed(algorithm: Algorithm, ranks: int) -> bool:
     if algorithm.limit == "even":
         return ranks % 2 == 0
     return algorithm.limit == "any" or ranks & (ranks - 1) == 0
 
 
-def wishes(algorithm):
+def wishes(algorithm: Algorithm) -> Iterator[Wish]:
     """Ranks up to 20 and some more; all roots of few ranks; segments 1 to 8; nodes of several sizes; each size in turn."""
     draw = random.Random(SEED)
     for ranks in (*range(1, 21), *LARGER):
@@ -46,21 +49,21 @@ def wishes(algorithm):
                 yield Wish(ranks, draw.choice(SIZES), root, segments, node, draw.choice((0, 250)))
 
 
-def words_of(algorithm, wish):
+def words_of(algorithm: Algorithm, wish: Wish) -> list[str]:
     return ["--root", str(wish.root)] if algorithm.kind() in program.ROOTED else []
 
 
-def segments_of(algorithm, wish):
+def segments_of(algorithm: Algorithm, wish: Wish) -> int:
     """How many slots the vector is cut into."""
     return len(algorithm.make(wish).sizes) if algorithm.kind() in ("bcast", "allreduce") else 1
 
 
-def verdict(algorithm, wish, text):
+def verdict(algorithm: Algorithm, wish: Wish, text: str) -> str:
     words = ["certify", algorithm.kind(), "/dev/stdin", *words_of(algorithm, wish)]
     return program.expect(program.call(GOAL, words, text), program.DONE, program.NOT_CERTIFIED).out.strip()
 
 
-def fault_in(algorithm, wish, text):
+def fault_in(algorithm: Algorithm, wish: Wish, text: str) -> str | None:
     """The first verdict on a segment that is not certified, or None."""
     segments = segmented.Segments(GOAL, algorithm.kind(), text, wish.root)
     if segments.fault:
@@ -69,17 +72,17 @@ def fault_in(algorithm, wish, text):
 
 
 class Certified(unittest.TestCase):
-    def test_each_is_certified_and_ends(self):
+    def test_each_is_certified_and_ends(self) -> None:
         for algorithm in ALGORITHMS:
             for wish in wishes(algorithm):
                 with self.subTest(f"{algorithm.name} {wish}"):
                     text = "".join(algorithm.make(wish).text())
                     self.assertEqual(verdict(algorithm, wish, text), f"certified {algorithm.kind()} ranks {wish.ranks}")
-                    for options in ([], ["--S", "0"]):
+                    for options in ((), ["--S", "0"]):
                         ended = program.call(GOAL, ["sim", "/dev/stdin", *options], text)
                         self.assertRegex(ended.out, r"^ranks \d+ ops \d+ stuck 0 unread 0 finish ")
 
-    def test_each_segment_is_certified(self):
+    def test_each_segment_is_certified(self) -> None:
         for algorithm in ALGORITHMS:
             if algorithm.kind() in ("bcast", "allreduce"):
                 for wish in wishes(algorithm):
@@ -87,33 +90,33 @@ class Certified(unittest.TestCase):
                         with self.subTest(f"{algorithm.name} {wish}"):
                             self.assertIsNone(fault_in(algorithm, wish, "".join(algorithm.make(wish).text())))
 
-    def test_of_512_ranks_some_are_certified(self):
+    def test_of_512_ranks_some_are_certified(self) -> None:
         for algorithm in ALGORITHMS:
             if algorithm.name in ("bcast-binary", "allreduce-halving-doubling", "allgather-bruck", "alltoall-bruck", "gather-tree"):
                 wish = Wish(512, 1001)
                 text = "".join(algorithm.make(wish).text())
                 self.assertEqual(verdict(algorithm, wish, text), f"certified {algorithm.kind()} ranks 512", algorithm.name)
 
-    def test_the_text_is_canonical(self):
+    def test_the_text_is_canonical(self) -> None:
         for algorithm in ALGORITHMS:
             text = "".join(algorithm.make(Wish(8, 1001, sum_ps=333)).text())
             self.assertEqual(program.call(GOAL, ["show", "/dev/stdin"], text).out, text, algorithm.name)
 
 
-def changed(text, line, new):
+def changed(text: str, line: int, new: str | None) -> str:
     """The text with this line, by number, replaced, or left out where there is no new one."""
     lines = text.split("\n")
     return "\n".join(lines[:line] + ([] if new is None else [new]) + lines[line + 1:])
 
 
-def lines_with(text, form):
+def lines_with(text: str, form: str) -> list[int]:
     return [number for number, line in enumerate(text.split("\n")) if re.search(form, line)]
 
 
 class Spoilt(unittest.TestCase):
     """Changes at places that are drawn, in schedules of six ranks and of eight."""
 
-    def cases(self):
+    def cases(self) -> Iterator[tuple[random.Random, Algorithm, Wish, str]]:
         draw = random.Random(SEED)
         for algorithm in ALGORITHMS:
             for ranks in (6, 8):
@@ -122,7 +125,7 @@ class Spoilt(unittest.TestCase):
                     wish = Wish(ranks, 1000, segments=segments, node=3 if "node" in algorithm.options else 1)
                     yield draw, algorithm, wish, "".join(algorithm.make(wish).text())
 
-    def test_a_note_with_another_slot_is_refused(self):
+    def test_a_note_with_another_slot_is_refused(self) -> None:
         """The next slot. In a broadcast a piece that a rank has already may go anywhere but into another piece."""
         for draw, algorithm, wish, text in self.cases():
             pieces = segments_of(algorithm, wish) if algorithm.kind() == "bcast" else 1 << 16
@@ -133,7 +136,7 @@ class Spoilt(unittest.TestCase):
                 with self.subTest(f"{algorithm.name} {wish}: line {line + 1} is {other}"):
                     self.assertIsNotNone(fault_in(algorithm, wish, changed(text, line, other)))
 
-    def test_each_need_but_those_of_steps_is_needed(self):
+    def test_each_need_but_those_of_steps_is_needed(self) -> None:
         for draw, algorithm, wish, text in self.cases():
             if algorithm.name != "alltoall-pairwise":
                 needs = lines_with(text, "requires")
@@ -141,7 +144,7 @@ class Spoilt(unittest.TestCase):
                     with self.subTest(f"{algorithm.name} {wish}: without line {line + 1}"):
                         self.assertRegex(verdict(algorithm, wish, changed(text, line, None)), "^not certified: race ")
 
-    def test_another_tag_is_refused(self):
+    def test_another_tag_is_refused(self) -> None:
         for draw, algorithm, wish, text in self.cases():
             for line in draw.sample(lines_with(text, "tag"), 3):
                 other = re.sub(r"tag (\d+)", lambda tag: f"tag {int(tag[1]) + 1}", text.split("\n")[line])
@@ -172,11 +175,11 @@ TOLD = {
 
 
 class Table(unittest.TestCase):
-    def sends(self, name, wish):
+    def sends(self, name: str, wish: Wish) -> list[int]:
         algorithm = next(algorithm for algorithm in ALGORITHMS if algorithm.name == name)
         return [int(size) for size in re.findall(r": send (\d+)b", "".join(algorithm.make(wish).text()))]
 
-    def test_messages_and_bytes_are_as_told(self):
+    def test_messages_and_bytes_are_as_told(self) -> None:
         self.assertEqual(set(TOLD), {algorithm.name for algorithm in ALGORITHMS})
         for algorithm in ALGORITHMS:
             wish = Wish(8, 8000 if algorithm.kind() in ("bcast", "allreduce") else 1000, node=4,
@@ -184,11 +187,11 @@ class Table(unittest.TestCase):
             sends = self.sends(algorithm.name, wish)
             self.assertEqual((len(sends), sum(sends)), TOLD[algorithm.name], algorithm.name)
 
-    def test_six_ranks_of_which_four_take_part(self):
+    def test_six_ranks_of_which_four_take_part(self) -> None:
         sends = self.sends("allreduce-halving-doubling", Wish(6, 4000))
         self.assertEqual((len(sends), sum(sends)), (2 * 4 * 2 + 2 * 2, 2 * 5 * 4000))
 
-    def crossings(self, name, wish, node):
+    def crossings(self, name: str, wish: Wish, node: int) -> tuple[int, int]:
         """The bytes that go between nodes, and the largest message that does."""
         algorithm = next(algorithm for algorithm in ALGORITHMS if algorithm.name == name)
         sizes, source = [], 0
@@ -199,7 +202,7 @@ class Table(unittest.TestCase):
                 sizes.append(int(words[2][:-1]))
         return sum(sizes), max(sizes)
 
-    def test_what_leaves_a_node(self):
+    def test_what_leaves_a_node(self) -> None:
         """Where the largest messages go far, each rank sends three quarters of the vector to other nodes; where they stay near,
         or the sums of a node are made inside it, three sixteenths."""
         self.assertEqual(self.crossings("allreduce-halving-doubling", Wish(16, 16000), 4), (2 * 12 * 16000, 8000))
@@ -207,32 +210,32 @@ class Table(unittest.TestCase):
         self.assertEqual(self.crossings("allreduce-hierarchical", Wish(16, 16000, node=4), 4), (2 * 3 * 16000, 2000))
         self.assertEqual(self.crossings("allreduce-hierarchical", Wish(18, 18000, node=6), 6), (2 * 2 * 18000, 1000))
 
-    def test_pieces_differ_by_a_byte(self):
+    def test_pieces_differ_by_a_byte(self) -> None:
         self.assertEqual(self.sends("bcast-chain", Wish(2, 10, segments=4)), [2, 3, 2, 3])
 
-    def test_a_sum_is_rounded_up(self):
+    def test_a_sum_is_rounded_up(self) -> None:
         algorithm = next(algorithm for algorithm in ALGORITHMS if algorithm.name == "allreduce-reduce-bcast")
         text = "".join(algorithm.make(Wish(2, 1001, sum_ps=333)).text())
         self.assertEqual(re.findall(r": calc (\d+)", text), ["334"])
 
-    def test_more_than_a_schedule_may_have_is_a_fault(self):
+    def test_more_than_a_schedule_may_have_is_a_fault(self) -> None:
         for most, what in (("MOST_OPERATIONS", "operations"), ("MOST_NEEDS", "dependencies"), ("MOST_NOTES", "notes")):
             with mock.patch.object(plan, most, 5), self.assertRaisesRegex(command.Fault, f"^more than 5 {what}: "):
                 ALGORITHMS[0].make(Wish(9, 8, segments=2))
 
-    def test_the_documents_have_it(self):
+    def test_the_documents_have_it(self) -> None:
         with open(os.path.join(TOP, "docs", "COLLECTIVES.md"), encoding="utf-8") as file:
             self.assertIn(printed(), file.read())
 
 
 class Words(unittest.TestCase):
-    def ended(self, *words):
+    def ended(self, *words: str) -> subprocess.CompletedProcess[str]:
         return subprocess.run([os.path.join(TOP, "tools", "schedule"), *words], capture_output=True, encoding="utf-8", check=False)
 
-    def test_the_list_is_the_table(self):
+    def test_the_list_is_the_table(self) -> None:
         self.assertEqual(self.ended("--list").stdout.strip(), printed())
 
-    def test_what_is_wrong_is_told_in_one_line(self):
+    def test_what_is_wrong_is_told_in_one_line(self) -> None:
         for words, why in (
                 ("bcast-chain 4 8 --root 4", "the root 4 is none of 4 ranks"),
                 ("bcast-chain 4 8 --node 2", "bcast-chain takes no --node"),

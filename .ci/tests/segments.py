@@ -1,6 +1,8 @@
 #!/usr/bin/env python3
 """Tests of tools/segments: whole segments are certified, each spoilt one is found and told in the schedule's own numbers, and
 so is one that gets what belongs to another. Where a note is spoilt, all is found that a check of every slot finds."""
+from __future__ import annotations
+
 import os
 import random
 import re
@@ -8,12 +10,13 @@ import subprocess
 import sys
 import tempfile
 import unittest
+from typing import Callable, Iterator
 
 TOP = os.path.dirname(os.path.dirname(os.path.dirname(os.path.abspath(__file__))))
 sys.path.insert(0, os.path.join(TOP, "tools"))
 import segmented
 from algorithms.collectives import Wish, bcast_chain
-from algorithms.table import ALGORITHMS
+from algorithms.table import ALGORITHMS, Algorithm
 from common import program
 from common.canonical import read_canonical
 
@@ -21,18 +24,18 @@ GOAL = program.chosen()
 SEED = 20261201
 
 
-def made(kind, ranks, *options):
+def made(kind: str, ranks: int, *options: str) -> str:
     return program.expect(program.call(GOAL, ["gen", kind, str(ranks), "8", *options]), program.DONE).out
 
 
-def side_by_side(text, count, width, spare):
+def side_by_side(text: str, count: int, width: int, spare: int) -> str:
     """So many copies of a generated schedule in one, the slots below `width` of each in a block of its own, and the others
     after all blocks. Each has tags of its own."""
-    blocks = {}
+    blocks: dict[str, list[str]] = {}
     for copy in range(count):
         shift = f"_{copy}"
 
-        def own(slot):
+        def own(slot: int) -> int:
             return copy * width + slot if slot < width else count * width + copy * spare + slot - width
 
         for line in text.splitlines()[1:]:
@@ -57,12 +60,12 @@ def side_by_side(text, count, width, spare):
     return "\n".join(lines) + "\n"
 
 
-def canonical(text):
+def canonical(text: str) -> str:
     return program.expect(program.call(GOAL, ["show", "/dev/stdin"], text), program.DONE).out
 
 
 class Exchange(unittest.TestCase):
-    def test_ranges_are_split_where_the_exchange_cuts_them(self):
+    def test_ranges_are_split_where_the_exchange_cuts_them(self) -> None:
         text = "l1 moves 1 to 7\nl2 adds 5 to 2\nl1 moves 6 to 6\n"
         for block, width, wanted in (
                 (2, 2, "l1 moves 5 to 5\nl1 moves 2 to 3\nl1 moves 0 to 1\nl1 moves 6 to 7\nl2 adds 1 to 2\nl1 moves 6 to 6\n"),
@@ -73,23 +76,23 @@ class Exchange(unittest.TestCase):
                 self.assertEqual(said, wanted)
             self.assertEqual(slots(said), [segmented.exchange(slot, block, width) for slot in slots(text)])
 
-    def test_twice_is_nothing(self):
+    def test_twice_is_nothing(self) -> None:
         text = canonical(side_by_side(made("gather", 5), 3, 5, 0))
         for block in range(3):
             twice = segmented.exchanged(segmented.exchanged(text, block, 5), block, 5)
             self.assertEqual(slots(twice), slots(text))
 
 
-def slots(text):
+def slots(text: str) -> list[int]:
     """All slots of the notes, in order."""
-    found = []
+    found: list[int] = []
     for _, word, low, high in segmented.NOTE.findall(text):
         found += [int(low), int(high)] if word == "adds" else range(int(low), int(high) + 1)
     return found
 
 
 # each collective, its slots among P ranks, and the spare slots of its schedule
-KINDS = {
+KINDS: dict[str, tuple[Callable[[int], int], int]] = {
     "bcast": (lambda ranks: 1, 0), "barrier": (lambda ranks: 1, 9), "allgather": (lambda ranks: ranks, 0),
     "allreduce": (lambda ranks: 1, 9), "alltoall": (lambda ranks: 2 * ranks, 0), "reduce": (lambda ranks: 1, 9),
     "gather": (lambda ranks: ranks, 0), "scatter": (lambda ranks: ranks, 0), "reduce_scatter": (lambda ranks: ranks, 9),
@@ -97,7 +100,7 @@ KINDS = {
 }
 
 
-def faults_of(kind, text, count, root=0):
+def faults_of(kind: str, text: str, count: int, root: int = 0) -> str | list[str | None]:
     """What is said of each segment, or of all of them."""
     segments = segmented.Segments(GOAL, kind, canonical(text), root)
     if segments.fault:
@@ -106,7 +109,7 @@ def faults_of(kind, text, count, root=0):
 
 
 class Segments(unittest.TestCase):
-    def test_each_collective_in_three_segments(self):
+    def test_each_collective_in_three_segments(self) -> None:
         for kind, (width, spare) in KINDS.items():
             for ranks in (1, 2, 3, 4, 5, 8):
                 if kind == "allreduce" and ranks & (ranks - 1):
@@ -120,7 +123,7 @@ class Segments(unittest.TestCase):
                     if ranks > 1:
                         self.assertEqual((segments.count(), segments.left_out(3)), (3, None))
 
-    def test_each_spoilt_one_is_found(self):
+    def test_each_spoilt_one_is_found(self) -> None:
         whole = "".join(bcast_chain(Wish(4, 100, segments=8)).text())
         for spoilt in range(1, 8):
             text = whole.replace(f"moves {spoilt} to {spoilt}", "moves 8 to 8")
@@ -128,27 +131,27 @@ class Segments(unittest.TestCase):
             wanted = [f"wrong 1 slot {spoilt}" if block == spoilt else None for block in range(8)]
             self.assertEqual(faults_of("bcast", text, 8), wanted)
 
-    def test_a_spoilt_block_of_slots_is_found(self):
+    def test_a_spoilt_block_of_slots_is_found(self) -> None:
         text = side_by_side(made("allgather", 3), 2, 3, 0).replace("moves 4 to 4", "moves 9 to 9")
         self.assertEqual(faults_of("allgather", text, 2), [None, "wrong 0 slot 4"])
 
-    def test_a_race_is_told_once_in_the_numbers_of_the_schedule(self):
+    def test_a_race_is_told_once_in_the_numbers_of_the_schedule(self) -> None:
         text = "".join(bcast_chain(Wish(3, 100, segments=3)).text()).replace("l4 requires l3\n", "")
         self.assertEqual(faults_of("bcast", text, 3), "race 1 2 and 1 3 slot 1")
 
-    def test_segments_that_no_note_touches_are_told_together(self):
+    def test_segments_that_no_note_touches_are_told_together(self) -> None:
         segments = segmented.Segments(GOAL, "bcast", canonical("".join(bcast_chain(Wish(3, 100, segments=2)).text())))
         said = [(list(blocks), fault) for blocks, fault in segments.verdicts(5)]
         self.assertEqual(said, [([0], None), ([1], None), ([2, 3, 4], "wrong 1 slot 2")])
 
-    def test_what_is_added_to_another_segment_is_found(self):
+    def test_what_is_added_to_another_segment_is_found(self) -> None:
         both = side_by_side(made("reduce", 2), 2, 1, 9)
         for mixed, faults in (("c adds 1 to 0", ["mixed 0 slot 0", None]), ("c adds 0 to 1", [None, "mixed 0 slot 1"])):
             last = "c: calc 0 c requires l2_0 c requires l2_1 " + mixed
             text = both.replace("rank 0 {", f"rank 0 {{ {last}", 1)
             self.assertEqual(faults_of("reduce", text, 2), faults)
 
-    def test_what_is_mixed_is_what_certify_finds_where_all_other_blocks_begin_filled(self):
+    def test_what_is_mixed_is_what_certify_finds_where_all_other_blocks_begin_filled(self) -> None:
         """The values that are followed here against those that `certify` follows, of sums over segments that are drawn."""
         draw = random.Random(SEED)
         found = 0
@@ -167,34 +170,34 @@ class Segments(unittest.TestCase):
                         found += theirs is not None
         self.assertGreater(found, 5)
 
-    def test_what_weighs_much_alone_is_not_weighed_together(self):
+    def test_what_weighs_much_alone_is_not_weighed_together(self) -> None:
         # three segments of a barrier of one rank that doubles each 23 times: each weighs 2^23, two would weigh 2^24
         doubled = "".join(f"l1 adds {slot} to {slot}\n" * 23 for slot in range(3))
         self.assertEqual(faults_of("barrier", f"num_ranks 1 rank 0 {{ l1: calc 0\n{doubled}}}", 3), [None] * 3)
 
-    def test_as_many_operations_as_certify_takes(self):
+    def test_as_many_operations_as_certify_takes(self) -> None:
         text = "num_ranks 1 rank 0 {{ {0} l: calc 0 l adds 0 to 0 l adds 1 to 1 }}"
         self.assertEqual(faults_of("barrier", text.format("calc 0 " * 2047), 2), [None, None])
         self.assertEqual(faults_of("barrier", text.format("calc 0 " * 2048), 2), "too large 0")
 
 
-def filled(text, blocks, width):
+def filled(text: str, blocks: list[int], width: int) -> str:
     """The canonical text where each rank first copies what its first `width` slots hold into these blocks."""
     notes = "".join(f"copy adds {slot} to {block * width + slot}\n" for block in blocks for slot in range(width))
 
-    def begun(block):
+    def begun(block: re.Match[str]) -> str:
         needs = "".join(f"{label} requires copy\n" for label in re.findall(r"^(l\d+): ", block[1], re.MULTILINE))
         return f"{block[0][:-1]}copy: calc 0\n{needs}{notes}}}"
 
     return re.sub(r"^rank \d+ \{\n(.*?)^\}$", begun, text, flags=re.MULTILINE | re.DOTALL)
 
 
-def with_sums(draw, text, slots):
+def with_sums(draw: random.Random, text: str, slots: int) -> str:
     """The text where one rank adds a slot to another after all else."""
     rank = draw.randrange(2)
     source, target = draw.sample(range(slots), 2)
 
-    def ended(block):
+    def ended(block: re.Match[str]) -> str:
         needs = "".join(f"sum requires {label}\n" for label in re.findall(r"^(l\d+): ", block[0], re.MULTILINE))
         return f"{block[0][:-1]}sum: calc 0\n{needs}sum adds {source} to {target}\n}}"
 
@@ -203,24 +206,24 @@ def with_sums(draw, text, slots):
 
 
 class Count(unittest.TestCase):
-    def test_it_is_that_of_the_pieces(self):
+    def test_it_is_that_of_the_pieces(self) -> None:
         for algorithm, wish, text in segmented_schedules():
             segments = segmented.Segments(GOAL, algorithm.kind(), text, wish.root)
             self.assertEqual((segments.count(), segments.left_out(segments.count())), (len(algorithm.make(wish).sizes), None))
 
-    def test_of_what_gen_makes_it_is_one(self):
+    def test_of_what_gen_makes_it_is_one(self) -> None:
         for kind in KINDS:
             segments = segmented.Segments(GOAL, kind, made(kind, 8))
             self.assertEqual((segments.count(), segments.left_out(1)), (1, None), kind)
 
-    def test_a_copy_that_is_sent_on_is_a_passing_slot(self):
+    def test_a_copy_that_is_sent_on_is_a_passing_slot(self) -> None:
         text = ("num_ranks 2 rank 0 { c: calc 0 c adds 0 to 5 s: send 8b to 1 s moves 5 to 5 s requires c }"
                 "rank 1 { r: recv 8b from 0 r moves 7 to 7 c: calc 0 c requires r c adds 7 to 0 }")
         segments = segmented.Segments(GOAL, "bcast", canonical(text))
         self.assertEqual((segments.count(), segments.left_out(1), list(segments.verdicts(1))), (1, None, [(range(1), None)]))
 
 
-def segmented_schedules():
+def segmented_schedules() -> Iterator[tuple[Algorithm, Wish, str]]:
     """Of each algorithm that cuts its vector, schedules of few ranks, with their wishes."""
     for algorithm in ALGORITHMS:
         if algorithm.kind() in ("bcast", "allreduce"):
@@ -230,7 +233,7 @@ def segmented_schedules():
                 yield algorithm, wish, canonical("".join(algorithm.make(wish).text()))
 
 
-def is_wrong(draw, algorithm, wish, text):
+def is_wrong(draw: random.Random, algorithm: Algorithm, wish: Wish, text: str) -> bool:
     """Whether some slot does not end with what is wanted, or something has no end, where what can happen is drawn at random:
     a check of every slot, for a collective that has one in each segment."""
     ops = read_canonical(text.splitlines()).ops
@@ -261,7 +264,7 @@ def is_wrong(draw, algorithm, wish, text):
                for rank in range(wish.ranks) for slot in range(count))
 
 
-def is_certified(kind, text, root):
+def is_certified(kind: str, text: str, root: int) -> bool:
     """Whether the tool certifies the schedule, with the segments that it finds."""
     segments = segmented.Segments(GOAL, kind, text, root)
     if segments.fault:
@@ -271,7 +274,7 @@ def is_certified(kind, text, root):
 
 
 class Spoilt(unittest.TestCase):
-    def test_what_a_check_of_every_slot_finds_is_found(self):
+    def test_what_a_check_of_every_slot_finds_is_found(self) -> None:
         """Of each algorithm that cuts its vector, with each note in turn on other slots, as many and drawn at random."""
         draw = random.Random(SEED)
         found = tried = 0
@@ -296,16 +299,16 @@ class Spoilt(unittest.TestCase):
 
 
 class Words(unittest.TestCase):
-    def ended(self, text, *words):
+    def ended(self, text: str, *words: str) -> subprocess.CompletedProcess[str]:
         with tempfile.NamedTemporaryFile("w") as file:
             file.write(text)
             file.flush()
-            words = [file.name if word == "FILE" else word for word in words]
+            words = tuple(file.name if word == "FILE" else word for word in words)
             return subprocess.run([os.path.join(TOP, "tools", "segments"), *words], capture_output=True, text=True, check=False)
 
-    def test_lines_and_statuses(self):
+    def test_lines_and_statuses(self) -> None:
         text = "".join(bcast_chain(Wish(3, 100, 1, segments=2)).text())
-        for count in ([], ["2"]):
+        for count in ((), ["2"]):
             ended = self.ended(text, "bcast", "FILE", *count, "--root", "1")
             self.assertEqual((ended.returncode, ended.stderr), (0, ""))
             self.assertEqual(ended.stdout, "segment 0: certified\nsegment 1: certified\ncertified bcast ranks 3 segments 2\n")
@@ -313,18 +316,18 @@ class Words(unittest.TestCase):
         self.assertEqual(ended.returncode, 6)
         self.assertEqual(ended.stdout.splitlines()[2:], ["segment 2: not certified: wrong 0 slot 2", "not certified: 1 of 3 segments"])
 
-    def test_a_fault_of_all_is_one_line(self):
+    def test_a_fault_of_all_is_one_line(self) -> None:
         text = "".join(bcast_chain(Wish(3, 100, segments=3)).text()).replace("l4 requires l3\n", "")
         ended = self.ended(text, "bcast", "FILE")
         self.assertEqual((ended.returncode, ended.stdout), (6, "not certified: race 1 2 and 1 3 slot 1\n"))
 
-    def test_a_slot_in_no_segment_is_told(self):
+    def test_a_slot_in_no_segment_is_told(self) -> None:
         text = "".join(bcast_chain(Wish(2, 100, segments=2)).text()) + "\n"
         ended = self.ended(text.replace("moves 1 to 1", "moves 7 to 7", 1), "bcast", "FILE")
         self.assertEqual((ended.returncode, ended.stdout.splitlines()[1:]), (6, [
             "segment 1: not certified: wrong 1 slot 1", "not certified: in no segment is slot 7, which operation 1 of rank 0 moves"]))
 
-    def test_what_certify_does_not_judge_has_a_status_of_its_own(self):
+    def test_what_certify_does_not_judge_has_a_status_of_its_own(self) -> None:
         large = "num_ranks 1 rank 0 { " + "calc 0 " * 2049 + "}"
         ended = self.ended(large, "barrier", "FILE")
         self.assertEqual((ended.returncode, ended.stdout), (10, "undecided: too large 0\n"))
@@ -333,14 +336,14 @@ class Words(unittest.TestCase):
         self.assertEqual((ended.returncode, ended.stdout.splitlines()),
                          (10, ["segment 0: certified", "segment 1: undecided: weight 33554432", "undecided: 1 of 2 segments"]))
 
-    def test_standard_input(self):
+    def test_standard_input(self) -> None:
         text = "".join(bcast_chain(Wish(3, 100, segments=2)).text())
         for name in ("-", "/dev/stdin"):
             ended = subprocess.run([os.path.join(TOP, "tools", "segments"), "bcast", name], input=text, capture_output=True,
                                    text=True, check=False)
             self.assertEqual((ended.returncode, ended.stdout.splitlines()[-1]), (0, "certified bcast ranks 3 segments 2"))
 
-    def test_what_is_wrong_is_told_in_one_line(self):
+    def test_what_is_wrong_is_told_in_one_line(self) -> None:
         ring = "".join(bcast_chain(Wish(2, 100, segments=3)).text())
         for text, words, why in (
                 ("num_ranks 1 rank", "bcast FILE 2", "goal: refused: text: syntax at 16"),

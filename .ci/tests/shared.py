@@ -1,5 +1,7 @@
 #!/usr/bin/env python3
 """Tests of what the tools share: the program is called and told apart, and faults are one line and status 2."""
+from __future__ import annotations
+
 import os
 import re
 import shlex
@@ -14,16 +16,16 @@ from common import command, program
 
 
 class Calls(unittest.TestCase):
-    def test_a_text_is_read_from_standard_input(self):
+    def test_a_text_is_read_from_standard_input(self) -> None:
         answer = program.call(program.chosen(), ["sim", "/dev/stdin"], "num_ranks 1 rank 0 { calc 100 }")
         self.assertEqual((answer.status, answer.out.splitlines()[0]), (program.DONE, "ranks 1 ops 1 stuck 0 unread 0 finish 100"))
 
-    def test_a_refusal_is_a_fault_with_its_words(self):
+    def test_a_refusal_is_a_fault_with_its_words(self) -> None:
         answer = program.call(program.chosen(), ["sim", "/dev/stdin"], "num_ranks 1 rank 1 { }")
         with self.assertRaisesRegex(command.Fault, "^goal: refused: text: rank at 17$"):
             program.expect(answer, program.DONE, program.STUCK)
 
-    def test_a_program_that_is_not_there_is_a_fault(self):
+    def test_a_program_that_is_not_there_is_a_fault(self) -> None:
         with self.assertRaises(command.Fault):
             program.call("/no/such/program", ["sim"])
 
@@ -31,23 +33,23 @@ class Calls(unittest.TestCase):
 class Tools(unittest.TestCase):
     """What holds of each tool: it has a help, and wrong words end with one line and status 2."""
 
-    def names(self):
+    def names(self) -> list[str]:
         folder = os.path.join(TOP, "tools")
         return [name for name in sorted(os.listdir(folder)) if os.access(os.path.join(folder, name), os.X_OK)
                 and os.path.isfile(os.path.join(folder, name))]
 
-    def ended(self, name, *words):
+    def ended(self, name: str, *words: str) -> subprocess.CompletedProcess[str]:
         return subprocess.run([os.path.join(TOP, "tools", name), *words], stdin=subprocess.DEVNULL, capture_output=True,
                               text=True, check=False)
 
-    def test_each_has_a_help(self):
+    def test_each_has_a_help(self) -> None:
         for name in self.names():
             with self.subTest(name):
                 ended = self.ended(name, "--help")
                 self.assertEqual((ended.returncode, ended.stderr), (0, ""))
                 self.assertIn("proved", ended.stdout)
 
-    def test_no_option_is_abbreviated(self):
+    def test_no_option_is_abbreviated(self) -> None:
         """Of each option, all but its last letter, where that is no option."""
         for name in self.names():
             options = set(re.findall(r"--[A-Za-z][A-Za-z-]*", self.ended(name, "--help").stdout))
@@ -56,7 +58,7 @@ class Tools(unittest.TestCase):
                     ended = self.ended(name, "x", option[:-1], "1")
                     self.assertEqual((ended.returncode, ended.stdout, ended.stderr.count("\n")), (2, "", 1), (name, option))
 
-    def test_an_output_that_is_closed_or_full_is_one_line_and_status_2(self):
+    def test_an_output_that_is_closed_or_full_is_one_line_and_status_2(self) -> None:
         works = self.works()
         for name in self.names():
             for words in (["--help"], works[name]):
@@ -67,7 +69,7 @@ class Tools(unittest.TestCase):
                     self.assertEqual((ended.returncode, told), (2, [f"{name}: standard output: {why}"]), (name, words, output, ended.stderr))
                     self.assertNotIn("Traceback", ended.stderr)
 
-    def test_standard_input_is_a_file_everywhere(self):
+    def test_standard_input_is_a_file_everywhere(self) -> None:
         """By both of its names, a text and, of a schedule, a compiled file."""
         for name, words in self.works().items():
             for place, word in enumerate(words):
@@ -89,28 +91,28 @@ class Tools(unittest.TestCase):
                         if content == contents[0]:
                             self.assertEqual(ended.stdout.decode().replace("standard input", path).replace(one, path), wanted.stdout.replace(one, path), (name, given))
 
-    def works(self):
+    def works(self) -> dict[str, list[str]]:
         """For each tool words with which it writes something."""
         exchange = os.path.join(TOP, "examples", "exchange")
         return {"check": [exchange], "fold": [exchange, self.pair()], "locate": [exchange, "0", "0"], "machine": [os.path.join(TOP, "examples", "eight_nodes")],
                 "schedule": ["bcast-chain", "2", "8"], "segments": ["bcast", exchange], "sweep": [f"schedule={exchange}", "L=1,2"],
                 "timeline": [exchange], "trace": [exchange, "--machine", self.pair()]}
 
-    def pair(self):
+    def pair(self) -> str:
         """A description of two ranks."""
         path = os.path.join(self.folder.name, "pair")
         with open(path, "w", encoding="utf-8") as file:
             file.write("class a L=5\nnodes 2 of 1\ninside a\nbetween a\n")
         return path
 
-    def setUp(self):
+    def setUp(self) -> None:
         self.folder = tempfile.TemporaryDirectory()
         self.addCleanup(self.folder.cleanup)
 
-    def test_each_tool_has_words_here(self):
+    def test_each_tool_has_words_here(self) -> None:
         self.assertEqual(sorted(self.works()), self.names())
 
-    def test_wrong_words_are_one_line_and_status_2(self):
+    def test_wrong_words_are_one_line_and_status_2(self) -> None:
         for name in self.names():
             with self.subTest(name):
                 ended = self.ended(name, "--no-such-option")

@@ -1,5 +1,7 @@
 #!/usr/bin/env python3
 """Tests of tools/sweep: its ranges, its grid, its table beside what `goal` prints itself, and its curves."""
+from __future__ import annotations
+
 import os
 import pty
 import subprocess
@@ -16,38 +18,38 @@ SVG = "{http://www.w3.org/2000/svg}"
 EXCHANGE = os.path.join(TOP, "examples", "exchange")
 
 
-def sweep(*words):
+def sweep(*words: str) -> subprocess.CompletedProcess[str]:
     return subprocess.run([os.path.join(TOP, "tools", "sweep"), *words], capture_output=True, text=True, check=False)
 
 
-def table(*words):
+def table(*words: str) -> list[list[str]]:
     """The lines of the table, as lists of fields."""
     done = sweep(*words)
     assert (done.returncode, told(done)) == (0, []), done.stderr
     return [line.split(",") for line in done.stdout.splitlines()]
 
 
-def told(done):
+def told(done: subprocess.CompletedProcess[str]) -> list[str]:
     """The lines on standard error, without the one that names what was not given."""
     return [line for line in done.stderr.splitlines() if not line.startswith("sweep: not given: ")]
 
 
-def rows(names, *words):
+def rows(names: list[str], *words: str) -> list[list[str]]:
     """These columns of the table, line by line."""
     lines = table(*words)
     return [[line[lines[0].index(name)] for name in names] for line in lines[1:]]
 
 
-def column(name, *words):
+def column(name: str, *words: str) -> list[str]:
     lines = table(*words)
     return [line[lines[0].index(name)] for line in lines[1:]]
 
 
 class Axes(unittest.TestCase):
-    def values(self, axis, text):
+    def values(self, axis: str, text: str) -> list[str]:
         return column(axis, f"schedule={EXCHANGE}", f"{axis}={text}")
 
-    def test_ranges(self):
+    def test_ranges(self) -> None:
         self.assertEqual(self.values("L", "500..3000+1000"), ["500", "1500", "2500"])
         self.assertEqual(self.values("S", "1K..16Kx4"), ["1024", "4096", "16384"])
         self.assertEqual(self.values("o", "1,2,8..32x2,2"), ["1", "2", "8", "16", "32"])
@@ -55,15 +57,15 @@ class Axes(unittest.TestCase):
         self.assertEqual(self.values("G", "0.010..0.100x2.5"), ["0.010", "0.025", "0.062"])
         self.assertEqual(self.values("O", "0..2+1"), ["0", "1", "2"])
 
-    def test_a_grid_is_in_the_order_of_its_words(self):
+    def test_a_grid_is_in_the_order_of_its_words(self) -> None:
         lines = table(f"schedule={EXCHANGE}", "L=1,2", "o=3,4")
         self.assertEqual([line[1:3] for line in lines[1:]], [["1", "3"], ["1", "4"], ["2", "3"], ["2", "4"]])
 
-    def test_an_option_is_empty_where_it_is_not_taken(self):
+    def test_an_option_is_empty_where_it_is_not_taken(self) -> None:
         lines = table("algorithm=bcast,bcast-chain", "ranks=4", "size=8", "segments=1,2")
         self.assertEqual([line[:4] for line in lines[1:]], [["bcast", "4", "8", ""], ["bcast-chain", "4", "8", "1"], ["bcast-chain", "4", "8", "2"]])
 
-    def test_faults_are_one_line(self):
+    def test_faults_are_one_line(self) -> None:
         for words in (
             ["L=1"], ["schedule=x", "ranks=4"], ["algorithm=bcast", "ranks=4"], ["algorithm=none", "ranks=4", "size=8"],
             [f"schedule={EXCHANGE}", "L=1.5"], [f"schedule={EXCHANGE}", "L=5..1x0"], [f"schedule={EXCHANGE}", "L=1..5+0"],
@@ -78,12 +80,12 @@ class Axes(unittest.TestCase):
 
 
 class Results(unittest.TestCase):
-    def test_the_exchange(self):
+    def test_the_exchange(self) -> None:
         self.assertEqual(table(f"schedule={EXCHANGE}"), [
             ["schedule", "L", "o", "g", "G", "O", "S", "finish", "stuck", "wait", "protocol"],
             [EXCHANGE, "2500", "1500", "1000", "6", "0", "65535", "11408", "0", "9908", "eager"]])
 
-    def test_what_goal_says(self):
+    def test_what_goal_says(self) -> None:
         for size in ("8", "100000"):
             text = program.call(program.chosen(), ["gen", "reduce", "6", size, "--root", "2"]).out
             words = ["--G", "0", "--Gp", "80", "--L", "700"]
@@ -93,18 +95,18 @@ class Results(unittest.TestCase):
             lines = rows(["finish", "stuck", "wait", "protocol"], "algorithm=reduce", "ranks=6", f"size={size}", "root=2", "G=0.080", "L=700")
             self.assertEqual(lines, [[finish, "0", greatest, "eager" if size == "8" else "rendezvous"]])
 
-    def test_stuck_runs(self):
+    def test_stuck_runs(self) -> None:
         hung = os.path.join(TOP, "examples", "both_send_first")
         self.assertEqual(column("stuck", f"schedule={hung}", "S=99999,100000"), ["4", "0"])
 
-    def test_a_machine(self):
+    def test_a_machine(self) -> None:
         machines = ",".join(os.path.join(TOP, "examples", name) for name in ("two_nodes", "one_class"))
         words = ["algorithm=allreduce", "ranks=16", "size=1000", f"machine={machines}"]
         self.assertEqual(column("finish", *words, "cards=own"), ["5080", "9520"])
         done = sweep(*words)
         self.assertEqual((done.returncode, done.stderr), (0, "sweep: each rank has a card of its own here; cards=1 lets the ranks of a node share one\n"))
 
-    def test_cards_and_placements(self):
+    def test_cards_and_placements(self) -> None:
         """Two nodes of two ranks, of which 0 and 1 send to 2 and 3: over one card the second message waits for the first."""
         with tempfile.TemporaryDirectory() as folder:
             names = [os.path.join(folder, name) for name in ("schedule", "cluster", "shared")]
@@ -122,18 +124,18 @@ class Results(unittest.TestCase):
             self.assertEqual(column("finish", words[0], f"machine={names[2]}"), ["3248"])
             self.assertEqual(column("finish", words[0], f"machine={names[2]}", "cards=own"), ["2199"])
 
-    def test_runs_that_are_refused_are_told_and_the_others_stand(self):
+    def test_runs_that_are_refused_are_told_and_the_others_stand(self) -> None:
         done = sweep("algorithm=allreduce", "ranks=4..8+1", "size=8")
         self.assertEqual(done.returncode, 2)
         self.assertIn("3 of 5 runs failed, the first at algorithm=allreduce ranks=5 size=8: goal: refused: generator: power of two", done.stderr)
         self.assertEqual([line.endswith(",,,") for line in done.stdout.splitlines()[1:]], [False, True, True, True, False])
 
-    def test_no_run_at_all_is_told_and_no_picture_is_drawn(self):
+    def test_no_run_at_all_is_told_and_no_picture_is_drawn(self) -> None:
         done = sweep("algorithm=bcast", "ranks=70000,80000", "size=8", "--plot", "/no/such/picture")
         self.assertEqual((done.returncode, len(told(done))), (2, 1))
         self.assertIn("2 of 2 runs failed, the first at algorithm=bcast ranks=70000 size=8: goal: ", done.stderr)
 
-    def test_how_far_it_is_on_a_terminal(self):
+    def test_how_far_it_is_on_a_terminal(self) -> None:
         ours, its = pty.openpty()
         words = [os.path.join(TOP, "tools", "sweep"), f"schedule={EXCHANGE}", "L=1,2"]
         done = subprocess.run(words, stdout=subprocess.DEVNULL, stderr=its, check=False)
@@ -142,13 +144,13 @@ class Results(unittest.TestCase):
         os.close(ours)
         self.assertEqual((done.returncode, told.split(b"\r")[-1].strip() or told.split(b"\r")[-2]), (0, b"sweep: 2 of 2 runs"))
 
-    def test_one_job_and_many_give_the_same(self):
+    def test_one_job_and_many_give_the_same(self) -> None:
         words = ["algorithm=scan,reduce", "ranks=2..8+2", "size=1..64x4"]
         self.assertEqual(sweep(*words, "--jobs", "1").stdout, sweep(*words, "--jobs", "8").stdout)
 
 
 class Parameters(unittest.TestCase):
-    def test_all_are_in_the_table_and_those_not_given_are_named(self):
+    def test_all_are_in_the_table_and_those_not_given_are_named(self) -> None:
         done = sweep("algorithm=bcast,allreduce-ring", "ranks=4", "size=8", "g=5")
         self.assertEqual(done.stdout.splitlines(), [
             "algorithm,ranks,size,g,root,segments,sum-ps,L,o,G,O,S,finish,stuck,wait,protocol",
@@ -156,17 +158,17 @@ class Parameters(unittest.TestCase):
         self.assertEqual(done.stderr, "sweep: not given: root=0, segments=1, sum-ps=0 ps per byte (sums cost no time), L=2500 ns, o=1500 ns, "
                                       "G=6 ns per byte (1.3 Gbit/s), O=0 ns per byte, S=65535 bytes\n")
 
-    def test_what_is_given_is_not_named(self):
+    def test_what_is_given_is_not_named(self) -> None:
         done = sweep(f"schedule={EXCHANGE}", "L=1", "o=1", "g=1", "G=1", "O=1", "S=1")
         self.assertEqual((done.returncode, done.stderr), (0, ""))
 
-    def test_those_of_one_size_for_any_items_are_refused(self):
+    def test_those_of_one_size_for_any_items_are_refused(self) -> None:
         for name in ("gather", "scatter"):
             done = sweep(f"algorithm={name}", "ranks=4", "size=8")
             self.assertEqual((done.returncode, done.stdout), (2, ""))
             self.assertIn(f"take {name}-tree", done.stderr)
 
-    def test_the_protocol(self):
+    def test_the_protocol(self) -> None:
         words = ["algorithm=bcast-chain", "ranks=3", "segments=4"]
         self.assertEqual(column("protocol", *words, "size=7,8", "S=1"), ["both", "rendezvous"])
         self.assertEqual(column("protocol", *words, "size=64K..512Kx2"), ["eager", "eager", "rendezvous", "rendezvous"])
@@ -178,7 +180,7 @@ class Parameters(unittest.TestCase):
 class Scaled(unittest.TestCase):
     """Rates finer than a picosecond per byte."""
 
-    def test_it_is_exact(self):
+    def test_it_is_exact(self) -> None:
         """Against times that are ten times as long, run by hand, and against rates that need no scale."""
         with open(EXCHANGE, encoding="utf-8") as file:
             text = file.read().replace("calc 100", "calc 1000").replace("calc 200", "calc 2000").replace("10b", "999b")
@@ -195,7 +197,7 @@ class Scaled(unittest.TestCase):
             self.assertEqual(lines[1][7], column("finish", f"schedule={file.name}", "G=0")[0])
             self.assertEqual(column("finish", f"schedule={file.name}", "G=0.001"), [str(-(-int(float(lines[2][7]) * 10) // 10))])
 
-    def test_limits_are_refused_before_any_run(self):
+    def test_limits_are_refused_before_any_run(self) -> None:
         for words, why in ((["G=0.0025", "L=1099511627775"], "L is 1099511627775: for a rate finer than a picosecond per byte all times are taken 10 times"),
                            (["G=0.0000025"], "G: 0.0000025 is no number of ns per byte, with up to 6 decimals"),
                            (["O=0.00001", "G=1048575"], "G is 1048575: for a rate finer than a picosecond per byte all times are taken 100 times")):
@@ -203,7 +205,7 @@ class Scaled(unittest.TestCase):
             self.assertEqual((done.returncode, done.stdout), (2, ""))
             self.assertTrue(done.stderr.startswith(f"sweep: {why}"), done.stderr)
 
-    def test_a_calc_that_is_too_long_is_told(self):
+    def test_a_calc_that_is_too_long_is_told(self) -> None:
         with tempfile.NamedTemporaryFile("w") as file:
             file.write(f"num_ranks 1 rank 0 {{ calc {2**48 - 1} }}")
             file.flush()
@@ -211,47 +213,47 @@ class Scaled(unittest.TestCase):
 
 
 class Curves(unittest.TestCase):
-    def drawn(self, *words):
+    def drawn(self, *words: str) -> xml.etree.ElementTree.Element:
         with tempfile.TemporaryDirectory() as folder:
             path = os.path.join(folder, "curves.svg")
             done = sweep(*words, "--plot", path)
             self.assertEqual((done.returncode, told(done)), (0, []))
             return xml.etree.ElementTree.parse(path).getroot()
 
-    def texts(self, picture):
+    def texts(self, picture: xml.etree.ElementTree.Element) -> list[str]:
         return [list(text.itertext())[-1] for text in picture.iter(SVG + "text")]
 
-    def test_a_curve_for_each_combination(self):
+    def test_a_curve_for_each_combination(self) -> None:
         texts = self.texts(self.drawn("algorithm=bcast,bcast-chain", "ranks=8", "size=1K..4Mx8", "segments=2,4"))
         for name in ("bcast", "bcast-chain, segments 2", "bcast-chain, segments 4", "1 KiB", "finish by size: ranks 8"):
             self.assertIn(name, texts)
 
-    def test_too_many_are_refused_before_anything_runs(self):
+    def test_too_many_are_refused_before_anything_runs(self) -> None:
         done = sweep("algorithm=bcast", "ranks=2..30+1", "size=1K,2K", "--x", "size", "--plot", "/no/such/picture", "--goal", "/no/such/program")
         self.assertEqual((done.returncode, done.stdout, done.stderr), (2, "", "sweep: 29 curves: a picture has at most 20\n"))
 
-    def test_the_step_to_rendezvous_is_marked(self):
+    def test_the_step_to_rendezvous_is_marked(self) -> None:
         picture = self.drawn("algorithm=bcast", "ranks=8", "size=16K..256Kx2")
         fills = [circle.get("fill") for circle in picture.iter(SVG + "circle")][:5]
         self.assertEqual(([fill == "#ffffff" for fill in fills], self.texts(picture).count("filled: rendezvous")), ([True, True, False, False, False], 1))
         bars = [line for line in picture.iter(SVG + "line") if line.get("stroke-width") == "2" and line.get("x1") == line.get("x2")]
         self.assertEqual(len(bars), 1)
 
-    def test_a_linear_axis(self):
+    def test_a_linear_axis(self) -> None:
         texts = self.texts(self.drawn(f"schedule={EXCHANGE}", "L=0..2000+500"))
         self.assertTrue({"0", "500", "1,000", "1,500", "2,000", "finish (µs)", "L (ns)"} <= set(texts), texts)
 
-    def test_what_is_stuck_has_a_cross(self):
+    def test_what_is_stuck_has_a_cross(self) -> None:
         hung = os.path.join(TOP, "examples", "both_send_first")
         self.assertEqual(self.texts(self.drawn(f"schedule={hung}", "S=50000..200000+50000")).count("both_send_first, S 50000: stuck"), 0)
         picture = self.drawn(f"schedule={hung}", "S=50000..200000+50000")
         self.assertIn("✕", ["".join(text.itertext())[-1] for text in picture.iter(SVG + "text")])
 
-    def test_all_within_the_picture(self):
+    def test_all_within_the_picture(self) -> None:
         picture = self.drawn("algorithm=bcast,bcast-chain", "ranks=8", "size=1K..4Mx8", "segments=2,4")
-        width, height = float(picture.get("width")), float(picture.get("height"))
+        width, height = float(picture.attrib["width"]), float(picture.attrib["height"])
         for circle in picture.iter(SVG + "circle"):
-            self.assertTrue(0 <= float(circle.get("cx")) <= width and 0 <= float(circle.get("cy")) <= height)
+            self.assertTrue(0 <= float(circle.attrib["cx"]) <= width and 0 <= float(circle.attrib["cy"]) <= height)
 
 
 if __name__ == "__main__":

@@ -1,5 +1,7 @@
 #!/usr/bin/env python3
 """Tests of tools/timeline, and of what it and tools/trace make of a run: what waits when, and what is stuck."""
+from __future__ import annotations
+
 import os
 import subprocess
 import sys
@@ -10,9 +12,9 @@ import xml.etree.ElementTree
 TOP = os.path.dirname(os.path.dirname(os.path.dirname(os.path.abspath(__file__))))
 sys.path.insert(0, os.path.join(TOP, "tools"))
 from common import program
-from common.canonical import read_canonical
+from common.canonical import Key, read_canonical
 from common.parameters import Alike, machine_of, options_of, parameters_of
-from common.phases import Misfit, Window, stories_of
+from common.phases import Misfit, Story, Window, stories_of
 from common.printed_run import NoRun, read_run
 from common.scales import Scale, in_unit, log_ends, plain, unit_for
 
@@ -20,11 +22,11 @@ EXAMPLES = os.path.join(TOP, "examples")
 SVG = "{http://www.w3.org/2000/svg}"
 
 
-def goal(*words):
+def goal(*words: str) -> str:
     return program.call(program.chosen(), words).out
 
 
-def stories(name, ranks=None, **options):
+def stories(name: str, ranks: range | None = None, **options: int) -> dict[Key, Story]:
     """The stories of a run of an example with these options of goal."""
     path = os.path.join(EXAMPLES, name)
     words = [word for key, value in options.items() for word in (f"--{key}", str(value))]
@@ -33,16 +35,16 @@ def stories(name, ranks=None, **options):
     return stories_of(schedule, run, Alike(parameters_of(options)), Window(ranks or range(run.ranks)))
 
 
-def timeline(*words, text=None):
+def timeline(*words: str, text: str | None = None) -> subprocess.CompletedProcess[str]:
     return subprocess.run([os.path.join(TOP, "tools", "timeline"), *words], input=text or "", capture_output=True, text=True, check=False)
 
 
 class Stories(unittest.TestCase):
-    def test_a_receive_waits_for_its_message(self):
+    def test_a_receive_waits_for_its_message(self) -> None:
         taken = stories("exchange")[0, 2]
         self.assertEqual((taken.waits, taken.busy, taken.bytes), ([(0, 9908)], [(9908, 11408)], 10))
 
-    def test_waits_are_those_that_goal_reports(self):
+    def test_waits_are_those_that_goal_reports(self) -> None:
         for name in ("exchange", "waits", "first_come", "two_words", "busy_cpu", "large"):
             with self.subTest(name):
                 path = os.path.join(EXAMPLES, name)
@@ -50,33 +52,33 @@ class Stories(unittest.TestCase):
                 lines = [line.split() for line in goal("waits", path).splitlines() if line.startswith("wait ")]
                 self.assertEqual(waited, {(int(rank), int(op)): int(wait) for _, rank, op, wait in lines})
 
-    def test_a_large_send_asks_and_hands_over(self):
+    def test_a_large_send_asks_and_hands_over(self) -> None:
         sent = stories("large")[0, 0]
         self.assertEqual((sent.busy, sent.waits), ([(0, 1500), (6500, 8000)], [(1500, 6500)]))
 
-    def test_what_is_stuck(self):
+    def test_what_is_stuck(self) -> None:
         found = stories("both_send_first")
         self.assertEqual((found[0, 0].stuck_from, found[0, 0].never, found[0, 0].reason), (1500, False, "for partner 1 1"))
         self.assertTrue(found[0, 1].never)
 
-    def test_some_ranks_alone(self):
+    def test_some_ranks_alone(self) -> None:
         self.assertEqual(set(stories("first_come", range(0, 1))), {(0, 0), (0, 1)})
 
-    def test_a_run_of_other_parameters_is_refused(self):
+    def test_a_run_of_other_parameters_is_refused(self) -> None:
         path = os.path.join(EXAMPLES, "exchange")
         run = read_run(goal("sim", path, "--o", "10").splitlines())
         schedule = read_canonical(goal("show", path).splitlines())
         with self.assertRaises(Misfit):
             list(stories_of(schedule, run, Alike(parameters_of({"o": 100000})), Window(range(2))))
 
-    def test_a_machine_has_classes(self):
+    def test_a_machine_has_classes(self) -> None:
         with open(os.path.join(EXAMPLES, "two_nodes"), encoding="utf-8") as file:
             machine = machine_of(file.read())
         self.assertEqual((machine.between(0, 7).o, machine.between(0, 8).o), (200, 400))
 
 
 class Reading(unittest.TestCase):
-    def test_a_rate_is_one_number(self):
+    def test_a_rate_is_one_number(self) -> None:
         self.assertEqual(options_of("G", "0.080"), {"G": 0, "Gp": 80})
         self.assertEqual(options_of("O", "1.5"), {"O": 1, "Op": 500})
         self.assertEqual(options_of("G", "6"), {"G": 6})
@@ -84,66 +86,66 @@ class Reading(unittest.TestCase):
             with self.assertRaises(ValueError):
                 options_of(name, text)
 
-    def test_no_run(self):
-        for lines in ([], ["rank 0 ended 1 wait 0"], ["ranks 1 ops 1 stuck 0 unread 0 finish 1", "op 0"]):
+    def test_no_run(self) -> None:
+        for lines in ((), ["rank 0 ended 1 wait 0"], ["ranks 1 ops 1 stuck 0 unread 0 finish 1", "op 0"]):
             with self.assertRaises(NoRun):
                 read_run(lines)
 
 
 class Scales(unittest.TestCase):
-    def test_ticks_are_rounded(self):
+    def test_ticks_are_rounded(self) -> None:
         self.assertEqual(Scale(0, 11408, 0, 1).ticks(7), [0, 2000, 4000, 6000, 8000, 10000])
         self.assertEqual(Scale(0, 1, 0, 1).ticks(5), [0, 0.2, 0.4, 0.6, 0.8, 1.0])
         self.assertEqual(Scale(1, 1000, 0, 1, True).ticks(5), [1, 10, 100, 1000])
         self.assertEqual(Scale(20, 600, 0, 1, True).ticks(9), [20, 50, 100, 200, 500])
 
-    def test_units(self):
+    def test_units(self) -> None:
         self.assertEqual((unit_for(11408), unit_for(900), plain(1234567.5)), ((1000, "µs"), (1, "ns"), "1,234,567.5"))
         self.assertEqual((in_unit(16384, ((1, "B"), (1024, "KiB"))), log_ends(3, 700)), ("16 KiB", (2, 1000)))
 
 
 class Pictures(unittest.TestCase):
-    def drawn(self, *words, text=None):
+    def drawn(self, *words: str, text: str | None = None) -> xml.etree.ElementTree.Element:
         """The picture, as its elements."""
         done = timeline(*words, text=text)
         self.assertEqual((done.returncode, done.stderr), (0, ""))
         return xml.etree.ElementTree.fromstring(done.stdout)
 
-    def texts(self, picture):
+    def texts(self, picture: xml.etree.ElementTree.Element) -> list[str]:
         return [list(text.itertext())[-1] for text in picture.iter(SVG + "text")]
 
-    def test_the_picture_of_the_exchange(self):
+    def test_the_picture_of_the_exchange(self) -> None:
         texts = self.texts(self.drawn(os.path.join(EXAMPLES, "exchange")))
         for text in ("rank 0", "rank 1", "1 send to 1", "0 recv from 0", "waits 9,908 ns", "calc", "message and its receive"):
             self.assertIn(text, texts)
 
-    def test_what_is_stuck_is_red(self):
+    def test_what_is_stuck_is_red(self) -> None:
         picture = self.drawn(os.path.join(EXAMPLES, "both_send_first"))
         self.assertIn("never begins: 1", self.texts(picture))
         self.assertEqual(len([it for it in picture.iter(SVG + "rect") if it.get("stroke") == "#cc2233"]), 3)
 
-    def test_a_message_that_no_receive_takes(self):
+    def test_a_message_that_no_receive_takes(self) -> None:
         with tempfile.NamedTemporaryFile("w", suffix=".goal") as file:
             file.write("num_ranks 2 rank 0 { send 8b to 1 tag 1 } rank 1 { recv 8b from 0 tag 2 }")
             file.flush()
             self.assertIn("taken by no receive", self.texts(self.drawn(file.name)))
 
-    def test_a_run_that_is_printed_already(self):
+    def test_a_run_that_is_printed_already(self) -> None:
         name = os.path.join(EXAMPLES, "exchange")
         self.assertIn("rank 1", self.texts(self.drawn(name, "--run", "-", text=goal("sim", name))))
 
-    def test_a_schedule_from_a_pipe(self):
+    def test_a_schedule_from_a_pipe(self) -> None:
         self.assertIn("rank 2", self.texts(self.drawn("-", text=goal("gen", "bcast", "3", "8"))))
 
-    def test_nothing_stands_outside(self):
+    def test_nothing_stands_outside(self) -> None:
         for words in (["exchange"], ["first_come"], ["alltoall_send_first"], ["alltoall_send_first", "--S", "100000"]):
             picture = self.drawn(os.path.join(EXAMPLES, words[0]), *words[1:])
-            width, height = float(picture.get("width")), float(picture.get("height"))
+            width, height = float(picture.attrib["width"]), float(picture.attrib["height"])
             for text in picture.iter(SVG + "text"):
                 with self.subTest(words=words, text=text.text):
-                    self.assertTrue(0 <= float(text.get("x")) <= width and 0 <= float(text.get("y")) <= height)
+                    self.assertTrue(0 <= float(text.attrib["x"]) <= width and 0 <= float(text.attrib["y"]) <= height)
 
-    def test_large_runs_are_asked_for(self):
+    def test_large_runs_are_asked_for(self) -> None:
         with tempfile.NamedTemporaryFile("w", suffix=".goal") as file:
             file.write(goal("gen", "alltoall", "64", "8"))
             file.flush()
@@ -151,9 +153,9 @@ class Pictures(unittest.TestCase):
             self.assertEqual((done.returncode, done.stdout), (2, ""))
             self.assertIn("the limit is 4000", done.stderr)
             picture = self.drawn(file.name, "--ranks", "0-3", "--to", "50000")
-            self.assertLess(float(picture.get("height")), 400)
+            self.assertLess(float(picture.attrib["height"]), 400)
 
-    def test_the_limit_is_kept_before_the_run_is_printed(self):
+    def test_the_limit_is_kept_before_the_run_is_printed(self) -> None:
         with tempfile.TemporaryDirectory() as folder:
             schedule, logging, log = (os.path.join(folder, name) for name in ("schedule", "goal", "log"))
             with open(schedule, "w") as file:
@@ -168,7 +170,7 @@ class Pictures(unittest.TestCase):
             with open(log) as file:
                 self.assertEqual(file.read().split(), ["waits", "waits"])
 
-    def test_faults_are_one_line(self):
+    def test_faults_are_one_line(self) -> None:
         name = os.path.join(EXAMPLES, "exchange")
         for words in (
             ["-", "--run", "-"], [name, "--G", "0.08", "--Gp", "8"], [name + "s"], [name, "--ranks", "2"], [name, "--ranks", "1-0"], [name, "--ranks", "x"], [name, "--G", "1.2345"],

@@ -1,11 +1,14 @@
 #!/usr/bin/env python3
 """Tests of tools/trace: the JSON has the trace-event form, spans of a track lie apart, and flows bind to spans."""
+from __future__ import annotations
+
 import json
 import os
 import subprocess
 import sys
 import tempfile
 import unittest
+from typing import Any
 
 TOP = os.path.dirname(os.path.dirname(os.path.dirname(os.path.abspath(__file__))))
 sys.path.insert(0, os.path.join(TOP, "tools"))
@@ -21,7 +24,7 @@ FIELDS = {
 }
 
 
-def events(*words):
+def events(*words: str) -> Any:
     done = subprocess.run([os.path.join(TOP, "tools", "trace"), *words], capture_output=True, text=True, check=True)
     whole = json.loads(done.stdout)
     assert set(whole) == {"displayTimeUnit", "traceEvents"} and whole["displayTimeUnit"] == "ns"
@@ -29,7 +32,7 @@ def events(*words):
 
 
 class Form(unittest.TestCase):
-    def check(self, trace):
+    def check(self, trace: Any) -> None:
         """What Perfetto asks of a trace."""
         for event in trace:
             self.assertLessEqual(FIELDS[event["ph"]], set(event))
@@ -38,22 +41,23 @@ class Form(unittest.TestCase):
         self.check_tracks(trace)
         self.check_flows(trace)
 
-    def spans(self, trace):
-        tracks = {}
+    def spans(self, trace: Any) -> dict[tuple[int, int], list[tuple[float, float]]]:
+        tracks: dict[tuple[int, int], list[tuple[float, float]]] = {}
         for event in trace:
             if event["ph"] == "X":
                 tracks.setdefault((event["pid"], event["tid"]), []).append((event["ts"], event["ts"] + event["dur"]))
         return tracks
 
-    def check_tracks(self, trace):
+    def check_tracks(self, trace: Any) -> None:
         named = {(event["pid"], event["tid"]) for event in trace if event["name"] == "thread_name"}
         for track, spans in self.spans(trace).items():
             self.assertIn(track, named)
             spans.sort()
             self.assertTrue(all(one[1] <= other[0] + 1e-6 for one, other in zip(spans, spans[1:])), track)
 
-    def check_flows(self, trace):
-        spans, flows = self.spans(trace), {}
+    def check_flows(self, trace: Any) -> None:
+        spans = self.spans(trace)
+        flows: dict[str, list[str]] = {}
         for event in trace:
             if event["ph"] in "sf":
                 flows.setdefault(event["id"], []).append(event["ph"])
@@ -61,12 +65,12 @@ class Form(unittest.TestCase):
                 self.assertTrue(any(begin <= event["ts"] <= end for begin, end in around))
         self.assertTrue(all(ends == ["s", "f"] for ends in flows.values()))
 
-    def test_every_example(self):
+    def test_every_example(self) -> None:
         for name in ("exchange", "large", "waits", "first_come", "both_send_first", "alltoall_send_first", "two_words"):
             with self.subTest(name):
                 self.check(events(os.path.join(EXAMPLES, name)))
 
-    def test_a_collective_on_a_machine(self):
+    def test_a_collective_on_a_machine(self) -> None:
         with tempfile.NamedTemporaryFile("w", suffix=".goal") as file:
             file.write(program.call(program.chosen(), ["gen", "allreduce", "16", "100000"]).out)
             file.flush()
@@ -76,19 +80,19 @@ class Form(unittest.TestCase):
 
 
 class Content(unittest.TestCase):
-    def test_the_exchange(self):
+    def test_the_exchange(self) -> None:
         trace = events(os.path.join(EXAMPLES, "exchange"))
         taken = next(event for event in trace if event["name"] == "2 recv from 1")
         self.assertEqual((taken["ts"], taken["dur"], taken["args"]["waited ns"]), (9.908, 1.5, 9908))
         self.assertEqual(taken["args"]["matched with"], "operation 2 of rank 1")
         self.assertIn("waits: 2 recv from 1", [event["name"] for event in trace])
 
-    def test_what_is_stuck(self):
+    def test_what_is_stuck(self) -> None:
         names = [event["name"] for event in events(os.path.join(EXAMPLES, "both_send_first"))]
         self.assertIn("stuck: 0 send to 1", names)
         self.assertIn("never begins: 1 recv from 1", names)
 
-    def test_some_ranks_alone(self):
+    def test_some_ranks_alone(self) -> None:
         trace = events(os.path.join(EXAMPLES, "first_come"), "--ranks", "1-2")
         self.assertEqual({event["pid"] for event in trace}, {1, 2})
 
