@@ -118,6 +118,12 @@ class Mutants(Runners):
         self.assertEqual((status, out.splitlines()[0]), (1, "row bad (some.rows:1): failed, with nothing spoilt"))
         self.assertEqual(out.splitlines()[-1], "0 passed, 1 failed")
 
+    def test_a_row_that_can_not_be_made_is_named(self) -> None:
+        made = "row unmade\ndo: false\n$ say 5\n"
+        self.assertEqual(self.ran("mutants", made)[:2], (1, "row unmade (some.rows:1): failed, with nothing spoilt\n  `false` ends with status 1: \n0 passed, 1 failed\n"))
+        _, out, _ = self.ran("mutants", "row loose\n$ say 5\nchecked: true\n\n" + made)
+        self.assertEqual([line.split(" (")[0] for line in out.splitlines() if line.startswith("row ")], ["row loose", "row unmade"])
+
 
 if __name__ == "__main__":
     unittest.main(verbosity=0)
