@@ -11,11 +11,12 @@ import unittest
 
 TOP = os.path.dirname(os.path.dirname(os.path.dirname(os.path.abspath(__file__))))
 
-# Prints its words or its input, refuses, or does not end.
+# Prints its words, a file or what its first reads get, refuses, or does not end.
 STAND_IN = """#!/bin/sh
 case $1 in
 say) shift; echo "$@" ;;
 read) cat "$2" ;;
+reads) dd bs=100 count="$2" 2>/dev/null; cat >/dev/null ;;
 refuse) echo "goal: refused" >&2; exit 3 ;;
 hang) exec sleep 60 ;;
 esac
@@ -72,6 +73,11 @@ class Rows(Runners):
         self.assertEqual((len(failures), out.splitlines()[-1]), (len(cases), f"0 passed, {len(cases)} failed"))
         for (row, fault), failure in zip(cases, failures):
             self.assertIn(fault, failure.splitlines(), row)
+
+    def test_pieces_come_one_by_one(self) -> None:
+        for reads, fault in ((1, "cut at 1"), (2, "by single bytes")):
+            _, out, _ = self.ran("rows", f"row pieces\nstdin: echo 76\npieces\n$ reads {reads}\n> 76\n")
+            self.assertEqual(out.splitlines()[1], f"  with the input {fault}:")
 
     def test_the_files_of_a_failure_are_kept(self) -> None:
         kept = f"{self.top}/kept"
