@@ -21,6 +21,6 @@ pub use Rattle.goal_blocks.proofs.SlotSums.{stored_most, stored_set}
 pub use Rattle.goal_blocks.proofs.Exchange.{first_initial, first_wanted, none_exchanged, stored_exchanged, exchange_twice}
 pub use Rattle.goal_blocks.proofs.StoreFacts.{same_place}
 pub use Rattle.goal_blocks.proofs.Wishes.{wanted_past}
-pub use Rattle.goal_blocks.proofs.Writes.{write_next, light_next}
+pub use Rattle.goal_blocks.proofs.Writes.{write_first, write_none, light_next, read_more, read_all}
 pub use Rattle.goal_blocks.proofs.PlacedAlike.{same_number, happened_placed, kind_placed, mate_placed, paired_placed, started_placed, ended_placed, last_of_placed, allowed_placed}
 pub use Rattle.goal_blocks.proofs.PlacedPlans.{there_and_back}

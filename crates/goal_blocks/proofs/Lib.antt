@@ -39,6 +39,7 @@ mod FaultExamples
 pub mod Levels
 pub mod Flow
 pub mod Light
+pub mod SlotRanges
 pub mod MovedSlots
 pub mod HeldFew
 pub mod Blueprint

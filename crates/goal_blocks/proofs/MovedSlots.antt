@@ -13,6 +13,7 @@ use Rattle.goal_blocks.specs.Weight.{sum_below}
 use Rattle.goal_blocks.specs.Certification.{moved_count}
 use Rattle.goal_blocks.proofs.Orders.{Mem}
 use Rattle.goal_blocks.proofs.Blueprint.{sum_places}
+use Rattle.goal_blocks.proofs.SlotRanges.{length_from}
 use Rattle.goal_blocks.proofs.Trees.{sum_below_le}
 
 -- where one number may be more by one
@@ -84,11 +85,6 @@ total_places ranks (p ∷ ps) f g each =
         inl (subst (λ (q : Place). f q.rank q.slot ≤ more_at p g q.rank q.slot) e (let here = subst (λ (q : Place). f q.rank q.slot ≤ g q.rank q.slot + 1) (sym e) l in omega (arith, here, there)))
 
 -- the slots that the operations of a rank move
-
-length_from : (lo n : ℕ) → length (slots_from lo n) ≡ n
-unfolding slots_from
-length_from lo zero = refl
-length_from lo (suc n) = ap suc (length_from (lo + 1) n)
 
 -- numbers of which only one is not 0
 pub sum_only : (f : ℕ → ℕ) (o : ℕ) → ((k : ℕ) → (o ≡ k → ⊥) → f k ≡ 0) → (a n : ℕ) → (sum_by f (range_with_len a n) ≤ f o) × (o < a → sum_by f (range_with_len a n) ≡ 0)

@@ -27,15 +27,7 @@ slots_more lo (suc n) =
     next : lo + 1 + n ≡ lo + suc n
     next = omega arith
 
--- one more slot
-pub push_slot : (list more : List ℕ) (start : List ℕ) (lo slot : ℕ) → lo ≤ slot → list ≡ start ++ slots_from lo (slot - lo) → more ≡ list ++ slot ∷ [] → more ≡ start ++ slots_from lo (slot + 1 - lo)
-push_slot list more start lo slot low so_far pushed =
-    let count : slot + 1 - lo ≡ suc (slot - lo) = omega (arith, low) in
-    let last : lo + (slot - lo) ≡ slot = omega (arith, low) in
-    pushed ∙ ap (λ (ks : List ℕ). ks ++ slot ∷ []) so_far ∙ append_assoc start (slots_from lo (slot - lo)) (slot ∷ [])
-    ∙ ap (λ (k : ℕ). start ++ (slots_from lo (slot - lo) ++ k ∷ [])) (sym last) ∙ ap (λ (ks : List ℕ). start ++ ks) (sym (slots_more lo (slot - lo))) ∙ ap (λ (n : ℕ). start ++ slots_from lo n) (sym count)
-
--- the same of what is pushed for each slot
+-- what is pushed for each slot
 module _ {A : Type 0} (f : ℕ → A) (start : List A) (lo : ℕ) where
   pub pushed_none : start ≡ start ++ map f (slots_from lo (lo - lo))
   pushed_none =

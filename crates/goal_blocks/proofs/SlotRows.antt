@@ -9,10 +9,12 @@ use Rattle.goal_graph.specs.declared.plan.Note.TheVariants.{Moves, Adds}
 use Rattle.goal_graph.specs.Schedule.{Plan}
 use Rattle.goal_graph.specs.Fault.{IsOp}
 use Rattle.goal_blocks.specs.declared.slot_table.RankSlots.{RankSlots}
-use Rattle.goal_blocks.specs.Slots.{moved_by, added_by, slots, adds}
+use Rattle.goal_blocks.specs.Slots.{added_by, slots, adds}
+use Rattle.goal_blocks.specs.SlotRanges.{slots_in, ranges_by}
 use Rattle.goal_blocks.specs.SlotTables.{op_of, IsRowed, IsRowPushed}
 use Rattle.goal_blocks.specs.RankSlots.{AreListed, AreTabled}
 use Rattle.goal_blocks.proofs.SlotLists.{note_more, rank_below, op_below, slots_there, adds_there}
+use Rattle.goal_blocks.proofs.SlotRanges.{slots_by_ranges}
 
 module _ {A : Type 0} where
   -- a part stays where more is appended
@@ -131,9 +133,9 @@ module _ {A : Type 0} where
       note = get_or notes next d
 
 -- a note tells nothing of other operations
-pub moved_apart : (note : Note) (k : ℕ) → k ≢ op_of note → moved_by k note ≡ []
-moved_apart (Moves op lo hi) k other = rw (ne_eqb op k (λ same. other (sym same))) refl
-moved_apart (Adds op from to) k other = refl
+pub ranges_apart : (note : Note) (k : ℕ) → k ≢ op_of note → ranges_by k note ≡ []
+ranges_apart (Moves op lo hi) k other = rw (ne_eqb op k (λ same. other (sym same))) refl
+ranges_apart (Adds op from to) k other = refl
 
 pub added_apart : (note : Note) (k : ℕ) → k ≢ op_of note → added_by k note ≡ []
 added_apart (Moves op lo hi) k other = refl
@@ -163,8 +165,8 @@ module _ (plans now : List Plan) (ranks : List RankSlots) (same : plans ≡ now)
     pub moved_within : get_or v.moved_starts.items (x.op + 1) 0 ≤ length v.moved.items
     moved_within = of_rank.moves.within x.op (op_below now x is no_plan)
 
-    pub row_slots : slice_range v.moved.items (get_or v.moved_starts.items x.op 0) (get_or v.moved_starts.items (x.op + 1) 0) ≡ slots now x
-    row_slots = of_rank.moves.each x.op (op_below now x is no_plan) ∙ sym (slots_there now x is no_plan)
+    pub row_slots : slots_in (slice_range v.moved.items (get_or v.moved_starts.items x.op 0) (get_or v.moved_starts.items (x.op + 1) 0)) ≡ slots now x
+    row_slots = ap slots_in (of_rank.moves.each x.op (op_below now x is no_plan)) ∙ slots_by_ranges x.op (get_or now x.rank no_plan).notes ∙ sym (slots_there now x is no_plan)
 
     pub added_inside : x.op + 1 < length v.added_starts.items
     added_inside = let low = op_below now x is no_plan in omega (arith, low, of_rank.sums.one_each)

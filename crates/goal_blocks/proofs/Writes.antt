@@ -1,30 +1,55 @@
 -- The steps of a loop that writes values into slots.
-use Rattle.std.proofs.Common.{ℕ, ◌≡◌, ◌+◌, ◌<◌, ◌≤◌, ◌^◌, List, [], ◌∷◌, ◌++◌, length, length-append, Result, Ok, Err, OnOk, drop, get_or, refl, ap, sym, ◌∙◌, arith, add-one, drop-cons, Vec, Global}
+use Rattle.std.proofs.Common.{ℕ, ◌≡◌, ◌+◌, ◌<◌, ◌≤◌, ◌^◌, List, [], ◌∷◌, ◌++◌, map, append-nil, append_assoc, length, length-append, Result, Ok, Err, OnOk, ◌⊎◌, inl, inr, ⊎_elim, All, Contains, ap, sym, ◌∙◌, subst, arith, Vec, Global}
 use Rattle.std.specs.List.{sum_by}
-use Rattle.std.proofs.lemmas.List.{drop_all}
+use Rattle.std.proofs.lemmas.List.{map-append}
+use Rattle.std.proofs.lemmas.List.Elements.{All-weaker, All-contains_itself, Contains-push_cases, Contains-append_cases}
 use Rattle.std.proofs.lemmas.List.Sums.{sum_by-cons}
 use Rattle.goal_blocks.specs.Values.{Contribution, Value, Store, write, set_slot}
 use Rattle.goal_blocks.specs.Weight.{stored}
 use Rattle.goal_blocks.specs.Stored.{lists_of}
 use Rattle.goal_blocks.proofs.SlotSums.{stored_set}
 
-from_place : (xs : List ℕ) (i : ℕ) → i < length xs → drop i xs ≡ get_or xs i 0 ∷ drop (i + 1) xs
-from_place xs i l = rw (add-one, drop-cons xs i 0) refl
-
--- the first of the values that are left is written
-pub write_next : (rank n : ℕ) (slots : List ℕ) (v : Value) (vs all : List Value) (s t : Store) → n < length slots → all ≡ v ∷ vs → t ≡ set_slot rank (get_or slots n 0) v s → write rank (drop (n + 1) slots) vs t ≡ write rank (drop n slots) all s
+-- the first of the values that are left is written to the first of the slots that are left
+pub write_first : (rank slot : ℕ) (slots left : List ℕ) (v : Value) (vs all : List Value) (s t : Store) → slots ≡ slot ∷ left → all ≡ v ∷ vs → t ≡ set_slot rank slot v s → write rank left vs t ≡ write rank slots all s
 unfolding write
-write_next rank n slots v vs all s t l e set =
-    ap (write rank (drop (n + 1) slots) vs) set ∙ ap (λ (ks : List ℕ). write rank ks (v ∷ vs) s) (sym (from_place slots n l)) ∙ ap (λ (ws : List Value). write rank (drop n slots) ws s) (sym e)
-
-write_nothing : (rank : ℕ) (vs : List Value) (s : Store) → write rank [] vs s ≡ s
-unfolding write
-write_nothing rank vs s = refl
+write_first rank slot slots left v vs all s t first e set =
+    ap (write rank left vs) set ∙ ap (λ (ks : List ℕ). write rank ks (v ∷ vs) s) (sym first) ∙ ap (λ (ws : List Value). write rank slots ws s) (sym e)
 
 -- nothing is left
-pub write_none : (rank n : ℕ) (slots : List ℕ) (left : List (Vec Contribution Global)) (s : Store) → length left ≡ 0 → n + length left ≡ length slots → write rank (drop n slots) (lists_of left) s ≡ s
-write_none rank n slots left s none all =
-    ap (λ (ks : List ℕ). write rank ks (lists_of left) s) (drop_all n slots (omega (arith, none, all))) ∙ write_nothing rank (lists_of left) s
+pub write_none : (rank : ℕ) (slots : List ℕ) (vs : List Value) (s : Store) → slots ≡ [] → write rank slots vs s ≡ s
+unfolding write
+write_none rank slots vs s none = ap (λ (ks : List ℕ). write rank ks vs s) none
+
+-- The values of slots are read one after another: those that are read, as `g` tells them, and those of the slots that are left.
+module _ {A : Type 0} (g : A → Value) (f : ℕ → Value) (all : List Value) where
+  pub read_more : (read more : List A) (x : A) (slots left : List ℕ) (slot : ℕ) → more ≡ read ++ x ∷ [] → g x ≡ f slot → slots ≡ slot ∷ left → map g read ++ map f slots ≡ all → map g more ++ map f left ≡ all
+  read_more read more x slots left slot pushed same first e =
+      ap (λ (xs : List A). map g xs ++ map f left) pushed ∙ ap (λ (vs : List Value). vs ++ map f left) (map-append g read (x ∷ []))
+      ∙ append_assoc (map g read) (g x ∷ []) (map f left) ∙ ap (λ (v : Value). map g read ++ (v ∷ map f left)) same
+      ∙ sym (ap (λ (ks : List ℕ). map g read ++ map f ks) first) ∙ e
+
+  pub read_all : (read : List A) (left : List ℕ) → left ≡ [] → map g read ++ map f left ≡ all → map g read ≡ all
+  read_all read left none e =
+      sym (append-nil (map g read)) ∙ sym (ap (λ (ks : List ℕ). map g read ++ map f ks) none) ∙ e
+
+-- what holds of each slot that is not left, where one more is taken
+module _ (P Q : ℕ → Type 0) (all : List ℕ) where
+  none_in : (k : ℕ) → Contains [] k → ⊥
+  none_in k c = omega (arith, c.1)
+
+  pub taken_next : (slots left : List ℕ) (slot : ℕ) → slots ≡ slot ∷ left → ((k : ℕ) → P k → Q k) → Q slot → ((k : ℕ) → Contains all k → Contains slots k ⊎ P k) → (k : ℕ) → Contains all k → Contains left k ⊎ Q k
+  taken_next slots left slot first still here before k c =
+      ⊎_elim (λ there. cases (subst (λ (ks : List ℕ). Contains ks k) first there)) (λ p. inr (still k p)) (before k c)
+    where
+      same : Contains (slot ∷ []) k → slot ≡ k
+      same one = ⊎_elim (λ n. absurd (none_in k n)) (λ e. e) (Contains-push_cases [] slot k one)
+
+      cases : Contains (slot ∷ left) k → Contains left k ⊎ Q k
+      cases there = ⊎_elim (λ one. inr (subst Q (same one) here)) (λ rest. inl rest) (Contains-append_cases (slot ∷ []) left k there)
+
+  pub taken_all : (slots : List ℕ) → slots ≡ [] → ((k : ℕ) → Contains all k → Contains slots k ⊎ P k) → All P all
+  taken_all slots none before =
+      All-weaker (Contains all) P (λ k c. ⊎_elim (λ there. absurd (none_in k (subst (λ (ks : List ℕ). Contains ks k) none there))) (λ p. p) (before k c)) all (All-contains_itself all)
 
 pub light_next : (ranks more rank slot : ℕ) (v : Value) (vs all : List Value) (s t : Store) → all ≡ v ∷ vs → t ≡ set_slot rank slot v s → more ≡ ranks → rank < ranks → slot < 2 ^ 32 → stored ranks s + sum_by (λ (w : Value). length w) all ≤ 2 ^ 24 → stored more t + sum_by (λ (w : Value). length w) vs ≤ 2 ^ 24
 light_next ranks more rank slot v vs all s t e set same low small light =

@@ -23,6 +23,7 @@ pub mod Right
 pub mod Makers
 pub mod Steps
 pub mod Stored
+pub mod SlotRanges
 pub mod SlotTables
 pub mod RankSlots
 -- Laws.

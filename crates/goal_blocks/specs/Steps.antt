@@ -1,14 +1,15 @@
 -- The entry that a step of the code stands for.
-use Rattle.std.specs.Prelude.{ℕ, List, [], ◌∷◌, ◌++◌, map}
+use Rattle.std.specs.Prelude.{ℕ, Some, None, List, [], ◌∷◌, ◌++◌, map}
 use Rattle.std.specs.List.{range_with_len}
 use Rattle.goal_blocks.specs.declared.steps.Step.{Step}
 use Rattle.goal_blocks.specs.declared.steps.Needs.{Needs}
 use Rattle.goal_blocks.specs.declared.steps.Needs.TheVariants.{Nothing, One, Two, Below}
 use Rattle.goal_blocks.specs.declared.steps.Effect.{Effect}
-use Rattle.goal_blocks.specs.declared.steps.Effect.TheVariants.{Moves, Wraps, Adds}
+use Rattle.goal_blocks.specs.declared.steps.Effect.TheVariants.{Moves, Adds}
 use Rattle.goal_graph.specs.declared.plan.Note.{Note}
 use Rattle.goal_graph.specs.declared.plan.Note.TheVariants as note
 use Rattle.goal_blocks.specs.Slots.{Adding}
+use Rattle.goal_blocks.specs.SlotRanges.{SlotRange}
 use Rattle.goal_blocks.specs.Entries.{Entry, Span}
 
 abbrev pub needs_of : Needs → List ℕ
@@ -17,14 +18,16 @@ needs_of (One k) = k ∷ []
 needs_of (Two j k) = j ∷ k ∷ []
 needs_of (Below n) = range_with_len 0 n
 
+abbrev pub span_of : SlotRange → Span
+span_of range = record { lo = range.lo; hi = range.hi }
+
 abbrev pub moves_of : Effect → List Span
-moves_of (Moves lo hi) = record { lo = lo; hi = hi } ∷ []
-moves_of (Wraps lo last hi) = record { lo = lo; hi = last } ∷ record { lo = 0; hi = hi } ∷ []
+moves_of (Moves first None) = span_of first ∷ []
+moves_of (Moves first (Some second)) = span_of first ∷ span_of second ∷ []
 moves_of (Adds from to) = []
 
 abbrev pub adds_of : Effect → List Adding
-adds_of (Moves lo hi) = []
-adds_of (Wraps lo last hi) = []
+adds_of (Moves first second) = []
 adds_of (Adds from to) = record { from = from; to = to } ∷ []
 
 -- the notes of the operation with that number

@@ -29,7 +29,7 @@ pub use making::{possible, schedule_by};
 pub use positions::{ahead, back, digits, power};
 pub use segment::Segment;
 pub use slot_table::SlotTable;
-pub use slots::{Adding, Slots};
+pub use slots::{Adding, SlotIter, SlotRange, Slots, slot_count};
 pub use steps::{Effect, Formula, Needs, Step, before_round, plans_of};
 pub use store::{Payload, Store};
 pub use wanted::{asked, first_of, initial_size, is_wanted};

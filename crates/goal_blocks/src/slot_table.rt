@@ -1,22 +1,23 @@
 //! The slots that the operations of a schedule move, and what its calcs add, found once for all.
-ghost use Rattle.std.specs.Prelude.{◌≡◌, ℕ, ◌+◌, ◌<◌, ◌≤◌, [], ◌++◌, length, take, flat_map, slice_index, slice_index_or, slice_range, IfOk, IfSome, OnOk};
+ghost use Rattle.std.specs.Prelude.{◌≡◌, ℕ, ◌+◌, ◌<◌, ◌≤◌, [], ◌++◌, length, take, flat_map, slice_index, slice_range, IfOk, IfSome, OnOk};
 ghost use Rattle.goal_graph.specs.Fault.{IsOp};
-ghost use Rattle.goal_blocks.specs.Slots.{moved_by, added_by, slots, adds};
-ghost use Rattle.goal_blocks.specs.SlotTables.{op_of, AreMoved, AreAdded, AddsMore, IsRowPushed};
+ghost use Rattle.goal_blocks.specs.Slots.{added_by, slots, adds};
+ghost use Rattle.goal_blocks.specs.SlotTables.{op_of, AreTold, TellsMore, IsRowPushed};
+ghost use Rattle.goal_blocks.specs.SlotRanges.{ranges_by, slots_in};
 ghost use Rattle.goal_blocks.specs.RankSlots.{AreListed};
 
-use crate::slots::{Adding, Slots, push_slots};
+use crate::slots::{Adding, SlotRange};
 use goal_graph::{Note, OpId, RankPlan, Sched};
 use goal_limits::NoMemory;
 use std::alloc::{AllocError, Global};
 use std::marker::Model;
 
-/// What each operation of a rank moves and adds: two lists, and for each operation where in them it begins. Each of the two
-/// has one start more, where the last one ends.
+/// The ranges of slots that each operation of a rank moves, and what it adds. Each is one list, with the place where each
+/// operation's entries start, and one more start, where the last entries end.
 #[derive(Drop)]
 pub(crate) struct RankSlots {
     pub(crate) moved_starts: Vec<usize>,
-    pub(crate) moved: Vec<u32>,
+    pub(crate) moved: Vec<SlotRange>,
     pub(crate) added_starts: Vec<usize>,
     pub(crate) added: Vec<Adding>,
 }
@@ -52,10 +53,10 @@ impl<'a> SlotTable<'a> {
         Ok(SlotTable { sched, ranks })
     }
 
-    /// The slots that the operation moves, in the order of its rank's notes.
-    pub fn slots_of(&self, id: OpId) -> &[u32]
+    /// The ranges of the slots that the operation moves, in the order of its rank's notes.
+    pub fn slots_of(&self, id: OpId) -> &[SlotRange]
         requires { IsOp self.now id }
-        ensures { result.now ≡ slots self.now id }
+        ensures { slots_in result.now ≡ slots self.now id }
     {
         let of_rank = &self.ranks[id.rank as usize];
         between(&of_rank.moved, &of_rank.moved_starts, id.op as usize)
@@ -120,17 +121,17 @@ fn listed_in_order(alloc: Global, plan: &RankPlan) -> Result<Option<RankSlots>, 
 // Appends what the notes of this operation from the place `at` on move and add. Answers the place of the first note behind
 // them.
 fn push_notes(
-    moved: &mut Vec<u32>,
+    moved: &mut Vec<SlotRange>,
     added: &mut Vec<Adding>,
     notes: &[Note],
     at: usize,
     op: usize,
 ) -> Result<usize, AllocError>
     requires at { at ≤ length notes.now }
-    requires no_moves { flat_map (moved_by op) (take at notes.now) ≡ [] }
+    requires no_moves { flat_map (ranges_by op) (take at notes.now) ≡ [] }
     requires no_adds { flat_map (added_by op) (take at notes.now) ≡ [] }
     ensures within { IfOk result (λ next. next ≤ length notes.now) }
-    ensures moves { IfOk result (λ next. IsRowPushed moved_by notes.now at next op moved.old.items moved.new.items) }
+    ensures moves { IfOk result (λ next. IsRowPushed ranges_by notes.now at next op moved.old.items moved.new.items) }
     ensures adds { IfOk result (λ next. IsRowPushed added_by notes.now at next op added.old.items added.new.items) }
 {
     let mut next = at;
@@ -152,17 +153,19 @@ fn op_of(note: Note) -> u32
 }
 
 // Appends what a note moves and adds.
-fn push_note(moved: &mut Vec<u32>, added: &mut Vec<Adding>, note: Note) -> Result<(), AllocError>
-    ensures moves { OnOk result (moved.new.items ≡ moved.old.items ++ moved_by (op_of note) note) }
+fn push_note(
+    moved: &mut Vec<SlotRange>,
+    added: &mut Vec<Adding>,
+    note: Note,
+) -> Result<(), AllocError>
+    ensures moves { OnOk result (moved.new.items ≡ moved.old.items ++ ranges_by (op_of note) note) }
     ensures adds { OnOk result (added.new.items ≡ added.old.items ++ added_by (op_of note) note) }
 {
     match note {
-        Note::Moves { lo, hi, .. } => push_slots(moved, lo, hi),
-        Note::Adds { from, to, .. } => {
-            added.push(Adding { from, to })?;
-            Ok(())
-        }
+        Note::Moves { lo, hi, .. } => moved.push(SlotRange { lo, hi })?,
+        Note::Adds { from, to, .. } => added.push(Adding { from, to })?,
     }
+    Ok(())
 }
 
 // The same from a list for each operation, whatever the order of the notes.
@@ -176,7 +179,7 @@ fn listed_by_operation(alloc: Global, plan: &RankPlan) -> Result<RankSlots, Allo
     let mut moved = Vec::new(alloc);
     let mut added = Vec::new(alloc);
     for op in 0..plan.ops.len() {
-        moved.extend_from_slice(moves[op].as_slice())?;
+        moved.extend_from_slice(&moves[op])?;
         added.extend_from_slice(&adds[op])?;
         moved_starts.push(moved.len())?;
         added_starts.push(added.len())?;
@@ -189,37 +192,36 @@ fn listed_by_operation(alloc: Global, plan: &RankPlan) -> Result<RankSlots, Allo
     })
 }
 
-// What each operation of the rank moves.
-fn moved_of(alloc: Global, plan: &RankPlan) -> Result<Vec<Slots>, AllocError>
-    ensures { IfOk result (λ v. AreMoved plan.now v.items) }
+// The ranges of slots that each operation of the rank moves.
+fn moved_of(alloc: Global, plan: &RankPlan) -> Result<Vec<Vec<SlotRange>>, AllocError>
+    ensures { IfOk result (λ v. AreTold ranges_by plan.now v.items) }
 {
     let mut moved = Vec::new(alloc);
     for _ in 0..plan.ops.len() {
-        moved.push(Slots::empty(alloc))?;
+        moved.push(Vec::new(alloc))?;
     }
     for note in &plan.notes {
         match *note {
-            Note::Moves { op, lo, hi } => move_more(&mut moved, op, lo, hi)?,
+            Note::Moves { op, lo, hi } => move_more(&mut moved, op, SlotRange { lo, hi })?,
             Note::Adds { .. } => {}
         }
     }
     Ok(moved)
 }
 
-// The operation of that number, if there is one, moves the slots from `lo` up to `hi` too.
-fn move_more(moved: &mut [Slots], op: u32, lo: u32, hi: u32) -> Result<(), AllocError>
-    ensures { OnOk result ((k : ℕ) → k < length moved.old
-        → slice_index_or moved.new k [] ≡ slice_index_or moved.old k [] ++ moved_by k (Note.Moves op lo hi)) }
+// The operation of that number, if there is one, moves this range too.
+fn move_more(moved: &mut [Vec<SlotRange>], op: u32, range: SlotRange) -> Result<(), AllocError>
+    ensures { OnOk result (TellsMore ranges_by (Note.Moves op range.lo range.hi) moved.old moved.new) }
 {
     if (op as usize) < moved.len() {
-        moved[op as usize].push_range(lo, hi)?;
+        moved[op as usize].push(range)?;
     }
     Ok(())
 }
 
 // What each operation of the rank adds.
 fn added_of(alloc: Global, plan: &RankPlan) -> Result<Vec<Vec<Adding>>, AllocError>
-    ensures { IfOk result (λ v. AreAdded plan.now v.items) }
+    ensures { IfOk result (λ v. AreTold added_by plan.now v.items) }
 {
     let mut added = Vec::new(alloc);
     for _ in 0..plan.ops.len() {
@@ -236,7 +238,7 @@ fn added_of(alloc: Global, plan: &RankPlan) -> Result<Vec<Vec<Adding>>, AllocErr
 
 // The operation of that number, if there is one, adds this too.
 fn add_more(added: &mut [Vec<Adding>], op: u32, adding: Adding) -> Result<(), AllocError>
-    ensures { OnOk result (AddsMore op adding added.old added.new) }
+    ensures { OnOk result (TellsMore added_by (Note.Adds op adding.from adding.to) added.old added.new) }
 {
     if (op as usize) < added.len() {
         added[op as usize].push(adding)?;

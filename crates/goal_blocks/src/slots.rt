@@ -1,10 +1,12 @@
 //! The slots that the operations of a schedule move, and what its calcs add.
-ghost use Rattle.std.specs.Prelude.{◌≡◌, ℕ, ◌+◌, ◌-◌, ◌<◌, ◌≤◌, ◌++◌, ◌==◌, [], length, slice_index, IfOk, OnOk};
+ghost use Rattle.std.specs.Prelude.{◌≡◌, ℕ, ◌+◌, ◌-◌, ◌^◌, ◌<◌, ◌≤◌, ◌++◌, ◌==◌, [], ◌∷◌, length, min, slice_index, IfOk, OnOk, MatchOption};
 ghost use Rattle.goal_graph.specs.Fault.{IsOp};
-ghost use Rattle.goal_blocks.specs.Slots.{slots_from, slots, adds};
+ghost use Rattle.goal_blocks.specs.Slots.{slots};
+ghost use Rattle.goal_blocks.specs.SlotRanges.{slots_of, slots_in};
 
 use goal_graph::{Note, OpId, Sched};
 use goal_limits::NoMemory;
+use smallvec::SmallVec;
 use std::alloc::{AllocError, Global};
 use std::marker::Model;
 
@@ -15,18 +17,68 @@ pub struct Adding {
     pub to: u32,
 }
 
+/// The slots from `lo` up to `hi`. There is none where `hi` is less than `lo`.
+#[derive(Clone, Copy, Debug, Default, PartialEq, Eq)]
+pub struct SlotRange {
+    pub lo: u32,
+    pub hi: u32,
+}
+
+impl SlotRange {
+    /// How many slots the range has.
+    #[must_use]
+    pub fn count(self) -> u64
+        ensures count { result ≡ length (slots_of self) }
+        ensures by_ends { result ≡ self.hi + 1 - self.lo }
+        ensures most { result ≤ 2 ^ 32 }
+    {
+        self.end().saturating_sub(u64::from(self.lo))
+    }
+
+    // The slot after the last one.
+    fn end(self) -> u64
+        ensures end { result ≡ self.hi + 1 }
+        ensures low { result ≤ 2 ^ 32 }
+    {
+        u64::from(self.hi) + 1
+    }
+
+    // The slot at this index.
+    fn slot(self, i: u64) -> u32
+        requires { i < length (slots_of self) }
+        ensures { result ≡ slice_index (slots_of self) i }
+    {
+        self.lo + i as u32
+    }
+}
+
+/// How many slots these ranges have, or 2^64-1 where they have more.
+#[must_use]
+pub fn slot_count(ranges: &[SlotRange]) -> u64
+    ensures { result ≡ min (length (slots_in ranges.now)) (2 ^ 64 - 1) }
+{
+    let mut count: u64 = 0;
+    for range in ranges {
+        count = count.saturating_add(range.count());
+    }
+    count
+}
+
 /// A list of slots. Contracts see it as that list.
 #[derive(Drop)]
 pub struct Slots {
-    list: Vec<u32>,
+    ranges: SmallVec<SlotRange, 2>,
 }
 
 impl Model for Slots {
-    ghost use Rattle.std.specs.Prelude.{ℕ, List};
+    ghost use Rattle.std.specs.Prelude.{ℕ, List, length, ◌<◌, ◌^◌};
+    ghost use Rattle.goal_blocks.specs.SlotRanges.{slots_in};
 
     ghost Value = { List ℕ };
 
-    ghost view = { λ s. s.list.items };
+    ghost view = { λ s. slots_in s.ranges.items };
+
+    ghost invariant = { λ s. length (slots_in s.ranges.items) < 2 ^ 64 };
 }
 
 impl Slots {
@@ -35,45 +87,31 @@ impl Slots {
         requires { IsOp sched.now id }
         ensures { IfOk result (λ s. s ≡ slots sched.now id) }
     {
-        let mut list = Vec::new(alloc);
+        let mut ranges = SmallVec::new(alloc);
         let plan = &sched.plans()[id.rank as usize];
         for note in &plan.notes {
             match *note {
-                Note::Moves { op, lo, hi } if op == id.op => push_slots(&mut list, lo, hi)?,
+                Note::Moves { op, lo, hi } if op == id.op => {
+                    push_range(&mut ranges, SlotRange { lo, hi })?
+                }
                 _ => {}
             }
         }
-        Ok(Slots { list })
-    }
-
-    // No slots.
-    pub(crate) fn empty(alloc: Global) -> Slots
-        ensures { result ≡ [] }
-    {
-        Slots {
-            list: Vec::new(alloc),
-        }
-    }
-
-    // Appends the slots from `lo` up to `hi`.
-    pub(crate) fn push_range(&mut self, lo: u32, hi: u32) -> Result<(), AllocError>
-        ensures { OnOk result (self.new ≡ self.old ++ slots_from lo (hi + 1 - lo)) }
-    {
-        push_slots(&mut self.list, lo, hi)
+        Ok(Slots { ranges })
     }
 
     /// How many slots there are.
     pub fn len(&self) -> u64
         ensures { result ≡ length self.now }
     {
-        self.list.len() as u64
+        slot_count(self.ranges.as_slice())
     }
 
     /// Whether there is none.
     pub fn is_empty(&self) -> bool
         ensures { result ≡ (length self.now == 0) }
     {
-        self.list.is_empty()
+        self.len() == 0
     }
 
     /// The slot at this index.
@@ -81,23 +119,80 @@ impl Slots {
         requires { i < length self.now }
         ensures { result ≡ slice_index self.now i }
     {
-        self.list[i as usize]
+        let mut left = i;
+        for range in self.ranges.as_slice() {
+            let count = range.count();
+            if left < count {
+                return range.slot(left);
+            }
+            left -= count;
+        }
+        unreachable!()
     }
 
-    /// All slots.
-    pub fn as_slice(&self) -> &[u32]
-        ensures { result.now ≡ self.now }
+    /// The slots, one after another.
+    pub fn iter(&self) -> SlotIter<'_>
+        ensures { result ≡ self.now }
     {
-        self.list.as_slice()
+        SlotIter::new(self.ranges.as_slice())
     }
 }
 
-// Appends the slots from `lo` up to `hi`.
-pub(crate) fn push_slots(list: &mut Vec<u32>, lo: u32, hi: u32) -> Result<(), AllocError>
-    ensures { OnOk result (list.new.items ≡ list.old.items ++ slots_from lo (hi + 1 - lo)) }
+// One more range.
+fn push_range(ranges: &mut SmallVec<SlotRange, 2>, range: SlotRange) -> Result<(), AllocError>
+    ensures more { OnOk result (slots_in ranges.new.items ≡ slots_in ranges.old.items ++ slots_of range) }
+    ensures few { length (slots_of range) ≤ 2 ^ 32 }
 {
-    for slot in lo as u64..hi as u64 + 1 {
-        list.push(slot as u32)?;
-    }
+    ranges.push(range)?;
     Ok(())
+}
+
+/// The slots of ranges, one after another. Contracts see it as the list of those that are left.
+#[derive(Drop)]
+pub struct SlotIter<'a> {
+    ranges: &'a [SlotRange],
+    next: u64,
+    end: u64,
+}
+
+impl<'a> Model for SlotIter<'a> {
+    ghost use Rattle.std.specs.Prelude.{ℕ, List, ◌++◌, ◌-◌, ◌≤◌, ◌^◌};
+    ghost use Rattle.goal_blocks.specs.Slots.{slots_from};
+    ghost use Rattle.goal_blocks.specs.SlotRanges.{slots_in};
+
+    ghost Value = { List ℕ };
+
+    ghost view = { λ s. slots_from s.next (s.end - s.next) ++ slots_in s.ranges.now };
+
+    ghost invariant = { λ s. s.end ≤ 2 ^ 32 };
+}
+
+impl<'a> SlotIter<'a> {
+    /// The slots of these ranges.
+    pub fn new(ranges: &'a [SlotRange]) -> SlotIter<'a>
+        ensures { result ≡ slots_in ranges.now }
+    {
+        SlotIter {
+            ranges,
+            next: 0,
+            end: 0,
+        }
+    }
+
+    /// The next slot, if one is left.
+    pub fn next(&mut self) -> Option<u32>
+        ensures { MatchOption result ((self.old ≡ []) × (self.new ≡ [])) (λ slot. self.old ≡ slot ∷ self.new) }
+    {
+        while self.end <= self.next {
+            let Some((range, rest)) = self.ranges.split_first() else {
+                return None;
+            };
+            self.next = u64::from(range.lo);
+            self.end = range.end();
+            self.ranges = rest;
+        }
+        let slot = self.next as u32;
+        self.next += 1;
+        Some(slot)
+    }
 }

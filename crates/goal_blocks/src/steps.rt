@@ -6,6 +6,7 @@ ghost use Rattle.goal_blocks.specs.Made.{before_round};
 ghost use Rattle.goal_blocks.specs.Entries.{Entry, plan_by, made_by};
 ghost use Rattle.goal_blocks.specs.Steps.{entry_of, needs_of, notes_from};
 
+use crate::slots::SlotRange;
 use goal_graph::{Dep, Kind, Note, Op, RankPlan, When};
 use std::alloc::{AllocError, Global};
 
@@ -22,12 +23,16 @@ pub enum Needs {
 /// What a step does to slots.
 #[derive(Clone, Copy, Debug, PartialEq, Eq)]
 pub enum Effect {
-    /// A send reads, or a receive sets, the slots `lo` up to `hi`.
-    Moves { lo: u32, hi: u32 },
-    /// A send reads, or a receive sets, the slots `lo` up to `last`, and then 0 up to `hi`.
-    Wraps { lo: u32, last: u32, hi: u32 },
+    /// A send reads, or a receive sets, the slots of a range, and then those of a second one, if there is one.
+    Moves {
+        first: SlotRange,
+        second: Option<SlotRange>,
+    },
     /// A calc adds the value of slot `from` to that of slot `to`.
-    Adds { from: u32, to: u32 },
+    Adds {
+        from: u32,
+        to: u32,
+    },
 }
 
 /// An operation of a rank, with what it requires and what it does to slots.
@@ -89,15 +94,18 @@ impl Step {
 }
 
 impl Effect {
-    ghost use Rattle.std.specs.Prelude.{◌≡◌};
+    ghost use Rattle.std.specs.Prelude.{◌≡◌, None};
     ghost use Rattle.goal_blocks.specs.declared.steps.Effect.TheVariants.{Moves};
 
     /// A send reads, or a receive sets, one slot.
     #[must_use]
     pub fn slot(slot: u32) -> Effect
-        ensures { result ≡ Moves slot slot }
+        ensures { result ≡ Moves (record { lo = slot; hi = slot }) None }
     {
-        Effect::Moves { lo: slot, hi: slot }
+        Effect::Moves {
+            first: SlotRange { lo: slot, hi: slot },
+            second: None,
+        }
     }
 }
 
@@ -153,15 +161,28 @@ fn push_needs(deps: &mut Vec<Dep>, later: u32, needs: Needs) -> Result<(), Alloc
     }
 }
 
+// The operation `op` moves the slots of a range.
+fn push_moves(notes: &mut Vec<Note>, op: u32, range: SlotRange) -> Result<(), AllocError>
+    ensures { OnOk result (notes.new.items ≡ notes.old.items ++ Note.Moves op range.lo range.hi ∷ []) }
+{
+    notes.push(Note::Moves {
+        op,
+        lo: range.lo,
+        hi: range.hi,
+    })?;
+    Ok(())
+}
+
 // What the operation `op` does to slots.
 fn push_notes(notes: &mut Vec<Note>, op: u32, effect: Effect) -> Result<(), AllocError>
     ensures { OnOk result (notes.new.items ≡ notes.old.items ++ notes_from op effect) }
 {
     match effect {
-        Effect::Moves { lo, hi } => notes.push(Note::Moves { op, lo, hi })?,
-        Effect::Wraps { lo, last, hi } => {
-            notes.push(Note::Moves { op, lo, hi: last })?;
-            notes.push(Note::Moves { op, lo: 0, hi })?;
+        Effect::Moves { first, second } => {
+            push_moves(notes, op, first)?;
+            if let Some(second) = second {
+                push_moves(notes, op, second)?;
+            }
         }
         Effect::Adds { from, to } => notes.push(Note::Adds { op, from, to })?,
     }

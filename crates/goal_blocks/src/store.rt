@@ -108,8 +108,9 @@ impl Store {
         ensures { result ≡ sum_by (λ k. length (values self.now rank k)) slots.now }
     {
         let mut size = 0;
-        for slot in slots.as_slice() {
-            size += self.size_at(rank, *slot);
+        let mut left = slots.iter();
+        while let Some(slot) = left.next() {
+            size += self.size_at(rank, slot);
         }
         size
     }
@@ -120,8 +121,9 @@ impl Store {
         ensures { IfOk result (λ p. p ≡ map (values self.now rank) slots.now) }
     {
         let mut copies = Vec::new(self.alloc);
-        for slot in slots.as_slice() {
-            copies.push(self.copy_at(rank, *slot)?)?;
+        let mut left = slots.iter();
+        while let Some(slot) = left.next() {
+            copies.push(self.copy_at(rank, slot)?)?;
         }
         Ok(Payload { values: copies })
     }
@@ -136,14 +138,14 @@ impl Store {
         ensures unchanged { OnErr result (values self.new ≡ values self.old) }
         ensures ranks { self.new.ranks ≡ self.old.ranks }
     {
-        let places = slots.as_slice();
-        if places.len() == 1 {
-            return self.write_one(rank, places[0], payload.values);
+        if slots.len() == 1 {
+            return self.write_one(rank, slots.get(0), payload.values);
         }
-        for slot in places {
-            self.make_room(rank, *slot)?;
+        let mut left = slots.iter();
+        while let Some(slot) = left.next() {
+            self.make_room(rank, slot)?;
         }
-        self.fill(rank, places, payload.values);
+        self.fill(rank, slots, payload.values);
         Ok(())
     }
 
@@ -314,7 +316,7 @@ impl Store {
     }
 
     // Sets slots that are set already to other values, in order.
-    fn fill(&mut self, rank: u32, slots: &[u32], list: Vec<Vec<Contribution>>)
+    fn fill(&mut self, rank: u32, slots: &Slots, list: Vec<Vec<Contribution>>)
         requires rank { rank < self.old.ranks }
         requires lengths { length slots.now ≡ length list.items }
         requires sorted { All IsSorted (lists_of list.items) }
@@ -323,11 +325,14 @@ impl Store {
         ensures written { values self.new ≡ write rank slots.now (lists_of list.items) (values self.old) }
         ensures ranks { self.new.ranks ≡ self.old.ranks }
     {
-        let mut next = 0;
+        let mut left = slots.iter();
         for value in list {
-            match self.put(rank, slots[next], value) {
-                Ok(()) => next += 1,
-                Err(_) => unreachable!(),
+            match left.next() {
+                Some(slot) => match self.put(rank, slot, value) {
+                    Ok(()) => {}
+                    Err(_) => unreachable!(),
+                },
+                None => unreachable!(),
             }
         }
     }

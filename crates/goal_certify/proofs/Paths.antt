@@ -1,5 +1,5 @@
 -- The path from an operation to the next one whose row is made: each needs the one after it.
-use Rattle.std.proofs.Common.{ℕ, Bool, ◌+◌, ◌-◌, ◌≡◌, ◌≢◌, ◌<◌, ◌≤◌, ◌++◌, true, false, cond, ◌⊎◌, inl, inr, List, [], ◌∷◌, length, get_or, set, All, Contains, refl, sym, ap, ◌∙◌, subst, arith, true≢false, length-append, get_or-set_other}
+use Rattle.std.proofs.Common.{ℕ, Bool, ◌+◌, ◌-◌, ◌≡◌, ◌≢◌, ◌<◌, ◌≤◌, ◌++◌, true, false, cond, inl, inr, List, [], ◌∷◌, length, get_or, set, Contains, refl, sym, ap, ◌∙◌, subst, arith, true≢false, length-append, get_or-set_other}
 use Rattle.std.specs.List.{sum_by}
 use Rattle.std.proofs.lemmas.Bool.{cases_eq, cases_lt}
 use Rattle.std.proofs.lemmas.List.{get_or_append_left, get_or_push}

@@ -3,7 +3,7 @@ ghost use Rattle.std.specs.Prelude.{◌≡◌, ◌+◌, ◌^◌, ◌<◌, ◌≤
 ghost use Rattle.goal_blocks.specs.Steps.{moves_of, adds_of};
 ghost use Rattle.goal_blocks.specs.Positions.{low, rounds, parent, upward, share};
 
-use goal_blocks::{Effect, ahead, digits, power};
+use goal_blocks::{Effect, SlotRange, ahead, digits, power};
 use goal_limits::MAX_RANKS;
 
 /// The greatest power of two that divides a number.
@@ -72,13 +72,18 @@ pub fn share(ranks: u32, root: u32, rank: u32, size: u32) -> Effect
     let last = ahead(ranks, end - 1, root);
     if first <= last {
         return Effect::Moves {
-            lo: first,
-            hi: last,
+            first: SlotRange {
+                lo: first,
+                hi: last,
+            },
+            second: None,
         };
     }
-    Effect::Wraps {
-        lo: first,
-        last: ranks - 1,
-        hi: last,
+    Effect::Moves {
+        first: SlotRange {
+            lo: first,
+            hi: ranks - 1,
+        },
+        second: Some(SlotRange { lo: 0, hi: last }),
     }
 }

@@ -1,6 +1,7 @@
 // The values of the slots of all ranks.
 ghost use Rattle.std.specs.Prelude.{◌≡◌, ◌≢◌, ℕ, List, ◌+◌, ◌*◌, ◌^◌, ◌<◌, ◌≤◌, false, true, length, map, take, All, IfOk, OnOk, OnErr, IfErr, IfSome, IfNone, MatchOption};
 ghost use Rattle.std.specs.List.{sum_by};
+ghost use Rattle.goal_blocks.specs.SlotRanges.{slots_in};
 ghost use Rattle.goal_blocks.specs.Values.{Value, merge, set_slot, write};
 ghost use Rattle.goal_blocks.specs.Weight.{stored};
 ghost use Rattle.goal_blocks.specs.Collectives.{initial};
@@ -13,7 +14,10 @@ ghost use Rattle.goal_values.specs.Summed.{Summed, lent_values, IsLent, lesser};
 
 use crate::rows::Rows;
 use crate::sums::{Sums, Term};
-use goal_blocks::{Collective, Contribution, Segment, asked, first_of, initial_size, is_wanted};
+use goal_blocks::{
+    Collective, Contribution, Segment, SlotIter, SlotRange, asked, first_of, initial_size,
+    is_wanted, slot_count,
+};
 use goal_limits::NoMemory;
 use std::alloc::{AllocError, Global};
 use std::marker::Model;
@@ -107,36 +111,41 @@ impl SlotValues {
         size
     }
 
-    /// The values of these slots of the rank. `NoMemory` where memory ran out.
-    pub fn lend(&self, rank: u32, slots: &[u32]) -> Result<Lent, NoMemory>
+    /// The values of the slots of these ranges at the rank. `NoMemory` where memory ran out.
+    pub fn lend(&self, rank: u32, ranges: &[SlotRange]) -> Result<Lent, NoMemory>
         requires { rank < self.now.kept.ranks }
-        ensures values { IfOk result (λ l. lent_values self.now.sums l ≡ map (values self.now.kept rank) slots.now) }
+        ensures values { IfOk result (λ l. lent_values self.now.sums l ≡ map (values self.now.kept rank) (slots_in ranges.now)) }
         ensures lent { IfOk result (λ l. IsLent self.now.sums l) }
     {
-        let mut terms = Vec::with_capacity(self.alloc, slots.len())?;
-        for slot in slots {
-            terms.push(self.term_at(rank, *slot))?;
+        let mut terms = Vec::with_capacity(self.alloc, slot_count(ranges) as usize)?;
+        let mut slots = SlotIter::new(ranges);
+        while let Some(slot) = slots.next() {
+            terms.push(self.term_at(rank, slot))?;
         }
         Ok(Lent { terms })
     }
 
-    /// Sets these slots of the rank to the values, in order: where a slot stands twice, the later value stays.
+    /// Sets the slots of these ranges at the rank to the values, in order: where a slot is named twice, the later value stays.
     /// `NoMemory` where memory ran out; some of the slots are set then.
-    pub fn write(&mut self, rank: u32, slots: &[u32], lent: &Lent) -> Result<(), NoMemory>
+    pub fn write(&mut self, rank: u32, ranges: &[SlotRange], lent: &Lent) -> Result<(), NoMemory>
         requires rank { rank < self.old.kept.ranks }
         requires lent { IsLent self.old.sums lent.now }
-        requires lengths { length slots.now ≡ length lent.now.terms.items }
+        requires lengths { length (slots_in ranges.now) ≡ length lent.now.terms.items }
         requires light { stored self.old.kept.ranks (values self.old.kept)
             + sum_by (λ v. length v) (lent_values self.old.sums lent.now) ≤ 2 ^ 24 }
         ensures written { OnOk result (values self.new.kept
-            ≡ write rank slots.now (lent_values self.old.sums lent.now) (values self.old.kept)) }
+            ≡ write rank (slots_in ranges.now) (lent_values self.old.sums lent.now) (values self.old.kept)) }
         ensures others { (r k : ℕ) → r ≢ rank → values self.new.kept r k ≡ values self.old.kept r k }
         ensures ranks { self.new.kept.ranks ≡ self.old.kept.ranks }
         ensures sums { self.new.sums ≡ self.old.sums }
     {
         let terms = lent.terms.as_slice();
-        for at in 0..terms.len() {
-            self.put(rank, slots[at], terms[at])?;
+        let mut slots = SlotIter::new(ranges);
+        for term in terms {
+            match slots.next() {
+                Some(slot) => self.put(rank, slot, *term)?,
+                None => unreachable!(),
+            }
         }
         Ok(())
     }

@@ -3,7 +3,7 @@ ghost use Rattle.std.specs.Prelude.{◌≡◌, ◌<◌, ◌≤◌, IfOk};
 
 use crate::plans::{noted_plan, op};
 use crate::same::{same, same_list};
-use goal_blocks::{Adding, Collective, SlotTable, Slots, Store, initial_size};
+use goal_blocks::{Adding, Collective, SlotIter, SlotTable, Slots, Store, initial_size};
 use goal_graph::{Kind, Note, Sched};
 use std::alloc::Global;
 use std::test::Fail;
@@ -56,6 +56,16 @@ fn two_ranks(alloc: Global) -> Result<Sched, Fail> {
     Ok(Sched::build(alloc, plans).ok().ok_or("it breaks no rule")?)
 }
 
+// The slots that are left.
+fn listed(alloc: Global, slots: SlotIter) -> Result<Vec<u32>, Fail> {
+    let mut slots = slots;
+    let mut list = Vec::new(alloc);
+    while let Some(slot) = slots.next() {
+        list.push(slot)?;
+    }
+    Ok(list)
+}
+
 #[test]
 fn slots_and_sums(rt: HostRuntime) -> Result<(), Fail> {
     let sched = two_ranks(rt.alloc())?;
@@ -63,9 +73,12 @@ fn slots_and_sums(rt: HostRuntime) -> Result<(), Fail> {
     let ids = sched.operations();
     assert_eq!(rt; ids.len(), 3);
     let sent = Slots::of(rt.alloc(), &sched, ids[0]).ok().ok_or("memory")?;
-    same_list(&rt, sent.as_slice(), [1, 2, 0].as_slice());
-    same_list(&rt, table.slots_of(ids[0]), [1, 2, 0].as_slice());
-    same_list(&rt, table.slots_of(ids[1]), [0, 4, 5].as_slice());
+    let read = listed(rt.alloc(), sent.iter())?;
+    same_list(&rt, read.as_slice(), [1, 2, 0].as_slice());
+    let read = listed(rt.alloc(), SlotIter::new(table.slots_of(ids[0])))?;
+    same_list(&rt, read.as_slice(), [1, 2, 0].as_slice());
+    let read = listed(rt.alloc(), SlotIter::new(table.slots_of(ids[1])))?;
+    same_list(&rt, read.as_slice(), [0, 4, 5].as_slice());
     same(&rt, &table.slots_of(ids[2]).len(), &0);
     same_list(
         &rt,

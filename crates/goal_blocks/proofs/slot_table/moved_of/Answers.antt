@@ -1,7 +1,7 @@
-use Rattle.std.proofs.Common.{ℕ, ◌≡◌, ◌++◌, List, [], ◌∷◌, length, get_or, refl, sym, ap, ◌∙◌, arith}
+use Rattle.std.proofs.Common.{◌≡◌, ◌++◌, [], ◌∷◌, length, get_or, refl, sym, ap, ◌∙◌, arith, Vec, Global}
 use Rattle.std.proofs.lemmas.List.{length-append, with_items_is}
 use Rattle.goal_graph.specs.declared.plan.Note.TheVariants.{Moves}
-use Rattle.goal_blocks.specs.Slots.{moved_by}
+use Rattle.goal_blocks.specs.SlotRanges.{SlotRange, ranges_by}
 use Rattle.goal_blocks.proofs.SlotLists.{pushed_each, note_tells, note_tells_none}
 use Rattle.goal_blocks.proofs.slot_table.moved_of.Goals as goal
 use Rattle.goal_blocks.proofs.slot_table.moved_of.Goals.{in-Moves+in_ok-move_more-in-Moves, in-Adds}
@@ -9,12 +9,12 @@ use Rattle.goal_blocks.proofs.slot_table.moved_of.Goals.{in-Moves+in_ok-move_mor
 pub loop-preserved : goal.loop-preserved
 loop-preserved c =
     let had = c.loop.moved.items in
-    let none = c.empty.result in
+    let none = c.new.result in
     let more = c.in_ok-push.ensures.items in
     let so_far = c.loop.invariant in (
       omega (arith, ap length more, length-append had (none ∷ []), so_far.0),
-      λ k h.
-          ap (λ xs. get_or xs k []) more ∙ pushed_each (λ (ks : List ℕ). ks ≡ []) had none c.loop.counter [] so_far.0 so_far.1 c.empty.ensures k h,
+      λ k v h.
+          ap (λ xs. (get_or xs k v).items) more ∙ pushed_each (λ (w : Vec SlotRange Global). w.items ≡ []) had none c.loop.counter v so_far.0 (λ j below. so_far.1 j v below) c.new.ensures.items k h,
     )
 
 pub loop-note-preserved : goal.loop-note-preserved
@@ -27,19 +27,20 @@ loop-note-preserved c =
     elim c.match-note.branch [
       | in-Moves+in_ok-move_more-in-Moves w ↦ (let note = w.in-Moves in
           let new = w.move_more.new.moved in
+          let more = w.in_ok-move_more-in-Moves.ensures in
           let same : w.deref_mut.result.now ≡ had.items = w.deref_mut.ensures.value in
-          let long : length new ≡ length had.items = w.move_more.auto.moved ∙ ap length same in
+          let long : length new ≡ length had.items = more.count ∙ ap length same in
           let are : c.match-note.moved.items ≡ new = ap (λ v. v.items) w.moved-is ∙ with_items_is had new (omega (arith, long, had.ok.0)) in (
             ap length are ∙ long ∙ so_far.0,
-            λ k h.
-                ap (λ xs. get_or xs k []) are
-                ∙ w.in_ok-move_more-in-Moves.ensures k (omega (arith, h, so_far.0, ap length same))
-                ∙ ap (λ xs. get_or xs k [] ++ moved_by k (Moves note.op note.lo note.hi)) same
-                ∙ ap (λ ks. ks ++ moved_by k (Moves note.op note.lo note.hi)) (so_far.1 k h)
-                ∙ sym (note_tells (moved_by k) notes i _ _ inside note.is),
+            λ k v h.
+                ap (λ xs. (get_or xs k v).items) are
+                ∙ more.each k v (omega (arith, h, so_far.0, ap length same))
+                ∙ ap (λ xs. (get_or xs k v).items ++ ranges_by k (Moves note.op note.lo note.hi)) same
+                ∙ ap (λ ks. ks ++ ranges_by k (Moves note.op note.lo note.hi)) (so_far.1 k v h)
+                ∙ sym (note_tells (ranges_by k) notes i _ _ inside note.is),
           ))
       | in-Adds w ↦ (
         ap (λ v. length v.items) w.moved-is ∙ so_far.0,
-        λ k h. ap (λ v. get_or v.items k []) w.moved-is ∙ so_far.1 k h ∙ sym (note_tells_none (moved_by k) notes i _ _ inside w.in-Adds.is refl),
+        λ k v h. ap (λ xs. (get_or xs.items k v).items) w.moved-is ∙ so_far.1 k v h ∙ sym (note_tells_none (ranges_by k) notes i _ _ inside w.in-Adds.is refl),
       )
     ]

@@ -1,8 +1,14 @@
-use Rattle.std.proofs.Common.{◌≡◌, ◌*◌, ◌^◌, ◌≤◌, length, take}
+use Rattle.std.proofs.Common.{◌≡◌, ◌+◌, ◌*◌, ◌^◌, ◌≤◌, length}
 use Rattle.std.specs.List.{sum_by}
 use Rattle.goal_blocks.specs.Stored.{values}
 use Rattle.goal_blocks.proofs.store.Store.payload_size.Given as goal
 
+-- with the sizes of the slots that are left it is the whole size
 abbrev pub invariant-loop-slot : goal.invariant-loop-slot
-invariant-loop-slot l =
-    (l.size ≡ sum_by (λ k. length (values l.self l.rank k)) (take l.slot-index l.slot-items)) × (l.size ≤ l.slot-index * 2 ^ 24)
+invariant-loop-slot l = record {
+  whole : l.size + sum_by (λ k. length (values l.self l.rank k)) l.left ≡ sum_by (λ k. length (values l.self l.rank k)) l.slots;
+  few : l.size + length l.left * 2 ^ 24 ≤ length l.slots * 2 ^ 24;
+}
+
+abbrev pub decreases-loop-slot : goal.decreases-loop-slot
+decreases-loop-slot l = length l.left

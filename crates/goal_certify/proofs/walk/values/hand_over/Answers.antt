@@ -1,4 +1,5 @@
 use Rattle.std.proofs.Common.{◌^◌, ◌≤◌, arith}
+use Rattle.goal_blocks.specs.SlotRanges.{slots_in}
 use Rattle.goal_values.specs.Kept.{values}
 use Rattle.goal_values.specs.Summed.{lent_values}
 use Rattle.goal_blocks.specs.Weight.{stored}
@@ -13,11 +14,11 @@ lend-requires c =
 pub lent_size-size-requires-clause-fits : goal.lent_size-size-requires-clause-fits
 lent_size-size-requires-clause-fits c =
     let light : stored c.args.store.now.kept.ranks (values c.args.store.now.kept) ≤ 2 ^ 24 = omega (arith, c.requires.light) in
-    let few = read_light c.args.table.now c.requires.small c.args.send c.requires.exists c.args.store.now.kept.ranks (values c.args.store.now.kept) c.requires.ranks light c.slots_of-slots.result.now (lent_values c.args.store.now.sums c.in-Ok.lent) c.slots_of-slots.ensures c.in-Ok.ensures.values in
+    let few = read_light c.args.table.now c.requires.small c.args.send c.requires.exists c.args.store.now.kept.ranks (values c.args.store.now.kept) c.requires.ranks light (slots_in c.slots_of-slots.result.now) (lent_values c.args.store.now.sums c.in-Ok.lent) c.slots_of-slots.ensures c.in-Ok.ensures.values in
     omega (arith, few)
 
 pub overflow_add-total-2 : goal.overflow_add-total-2
 overflow_add-total-2 c =
     let light : stored c.args.store.now.kept.ranks (values c.args.store.now.kept) ≤ 2 ^ 24 = omega (arith, c.requires.light) in
-    let few = read_light c.args.table.now c.requires.small c.args.send c.requires.exists c.args.store.now.kept.ranks (values c.args.store.now.kept) c.requires.ranks light c.slots_of-slots.result.now (lent_values c.args.store.now.sums c.in-Ok.lent) c.slots_of-slots.ensures c.in-Ok.ensures.values in
+    let few = read_light c.args.table.now c.requires.small c.args.send c.requires.exists c.args.store.now.kept.ranks (values c.args.store.now.kept) c.requires.ranks light (slots_in c.slots_of-slots.result.now) (lent_values c.args.store.now.sums c.in-Ok.lent) c.slots_of-slots.ensures c.in-Ok.ensures.values in
     omega (arith, few, c.lent_size-size.ensures, c.held.ensures, c.requires.light)

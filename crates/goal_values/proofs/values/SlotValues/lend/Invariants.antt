@@ -1,11 +1,15 @@
-use Rattle.std.proofs.Common.{◌≡◌, All, length, map, take}
+use Rattle.std.proofs.Common.{◌≡◌, ◌++◌, All, length, map}
+use Rattle.goal_blocks.specs.SlotRanges.{slots_in}
 use Rattle.goal_values.specs.Kept.{values}
 use Rattle.goal_values.specs.Sums.{meaning, IsBelow}
 use Rattle.goal_values.proofs.values.SlotValues.lend.Given as goal
 
--- the values of the slots so far
+-- with the values of the slots that are left these are all
 abbrev pub invariant-loop-slot : goal.invariant-loop-slot
 invariant-loop-slot l = record {
-  read : map (meaning l.self.sums) l.terms.items ≡ map (values l.self.kept l.rank) (take l.slot-index l.slots);
+  read : map (meaning l.self.sums) l.terms.items ++ map (values l.self.kept l.rank) l.slots ≡ map (values l.self.kept l.rank) (slots_in l.ranges);
   below : All (IsBelow (length l.self.sums)) l.terms.items;
 }
+
+abbrev pub decreases-loop-slot : goal.decreases-loop-slot
+decreases-loop-slot l = length l.slots

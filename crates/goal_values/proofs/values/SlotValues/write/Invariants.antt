@@ -1,5 +1,6 @@
 use Rattle.std.proofs.Common.{ℕ, ◌≡◌, ◌≢◌, ◌+◌, ◌^◌, ◌≤◌, length, map, drop}
 use Rattle.std.specs.List.{sum_by}
+use Rattle.goal_blocks.specs.SlotRanges.{slots_in}
 use Rattle.goal_blocks.specs.Values.{Value, write}
 use Rattle.goal_blocks.specs.Weight.{stored}
 use Rattle.goal_values.specs.Kept.{values}
@@ -7,11 +8,12 @@ use Rattle.goal_values.specs.Sums.{meaning}
 use Rattle.goal_values.proofs.values.SlotValues.write.Given as goal
 
 -- writing what is left completes it
-abbrev pub invariant-loop-at : goal.invariant-loop-at
-invariant-loop-at l = record {
+abbrev pub invariant-loop-term : goal.invariant-loop-term
+invariant-loop-term l = record {
   sums : l.self.sums ≡ l.initial.self.sums;
   ranks : l.self.kept.ranks ≡ l.initial.self.kept.ranks;
-  left : write l.rank (drop l.at l.slots) (drop l.at (map (meaning l.initial.self.sums) l.terms)) (values l.self.kept) ≡ write l.rank l.slots (map (meaning l.initial.self.sums) l.terms) (values l.initial.self.kept);
-  light : stored l.self.kept.ranks (values l.self.kept) + sum_by (λ (v : Value). length v) (drop l.at (map (meaning l.initial.self.sums) l.terms)) ≤ 2 ^ 24;
+  many : length l.slots + l.term-index ≡ length l.terms;
+  left : write l.rank l.slots (drop l.term-index (map (meaning l.initial.self.sums) l.terms)) (values l.self.kept) ≡ write l.rank (slots_in l.ranges) (map (meaning l.initial.self.sums) l.terms) (values l.initial.self.kept);
+  light : stored l.self.kept.ranks (values l.self.kept) + sum_by (λ (v : Value). length v) (drop l.term-index (map (meaning l.initial.self.sums) l.terms)) ≤ 2 ^ 24;
   others : (r k : ℕ) → r ≢ l.rank → values l.self.kept r k ≡ values l.initial.self.kept r k;
 }
