@@ -236,9 +236,12 @@ class Fold:
 
     def machine_text(self) -> str:
         """MACHINE for the folded schedule."""
+        return "".join(line + "\n" for line in lines_of(self.folded_machine()))
+
+    def folded_machine(self) -> Machine:
+        """The machine of the folded schedule: a rank for each node."""
         machine = self.machine
-        folded = Machine(machine.classes, machine.inside, machine.default, self.names, machine.pairs)
-        return "".join(line + "\n" for line in lines_of(folded))
+        return Machine(machine.classes, machine.inside, machine.default, self.names, machine.pairs)
 
     def unfolded(self, lines: Iterable[str]) -> List[str]:
         """The printed run of the folded schedule, with the ranks and the numbers of the schedule itself."""

@@ -2,6 +2,7 @@
 import argparse
 import re
 import sys
+import tempfile
 from dataclasses import dataclass
 from typing import Dict, List, Optional, Set, Tuple
 
@@ -11,6 +12,7 @@ from common.command import Fault
 from common.description import cluster_of, is_description
 from common.parameters import Alike, Costs, add_options, given_options, parameters_of, words_of
 from common.phases import Story, Window, stories_of
+from common.places import COMPILED
 from common.printed_run import Run, first_line, read_run
 
 MOST_TIME = 2**63 - 1
@@ -108,6 +110,11 @@ def check_words(arguments: argparse.Namespace, options: Dict[str, int]) -> None:
     """What can be wrong with the words, before anything is read."""
     if arguments.until is not None and arguments.until <= arguments.since:
         raise Fault("--to is not after --from")
+    check_sources(arguments, options)
+
+
+def check_sources(arguments: argparse.Namespace, options: Dict[str, int]) -> None:
+    """What can be wrong with the names of files, and with parameters beside them."""
     if arguments.machine is not None and options:
         raise Fault("a machine has its own parameters: give no others")
     files = [name for name in (arguments.name, arguments.run, arguments.machine) if name is not None]
@@ -136,7 +143,13 @@ def schedule_of(name: str, goal: str) -> Tuple[str, Optional[str]]:
     """The name of a schedule for the program, and the text that is to be its standard input, if any."""
     if command.source(name) != command.STANDARD_INPUT:
         return name, None
-    return command.STANDARD_INPUT, program.expect(program.call(goal, ["show", command.STANDARD_INPUT]), program.DONE).out
+    text = command.read_file(name)
+    if not text.startswith(COMPILED):
+        return command.STANDARD_INPUT, text.decode("utf-8", "replace")
+    with tempfile.NamedTemporaryFile() as file:
+        file.write(text)
+        file.flush()
+        return command.STANDARD_INPUT, program.expect(program.call(goal, ["show", file.name]), program.DONE).out
 
 
 def text_of(name: str) -> str:

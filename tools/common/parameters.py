@@ -126,6 +126,14 @@ class Parameters:
         """How long a cpu is busy with a message."""
         return self.o + up(self.O, self.Op, size)
 
+    def gap(self, size: int) -> int:
+        """How long a side of a NIC is busy with a message."""
+        return self.g + up(self.G, self.Gp, size)
+
+    def flight(self, size: int) -> int:
+        """How long a message is on its way, from the start of the send to the arrival."""
+        return self.o + max(up(self.O, self.Op, size), up(self.G, self.Gp, size)) + self.L
+
     def is_eager(self, size: int) -> bool:
         return size <= self.S
 

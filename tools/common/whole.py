@@ -1,0 +1,111 @@
+"""The whole run of a schedule with the causes of its times, as a tool is asked for it. Nothing of it is proved."""
+from __future__ import annotations
+
+import argparse
+from dataclasses import dataclass
+from functools import cached_property
+from typing import Dict, List, Optional, Tuple
+
+from common import folding, program
+from common.canonical import Key, Schedule, read_canonical
+from common.causes import Causes
+from common.command import STANDARD_INPUT, Fault
+from common.description import cluster_of
+from common.loading import check_sources, costs_of, output_of, run_lines, schedule_of, text_of
+from common.parameters import Costs, add_options, given_options
+from common.phases import Misfit, Story, Window, stories_of
+from common.printed_run import Run, Timed, read_run
+
+
+def add_whole_words(parser: argparse.ArgumentParser) -> None:
+    """The words that say which run, where all of it is looked at."""
+    parser.add_argument("name", metavar="NAME", help="the schedule, a text or a compiled file (- is standard input, as of the two below)")
+    parser.add_argument("--run", metavar="FILE", help="a run of it that is printed already, in place of a new one")
+    parser.add_argument("--machine", metavar="MACHINE", help="run it on this machine: MACHINE of `goal nodes`, or a description (tools/fold)")
+    add_options(parser)
+    program.add_option(parser)
+
+
+@dataclass
+class Whole:
+    """A run of a schedule. Where the ranks of a node share cards, it is that of the folded schedule (tools/fold), and `names` has the
+    rank and the number of each operation in the schedule of the user. `source` and `text` are what the program reads: the name of a
+    file, and its standard input, if any. `shown` is the canonical text of the schedule of the user."""
+
+    goal: str
+    source: str
+    text: Optional[str]
+    options: Dict[str, int]
+    schedule: Schedule
+    run: Run
+    costs: Costs
+    stories: Dict[Key, Story]
+    names: Dict[Key, Key]
+    shown: List[str]
+
+    @cached_property
+    def causes(self) -> Causes:
+        try:
+            return Causes(self.schedule, self.stories, self.costs)
+        except Misfit as why:
+            raise Fault(str(why)) from None
+
+    def named(self, key: Key) -> Key:
+        """The rank and the number of an operation in the schedule of the user."""
+        return self.names.get(key, key)
+
+    def key_of(self, name: Key) -> Key:
+        """The operation that has this rank and number there."""
+        found = {old: new for new, old in self.names.items()}.get(name, name)
+        if found not in self.schedule.ops:
+            raise Fault(f"rank {name[0]} has no operation {name[1]}")
+        return found
+
+
+def load_whole(arguments: argparse.Namespace) -> Whole:
+    """The run that the words ask for."""
+    try:
+        options = given_options(arguments)
+        check_sources(arguments, options)
+        costs, goal = costs_of(arguments, options), program.chosen(arguments.goal)
+        source, text = schedule_of(arguments.name, goal)
+        run = read_run(run_lines(arguments, options, source, text))
+        shown = output_of(arguments, text, "show", source)
+        folded = fold_of(arguments, shown)
+        if folded is None:
+            return Whole(goal, source, text, options, *told(read_canonical(shown), run, costs), {}, shown)
+        text = "".join(folded.text())
+        schedule = read_canonical(output_of(arguments, text, "show", STANDARD_INPUT))
+        names = {new: old for old, new in folded.new_key.items()}
+        run = rekeyed(run, folded.new_key)
+        return Whole(goal, STANDARD_INPUT, text, options, *told(schedule, run, folded.folded_machine()), names, shown)
+    except ValueError as why:
+        raise Fault(str(why)) from None
+
+
+def told(schedule: Schedule, run: Run, costs: Costs) -> Tuple[Schedule, Run, Costs, Dict[Key, Story]]:
+    """A run with its stories."""
+    return schedule, run, costs, stories_of(schedule, run, costs, Window(range(run.ranks)))
+
+
+def fold_of(arguments: argparse.Namespace, shown: List[str]) -> Optional[folding.Fold]:
+    """The fold of the schedule, where the ranks of a node share cards."""
+    if arguments.machine is None:
+        return None
+    cluster = cluster_of(arguments.machine, text_of(arguments.machine))
+    if cluster.cards is None or not cluster.cards.count:
+        return None
+    return folding.Fold(read_canonical(shown), cluster.machine, cluster.cards)
+
+
+def rekeyed(run: Run, new_key: Dict[Key, Key]) -> Run:
+    """A run in the ranks and numbers of the folded schedule."""
+    timed = {new_key[key]: Timed(it.start, it.end, it.partner and new_key[it.partner]) for key, it in run.timed.items()}
+    reasons = {}
+    for key, reason in run.reasons.items():
+        words = reason.split()
+        if words[0] == "for":
+            words[2:] = map(str, new_key[int(words[2]), int(words[3])])
+        reasons[new_key[key]] = " ".join(words)
+    ranks = 1 + max((key[0] for key in timed), default=0)
+    return Run(ranks, run.ops, run.stuck, run.unread, run.finish, timed, reasons)
