@@ -50,6 +50,11 @@ class Whole:
         except Misfit as why:
             raise Fault(str(why)) from None
 
+    @property
+    def ranks(self) -> int:
+        """The ranks of the schedule of the user."""
+        return int(self.shown[0].split()[1])
+
     def named(self, key: Key) -> Key:
         """The rank and the number of an operation in the schedule of the user."""
         return self.names.get(key, key)
