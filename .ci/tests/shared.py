@@ -94,7 +94,7 @@ class Tools(unittest.TestCase):
     def works(self) -> dict[str, list[str]]:
         """For each tool words with which it writes something."""
         exchange = os.path.join(TOP, "examples", "exchange")
-        return {"check": [exchange], "fold": [exchange, self.pair()], "locate": [exchange, "0", "0"], "machine": [os.path.join(TOP, "examples", "eight_nodes")],
+        return {"certify": ["bcast", exchange], "check": [exchange], "fold": [exchange, self.pair()], "locate": [exchange, "0", "0"], "machine": [os.path.join(TOP, "examples", "eight_nodes")],
                 "path": [exchange],
                 "schedule": ["bcast-chain", "2", "8"], "segments": ["bcast", exchange], "sweep": [f"schedule={exchange}", "L=1,2"],
                 "timeline": [exchange], "trace": [exchange, "--machine", self.pair()]}

@@ -13,6 +13,8 @@ ACTIONS = (b"calc", b"send", b"recv")
 NEEDS, NOTES = (b"requires", b"irequires"), (b"moves", b"adds")
 # what may follow in an action after its first word, except numbers and sizes
 OPTIONS = (b"to", b"from", b"tag", b"cpu", b"nic", b"any")
+# options that say what is so without them
+PLAIN = re.compile(r" (?:tag|cpu|nic) 0\b")
 OPERATION, DEPENDENCY, NOTE, BLOCK = "operation", "dependency", "note", "block"
 
 
@@ -48,6 +50,11 @@ class Item:
 
     def __str__(self) -> str:
         return decoded(b" ".join(self.words)).replace(" :", ":")
+
+    @property
+    def short(self) -> str:
+        """How it is written, without options that say what is so without them."""
+        return PLAIN.sub("", str(self))
 
     def goes_on(self, word: bytes) -> bool:
         """Whether this word belongs to it."""
@@ -120,3 +127,18 @@ class Places:
         place = self.at(item.byte) if self.has_lines else self.name
         what = f"{rank} {number}" if kind == OPERATION else str(kind) if kind == BLOCK else f"{kind} {rank} {number}"
         return f"{place}: {what} is {item}"
+
+    def item(self, rank: int, number: int, kind: str = OPERATION) -> Optional[Item]:
+        """The item as it is written, or None where there is none."""
+        return self._found.get((kind, rank, number))
+
+    def label(self, rank: int, number: int) -> Optional[str]:
+        """The label of an operation, if it has one."""
+        item = self.item(rank, number)
+        return decoded(item.words[0]) if item and item.words[1:2] == [b":"] else None
+
+    def notes(self, rank: int, number: int) -> List[Item]:
+        """The notes on an operation, in their order."""
+        label = self.label(rank, number)
+        found = (item for (kind, where, _), item in self._found.items() if kind == NOTE and where == rank)
+        return [item for item in found if label is not None and decoded(item.words[0]) == label]
