@@ -97,7 +97,8 @@ class Tools(unittest.TestCase):
         return {"certify": ["bcast", exchange], "check": [exchange], "fold": [exchange, self.pair()], "locate": [exchange, "0", "0"], "machine": [os.path.join(TOP, "examples", "eight_nodes")],
                 "path": [exchange],
                 "schedule": ["bcast-chain", "2", "8"], "segments": ["bcast", exchange], "sweep": [f"schedule={exchange}", "L=1,2"],
-                "timeline": [exchange], "trace": [exchange, "--machine", self.pair()]}
+                "timeline": [exchange], "trace": [exchange, "--machine", self.pair()],
+                "waits": [exchange]}
 
     def pair(self) -> str:
         """A description of two ranks."""
