@@ -116,8 +116,30 @@ class Pictures(unittest.TestCase):
 
     def test_the_picture_of_the_exchange(self) -> None:
         texts = self.texts(self.drawn(os.path.join(EXAMPLES, "exchange")))
-        for text in ("rank 0", "rank 1", "1 send to 1", "0 recv from 0", "waits 9,908 ns", "calc", "message and its receive"):
+        for text in ("rank 0", "rank 1", "1 b: send to 1", "0 c: recv from 0", "nic 0 tx", "waits 9,908 ns", "calc", "message and its receive"):
             self.assertIn(text, texts)
+
+    def test_the_sides_of_nics(self) -> None:
+        """A rect for each hold of a side; none without them."""
+        name = os.path.join(EXAMPLES, "exchange")
+        for words, count in (([], 4), (["--no-nics"], 0)):
+            picture = self.drawn(name, *words)
+            self.assertEqual(len([it for it in picture.iter(SVG + "rect") if it.get("fill") in ("#8fb4e3", "#f2bf8c") and it.get("stroke")]), count)
+
+    def test_the_path_is_a_strong_line(self) -> None:
+        picture = self.drawn(os.path.join(EXAMPLES, "exchange"), "--path")
+        self.assertEqual(len([it for it in picture.iter(SVG + "path") if it.get("stroke") == "#8b1a8b"]), 1)
+        self.assertIn("what held up the last end", self.texts(picture))
+
+    def test_a_cloud_of_arrows_gives_way_to_the_path(self) -> None:
+        with tempfile.NamedTemporaryFile("w", suffix=".goal") as file:
+            file.write(goal("gen", "alltoall", "16", "8"))
+            file.flush()
+            whole, path = self.drawn(file.name), self.drawn(file.name, "--path")
+            some = self.drawn(file.name, "--ranks", "0-3")
+        self.assertIn("message and its receive", self.texts(whole))
+        self.assertNotIn("message and its receive", self.texts(path))
+        self.assertIn("4 of 16 ranks", " ".join(self.texts(some)))
 
     def test_what_is_stuck_is_red(self) -> None:
         picture = self.drawn(os.path.join(EXAMPLES, "both_send_first"))

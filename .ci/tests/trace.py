@@ -16,7 +16,7 @@ from common import program
 
 EXAMPLES = os.path.join(TOP, "examples")
 FIELDS = {
-    "X": {"name", "cat", "pid", "tid", "ts", "dur", "args"},
+    "X": {"name", "pid", "tid", "ts", "dur"},
     "M": {"name", "pid", "args"},
     "i": {"name", "s", "pid", "tid", "ts"},
     "s": {"name", "cat", "id", "pid", "tid", "ts"},
@@ -84,8 +84,32 @@ class Content(unittest.TestCase):
         trace = events(os.path.join(EXAMPLES, "exchange"))
         taken = next(event for event in trace if event["name"] == "2 recv from 1")
         self.assertEqual((taken["ts"], taken["dur"], taken["args"]["waited ns"]), (9.908, 1.5, 9908))
-        self.assertEqual(taken["args"]["matched with"], "operation 2 of rank 1")
+        self.assertEqual(taken["args"]["matched with"], "1 2")
         self.assertIn("waits: 2 recv from 1", [event["name"] for event in trace])
+
+    def test_tracks_are_few(self) -> None:
+        """Of a rank with many waits: a cpu, two sides of its NIC and one for its waits."""
+        with tempfile.NamedTemporaryFile("w", suffix=".goal") as file:
+            file.write(program.call(program.chosen(), ["gen", "alltoall", "12", "1000"]).out)
+            file.flush()
+            trace = events(file.name)
+        names = [event["args"]["name"] for event in trace if event["name"] == "thread_name" and event["pid"] == 3]
+        self.assertEqual(names, ["cpu 0", "nic 0 sends", "nic 0 receives", "waits"])
+
+    def test_the_sides_of_a_nic_and_the_path(self) -> None:
+        trace = events(os.path.join(EXAMPLES, "exchange"), "--path")
+        sent = [event for event in trace if event["ph"] == "X" and event["tid"] == 256 and event["pid"] == 0]
+        self.assertEqual([(event["ts"], event["dur"]) for event in sent], [(0.1, 1.054)])
+        self.assertEqual([event["ts"] for event in trace if event["ph"] == "f" and event["name"] == "path"], [0.1, 4.154, 5.654, 5.854, 9.908, 11.408])
+
+    def test_labels(self) -> None:
+        trace = events(os.path.join(EXAMPLES, "exchange"))
+        self.assertIn("b", [event["args"].get("label") for event in trace if event["ph"] == "X" and "args" in event])
+
+    def test_a_file_that_can_not_be_written_is_told_first(self) -> None:
+        done = subprocess.run([os.path.join(TOP, "tools", "trace"), os.path.join(EXAMPLES, "exchange"), "-o", "/no/such/file", "--goal", "/no/such"],
+                              capture_output=True, text=True, check=False)
+        self.assertEqual((done.returncode, done.stderr), (2, "trace: /no/such/file: No such file or directory\n"))
 
     def test_what_is_stuck(self) -> None:
         names = [event["name"] for event in events(os.path.join(EXAMPLES, "both_send_first"))]

@@ -1,5 +1,7 @@
 """The run of a schedule with its stories, as `timeline` and `trace` are asked for it. Nothing of it is proved."""
 import argparse
+import errno
+import os
 import re
 import sys
 import tempfile
@@ -12,7 +14,7 @@ from common.command import Fault
 from common.description import cluster_of, is_description
 from common.parameters import Alike, Costs, add_options, given_options, parameters_of, words_of
 from common.phases import Story, Window, stories_of
-from common.places import COMPILED
+from common.places import COMPILED, decoded, operations
 from common.printed_run import Run, first_line, read_run
 
 MOST_TIME = 2**63 - 1
@@ -139,6 +141,15 @@ def check_ended(arguments: argparse.Namespace, options: Dict[str, int], name: st
         check_limit(arguments, sum(int(lines[rank][3]) for rank in ranks_of(arguments.ranks, len(lines))))
 
 
+def labels_of(name: str) -> Dict[Key, str]:
+    """The labels of the operations in the text of a schedule; none of a compiled file, nor those that `goal show` gives."""
+    text = command.read_file(name)
+    if text.startswith(COMPILED):
+        return {}
+    labelled = ((item, decoded(item.words[0])) for item in operations(text) if item.words[1:2] == [b":"])
+    return {(item.rank, item.number): label for item, label in labelled if label != f"l{item.number + 1}"}
+
+
 def schedule_of(name: str, goal: str) -> Tuple[str, Optional[str]]:
     """The name of a schedule for the program, and the text that is to be its standard input, if any."""
     if command.source(name) != command.STANDARD_INPUT:
@@ -186,6 +197,16 @@ def costs_of(arguments: argparse.Namespace, options: Dict[str, int]) -> Costs:
     if arguments.machine is None:
         return Alike(parameters_of(options))
     return cluster_of(arguments.machine, text_of(arguments.machine)).machine
+
+
+def check_out(path: Optional[str]) -> None:
+    """Refuses a file that can not be written, before any work. It makes none."""
+    if path is not None:
+        folder = os.path.dirname(path) or "."
+        if os.path.isdir(path):
+            raise Fault(f"{path}: {os.strerror(errno.EISDIR)}")
+        if not os.path.isdir(folder):
+            raise Fault(f"{path}: {os.strerror(errno.ENOENT)}")
 
 
 def write_out(text: str, path: Optional[str]) -> None:

@@ -23,7 +23,8 @@ class Story:
     """An operation with its times: spans are pairs of a begin and an end, in nanoseconds; a span without an end lasts.
 
     `busy` is when it keeps its cpu, of a large send first for the request and then for the bytes. `stuck_from` is since when
-    it is stuck, where it has begun; `never` says that it never begins. `bytes` are those of the message.
+    it is stuck, where it has begun; `never` says that it never begins. `bytes` are those of the message. `sides` is when it keeps
+    a side of its NIC busy: the sending side of a send, the receiving side of a receive.
     """
 
     key: Key
@@ -33,6 +34,7 @@ class Story:
     ready: Optional[int]
     waits: List[Span] = field(default_factory=list)
     busy: List[Span] = field(default_factory=list)
+    sides: List[Span] = field(default_factory=list)
     stuck_from: Optional[int] = None
     never: bool = False
     reason: str = ""
@@ -103,15 +105,18 @@ def tell_send(story: Story, ready: int, start: int, parameters: Parameters) -> N
     add_wait(story, ready, start)
     if parameters.is_eager(story.bytes):
         story.busy.append((start, end_of(story)))
+        story.sides.append((start, start + parameters.gap(story.bytes)))
         return
     end, asked = story.timed.end, start + parameters.over(1)
     story.busy.append((start, asked))
+    story.sides.append((start, start + parameters.gap(1)))
     if end is None:
         story.stuck_from = asked
     else:
         handed = end - parameters.over(story.bytes)
         add_wait(story, asked, handed)
         story.busy.append((handed, end))
+        story.sides.append((handed, handed + parameters.gap(story.bytes)))
 
 
 def tell_receive(story: Story, start: int, sizes: Dict[Key, int], costs: Costs) -> None:
@@ -122,9 +127,11 @@ def tell_receive(story: Story, start: int, sizes: Dict[Key, int], costs: Costs) 
     if partner is None or partner not in sizes:
         raise Misfit(f"the run is not of this schedule: operation {story.key[1]} of rank {story.key[0]} has another partner")
     story.bytes = sizes[partner]
-    taken = end - costs.between(partner[0], story.key[0]).over(story.bytes)
+    parameters = costs.between(partner[0], story.key[0])
+    taken = end - parameters.over(story.bytes)
     add_wait(story, start, taken)
     story.busy.append((taken, end))
+    story.sides.append((taken, taken + parameters.gap(story.bytes)))
 
 
 @dataclass

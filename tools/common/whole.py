@@ -9,6 +9,7 @@ from typing import Dict, List, Optional, Tuple
 from common import folding, program
 from common.canonical import Key, Schedule, read_canonical
 from common.causes import Causes
+from common.chain import chain_to, end_of, last_end
 from common.command import STANDARD_INPUT, Fault
 from common.description import cluster_of
 from common.loading import check_sources, costs_of, output_of, run_lines, schedule_of, text_of
@@ -114,3 +115,10 @@ def rekeyed(run: Run, new_key: Dict[Key, Key]) -> Run:
         reasons[new_key[key]] = " ".join(words)
     ranks = 1 + max((key[0] for key in timed), default=0)
     return Run(ranks, run.ops, run.stuck, run.unread, run.finish, timed, reasons)
+
+
+def timed_chain(whole: Whole) -> List[Tuple[int, Key]]:
+    """The actions of the chain of causes to the last end, each with its time and its operation in the schedule of the user."""
+    last = last_end(whole.causes)
+    steps = chain_to(whole.causes, end_of(last)) if last else []
+    return [(step.time, whole.named(step.action[1])) for step in steps]
