@@ -122,8 +122,8 @@ class Pictures(unittest.TestCase):
     def test_the_sides_of_nics(self) -> None:
         """A rect for each hold of a side; none without them."""
         name = os.path.join(EXAMPLES, "exchange")
-        for words, count in (([], 4), (["--no-nics"], 0)):
-            picture = self.drawn(name, *words)
+        for option, count in (("--nics", 4), ("--no-nics", 0)):
+            picture = self.drawn(name, option)
             self.assertEqual(len([it for it in picture.iter(SVG + "rect") if it.get("fill") in ("#8fb4e3", "#f2bf8c") and it.get("stroke")]), count)
 
     def test_the_path_is_a_strong_line(self) -> None:
