@@ -16,6 +16,8 @@ import sys
 from typing import Dict, List, NoReturn, Optional, Sequence, Tuple
 
 TOP = os.path.dirname(os.path.dirname(os.path.abspath(__file__)))
+# The file of an installation that says what it was installed from.
+VERSION = os.path.join(TOP, "VERSION")
 BAD_LINE, REFUSED, READ_FAULT = 2, 3, 4
 EXPLAINED = (BAD_LINE, REFUSED, READ_FAULT)
 
@@ -72,8 +74,17 @@ def commands() -> List[str]:
             *(f"  goal {f'{name} ' + ' '.join(plain):{width}}  {what}" for name, (plain, _, what) in COMMANDS.items())]
 
 
-def version() -> str:
-    """The version of the sources."""
+def version() -> List[str]:
+    """The version of the sources; of an installation, what `./install` has noted."""
+    try:
+        with open(VERSION, encoding="utf-8") as file:
+            return file.read().splitlines()
+    except OSError:
+        return [checkout()]
+
+
+def checkout() -> str:
+    """The version of the sources that are here."""
     try:
         said = subprocess.run(["git", "-C", TOP, "describe", "--always", "--dirty", "--tags"], capture_output=True, text=True, check=False)
     except OSError:
@@ -276,7 +287,7 @@ def explain(words: Sequence[str], status: int, said: str = "") -> List[str]:
     if status == BAD_LINE and (not words or words[0] in ("--help", "-h", "help")):
         return commands()
     if status == BAD_LINE and words[0] in ("--version", "-V", "version"):
-        return [version()]
+        return version()
     fault = None
     if status == BAD_LINE:
         fault = line_fault(words)

@@ -15,6 +15,8 @@ INTERRUPTED = 130
 STANDARD_INPUT = "/dev/stdin"
 # What may follow a number of bytes, and what it stands for.
 FACTORS = {"": 1, "K": 1024, "M": 1024**2}
+# How the name of a tool begins that `./install` has put beside others.
+INSTALLED = "goal-"
 
 
 class Fault(Exception):
@@ -26,6 +28,11 @@ class Parser(argparse.ArgumentParser):
 
     def error(self, message: str) -> NoReturn:
         raise Fault(f"{message} (--help tells more)")
+
+    def format_help(self) -> str:
+        """The help, with the names that tools and program have where they are called: as installed they are goal-NAME and goal."""
+        told = super().format_help()
+        return told.replace("tools/", INSTALLED).replace("./goal ", "goal ") if self.prog.startswith(INSTALLED) else told
 
     def _print_message(self, message: str, file: Optional[IO[str]] = None) -> None:
         """Writes the help: where that fails it is a fault, as with all other output."""

@@ -17,6 +17,8 @@ KINDS = ("bcast", "barrier", "allgather", "allreduce", "alltoall", "reduce", "ga
 ROOTED = ("bcast", "reduce", "gather", "scatter")
 TOP = os.path.dirname(os.path.dirname(os.path.dirname(os.path.abspath(__file__))))
 BESIDE = os.path.join(TOP, "goal")
+# It says whether the program beside the tools is proved. An installation does not have it, since `./install` has asked it.
+ANSWER = os.path.join(TOP, "launch", "answer.py")
 
 
 @dataclass(frozen=True)
@@ -42,9 +44,11 @@ def chosen(path: str | None = None) -> str:
 @lru_cache(maxsize=None)
 def proved() -> str | None:
     """The path of the proved program, if it is proved; it is asked for once. With GOAL_PROVED=1
-    this waits for its proof."""
-    words = [sys.executable, "-B", os.path.join(TOP, "launch", "answer.py"), "--where"]
-    found = subprocess.run(words, stdout=subprocess.PIPE, check=False).stdout.decode("utf-8", "surrogateescape").rstrip("\n")
+    this waits for its proof. `./install` has installed a proved one alone."""
+    found = BESIDE
+    if os.path.exists(ANSWER):
+        words = [sys.executable, "-B", ANSWER, "--where"]
+        found = subprocess.run(words, stdout=subprocess.PIPE, check=False).stdout.decode("utf-8", "surrogateescape").rstrip("\n")
     if found:
         # (large pages, as the launcher asks for them)
         os.environ.setdefault("GLIBC_TUNABLES", "glibc.malloc.hugetlb=1")
