@@ -3,7 +3,7 @@ use Rattle.std.specs.Prelude.{◌≡◌, ◌⊎◌, ℕ, ◌+◌, ◌-◌, ◌^�
 use Rattle.std.specs.Ordering.{nat_cmp}
 use Rattle.std.specs.Cmp.Lexicographic.{slice_cmp}
 use Rattle.std.specs.FinMap.{FinMap, get, insert}
-use Rattle.goal_limits.specs.declared.limits.TheConstants.{MAX_INPUT}
+use Rattle.goal_limits.specs.Limits.{input_limit}
 
 -- files by their names: bytes to bytes
 abbrev pub Files : Type 0
@@ -126,4 +126,4 @@ pub record ReadsAtMost (old new : HostState) (name : List ℕ) (most : ℕ) : Ty
 
 -- where the files are told, the file is there and has more bytes than an input may have
 pub record IsTooLong (host : HostState) (name : List ℕ) : Type 0 where
-  pub told : host.tells ≡ true → (text : List ℕ) × (file_of host name ≡ Some text) × (MAX_INPUT < length text)
+  pub told : host.tells ≡ true → (text : List ℕ) × (file_of host name ≡ Some text) × (input_limit < length text)

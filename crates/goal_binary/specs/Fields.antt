@@ -2,8 +2,8 @@
 use Rattle.std.specs.Prelude.{ℕ, zero, suc, ◌+◌, ◌-◌, ◌*◌, ◌^◌, ◌&&◌, Bool, List, length, take, drop, Option, Some, None, Result, Ok, Err, nat_lt, nat_le, slice_get, if◌then◌else◌}
 use Rattle.std.specs.Int.{Width, w32, w64, byte_len, from_le_bytes}
 use Rattle.std.specs.Str.{bytes_eq}
-use Rattle.goal_limits.specs.declared.limits.TheConstants.{MAX_RANKS}
-use Rattle.goal_binary.specs.declared.layout.TheConstants.{MAGIC}
+use Rattle.goal_limits.specs.Limits.{rank_limit}
+use Rattle.goal_binary.specs.Layouts.{magic_bytes}
 use Rattle.goal_binary.specs.declared.layout.Layout.{Layout}
 use Rattle.goal_binary.specs.declared.layout.Layout.TheVariants.{Fixed, Packed}
 use Rattle.goal_binary.specs.Layouts.{layout_of}
@@ -115,7 +115,7 @@ module _ (bytes : List ℕ) where
   unfoldable pub magic_at : Result ℕ FileFault
   magic_at =
       if nat_lt (length bytes) 8 then Err (Short (length bytes))
-      else (if bytes_eq MAGIC (take 8 bytes) then Ok 8 else Err Magic)
+      else (if bytes_eq magic_bytes (take 8 bytes) then Ok 8 else Err Magic)
 
   -- the layout that the version names
   unfoldable pub layout_at : ℕ → Read Layout
@@ -133,4 +133,4 @@ module _ (bytes : List ℕ) where
   unfoldable pub rank_count_at : Layout → ℕ → Read ℕ
   rank_count_at layout at = do
     n ← number_at layout at
-    allow (nat_le n.0 MAX_RANKS && nat_lt 0 n.0) at n
+    allow (nat_le n.0 rank_limit && nat_lt 0 n.0) at n

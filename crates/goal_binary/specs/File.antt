@@ -11,7 +11,7 @@ use Rattle.goal_graph.specs.declared.plan.When.TheVariants.{AfterEnd, AfterStart
 use Rattle.goal_graph.specs.declared.plan.Note.{Note}
 use Rattle.goal_graph.specs.declared.plan.Note.TheVariants.{Moves, Adds}
 use Rattle.goal_graph.specs.Schedule.{Plan}
-use Rattle.goal_binary.specs.declared.layout.TheConstants.{MAGIC}
+use Rattle.goal_binary.specs.Layouts.{magic_bytes}
 use Rattle.goal_binary.specs.declared.layout.Layout.{Layout}
 use Rattle.goal_binary.specs.declared.layout.Layout.TheVariants.{Fixed, Packed}
 use Rattle.goal_binary.specs.Layouts.{version_of}
@@ -162,7 +162,7 @@ spelled_rank l p =
 
 -- the magic, the version, and the number of ranks
 unfoldable pub header : Layout → List Plan → List ℕ
-header l plans = MAGIC ++ spelled_u32 (version_of l) ++ spelled_count l (length plans)
+header l plans = magic_bytes ++ spelled_u32 (version_of l) ++ spelled_count l (length plans)
 
 -- the whole file in a layout
 unfoldable pub written : Layout → List Plan → List ℕ

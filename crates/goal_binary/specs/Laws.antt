@@ -1,13 +1,13 @@
 -- The laws that join a schedule and its files.
 use Rattle.std.specs.Prelude.{◌≡◌, ◌≢◌, ◌<◌, ◌≤◌, ◌+◌, ◌^◌, ◌⊎◌, ℕ, List, ◌∷◌, ◌++◌, length, take, drop, Ok, Err, All, None, ◌*◌}
-use Rattle.goal_limits.specs.declared.limits.TheConstants.{MAX_INPUT}
+use Rattle.goal_limits.specs.Limits.{input_limit}
 use Rattle.goal_graph.specs.Schedule.{Plan}
 use Rattle.goal_graph.specs.Fault.{IsAccepted, op_count, dep_count, note_count}
 use Rattle.goal_graph.specs.Limits.{AreCountsWithin}
 use Rattle.goal_graph.specs.Widths.{AreInWidth}
 use Rattle.goal_binary.specs.declared.fault.FileFault.{FileFault}
 use Rattle.goal_binary.specs.declared.fault.FileFault.TheVariants.{Short, Magic, Version, Field, Extra}
-use Rattle.goal_binary.specs.declared.layout.TheConstants.{MAGIC}
+use Rattle.goal_binary.specs.Layouts.{magic_bytes}
 use Rattle.goal_binary.specs.declared.layout.Layout.{Layout}
 use Rattle.goal_binary.specs.declared.layout.Layout.TheVariants.{Fixed, Packed}
 use Rattle.goal_binary.specs.Layouts.{layout_of}
@@ -29,7 +29,7 @@ LengthIsTold = (plans : List Plan) → length (old plans) ≡ old_length plans
 
 -- plans whose counts are within the limits have an old file that is read whole, of 93,061,136 bytes at most
 abbrev pub WithinInput : Type 0
-WithinInput = (plans : List Plan) → AreCountsWithin plans → (length (old plans) ≤ 93061136) × (length (old plans) ≤ MAX_INPUT)
+WithinInput = (plans : List Plan) → AreCountsWithin plans → (length (old plans) ≤ 93061136) × (length (old plans) ≤ input_limit)
 
 -- the file of plans that have one is no longer than the old one
 abbrev pub NoLonger : Type 0
@@ -105,11 +105,11 @@ pub record IsFirstBadField (bytes : List ℕ) (at : ℕ) : Type 0 where
 -- the first eight bytes are another magic
 pub record IsOtherMagic (bytes : List ℕ) : Type 0 where
   pub whole : 8 ≤ length bytes
-  pub other : take 8 bytes ≢ MAGIC
+  pub other : take 8 bytes ≢ magic_bytes
 
 -- the magic, and then the number of another version
 pub record IsOtherVersion (bytes : List ℕ) (found : ℕ) : Type 0 where
-  pub magic : take 8 bytes ≡ MAGIC
+  pub magic : take 8 bytes ≡ magic_bytes
   pub whole : 12 ≤ length bytes
   pub is : take 4 (drop 8 bytes) ≡ spelled_u32 found
   pub other : layout_of found ≡ None

@@ -1,6 +1,6 @@
 -- Reading operations, dependencies, notes and whole ranks, field after field.
 use Rattle.std.specs.Prelude.{ℕ, zero, suc, ◌/◌, ◌%◌, ◌==◌, ◌&&◌, ◌||◌, not, Bool, true, false, List, [], ◌∷◌, ◌++◌, Option, Some, None, Ok, nat_lt, nat_le, if◌then◌else◌}
-use Rattle.goal_limits.specs.declared.limits.TheConstants.{MAX_OPS, MAX_DEPS, MAX_NOTES, MAX_BYTES, MAX_NANOS}
+use Rattle.goal_limits.specs.Limits.{op_limit, dep_limit, note_limit, size_limit, calc_limit}
 use Rattle.goal_graph.specs.declared.plan.Op.{Op}
 use Rattle.goal_graph.specs.declared.plan.Kind.{Kind}
 use Rattle.goal_graph.specs.declared.plan.Kind.TheVariants.{Calc, Send, Recv}
@@ -68,9 +68,9 @@ most_tag form.Send = 4294967295
 most_tag (form.Recv any_source any_tag) = used_unless any_tag
 
 abbrev pub most_size : Form → ℕ
-most_size form.Calc = MAX_NANOS
-most_size form.Send = MAX_BYTES
-most_size (form.Recv any_source any_tag) = MAX_BYTES
+most_size form.Calc = calc_limit
+most_size form.Send = size_limit
+most_size (form.Recv any_source any_tag) = size_limit
 
 -- what an operation of this form does
 abbrev pub unless_any : Bool → ℕ → Option ℕ
@@ -201,9 +201,9 @@ module _ (bytes : List ℕ) where
   -- the record of a rank, where the ranks before have so many operations, dependencies and notes
   unfoldable pub rank_at : Layout → (ops deps notes : ℕ) → ℕ → Read Plan
   rank_at layout ops deps notes at = do
-    op_number ← count_at bytes layout MAX_OPS ops at
-    dep_number ← count_at bytes layout MAX_DEPS deps op_number.1
-    note_number ← count_at bytes layout MAX_NOTES notes dep_number.1
+    op_number ← count_at bytes layout op_limit ops at
+    dep_number ← count_at bytes layout dep_limit deps op_number.1
+    note_number ← count_at bytes layout note_limit notes dep_number.1
     op_list ← list_at (op_at layout) op_number.0 note_number.1
     dep_list ← list_at (dep_at layout) dep_number.0 op_list.1
     note_list ← list_at (note_at layout) note_number.0 dep_list.1

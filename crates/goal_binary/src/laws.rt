@@ -1,8 +1,13 @@
 //! The laws of compiled files. Their function does nothing: a proof cites a law by a call.
+ghost use Rattle.std.specs.Prelude.{◌≡◌};
+ghost use Rattle.goal_binary.specs.Layouts.{magic_bytes};
 ghost use Rattle.goal_binary.specs.Laws.{PackedApart, LengthIsTold, WithinInput, NoLonger, TwoFiles, WithinLimits, PlansAgain, SchedulesHaveFiles, ReadAgain, FaultsAreTrue, CutIsShort, MoreIsExtra, NoFileBegins};
+
+use crate::layout::MAGIC;
 
 /// The laws of compiled files, for every schedule and all bytes:
 ///
+/// - `magic`: each begins with the eight bytes that the definitions name.
 /// - `packed_apart`: no packed number is the front of another.
 /// - `length_is_told`: the file of version 1 has so many bytes as the numbers of its ranks, operations, dependencies and
 ///   notes say.
@@ -19,6 +24,7 @@ ghost use Rattle.goal_binary.specs.Laws.{PackedApart, LengthIsTold, WithinInput,
 /// - `more_is_extra`: of bytes behind a file the first is extra.
 /// - `no_file_begins`: no file begins with bytes of which a whole field is at fault.
 pub fn laws_of_files()
+    ensures magic { MAGIC ≡ magic_bytes }
     ensures packed_apart { PackedApart }
     ensures length_is_told { LengthIsTold }
     ensures within_input { WithinInput }

@@ -1,7 +1,7 @@
 -- When a schedule that is told by entries is accepted: what each entry must be, and how many there may be.
 use Rattle.std.specs.Prelude.{ℕ, ◌≡◌, ◌+◌, ◌<◌, ◌≤◌, true, false, length, All}
 use Rattle.std.specs.List.{sum_by, range_with_len}
-use Rattle.goal_limits.specs.declared.limits.TheConstants.{MAX_RANKS, MAX_OPS, MAX_DEPS, MAX_NOTES}
+use Rattle.goal_limits.specs.Limits.{rank_limit, op_limit, dep_limit, note_limit}
 use Rattle.goal_graph.specs.Fault.{value_fits, has_peer, is_calc, IsAccepted}
 use Rattle.goal_blocks.specs.Slots.{Adding}
 use Rattle.goal_blocks.specs.Entries.{Entry, Span, made_by}
@@ -31,10 +31,10 @@ note_total ranks count e =
 -- there is a rank, there are not too many, each entry fits, and there are not too many of them
 pub record AreFitting (ranks : ℕ) (count : ℕ → ℕ) (e : ℕ → ℕ → Entry) : Type 0 where
   pub some_rank : 0 < ranks
-  pub few_ranks : ranks ≤ MAX_RANKS
-  pub few_ops : sum_by count (range_with_len 0 ranks) ≤ MAX_OPS
-  pub few_needs : need_total ranks count e ≤ MAX_DEPS
-  pub few_notes : note_total ranks count e ≤ MAX_NOTES
+  pub few_ranks : ranks ≤ rank_limit
+  pub few_ops : sum_by count (range_with_len 0 ranks) ≤ op_limit
+  pub few_needs : need_total ranks count e ≤ dep_limit
+  pub few_notes : note_total ranks count e ≤ note_limit
   pub each : (r i : ℕ) → r < ranks → i < count r → IsFitting ranks i (e r i)
 
 -- The law: a schedule of entries that fit is accepted.

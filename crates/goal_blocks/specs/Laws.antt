@@ -17,7 +17,7 @@ use Rattle.goal_graph.specs.Fault.{IsAccepted}
 use Rattle.goal_blocks.specs.declared.cert_fault.CertFault.{CertFault}
 use Rattle.goal_blocks.specs.Faults.{HasFault, IsCertificationFault}
 use Rattle.goal_blocks.specs.Positions.{ahead, back}
-use Rattle.goal_limits.specs.declared.limits.TheConstants.{MAX_BYTES}
+use Rattle.goal_limits.specs.Limits.{size_limit}
 use Rattle.goal_blocks.specs.declared.collective.Collective.{Collective}
 use Rattle.goal_blocks.specs.Generated.{made, IsPossible}
 use Rattle.goal_blocks.specs.declared.collective.Collective.TheVariants.{Bcast}
@@ -133,7 +133,7 @@ AheadAndBack = (ranks r s : ℕ) → r < ranks → s ≤ ranks → (ahead ranks 
 
 -- each is accepted
 abbrev pub MadeIsAccepted : Type 0
-MadeIsAccepted = (what : Collective) (ranks bytes : ℕ) → IsPossible what ranks → bytes ≤ MAX_BYTES → IsAccepted (made what ranks bytes)
+MadeIsAccepted = (what : Collective) (ranks bytes : ℕ) → IsPossible what ranks → bytes ≤ size_limit → IsAccepted (made what ranks bytes)
 
 -- the schedule that is made for a broadcast of 8 bytes from rank 0 to rank 1 is certified
 abbrev pub BcastOfTwoIsCertified : Type 0
@@ -141,7 +141,7 @@ BcastOfTwoIsCertified = IsCertifiedFor (Bcast 0) (made (Bcast 0) 2 8)
 
 -- the made schedules of these collectives are certified, for all ranks, roots and sizes within the limits
 abbrev pub MadeIsCertified : Type 0
-MadeIsCertified = (what : Collective) (ranks bytes : ℕ) → IsPossible what ranks → bytes ≤ MAX_BYTES → IsCertifiedByProof what ranks → IsCertifiedFor what (made what ranks bytes)
+MadeIsCertified = (what : Collective) (ranks bytes : ℕ) → IsPossible what ranks → bytes ≤ size_limit → IsCertifiedByProof what ranks → IsCertifiedFor what (made what ranks bytes)
 
 -- and only these are certified: those of more ranks hold more than 2^24 contributions at the end of the walk
 abbrev pub OnlyTheseAreCertified : Type 0
@@ -149,7 +149,7 @@ OnlyTheseAreCertified = (what : Collective) (ranks bytes : ℕ) → IsPossible w
 
 -- but all are right everywhere, those too that hold too much to be certified
 abbrev pub MadeIsRight : Type 0
-MadeIsRight = (what : Collective) (ranks bytes : ℕ) → IsPossible what ranks → bytes ≤ MAX_BYTES → IsRightFor what (made what ranks bytes)
+MadeIsRight = (what : Collective) (ranks bytes : ℕ) → IsPossible what ranks → bytes ≤ size_limit → IsRightFor what (made what ranks bytes)
 
 -- Renamed slots.
 

@@ -1,7 +1,7 @@
 -- What each answer of `goal` says of the call, and what `err` gets.
 use Rattle.std.specs.Prelude.{ℕ, ◌+◌, ◌≡◌, ◌⊎◌, Bool, true, false, List, [], ◌++◌, take, Option, Some, None, IsSomeAnd, IfSome, codes}
 use Rattle.goal_base.specs.Text.{line_feed}
-use Rattle.goal_limits.specs.declared.limits.TheConstants.{MAX_INPUT}
+use Rattle.goal_limits.specs.Limits.{input_limit}
 use Rattle.goal_base.specs.Device.{HostState, SinkState, Rose, Held, KeepsFiles, KeepsReading, SameRest, ReadsAtMost, SameReadCounts, Holds, HoldsPart, Grows, ReadFaulted, IsTooLong}
 use Rattle.goal_graph.specs.Schedule.{Plan}
 use Rattle.sim_params.specs.Costs.{CostModel}
@@ -237,9 +237,9 @@ pub record Answered (command : Option Command) (old new : World) (result : Statu
 -- that was open is as it was, and nothing was counted.
 abbrev pub IsTakenOf : Option (List ℕ) → Option (List ℕ) → HostState → HostState → Type 0
 IsTakenOf None None old new = KeepsReading old new
-IsTakenOf None (Some name) old new = SameRest old new ⊎ ReadsAtMost old new name (MAX_INPUT + 1)
+IsTakenOf None (Some name) old new = SameRest old new ⊎ ReadsAtMost old new name (input_limit + 1)
 IsTakenOf (Some name) machine old new =
-    SameRest old new ⊎ ReadsAtMost old new name (MAX_INPUT + 1) ⊎ IsSomeAnd machine (λ other. ReadsAtMost old new other (MAX_INPUT + 1))
+    SameRest old new ⊎ ReadsAtMost old new name (input_limit + 1) ⊎ IsSomeAnd machine (λ other. ReadsAtMost old new other (input_limit + 1))
 
 abbrev pub IsTaken : Option Command → HostState → HostState → Type 0
 IsTaken command old new = IsTakenOf (input_in command) (machine_in command) old new

@@ -1,6 +1,6 @@
 -- What certification says of simulated runs, and of the schedules that are printed.
 use Rattle.std.specs.Prelude.{ℕ, ◌≡◌, ◌≤◌, List, length}
-use Rattle.goal_limits.specs.declared.limits.TheConstants.{MAX_BYTES}
+use Rattle.goal_limits.specs.Limits.{size_limit}
 use Rattle.goal_graph.specs.declared.action.Timed.{Timed}
 use Rattle.goal_graph.specs.Schedule.{Plan}
 use Rattle.goal_graph.specs.Action.{plain}
@@ -26,4 +26,4 @@ CertifiedRunsAreRight = (what : Collective) (plans : List Plan) (costs : CostMod
 -- what `gen` prints is the text of a schedule that is right everywhere, and certified where that is proved of so many ranks; and
 -- what is read of the text is that schedule
 abbrev pub GeneratedAreCertified : Type 0
-GeneratedAreCertified = (what : Collective) (ranks bytes : ℕ) (input : Input) (output : List ℕ) (e : Ending) → bytes ≤ MAX_BYTES → IsOutput (Gen what ranks bytes) input output e → (sched : List Plan) × (output ≡ canonical sched) × (text.reads output ≡ text.plans sched) × IsRightFor what sched × (IsCertifiedByProof what ranks → IsCertifiedFor what sched)
+GeneratedAreCertified = (what : Collective) (ranks bytes : ℕ) (input : Input) (output : List ℕ) (e : Ending) → bytes ≤ size_limit → IsOutput (Gen what ranks bytes) input output e → (sched : List Plan) × (output ≡ canonical sched) × (text.reads output ≡ text.plans sched) × IsRightFor what sched × (IsCertifiedByProof what ranks → IsCertifiedFor what sched)

@@ -1,7 +1,7 @@
 -- What a command reads, what it makes of that, and why it refuses. Each part of its sentence is told once: the source says which
 -- schedule is shown, the costs what its actions cost, the view what is written and how that ends.
 use Rattle.std.specs.Prelude.{ℕ, ◌≡◌, ◌≢◌, ◌⊎◌, ◌<◌, ◌≤◌, ◌^◌, Bool, true, false, List, length, Option, Some, None, is_some, IfSome, IsSomeAnd, Ok, Err}
-use Rattle.goal_limits.specs.declared.limits.TheConstants.{MAX_INPUT}
+use Rattle.goal_limits.specs.Limits.{input_limit}
 use Rattle.goal_graph.specs.Schedule.{Plan}
 use Rattle.sim_params.specs.Costs.{Numbers, CostModel, log_gops}
 use Rattle.sim_params.specs.Budget.{budget}
@@ -77,7 +77,7 @@ IsFrom (source.Drawn rounds seed) text sched = sched ≡ probed rounds seed
 
 -- the text says a machine with a node for each rank of the schedule
 pub record IsMachineFor (text : List ℕ) (sched : List Plan) (m : Known) : Type 0 where
-  pub short : length text ≤ MAX_INPUT
+  pub short : length text ≤ input_limit
   pub said : form.machine text ≡ Ok m
   pub ranks : length m.nodes ≡ length sched
 
@@ -166,7 +166,7 @@ IsNotFrom (source.Drawn rounds seed) fault = ⊥
 pub record IsMachineFault (c : Command) (input : Input) (fault : MachineFault) : Type 0 where
   pub sched : List Plan
   pub from : IsFrom c.source input.schedule sched
-  pub short : length input.machine ≤ MAX_INPUT
+  pub short : length input.machine ≤ input_limit
   pub told : fault ≢ sayings.NoMemory
   pub first : form.machine input.machine ≡ Err fault
 
@@ -175,7 +175,7 @@ pub record IsForOtherRanks (c : Command) (input : Input) (ranks : ℕ) : Type 0 
   pub sched : List Plan
   pub known : Known
   pub from : IsFrom c.source input.schedule sched
-  pub short : length input.machine ≤ MAX_INPUT
+  pub short : length input.machine ≤ input_limit
   pub said : form.machine input.machine ≡ Ok known
   pub ranks_are : ranks ≡ length known.nodes
   pub other : ranks ≢ length sched
@@ -191,15 +191,15 @@ pub record IsOverBudget (c : Command) (input : Input) (sum : ℕ) : Type 0 where
 
 -- a file has more than 2^27 bytes
 abbrev pub IsTooLong : Command → Input → Type 0
-IsTooLong c input = (HasInput c × (MAX_INPUT < length input.schedule)) ⊎ (HasMachine c × (MAX_INPUT < length input.machine))
+IsTooLong c input = (HasInput c × (input_limit < length input.schedule)) ⊎ (HasMachine c × (input_limit < length input.machine))
 
 -- The command refuses its input or its words: the first of these that applies. What is wrong with the source comes where the machine
 -- is not too long.
 abbrev pub IsRefused : Command → Input → Refusal → Type 0
 IsRefused c input refusal.TooLong = IsTooLong c input
-IsRefused c input (refusal.Text fault) = HasInput c × (length input.machine ≤ MAX_INPUT) × IsTextFault input.schedule fault
-IsRefused c input (refusal.File fault) = HasInput c × (length input.machine ≤ MAX_INPUT) × IsFaultOfFile input.schedule fault
-IsRefused c input (refusal.Generator fault) = (length input.machine ≤ MAX_INPUT) × IsNotFrom c.source fault
+IsRefused c input (refusal.Text fault) = HasInput c × (length input.machine ≤ input_limit) × IsTextFault input.schedule fault
+IsRefused c input (refusal.File fault) = HasInput c × (length input.machine ≤ input_limit) × IsFaultOfFile input.schedule fault
+IsRefused c input (refusal.Generator fault) = (length input.machine ≤ input_limit) × IsNotFrom c.source fault
 IsRefused c input (refusal.Machine fault) = HasMachine c × IsMachineFault c input fault
 IsRefused c input (refusal.MachineRanks ranks) = HasMachine c × IsForOtherRanks c input ranks
 IsRefused c input (refusal.Budget sum) = IsOverBudget c input sum

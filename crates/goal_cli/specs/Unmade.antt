@@ -1,6 +1,6 @@
 -- What is so where a command has nothing to work on, while its files are read; and while an answer is told.
 use Rattle.std.specs.Prelude.{ℕ, ◌+◌, ◌≡◌, ◌≤◌, ◌⊎◌, true, List, [], length, Option, Some, None, IsSomeAnd}
-use Rattle.goal_limits.specs.declared.limits.TheConstants.{MAX_INPUT}
+use Rattle.goal_limits.specs.Limits.{input_limit}
 use Rattle.goal_base.specs.Device.{HostState, SinkState, SameReadCounts, KeepsReading, SameRest, ReadsAtMost, ReadFaulted, IsTooLong, file_of, Later, SinkLater}
 use Rattle.goal_words.specs.Words.{Command}
 use Rattle.goal_cli.specs.declared.answer.Answer.{Answer}
@@ -16,7 +16,7 @@ use Rattle.goal_cli.specs.World.{Devices}
 abbrev pub IsUnmade : HostState → HostState → Command → Answer → Type 0
 IsUnmade old new c answer.ReadFault = IsSomeAnd (input_of c) (ReadFaulted old new)
 IsUnmade old new c (answer.Refused r) =
-    ForNamed old (input_of c) (λ schedule. (machine : List ℕ) → length machine ≤ MAX_INPUT → IsRefused c (input_with schedule machine) r)
+    ForNamed old (input_of c) (λ schedule. (machine : List ℕ) → length machine ≤ input_limit → IsRefused c (input_with schedule machine) r)
     × SameReadCounts old new
 IsUnmade old new c answer.NoMemory = Unit {0}
 IsUnmade old new c _ = ⊥
@@ -43,7 +43,7 @@ IsGot host (Some name) bytes = host.tells ≡ true → file_of host name ≡ Som
 -- at most a byte more than an input may have was taken of the file of that name; without a name nothing was asked
 abbrev pub IsTakenFrom : HostState → HostState → Option (List ℕ) → Type 0
 IsTakenFrom old new None = KeepsReading old new
-IsTakenFrom old new (Some name) = SameRest old new ⊎ ReadsAtMost old new name (MAX_INPUT + 1)
+IsTakenFrom old new (Some name) = SameRest old new ⊎ ReadsAtMost old new name (input_limit + 1)
 
 -- the answer was told, or want of memory, where there was none for the words of a refusal
 abbrev pub IsToldOr : SinkState → SinkState → Answer → Status → Type 0

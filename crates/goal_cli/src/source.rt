@@ -15,10 +15,10 @@ ghost use Rattle.goal_cli.specs.Unmade.{IsUnmade, IsUntold, IsIdle, IsGot, IsTak
 use crate::answer::{Answer, Refusal};
 use goal_base::{Host, ReadAll, read_all};
 use goal_blocks::Collective;
-use goal_collectives::{GenFault, MAX_ROUNDS, generate, probe_plan};
+use goal_collectives::{GenFault, generate, probe_plan};
 use goal_graph::Sched;
 use goal_input::{Unread, read_schedule};
-use goal_limits::{MAX_BYTES, NoMemory};
+use goal_limits::{MAX_BYTES, MAX_ROUNDS, NoMemory};
 use goal_rooted::generate_rooted;
 use goal_words::{Costing, Sentence, Source};
 use std::alloc::Global;

@@ -6,7 +6,7 @@ use Rattle.std.proofs.lemmas.Bool.Decides.{nat_tests}
 use Rattle.std.proofs.lemmas.List.{length-append, drop_all, take_all, append-nil}
 use Rattle.std.proofs.lemmas.List.Elements.{All-append, All-head, All-tail}
 use Rattle.std.proofs.lemmas.List.Sums.{sum_by-cons}
-use Rattle.goal_limits.specs.declared.limits.TheConstants.{MAX_OPS, MAX_DEPS, MAX_NOTES, MAX_BYTES, MAX_NANOS}
+use Rattle.goal_limits.specs.declared.limits.TheConstants.{MAX_OPS, MAX_DEPS, MAX_NOTES, MAX_BYTES, MAX_NANOS, MAX_ROUNDS}
 use Rattle.goal_graph.specs.declared.plan.Kind.TheVariants.{Calc, Send, Recv}
 use Rattle.goal_graph.specs.declared.plan.Op.{Op}
 use Rattle.goal_graph.specs.declared.plan.Dep.{Dep}
@@ -15,7 +15,6 @@ use Rattle.goal_graph.specs.Fault.{value_fits, has_peer, is_rank, dep_in_range, 
 use Rattle.goal_graph.proofs.ForCallers.{dep_in_range-parts, not_over}
 use Rattle.goal_blocks.proofs.ForCallers.{first_fault-of_none, lower_have_depths}
 use Rattle.goal_collectives.specs.declared.draws.Round.{Round}
-use Rattle.goal_collectives.specs.declared.probe.TheConstants.{MAX_ROUNDS}
 use Rattle.goal_collectives.specs.Probe.{next_state, drawn, round_from, state_before, op_in, requires_end, after_last, source_in, with_work, with_receive, at_rank, with_round, idle, idle_ranks, probed}
 
 -- one item more in front

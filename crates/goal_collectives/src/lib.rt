@@ -9,4 +9,4 @@ mod steps;
 
 pub use goal_blocks::GenFault;
 pub use making::generate;
-pub use probe::{MAX_ROUNDS, probe_plan};
+pub use probe::probe_plan;

@@ -6,11 +6,8 @@ ghost use Rattle.goal_collectives.specs.Probe.{idle_ranks, op_in, requires_end, 
 
 use crate::draws::{Draws, Round};
 use goal_graph::{Dep, Kind, Op, RankPlan, Sched, When};
-use goal_limits::NoMemory;
+use goal_limits::{MAX_ROUNDS, NoMemory};
 use std::alloc::{AllocError, Global};
-
-/// The most rounds of a probe.
-pub const MAX_ROUNDS: u32 = 300_000;
 
 const RANKS: u32 = 64;
 

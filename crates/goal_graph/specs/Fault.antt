@@ -5,7 +5,7 @@ use Rattle.std.specs.Option.{option_or}
 use Rattle.goal_graph.specs.declared.action.OpId.{OpId}
 use Rattle.goal_graph.specs.declared.fault.PlanFault.{PlanFault}
 use Rattle.goal_graph.specs.declared.fault.PlanFault.TheVariants.{Count, Value, Peer, DepRange, NoteMisfit, Cycle}
-use Rattle.goal_limits.specs.declared.limits.TheConstants.{MAX_RANKS, MAX_OPS, MAX_DEPS, MAX_NOTES, MAX_BYTES, MAX_NANOS}
+use Rattle.goal_limits.specs.Limits.{rank_limit, op_limit, dep_limit, note_limit, size_limit, calc_limit}
 use Rattle.goal_graph.specs.declared.plan.Op.{Op}
 use Rattle.goal_graph.specs.declared.plan.Kind.{Kind}
 use Rattle.goal_graph.specs.declared.plan.Kind.TheVariants.{Calc, Send, Recv}
@@ -33,14 +33,14 @@ count_over limit found = if nat_lt limit found then Some (Count found limit) els
 -- there is no rank, or there are too many ranks, operations, dependencies or notes, tried in this order
 unfoldable pub count_fault : List Plan → Option PlanFault
 count_fault plans =
-    option_or (if length plans == 0 then Some (Count 0 MAX_RANKS) else count_over MAX_RANKS (length plans))
-    (option_or (count_over MAX_OPS (op_count plans)) (option_or (count_over MAX_DEPS (dep_count plans)) (count_over MAX_NOTES (note_count plans))))
+    option_or (if length plans == 0 then Some (Count 0 rank_limit) else count_over rank_limit (length plans))
+    (option_or (count_over op_limit (op_count plans)) (option_or (count_over dep_limit (dep_count plans)) (count_over note_limit (note_count plans))))
 
 -- its size or duration is within the limit, and a calc has nic 0
 abbrev pub value_fits : Kind → ℕ → Bool
-value_fits (Calc nanos) nic = nat_le nanos MAX_NANOS && (nic == 0)
-value_fits (Send bytes to tag) nic = nat_le bytes MAX_BYTES
-value_fits (Recv bytes from tag) nic = nat_le bytes MAX_BYTES
+value_fits (Calc nanos) nic = nat_le nanos calc_limit && (nic == 0)
+value_fits (Send bytes to tag) nic = nat_le bytes size_limit
+value_fits (Recv bytes from tag) nic = nat_le bytes size_limit
 
 -- the target of a send, and the source of a receive, is one of the ranks
 abbrev pub is_rank : ℕ → Option ℕ → Bool

@@ -5,15 +5,15 @@ use Rattle.goal_graph.specs.declared.fault.PlanFault.TheVariants.{Count, Value}
 use Rattle.goal_graph.specs.declared.plan.Op.{Op}
 use Rattle.goal_graph.specs.Schedule.{Plan}
 use Rattle.goal_graph.specs.Fault.{value_fits, op_count, dep_count, note_count}
-use Rattle.goal_limits.specs.declared.limits.TheConstants.{MAX_RANKS, MAX_OPS, MAX_DEPS, MAX_NOTES}
+use Rattle.goal_limits.specs.Limits.{rank_limit, op_limit, dep_limit, note_limit}
 
 -- there is a rank, and all ranks, operations, dependencies and notes are within their limits
 pub record AreCountsWithin (plans : List Plan) : Type 0 where
   pub some_rank : 0 < length plans
-  pub ranks : length plans ≤ MAX_RANKS
-  pub ops : op_count plans ≤ MAX_OPS
-  pub deps : dep_count plans ≤ MAX_DEPS
-  pub notes : note_count plans ≤ MAX_NOTES
+  pub ranks : length plans ≤ rank_limit
+  pub ops : op_count plans ≤ op_limit
+  pub deps : dep_count plans ≤ dep_limit
+  pub notes : note_count plans ≤ note_limit
 
 -- the size or duration of an operation is within its limit
 abbrev pub HasValue : Op → Type 0

@@ -1,6 +1,6 @@
 -- What the bytes of an input say: the plans of a schedule, as a compiled file or as a text.
 use Rattle.std.specs.Prelude.{ℕ, ◌≡◌, ◌≢◌, ◌≤◌, ◌==◌, Bool, true, false, List, [], ◌∷◌, length, Ok, Some}
-use Rattle.goal_limits.specs.declared.limits.TheConstants.{MAX_INPUT}
+use Rattle.goal_limits.specs.Limits.{input_limit}
 use Rattle.goal_graph.specs.Schedule.{Plan}
 use Rattle.goal_graph.specs.Fault.{IsAccepted}
 use Rattle.goal_parser.specs.declared.faults.TextFault.{TextFault}
@@ -22,20 +22,20 @@ SaysBy false input sched = reads input ≡ plans sched
 
 -- the input has at most 2^27 bytes, and says an accepted schedule
 pub record IsReadAs (input : List ℕ) (sched : List Plan) : Type 0 where
-  pub short : length input ≤ MAX_INPUT
+  pub short : length input ≤ input_limit
   pub says : SaysBy (is_compiled input) input sched
   pub accepted : IsAccepted sched
 
 -- the input has at most 2^27 bytes and is a text, of which this is the first fault, or that of its plans
 pub record IsTextFault (input : List ℕ) (fault : TextFault) : Type 0 where
-  pub short : length input ≤ MAX_INPUT
+  pub short : length input ≤ input_limit
   pub form : is_compiled input ≡ false
   pub told : fault ≢ text.NoMemory
   pub first : IsFaultOf (reads input) fault
 
 -- the same of a compiled file
 pub record IsFaultOfFile (input : List ℕ) (fault : FileFault) : Type 0 where
-  pub short : length input ≤ MAX_INPUT
+  pub short : length input ≤ input_limit
   pub form : is_compiled input ≡ true
   pub told : fault ≢ file.NoMemory
   pub first : IsFileFault input fault

@@ -1,6 +1,6 @@
 -- What is kept of an input that comes in pieces.
 use Rattle.std.specs.Prelude.{ℕ, ◌≡◌, ◌≢◌, ◌+◌, ◌≤◌, ◌==◌, Bool, true, false, List, [], ◌∷◌, length}
-use Rattle.goal_limits.specs.declared.limits.TheConstants.{MAX_INPUT}
+use Rattle.goal_limits.specs.Limits.{input_limit}
 use Rattle.goal_base.specs.Device.{HostState}
 use Rattle.goal_base.specs.DeviceCalls.{Takes}
 use Rattle.goal_parser.specs.declared.faults.TextFault.TheVariants as text
@@ -26,7 +26,7 @@ Stands (intake.File bytes) input = Begins true input × (bytes.items ≡ input)
 
 -- with this piece at most a byte more came than an input may have
 abbrev pub HasRoom : Intake → List ℕ → Type 0
-HasRoom kept piece = (input : List ℕ) × Stands kept input × (length input + length piece ≤ MAX_INPUT + 1)
+HasRoom kept piece = (input : List ℕ) × Stands kept input × (length input + length piece ≤ input_limit + 1)
 
 -- so many bytes were taken from the input of a host, and these are those that came
 pub record HasTaken (old new : HostState) (kept : Intake) (count : ℕ) : Type 0 where

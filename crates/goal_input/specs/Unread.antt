@@ -1,6 +1,6 @@
 -- What reading a schedule from a file answers.
 use Rattle.std.specs.Prelude.{ℕ, ◌≢◌, ◌<◌, List, length, Result, Ok, Err}
-use Rattle.goal_limits.specs.declared.limits.TheConstants.{MAX_INPUT}
+use Rattle.goal_limits.specs.Limits.{input_limit}
 use Rattle.goal_base.specs.Device.{HostState, Later, KeepsFiles, SameReadCounts}
 use Rattle.goal_parser.specs.declared.faults.TextFault.TheVariants as text
 use Rattle.goal_binary.specs.declared.fault.FileFault.TheVariants as file
@@ -11,7 +11,7 @@ use Rattle.goal_input.specs.Input.{IsTextFault, IsFaultOfFile, ForFile}
 -- an input is not read as a schedule for this reason; want of memory is free
 abbrev pub IsFaultIn : List ℕ → Unread → Type 0
 IsFaultIn input unread.Fault = ⊥
-IsFaultIn input unread.TooLong = MAX_INPUT < length input
+IsFaultIn input unread.TooLong = input_limit < length input
 IsFaultIn input (unread.Text fault) = IsTextFault input fault
 IsFaultIn input (unread.File fault) = IsFaultOfFile input fault
 IsFaultIn input unread.NoMemory = Unit {0}

@@ -12,6 +12,9 @@ pub const MAX_DEPS: u32 = 4_194_304;
 /// The most notes of a schedule, all ranks together.
 pub const MAX_NOTES: u32 = 1_048_576;
 
+/// The most rounds of a probe.
+pub const MAX_ROUNDS: u32 = 300_000;
+
 /// The most bytes of an input.
 pub const MAX_INPUT: usize = 134_217_728;
 

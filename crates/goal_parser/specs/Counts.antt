@@ -3,7 +3,7 @@ use Rattle.std.specs.Prelude.{◌+◌, Bool, false, nat_le, List, [], ◌∷◌}
 use Rattle.goal_lexer.specs.declared.tokens.Token.{Token}
 use Rattle.goal_lexer.specs.declared.tokens.TokenKind.{TokenKind}
 use Rattle.goal_lexer.specs.declared.tokens.TokenKind.TheVariants as token
-use Rattle.goal_limits.specs.declared.limits.TheConstants.{MAX_OPS, MAX_DEPS, MAX_NOTES}
+use Rattle.goal_limits.specs.Limits.{op_limit, dep_limit, note_limit}
 use Rattle.goal_parser.specs.declared.counts.Counts.{Counts}
 
 -- `calc`, `send` and `recv` begin an operation, `requires` and `irequires` a dependency, `moves` and `adds` a note
@@ -24,11 +24,11 @@ counts_of (t ∷ before) = counts_with t.kind (counts_of before)
 
 -- the word begins one more than a schedule may have
 unfoldable pub is_too_many : TokenKind → Counts → Bool
-is_too_many token.Calc counts = nat_le MAX_OPS counts.ops
-is_too_many token.Send counts = nat_le MAX_OPS counts.ops
-is_too_many token.Recv counts = nat_le MAX_OPS counts.ops
-is_too_many token.Requires counts = nat_le MAX_DEPS counts.deps
-is_too_many token.Irequires counts = nat_le MAX_DEPS counts.deps
-is_too_many token.Moves counts = nat_le MAX_NOTES counts.notes
-is_too_many token.Adds counts = nat_le MAX_NOTES counts.notes
+is_too_many token.Calc counts = nat_le op_limit counts.ops
+is_too_many token.Send counts = nat_le op_limit counts.ops
+is_too_many token.Recv counts = nat_le op_limit counts.ops
+is_too_many token.Requires counts = nat_le dep_limit counts.deps
+is_too_many token.Irequires counts = nat_le dep_limit counts.deps
+is_too_many token.Moves counts = nat_le note_limit counts.notes
+is_too_many token.Adds counts = nat_le note_limit counts.notes
 is_too_many _ counts = false

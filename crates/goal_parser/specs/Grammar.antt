@@ -4,7 +4,7 @@ use Rattle.std.specs.List.{flat_map, count_by, sum_by, list_any}
 use Rattle.goal_lexer.specs.declared.tokens.Token.{Token}
 use Rattle.goal_lexer.specs.declared.tokens.TokenKind.{TokenKind}
 use Rattle.goal_lexer.specs.declared.tokens.TokenKind.TheVariants as token
-use Rattle.goal_limits.specs.declared.limits.TheConstants.{MAX_RANKS, MAX_OPS, MAX_DEPS, MAX_NOTES, MAX_BYTES, MAX_NANOS}
+use Rattle.goal_limits.specs.Limits.{rank_limit, op_limit, dep_limit, note_limit, size_limit, calc_limit}
 use Rattle.goal_graph.specs.declared.plan.Op.{Op}
 use Rattle.goal_graph.specs.declared.plan.Kind.TheVariants as kind
 use Rattle.goal_graph.specs.declared.plan.Dep.{Dep}
@@ -227,9 +227,9 @@ IsOfSend (tag n) = IsSome n
 IsOfSend _ = ⊤
 
 abbrev pub IsItemWithin : Item → Type 0
-IsItemWithin (calc label nanos on) = (nanos ≤ MAX_NANOS) × (unwrap_or on 0 ≤ 255)
-IsItemWithin (send label size to settings) = (amount size ≤ MAX_BYTES) × (to < 2 ^ 32) × All IsSettingWithin settings × All IsOfSend settings
-IsItemWithin (recv label size from settings) = (amount size ≤ MAX_BYTES) × (unwrap_or from 0 < 2 ^ 32) × All IsSettingWithin settings
+IsItemWithin (calc label nanos on) = (nanos ≤ calc_limit) × (unwrap_or on 0 ≤ 255)
+IsItemWithin (send label size to settings) = (amount size ≤ size_limit) × (to < 2 ^ 32) × All IsSettingWithin settings × All IsOfSend settings
+IsItemWithin (recv label size from settings) = (amount size ≤ size_limit) × (unwrap_or from 0 < 2 ^ 32) × All IsSettingWithin settings
 IsItemWithin (moves label first last) = (first < 2 ^ 32) × (last < 2 ^ 32)
 IsItemWithin (adds label from to) = (from < 2 ^ 32) × (to < 2 ^ 32)
 IsItemWithin _ = ⊤
@@ -247,10 +247,10 @@ notes_in bs = sum_by (λ (b : Block). length (plan_said b.items).notes) bs
 -- the ranks, operations, dependencies and notes are within their limits, and so is each number
 pub record AreWithin (w : Written) : Type 0 where
   pub some_rank : 1 ≤ w.ranks
-  pub ranks : w.ranks ≤ MAX_RANKS
-  pub ops : ops_in w.blocks ≤ MAX_OPS
-  pub deps : deps_in w.blocks ≤ MAX_DEPS
-  pub notes : notes_in w.blocks ≤ MAX_NOTES
+  pub ranks : w.ranks ≤ rank_limit
+  pub ops : ops_in w.blocks ≤ op_limit
+  pub deps : deps_in w.blocks ≤ dep_limit
+  pub notes : notes_in w.blocks ≤ note_limit
   pub items : All (λ (b : Block). All IsItemWithin b.items) w.blocks
 
 -- the tokens are those of sentences that keep the rules, and the plans are what these say

@@ -2,7 +2,7 @@
 use Rattle.std.specs.Prelude.{ℕ, ◌-◌, ◌^◌, Bool, true, ◌&&◌, nat_le}
 use Rattle.goal_lexer.specs.declared.tokens.TokenKind.{TokenKind}
 use Rattle.goal_lexer.specs.declared.tokens.TokenKind.TheVariants as token
-use Rattle.goal_limits.specs.declared.limits.TheConstants.{MAX_RANKS, MAX_BYTES, MAX_NANOS}
+use Rattle.goal_limits.specs.Limits.{rank_limit, size_limit, calc_limit}
 use Rattle.goal_parser.specs.declared.sentence.State.{State}
 use Rattle.goal_parser.specs.declared.sentence.State.TheVariants as state
 use Rattle.goal_parser.specs.declared.draft.OptionWord.{OptionWord}
@@ -21,10 +21,10 @@ option_most option.Nic = 255
 
 -- the limit of a number that stands here, where this option word stood last
 abbrev pub most : State → OptionWord → ℕ
-most state.Ranks option = MAX_RANKS
-most state.Calc1 option = MAX_NANOS
-most state.Send1 option = MAX_BYTES
-most state.Recv1 option = MAX_BYTES
+most state.Ranks option = rank_limit
+most state.Calc1 option = calc_limit
+most state.Send1 option = size_limit
+most state.Recv1 option = size_limit
 most state.Calc3 option = option_most option
 most state.Send5 option = option_most option
 most state.Recv5 option = option_most option

@@ -2,9 +2,8 @@
 use Rattle.std.proofs.Common.{◌≡◌, ◌≤◌, ◌&&◌, ℕ, Bool, true, false, List, [], ◌∷◌, Option, Some, None, IfSome, codes, bytes_eq, nat_le, refl, subst, if◌then◌else◌}
 use Rattle.std.specs.Option.{option_map, option_and_then}
 use Rattle.std.proofs.lemmas.Bool.{leb-true}
-use Rattle.goal_limits.specs.declared.limits.TheConstants.{MAX_RANKS, MAX_BYTES}
+use Rattle.goal_limits.specs.declared.limits.TheConstants.{MAX_RANKS, MAX_BYTES, MAX_ROUNDS}
 use Rattle.sim_params.specs.Costs.{Numbers}
-use Rattle.goal_words.specs.declared.kinds.TheConstants.{MAX_ROUNDS}
 use Rattle.goal_words.specs.Options.{value_of, within_limits}
 use Rattle.goal_words.specs.Words.{Command, Sim, Waits, Knots, Gen, Certify, Probe, sim_of, waits_of, knots_of, nodes_of, compile_of, show_of, gen_of, certify_of, probe_of, number_from, collective_of, command_by}
 use Rattle.goal_words.specs.Sentences.{IsSized}

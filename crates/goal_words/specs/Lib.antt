@@ -1,4 +1,5 @@
 -- What a reader must believe.
+pub mod Limits
 pub mod Options
 pub mod Words
 -- What only the code keeps.

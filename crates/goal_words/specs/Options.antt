@@ -6,7 +6,7 @@ use Rattle.std.specs.Char.{is_ascii_digit}
 use Rattle.std.specs.Str.Parse.{digits_value}
 use Rattle.sim_params.specs.Costs.{Numbers}
 use Rattle.sim_params.specs.Limits.{first_over}
-use Rattle.sim_params.specs.declared.params.TheConstants.{DEFAULT_LATENCY, DEFAULT_OVERHEAD, DEFAULT_GAP, DEFAULT_GAP_PER_BYTE, DEFAULT_OVERHEAD_PER_BYTE, DEFAULT_SYNC}
+use Rattle.sim_params.specs.Defaults.{default_latency, default_overhead, default_gap, default_gap_per_byte, default_overhead_per_byte, default_sync}
 
 -- the options of a run: its eight parameters
 abbrev pub run_options : List (List ℕ)
@@ -108,14 +108,14 @@ value_at o ps = first_of (values_of o ps)
 -- the parameters of a run: those that are set, and else the usual ones
 abbrev pub numbers_of : List Place → Numbers
 numbers_of ps = record {
-  latency = unwrap_or (value_at (codes "--L") ps) DEFAULT_LATENCY;
-  overhead = unwrap_or (value_at (codes "--o") ps) DEFAULT_OVERHEAD;
-  gap = unwrap_or (value_at (codes "--g") ps) DEFAULT_GAP;
-  gap_per_byte = unwrap_or (value_at (codes "--G") ps) DEFAULT_GAP_PER_BYTE;
+  latency = unwrap_or (value_at (codes "--L") ps) default_latency;
+  overhead = unwrap_or (value_at (codes "--o") ps) default_overhead;
+  gap = unwrap_or (value_at (codes "--g") ps) default_gap;
+  gap_per_byte = unwrap_or (value_at (codes "--G") ps) default_gap_per_byte;
   gap_picos = unwrap_or (value_at (codes "--Gp") ps) 0;
-  overhead_per_byte = unwrap_or (value_at (codes "--O") ps) DEFAULT_OVERHEAD_PER_BYTE;
+  overhead_per_byte = unwrap_or (value_at (codes "--O") ps) default_overhead_per_byte;
   overhead_picos = unwrap_or (value_at (codes "--Op") ps) 0;
-  sync = unwrap_or (value_at (codes "--S") ps) DEFAULT_SYNC;
+  sync = unwrap_or (value_at (codes "--S") ps) default_sync;
 }
 
 -- parameters within their limits

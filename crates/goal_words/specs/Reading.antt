@@ -2,7 +2,7 @@
 use Rattle.std.specs.Prelude.{ℕ, Bool, true, false, List, [], ◌∷◌, not, Option, Some, None, is_some, unwrap_or, map, codes, bytes_eq, string_bytes, if◌then◌else◌}
 use Rattle.std.specs.Option.{option_map, option_and_then}
 use Rattle.sim_params.specs.Costs.{Numbers}
-use Rattle.sim_params.specs.declared.params.TheConstants.{DEFAULT_LATENCY, DEFAULT_OVERHEAD, DEFAULT_GAP, DEFAULT_GAP_PER_BYTE, DEFAULT_OVERHEAD_PER_BYTE, DEFAULT_SYNC}
+use Rattle.sim_params.specs.Defaults.{default_latency, default_overhead, default_gap, default_gap_per_byte, default_overhead_per_byte, default_sync}
 use Rattle.goal_words.specs.Options.{Place, Plain, Named, Set, Wrong, run_options, root_option, begins_dash, value_of, places}
 use Rattle.goal_words.specs.declared.options.Key.{Key}
 use Rattle.goal_words.specs.declared.options.Key.TheVariants.{Latency, Overhead, Gap, GapPerByte, GapPicos, OverheadPerByte, OverheadPicos, Sync, Root}
@@ -99,14 +99,14 @@ with_set g (Some key) n = with_option g key n
 -- the parameters of a run: those given, and else the usual ones
 abbrev pub numbers_given : OptionValues → Numbers
 numbers_given g = record {
-  latency = unwrap_or g.latency DEFAULT_LATENCY;
-  overhead = unwrap_or g.overhead DEFAULT_OVERHEAD;
-  gap = unwrap_or g.gap DEFAULT_GAP;
-  gap_per_byte = unwrap_or g.gap_per_byte DEFAULT_GAP_PER_BYTE;
+  latency = unwrap_or g.latency default_latency;
+  overhead = unwrap_or g.overhead default_overhead;
+  gap = unwrap_or g.gap default_gap;
+  gap_per_byte = unwrap_or g.gap_per_byte default_gap_per_byte;
   gap_picos = unwrap_or g.gap_picos 0;
-  overhead_per_byte = unwrap_or g.overhead_per_byte DEFAULT_OVERHEAD_PER_BYTE;
+  overhead_per_byte = unwrap_or g.overhead_per_byte default_overhead_per_byte;
   overhead_picos = unwrap_or g.overhead_picos 0;
-  sync = unwrap_or g.sync DEFAULT_SYNC;
+  sync = unwrap_or g.sync default_sync;
 }
 
 -- plain words, and what the options are set to

@@ -1,9 +1,8 @@
 -- The command that a line or a sentence of the code stands for, and what is so of the costs and sizes of each.
 use Rattle.std.specs.Prelude.{◌≤◌}
-use Rattle.goal_limits.specs.declared.limits.TheConstants.{MAX_BYTES}
+use Rattle.goal_limits.specs.Limits.{size_limit, round_limit}
 use Rattle.sim_params.specs.Numbers.{numbers}
 use Rattle.goal_words.specs.declared.line.Line.{Line}
-use Rattle.goal_words.specs.declared.kinds.TheConstants.{MAX_ROUNDS}
 use Rattle.goal_words.specs.declared.sentence.Source.{Source}
 use Rattle.goal_words.specs.declared.sentence.Costing.{Costing}
 use Rattle.goal_words.specs.declared.sentence.View.{View}
@@ -33,8 +32,8 @@ IsPriced c = PricedFor c.costs c.view
 -- the messages or the rounds of a source are not too many
 abbrev pub IsSizedSource : Source → Type 0
 IsSizedSource (source.File name) = Unit {0}
-IsSizedSource (source.Made what ranks bytes) = bytes ≤ MAX_BYTES
-IsSizedSource (source.Drawn rounds seed) = rounds ≤ MAX_ROUNDS
+IsSizedSource (source.Made what ranks bytes) = bytes ≤ size_limit
+IsSizedSource (source.Drawn rounds seed) = rounds ≤ round_limit
 
 abbrev pub IsSized : Command → Type 0
 IsSized c = IsSizedSource c.source

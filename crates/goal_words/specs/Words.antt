@@ -3,12 +3,12 @@ use Rattle.std.specs.Prelude.{ℕ, ◌||◌, ◌&&◌, nat_le, List, [], ◌∷�
 use Rattle.std.specs.Option.{option_map, option_and_then}
 use Rattle.std.specs.declared.alloc.Global.{Global}
 use Rattle.std.specs.declared.string.String.{String}
-use Rattle.goal_limits.specs.declared.limits.TheConstants.{MAX_RANKS, MAX_BYTES}
+use Rattle.goal_limits.specs.Limits.{rank_limit, size_limit, round_limit}
 use Rattle.goal_blocks.specs.declared.collective.Collective.{Collective}
 use Rattle.goal_blocks.specs.declared.collective.Collective.TheVariants.{Bcast, Barrier, Allgather, Allreduce, Alltoall, Reduce, Gather, Scatter, ReduceScatter, Scan}
 use Rattle.sim_params.specs.Costs.{Numbers}
 use Rattle.sim_params.specs.Numbers.{numbers}
-use Rattle.goal_words.specs.declared.kinds.TheConstants.{MAX_ROOT, MAX_ROUNDS}
+use Rattle.goal_words.specs.Limits.{root_limit}
 use Rattle.goal_words.specs.declared.sentence.Source.{Source}
 use Rattle.goal_words.specs.declared.sentence.Source.TheVariants as source
 use Rattle.goal_words.specs.declared.sentence.RunView.TheVariants as run
@@ -82,7 +82,7 @@ number_from least most w = option_and_then (λ n. if nat_le least n && nat_le n 
 
 -- the root: 0 where `--root` does not stand there
 abbrev pub root_of : Option ℕ → Option ℕ
-root_of root = if nat_le (unwrap_or root 0) MAX_ROOT then Some (unwrap_or root 0) else None
+root_of root = if nat_le (unwrap_or root 0) root_limit then Some (unwrap_or root 0) else None
 
 -- a collective that has a root
 abbrev pub rooted : (ℕ → Collective) → Option ℕ → Option Collective
@@ -141,7 +141,7 @@ abbrev pub gen_of : List (List ℕ) → Option ℕ → Option Command
 gen_of (kind ∷ ranks ∷ bytes ∷ []) root =
     option_and_then (λ what.
     option_and_then (λ (n : ℕ).
-    option_map (Gen what n) (number_from 0 MAX_BYTES bytes)) (number_from 1 MAX_RANKS ranks)) (collective_of kind root)
+    option_map (Gen what n) (number_from 0 size_limit bytes)) (number_from 1 rank_limit ranks)) (collective_of kind root)
 gen_of _ root = None
 
 -- `certify KIND NAME`, with what `--root` is set to
@@ -154,7 +154,7 @@ abbrev pub probe_of : List (List ℕ) → Numbers → Option Command
 probe_of (rounds ∷ seed ∷ []) params =
     option_and_then (λ (n : ℕ).
     option_and_then (λ (s : ℕ).
-    option_map (Probe n s) (within_limits params)) (value_of seed)) (number_from 1 MAX_ROUNDS rounds)
+    option_map (Probe n s) (within_limits params)) (value_of seed)) (number_from 1 round_limit rounds)
 probe_of _ params = None
 
 -- the command of the first word, by the plain words, the parameters and what `--root` is set to

@@ -8,9 +8,6 @@ use goal_blocks::Collective;
 /// The greatest root that a line may name.
 pub const MAX_ROOT: u64 = 65_535;
 
-/// The most rounds of a probe.
-pub const MAX_ROUNDS: u64 = 300_000;
-
 // A number within these limits.
 pub fn number_from(least: u64, most: u64, word: &str) -> Option<u64>
     ensures { result ≡ number_from least most word.now }

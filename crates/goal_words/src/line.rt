@@ -4,11 +4,11 @@ ghost use Rattle.goal_words.specs.Words.{command_by, command_in, options_of, sim
 ghost use Rattle.goal_words.specs.Sentences.{command, IsSized};
 ghost use Rattle.goal_words.specs.Reading.{listed, numbers_given, words_of};
 
-use crate::kinds::{MAX_ROUNDS, collective_of, number_from};
+use crate::kinds::{collective_of, number_from};
 use crate::options::{AllowedOptions, OptionValues, value_of};
 use crate::words_left::{PlainWords, WordsLeft};
 use goal_blocks::Collective;
-use goal_limits::{MAX_BYTES, MAX_RANKS};
+use goal_limits::{MAX_BYTES, MAX_RANKS, MAX_ROUNDS};
 use sim_params::Params;
 use std::alloc::{AllocError, Global};
 use std::marker::Model;
@@ -304,7 +304,7 @@ fn read_probe(plain: PlainWords<'_>, given: OptionValues) -> Option<Line>
     let PlainWords::Two(rounds, seed) = plain else {
         return None;
     };
-    let rounds = number_from(1, MAX_ROUNDS, rounds)?;
+    let rounds = number_from(1, u64::from(MAX_ROUNDS), rounds)?;
     let seed = value_of(seed)?;
     let params = given.params()?;
     Some(Line::Probe {

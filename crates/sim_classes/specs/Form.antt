@@ -3,13 +3,13 @@ use Rattle.std.specs.Prelude.{ℕ, zero, suc, ◌+◌, ◌==◌, ◌&&◌, ◌||
 use Rattle.std.specs.List.{list_all, slice_split}
 use Rattle.std.specs.Char.{is_ascii_digit}
 use Rattle.std.specs.Str.Parse.{digits_value}
-use Rattle.goal_limits.specs.declared.limits.TheConstants.{MAX_RANKS, MAX_PARAM, MAX_PER_BYTE}
-use Rattle.sim_params.specs.declared.params.TheConstants.{MAX_PICOS}
+use Rattle.goal_limits.specs.Limits.{rank_limit, param_limit, per_byte_limit}
+use Rattle.sim_params.specs.Defaults.{picos_limit}
 use Rattle.sim_params.specs.Costs.{Numbers}
 use Rattle.sim_params.specs.Numbers.{asked}
 use Rattle.sim_classes.specs.declared.fault.MachineFault.{MachineFault}
 use Rattle.sim_classes.specs.declared.fault.MachineFault.TheVariants.{Syntax, Number, Repeat}
-use Rattle.sim_classes.specs.declared.machine.TheConstants.{MAX_CLASSES, MAX_PAIRS, MAX_NODE}
+use Rattle.sim_classes.specs.Limits.{class_limit, pair_limit, node_limit}
 use Rattle.sim_classes.specs.Machine.{Known, machine_with}
 
 -- a space, a tab, a carriage return or a line feed
@@ -61,7 +61,7 @@ class_number classes n = if nat_lt n (length classes) then None else Some Number
 
 -- a node to which no class is told yet from node a
 abbrev pub new_target : Known → ℕ → Test
-new_target m a n = if nat_le n MAX_NODE then (if is_some (m.told a n) then Some Repeat else None) else Some Number
+new_target m a n = if nat_le n node_limit then (if is_some (m.told a n) then Some Repeat else None) else Some Number
 
 -- the class from node a to node b is told
 abbrev pub telling : (ℕ → ℕ → Option ℕ) → ℕ → ℕ → ℕ → ℕ → ℕ → Option ℕ
@@ -71,30 +71,30 @@ telling told a b class x y = if (x == a) && (y == b) then Some class else told x
 unfoldable pub triples : ℕ → Known → Form
 triples zero m = End m
 triples (suc k) m =
-    Value (between 0 MAX_NODE) (λ a. Value (new_target m a) (λ b. Value (class_number m.classes) (λ class. triples k (machine_with m.classes m.inside m.usual m.nodes (telling m.told a b class)))))
+    Value (between 0 node_limit) (λ a. Value (new_target m a) (λ b. Value (class_number m.classes) (λ class. triples k (machine_with m.classes m.inside m.usual m.nodes (telling m.told a b class)))))
 
 abbrev pub triples_part : List Numbers → ℕ → ℕ → List ℕ → Form
 triples_part classes inside usual nodes =
-    Fixed (codes "pairs") (Value (between 0 MAX_PAIRS) (λ k. triples k (machine_with classes inside usual nodes (λ a b. None))))
+    Fixed (codes "pairs") (Value (between 0 pair_limit) (λ k. triples k (machine_with classes inside usual nodes (λ a b. None))))
 
 -- so many nodes more behind these
 unfoldable pub nodes_part : ℕ → List Numbers → ℕ → ℕ → List ℕ → Form
 nodes_part zero classes inside usual nodes = triples_part classes inside usual nodes
-nodes_part (suc k) classes inside usual nodes = Value (between 0 MAX_NODE) (λ node. nodes_part k classes inside usual (nodes ++ node ∷ []))
+nodes_part (suc k) classes inside usual nodes = Value (between 0 node_limit) (λ node. nodes_part k classes inside usual (nodes ++ node ∷ []))
 
 -- the class inside a node, the usual one between nodes, and the node of each rank
 abbrev pub places_part : List Numbers → Form
 places_part classes =
     Fixed (codes "inside") (Value (class_number classes) (λ inside.
     Fixed (codes "default") (Value (class_number classes) (λ usual.
-    Fixed (codes "ranks") (Value (between 1 MAX_RANKS) (λ ranks. nodes_part ranks classes inside usual []))))))
+    Fixed (codes "ranks") (Value (between 1 rank_limit) (λ ranks. nodes_part ranks classes inside usual []))))))
 
 -- the parameters of a class: L, o, g, G, Gp, O, Op, S
 abbrev pub class_part : (Numbers → Form) → Form
 class_part rest =
-    Value (between 0 MAX_PARAM) (λ l. Value (between 0 MAX_PARAM) (λ o. Value (between 0 MAX_PARAM) (λ g.
-    Value (between 0 MAX_PER_BYTE) (λ gb. Value (between 0 MAX_PICOS) (λ gp. Value (between 0 MAX_PER_BYTE) (λ ob.
-    Value (between 0 MAX_PICOS) (λ op. Value (between 0 MAX_PARAM) (λ s. rest (asked l o g gb gp ob op s)))))))))
+    Value (between 0 param_limit) (λ l. Value (between 0 param_limit) (λ o. Value (between 0 param_limit) (λ g.
+    Value (between 0 per_byte_limit) (λ gb. Value (between 0 picos_limit) (λ gp. Value (between 0 per_byte_limit) (λ ob.
+    Value (between 0 picos_limit) (λ op. Value (between 0 param_limit) (λ s. rest (asked l o g gb gp ob op s)))))))))
 
 -- so many classes more behind these
 unfoldable pub classes_part : ℕ → List Numbers → Form
@@ -103,7 +103,7 @@ classes_part (suc k) classes = Fixed (codes "class") (class_part (λ n. classes_
 
 -- the whole text
 abbrev pub machine_form : Form
-machine_form = Fixed (codes "classes") (Value (between 1 MAX_CLASSES) (λ k. classes_part k []))
+machine_form = Fixed (codes "classes") (Value (between 1 class_limit) (λ k. classes_part k []))
 
 -- the machine that a text says, or the fault of the first of its words that fails
 unfoldable pub machine : List ℕ → Result Known MachineFault

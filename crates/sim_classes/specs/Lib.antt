@@ -1,4 +1,5 @@
 -- What a reader must believe.
+pub mod Limits
 pub mod Machine
 pub mod Form
 -- What only the code keeps.

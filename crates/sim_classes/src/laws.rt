@@ -1,5 +1,9 @@
 //! The laws of machines. Their function does nothing: a proof cites a law by a call.
+ghost use Rattle.std.specs.Prelude.{◌≡◌};
+ghost use Rattle.sim_classes.specs.Limits.{class_limit, pair_limit, node_limit};
 ghost use Rattle.sim_classes.specs.Laws.{ClassesAreThere, AlikeIsLogGops, OwnIsInside, OneNodeIsInside, SaidIsWhole};
+
+use crate::machine::{MAX_CLASSES, MAX_NODE, MAX_PAIRS};
 
 /// What holds of each machine whose named classes are its own (`IsWhole`), as those of each `Machine` are:
 ///
@@ -8,10 +12,15 @@ ghost use Rattle.sim_classes.specs.Laws.{ClassesAreThere, AlikeIsLogGops, OwnIsI
 /// - `own`: a message from a rank to itself has the class inside a node.
 /// - `one_node`: so has a message between two ranks of one node.
 /// - `whole`: each machine that a text says is one of these.
+///
+/// `classes`, `pairs` and `node`: the limits of this crate are the numbers that the definitions name.
 pub fn laws_of_machines()
     ensures there { ClassesAreThere }
     ensures alike { AlikeIsLogGops }
     ensures own { OwnIsInside }
     ensures one_node { OneNodeIsInside }
     ensures whole { SaidIsWhole }
+    ensures classes { MAX_CLASSES ≡ class_limit }
+    ensures pairs { MAX_PAIRS ≡ pair_limit }
+    ensures node { MAX_NODE ≡ node_limit }
 {}

@@ -1,8 +1,8 @@
 -- Costs and parameters that are within bounds.
 use Rattle.std.specs.Prelude.{ℕ, ◌<◌, ◌≤◌, ◌^◌}
 use Rattle.sim_params.specs.Costs.{CostModel, Numbers}
-use Rattle.goal_limits.specs.declared.limits.TheConstants.{MAX_PARAM, MAX_PER_BYTE}
-use Rattle.sim_params.specs.declared.params.TheConstants.{MAX_PICOS}
+use Rattle.goal_limits.specs.Limits.{param_limit, per_byte_limit}
+use Rattle.sim_params.specs.Defaults.{picos_limit}
 
 -- each number of a cost model is at most 2^61, for messages of at most 2^40-1 bytes
 pub record IsBounded (costs : CostModel) : Type 0 where
@@ -13,11 +13,11 @@ pub record IsBounded (costs : CostModel) : Type 0 where
 
 -- each parameter is at most its limit
 pub record IsWithinLimits (n : Numbers) : Type 0 where
-  pub latency : n.latency ≤ MAX_PARAM
-  pub overhead : n.overhead ≤ MAX_PARAM
-  pub gap : n.gap ≤ MAX_PARAM
-  pub gap_per_byte : n.gap_per_byte ≤ MAX_PER_BYTE
-  pub gap_picos : n.gap_picos ≤ MAX_PICOS
-  pub overhead_per_byte : n.overhead_per_byte ≤ MAX_PER_BYTE
-  pub overhead_picos : n.overhead_picos ≤ MAX_PICOS
-  pub sync : n.sync ≤ MAX_PARAM
+  pub latency : n.latency ≤ param_limit
+  pub overhead : n.overhead ≤ param_limit
+  pub gap : n.gap ≤ param_limit
+  pub gap_per_byte : n.gap_per_byte ≤ per_byte_limit
+  pub gap_picos : n.gap_picos ≤ picos_limit
+  pub overhead_per_byte : n.overhead_per_byte ≤ per_byte_limit
+  pub overhead_picos : n.overhead_picos ≤ picos_limit
+  pub sync : n.sync ≤ param_limit

@@ -1,5 +1,6 @@
 -- What a reader must believe.
 pub mod Costs
+pub mod Defaults
 pub mod Limits
 pub mod Numbers
 pub mod Times

@@ -1,5 +1,23 @@
-// The laws of the timed run. Their functions do nothing: a proof cites a law by a call.
+// The laws of the timed run and of its parameters. Their functions do nothing: a proof cites a law by a call.
+ghost use Rattle.std.specs.Prelude.{◌≡◌};
+ghost use Rattle.sim_params.specs.Defaults.{default_latency, default_overhead, default_gap, default_gap_per_byte, default_overhead_per_byte, default_sync, picos_limit};
 ghost use Rattle.sim_params.specs.Laws.{TimesNeverFall, PossibleStays, StartStays, PairTimeStays, PairedByAction, StartsWithFirst, EndsWithLast, IsAnInterleaving, IsACompleteInterleaving, AtMostThreeEach, RoomForPossible, EndStays, TimesRise, NewestIsLast, PossibleIsNotPast, OneIsNext, NextOrFinished, OneRunOfEachLength, OneBeginsAsTheOther, CompleteRunBeginsAsEach, OneCompleteRun, SomeCompleteRun, ReadOldestFirst, LeastEntryIsNext, WithinReach, WithinBudget, PossibleWithinBudget, ReachRisesByPart, PartsAreTheShare, ReasonsAreStuck, OpIsNeeded, PartnerIsAbsent, AloneIsAlone, CalcIsNotAlone};
+
+use crate::params::{
+    DEFAULT_GAP, DEFAULT_GAP_PER_BYTE, DEFAULT_LATENCY, DEFAULT_OVERHEAD,
+    DEFAULT_OVERHEAD_PER_BYTE, DEFAULT_SYNC, MAX_PICOS,
+};
+
+/// Each default, and the most picoseconds of a rate, is the number that the definitions name.
+pub fn laws_of_defaults()
+    ensures latency { DEFAULT_LATENCY ≡ default_latency }
+    ensures overhead { DEFAULT_OVERHEAD ≡ default_overhead }
+    ensures gap { DEFAULT_GAP ≡ default_gap }
+    ensures gap_per_byte { DEFAULT_GAP_PER_BYTE ≡ default_gap_per_byte }
+    ensures overhead_per_byte { DEFAULT_OVERHEAD_PER_BYTE ≡ default_overhead_per_byte }
+    ensures sync { DEFAULT_SYNC ≡ default_sync }
+    ensures picos { MAX_PICOS ≡ picos_limit }
+{}
 
 /// The laws of times, for every schedule, all costs and every history, be it a run or not:
 ///

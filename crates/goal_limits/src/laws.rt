@@ -1,0 +1,23 @@
+// The law of the limits. Its function does nothing: a proof cites a law by a call.
+ghost use Rattle.std.specs.Prelude.{◌≡◌};
+ghost use Rattle.goal_limits.specs.Limits.{rank_limit, op_limit, dep_limit, note_limit, round_limit, input_limit, size_limit, calc_limit, param_limit, per_byte_limit, budget_limit};
+
+use crate::limits::{
+    MAX_BUDGET, MAX_BYTES, MAX_DEPS, MAX_INPUT, MAX_NANOS, MAX_NOTES, MAX_OPS, MAX_PARAM,
+    MAX_PER_BYTE, MAX_RANKS, MAX_ROUNDS,
+};
+
+/// Each constant of this crate is the number that the definitions name.
+pub fn laws_of_limits()
+    ensures ranks { MAX_RANKS ≡ rank_limit }
+    ensures ops { MAX_OPS ≡ op_limit }
+    ensures deps { MAX_DEPS ≡ dep_limit }
+    ensures notes { MAX_NOTES ≡ note_limit }
+    ensures rounds { MAX_ROUNDS ≡ round_limit }
+    ensures input { MAX_INPUT ≡ input_limit }
+    ensures bytes { MAX_BYTES ≡ size_limit }
+    ensures nanos { MAX_NANOS ≡ calc_limit }
+    ensures param { MAX_PARAM ≡ param_limit }
+    ensures per_byte { MAX_PER_BYTE ≡ per_byte_limit }
+    ensures budget { MAX_BUDGET ≡ budget_limit }
+{}
