@@ -1,4 +1,4 @@
--- One call of a device after another.
+-- Successive calls of a device.
 use Rattle.std.proofs.Common.{◌≡◌, ◌<◌, ℕ, ◌+◌, true, List, ◌++◌, length, take, drop, Option, Some, inl, inr, sym, ap, ◌∙◌, append_assoc, arith}
 use Rattle.std.specs.FinMap.{get, insert}
 use Rattle.std.proofs.Math.Seq.{take-add}
@@ -7,7 +7,7 @@ use Rattle.goal_base.specs.Device.{HostState, SinkState, Files, file_of, Held, G
 use Rattle.goal_base.specs.DeviceCalls.{Writes, appended_to}
 use Rattle.goal_base.proofs.FilesLemmas.{get_inserted, appended_to_inserted}
 
--- the first bytes of a piece, and then more of what was left of it
+-- a prefix of a piece was appended, and then a prefix of what was left of it
 pub grows_more : (a b c : SinkState) (piece left : List ℕ) (n k : ℕ) → Grows a b (take n piece) → b.tells ≡ a.tells
     → left ≡ drop n piece → Grows b c (take k left) → Grows a c (take (n + k) piece)
 grows_more a b c piece left n k first same is more = record {
@@ -21,7 +21,7 @@ pub file_held : (a b : HostState) (name bytes : List ℕ) → Holds a b name byt
     → file_of b name ≡ Some bytes
 file_held a b name bytes held t = ap (λ (f : Files). get f name) (held.told t) ∙ get_inserted a.files name bytes
 
--- the first bytes of a file, and then more of what was left of it
+-- a prefix of a file was written, and then a prefix of what was left of it
 pub holds_more : (a b c : HostState) (name bytes left : List ℕ) (n k : ℕ) → Holds a b name (take n bytes)
     → (a.tells ≡ true → b.output ≡ Some name) → b.tells ≡ a.tells → left ≡ drop n bytes → Writes b c (take k left)
     → Holds a c name (take (n + k) bytes)
@@ -33,7 +33,7 @@ holds_more a b c name bytes left n k first output same is more = record {
       ∙ ap (λ (l : List ℕ). insert a.files name l) (sym (take-add n k bytes));
 }
 
--- where the file is there and the host didn't fail, nothing of reading was counted as a fault
+-- where the file exists and the host did not fail, no count of reading rose
 pub no_fault : (old new : HostState) (name text : List ℕ) → old.tells ≡ true → file_of old name ≡ Some text
     → Held old.stops old.read_count new.read_count → ReadFaulted old new name → ⊥
 no_fault old new name text told file held (inl rose) = omega arith

@@ -33,20 +33,20 @@ found : (q : List ℕ) (es : Entries) → find (slice_cmp nat_cmp) q (map (λ (e
 found q [] = refl
 found q (e ∷ es) = ap (cond (eq_by_cmp (slice_cmp nat_cmp) q (string_bytes e.0)) (Some e.1.items)) (found q es) ∙ mapped _ e.1 _
 
--- what a look-up by a name finds
+-- the file that a lookup by name finds
 pub get-files_of : (m : Map) (q : List ℕ) → get (files_of m.entries) q ≡ option_map bytes_of (get_by_text m q)
 unfolding files_of
 get-files_of m q = get-from_entries nat_list_cmp_total _ q ∙ found q m.entries
 
--- two maps that find the same
+-- two maps in which every lookup gives the same
 pub same_files : (m n : Files) → ((q : List ℕ) → get m q ≡ get n q) → m ≡ n
 same_files m n = same_map nat_list_cmp_total (slice_cmp-IsAntisymmetric nat_cmp-IsAntisymmetric) m n
 
--- the two tests of a name
+-- the comparisons of the two kinds of map agree on a name
 same_name : (name q : List ℕ) → bytes_eq name q ≡ eq_by_cmp (slice_cmp nat_cmp) q name
 same_name name q = sym (is_eq-slice_cmp name q) ∙ (eq_by_cmp_equiv nat_list_cmp_total).symm name q
 
--- a changed value
+-- the map after one value changed
 pub files_of-set : (m n : Map) (name : List ℕ) (v : Vec ℕ Global) → UpdatesBy string_cmp (λ k. slice_cmp nat_cmp name (string_bytes k)) m n (Some v)
     → files_of n.entries ≡ insert (files_of m.entries) name v.items
 files_of-set m n name v updates = same_files _ _ (λ q.
@@ -66,11 +66,11 @@ at_name : (m : Files) (name v q : List ℕ) → get m name ≡ Some v → (b : B
 at_name m name v q is true e = sym is ∙ get_tied nat_list_cmp_total m q name (is_equal _ e)
 at_name m name v q is false e = refl
 
--- what is there already
+-- inserting the value that a name has already changes nothing
 pub insert_same : (m : Files) (name v : List ℕ) → get m name ≡ Some v → insert m name v ≡ m
 insert_same m name v is = same_files _ _ (λ q. get-insert nat_list_cmp_total m name v q ∙ at_name m name v q is _ refl)
 
--- what was just inserted
+-- a lookup finds the value just inserted
 pub get_inserted : (m : Files) (name v : List ℕ) → get (insert m name v) name ≡ Some v
 get_inserted m name v =
     get-insert nat_list_cmp_total m name v name
@@ -80,7 +80,7 @@ cond_twice : (b : Bool) (x y z : Option (List ℕ)) → cond b x (cond b y z) �
 cond_twice true x y z = refl
 cond_twice false x y z = refl
 
--- the later of two values stays
+-- of two values inserted under one name the later stays
 pub insert_twice : (m : Files) (name v w : List ℕ) → insert (insert m name v) name w ≡ insert m name w
 insert_twice m name v w = same_files _ _ (λ q.
     get-insert nat_list_cmp_total (insert m name v) name w q
@@ -88,14 +88,14 @@ insert_twice m name v w = same_files _ _ (λ q.
     ∙ cond_twice (eq_by_cmp (slice_cmp nat_cmp) q name) (Some w) (Some v) (get m q)
     ∙ sym (get-insert nat_list_cmp_total m name w q))
 
--- bytes at the end of an output that holds others
+-- appending to an output whose file holds other bytes
 pub appended_to_inserted : (m : Files) (name old bytes : List ℕ)
     → appended_to (Some name) (insert m name old) bytes ≡ insert m name (old ++ bytes)
 appended_to_inserted m name old bytes =
     ap (λ (o : Option (List ℕ)). grown o (insert m name old) name bytes) (get_inserted m name old)
     ∙ insert_twice m name old (old ++ bytes)
 
--- a value that grew
+-- the map after a value grew
 pub files_of-append : (m n : Map) (name : List ℕ) (old new : Vec ℕ Global) (piece : List ℕ) → get_by_text m name ≡ Some old
     → UpdatesBy string_cmp (λ k. slice_cmp nat_cmp name (string_bytes k)) m n (Some new) → new.items ≡ old.items ++ piece
     → files_of n.entries ≡ grown (get (files_of m.entries) name) (files_of m.entries) name piece
@@ -104,7 +104,7 @@ files_of-append m n name old new piece was updates is =
     files_of-set m n name new updates ∙ ap (λ (l : List ℕ). insert (files_of m.entries) name l) is
     ∙ ap (λ (o : Option (List ℕ)). grown o (files_of m.entries) name piece) (sym told)
 
--- and one that didn't
+-- the map after an append that failed
 pub files_of-same : (m n : Map) (name : List ℕ) (old new : Vec ℕ Global) → get_by_text m name ≡ Some old
     → UpdatesBy string_cmp (λ k. slice_cmp nat_cmp name (string_bytes k)) m n (Some new) → new.items ≡ old.items
     → files_of n.entries ≡ files_of m.entries

@@ -1,22 +1,22 @@
--- What the proofs of other crates may take from here.
+-- What the proofs of other crates may use.
 use Rattle.std.proofs.Common.{◌≡◌, ◌<◌, ℕ, true, List, ◌++◌, length, refl, sym, ap, ◌∙◌, append_assoc, length-append, arith}
 use Rattle.goal_limits.specs.declared.limits.TheConstants.{MAX_INPUT}
 use Rattle.goal_base.specs.Device.{HostState, Later, KeepsFiles, SameReadCounts, SameRest, Rose}
 use Rattle.goal_base.specs.DeviceCalls.{Takes}
 
--- a line behind the lines that stand in an array, of which those so far may have gone to a text
+-- a line appended to lines in an array, of which the earlier ones may have gone to a text
 pub line_behind : (out now lines kept ended line : List ℕ) → now ++ kept ≡ out ++ lines → ended ≡ kept ++ line
     → now ++ ended ≡ (out ++ lines) ++ line
 line_behind out now lines kept ended line moved more = rw (more, ← append_assoc now kept line, moved) refl
 
--- taken from the rest, and then more of it
+-- bytes taken from the rest, and then more of it
 pub takes_more : (a b c : HostState) (xs ys : List ℕ) → Takes a b xs → b.tells ≡ a.tells
     → (b.tells ≡ true → b.rest ≡ ys ++ c.rest) → Takes a c (xs ++ ys)
 takes_more a b c xs ys first same more = record {
   told = λ t. first.told t ∙ ap (λ (l : List ℕ). xs ++ l) (more (same ∙ t)) ∙ sym (append_assoc xs ys c.rest);
 }
 
--- nothing more was taken
+-- bytes taken from the rest, which then stayed the same
 pub takes_same : (a b c : HostState) (xs : List ℕ) → Takes a b xs → b.tells ≡ a.tells → SameRest b c → Takes a c xs
 takes_same a b c xs first same more = record {
   told = λ t. first.told t ∙ ap (λ (l : List ℕ). xs ++ l) (sym (more.told (same ∙ t)));
@@ -26,7 +26,7 @@ takes_same a b c xs first same more = record {
 pub too_long : (a b : HostState) (xs : List ℕ) → Takes a b xs → MAX_INPUT < length xs → a.tells ≡ true → MAX_INPUT < length a.rest
 too_long a b xs takes long t = omega (arith, ap length (takes.told t), length-append xs b.rest)
 
--- what is so of two calls of a host, one after the other
+-- properties of two successive calls of a host
 module _ (a b c : HostState) (later : Later a b) where
   pub later_then : Later b c → Later a c
   later_then then = record {
@@ -51,6 +51,6 @@ module _ (a b c : HostState) (later : Later a b) where
   pub rose_then : SameReadCounts a b → Rose b.stops b.read_count c.read_count → Rose a.stops a.read_count c.read_count
   rose_then same rose = rw (later.stops, same.read_count) at rose
 
--- the counts of two calls, one after the other
+-- the counts after two successive calls
 pub counts_then : (a b c : HostState) → SameReadCounts a b → SameReadCounts b c → SameReadCounts a c
 counts_then a b c same then = record { read_count = then.read_count ∙ same.read_count; absent_count = then.absent_count ∙ same.absent_count }

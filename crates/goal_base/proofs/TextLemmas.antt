@@ -9,7 +9,7 @@ power_positive : (k : ℕ) → 0 < 10 ^ k
 power_positive zero = lit< tt
 power_positive (suc k) = omega (arith, pow-suc 10 k, power_positive k)
 
--- a number that reaches a power of ten has more digits than its exponent
+-- a number that reaches a power of ten has more digits than the exponent
 digits_above : (k n : ℕ) → 10 ^ k ≤ n → n < 2 ^ 64 → k < length (decimal n)
 digits_above zero n above fits = decimal_nonempty n fits
 digits_above (suc k) n above fits =
@@ -25,14 +25,14 @@ digits_between k n above below fits =
     let power : 10 ^ (k + 1) ≡ 10 ^ k * 10 = rw add-one (pow-suc 10 k) in
     omega (arith, digits_above k n above fits, length-decimal-le (k + 1) n (omega arith) (omega arith) fits)
 
--- the most digits of a number of 32 bits, and of 64 bits
+-- the most digits of a number of 32 bits, and of one of 64 bits
 pub digits_of_32_bits : (n : ℕ) → n < 2 ^ 32 → length (decimal n) ≤ 10
 digits_of_32_bits n fits = length-decimal-le 10 n (omega arith) (omega arith) (omega arith)
 
 pub digits_of_64_bits : (n : ℕ) → n < 2 ^ 64 → length (decimal n) ≤ 20
 digits_of_64_bits n fits = length-decimal-le 20 n (omega arith) (omega arith) fits
 
--- a text that was written up to `end`, and from where the bytes before it end
+-- a text written from one place to another, given where the bytes before it end
 pub written_up_to : (old new text : List ℕ) (start at end : ℕ) → at ≤ length old → start + length text ≡ end → end ≡ at + length text
     → drop start new ≡ text ++ drop end old → take start new ≡ take start old
     → take end new ≡ take at old ++ text

@@ -1,4 +1,4 @@
--- Devices in memory: what a call does to the whole of one.
+-- Devices in memory, and their state after each call.
 use Rattle.std.specs.Prelude.{◌≡◌, ℕ, ◌^◌, ◌<◌, Bool, true, false, List, [], ◌++◌, drop, Option, Some, None, refl}
 use Rattle.std.specs.Coded.{Coded, code_by, coded×, coded_ℕ, coded_bool, coded_list, coded_option}
 use Rattle.std.specs.FinMap.{insert, empty, code}
@@ -6,13 +6,13 @@ use Rattle.goal_base.specs.Calls.{CallPlan, next_call}
 use Rattle.goal_base.specs.Device.{HostState, SinkState, Files, risen_from}
 use Rattle.goal_base.specs.DeviceCalls.{appended_to}
 
--- A host in memory: what a host means, how many bytes a read or a write moves at most, and which calls fail.
+-- A host in memory: its state, the most bytes that a read or a write moves, and the calls that fail.
 pub record MemHostState : Type 0 where
   pub state : HostState
   pub most : ℕ
   pub calls : CallPlan
 
--- how values of these types are told apart: by their parts
+-- values of these types are equal where their parts are
 abbrev files_code : Coded Files
 files_code = code (coded_list coded_ℕ) (coded_list coded_ℕ)
 
@@ -44,7 +44,7 @@ host_code = code_by (HostState × (ℕ × (List ℕ × ℕ))) (coded× state_cod
     (λ p. record { state = p.0; most = p.1.0; calls = record { fails = p.1.1.0; made = p.1.1.1 } })
     (λ _. refl)
 
--- it moves at least one byte, tells all, and its counts fit 64 bits and stop there
+-- it moves at least one byte per call, its contents are known, and its counts fit 64 bits and stop at 2^64-1
 pub record IsMemHost (host : MemHostState) : Type 0 where
   pub most : 0 < host.most
   pub tells : host.state.tells ≡ true
@@ -53,7 +53,7 @@ pub record IsMemHost (host : MemHostState) : Type 0 where
   pub absent_count : host.state.absent_count < 2 ^ 64
   pub write_count : host.state.write_count < 2 ^ 64
 
--- a new host: no files, nothing is open, no call was made
+-- a new host: it has no files, nothing is open, and no call was made
 abbrev pub new_host : ℕ → List ℕ → MemHostState
 new_host most fails = record {
   state = record {
@@ -72,59 +72,59 @@ new_host most fails = record {
   calls = record { fails = fails; made = 0 };
 }
 
--- the host after one more call, with this state
+-- the host after another call, with this state
 abbrev pub after_call : MemHostState → HostState → MemHostState
 after_call host state = record host { state = state; calls = next_call host.calls }
 
--- the read count rose
+-- the state after a failed call of `open` or `read`
 abbrev pub with_read_fault : HostState → HostState
 with_read_fault s = record s { read_count = risen_from true s.read_count }
 
--- the absent count rose
+-- the state after `open` with a name that no file has
 abbrev pub with_absent_name : HostState → HostState
 with_absent_name s = record s { absent_count = risen_from true s.absent_count }
 
--- the write count rose
+-- the state after a failed call of `create`, `write` or `finish`
 abbrev pub with_write_fault : HostState → HostState
 with_write_fault s = record s { write_count = risen_from true s.write_count }
 
--- a file with these bytes is open as the input
+-- the state after opening a file with these bytes as the input
 abbrev pub with_input : HostState → List ℕ → HostState
 with_input s bytes = record s { rest = bytes; reading = true }
 
--- n bytes were taken from the input
+-- the state after reading n bytes of the input
 abbrev pub with_taken : HostState → ℕ → HostState
 with_taken s n = record s { rest = drop n s.rest }
 
--- the file of that name is empty, and is open as the output
+-- the state after creating an empty file of that name and opening it as the output
 abbrev pub with_created : HostState → List ℕ → HostState
 with_created s name = record s { files = insert s.files name []; output = Some name; writing = true }
 
--- these bytes were appended to the output
+-- the state after appending these bytes to the output
 abbrev pub with_appended : HostState → List ℕ → HostState
 with_appended s bytes = record s { files = appended_to s.output s.files bytes }
 
--- no output is open
+-- the state after closing the output
 abbrev pub with_no_output : HostState → HostState
 with_no_output s = record s { output = None; writing = false }
 
--- the host with this file
+-- the host after adding this file
 abbrev pub with_file : MemHostState → List ℕ → List ℕ → MemHostState
 with_file host name bytes = record host { state = record host.state { files = insert host.state.files name bytes } }
 
--- A sink in memory: what a sink means, how many bytes a write moves at most, and which calls fail.
+-- A sink in memory: its state, the most bytes that a write moves, and the calls that fail.
 pub record MemSinkState : Type 0 where
   pub state : SinkState
   pub most : ℕ
   pub calls : CallPlan
 
--- it moves at least one byte, tells them, and its count doesn't stop
+-- it moves at least one byte per call, its bytes are known, and its count does not stop
 pub record IsMemSink (sink : MemSinkState) : Type 0 where
   pub most : 0 < sink.most
   pub tells : sink.state.tells ≡ true
   pub stops : sink.state.stops ≡ false
 
--- a new sink: no bytes, no call was made
+-- a new sink: it has no bytes, and no call was made
 abbrev pub new_sink : ℕ → List ℕ → MemSinkState
 new_sink most fails = record {
   state = record { tells = true; bytes = []; count = 0; stops = false };
@@ -132,14 +132,14 @@ new_sink most fails = record {
   calls = record { fails = fails; made = 0 };
 }
 
--- the sink after one more call, with this state
+-- the sink after another call, with this state
 abbrev pub after_sink_call : MemSinkState → SinkState → MemSinkState
 after_sink_call sink state = record sink { state = state; calls = next_call sink.calls }
 
--- the count rose
+-- the state after a failed write
 abbrev pub with_fault : SinkState → SinkState
 with_fault s = record s { count = risen_from false s.count }
 
--- these bytes were appended
+-- the state after appending these bytes
 abbrev pub with_bytes : SinkState → List ℕ → SinkState
 with_bytes s bytes = record s { bytes = s.bytes ++ bytes }

@@ -5,11 +5,11 @@ use Rattle.std.specs.Prelude.{ℕ, List, ◌++◌, Option, Some, None, codes, de
 abbrev pub line_feed : List ℕ
 line_feed = codes "\n"
 
--- two numbers with a blank between, as the rank and the number of an operation
+-- two numbers with a blank between them, such as the rank and the number of an operation
 abbrev pub pair_text : ℕ → ℕ → List ℕ
 pair_text first second = decimal first ++ codes " " ++ decimal second
 
--- a time in nanoseconds, or a dash where there is none
+-- a time in nanoseconds, or a dash where it is absent
 abbrev pub time_text : Option ℕ → List ℕ
 time_text None = codes "-"
 time_text (Some nanos) = decimal nanos

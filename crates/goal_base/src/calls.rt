@@ -5,7 +5,7 @@ use goal_limits::NoMemory;
 use std::alloc::Global;
 use std::marker::Model;
 
-// The numbers of the calls that fail, and how many calls were made.
+// The numbers of the calls that fail, and the number of calls made so far, at most 2^64-1.
 #[derive(Drop)]
 pub(crate) struct Calls {
     fails: Vec<u64>,
@@ -23,7 +23,7 @@ impl Model for Calls {
 impl Calls {
     ghost use Rattle.goal_base.specs.Calls.{IsFailing, next_call};
 
-    // No call was made yet.
+    // Creates the plan before the first call.
     pub(crate) fn new(alloc: Global, fails: &[u64]) -> Result<Calls, NoMemory>
         ensures { IfOk result (λ calls. calls ≡ record { fails = fails.now; made = 0 }) }
     {
@@ -33,7 +33,7 @@ impl Calls {
         })
     }
 
-    // Counts a call, and says whether it is one of those that fail.
+    // Counts a call, and returns whether it is to fail.
     pub(crate) fn count(&mut self) -> bool
         ensures failing { IsTrue result ↔ IsFailing self.old }
         ensures counted { self.new ≡ next_call self.old }

@@ -1,4 +1,4 @@
-//! The traits of the outside: a host with files, and a sink that takes bytes.
+//! The traits of the surroundings: a host with files, and a sink that takes bytes.
 ghost use Rattle.std.specs.Prelude.{◌≡◌, ◌↔◌, ◌<◌, ◌≤◌, true, false, [], ◌++◌, length, take, Some, None, OnOk, OnErr, IfOk};
 ghost use Rattle.goal_base.specs.Device.{HostState, SinkState, SameFiles, SameRest, file_of, Grows};
 ghost use Rattle.goal_base.specs.DeviceCalls.{SameBytes, CallsOpen, CallsRead, CallsWrite, CallsSink, Creates, Writes};
@@ -6,38 +6,42 @@ ghost use Rattle.goal_base.specs.DeviceCalls.{SameBytes, CallsOpen, CallsRead, C
 /// Why a call of a host or a sink was refused.
 #[derive(Clone, Copy, Debug, PartialEq, Eq)]
 pub enum IoFault {
-    /// The device failed. It counts its failures.
+    /// The device failed. It counts this.
     Failed,
-    /// There was no memory left.
+    /// Out of memory.
     NoMemory,
 }
 
-/// Why a file was not opened.
+/// Why `open` opened no file.
 #[derive(Clone, Copy, Debug, PartialEq, Eq)]
 pub enum OpenFault {
-    /// No file has that name. The host counts such calls.
+    /// No file has that name. The host counts this.
     Absent,
-    /// The device failed. It counts its failures.
+    /// The device failed. It counts this.
     Failed,
-    /// There was no memory left.
+    /// Out of memory.
     NoMemory,
 }
 
-/// A host with files, of which one at a time is open as the input and one as the output.
+/// A host with files. At most one is open as the input, and at most one as the output.
 ///
-/// A host may tell its contents: its files, the rest of the input and the name of the output. It always tells
-/// what is open, and three counts that never fall: of the faults of `open` and `read`, of the names that `open`
-/// didn't find, and of the faults of `create`, `write` and `finish`. A count may stop at 2^64-1.
+/// Contracts may know its contents (`tells`): the files, the rest of the input and the name of the output. They always
+/// know what is open, and three counts that never fall:
 ///
-/// A call answers `Failed` only where the count of its faults rose, and nothing else where it rose. Whatever a call
-/// refuses, the contents are as they were, and what is open stays so, but for `finish`.
+/// - `read_count`: failed calls of `open` and `read`;
+/// - `absent_count`: calls of `open` with a name that no file has;
+/// - `write_count`: failed calls of `create`, `write` and `finish`.
+///
+/// A count may stop at 2^64-1, and one that has stopped passes for risen. A call returns `Failed` only where its count
+/// rose; any other result leaves that count unchanged. A refused call leaves the contents and what is open unchanged,
+/// except that `finish` always closes the output.
 pub trait Host {
-    /// What is known of the host.
+    /// What contracts know of the host.
     ghost state: { Self → HostState };
 
-    /// Opens a file as the input, from its beginning. The input that was open is forgotten.
+    /// Opens a file as the input, from its beginning, instead of the one that was open.
     ///
-    /// `Absent` comes only where the absent count rose and the name isn't among the files that are told.
+    /// `Absent` comes only where the absent count rose and no known file has that name.
     fn open(&mut self, name: &str) -> Result<(), OpenFault>
         ensures opened { OnOk result ((state self.old).tells ≡ true
             → file_of (state self.old) name.now ≡ Some (state self.new).rest) }
@@ -46,8 +50,8 @@ pub trait Host {
         ensures reading_err { OnErr result ((state self.new).reading ≡ (state self.old).reading) }
         ensures call { CallsOpen result (state self.old) (state self.new) name.now };
 
-    /// Takes bytes from the front of the rest of the input into the front of `buf`, and says how many: none only
-    /// at the end.
+    /// Moves bytes from the front of the rest of the input to the front of `buf`, and returns their number: 0 only at
+    /// the end of the input.
     fn read(&mut self, buf: &mut [u8]) -> Result<usize, IoFault>
         requires room { 0 < length buf.old }
         requires open { (state self.old).reading ≡ true }
@@ -60,7 +64,7 @@ pub trait Host {
         ensures reading { (state self.new).reading ≡ true }
         ensures call { CallsRead result (state self.old) (state self.new) };
 
-    /// Makes the file of that name empty and opens it as the output, in place of the output that was open.
+    /// Creates an empty file of that name, or empties it, and opens it as the output instead of the one that was open.
     fn create(&mut self, name: &str) -> Result<(), IoFault>
         ensures created { OnOk result (Creates (state self.old) (state self.new) name.now) }
         ensures writing { OnOk result ((state self.new).writing ≡ true) }
@@ -68,8 +72,7 @@ pub trait Host {
         ensures writing_err { OnErr result ((state self.new).writing ≡ (state self.old).writing) }
         ensures call { CallsWrite result (state self.old) (state self.new) };
 
-    /// Appends bytes from the front of `piece` to the output, and says how many: at least one of a piece that
-    /// isn't empty.
+    /// Appends a prefix of `piece` to the output, and returns its length: at least 1, unless `piece` is empty.
     fn write(&mut self, piece: &[u8]) -> Result<usize, IoFault>
         requires open { (state self.old).writing ≡ true }
 
@@ -80,7 +83,7 @@ pub trait Host {
         ensures writing { (state self.new).writing ≡ true }
         ensures call { CallsWrite result (state self.old) (state self.new) };
 
-    /// Closes the output, whatever it answers: there is none then.
+    /// Closes the output, whatever it returns.
     fn finish(&mut self) -> Result<(), IoFault>
         requires open { (state self.old).writing ≡ true }
 
@@ -90,16 +93,16 @@ pub trait Host {
         ensures call { CallsWrite result (state self.old) (state self.new) };
 }
 
-/// A sink of bytes, as a standard output. It may tell its bytes. It always tells its count of faults, which never
-/// falls, and may stop at 2^64-1.
+/// A sink of bytes, such as standard output. Contracts may know its bytes (`tells`). They always know its count of
+/// failed writes, which never falls and may stop at 2^64-1.
 pub trait Sink {
-    /// What is known of the sink.
+    /// What contracts know of the sink.
     ghost state: { Self → SinkState };
 
-    /// Appends bytes from the front of `piece`, and says how many: at least one of a piece that isn't empty.
+    /// Appends a prefix of `piece`, and returns its length: at least 1, unless `piece` is empty.
     ///
-    /// `Failed` comes only where the count rose, and nothing else where it rose. A refusal leaves the bytes as they
-    /// were.
+    /// `Failed` comes only where the count rose; any other result leaves it unchanged. A refused write leaves the bytes
+    /// unchanged.
     fn write(&mut self, piece: &[u8]) -> Result<usize, IoFault>
         ensures bound { IfOk result (λ n. n ≤ length piece.now) }
         ensures moves { IfOk result (λ n. 0 < length piece.now → 0 < n) }

@@ -9,7 +9,7 @@ use std::alloc::Global;
 use std::collections::BTreeMap;
 use std::marker::Model;
 
-// Files by their names. Contracts see them as a map from the bytes of a name to the bytes of its file.
+// Files by their names. Contracts see a map from the bytes of a name to the bytes of its file.
 #[derive(Drop)]
 pub(crate) struct NamedFiles {
     by_name: BTreeMap<String, Vec<u8>>,
@@ -46,7 +46,7 @@ impl NamedFiles {
         }
     }
 
-    // Sets a file. At `Err` the files are as they were.
+    // Sets the bytes of a file, which need not exist. On `Err` the files are unchanged.
     pub(crate) fn set(&mut self, alloc: Global, name: &str, bytes: Vec<u8>) -> Result<(), NoMemory>
         ensures ok { OnOk result (self.new ≡ map.insert self.old name.now bytes.items) }
         ensures err { OnErr result (self.new ≡ self.old) }
@@ -56,7 +56,7 @@ impl NamedFiles {
         Ok(())
     }
 
-    // Appends to a file that is there. At `Err` the files are as they were.
+    // Appends to a file, if it exists. On `Err` the files are unchanged.
     pub(crate) fn append(&mut self, name: &str, piece: &[u8]) -> Result<(), NoMemory>
         ensures ok { OnOk result (self.new ≡ grown (map.get self.old name.now) self.old name.now piece.now) }
         ensures err { OnErr result (self.new ≡ self.old) }

@@ -1,11 +1,11 @@
-// What follows from the contracts of reading.
+//! Laws that follow from the contract of `read_all`.
 ghost use Rattle.std.specs.Prelude.{◌≡◌, ◌<◌, ℕ, true, List, length, Some};
 ghost use Rattle.goal_base.specs.Device.{HostState, Held, ReadFaulted, IsTooLong, file_of};
 
 use goal_limits::MAX_INPUT;
 
-/// Of a host that tells its files, before and after a call of `read_all`: a file that is there is read, or is too long,
-/// unless the host failed or there was no memory left; and only one that has more than 2^27 bytes is too long.
+/// Laws of `read_all` for an existing file of a host whose contents are known. Where the read count did not rise, it
+/// does not answer `Fault` (*no_fault*); where it answers `TooLong`, the file has more than 2^27 bytes (*no_short*).
 pub fn laws_of_reading()
     ensures no_fault { (old new : HostState) (name text : List ℕ) → old.tells ≡ true
         → file_of old name ≡ Some text → Held old.stops old.read_count new.read_count

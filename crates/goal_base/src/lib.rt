@@ -1,5 +1,5 @@
-//! The outside of `goal`: the traits of a host with files and of a sink, reading a file whole,
-//! writing a piece or a file whole, and text that is made piece by piece.
+//! The surroundings of `goal`: the traits of a host with files and of a sink; reading a whole file; writing a piece or
+//! a whole file; and text that is built piece by piece.
 #![tactic(auto)]
 
 mod calls;

@@ -1,24 +1,24 @@
-//! Lines that are made in an array: each piece is written where the one before it ends.
+//! Lines that are built in an array: each piece is written where the one before it ends, and the end is returned.
 ghost use Rattle.std.specs.Prelude.{◌≡◌, ◌+◌, ◌≤◌, ◌++◌, length, take, decimal};
 ghost use Rattle.goal_base.specs.Text.{pair_text, time_text};
 
 use itoa::write_digits;
 
-/// Writes a word, and returns where it ends.
+/// Writes a word at `at`, and returns its end.
 #[inline(always)]
 pub fn put_word(line: &mut [u8], at: usize, word: &str) -> usize
     requires room { at + length word.now ≤ length line.old }
     ensures text { take result line.new ≡ take at line.old ++ word.now }
     ensures end { result ≡ at + length word.now }
 {
-    // Byte by byte: of a word that is known the compiler makes one or two writes.
+    // Byte by byte: for a constant word the compiler emits one or two stores.
     for (place, byte) in word.as_bytes().iter().enumerate() {
         line[at + place] = *byte;
     }
     at + word.len()
 }
 
-/// Writes a number of 32 bits in decimal, and returns where it ends.
+/// Writes a number of 32 bits in decimal, and returns its end. It needs room for 10 bytes.
 #[inline(always)]
 #[tactic(auto, using(crate::proofs::TextLemmas::digits_of_32_bits))]
 pub fn put_number(line: &mut [u8], at: usize, n: u32) -> usize
@@ -29,7 +29,7 @@ pub fn put_number(line: &mut [u8], at: usize, n: u32) -> usize
     put_decimal(line, at, u64::from(n))
 }
 
-/// Writes a number of 64 bits in decimal, and returns where it ends.
+/// Writes a number of 64 bits in decimal, and returns its end. It needs room for 20 bytes.
 #[inline(always)]
 #[tactic(auto, using(crate::proofs::TextLemmas::digits_of_64_bits))]
 pub fn put_long(line: &mut [u8], at: usize, n: u64) -> usize
@@ -40,7 +40,7 @@ pub fn put_long(line: &mut [u8], at: usize, n: u64) -> usize
     put_decimal(line, at, n)
 }
 
-// Writes the digits of a number, and returns where they end.
+// Writes the digits of a number, and returns their end.
 #[tactic(auto, using(crate::proofs::TextLemmas::written_up_to))]
 fn put_decimal(line: &mut [u8], at: usize, n: u64) -> usize
     requires room { at + length (decimal n) ≤ length line.old }
@@ -63,7 +63,8 @@ fn count_digits(n: u64) -> usize
     }
 }
 
-/// Writes two numbers with a blank between, as the rank and the number of an operation, and returns where they end.
+/// Writes two numbers with a blank between them, such as the rank and the number of an operation, and returns their
+/// end. It needs room for 21 bytes.
 #[inline(always)]
 pub fn put_pair(line: &mut [u8], at: usize, first: u32, second: u32) -> usize
     requires room { at + 21 ≤ length line.old }
@@ -75,7 +76,7 @@ pub fn put_pair(line: &mut [u8], at: usize, first: u32, second: u32) -> usize
     put_number(line, at, second)
 }
 
-/// Writes a time in nanoseconds, or a dash where there is none, and returns where it ends.
+/// Writes a time in nanoseconds, or a dash for `None`, and returns its end. It needs room for 20 bytes.
 #[inline(always)]
 pub fn put_time(line: &mut [u8], at: usize, time: Option<u64>) -> usize
     requires room { at + 20 ≤ length line.old }

@@ -12,10 +12,10 @@ use goal_limits::NoMemory;
 use std::alloc::Global;
 use std::marker::Model;
 
-/// A host in memory, whose calls fail where it was told so.
+/// A host in memory, whose calls fail where its creator said so.
 ///
-/// A read and a write moves as many bytes as it can, up to a number that is given. The calls of the trait are
-/// numbered from 1; calls after number 2^64-1 have no number. The counts start at 0 and stop at 2^64-1.
+/// A read and a write moves as many bytes as it can, up to `most`. The calls of the trait are numbered from 1; calls
+/// after number 2^64-1 have no number. The counts start at 0 and stop at 2^64-1.
 #[derive(Drop)]
 pub struct MemHost {
     alloc: Global,
@@ -64,8 +64,8 @@ impl Model for MemHost {
 impl MemHost {
     ghost use Rattle.goal_base.specs.Memory.{MemHostState, new_host, with_file};
 
-    /// A host with no files, on which nothing is open and no call was made. Each read and write moves at most
-    /// `most` bytes, and the calls whose numbers stand in `fails` fail.
+    /// Creates a host with no files, on which nothing is open. Each read and write moves at most `most` bytes, and the
+    /// calls whose numbers are in `fails` fail.
     pub fn new(alloc: Global, most: usize, fails: &[u64]) -> Result<MemHost, NoMemory>
         requires { 0 < most }
         ensures { IfOk result (λ host. host ≡ new_host most fails.now) }
@@ -85,7 +85,7 @@ impl MemHost {
         })
     }
 
-    /// Sets a file. It is no call of the trait. Where there was no memory left, the host is as it was.
+    /// Sets the bytes of a file. This is no call of the trait, and is not counted. On `NoMemory` the host is unchanged.
     pub fn add(&mut self, name: &str, bytes: &[u8]) -> Result<(), NoMemory>
         ensures ok { OnOk result (self.new ≡ with_file self.old name.now bytes.now) }
         ensures err { OnErr result (self.new ≡ self.old) }
@@ -94,7 +94,7 @@ impl MemHost {
         self.files.set(self.alloc, name, copy)
     }
 
-    /// The bytes of a file, or `None` where the name is absent.
+    /// Returns the bytes of a file, or `None` where no file has that name.
     pub fn file(&self, name: &str) -> Option<&[u8]>
         ensures { option_copied result ≡ file_of self.now.state name.now }
     {
@@ -107,7 +107,7 @@ impl Host for MemHost {
 
     ghost state = { λ h. h.state };
 
-    /// Exactly a call that is to fail answers `Failed`. Any other that doesn't find the file answers `Absent`.
+    /// `Failed` comes exactly where the call is to fail. Otherwise `Absent` comes exactly where no file has that name.
     fn open(&mut self, name: &str) -> Result<(), OpenFault>
         ensures sound { IsMemHost self.old }
         ensures failed { IsErrOf result OpenFault.Failed ↔ IsFailing self.old.calls }
@@ -143,7 +143,7 @@ impl Host for MemHost {
         }
     }
 
-    /// Exactly a call that is to fail answers `Failed`, and any other is Ok. It takes as many bytes as it can.
+    /// `Failed` comes exactly where the call is to fail, and there is no other error. It moves as many bytes as it can.
     fn read(&mut self, buf: &mut [u8]) -> Result<usize, IoFault>
         requires room { 0 < length buf.old }
         requires open { self.old.state.reading ≡ true }
@@ -167,7 +167,7 @@ impl Host for MemHost {
         Ok(count)
     }
 
-    /// Exactly a call that is to fail answers `Failed`.
+    /// `Failed` comes exactly where the call is to fail.
     fn create(&mut self, name: &str) -> Result<(), IoFault>
         ensures sound { IsMemHost self.old }
         ensures failed { IsErrOf result IoFault.Failed ↔ IsFailing self.old.calls }
@@ -193,7 +193,7 @@ impl Host for MemHost {
         }
     }
 
-    /// Exactly a call that is to fail answers `Failed`. It appends as many bytes as it can.
+    /// `Failed` comes exactly where the call is to fail. It appends as many bytes as it can.
     fn write(&mut self, piece: &[u8]) -> Result<usize, IoFault>
         requires open { self.old.state.writing ≡ true }
         ensures sound { IsMemHost self.old }
@@ -219,7 +219,7 @@ impl Host for MemHost {
         }
     }
 
-    /// Exactly a call that is to fail answers `Failed`, and any other is Ok. It closes the output.
+    /// `Failed` comes exactly where the call is to fail, and there is no other error. It closes the output.
     fn finish(&mut self) -> Result<(), IoFault>
         requires open { self.old.state.writing ≡ true }
         ensures sound { IsMemHost self.old }

@@ -8,11 +8,10 @@ use goal_limits::NoMemory;
 use std::alloc::Global;
 use std::marker::Model;
 
-/// A sink in memory, whose calls fail where it was told so.
+/// A sink in memory, whose writes fail where its creator said so.
 ///
-/// A write moves as many bytes as it can, up to a number that is given. The writes are numbered from 1; those
-/// after number 2^64-1 have no number. The count starts at 0 and doesn't stop, since it is at most the number of
-/// the numbered calls.
+/// A write moves as many bytes as it can, up to `most`. The writes are numbered from 1; those after number 2^64-1 have
+/// no number. The count starts at 0 and does not stop, since it is at most the number of the numbered calls.
 #[derive(Drop)]
 pub struct MemSink {
     most: usize,
@@ -39,8 +38,8 @@ impl Model for MemSink {
 impl MemSink {
     ghost use Rattle.goal_base.specs.Memory.{new_sink};
 
-    /// A sink with no bytes, on which no call was made. Each write moves at most `most` bytes, and the calls whose
-    /// numbers stand in `fails` fail.
+    /// Creates a sink with no bytes. Each write moves at most `most` bytes, and the calls whose numbers are in `fails`
+    /// fail.
     pub fn new(alloc: Global, most: usize, fails: &[u64]) -> Result<MemSink, NoMemory>
         requires { 0 < most }
         ensures { IfOk result (λ sink. sink ≡ new_sink most fails.now) }
@@ -53,7 +52,7 @@ impl MemSink {
         })
     }
 
-    /// The bytes that were written.
+    /// Returns the bytes that were written.
     pub fn bytes(&self) -> &[u8]
         ensures { result.now ≡ self.now.state.bytes }
     {
@@ -66,7 +65,7 @@ impl Sink for MemSink {
 
     ghost state = { λ s. s.state };
 
-    /// Exactly a call that is to fail answers `Failed`. It appends as many bytes as it can.
+    /// `Failed` comes exactly where the call is to fail. It appends as many bytes as it can.
     fn write(&mut self, piece: &[u8]) -> Result<usize, IoFault>
         ensures sound { IsMemSink self.old }
         ensures failed { IsErrOf result IoFault.Failed ↔ IsFailing self.old.calls }

@@ -1,4 +1,4 @@
-//! Reading a file whole.
+//! Reading a whole file.
 ghost use Rattle.std.specs.Prelude.{◌≡◌, ◌⊎◌, ℕ, ◌+◌, ◌<◌, ◌≤◌, true, List, [], length, Some, OnOk, IfOk, IsErrOf};
 ghost use Rattle.goal_base.specs.Device.{Rose, SameRest, ReadsAtMost, IsTooLong, file_of, ReadFaulted};
 ghost use Rattle.goal_base.specs.DeviceCalls.{Takes, ReadsFile};
@@ -8,17 +8,17 @@ use crate::device::{Host, IoFault, OpenFault};
 use goal_limits::MAX_INPUT;
 use std::alloc::{AllocError, Global};
 
-// How many bytes are asked for at once.
+// The bytes asked for per call.
 const PIECE: usize = 16_384;
 
-/// Why a file was not read.
+/// Why a file was not read whole.
 #[derive(Clone, Copy, Debug, PartialEq, Eq)]
 pub enum ReadAll {
-    /// The host failed, or has no file of that name. It counts both.
+    /// The host failed, or no file has that name. It counts both.
     Fault,
     /// The file has more than 2^27 bytes.
     TooLong,
-    /// There was no memory left.
+    /// Out of memory.
     NoMemory,
 }
 
@@ -32,8 +32,8 @@ impl From<AllocError> for ReadAll {
 
 /// Opens a file and reads it to its end, or to 2^27+1 bytes. It changes no file and no output.
 ///
-/// `Fault` comes only where the read count rose, or the absent count rose for a name that isn't among the files
-/// that are told. No other answer comes where one of them rose.
+/// `Fault` comes only where the read count rose, or the absent count rose and no known file has that name. Any other
+/// result leaves both counts unchanged.
 pub fn read_all<H: Host>(alloc: Global, host: &mut H, name: &str) -> Result<Vec<u8>, ReadAll>
     ensures ok { IfOk result (λ bytes. (H.state host.old).tells ≡ true
         → file_of (H.state host.old) name.now ≡ Some bytes.items) }
@@ -43,7 +43,7 @@ pub fn read_all<H: Host>(alloc: Global, host: &mut H, name: &str) -> Result<Vec<
     ensures call { ReadsFile result (H.state host.old) (H.state host.new)
         (ReadFaulted (H.state host.old) (H.state host.new) name.now) }
 
-    // Nothing was taken from the input, or at most 2^27+1 bytes from the file.
+    // The input is unchanged, or at most 2^27+1 bytes of the file were read.
     ensures taken { SameRest (H.state host.old) (H.state host.new)
         ⊎ ReadsAtMost (H.state host.old) (H.state host.new) name.now (MAX_INPUT + 1) }
     ensures reading { OnOk result ((H.state host.new).reading ≡ true) }
@@ -57,7 +57,7 @@ pub fn read_all<H: Host>(alloc: Global, host: &mut H, name: &str) -> Result<Vec<
     }
 }
 
-// Reads the open input to its end, or to 2^27+1 bytes.
+// Reads the open input to its end, or to 2^27+1 bytes of it.
 fn read_rest<H: Host>(alloc: Global, host: &mut H) -> Result<Vec<u8>, ReadAll>
     requires open { (H.state host.old).reading ≡ true }
 

@@ -6,7 +6,7 @@ use itoa::Buffer;
 use std::alloc::Global;
 use std::marker::Model;
 
-/// A text in memory, which grows at its end. Contracts see it as its bytes.
+/// A text in memory that grows at its end. Contracts see its bytes.
 #[derive(Drop)]
 pub struct TextOut {
     bytes: Vec<u8>,
@@ -24,7 +24,7 @@ impl TextOut {
     ghost use Rattle.std.specs.Prelude.{ℕ, List};
     ghost use Rattle.goal_base.specs.Text.{pair_text, time_text};
 
-    /// An empty text. It takes no memory.
+    /// Creates an empty text, without memory.
     pub fn new(alloc: Global) -> TextOut
         ensures { result ≡ [] }
     {
@@ -33,7 +33,7 @@ impl TextOut {
         }
     }
 
-    /// An empty text with room for so many bytes: it takes no more memory before it has more.
+    /// Creates an empty text with room for `bytes` bytes: until it is longer, it needs no further memory.
     pub fn with_room(alloc: Global, bytes: usize) -> Result<TextOut, NoMemory>
         ensures { IfOk result (λ text. text ≡ []) }
     {
@@ -42,8 +42,9 @@ impl TextOut {
         })
     }
 
-    /// Makes room for a line of so many bytes behind the lines that stand in an array, and says where it begins. Where
-    /// there is too little, they are appended to the text, and it begins the array.
+    /// Makes room for a line of `line` bytes after the first `end` bytes of an array of lines, and returns where the
+    /// line begins. If the array has too little room, those bytes are appended to the text, and the line begins the
+    /// array.
     #[inline(always)]
     pub fn room_for(&mut self, line: usize, lines: &[u8], end: usize) -> Result<usize, NoMemory>
         requires some { line ≤ length lines.now }
@@ -58,7 +59,7 @@ impl TextOut {
         Ok(0)
     }
 
-    /// Appends a word. The text is as it was where there was no memory left.
+    /// Appends a word. On `NoMemory` the text is unchanged.
     #[inline(always)]
     pub fn word(&mut self, text: &str) -> Result<(), NoMemory>
         ensures ok { OnOk result (self.new ≡ self.old ++ text.now) }
@@ -68,7 +69,7 @@ impl TextOut {
         Ok(())
     }
 
-    /// Appends a piece of text. The text is as it was where there was no memory left.
+    /// Appends a piece of text. On `NoMemory` the text is unchanged.
     pub fn piece(&mut self, piece: &[u8]) -> Result<(), NoMemory>
         ensures ok { OnOk result (self.new ≡ self.old ++ piece.now) }
         ensures err { OnErr result (self.new ≡ self.old) }
@@ -77,7 +78,7 @@ impl TextOut {
         Ok(())
     }
 
-    /// Appends a number in decimal. The text is as it was where there was no memory left.
+    /// Appends a number in decimal. On `NoMemory` the text is unchanged.
     pub fn number(&mut self, n: u128) -> Result<(), NoMemory>
         ensures ok { OnOk result (self.new ≡ self.old ++ decimal n) }
         ensures err { OnErr result (self.new ≡ self.old) }
@@ -86,7 +87,7 @@ impl TextOut {
         self.word(buffer.format(n))
     }
 
-    // Appends two numbers with a blank between. At `Err` a part of them may stand at the end.
+    // Appends two numbers with a blank between them. On `NoMemory` a part of them may have been appended.
     fn put_pair(&mut self, first: u32, second: u32) -> Result<(), NoMemory>
         ensures ok { OnOk result (self.new ≡ self.old ++ pair_text first second) }
         ensures err { OnErr result ((part : List ℕ) × (self.new ≡ self.old ++ part)) }
@@ -96,8 +97,8 @@ impl TextOut {
         self.number(u128::from(second))
     }
 
-    /// Appends two numbers with a blank between, as the rank and the number of an operation. The text is as it was where
-    /// there was no memory left.
+    /// Appends two numbers with a blank between them, such as the rank and the number of an operation. On `NoMemory`
+    /// the text is unchanged.
     pub fn pair(&mut self, first: u32, second: u32) -> Result<(), NoMemory>
         ensures ok { OnOk result (self.new ≡ self.old ++ pair_text first second) }
         ensures err { OnErr result (self.new ≡ self.old) }
@@ -112,8 +113,7 @@ impl TextOut {
         }
     }
 
-    /// Appends a time in nanoseconds, or a dash where there is none. The text is as it was where there was no memory
-    /// left.
+    /// Appends a time in nanoseconds, or a dash for `None`. On `NoMemory` the text is unchanged.
     pub fn time(&mut self, time: Option<u64>) -> Result<(), NoMemory>
         ensures ok { OnOk result (self.new ≡ self.old ++ time_text time) }
         ensures err { OnErr result (self.new ≡ self.old) }
@@ -124,7 +124,7 @@ impl TextOut {
         }
     }
 
-    /// The bytes of the text.
+    /// Returns the bytes of the text.
     pub fn into_bytes(self) -> Vec<u8>
         ensures { result.items ≡ self }
     {

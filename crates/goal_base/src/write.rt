@@ -1,4 +1,4 @@
-//! Writing a piece whole.
+//! Writing a whole piece.
 ghost use Rattle.std.specs.Prelude.{◌≡◌, ◌<◌, length, take, OnOk, IfErr};
 ghost use Rattle.goal_base.specs.Device.{Grows};
 ghost use Rattle.goal_base.specs.DeviceCalls.{CallsSink, stop_reason};
@@ -8,14 +8,15 @@ use crate::device::{IoFault, Sink};
 /// Where a piece was cut off, and why.
 #[derive(Clone, Copy, Debug, PartialEq, Eq)]
 pub struct WriteStop {
-    /// How many of the piece's bytes were written: fewer than it has.
+    /// The number of the piece's bytes that were written: fewer than it has.
     pub done: u64,
-    /// What the sink answered then.
+    /// The fault of the sink that ended it.
     pub why: IoFault,
 }
 
-/// Appends a piece to a sink. Where it stops, the first `done` bytes were appended, and `Failed` is the reason only
-/// where the sink's count rose.
+/// Appends a piece to a sink. On `Err` its first `done` bytes were appended.
+///
+/// `Failed` comes only where the sink's count rose; any other result leaves it unchanged.
 pub fn write_all<S: Sink>(sink: &mut S, piece: &[u8]) -> Result<(), WriteStop>
     ensures ok { OnOk result (Grows (S.state sink.old) (S.state sink.new) piece.now) }
     ensures short { IfErr result (λ stop. stop.done < length piece.now) }

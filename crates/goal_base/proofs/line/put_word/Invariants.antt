@@ -1,6 +1,6 @@
 use Rattle.std.proofs.Common.{◌≡◌, ◌+◌, ◌++◌, take}
 use Rattle.goal_base.proofs.line.put_word.Given as goal
 
--- the bytes of the word so far stand behind what was there
+-- the word's bytes so far follow what the line held before `at`
 abbrev pub invariant-loop-place : goal.invariant-loop-place
 invariant-loop-place l = take (l.at + l.place) l.line ≡ take l.at l.initial.line ++ take l.place l.word
