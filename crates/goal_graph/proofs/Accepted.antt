@@ -1,4 +1,4 @@
--- What holds of accepted plans.
+-- Properties of accepted plans.
 use Rattle.std.proofs.Common.{◌≡◌, List, length, get_or, Some, None, true, refl, sym, ◌∙◌, subst}
 use Rattle.std.proofs.lemmas.Option.{same_Some}
 use Rattle.goal_graph.specs.declared.action.OpId.{OpId}
@@ -8,11 +8,11 @@ use Rattle.goal_graph.specs.Fault.{IsOp, plain_fault, value_fits, has_peer}
 use Rattle.goal_graph.proofs.Plain.{plain-op}
 use Rattle.goal_graph.proofs.Places.{no_plan, IsOp-located, op_at-located}
 
--- an operation that is found exists
+-- an operation that a lookup finds exists
 pub IsOp-from_op_at : (plans : List Plan) (x : OpId) (o : Op) → op_at plans x ≡ Some o → IsOp plans x
 IsOp-from_op_at plans x o found = rw found refl
 
--- it stands in its rank's list
+-- an operation is in its rank's list
 op_at-read : (plans : List Plan) (x : OpId) (o : Op) (found : op_at plans x ≡ Some o) → o ≡ get_or (get_or plans x.rank no_plan).ops x.op o
 op_at-read plans x o found =
     same_Some o (get_or (get_or plans x.rank no_plan).ops x.op o) (sym found ∙ op_at-located plans x (IsOp-located plans x (IsOp-from_op_at plans x o found)) no_plan o)

@@ -1,4 +1,4 @@
--- When two operations or actions are equal, and what has happened after one more action.
+-- When two operations or actions are equal, and what has happened after another action.
 use Rattle.std.proofs.Common.{◌≡◌, ℕ, zero, suc, Bool, true, false, ◌⊎◌, inl, inr, List, [], ◌∷◌, refl, sym, ap, ◌∙◌, subst}
 use Rattle.std.proofs.lemmas.Bool.{and_parts, and_from, or_cases, or_left, or_right, eqb-true, cases_Bool, both_ways, false_from_ne_true}
 use Rattle.std.proofs.Common.{eq-eqb}
@@ -107,14 +107,14 @@ pub happened_not : (c : Class) (x : OpId) (a : Act) (h : List Act) → happened 
 happened_not c x a h p q =
     false_from_ne_true _ (λ t. elim (happened_cases c x a h t) [ inl r ↦ both_ways _ p r | inr r ↦ both_ways _ q r ])
 
--- what has not happened after a newer action had not happened before it
+-- what has not happened after a newer action has not happened before it
 pub happened_before : (c : Class) (x : OpId) (a : Act) (h : List Act) → happened c x (a ∷ h) ≡ false → happened c x h ≡ false
 happened_before c x a h p = false_from_ne_true _ (λ t. both_ways _ p (happened_stays c x a h t))
 
 pub is_act_not : (c : Class) (x : OpId) (a : Act) (h : List Act) → happened c x (a ∷ h) ≡ false → is_act c x a ≡ false
 is_act_not c x a h p = false_from_ne_true _ (λ t. both_ways _ p (happened_new c x a h t))
 
--- other actions leave it as it was
+-- other actions do not change whether it has happened
 pub happened_other : (c : Class) (x : OpId) (a : Act) (h : List Act) → is_act c x a ≡ false → happened c x (a ∷ h) ≡ happened c x h
 happened_other c x a h q =
     elim (cases_Bool (happened c x h)) [ inl t ↦ happened_stays c x a h t ∙ sym t | inr f ↦ happened_not c x a h f q ∙ sym f ]

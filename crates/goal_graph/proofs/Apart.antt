@@ -1,5 +1,5 @@
--- Where a send fits at most one receive, and a receive at most one send: who has met is paired, and complete
--- interleavings start and end alike.
+-- Where a send fits at most one receive, and a receive at most one send: operations that have met are paired, and
+-- complete interleavings start and end the same operations.
 use Rattle.std.proofs.Common.{⊎_elim, ◌≡◌, ◌↔◌, ◌⊎◌, inl, inr, Bool, true, List, [], ◌∷◌, Some, refl, ap, sym, ◌∙◌, subst}
 use Rattle.std.specs.List.{list_all}
 use Rattle.std.proofs.lemmas.Bool.{both_ways, cases_Bool, and_parts, and_from}
@@ -31,12 +31,12 @@ started_from : (plans : List Plan) {c : Class} (w : List Act) (x : OpId) → fir
 started_from plans w x k e = subst (λ (c : Class). happened c x w ≡ true) (sym k) e
 
 module _ (plans : List Plan) (apart : IsApart plans) where
-  -- one of the two has the other for its partner
+  -- one of the two has the other as its partner
   one_has : (h : List Act) (m x : OpId) → HaveMet plans h m x → (partner (pairs plans h) m ≡ Some x) ⊎ (partner (pairs plans h) x ≡ Some m)
   one_has h m x met =
       ⊎_elim (λ p. let with = cases_some (partner (pairs plans h) m) p in inl (with.1 ∙ ap (λ (y : OpId). Some y) (apart.one_receive m with.0 x (partner_of_send plans h m with.0 (fits_send plans x m met.fit) with.1).fit met.fit))) (λ p. let with = cases_some (partner (pairs plans h) x) p in inr (with.1 ∙ ap (λ (n : OpId). Some n) (apart.one_send x with.0 m (partner_of_receive plans h x with.0 (fits_receive plans x m met.fit) with.1).fit met.fit))) (never_both_wait plans h m x met)
 
-  -- who has met is paired
+  -- operations that have met are paired
   pub met_partners : (eager : OpId → Bool) (h : List Act) (m x : OpId) → IsInterleaving plans eager h → HaveMet plans h m x → (partner (pairs plans h) m ≡ Some x) × (partner (pairs plans h) x ≡ Some m)
   met_partners eager h m x i met =
       ⊎_elim (λ e. (e, partners_mutual plans eager h m x i e)) (λ e. (partners_mutual plans eager h x m i e, e)) (one_has h m x met)
@@ -46,7 +46,7 @@ module _ (plans : List Plan) (apart : IsApart plans) where
       (λ p. partner_of_send plans h m x p.1 p.0, λ met. ((met_partners eager h m x i met).0, fits_send plans x m met.fit))
 
   module _ (eager fewer : OpId → Bool) (less : (m : OpId) → fewer m ≡ true → eager m ≡ true) (h : List Act) (done : IsCompleteInterleaving plans eager h) where
-    -- that action of x has happened in h; the bytes of a send may have gone out with its Begin there
+    -- that action of x has happened in h; an eager send transfers its data when it begins
     abbrev IsReached : Class → OpId → Type 0
     IsReached Data m = has_ended plans eager m h ≡ true
     IsReached Arrive m = happened Arrive m h ≡ true

@@ -1,4 +1,4 @@
--- Operations of a rank that need only lesser numbers, or only greater ones, have depths: their numbers, or how many follow.
+-- Operations of a rank that need only lesser numbers, or only greater ones, have depths.
 use Rattle.std.proofs.Common.{◌≡◌, ℕ, zero, suc, ◌+◌, ◌<◌, ◌≤◌, eqb, Bool, true, false, List, [], ◌∷◌, All, length, get_or, map, filter, None, refl, arith}
 use Rattle.std.specs.Prelude.{if◌then◌else◌}
 use Rattle.std.specs.List.{list_all}

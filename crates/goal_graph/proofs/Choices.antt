@@ -1,4 +1,4 @@
--- Tests of numbers, and of numbers or any, and their orders.
+-- Equality tests and orders of numbers and of optional numbers.
 use Rattle.std.proofs.Common.{ℕ, ◌≡◌, ◌==◌, nat_lt, Bool, true, false, cond, Option, Some, None, refl, sym, ap, arith, eq-eqb}
 use Rattle.std.specs.declared.cmp.Ordering.TheVariants.{Less, Equal, Greater}
 use Rattle.std.specs.Ordering.{nat_cmp, is_eq}
@@ -13,7 +13,7 @@ eqb-swapped m n = go (n == m) refl
     go true e = eq-eqb m n (sym (eqb-true n m e))
     go false e = false_from_ne_true (m == n) (λ t. both_ways (n == m) e (eq-eqb n m (sym (eqb-true m n t))))
 
--- numbers and choices are equal by their order exactly where they are the same
+-- numbers and choices compare as equal exactly if they are the same
 pub alike_numbers : (m n : ℕ) → is_eq (nat_cmp m n) ≡ (m == n)
 alike_numbers m n = go (nat_lt m n) (m == n) refl refl
   where

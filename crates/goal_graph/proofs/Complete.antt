@@ -1,4 +1,4 @@
--- What has happened where nothing is left to happen, and why an operation has no end there.
+-- What has happened after a complete interleaving, and why an operation has not ended by then.
 use Rattle.std.proofs.Common.{⊎_elim, ◌≡◌, ◌≢◌, ◌⊎◌, inl, inr, not, Bool, true, false, List, Option, Some, None, sym, ◌∙◌, subst}
 use Rattle.std.proofs.lemmas.Bool.{both_ways, cases_Bool, and_cases, and_from, or_left, or_right, not-false, not_from_false, false_from_ne_true}
 use Rattle.goal_graph.specs.declared.action.OpId.{OpId}
@@ -27,13 +27,13 @@ module _ (plans : List Plan) (eager : OpId → Bool) where
   unstarted_unended h x i e =
       false_from_ne_true _ (λ t. both_ways _ e (ended_started plans eager h x i t))
 
-  -- an operation whose awaited moment is not there has not ended
+  -- an operation with an unmet need has not ended
   pub unmet_unended : (h : List Act) (w : When) (y : OpId) → IsInterleaving plans eager h → is_met plans eager h w y ≡ false → has_ended plans eager y h ≡ false
   unmet_unended h AfterEnd y i e = e
   unmet_unended h AfterStart y i e = unstarted_unended h y i e
 
   module _ (h : List Act) (done : IsCompleteInterleaving plans eager h) where
-    -- what may happen has happened
+    -- what could happen has happened
     pub has_happened : (c : Class) (x : OpId) → may plans eager h c x (kind_at plans x) ≡ true → happened c x h ≡ true
     unfolding allowed
     has_happened c x e =
@@ -58,12 +58,12 @@ module _ (plans : List Plan) (eager : OpId → Bool) where
     ready_receive_posted x k r =
         has_happened Post x (subst (λ (k : Option Kind). may plans eager h Post x k ≡ true) (sym k.kind) r)
 
-    -- a large send that is paired has handed over its bytes
+    -- a rendezvous send that is paired has transferred its data
     pub paired_send_data : (m : OpId) → IsSend plans m → eager m ≡ false → is_paired (pairs plans h) m ≡ true → happened Data m h ≡ true
     paired_send_data m k large p =
         has_happened Data m (subst (λ (k : Option Kind). may plans eager h Data m k ≡ true) (sym k.kind) (and_from _ _ (not_from_false _ large) p))
 
-    -- the message of a receive that is paired is there
+    -- the message of a paired receive is there
     pub paired_message : (x m : OpId) → IsReceive plans x → partner (pairs plans h) x ≡ Some m → is_served plans eager h (partner (pairs plans h) x) ≡ true
     paired_message x m k p =
         let met = partner_of_receive plans h x m k p in
@@ -80,17 +80,17 @@ module _ (plans : List Plan) (eager : OpId → Bool) where
         let with = cases_some (partner (pairs plans h) m) p in
         elim (cases_Bool (eager m)) [ inl t ↦ ended_eager plans eager h m k t ∙ arrived_begun plans eager h m done.each (partner_of_send plans h m with.0 k with.1).arrived | inr f ↦ ended_large plans eager h m k f ∙ paired_send_data m k f p ]
 
-    -- what is paired has ended
+    -- every paired operation has ended
     pub paired_ended : (x : OpId) → is_paired (pairs plans h) x ≡ true → has_ended plans eager x h ≡ true
     paired_ended x p =
         let with = cases_some (partner (pairs plans h) x) p in
         elim (partners_met plans h x with.0 with.1) [ inl met ↦ paired_send_ended x (fits_send plans with.0 x met.fit) p | inr met ↦ ended_receive plans eager h x (fits_receive plans x with.0 met.fit) ∙ paired_receive_served x (fits_receive plans x with.0 met.fit) p ]
 
-    -- what has no end is not paired
+    -- an operation that has not ended is not paired
     pub unended_unpaired : (x : OpId) → has_ended plans eager x h ≡ false → is_paired (pairs plans h) x ≡ false
     unended_unpaired x e = false_from_ne_true _ (λ t. both_ways _ e (paired_ended x t))
 
-    -- an operation that is ready and has no end is a large send or a receive that waits for a partner
+    -- a ready operation that has not ended is a rendezvous send or a receive that waits for a partner
     pub ready_waits : (x : OpId) → (kind_at plans x ≢ None) → is_ready plans eager h x ≡ true → has_ended plans eager x h ≡ false → IsWaitingSend plans eager h x ⊎ IsWaitingReceive plans h x
     ready_waits x present r e = go (cases_kind plans x)
       where
@@ -105,7 +105,7 @@ module _ (plans : List Plan) (eager : OpId → Bool) where
         go (receive k) =
             inr (record { is_receive = k; posted = ready_receive_posted x k r; unpaired = free })
 
-    -- whoever is paired with y is not x, where x is not paired
+    -- the partner of y is not x, if x is not paired
     taken_from : (x y : OpId) → is_paired (pairs plans h) x ≡ false → is_paired (pairs plans h) y ≡ true → IsTaken plans h y x
     taken_from x y free p =
         let with = cases_some (partner (pairs plans h) y) p in
@@ -126,7 +126,7 @@ module _ (plans : List Plan) (eager : OpId → Bool) where
     sends_taken x m posted free f =
         elim (cases_Bool (has_started plans m h)) [ inr e ↦ inl e | inl e ↦ inr (taken_from x m free (⊎_elim (λ p. p) (λ p. absurd (both_ways _ free p)) (never_both_wait plans h m x (record { arrived = begun_send_arrived m (fits_send plans x m f) (sym (started_send plans h m (fits_send plans x m f)) ∙ e); posted = posted; fit = f })))) ]
 
-    -- where x is ready and has no end, each operation that fits it has not started, or has another partner
+    -- where x is ready and has not ended, each operation that fits it has not started, or has another partner
     pub fitting_taken : (x y : OpId) → is_ready plans eager h x ≡ true → has_ended plans eager x h ≡ false → ((fits plans x y ≡ true) ⊎ (fits plans y x ≡ true)) → (has_started plans y h ≡ false) ⊎ IsTaken plans h y x
     fitting_taken x y r e (inl f) =
         sends_taken x y (ready_receive_posted x (fits_receive plans x y f) r) (unended_unpaired x e) f

@@ -24,7 +24,7 @@ is_among-append (x ∷ xs) ys op = go (eqb x op) (is_among-append xs ys op)
     go true e = refl
     go false e = e
 
--- one more at the end
+-- another one at the end
 pub is_among-push : (xs : List ℕ) (x op : ℕ) → is_among (xs ++ x ∷ []) op ≡ (is_among xs op || eqb x op)
 unfolding is_among
 is_among-push xs x op = is_among-append xs (x ∷ []) op ∙ ap (λ b. is_among xs op || b) (or-false (eqb x op))
@@ -34,7 +34,7 @@ unfolding count_of
 count_of-push [] d op = omega arith
 count_of-push (e ∷ ds) d op = omega (arith, count_of-push ds d op)
 
--- an operation that is newly finished takes its needs off
+-- finishing an operation subtracts its needs
 pub unfinished-push : (done : List ℕ) (e : ℕ) (ds : List Need) → is_among done e ≡ false → unfinished (done ++ e ∷ []) ds + count_of ds e ≡ unfinished done ds
 unfolding unfinished count_of
 unfinished-push done e [] fresh = refl
@@ -52,7 +52,7 @@ unfolding unfinished is_among
 unfinished-nil [] = refl
 unfinished-nil (d ∷ ds) = omega (arith, unfinished-nil ds)
 
--- one more dependency
+-- another dependency
 count_of-row : (listing : Listing) (d : Dep) (deps : List Dep) (op x : ℕ) → count_of (row listing (d ∷ deps) op) x ≡ (if eqb (owner listing d) op then (if eqb (entry listing d).op x then 1 else 0) else 0) + count_of (row listing deps op) x
 unfolding row count_of
 count_of-row listing d deps op x = go (eqb (owner listing d) op) (filter (λ (d : Dep). eqb (owner listing d) op) deps)
@@ -71,14 +71,14 @@ count_of-none : (later earlier : ℕ) → count_of (row WaitingOn [] earlier) la
 unfolding row count_of
 count_of-none later earlier = refl
 
--- a need of one operation is one that waits on another
+-- a need of one operation is a dependency that waits on another
 pub count_of-rows : (deps : List Dep) (later earlier : ℕ) → count_of (row WaitingOn deps earlier) later ≡ count_of (row Needs deps later) earlier
 count_of-rows [] later earlier = count_of-none later earlier
 count_of-rows (d ∷ deps) later earlier =
     rw (count_of-row WaitingOn d deps earlier later, count_of-row Needs d deps later earlier, count_of-rows deps later earlier)
     (ap (λ n. n + count_of (row Needs deps later) earlier) (both (eqb d.earlier earlier) (eqb d.later later)))
 
--- a part of the needs has at most as many of an operation
+-- a part of a list of needs names an operation at most as often as the whole list
 pub count_of-take-le : (ds : List Need) (k op : ℕ) → count_of (take k ds) op ≤ count_of ds op
 unfolding count_of
 count_of-take-le [] zero op = omega arith
@@ -90,7 +90,7 @@ pub count_of-nil : (op : ℕ) → count_of [] op ≡ 0
 unfolding count_of
 count_of-nil op = refl
 
--- what is among them stands at some place
+-- a member of the list has a place in it
 pub is_among-found : (xs : List ℕ) (op : ℕ) → is_among xs op ≡ true → (k : ℕ) × (k < length xs) × (get_or xs k 0 ≡ op)
 unfolding is_among
 is_among-found [] op h = absurd (false≢true h)
@@ -100,14 +100,14 @@ is_among-found (x ∷ xs) op h = go (cases_eq x op) (is_among-found xs op)
     go (inl same) rest = (0, omega arith, same)
     go (inr other) rest = let r = rest (rw (ne-eqb x op other) at h) in (suc r.0, omega (arith, r.1), r.2)
 
--- what is above all of them is not among them
+-- a number above all in the list is not a member
 pub is_among-above : (xs : List ℕ) (op : ℕ) → ((k : ℕ) → k < length xs → get_or xs k 0 < op) → is_among xs op ≡ false
 unfolding is_among
 is_among-above [] op below = refl
 is_among-above (x ∷ xs) op below =
     rw (ne-eqb x op (λ same. omega (arith, below 0 (omega arith)))) (is_among-above xs op (λ k inside. below (suc k) (omega arith)))
 
--- how many dependencies stand in the rows of the operations before n
+-- the number of dependencies in the rows of the operations before n
 pub listed_before : Listing → List Dep → ℕ → ℕ
 listed_before listing deps n = count_by (λ (d : Dep). ltb (owner listing d) n) deps
 
@@ -136,7 +136,7 @@ counts_more listing (d ∷ deps) n =
     let up_to = sum_by-cons (λ (e : Dep). if ltb (owner listing e) (n + 1) then 1 else 0) d deps in
     omega (arith, at, before, up_to, below_more (owner listing d) n, counts_more listing deps n)
 
--- one more row
+-- another row
 pub listed_before-more : (listing : Listing) (deps : List Dep) (n : ℕ) → listed_before listing deps (n + 1) ≡ listed_before listing deps n + length (row listing deps n)
 unfolding row
 listed_before-more listing deps n =

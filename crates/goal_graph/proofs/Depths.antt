@@ -10,7 +10,7 @@ use Rattle.goal_graph.specs.Search.{op_id, is_among, unfinished}
 use Rattle.goal_graph.proofs.Numbers.{and_left, and_right}
 use Rattle.std.proofs.Math.Bool.{and-false}
 
--- a weaker test passes where a stronger one does
+-- a weaker test passes wherever a stronger one does
 pub list_all-mono : {A : Type 0} (p q : A → Bool) → ((x : A) → p x ≡ true → q x ≡ true) → (xs : List A) → list_all p xs ≡ true → list_all q xs ≡ true
 list_all-mono p q weaker [] h = refl
 list_all-mono p q weaker (x ∷ xs) h = go (p x) refl (list_all-mono p q weaker xs)
@@ -20,7 +20,7 @@ list_all-mono p q weaker (x ∷ xs) h = go (p x) refl (list_all-mono p q weaker 
     go false fails rest = absurd (false≢true (rw fails at h))
 
 module _ (plans : List Plan) where
-  -- a bound of a depth stays one where it grows
+  -- a bound of a depth stays a bound when it grows
   pub is_below-suc : (n : ℕ) (x : OpId) → is_below plans n x ≡ true → is_below plans (suc n) x ≡ true
   unfolding is_below
   is_below-suc zero x h = absurd (false≢true h)
@@ -38,7 +38,7 @@ module _ (plans : List Plan) where
       rw e (is_below-add (m - n) n x h)
 
   module _ (rank : ℕ) (done : List ℕ) where
-    -- needs of finished operations, which have depths, have a common bound
+    -- needs that name finished operations, which have depths, have a common bound
     each_below : (ds : List Need) → ((op : ℕ) → is_among done op ≡ true → HasDepth plans (op_id rank op)) → unfinished done ds ≡ 0 → (n : ℕ) × (list_all (λ (d : Need). is_below plans n (op_id rank d.op)) ds ≡ true)
     unfolding unfinished
     each_below [] deep none = (0, refl)
@@ -63,7 +63,7 @@ module _ (plans : List Plan) where
         record { bound = suc r.0; below = r.1 }
 
     module _ (ops : ℕ) where
-      -- one need of an operation without a bound is enough
+      -- an unbounded need is enough for an operation to be unbounded
       blocked_list : (b : ℕ) → ((op : ℕ) → op < ops → is_among done op ≡ false → is_below plans b (op_id rank op) ≡ false) → (ds : List Need) → list_all (λ (d : Need). ltb d.op ops) ds ≡ true → 0 < unfinished done ds → list_all (λ (d : Need). is_below plans b (op_id rank d.op)) ds ≡ false
       unfolding unfinished
       blocked_list b stuck [] in_range some = absurd (omega arith)
@@ -73,7 +73,7 @@ module _ (plans : List Plan) where
           go true here rest = rw (rest (omega (arith, rw here at some))) (and-false (is_below plans b (op_id rank d.op)))
           go false absent rest = rw (stuck d.op (ltb-true _ _ (and_left _ _ in_range)) absent) refl
 
-      -- operations that each need another one of them have no depth
+      -- operations each of which needs another of them have no depth
       pub blocked : ((op : ℕ) → op < ops → is_among done op ≡ false → 0 < unfinished done (needs plans (op_id rank op))) → ((op : ℕ) → list_all (λ (d : Need). ltb d.op ops) (needs plans (op_id rank op)) ≡ true) → (b op : ℕ) → op < ops → is_among done op ≡ false → is_below plans b (op_id rank op) ≡ false
       unfolding is_below
       blocked some in_range zero op inside absent = refl

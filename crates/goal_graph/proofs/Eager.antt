@@ -1,4 +1,4 @@
--- What is eager counts at the sends of a schedule alone.
+-- Only at the sends of a schedule does it matter what is eager.
 use Rattle.std.proofs.Common.{◌≡◌, ◌↔◌, ◌&&◌, Bool, not, List, [], ◌∷◌, Option, Some, None, refl, ap, sym, ◌∙◌}
 use Rattle.std.specs.List.{list_all}
 use Rattle.goal_graph.specs.declared.action.OpId.{OpId}

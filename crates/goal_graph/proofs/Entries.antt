@@ -22,7 +22,7 @@ pub same_tables : {X Y : Type 0} (f g : X → Y) (xs : List X) → ((i : ℕ) (x
 same_tables f g [] same = refl
 same_tables f g (x ∷ xs) same = ap₂ (λ y ys. y ∷ ys) (same 0 x refl) (same_tables f g xs (λ i y e. same (suc i) y e))
 
--- one entry is written, and the others stay
+-- one entry is replaced, and the others stay
 pub written_table : {X Y : Type 0} (f g : X → Y) (xs : List X) (j : ℕ) (y : X) → slice_get xs j ≡ Some y → ((i : ℕ) (x : X) → slice_get xs i ≡ Some x → i ≢ j → f x ≡ g x) → set (map f xs) j (g y) ≡ map g xs
 written_table f g [] j y e same = refl
 written_table f g (x ∷ xs) zero y e same =
@@ -30,7 +30,7 @@ written_table f g (x ∷ xs) zero y e same =
 written_table f g (x ∷ xs) (suc j) y e same =
     ap₂ (λ z zs. z ∷ zs) (same 0 x refl (omega arith)) (written_table f g xs j y e (λ i z s d. same (suc i) z s (omega arith)))
 
--- an operation stands at one place
+-- an operation has one place
 pub one_place : (plans : List Plan) (i j : ℕ) (x : OpId) → slice_get (operations plans) i ≡ Some x → slice_get (operations plans) j ≡ Some x → i ≡ j
 one_place plans i j x e f = elim (cases_order i j) [ inl same ↦ same | inr (inl l) ↦ absurd (go i j l e f) | inr (inr l) ↦ absurd (go j i l f e) ]
   where
@@ -50,11 +50,11 @@ pub replicated_table : {X Y : Type 0} (f : X → Y) (v : Y) (xs : List X) → ((
 replicated_table f v [] same = refl
 replicated_table f v (x ∷ xs) same = ap₂ (λ y ys. y ∷ ys) (sym (same x)) (replicated_table f v xs same)
 
--- the operations, and as many entries as were asked for
+-- the operations, with one entry for each
 pub fresh_table : {Y : Type 0} (f : OpId → Y) (v : Y) (xs : List OpId) (n : ℕ) (ys : List Y) → n ≡ length xs → ys ≡ replicate n v → ((x : OpId) → f x ≡ v) → ys ≡ map f xs
 fresh_table f v xs n ys e made same = made ∙ ap (λ k. replicate k v) e ∙ replicated_table f v xs same
 
--- the entry of an operation is written
+-- the entry of an operation is replaced
 pub written_entry : {E : Type 0} (plans : List Plan) (j : ℕ) (y : OpId) (v : E) (f : OpId → E) → slice_get (operations plans) j ≡ Some y → set (map f (operations plans)) j v ≡ map (with_entry y v f) (operations plans)
 written_entry plans j y v f e =
     ap (set (map f (operations plans)) j) (sym (cond-true (same_op y y) v (f y) (same_op_itself y))) ∙ written_table f (with_entry y v f) (operations plans) j y e (λ i x s d. sym (cond-false (same_op x y) v (f x) (not_same x (other_place plans i j x y s e d))))
@@ -62,7 +62,7 @@ written_entry plans j y v f e =
     not_same : (x : OpId) → x ≢ y → same_op x y ≡ false
     not_same x d = false_from_ne_true (same_op x y) (λ t. d (same_op_true x y t))
 
--- the entry that is written, and the others
+-- the replaced entry, and the others
 pub at_entry : {E : Type 0} (y : OpId) (e : E) (f : OpId → E) (x : OpId) → x ≡ y → with_entry y e f x ≡ e
 at_entry y e f x s = cond-true _ _ _ (same_op_from x y s)
 

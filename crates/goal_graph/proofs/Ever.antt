@@ -1,4 +1,4 @@
--- What held when an action was allowed, and stays, holds ever after.
+-- What was so when an action was allowed, and stays so, is so ever after.
 use Rattle.std.proofs.Common.{◌≡◌, Bool, true, List, [], ◌∷◌, inl, inr, subst}
 use Rattle.std.proofs.lemmas.Bool.{both_ways}
 use Rattle.goal_graph.specs.declared.action.OpId.{OpId}

@@ -1,4 +1,4 @@
--- Which operations there are: `operations` lists each once, by rank and number.
+-- Which operations exist: `operations` lists each once, by rank and number.
 use Rattle.std.proofs.Common.{ℕ, zero, suc, ◌+◌, ◌<◌, ◌≡◌, ◌≢◌, ◌↔◌, Bool, true, false, inl, inr, List, [], ◌∷◌, ◌++◌, length, Option, Some, None, All, AllPairs, Contains, sum_by, slice_get, refl, ap, sym, ◌∙◌, subst, ap₂, arith, length-append, is_some}
 use Rattle.std.specs.Option.{option_map, option_and_then}
 use Rattle.std.proofs.lemmas.Bool.{both_ways}
@@ -23,7 +23,7 @@ use Rattle.goal_graph.proofs.Places.{length-places_of_rank}
 abbrev pub at : ℕ → ℕ → OpId
 at rank op = record { rank = rank; op = op }
 
--- an operation that stands at a place
+-- an operation that exists
 pub record IsAt (plans : List Plan) (x : OpId) : Type 0 where
   pub op : Op
   pub is : op_at plans x ≡ Some op
@@ -49,7 +49,7 @@ listed_from base (q ∷ plans) (suc r) k p o e f =
     let same : (base + 1) + r ≡ base + suc r = omega arith in
     subst (λ (n : ℕ). Contains (places_of_rank base 0 q.ops ++ places_from (base + 1) plans) (at n k)) same (Contains-append_right (places_of_rank base 0 q.ops) (places_from (base + 1) plans) (at ((base + 1) + r) k) (listed_from (base + 1) plans r k p o e f))
 
--- what stands at a place, by its rank's plan
+-- the operation at a place, by its rank's plan
 op_parts : (plans : List Plan) (x : OpId) (o : Op) → op_at plans x ≡ Some o → (p : Plan) × (slice_get plans x.rank ≡ Some p) × (slice_get p.ops x.op ≡ Some o)
 unfolding op_at
 op_parts plans x o e = go (slice_get plans x.rank) refl e
@@ -125,7 +125,7 @@ places base (p ∷ ps) =
     the_number : (y : OpId) (a : IsPlaceOfRank base 0 p.ops y) → y.op ≡ a.number
     the_number y a = omega (arith, a.place)
 
--- what is listed is an operation
+-- what is listed exists
 pub listed_op : (plans : List Plan) (x : OpId) → Contains (operations plans) x → IsAt plans x
 listed_op plans x c =
     let place = All-contains (IsPlaceFrom 0 plans) (places_from 0 plans) x (places 0 plans) c in
@@ -139,13 +139,13 @@ pub at_kind : (plans : List Plan) (x : OpId) (o : Op) → op_at plans x ≡ Some
 unfolding kind_at
 at_kind plans x o e = ap (option_map (λ (o : Op). o.kind)) e
 
--- what is listed is of some kind
+-- what is listed has a kind
 pub listed_kind : (plans : List Plan) (x : OpId) → Contains (operations plans) x → kind_at plans x ≢ None
 listed_kind plans x c none =
     let a = listed_op plans x c in
     none-some a.op.kind (sym none ∙ at_kind plans x a.op a.is)
 
--- the operations are the places at which there is one
+-- the operations are the places that have an operation
 pub listed_places : (plans : List Plan) (x : OpId) → Contains (operations plans) x ↔ (is_some (op_at plans x) ≡ true)
 listed_places plans x =
     (λ c. let a = listed_op plans x c in is_some_from (op_at plans x) a.op a.is, λ e. let o = cases_some (op_at plans x) e in op_listed plans x (record { op = o.0; is = o.1 }))
@@ -162,7 +162,7 @@ places_in_order base [] = λ i j d l b. absurd (omega arith)
 places_in_order base (p ∷ ps) =
     rank_in_order base 0 p.ops (places_from (base + 1) ps) (All-weaker (IsPlaceFrom (base + 1) ps) (λ (y : OpId). base < y.rank) (λ y a. omega (arith, a.rank)) (places_from (base + 1) ps) (places (base + 1) ps)) (places_in_order (base + 1) ps)
 
--- the operations stand by rank, then by number
+-- the operations are in order of rank, then of number
 pub operations_in_order : (plans : List Plan) → AllPairs IsBefore (operations plans)
 operations_in_order plans = places_in_order 0 plans
 
@@ -170,7 +170,7 @@ earlier_differ : (x y : OpId) → IsBefore x y → x ≢ y
 earlier_differ x y (inl l) e = omega (arith, l, ap (λ (z : OpId). z.rank) e)
 earlier_differ x y (inr l) e = omega (arith, l.1, ap (λ (z : OpId). z.op) e)
 
--- none is listed twice
+-- no operation is listed twice
 pub operations_differ : (plans : List Plan) → AllPairs (λ (x y : OpId). x ≢ y) (operations plans)
 operations_differ plans i j d l b =
     earlier_differ _ _ (operations_in_order plans i j d l b)
@@ -181,6 +181,6 @@ length-places_from base [] = refl
 length-places_from base (p ∷ ps) =
     length-append (places_of_rank base 0 p.ops) (places_from (base + 1) ps) ∙ ap₂ (λ (m n : ℕ). m + n) (length-places_of_rank base 0 p.ops) (length-places_from (base + 1) ps) ∙ sym (sum_by-cons (λ (p : Plan). length p.ops) p ps)
 
--- how many there are
+-- the number of operations
 pub length-operations : (plans : List Plan) → length (operations plans) ≡ sum_by (λ (p : Plan). length p.ops) plans
 length-operations plans = length-places_from 0 plans

@@ -1,4 +1,4 @@
--- There is at most one first fault, and none where the plans are accepted.
+-- There is at most one first fault, and none if the plans are accepted.
 use Rattle.std.proofs.Common.{◌≡◌, ltb, List, length, get_or, None, All, sym, ap, ◌∙◌, inl, inr}
 use Rattle.std.proofs.lemmas.Option.{none-some, same_Some}
 use Rattle.std.proofs.lemmas.List.Sums.{AllPass-from_list_all}
@@ -14,7 +14,7 @@ use Rattle.goal_graph.proofs.Places.{no_plan, IsOp-located, IsOp-below}
 use Rattle.goal_graph.proofs.Ranges.{needs-in_range, waiting_on-in_range}
 use Rattle.std.proofs.lemmas.Bool.{ltb-true}
 
--- there is one first operation without a depth
+-- there is at most one first operation without a depth
 pub IsFirstCycle-unique : (plans : List Plan) (x y : OpId) → IsFirstCycle plans x → IsFirstCycle plans y → x ≡ y
 IsFirstCycle-unique plans x y a b = elim (before_cases x y) [
   | inl earlier ↦ absurd (a.cyclic (b.first x a.exists earlier))
@@ -38,7 +38,7 @@ pub IsAccepted-no_fault : (plans : List Plan) (f : PlanFault) → IsAccepted pla
 IsAccepted-no_fault plans f accepted (inl a) = none-some f (sym accepted.plain ∙ a)
 IsAccepted-no_fault plans f accepted (inr a) = a.1.first.cyclic (accepted.depths a.1.op a.1.first.exists)
 
--- what an operation needs exists, and so does what waits on it
+-- what an operation needs exists, and so does what needs it
 pub needs-exist : (plans : List Plan) (x : OpId) → plain_fault plans ≡ None → IsOp plans x → All (λ (d : Need). IsOp plans (needed x d)) (needs plans x)
 needs-exist plans x plain is_op k d inside =
     let located = IsOp-located plans x is_op in

@@ -1,4 +1,4 @@
--- The lemmas of this crate that upper crates cite: they import this file alone.
+-- The lemmas that upper crates may use: they import this file alone.
 pub use Rattle.goal_graph.proofs.Lists.{all_none, all_one, contains_first, contains_mapped, contains_more, contains_source, find_agree, find_all, get_last, whole_back}
 pub use Rattle.goal_graph.proofs.Actions.{act_of, cases_op, find_class, happened_before, happened_cases, happened_new, happened_none, happened_not, happened_now, happened_other, happened_stays, is_act_class, is_act_from, is_act_op, place_same, same_op_false, same_op_from, same_op_itself, same_op_swapped, same_op_true}
 pub use Rattle.goal_graph.proofs.Persist.{allowed_stays, cases_some, ended_stays, is_some_from, paired_stays, partner_stays, started_stays}

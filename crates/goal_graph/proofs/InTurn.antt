@@ -1,4 +1,4 @@
--- A list built newest first, and the same list read oldest first: each item stands in its turn after those before it.
+-- A list built newest first, and the same list read oldest first: what holds of each item and those before it.
 use Rattle.std.proofs.Common.{ℕ, zero, suc, ◌<◌, ◌≡◌, List, [], ◌∷◌, ◌++◌, length, take, reverse, slice_get, Some, inl, inr, refl, sym, ap, ◌∙◌, subst, arith, length-append}
 use Rattle.std.proofs.lemmas.Bool.{cases_order}
 use Rattle.std.proofs.lemmas.List.{take-append-le, reverse-reverse}
@@ -12,13 +12,13 @@ slice_get_kept [] y k lt = absurd (omega arith)
 slice_get_kept (x ∷ xs) y zero lt = refl
 slice_get_kept (x ∷ xs) y (suc k) lt = slice_get_kept xs y k (omega arith)
 
--- `Next h a`: a may stand after h, of which the newest comes first
+-- `Next h a`: a may follow h, which is newest first
 module _ {A : Type 0} (Next : List A → A → Type 0) where
-  -- in a list, oldest first, each may stand after those before it
+  -- in a list, oldest first, each item may follow those before it
   abbrev pub InTurn : List A → Type 0
   InTurn trace = (k : ℕ) (a : A) → slice_get trace k ≡ Some a → Next (reverse (take k trace)) a
 
-  -- one more at the end
+  -- another item at the end
   in_turn_more : (t : List A) (a : A) → InTurn t → Next (reverse t) a → InTurn (t ++ a ∷ [])
   in_turn_more t a each next k b e =
       elim (cases_order k (length t)) [ inl s ↦ at_end s | inr (inl lt) ↦ before lt | inr (inr gt) ↦ past gt ]
@@ -48,7 +48,7 @@ module _ {A : Type 0} (Next : List A → A → Type 0) where
       last =
           subst (λ l. Next (reverse l) a) (take-append_seam t (a ∷ [])) (each (length t) a (get_last t a))
 
-  -- `Run h`: each of h might stand after those before it
+  -- `Run h`: each item of h may follow those before it
   module _ (Run : List A → Type 0) (none : Run []) (more : (a : A) (h : List A) → Run h → Next h a → Run (a ∷ h)) (parts : (a : A) (h : List A) → Run (a ∷ h) → Run h × Next h a) where
     pub run_in_turn : (h : List A) → Run h → InTurn (reverse h)
     run_in_turn [] r = λ k b e. absurd (cc e)

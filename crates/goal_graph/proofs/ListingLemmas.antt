@@ -25,7 +25,7 @@ pub places_of_rank-more : (rank i : ℕ) (ops : List Op) → i < length ops → 
 unfolding places_of_rank
 places_of_rank-more rank i ops h = rw (drop-cons ops i no_op h, add-one) refl
 
--- what is listed, and then what is left, stays the same as one more is listed
+-- what is listed together with what is left stays the same as another operation is listed
 pub one_more_listed : (rank i : ℕ) (ops : List Op) (ids whole : List OpId) → i < length ops → ids ++ places_of_rank rank i (drop i ops) ≡ whole → (ids ++ record { rank = rank; op = i } ∷ []) ++ places_of_rank rank (i + 1) (drop (i + 1) ops) ≡ whole
 one_more_listed rank i ops ids whole h e =
     append_assoc ids (record { rank = rank; op = i } ∷ []) (places_of_rank rank (i + 1) (drop (i + 1) ops)) ∙ ap (λ (xs : List OpId). ids ++ xs) (sym (places_of_rank-more rank i ops h)) ∙ e
@@ -38,7 +38,7 @@ pub places_from-nil : (rank : ℕ) → places_from rank [] ≡ []
 unfolding places_from
 places_from-nil rank = refl
 
--- the same for one more rank
+-- the same for another rank
 pub places_from-more : (i : ℕ) (plans : List Plan) → i < length plans → places_from i (drop i plans) ≡ places_of_rank i 0 (get_or plans i no_plan).ops ++ places_from (i + 1) (drop (i + 1) plans)
 unfolding places_from
 places_from-more i plans h = rw (drop-cons plans i no_plan h, add-one) refl

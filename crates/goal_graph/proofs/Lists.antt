@@ -37,19 +37,19 @@ contains_mapped f (y ∷ xs) x (zero, b, e) = contains_first (f y) (map f xs) (f
 contains_mapped f (y ∷ xs) x (suc k, b, e) =
     contains_more (f y) (map f xs) (f x) (contains_mapped f xs x (k, omega (arith, b), e))
 
--- tests that agree find the same
+-- tests that agree find the same item
 pub find_agree : {X : Type 0} (p q : X → Bool) → ((x : X) → p x ≡ q x) → (xs : List X) → find p xs ≡ find q xs
 find_agree p q agree [] = refl
 find_agree {X} p q agree (y ∷ ys) =
     ap (λ (b : Bool). cond b (Some y) (find p ys)) (agree y) ∙ ap (λ (o : Option X). cond (q y) (Some y) o) (find_agree p q agree ys)
 
--- what holds of each element holds of the one that is found
+-- what holds of each element holds of the one found
 pub find_all : {X : Type 0} (P : X → Type 0) (p : X → Bool) (xs : List X) (z : X) → All P xs → find p xs ≡ Some z → P z
 find_all P p [] z each e = absurd (none-some z e)
 find_all P p (y ∷ ys) z each e =
     elim (cases_Bool (p y)) [ inl t ↦ subst P (same_Some y z (sym (cond-true (p y) (Some y) (find p ys) t) ∙ e)) (All-head P y ys each) | inr f ↦ find_all P p ys z (All-tail P y ys each) (sym (cond-false (p y) (Some y) (find p ys) f) ∙ e) ]
 
--- lists of none and of one
+-- lists of no item and of one
 pub all_none : {X : Type 0} (P : X → Type 0) → All P []
 all_none P k d l = absurd (omega (arith, l))
 
@@ -57,7 +57,7 @@ pub all_one : {X : Type 0} (P : X → Type 0) (x : X) → P x → All P (x ∷ [
 all_one P x p zero d l = p
 all_one P x p (suc k) d l = absurd (omega (arith, l))
 
--- a list that was lent whole and comes back
+-- a list that was borrowed whole
 pub whole_back : {X : Type 0} (n : ℕ) (xs ys : List X) → length xs ≡ length ys → n ≡ length ys → take n (xs ++ drop (length xs) ys) ≡ xs
 whole_back {X} n xs ys long all =
     let rest : drop (length xs) ys ≡ [] = drop_all (length xs) ys (omega (arith, long)) in

@@ -1,4 +1,4 @@
--- What has happened and what is paired, said as membership in a list.
+-- What has happened and what is paired, stated as membership in a list.
 use Rattle.std.proofs.Common.{⊎_elim, zero, suc, ◌≡◌, ◌↔◌, ◌⊎◌, inl, inr, Bool, true, false, List, [], ◌∷◌, Some, Contains, ap, arith}
 use Rattle.std.proofs.lemmas.Bool.{both_ways}
 use Rattle.std.proofs.lemmas.List.Sums.{AllPass-from_list_all}
@@ -27,7 +27,7 @@ member_happened c x (a ∷ h) (zero, b, e) =
 member_happened c x (a ∷ h) (suc k, b, e) =
     happened_stays c x a h (member_happened c x h (k, omega (arith, b), e))
 
--- what has happened after one more action
+-- what has happened after another action
 pub happened_one_more : (c : Class) (x : OpId) (a : Act) (h : List Act) → (happened c x (a ∷ h) ≡ true) ↔ ((happened c x h ≡ true) ⊎ (a ≡ act_of c x))
 happened_one_more c x a h =
     (λ e. ⊎_elim (λ was. inl was) (λ now. inr (is_act_true c x a now)) (happened_cases c x a h e), λ e. ⊎_elim (λ was. happened_stays c x a h was) (λ now. happened_new c x a h (is_act_from c x a (ap (λ (a : Act). a.class) now) (ap (λ (a : Act). a.op) now))) e)
@@ -42,7 +42,7 @@ member_listed p [] (k, b, e) = absurd (omega (arith, b))
 member_listed p (q ∷ ps) (zero, b, e) = inl e
 member_listed p (q ∷ ps) (suc k, b, e) = inr (member_listed p ps (k, omega (arith, b), e))
 
--- partners stand in a pair
+-- partners are in a pair
 pub partner_member : (ps : List Pair) (x y : OpId) → partner ps x ≡ Some y → Contains ps (pair_of x y) ⊎ Contains ps (pair_of y x)
 partner_member ps x y e =
     ⊎_elim (λ l. inl (listed_member (pair_of x y) ps l)) (λ l. inr (listed_member (pair_of y x) ps l)) (partner_listed ps x y e)
@@ -54,12 +54,12 @@ module _ (plans : List Plan) (eager : OpId → Bool) where
   ready_need h x d r c =
       All-contains (λ (d : Need). is_met plans eager h d.when (needed x d) ≡ true) (needs plans x) d (AllPass-from_list_all (λ (d : Need). is_met plans eager h d.when (needed x d)) (needs plans x) r) c
 
-  -- where an operation is not ready, some need of it is not met
+  -- where an operation is not ready, one of its needs is not met
   pub unready_need : (h : List Act) (x : OpId) → is_ready plans eager h x ≡ false → (d : Need) × Contains (needs plans x) d × (is_met plans eager h d.when (needed x d) ≡ false)
   unfolding is_ready
   unready_need h x r = some_fails (λ (d : Need). is_met plans eager h d.when (needed x d)) (needs plans x) r
 
-  -- two pairs that share the send or the receive are one pair
+  -- two pairs that share the send or the receive are the same
   pub one_pair : (h : List Act) (p q : Pair) → IsInterleaving plans eager h → Contains (pairs plans h) p → Contains (pairs plans h) q → ((p.send ≡ q.send) ⊎ (p.recv ≡ q.recv)) → p ≡ q
   one_pair h p q i l k (inl e) =
       one_send plans eager h p q i (member_listed p (pairs plans h) l) (member_listed q (pairs plans h) k) e

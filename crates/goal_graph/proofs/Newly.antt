@@ -1,4 +1,4 @@
--- What an action newly allows: actions of its own operation, of its partner, and of those that need it.
+-- What an action newly allows: actions of its operation, of its partner, and of those that need it.
 use Rattle.std.proofs.Common.{⊎_elim, ◌≡◌, ◌==◌, ◌||◌, ◌⊎◌, ◌+◌, ◌<◌, ◌≤◌, ℕ, zero, suc, Bool, true, false, cond, List, [], ◌∷◌, Contains, length, drop, get_or, filter, map, Option, Some, None, inl, inr, is_some, refl, sym, ap, ◌∙◌, subst, arith, eq-eqb}
 use Rattle.std.proofs.lemmas.List.{drop_more, drop_all}
 use Rattle.std.proofs.lemmas.Bool.{and_parts, and_from, or_cases, or_left, or_right, cases_Bool, both_ways, eqb-true}
@@ -39,7 +39,7 @@ IsNamed ws op = (w : Need) × Contains ws w × (w.op ≡ op)
 named_more : (v : Need) (ws : List Need) (op : ℕ) → IsNamed ws op → IsNamed (v ∷ ws) op
 named_more v ws op n = (n.0, contains_more v ws n.0 n.1, n.2)
 
--- a dependency is listed at its earlier side as at its later side
+-- a dependency is listed for its earlier side as for its later side
 waiting_in : (ds : List Dep) (later earlier : ℕ) (d : Need) → Contains (map earlier_of (filter (is_later later) ds)) d → d.op ≡ earlier → IsNamed (map later_of (filter (is_earlier earlier) ds)) later
 waiting_in [] later earlier d c e = absurd (omega (arith, c.1))
 waiting_in (p ∷ ds) later earlier d c e =
@@ -54,7 +54,7 @@ waiting_in (p ∷ ds) later earlier d c e =
     go more true l true f (suc n, k, g) = named_more (later_of p) _ later (more (n, omega (arith, k), g))
     go more true l false f (suc n, k, g) = more (n, omega (arith, k), g)
 
--- what x needs, x waits for
+-- x is among those that wait for what x needs
 waits_from : (plans : List Plan) (x y : OpId) (d : Need) → Contains (needs plans x) d → y ≡ needed x d → Waits plans y x
 unfolding needs waiting_on
 waits_from plans x y d c e =
@@ -127,7 +127,7 @@ module _ (plans : List Plan) (eager : OpId → Bool) (a : Act) (h : List Act) (n
   newly_may Serve x (Some (Recv room from tag)) e = newly_served x e
   newly_may _ x _ e = absurd (both_ways false refl e)
 
-  -- an action that a newly allows is one of an operation that it concerns
+  -- an action that `a` newly allows belongs to an operation that `a` concerns
   pub newly_allowed : (c : Class) (x : OpId) → allowed plans eager (a ∷ h) c x ≡ true → (allowed plans eager h c x ≡ true) ⊎ MayConcern x
   newly_allowed c x e =
       let before = happened_before c x a h (allowed_fresh plans eager (a ∷ h) c x e) in
@@ -138,7 +138,7 @@ pub partner_exists : (plans : List Plan) (h : List Act) (x y : OpId) → partner
 partner_exists plans h x y e =
     elim (partners_met plans h x y e) [ inl met ↦ receive_is_op plans y (fits_receive plans y x met.fit) | inr met ↦ send_is_op plans y (fits_send plans x y met.fit) ]
 
--- those of a list that are not yet read
+-- the part of a list that is not yet read
 pub still_left : {X : Type 0} (xs : List X) (k : ℕ) (d y : X) → k < length xs → Contains (drop k xs) y → ¬ (y ≡ get_or xs k d) → Contains (drop (k + 1) xs) y
 still_left xs k d y l left differ = go (subst (λ ds. Contains ds y) (drop_more xs k d l) left)
   where

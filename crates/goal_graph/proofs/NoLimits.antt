@@ -1,4 +1,4 @@
--- Plans that keep the limits of counts and values break none of the rules that tell of these limits.
+-- Plans within the limits of counts and values break none of the rules about these limits.
 use Rattle.std.proofs.Common.{◌≡◌, ℕ, ◌+◌, ◌<◌, ◌≤◌, Bool, true, false, cond, eqb, Option, Some, None, List, [], ◌∷◌, length, get_or, refl, sym, ap, subst, arith, inl, inr}
 use Rattle.std.specs.List.{AllByRecursion}
 use Rattle.std.specs.Option.{option_or}
@@ -13,7 +13,7 @@ use Rattle.goal_graph.specs.Schedule.{Plan}
 use Rattle.goal_graph.specs.Fault.{op_count, dep_count, note_count, count_over, count_fault, has_peer, dep_in_range, note_fits, op_fault, dep_fault, note_fault, first_fault, rank_fault, plain_fault, IsFault}
 use Rattle.goal_graph.specs.Limits.{HasValue, HaveValues, AreWithinLimits, IsLimitRule, AreCountsWithin}
 
--- no fault that is told so is of a limit
+-- no fault found in this way is about a limit
 abbrev IsOther : Option PlanFault → Type 0
 IsOther told = (f : PlanFault) → told ≡ Some f → IsLimitRule f → ⊥
 

@@ -1,4 +1,4 @@
--- Small facts on tests.
+-- Small facts about tests.
 use Rattle.std.proofs.Common.{◌≡◌, ℕ, ◌&&◌, eqb, Bool, true, false, refl, inl, inr}
 use Rattle.std.proofs.lemmas.Bool.Decides.{eqb_tells}
 

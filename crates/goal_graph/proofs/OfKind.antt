@@ -24,7 +24,7 @@ send_is_op plans x s = op_of_kind plans x _ s.kind
 pub receive_is_op : (plans : List Plan) (x : OpId) → IsReceive plans x → IsOp plans x
 receive_is_op plans x r = op_of_kind plans x _ r.kind
 
--- an operation is one whose number is below that of all of its rank
+-- an operation exists if its number is below the number of operations of its rank
 pub is_op_below : (plans : List Plan) (x : OpId) → x.op < length (ops_at plans x.rank) → IsOp plans x
 unfolding op_at ops_at
 is_op_below plans x inside = go (slice_get plans x.rank) inside

@@ -1,4 +1,4 @@
--- Each action happens at most once, an operation goes through at most three, and how many are left.
+-- Each action happens at most once, each operation has at most three, and how many are left.
 use Rattle.std.proofs.Common.{ℕ, ◌+◌, ◌*◌, ◌≤◌, ◌≡◌, ◌⊎◌, inl, inr, not, Bool, true, false, List, [], ◌∷◌, length, Option, Some, None, Contains, count_by, refl, arith, sym, ◌∙◌, subst}
 use Rattle.std.proofs.lemmas.Bool.{both_ways, cases_Bool, and_parts, and_from, and_right, not-true, not_from_true, not_from_false}
 use Rattle.std.proofs.lemmas.List.Sums.{sum_by-le}
@@ -56,7 +56,7 @@ module _ (plans : List Plan) where
   unfolding left_of
   left_of_stays a h x = count_le (is_left plans h x) (is_left plans (a ∷ h) x) classes (left_before a h x)
 
-  -- an operation goes through at most three actions
+  -- an operation has at most three actions
   pub left_of_three : (h : List Act) (x : OpId) → left_of plans h x ≤ 3
   unfolding left_of
   left_of_three h x =
@@ -68,7 +68,7 @@ module _ (plans : List Plan) where
   left_three_each h =
       sum_by-le (left_of plans h) 3 (operations plans) (λ k d b. left_of_three h _)
 
-  -- at most three actions an operation are left
+  -- at most three actions per operation are left
   pub left_bound : (h : List Act) → left plans h ≤ 3 * length (operations plans)
   left_bound h = omega (arith, left_three_each h)
 
@@ -79,25 +79,25 @@ module _ (plans : List Plan) where
     once_more a h c x (inr other) fresh before =
         subst (λ (n : ℕ). n ≤ 1) (sym (count_no (is_act c x) a h other)) before
 
-    -- each class of action happens at most once an operation
+    -- each class of action happens at most once per operation
     pub happens_once : (h : List Act) (c : Class) (x : OpId) → IsInterleaving plans eager h → count_by (is_act c x) h ≤ 1
     happens_once [] c x i = omega arith
     happens_once (a ∷ h) c x i =
         once_more a h c x (cases_Bool (is_act c x a)) (λ e. allowed_fresh plans eager h c x (newest_allowed plans eager c x a h i e)) (happens_once h c x i.0)
 
-    -- with an allowed action one less is left of its operation
+    -- an allowed action leaves its operation one action fewer
     pub left_of_falls : (a : Act) (h : List Act) → allowed plans eager h a.class a.op ≡ true → left_of plans (a ∷ h) a.op + 1 ≤ left_of plans h a.op
     unfolding left_of
     left_of_falls a h e =
         count_falls (is_left plans h a.op) (is_left plans (a ∷ h) a.op) classes a.class (class_listed a.class) (left_before a h a.op) (and_right _ _ (not_from_true _ (happened_now a h))) (and_from _ _ (has_class_may plans eager h a.class a.op (kind_at plans a.op) (allowed_may plans eager h a.class a.op e)) (not_from_false _ (allowed_fresh plans eager h a.class a.op e)))
 
-    -- with an allowed action one less is left in all
+    -- an allowed action leaves one action fewer in all
     pub left_falls : (a : Act) (h : List Act) → allowed plans eager h a.class a.op ≡ true → left plans (a ∷ h) + 1 ≤ left plans h
     unfolding left
     left_falls a h e =
         sum_falls (left_of plans h) (left_of plans (a ∷ h)) 1 (operations plans) a.op (allowed_listed plans eager h a.class a.op e) (left_of_stays a h) (left_of_falls a h e)
 
-    -- what has happened and what is left
+    -- how many have happened and how many are left
     pub happened_and_left : (h : List Act) → IsInterleaving plans eager h → length h + left plans h ≤ 3 * length (operations plans)
     happened_and_left [] i = omega (arith, left_bound [])
     happened_and_left (a ∷ h) i =
@@ -105,7 +105,7 @@ module _ (plans : List Plan) where
         let falls = left_falls a h i.1 in
         omega (arith, before, falls)
 
-    -- at most three actions an operation, in all
+    -- at most three actions per operation, in all
     pub at_most_three_each : (h : List Act) → IsInterleaving plans eager h → length h ≤ 3 * length (operations plans)
     at_most_three_each h i = omega (arith, happened_and_left h i)
 

@@ -16,7 +16,7 @@ use Rattle.goal_graph.proofs.Partners.{partner_of_send, partner_of_receive}
 use Rattle.goal_graph.proofs.Stages.{served_paired}
 
 module _ (plans : List Plan) (eager : OpId → Bool) where
-  -- how far an operation is: the class of action that may come next, and what must not have happened yet
+  -- the stage of an operation: the class of action that may come next, and what must not have happened yet
   begin_post : (h : List Act) (x : OpId) → allowed plans eager h Begin x ≡ true → allowed plans eager h Post x ≡ true → ⊥
   begin_post h x b p =
       elim (allowed_begin plans eager h x b).0 [ inl calc ↦ not_receive_calc plans x (allowed_post plans eager h x p).0 calc | inr send ↦ not_send_receive plans x send (allowed_post plans eager h x p).0 ]
@@ -29,7 +29,7 @@ module _ (plans : List Plan) (eager : OpId → Bool) where
   begin_arrive h x b p =
       both_ways _ (allowed_fresh plans eager h Begin x b) (allowed_arrive plans eager h x p).1
 
-  -- a send that may hand over its bytes has arrived
+  -- a rendezvous send that may transfer its data has arrived
   data_after_arrive : (h : List Act) (x : OpId) → allowed plans eager h Data x ≡ true → happened Arrive x h ≡ true
   data_after_arrive h x d =
       let may_data = allowed_data plans eager h x d in

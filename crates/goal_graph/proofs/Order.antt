@@ -18,7 +18,7 @@ before_transitive x y z (inl p) (inr q) = inl (omega (arith, p, q.0))
 before_transitive x y z (inr p) (inl q) = inl (omega (arith, p.0, q))
 before_transitive x y z (inr p) (inr q) = inr (p.0 ∙ q.0, omega (arith, p.1, q.1))
 
--- of two operations one is before the other, or they are the same
+-- two different operations are in order one way or the other
 pub before_cases : (x y : OpId) → IsBefore x y ⊎ (IsBefore y x ⊎ (x ≡ y))
 before_cases x y = go (cases_order x.rank y.rank) (cases_order x.op y.op)
   where
@@ -43,7 +43,7 @@ less_transitive (a ∷ js) (b ∷ ks) (c ∷ ls) (inl p) (inr q) = inl (omega ar
 less_transitive (a ∷ js) (b ∷ ks) (c ∷ ls) (inr p) (inl q) = inl (omega arith)
 less_transitive (a ∷ js) (b ∷ ks) (c ∷ ls) (inr p) (inr q) = inr (omega arith, less_transitive js ks ls p.1 q.1)
 
--- two keys of one length are equal, or one is before the other
+-- two keys of one length are equal, or one is less than the other
 pub less_cases : (j k : List ℕ) → length j ≡ length k → (j ≡ k) ⊎ (IsLess j k ⊎ IsLess k j)
 less_cases [] [] e = inl refl
 less_cases [] (n ∷ ns) e = absurd (omega arith)
@@ -57,7 +57,7 @@ less_cases (m ∷ ms) (n ∷ ns) e = go (less_cases ms ns (omega arith)) (cases_
     go (inr (inl s)) (inl p) = inr (inl (inr (p, s)))
     go (inr (inr s)) (inl p) = inr (inr (inr (sym p, s)))
 
--- the test tells the order
+-- the test decides the order
 pub tested_less : (j k : List ℕ) → less j k ≡ true → IsLess j k
 unfolding less
 tested_less [] k e = absurd (cc)
@@ -83,7 +83,7 @@ same_timed a b p q r s = λ i. record { time = p i; class = q i; op = record { r
 pub key-injective : (a b : Timed) → key a ≡ key b → a ≡ b
 key-injective a b e = same_timed a b (cc) (place_same a.class b.class (cc)) (cc) (cc)
 
--- two actions are one, or one of their keys is before the other
+-- two actions are the same, or one of their keys is less than the other
 pub key_cases : (a b : Timed) → (a ≡ b) ⊎ (IsLess (key a) (key b) ⊎ IsLess (key b) (key a))
 key_cases a b = elim (less_cases (key a) (key b) refl) [ inl e ↦ inl (key-injective a b e) | inr s ↦ inr s ]
 

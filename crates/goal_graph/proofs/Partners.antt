@@ -1,4 +1,4 @@
--- Who is whose partner. Pairs are listed newest first.
+-- Partners and pairs. Pairs are listed newest first.
 use Rattle.std.proofs.Common.{⊎_elim, ◌≡◌, ◌==◌, Bool, true, false, not, ◌&&◌, ◌⊎◌, inl, inr, List, [], ◌∷◌, Option, Some, None, if◌then◌else◌, refl, ap, sym, ◌∙◌, subst, is_some}
 use Rattle.std.specs.Option.{option_or, option_map}
 use Rattle.std.proofs.lemmas.Option.{same_Some}
@@ -52,7 +52,7 @@ oldest_none test (a ∷ h) e c x p = go (λ q. oldest_none test h q c x) (oldest
     go before None q false r e =
         elim (happened_cases c x a h p) [ inl was ↦ before q was | inr now ↦ subst (λ (b : Act). test b ≡ false) (is_act_true c x a now) r ]
 
--- what a new pair is
+-- the two operations of a new pair
 pub record IsNew (plans : List Plan) (h : List Act) (a : Act) (p : Pair) : Type 0 where
   pub met : HaveMet plans (a ∷ h) p.send p.recv
   pub by : ((a ≡ act_of Arrive p.send) × (is_paired (pairs plans h) p.recv ≡ false)) ⊎ ((a ≡ act_of Post p.recv) × (is_paired (pairs plans h) p.send ≡ false))
@@ -100,7 +100,7 @@ module _ (plans : List Plan) where
       let p = send_passes ps x f.act f.passes in
       subst (λ (y : OpId). (happened Arrive y h ≡ true) × (is_paired ps y ≡ false) × (fits plans x y ≡ true)) f.op (subst (λ (c : Class). happened c f.act.op h ≡ true) p.0 f.happened, p.1, p.2)
 
-  -- what a new pair is
+  -- the two operations of a new pair
   pub new_pair_is : (a : Act) (h : List Act) (p : Pair) → new_pair plans (pairs plans h) h a.class a.op ≡ Some p → IsNew plans h a p
   new_pair_is a h p e = go a.class refl e
     where
@@ -140,7 +140,7 @@ listed_added p None ps l = inl l
 listed_added p (Some q) ps (inl e) = inr (ap (λ (q : Pair). Some q) e)
 listed_added p (Some q) ps (inr l) = inl l
 
--- a partner stands with it in a pair of the list
+-- an operation and its partner are in a pair of the list
 pub partner_listed : (ps : List Pair) (x y : OpId) → partner ps x ≡ Some y → IsListed (pair_of x y) ps ⊎ IsListed (pair_of y x) ps
 unfolding partner
 partner_listed [] x y e = absurd (cc e)
@@ -158,7 +158,7 @@ partner_listed (p ∷ ps) x y e = go (partner_listed ps x y) (partner ps x) refl
         inr (inl (λ i. record { send = send i; recv = recv i }))
     go before None q false u false v e = absurd (cc e)
 
--- a pair leaves the partners of others as they were
+-- a pair leaves the partners of others unchanged
 other_kept : (p : Pair) (ps : List Pair) (y : OpId) → same_op p.send y ≡ false → same_op p.recv y ≡ false → partner (p ∷ ps) y ≡ partner ps y
 unfolding partner
 other_kept p ps y s r = go (partner ps y) (same_op p.send y) s (same_op p.recv y) r
@@ -178,7 +178,7 @@ module _ (plans : List Plan) where
   unfolding pairs
   pairs_more p a h e = ap (λ (o : Option Pair). add_pair (pairs plans h) o) e
 
-  -- who have met have met ever after
+  -- operations that have met have met ever after
   pub have_met_stays : (a : Act) (h : List Act) (m x : OpId) → HaveMet plans h m x → HaveMet plans (a ∷ h) m x
   have_met_stays a h m x e = record {
     arrived = happened_stays Arrive m a h e.arrived;
@@ -195,17 +195,17 @@ module _ (plans : List Plan) where
   listed_met (a ∷ h) p l =
       elim (listed_cases p a h l) [ inl was ↦ have_met_stays a h p.send p.recv (listed_met h p was) | inr new ↦ (new_pair_is plans a h p new).met ]
 
-  -- one of two partners is a send that has arrived, the other a receive that is posted, and they fit
+  -- of two partners one is a send that has arrived, the other a posted receive, and they fit
   pub partners_met : (h : List Act) (x y : OpId) → partner (pairs plans h) x ≡ Some y → HaveMet plans h x y ⊎ HaveMet plans h y x
   partners_met h x y e =
       ⊎_elim (λ l. inl (listed_met h (pair_of x y) l)) (λ l. inr (listed_met h (pair_of y x) l)) (partner_listed (pairs plans h) x y e)
 
-  -- a send that is paired has arrived
+  -- a paired send has arrived
   pub partner_of_send : (h : List Act) (m x : OpId) → IsSend plans m → partner (pairs plans h) m ≡ Some x → HaveMet plans h m x
   partner_of_send h m x s e =
       elim (partners_met h m x e) [ inl met ↦ met | inr met ↦ absurd (not_send_receive plans m s (fits_receive plans m x met.fit)) ]
 
-  -- a receive that is paired is posted
+  -- a paired receive is posted
   pub partner_of_receive : (h : List Act) (x m : OpId) → IsReceive plans x → partner (pairs plans h) x ≡ Some m → HaveMet plans h m x
   partner_of_receive h x m r e =
       elim (partners_met h x m e) [ inl met ↦ absurd (not_send_receive plans x (fits_send plans m x met.fit) r) | inr met ↦ met ]
@@ -217,17 +217,17 @@ module _ (plans : List Plan) where
   pub partner_is_send : (h : List Act) (x m : OpId) → IsReceive plans x → partner (pairs plans h) x ≡ Some m → IsSend plans m
   partner_is_send h x m r e = fits_send plans x m (partner_of_receive h x m r e).fit
 
-  -- an action that makes no pair leaves the pairs as they were
+  -- an action that makes no pair leaves the pairs unchanged
   pub pairs_same : (a : Act) (h : List Act) → new_pair plans (pairs plans h) h a.class a.op ≡ None → pairs plans (a ∷ h) ≡ pairs plans h
   unfolding pairs
   pairs_same a h e = ap (λ (o : Option Pair). add_pair (pairs plans h) o) e
 
-  -- a new pair leaves the partners of all others as they were
+  -- a new pair leaves the partners of all others unchanged
   pub partner_other : (p : Pair) (a : Act) (h : List Act) (y : OpId) → new_pair plans (pairs plans h) h a.class a.op ≡ Some p → same_op p.send y ≡ false → same_op p.recv y ≡ false → partner (pairs plans (a ∷ h)) y ≡ partner (pairs plans h) y
   partner_other p a h y e s r =
       ap (λ (ps : List Pair). partner ps y) (pairs_more p a h e) ∙ other_kept p (pairs plans h) y s r
 
-  -- whom an action pairs is in its new pair
+  -- an operation that an action pairs is in its new pair
   pub newly_paired : (a : Act) (h : List Act) (x : OpId) → is_paired (pairs plans h) x ≡ false → is_paired (pairs plans (a ∷ h)) x ≡ true → (p : Pair) × (new_pair plans (pairs plans h) h a.class a.op ≡ Some p) × ((p.send ≡ x) ⊎ (p.recv ≡ x))
   newly_paired a h x free now =
       go (new_pair plans (pairs plans h) h a.class a.op) refl
@@ -238,7 +238,7 @@ module _ (plans : List Plan) where
       go (Some p) e =
           elim (cases_Bool (same_op p.send x)) [ inl s ↦ (p, e, inl (same_op_true p.send x s)) | inr s ↦ elim (cases_Bool (same_op p.recv x)) [ inl r ↦ (p, e, inr (same_op_true p.recv x r)) | inr r ↦ absurd (both_ways _ free (subst (λ (o : Option OpId). is_some o ≡ true) (partner_other p a h x e s r) now)) ] ]
 
-  -- who is in no pair of the list has no partner there
+  -- an operation in no pair of the list has no partner
   unpaired_from : (ps : List Pair) (x : OpId) → ((y : OpId) → partner ps x ≡ Some y → ⊥) → partner ps x ≡ None
   unpaired_from ps x never = go (partner ps x) refl
     where
@@ -259,7 +259,7 @@ module _ (plans : List Plan) where
   not_paired : (ps : List Pair) (x : OpId) → is_paired ps x ≡ false → partner ps x ≡ None
   not_paired ps x e = unpaired_from ps x (λ y p. both_ways _ e (is_some_from (partner ps x) y p))
 
-  -- a send and a receive that fit are two operations
+  -- a send and a receive that fit are different operations
   fit_differ : (x m : OpId) → fits plans x m ≡ true → same_op m x ≡ false
   fit_differ x m e =
       false_from_ne_true (same_op m x) (λ t. not_send_receive plans x (subst (λ (y : OpId). IsSend plans y) (same_op_true m x t) (fits_send plans x m e)) (fits_receive plans x m e))
@@ -281,7 +281,7 @@ module _ (plans : List Plan) where
       at_recv (Some y) e s q r u = absurd (cc e)
 
   module _ (eager : OpId → Bool) where
-    -- what a new pair joins had no partner before
+    -- the operations of a new pair had no partner before
     new_unpaired : (a : Act) (h : List Act) (p : Pair) → IsInterleaving plans eager (a ∷ h) → IsNew plans h a p → (partner (pairs plans h) p.send ≡ None) × (partner (pairs plans h) p.recv ≡ None)
     new_unpaired a h p i new = go new.by
       where
@@ -302,7 +302,7 @@ module _ (plans : List Plan) where
     listed_partners (a ∷ h) p i l =
         ⊎_elim (λ was. let before = listed_partners h p i.0 was in (partner_stays plans a h p.send p.recv before.0, partner_stays plans a h p.recv p.send before.1)) (λ made. let new = new_pair_is plans a h p made in let free = new_unpaired a h p i new in subst (λ (ps : List Pair). (partner ps p.send ≡ Some p.recv) × (partner ps p.recv ≡ Some p.send)) (sym (pairs_more p a h made)) (partners_now (pairs plans h) p free.0 free.1 (fit_differ p.recv p.send new.met.fit))) (listed_cases p a h l)
 
-    -- my partner's partner is me
+    -- the partner of the partner of x is x
     pub partners_mutual : (h : List Act) (x y : OpId) → IsInterleaving plans eager h → partner (pairs plans h) x ≡ Some y → partner (pairs plans h) y ≡ Some x
     partners_mutual h x y i e =
         ⊎_elim (λ l. (listed_partners h (pair_of x y) i l).1) (λ l. (listed_partners h (pair_of y x) i l).0) (partner_listed (pairs plans h) x y e)

@@ -1,4 +1,4 @@
--- What holds after some actions holds after one more.
+-- What holds after some actions holds after another.
 use Rattle.std.proofs.Common.{◌≡◌, Bool, true, false, ◌||◌, inl, inr, List, [], ◌∷◌, Option, Some, None, refl, sym, ◌∙◌, subst, is_some}
 use Rattle.std.specs.List.{list_all}
 use Rattle.std.specs.Option.{option_or}
@@ -33,7 +33,7 @@ partner_added None ps x y e = e
 partner_added (Some p) ps x y e = partner_more p ps x y e
 
 module _ (plans : List Plan) where
-  -- a partner once given stays
+  -- a partner stays the partner
   pub partner_stays : (a : Act) (h : List Act) (x y : OpId) → partner (pairs plans h) x ≡ Some y → partner (pairs plans (a ∷ h)) x ≡ Some y
   unfolding pairs
   partner_stays a h x y e = partner_added (new_pair plans (pairs plans h) h a.class a.op) (pairs plans h) x y e

@@ -1,4 +1,4 @@
--- Where each operation stands in the order of all.
+-- The place of each operation in the order of all.
 use Rattle.std.proofs.Common.{◌≡◌, ◌⊎◌, ℕ, zero, suc, ◌+◌, ◌<◌, ◌≤◌, List, [], ◌∷◌, ◌++◌, length, get_or, take, Some, is_some, slice_get, refl, sym, ap, ◌∙◌, subst, arith, inl, inr, add-zero, zero-add, length-append}
 use Rattle.std.specs.List.{sum_by}
 use Rattle.std.proofs.lemmas.Bool.{cases_lt, false≢true}
@@ -24,7 +24,7 @@ use Rattle.goal_graph.specs.Tables.{index_of, AreStarts}
 pub no_plan : Plan
 no_plan = record { ops = []; deps = []; notes = [] }
 
--- one more rank has so many operations more
+-- another rank adds its number of operations
 pub op_count-more : (plans : List Plan) (i : ℕ) (p : Plan) → i < length plans → op_count (take (i + 1) plans) ≡ op_count (take i plans) + length (get_or plans i p).ops
 unfolding op_count
 op_count-more plans i p inside = sum_by_more (λ (q : Plan). length q.ops) plans i p inside
@@ -49,7 +49,7 @@ pub op_count-nil : op_count [] ≡ 0
 unfolding op_count
 op_count-nil = refl
 
--- no rank
+-- no ranks
 pub AreStarts-nil : AreStarts [] (0 ∷ [])
 unfolding op_count
 AreStarts-nil = record { one_each = refl; start = go }
@@ -58,7 +58,7 @@ AreStarts-nil = record { one_each = refl; start = go }
     go zero in_range = sym op_count-nil
     go (suc rank) in_range = absurd (omega arith)
 
--- one more rank begins where the ranks before it end
+-- another rank begins where the ranks before it end
 pub AreStarts-more : (plans : List Plan) (i n : ℕ) (starts : List ℕ) → i < length plans → AreStarts (take i plans) starts → n ≡ op_count (take (i + 1) plans) → AreStarts (take (i + 1) plans) (starts ++ n ∷ [])
 AreStarts-more plans i n starts inside are at =
     let size = length-take-le i plans (omega arith) in
@@ -78,7 +78,7 @@ AreStarts-more plans i n starts inside are at =
         let e : rank ≡ i + 1 = omega arith in
         rw (e, take-take (i + 1) (i + 1) plans (omega arith)) (get_or_push starts n 0 (i + 1) (omega (arith, are.one_each)) ∙ at)
 
--- a rank has a row for each operation, and so have all ranks
+-- a rank has a row per operation, and so have all ranks
 pub length-rank_rows : (listing : Listing) (p : Plan) → length (rank_rows listing p) ≡ length p.ops
 unfolding rank_rows
 length-rank_rows listing p = length-map-range_with_len (row listing p.deps) 0 (length p.ops)
@@ -170,12 +170,12 @@ module _ (plans : List Plan) (x : OpId) (located : IsLocated plans x) where
   unfolding index_of op_count
   index_of-below = omega (arith, sum_by_more_le (λ (p : Plan). length p.ops) plans x.rank no_plan located.rank_in, located.op_in no_plan)
 
-  -- it is told by the first place of its rank
+  -- it is the first place of its rank plus its number
   pub index_of-starts : (starts : List ℕ) → AreStarts plans starts → index_of plans x ≡ get_or starts x.rank 0 + x.op
   unfolding index_of
   index_of-starts starts are = ap (λ n. n + x.op) (sym (are.start x.rank (omega (arith, located.rank_in))))
 
-  -- at that place stands its row
+  -- its row is at that place
   pub all_rows-at : (listing : Listing) → slice_get (all_rows listing plans) (index_of plans x) ≡ Some (row listing (deps_at plans x.rank) x.op)
   unfolding all_rows index_of
   all_rows-at listing =
@@ -187,7 +187,7 @@ module _ (plans : List Plan) (x : OpId) (located : IsLocated plans x) where
       slice_get-get_or (all_rows listing plans) (index_of plans x) [] below
       ∙ ap (λ r. Some r) (read ∙ rank_rows-at listing p x.op (located.op_in no_plan) ∙ ap (λ ds. row listing ds x.op) (sym (deps_at-located no_plan)))
 
-  -- and the operation itself, in the list of all
+  -- so is the operation, in the list of all
   pub operations-at : slice_get (operations plans) (index_of plans x) ≡ Some x
   unfolding index_of
   operations-at =
@@ -195,7 +195,7 @@ module _ (plans : List Plan) (x : OpId) (located : IsLocated plans x) where
       slice_get-get_or (operations plans) (index_of plans x) x below
       ∙ ap (λ y. Some y) (places_from-at 0 plans x.rank x.op x located.rank_in (located.op_in no_plan) ∙ ap (λ n. record { rank = n; op = x.op }) (zero-add x.rank))
 
--- what an operation needs is its row, and so is what waits on it
+-- what an operation needs is its row, and so is what needs it
 pub row-needs : (plans : List Plan) (x : OpId) → row Needs (deps_at plans x.rank) x.op ≡ needs plans x
 unfolding row needs
 row-needs plans x = refl
@@ -228,11 +228,11 @@ AreStarts-last plans starts are =
 no_op : Op
 no_op = record { kind = Calc 0; cpu = 0; nic = 0 }
 
--- what is located exists
+-- a located operation exists
 pub IsOp-from_located : (plans : List Plan) (x : OpId) → IsLocated plans x → IsOp plans x
 IsOp-from_located plans x located = ap is_some (op_at-located plans x located no_plan no_op)
 
--- so does each operation below the number of its rank's
+-- so does each number below the number of operations of its rank
 pub IsOp-below : (plans : List Plan) (x : OpId) → x.rank < length plans → x.op < length (get_or plans x.rank no_plan).ops → IsOp plans x
 IsOp-below plans x rank_in op_in =
     IsOp-from_located plans x (record { rank_in = rank_in; op_in = λ p. rw (get_or_default plans x.rank p no_plan rank_in) op_in })
@@ -240,12 +240,12 @@ IsOp-below plans x rank_in op_in =
 pub IsOp-in_rank : (plans : List Plan) (x : OpId) (p : Plan) → x.rank < length plans → x.op < length (get_or plans x.rank p).ops → IsOp plans x
 IsOp-in_rank plans x p rank_in op_in = IsOp-below plans x rank_in (rw (get_or_default plans x.rank no_plan p rank_in) op_in)
 
--- how many operations a rank has, as the code reads it
+-- the number of operations of a rank, as the code reads it
 pub rank_size : (plans read : List Plan) (rank : ℕ) (p : Plan) (n : ℕ) → read ≡ plans → rank < length plans → p ≡ get_or read rank p → n ≡ length p.ops → n ≡ length (get_or plans rank no_plan).ops
 rank_size plans read rank p n same inside at size =
     size ∙ ap (λ (q : Plan). length q.ops) (rw same at at ∙ get_or_default plans rank p no_plan inside)
 
--- one more rank has so many dependencies and notes more
+-- another rank adds its numbers of dependencies and notes
 pub dep_count-more : (plans : List Plan) (i : ℕ) (p : Plan) → i < length plans → dep_count (take (i + 1) plans) ≡ dep_count (take i plans) + length (get_or plans i p).deps
 unfolding dep_count
 dep_count-more plans i p inside = sum_by_more (λ (q : Plan). length q.deps) plans i p inside
@@ -258,7 +258,7 @@ pub note_count-more : (plans : List Plan) (i : ℕ) (p : Plan) → i < length pl
 unfolding note_count
 note_count-more plans i p inside = sum_by_more (λ (q : Plan). length q.notes) plans i p inside
 
--- each rank has at most as many as all together
+-- each rank has at most as many as all ranks together
 pub lengths-le : (plans : List Plan) (i : ℕ) (p : Plan) → i < length plans → record { ops : length (get_or plans i p).ops ≤ op_count plans; deps : length (get_or plans i p).deps ≤ dep_count plans; notes : length (get_or plans i p).notes ≤ note_count plans }
 unfolding op_count dep_count note_count
 lengths-le plans i p inside = record {

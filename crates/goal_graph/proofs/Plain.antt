@@ -1,4 +1,4 @@
--- What holds of plans that have no fault but perhaps a cycle.
+-- Properties of plans without a fault other than perhaps a cycle.
 use Rattle.std.proofs.Common.{◌≡◌, ℕ, zero, suc, ◌+◌, ◌<◌, ◌≤◌, eqb, ltb, Bool, true, false, List, [], ◌∷◌, length, get_or, Option, Some, None, refl, ap, arith, All, add-zero, zero-add}
 use Rattle.std.specs.Prelude.{if◌then◌else◌}
 use Rattle.std.specs.Option.{option_or}
@@ -16,7 +16,7 @@ use Rattle.goal_graph.specs.Rows.{owner}
 use Rattle.goal_graph.specs.Fault.{op_count, dep_count, note_count, count_over, count_fault, op_fault, dep_fault, value_fits, has_peer, dep_in_range, first_fault, rank_fault, plain_fault}
 use Rattle.goal_graph.specs.Limits.{AreCountsWithin}
 
--- neither of two is there
+-- neither of two faults exists
 pub option_or-none : {T : Type 0} (a b : Option T) → option_or a b ≡ None → (a ≡ None) × (b ≡ None)
 option_or-none None b h = (refl, h)
 option_or-none (Some x) b h = absurd (cc)
@@ -57,7 +57,7 @@ count_fault-none plans h =
     ranks_over : (n : ℕ) → (if eqb n 0 then Some (Count 0 MAX_RANKS) else count_over MAX_RANKS n) ≡ None → n ≤ MAX_RANKS
     ranks_over n h = grind (arith, nat_tests)
 
--- a test that would have told a fault has passed
+-- a test that would have given a fault has passed
 pub passed : (b : Bool) (fault : PlanFault) → (if b then None else Some fault) ≡ None → b ≡ true
 passed true fault h = refl
 passed false fault h = absurd (cc)
@@ -66,7 +66,7 @@ passed_both : (a b : Bool) (first second : PlanFault) → (if a then (if b then 
 passed_both true b first second h = (refl, passed b second h)
 passed_both false b first second h = absurd (cc)
 
--- both operations of a dependency are the rank's
+-- both operations of a dependency are operations of the rank
 pub dep_in_range-parts : (ops : ℕ) (d : Dep) → dep_in_range ops d ≡ true → (d.later < ops) × (d.earlier < ops)
 dep_in_range-parts ops d h =
     let l : ltb d.later ops ≡ true = and_left (ltb d.later ops) (ltb d.earlier ops) h in
@@ -93,7 +93,7 @@ module _ (plans : List Plan) (plain : plain_fault plans ≡ None) where
     unfolding rank_fault
     plain-dep k d below = passed _ _ (first_fault-none (dep_fault (length (get_or plans rank p).ops) rank) 0 (get_or plans rank p).deps (option_or-none _ _ (option_or-none _ _ plain-rank).1).0 k d below)
 
-  -- each dependency stands in the row of an operation of its rank
+  -- each dependency is in the row of an operation of its rank
   pub plain-owner : (listing : Listing) → All (λ (p : Plan). All (λ (d : Dep). owner listing d < length p.ops) p.deps) plans
   plain-owner Needs rank p inside k d below = (dep_in_range-parts _ (get_or (get_or plans rank p).deps k d) (plain-dep rank p inside k d below)).0
   plain-owner WaitingOn rank p inside k d below = (dep_in_range-parts _ (get_or (get_or plans rank p).deps k d) (plain-dep rank p inside k d below)).1

@@ -55,7 +55,7 @@ module _ (plans : List Plan) (plain : plain_fault plans ≡ None) (rank : ℕ) (
       let each = rw (row-waiting_on plans x) at (plain-row WaitingOn op) in
       ltb-true _ _ (AllPass-from_list_all (λ (w : Need). ltb w.op (length (get_or plans rank no_plan).ops)) (waiting_on plans x) each k w below)
 
-  -- an operation has at most as many needs as there are dependencies
+  -- an operation has at most as many needs as its rank has dependencies
   pub length-needs-le : (op : ℕ) → length (needs plans (record { rank = rank; op = op })) ≤ dep_count plans
   unfolding dep_count
   length-needs-le op =

@@ -1,4 +1,4 @@
--- What each allowed action asks of its operation.
+-- What each allowed action requires of its operation.
 use Rattle.std.proofs.Common.{◌≡◌, Bool, true, false, not, ◌⊎◌, inl, inr, List, Option, Some, refl, sym, ◌∙◌}
 use Rattle.std.proofs.lemmas.Bool.{and_parts, and_from, both_ways, not-true, not_from_false}
 use Rattle.goal_graph.specs.declared.action.OpId.{OpId}

@@ -18,14 +18,14 @@ use Rattle.goal_graph.proofs.Places.{no_plan, row-needs, row-waiting_on, IsOp-lo
 use Rattle.goal_graph.proofs.Ranges.{waiting_on-in_range, needs-in_range}
 use Rattle.std.proofs.Math.Bool.{or-false, or-true}
 
--- places of a list that gets one more item
+-- places of a list before and after another item
 old_or_new : (xs : List ℕ) (x k : ℕ) → k < length (xs ++ x ∷ []) → (k < length xs) ⊎ (k ≡ length xs)
 old_or_new xs x k inside =
     let size = length_push xs x in
     elim (cases_lt k (length xs)) [ inl old ↦ inl old | inr new ↦ inr (omega arith) ]
 
 module _ (plans : List Plan) (rank : ℕ) where
-  -- each operation among the first so many has a depth
+  -- each of the first `done` operations in the order has a depth
   deep_among : (missing order : List ℕ) (done m : ℕ) (seen : List Need) → IsSearch plans rank missing order done seen → m ≤ length order → (op : ℕ) → is_among (take m order) op ≡ true → HasDepth plans (op_id rank op)
   deep_among missing order done m seen s within op h =
       let r = is_among-found (take m order) op h in
@@ -33,7 +33,7 @@ module _ (plans : List Plan) (rank : ℕ) where
       let at : r.0 < m = omega (arith, r.1) in
       subst (λ n. HasDepth plans (op_id rank n)) (sym (get_or-take m order r.0 0 at) ∙ r.2) (s.deep r.0 (omega arith))
 
-  -- what stays when one more operation is listed: it is in range, was not listed, and has a depth
+  -- what a newly listed operation needs: it is in range, was not listed, and has a depth
   push-in_rank : (order : List ℕ) (x n : ℕ) → x < n → ((k : ℕ) → k < length order → get_or order k 0 < n) → (k : ℕ) → k < length (order ++ x ∷ []) → get_or (order ++ x ∷ []) k 0 < n
   push-in_rank order x n below old k inside = elim (old_or_new order x k inside) [
     | inl before ↦ rw (get_or_append_left order (x ∷ []) 0 k before) (old k before)
@@ -62,7 +62,7 @@ module _ (plans : List Plan) (rank : ℕ) where
     begin-in_rank : (k : ℕ) → k < length order → get_or order k 0 < length (missing ++ count ∷ [])
     begin-in_rank k inside = omega (arith, s.in_rank k inside, length_push missing count)
 
-    -- an operation that needs something waits
+    -- an operation with unfinished needs waits
     pub IsSearch-waits : (count ≡ 0 → ⊥) → IsSearch plans rank (missing ++ count ∷ []) order 0 []
     IsSearch-waits some = record {
       counted = begin-counted;
@@ -78,7 +78,7 @@ module _ (plans : List Plan) (rank : ℕ) where
     begin-fresh : is_among order (length missing) ≡ false
     begin-fresh = is_among-above order (length missing) s.in_rank
 
-    -- one that needs nothing is listed
+    -- an operation without needs is listed
     pub IsSearch-ready : count ≡ 0 → IsSearch plans rank (missing ++ count ∷ []) (order ++ length missing ∷ []) 0 []
     unfolding is_among
     IsSearch-ready none =
@@ -96,12 +96,12 @@ module _ (plans : List Plan) (rank : ℕ) where
           deep = push-deep order (length missing) depth s.deep;
         }
 
-  -- a need of one operation is one that waits on another
+  -- a need of one operation is a dependency that waits on another
   count_of-waiting_on : (x e : ℕ) → count_of (waiting_on plans (op_id rank e)) x ≡ count_of (needs plans (op_id rank x)) e
   count_of-waiting_on x e =
       rw (← row-waiting_on plans (op_id rank e), ← row-needs plans (op_id rank x)) (count_of-rows (deps_at plans rank) x e)
 
-  -- one more entry w of the row of the operation that is being finished
+  -- another entry w of the row of the operation that is being finished
   module _ (missing order : List ℕ) (done j : ℕ) (w : Need) (waiting : List Need) (s : IsSearch plans rank missing order done (take j waiting)) (next : done < length order) (waiting_is : waiting ≡ waiting_on plans (op_id rank (get_or order done 0))) (inside : j < length waiting) (w_is : w ≡ get_or waiting j w) (in_rank : w.op < length missing) where
     step-seen : take (j + 1) waiting ≡ take j waiting ++ w ∷ []
     step-seen = take_more waiting j w inside ∙ ap (λ d. take j waiting ++ d ∷ []) (sym w_is)
@@ -115,7 +115,7 @@ module _ (plans : List Plan) (rank : ℕ) where
         rw (waiting_is, count_of-waiting_on op (get_or order done 0), take_more order done 0 next)
         (unfinished-push (take done order) (get_or order done 0) (needs plans (op_id rank op)) (s.once done next))
 
-    -- it misses something yet
+    -- it still misses something
     pub step-positive : 0 < get_or missing w.op 0
     step-positive =
         let this = rw (eq-eqb w.op w.op refl) at (step-count w.op) in
@@ -135,7 +135,7 @@ module _ (plans : List Plan) (rank : ℕ) where
     step-in_rank : (k : ℕ) → k < length order → get_or order k 0 < length (set missing w.op (get_or missing w.op 0 - 1))
     step-in_rank k within = omega (arith, s.in_rank k within, length-set missing w.op (get_or missing w.op 0 - 1))
 
-    -- it misses something still
+    -- it still misses something
     pub IsSearch-step_waits : (get_or missing w.op 0 - 1 ≡ 0 → ⊥) → IsSearch plans rank (set missing w.op (get_or missing w.op 0 - 1)) order done (take (j + 1) waiting)
     IsSearch-step_waits some = record {
       counted = step-counted;
@@ -155,7 +155,7 @@ module _ (plans : List Plan) (rank : ℕ) where
     step-fresh : is_among order w.op ≡ false
     step-fresh = s.listed w.op in_rank ∙ ne-eqb (get_or missing w.op 0) 0 (λ e. omega (arith, step-positive))
 
-    -- it misses nothing any more, and is listed
+    -- it misses nothing now, and is listed
     pub IsSearch-step_ready : get_or missing w.op 0 - 1 ≡ 0 → IsSearch plans rank (set missing w.op (get_or missing w.op 0 - 1)) (order ++ w.op ∷ []) done (take (j + 1) waiting)
     IsSearch-step_ready none =
         let size = length-set missing w.op (get_or missing w.op 0 - 1) in
@@ -190,7 +190,7 @@ module _ (plans : List Plan) (rank : ℕ) where
     deep = s.deep;
   }
 
-  -- once all that are listed are finished, those that miss nothing have a depth, and the others have none
+  -- once all listed operations are finished, those that miss nothing have a depth, and the others have none
   module _ (missing order : List ℕ) (done : ℕ) (s : IsSearch plans rank missing order done []) (ended : length order ≤ done) where
     pub IsSearch-deep : (op : ℕ) → op < length missing → get_or missing op 0 ≡ 0 → HasDepth plans (op_id rank op)
     IsSearch-deep op inside none =
@@ -235,7 +235,7 @@ module _ (plans : List Plan) (plain : plain_fault plans ≡ None) (rank : ℕ) (
   entry-ready =
       IsSearch-step_ready plans rank missing order done j (get_or waiting j no_need) waiting s next (rw here waiting_is) inside (get_or_default waiting j no_need (get_or waiting j no_need) inside) entry-in_rank
 
-  -- one less is missing in all
+  -- the number missing in all falls by one
   pub entry-sum : sum (set missing (get_or waiting j no_need).op (get_or missing (get_or waiting j no_need).op 0 - 1)) + 1 ≡ sum missing
   entry-sum =
       let changed = sum_by-set (λ (n : ℕ). n) missing (get_or waiting j no_need).op (get_or missing (get_or waiting j no_need).op 0 - 1) 0 entry-in_rank in

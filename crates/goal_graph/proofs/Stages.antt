@@ -1,4 +1,4 @@
--- The stages of one operation: what comes before what, and which actions are its start and its end.
+-- The stages of one operation: their order, and which actions are its start and its end.
 use Rattle.std.proofs.Common.{◌≡◌, Bool, true, false, inl, inr, List, Option, Some, None, refl, ap, sym, ◌∙◌, is_some}
 use Rattle.std.proofs.lemmas.Bool.{cases_Bool}
 use Rattle.goal_graph.specs.declared.action.OpId.{OpId}
@@ -16,7 +16,7 @@ use Rattle.goal_graph.proofs.Persist.{cases_some}
 use Rattle.goal_graph.proofs.Ever.{begun_ready, posted_ready, arrived_begun, data_send, data_paired, served_receive, served_message}
 use Rattle.goal_graph.proofs.Partners.{partner_of_send, partner_of_receive}
 
--- what an operation is
+-- the kind of an operation
 pub data KindOf (plans : List Plan) (x : OpId) : Type 0 where
   absent : kind_at plans x ≡ None → KindOf plans x
   calc : IsCalc plans x → KindOf plans x
@@ -85,7 +85,7 @@ module _ (plans : List Plan) where
     pub ended_receive : (h : List Act) (x : OpId) → IsReceive plans x → has_ended plans eager x h ≡ happened Serve x h
     ended_receive h x k = ap (λ (c : Class). happened c x h) (last_of_receive x k)
 
-    -- a send that has handed over its bytes has arrived before, and has begun
+    -- a send that has transferred its data has arrived before, and has begun
     pub data_arrived : (h : List Act) (m : OpId) → IsInterleaving plans eager h → happened Data m h ≡ true → happened Arrive m h ≡ true
     data_arrived h m i e =
         let with = cases_some (partner (pairs plans h) m) (data_paired plans eager h m i e) in

@@ -18,7 +18,7 @@ sum_falls f g w (y ∷ ys) x (zero, b, e) each here =
 sum_falls f g w (y ∷ ys) x (suc k, b, e) each here =
     falls_later f g w y ys (each y) (sum_falls f g w ys x (k, omega (arith, b), e) each here)
 
--- a count after one more
+-- a count after another item
 pub count-cons : {X : Type 0} (p : X → Bool) (x : X) (xs : List X) → count_by p (x ∷ xs) ≡ cond (p x) 1 0 + count_by p xs
 count-cons p x xs = sum_by-cons (λ x. cond (p x) 1 0) x xs
 
@@ -34,7 +34,7 @@ pub cond_le : (s t : Bool) → (s ≡ true → t ≡ true) → cond s 1 0 ≤ co
 cond_le true t h = subst (λ b. 1 ≤ cond b 1 0) (sym (h refl)) (omega arith)
 cond_le false t h = omega arith
 
--- a count falls where one element passes no longer, and none passes that did not
+-- a count falls if one element no longer passes, and none passes that did not before
 pub count_falls : {X : Type 0} (p q : X → Bool) (xs : List X) (x : X) → Contains xs x → ((y : X) → q y ≡ true → p y ≡ true) → q x ≡ false → p x ≡ true → count_by q xs + 1 ≤ count_by p xs
 count_falls p q xs x c each e f =
     sum_falls (λ y. cond (p y) 1 0) (λ y. cond (q y) 1 0) 1 xs x c (λ y. cond_le (q y) (p y) (each y)) (subst (λ b. cond b 1 0 + 1 ≤ cond (p x) 1 0) (sym e) (subst (λ b. 0 + 1 ≤ cond b 1 0) (sym f) (omega arith)))

@@ -1,4 +1,4 @@
--- A send that has arrived and a posted receive that fits it never both wait.
+-- An arrived send and a posted receive that fit never both wait.
 use Rattle.std.proofs.Common.{⊎_elim, ◌≡◌, Bool, true, false, ◌⊎◌, inl, inr, List, [], ◌∷◌, Option, Some, None, refl, sym, ◌∙◌, subst, is_some, if◌then◌else◌}
 use Rattle.std.specs.Option.{option_map, option_or}
 use Rattle.std.proofs.lemmas.Bool.{both_ways, cases_Bool, and_from, not_from_false}
@@ -13,7 +13,7 @@ use Rattle.goal_graph.proofs.Actions.{act_of, same_op_itself, happened_none, hap
 use Rattle.goal_graph.proofs.Persist.{paired_stays}
 use Rattle.goal_graph.proofs.Partners.{oldest_none}
 
--- who is in the newest pair is paired
+-- an operation in the newest pair is paired
 paired_now : (ps : List Pair) (p : Pair) (x : OpId) → is_some (other_in p x) ≡ true → is_paired (p ∷ ps) x ≡ true
 unfolding partner
 paired_now ps p x e = go (partner ps x) (other_in p x) e
@@ -38,7 +38,7 @@ receives_in m x = go (same_op m x) (same_op x x) (same_op_itself x)
     go false false e = absurd (both_ways false refl e)
 
 module _ (plans : List Plan) where
-  -- an Arrive pairs its send, if a posted receive that fits was free
+  -- an Arrive pairs its send, if a posted receive that fits was unpaired
   arrive_pairs : (h : List Act) (m x : OpId) → happened Post x h ≡ true → fits plans x m ≡ true → is_paired (pairs plans h) x ≡ false → is_paired (pairs plans (act_of Arrive m ∷ h)) m ≡ true
   unfolding pairs
   arrive_pairs h m x p f free = go (oldest (is_open_receive plans (pairs plans h) m) h) refl
@@ -51,7 +51,7 @@ module _ (plans : List Plan) where
           absurd (both_ways _ (oldest_none (is_open_receive plans (pairs plans h) m) h e Post x p) passes)
       go (Some y) e = paired_now (pairs plans h) (pair_of m y) m (sends_in m y)
 
-  -- a Post pairs its receive, if an arrived send that it fits was free
+  -- a Post pairs its receive, if an arrived send that it fits was unpaired
   post_pairs : (h : List Act) (m x : OpId) → happened Arrive m h ≡ true → fits plans x m ≡ true → is_paired (pairs plans h) m ≡ false → is_paired (pairs plans (act_of Post x ∷ h)) x ≡ true
   unfolding pairs
   post_pairs h m x p f free = go (oldest (is_open_send plans (pairs plans h) x) h) refl

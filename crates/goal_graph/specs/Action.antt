@@ -6,12 +6,12 @@ use Rattle.goal_graph.specs.declared.action.Timed.{Timed}
 use Rattle.goal_graph.specs.declared.action.Class.{Class}
 use Rattle.goal_graph.specs.declared.action.Class.TheVariants.{Arrive, Serve, Data, Post, Begin}
 
--- a class of action, of one operation; for Arrive and Data that is the send
+-- an action: its class and its operation; for Arrive and Data the operation is the send
 pub record Act : Type 0 where
   pub class : Class
   pub op : OpId
 
--- the place of a class in the order at one time
+-- the place of a class among actions at one time: the lowest happens first
 abbrev pub place : Class → ℕ
 place Arrive = 0
 place Serve = 1
@@ -40,7 +40,7 @@ unfoldable pub oldest : (Act → Bool) → List Act → Option OpId
 oldest test [] = None
 oldest test (a ∷ h) = option_or (oldest test h) (if test a then Some a.op else None)
 
--- an action, and a history, without its times
+-- an action, and a history, without the times
 abbrev pub plain_act : Timed → Act
 plain_act a = record { class = a.class; op = a.op }
 

@@ -1,5 +1,5 @@
--- Which actions may happen next. Times take no part in it: the timed run and every interleaving share these rules.
--- `eager` tells the sends that go out whole; any other send first sends a request and hands over its bytes later.
+-- Which actions may happen next, whatever the times: the timed run and all interleavings share these rules. `eager`
+-- tests whether a send is eager; any other is a rendezvous send, which transfers its data after a request.
 use Rattle.std.specs.Prelude.{◌&&◌, ◌||◌, Bool, false, not, List, Option, Some, None, if◌then◌else◌}
 use Rattle.std.specs.List.{list_all}
 use Rattle.goal_graph.specs.declared.action.OpId.{OpId}
@@ -14,14 +14,14 @@ use Rattle.goal_graph.specs.Schedule.{Plan, kind_at, needs, needed}
 use Rattle.goal_graph.specs.Action.{Act, happened}
 use Rattle.goal_graph.specs.Matching.{pairs, partner, is_paired}
 
--- the action from which an operation's start is counted
+-- the class of the action that starts an operation
 abbrev pub first_class : Option Kind → Class
 first_class (Some (Recv room from tag)) = Post
 first_class (Some (Send bytes to tag)) = Begin
 first_class (Some (Calc nanos)) = Begin
 first_class None = Begin
 
--- the action from which an operation's end is counted
+-- the class of the action that ends an operation
 abbrev pub last_class : Bool → Option Kind → Class
 last_class eager (Some (Recv room from tag)) = Serve
 last_class eager (Some (Send bytes to tag)) = if eager then Begin else Data
@@ -36,16 +36,16 @@ module _ (plans : List Plan) where
     abbrev pub has_ended : OpId → List Act → Bool
     has_ended x = happened (last_class (eager x) (kind_at plans x)) x
 
-    -- the moment of y that a dependency waits for is there
+    -- the start or end of y that a dependency waits for has happened
     abbrev pub is_met : List Act → When → OpId → Bool
     is_met h AfterEnd y = has_ended y h
     is_met h AfterStart y = has_started y h
 
-    -- all that x needs is there
+    -- all that x needs has happened
     unfoldable pub is_ready : List Act → OpId → Bool
     is_ready h x = list_all (λ (d : Need). is_met h d.when (needed x d)) (needs plans x)
 
-    -- the message of the partner is there: it is eager, or it has handed over its bytes
+    -- the message of the partner is there: the partner is eager, or has transferred its data
     abbrev pub is_served : List Act → Option OpId → Bool
     is_served h None = false
     is_served h (Some m) = eager m || happened Data m h
@@ -58,12 +58,12 @@ module _ (plans : List Plan) where
     may h Post x (Some (Recv room from tag)) = is_ready h x
     -- a message, or its request, arrives once the send has begun
     may h Arrive x (Some (Send bytes to tag)) = happened Begin x h
-    -- a large send hands over its bytes once it is paired
+    -- a rendezvous send transfers its data once it is paired
     may h Data x (Some (Send bytes to tag)) = not (eager x) && is_paired (pairs plans h) x
-    -- a receive takes its message once it is paired and the message is there
+    -- a receive takes its message once it is paired and its partner's message is there
     may h Serve x (Some (Recv room from tag)) = is_served h (partner (pairs plans h) x)
     may h _ x _ = false
 
-    -- the action is allowed after h: it has not happened, and it may
+    -- the action is allowed after h: it has not happened, and its rule above holds
     unfoldable pub allowed : List Act → Class → OpId → Bool
     allowed h class x = not (happened class x h) && may h class x (kind_at plans x)

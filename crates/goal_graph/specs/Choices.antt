@@ -1,7 +1,7 @@
--- A number, or any.
+-- An optional number: a number, or any.
 use Rattle.std.specs.Prelude.{ℕ, ◌==◌, Bool, true, false, Option, Some, None}
 
--- the same number, or any both times
+-- the same number, or None twice
 abbrev pub same_choice : Option ℕ → Option ℕ → Bool
 same_choice None None = true
 same_choice None (Some n) = false

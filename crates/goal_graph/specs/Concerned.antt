@@ -1,4 +1,4 @@
--- Which operations wait for an operation, and which of them an action of it concerns.
+-- Which operations wait for an operation, and which of them may act after one of its actions.
 use Rattle.std.specs.Prelude.{◌≡◌, ◌⊎◌, List, Some, Contains, ◌==◌, map, filter}
 use Rattle.goal_graph.specs.declared.action.OpId.{OpId}
 use Rattle.goal_graph.specs.declared.plan.Dep.{Dep}
@@ -11,11 +11,11 @@ use Rattle.goal_graph.specs.Matching.{pairs, partner}
 abbrev pub later_of : Dep → Need
 later_of d = record { op = d.later; when = d.when }
 
--- what needs an operation, in the order of the rank's dependencies
+-- the needs that name an operation, each with its later side, in the order of the rank's dependencies
 unfoldable pub waiting_on : List Plan → OpId → List Need
 waiting_on plans x = map later_of (filter (λ (d : Dep). d.earlier == x.op) (deps_at plans x.rank))
 
--- y is named in a list of needs of x's rank
+-- a list of needs of x's rank names y
 pub record IsNamedIn (needs : List Need) (x y : OpId) : Type 0 where
   pub need : Need
   pub listed : Contains needs need
@@ -26,6 +26,6 @@ module _ (plans : List Plan) where
   abbrev pub Waits : OpId → OpId → Type 0
   Waits x y = IsNamedIn (waiting_on plans x) x y
 
-  -- an action of x may let one of y happen: y is x, or its partner, or needs it
+  -- an action of x may allow one of y: y is x, is its partner, or needs x
   abbrev pub IsConcerned : List Act → OpId → OpId → Type 0
   IsConcerned h x y = (y ≡ x) ⊎ ((partner (pairs plans h) x ≡ Some y) ⊎ Waits x y)

@@ -1,4 +1,4 @@
--- The laws of interleavings, as one reads them, and the words that they use.
+-- The laws of interleavings in words, and the notions that they use.
 use Rattle.std.specs.Prelude.{ℕ, ◌+◌, ◌*◌, ◌≡◌, ◌≢◌, ◌≤◌, ◌⊎◌, ◌↔◌, ◌&&◌, not, Bool, true, false, List, [], ◌∷◌, length, reverse, take, slice_get, find, Contains, AllPairs, Option, Some, is_some, count_by, sum_by}
 use Rattle.std.specs.Option.{option_map}
 use Rattle.goal_graph.specs.declared.action.OpId.{OpId}
@@ -23,13 +23,13 @@ pub record IsCalc (plans : List Plan) (x : OpId) : Type 0 where
   pub nanos : ℕ
   pub kind : kind_at plans x ≡ Some (Calc nanos)
 
--- the send m and the receive x have met: the one has arrived, the other is posted, and they fit
+-- the send m and the receive x have met: m has arrived, x is posted, and they fit
 pub record HaveMet (plans : List Plan) (h : List Act) (m x : OpId) : Type 0 where
   pub arrived : happened Arrive m h ≡ true
   pub posted : happened Post x h ≡ true
   pub fit : fits plans x m ≡ true
 
--- the classes of action that an operation of that kind goes through
+-- an operation of that kind has an action of that class
 abbrev pub has_class : Option Kind → Class → Bool
 has_class (Some (Calc nanos)) Begin = true
 has_class (Some (Send bytes to tag)) Begin = true
@@ -42,53 +42,53 @@ has_class _ _ = false
 abbrev pub classes : List Class
 classes = Arrive ∷ Serve ∷ Data ∷ Post ∷ Begin ∷ []
 
--- the action of that class is one that x goes through, and has not happened
+-- x has an action of that class, and it has not happened
 abbrev pub is_left : List Plan → List Act → OpId → Class → Bool
 is_left plans h x class = has_class (kind_at plans x) class && not (happened class x h)
 
--- how many actions of x have not happened
+-- the number of actions of x that have not happened
 unfoldable pub left_of : List Plan → List Act → OpId → ℕ
 left_of plans h x = count_by (is_left plans h x) classes
 
--- how many actions of all operations have not happened
+-- the number of actions of all operations that have not happened
 unfoldable pub left : List Plan → List Act → ℕ
 left plans h = sum_by (left_of plans h) (operations plans)
 
--- a large send that has arrived and that no receive has taken
+-- a rendezvous send that has arrived, and that no receive has taken
 pub record IsWaitingSend (plans : List Plan) (eager : OpId → Bool) (h : List Act) (m : OpId) : Type 0 where
   pub is_send : IsSend plans m
   pub is_large : eager m ≡ false
   pub arrived : happened Arrive m h ≡ true
   pub unpaired : is_paired (pairs plans h) m ≡ false
 
--- a posted receive that no send has come for
+-- a posted receive that has taken no send
 pub record IsWaitingReceive (plans : List Plan) (h : List Act) (x : OpId) : Type 0 where
   pub is_receive : IsReceive plans x
   pub posted : happened Post x h ≡ true
   pub unpaired : is_paired (pairs plans h) x ≡ false
 
--- y is paired with another than x
+-- y is paired with an operation other than x
 pub record IsTaken (plans : List Plan) (h : List Act) (y x : OpId) : Type 0 where
   pub taker : OpId
   pub pair : partner (pairs plans h) y ≡ Some taker
   pub other : taker ≢ x
 
--- The laws, for all schedules and whatever is eager. The functions `laws_of_..` ensure each.
+-- The laws hold for all schedules, whichever sends are eager. Functions `laws_of_..` ensure each of them.
 
--- an action has happened exactly where the list has it
+-- an action has happened exactly if it is in the list
 abbrev pub HappenedIsListed : Type 0
 HappenedIsListed = (class : Class) (x : OpId) (h : List Act) → (happened class x h ≡ true) ↔ Contains h (record { class = class; op = x })
 
--- what has happened after a newer action had happened before, or is that action
+-- after another action, those have happened that had before, and that action
 abbrev pub HappenedCases : Type 0
 HappenedCases = (class : Class) (x : OpId) (a : Act) (h : List Act)
     → (happened class x (a ∷ h) ≡ true) ↔ ((happened class x h ≡ true) ⊎ (a ≡ record { class = class; op = x }))
 
--- what has happened stays so
+-- what has happened stays happened
 abbrev pub HappenedStays : Type 0
 HappenedStays = (class : Class) (x : OpId) (a : Act) (h : List Act) → happened class x h ≡ true → happened class x (a ∷ h) ≡ true
 
--- a partner once given stays the partner
+-- a partner stays the partner
 abbrev pub PartnerStays : Type 0
 PartnerStays = (plans : List Plan) (a : Act) (h : List Act) (x y : OpId) → partner (pairs plans h) x ≡ Some y → partner (pairs plans (a ∷ h)) x ≡ Some y
 
@@ -98,31 +98,31 @@ ReadyStays = (plans : List Plan) (eager : OpId → Bool) (a : Act) (h : List Act
     → is_ready plans eager h x ≡ true
     → is_ready plans eager (a ∷ h) x ≡ true
 
--- the message of a partner stays there
+-- a partner's message that is there stays there
 abbrev pub MessageStays : Type 0
 MessageStays = (plans : List Plan) (eager : OpId → Bool) (a : Act) (h : List Act) (x : OpId)
     → is_served plans eager h (partner (pairs plans h) x) ≡ true
     → is_served plans eager (a ∷ h) (partner (pairs plans (a ∷ h)) x) ≡ true
 
--- an action that is allowed stays allowed until it happens
+-- an allowed action stays allowed until it happens
 abbrev pub AllowedStays : Type 0
 AllowedStays = (plans : List Plan) (eager : OpId → Bool) (a : Act) (h : List Act) (class : Class) (x : OpId)
     → is_act class x a ≡ false
     → allowed plans eager h class x ≡ true
     → allowed plans eager (a ∷ h) class x ≡ true
 
--- my partner's partner is me
+-- the partner of x's partner is x
 abbrev pub PartnersAreMutual : Type 0
 PartnersAreMutual = (plans : List Plan) (eager : OpId → Bool) (h : List Act) (x y : OpId)
     → IsInterleaving plans eager h
     → partner (pairs plans h) x ≡ Some y
     → partner (pairs plans h) y ≡ Some x
 
--- one of two partners is a send that has arrived, the other a receive that is posted, and they fit
+-- of two partners one is a send that has arrived, the other a posted receive, and they fit
 abbrev pub PartnersHaveMet : Type 0
 PartnersHaveMet = (plans : List Plan) (h : List Act) (x y : OpId) → partner (pairs plans h) x ≡ Some y → HaveMet plans h x y ⊎ HaveMet plans h y x
 
--- what fits is a receive and a send
+-- only a receive and a send fit
 abbrev pub FitsAreReceiveAndSend : Type 0
 FitsAreReceiveAndSend = (plans : List Plan) (x m : OpId) → fits plans x m ≡ true → IsReceive plans x × IsSend plans m
 
@@ -133,13 +133,13 @@ PairsArePartners = (plans : List Plan) (eager : OpId → Bool) (h : List Act) (p
     → Contains (pairs plans h) p
     → (partner (pairs plans h) p.send ≡ Some p.recv) × (partner (pairs plans h) p.recv ≡ Some p.send)
 
--- partners stand in a pair
+-- partners are in a pair
 abbrev pub PartnersArePaired : Type 0
 PartnersArePaired = (plans : List Plan) (h : List Act) (x y : OpId)
     → partner (pairs plans h) x ≡ Some y
     → Contains (pairs plans h) (pair_of x y) ⊎ Contains (pairs plans h) (pair_of y x)
 
--- each operation is in at most one pair: two that share the send or the receive are the same
+-- each operation is in at most one pair: two pairs that share the send or the receive are the same
 abbrev pub OnePair : Type 0
 OnePair = (plans : List Plan) (eager : OpId → Bool) (h : List Act) (p q : Pair)
     → IsInterleaving plans eager h
@@ -155,14 +155,14 @@ ArrivesAfterBegin = (plans : List Plan) (eager : OpId → Bool) (h : List Act) (
     → happened Arrive m h ≡ true
     → happened Begin m h ≡ true
 
--- a send hands over its bytes after it is paired, and so after it has arrived
+-- a send transfers its data after it is paired, and so after it has arrived
 abbrev pub DataAfterPairing : Type 0
 DataAfterPairing = (plans : List Plan) (eager : OpId → Bool) (h : List Act) (m : OpId)
     → IsInterleaving plans eager h
     → happened Data m h ≡ true
     → (is_paired (pairs plans h) m ≡ true) × (happened Arrive m h ≡ true)
 
--- a receive takes its message after it is posted, is paired then, and the message is there
+-- a receive takes its message after it is posted and paired, and once the message is there
 abbrev pub ServesAfterPost : Type 0
 ServesAfterPost = (plans : List Plan) (eager : OpId → Bool) (h : List Act) (x : OpId)
     → IsInterleaving plans eager h
@@ -189,23 +189,23 @@ HappensOnce = (plans : List Plan) (eager : OpId → Bool) (h : List Act) (class 
     → IsInterleaving plans eager h
     → count_by (is_act class x) h ≤ 1
 
--- an operation has at most three actions
+-- at most three actions of an operation happen
 abbrev pub AtMostThree : Type 0
 AtMostThree = (plans : List Plan) (eager : OpId → Bool) (h : List Act) (x : OpId) → IsInterleaving plans eager h → count_by (λ (a : Act). same_op a.op x) h ≤ 3
 
--- what has happened and what is left are together at most three actions an operation
+-- actions that have happened and actions that are left number together at most three per operation
 abbrev pub AtMostThreeEach : Type 0
 AtMostThreeEach = (plans : List Plan) (eager : OpId → Bool) (h : List Act)
     → IsInterleaving plans eager h
     → length h + left plans h ≤ 3 * length (operations plans)
 
--- with each allowed action less is left
+-- each allowed action reduces the number of those left
 abbrev pub LeftFalls : Type 0
 LeftFalls = (plans : List Plan) (eager : OpId → Bool) (a : Act) (h : List Act)
     → allowed plans eager h a.class a.op ≡ true
     → left plans (a ∷ h) + 1 ≤ left plans h
 
--- at most one action of an operation is allowed at a time
+-- at any time, at most one action of an operation is allowed
 abbrev pub OneAllowed : Type 0
 OneAllowed = (plans : List Plan) (eager : OpId → Bool) (h : List Act) (class other : Class) (x : OpId)
     → IsInterleaving plans eager h
@@ -213,31 +213,31 @@ OneAllowed = (plans : List Plan) (eager : OpId → Bool) (h : List Act) (class o
     → allowed plans eager h other x ≡ true
     → class ≡ other
 
--- a send that has arrived and a posted receive that fits it never both wait
+-- an arrived send and a posted receive that fit never both wait
 abbrev pub NeverBothWait : Type 0
 NeverBothWait = (plans : List Plan) (h : List Act) (m x : OpId)
     → HaveMet plans h m x
     → (is_paired (pairs plans h) m ≡ true) ⊎ (is_paired (pairs plans h) x ≡ true)
 
--- an allowed action is one of an operation of the schedule
+-- an allowed action belongs to an operation of the schedule
 abbrev pub AllowedIsListed : Type 0
 AllowedIsListed = (plans : List Plan) (eager : OpId → Bool) (h : List Act) (class : Class) (x : OpId)
     → allowed plans eager h class x ≡ true
     → Contains (operations plans) x
 
--- the operations are those places at which the schedule has one
+-- `operations` lists exactly the places that have an operation
 abbrev pub OperationsAreListed : Type 0
 OperationsAreListed = (plans : List Plan) (x : OpId) → Contains (operations plans) x ↔ (is_some (op_at plans x) ≡ true)
 
--- the operations are listed by rank and number, and so none twice
+-- the operations are listed by rank and number, each once
 abbrev pub OperationsInOrder : Type 0
 OperationsInOrder = (plans : List Plan) → AllPairs IsBefore (operations plans) × AllPairs (λ (x y : OpId). x ≢ y) (operations plans)
 
--- the oldest that passes is the first that passes in the list read oldest first
+-- the oldest action that passes is the first to pass in the list read oldest first
 abbrev pub ReadOldestFirst : Type 0
 ReadOldestFirst = (test : Act → Bool) (h : List Act) → oldest test h ≡ option_map (λ (a : Act). a.op) (find test (reverse h))
 
--- in a list of actions, oldest first, each is allowed after those before it
+-- in this list, oldest first, each action is allowed after those before it
 abbrev pub EachIsAllowed : List Plan → (OpId → Bool) → List Act → Type 0
 EachIsAllowed plans eager trace =
     (k : ℕ) (a : Act) → slice_get trace k ≡ Some a → allowed plans eager (reverse (take k trace)) a.class a.op ≡ true
@@ -246,14 +246,14 @@ EachIsAllowed plans eager trace =
 abbrev pub InterleavingOldestFirst : Type 0
 InterleavingOldestFirst = (plans : List Plan) (eager : OpId → Bool) (h : List Act) → IsInterleaving plans eager h ↔ EachIsAllowed plans eager (reverse h)
 
--- where nothing is left to happen, what is paired has ended
+-- after a complete interleaving, every paired operation has ended
 abbrev pub PairedHasEnded : Type 0
 PairedHasEnded = (plans : List Plan) (eager : OpId → Bool) (h : List Act) (x : OpId)
     → IsCompleteInterleaving plans eager h
     → is_paired (pairs plans h) x ≡ true
     → has_ended plans eager x h ≡ true
 
--- where nothing is left to happen, an operation that is ready and has no end is a large send or a receive that
+-- after a complete interleaving, an operation that is ready and has not ended is a rendezvous send or a receive that
 -- waits for a partner
 abbrev pub ReadyWaits : Type 0
 ReadyWaits = (plans : List Plan) (eager : OpId → Bool) (h : List Act) (x : OpId)
@@ -263,7 +263,7 @@ ReadyWaits = (plans : List Plan) (eager : OpId → Bool) (h : List Act) (x : OpI
     → has_ended plans eager x h ≡ false
     → IsWaitingSend plans eager h x ⊎ IsWaitingReceive plans h x
 
--- and each operation that fits it has not started, or is paired with another
+-- after it, each operation that fits such an operation has not started, or is paired with another
 abbrev pub FittingIsTaken : Type 0
 FittingIsTaken = (plans : List Plan) (eager : OpId → Bool) (h : List Act) (x y : OpId)
     → IsCompleteInterleaving plans eager h
@@ -272,19 +272,19 @@ FittingIsTaken = (plans : List Plan) (eager : OpId → Bool) (h : List Act) (x y
     → ((fits plans x y ≡ true) ⊎ (fits plans y x ≡ true))
     → (has_started plans y h ≡ false) ⊎ IsTaken plans h y x
 
--- a send fits at most one receive, and a receive at most one send
+-- each send fits at most one receive, and each receive at most one send
 pub record IsApart (plans : List Plan) : Type 0 where
   pub one_receive : (m x y : OpId) → fits plans x m ≡ true → fits plans y m ≡ true → x ≡ y
   pub one_send : (x m n : OpId) → fits plans x m ≡ true → fits plans x n ≡ true → m ≡ n
 
--- there a send and a receive are partners once the one has arrived, the other is posted, and they fit
+-- then a send and a receive are partners exactly if they have met
 abbrev pub ApartArePartners : Type 0
 ApartArePartners = (plans : List Plan) (eager : OpId → Bool) (h : List Act) (m x : OpId)
     → IsApart plans
     → IsInterleaving plans eager h
     → ((partner (pairs plans h) m ≡ Some x) × IsSend plans m) ↔ HaveMet plans h m x
 
--- there what starts and ends in one interleaving does so in each complete one in which no fewer sends are eager
+-- then what starts or ends in one interleaving does so in each complete one with as many eager sends or more
 abbrev pub ApartCompletesAlike : Type 0
 ApartCompletesAlike = (plans : List Plan) (eager fewer : OpId → Bool) (h w : List Act)
     → IsApart plans
@@ -300,11 +300,11 @@ ApartCompletesAlike = (plans : List Plan) (eager fewer : OpId → Bool) (h w : L
 abbrev pub OperationNotBeforeItself : Type 0
 OperationNotBeforeItself = (x : OpId) → ¬ (IsBefore x x)
 
--- what is before an operation that is before a third is before the third
+-- an operation before a second, which is before a third, is before the third
 abbrev pub OperationsBeforeIsTransitive : Type 0
 OperationsBeforeIsTransitive = (x y z : OpId) → IsBefore x y → IsBefore y z → IsBefore x z
 
--- of two operations one is before the other, or they are the same
+-- two different operations are in order one way or the other
 abbrev pub OneOperationIsBefore : Type 0
 OneOperationIsBefore = (x y : OpId) → IsBefore x y ⊎ (IsBefore y x ⊎ (x ≡ y))
 
@@ -312,11 +312,11 @@ OneOperationIsBefore = (x y : OpId) → IsBefore x y ⊎ (IsBefore y x ⊎ (x �
 abbrev pub NotLessThanItself : Type 0
 NotLessThanItself = (k : List ℕ) → ¬ (IsLess k k)
 
--- what is less than a key that is less than a third is less than the third
+-- a key less than a second, which is less than a third, is less than the third
 abbrev pub LessIsTransitive : Type 0
 LessIsTransitive = (j k l : List ℕ) → IsLess j k → IsLess k l → IsLess j l
 
--- of two actions that differ, the key of one is less
+-- of two different actions one has the lesser key
 abbrev pub OneIsLess : Type 0
 OneIsLess = (a b : Timed) → (a ≡ b) ⊎ (IsLess (key a) (key b) ⊎ IsLess (key b) (key a))
 
@@ -324,7 +324,7 @@ OneIsLess = (a b : Timed) → (a ≡ b) ⊎ (IsLess (key a) (key b) ⊎ IsLess (
 abbrev pub KeyTellsAction : Type 0
 KeyTellsAction = (a b : Timed) → key a ≡ key b → a ≡ b
 
--- the test tells the order
+-- the test `less` decides the order
 abbrev pub LessIsTested : Type 0
 LessIsTested = (j k : List ℕ) → (less j k ≡ true) ↔ IsLess j k
 
@@ -341,9 +341,9 @@ ValuesAreWithin = (plans : List Plan) (x : OpId) (o : Op)
     → op_at plans x ≡ Some o
     → (value_fits o.kind o.nic ≡ true) × (has_peer (length plans) o.kind ≡ true)
 
--- The law of what is eager.
+-- The law of eager sends.
 
--- tests of what is eager that agree on the sends of a schedule allow the same interleavings
+-- tests of what is eager that agree on the sends of a schedule have the same interleavings
 abbrev pub EagerSendsAlone : Type 0
 EagerSendsAlone = (plans : List Plan) (eager other : OpId → Bool) (h : List Act)
     → ((m : OpId) → IsSend plans m → eager m ≡ other m)

@@ -1,4 +1,4 @@
--- Which receive takes which message. Times take no part in it.
+-- Which receive takes which message. Times play no part.
 use Rattle.std.specs.Prelude.{ℕ, ◌==◌, ◌&&◌, Bool, true, false, not, List, [], ◌∷◌, Option, Some, None, is_some, if◌then◌else◌}
 use Rattle.std.specs.Option.{option_map, option_or}
 use Rattle.goal_graph.specs.declared.action.OpId.{OpId}
@@ -9,13 +9,13 @@ use Rattle.goal_graph.specs.declared.plan.Kind.TheVariants.{Send, Recv}
 use Rattle.goal_graph.specs.Schedule.{Plan, kind_at}
 use Rattle.goal_graph.specs.Action.{Act, is_of, same_op, oldest}
 
--- a wildcard, or the number itself
+-- a wildcard or the same number
 abbrev pub accepts : Option ℕ → ℕ → Bool
 accepts None n = true
 accepts (Some k) n = k == n
 
--- a receive x of that kind fits a send m of that kind: the send's target is the receive's rank, and the
--- receive's source and tag accept the send's rank and tag
+-- a receive x fits a send m: the send goes to the receive's rank, and the receive's source and tag accept the send's
+-- rank and tag
 abbrev pub fits_kinds : OpId → Option Kind → OpId → Option Kind → Bool
 fits_kinds x (Some (Recv room from tag)) m (Some (Send bytes to with_tag)) =
     (to == x.rank) && accepts from m.rank && accepts tag with_tag
@@ -30,7 +30,7 @@ pub record Pair : Type 0 where
 abbrev pub other_in : Pair → OpId → Option OpId
 other_in p x = if same_op p.send x then Some p.recv else (if same_op p.recv x then Some p.send else None)
 
--- the partner of x; pairs too are listed newest first
+-- the partner of x; pairs are listed newest first
 unfoldable pub partner : List Pair → OpId → Option OpId
 partner [] x = None
 partner (p ∷ ps) x = option_or (partner ps x) (other_in p x)
@@ -49,16 +49,16 @@ module _ (plans : List Plan) where
   unfoldable pub fits : OpId → OpId → Bool
   fits x m = fits_kinds x (kind_at plans x) m (kind_at plans m)
 
-  -- a posted receive that no send has taken yet, and that fits m
+  -- a posted, unpaired receive that fits m
   abbrev pub is_open_receive : List Pair → OpId → Act → Bool
   is_open_receive ps m a = is_of Post a && not (is_paired ps a.op) && fits a.op m
 
-  -- an arrived send that no receive has taken yet, and that x fits
+  -- an arrived, unpaired send that x fits
   abbrev pub is_open_send : List Pair → OpId → Act → Bool
   is_open_send ps x a = is_of Arrive a && not (is_paired ps a.op) && fits x a.op
 
-  -- An Arrive pairs its send with the first posted, unpaired receive that fits, a Post its receive with the
-  -- first arrived, unpaired send that fits. No other action pairs.
+  -- An Arrive pairs its send with the oldest posted, unpaired receive that fits. A Post pairs its receive with the
+  -- oldest arrived, unpaired send that fits. No other action makes a pair.
   abbrev pub new_pair : List Pair → List Act → Class → OpId → Option Pair
   new_pair ps h Arrive m = option_map (λ x. pair_of m x) (oldest (is_open_receive ps m) h)
   new_pair ps h Post x = option_map (λ m. pair_of m x) (oldest (is_open_send ps x) h)
@@ -66,7 +66,7 @@ module _ (plans : List Plan) where
   new_pair ps h Data x = None
   new_pair ps h Begin x = None
 
-  -- the pairs that a list of actions makes
+  -- the pairs that a list of actions makes, newest first
   unfoldable pub pairs : List Act → List Pair
   pairs [] = []
   pairs (a ∷ h) = add_pair (pairs h) (new_pair (pairs h) h a.class a.op)

@@ -9,21 +9,21 @@ use Rattle.goal_graph.specs.declared.plan.Dep.{Dep}
 use Rattle.goal_graph.specs.declared.plan.Need.{Need}
 use Rattle.goal_graph.specs.declared.plan.Note.{Note}
 
--- what one rank does
+-- the work of one rank
 pub record Plan : Type 0 where
   pub ops : List Op
   pub deps : List Dep
   pub notes : List Note
 
--- the operation at a place, if there is one
+-- the operation at a place, if it exists
 unfoldable pub op_at : List Plan → OpId → Option Op
 op_at plans x = option_and_then (λ (p : Plan). slice_get p.ops x.op) (slice_get plans x.rank)
 
--- what the operation at a place does
+-- the kind of the operation at a place
 unfoldable pub kind_at : List Plan → OpId → Option Kind
 kind_at plans x = option_map (λ (o : Op). o.kind) (op_at plans x)
 
--- x is a send, a receive
+-- x is a send; x is a receive
 pub record IsSend (plans : List Plan) (x : OpId) : Type 0 where
   pub bytes : ℕ
   pub to : ℕ
@@ -36,16 +36,16 @@ pub record IsReceive (plans : List Plan) (x : OpId) : Type 0 where
   pub tag : Option ℕ
   pub kind : kind_at plans x ≡ Some (Recv room from tag)
 
--- two operations of one rank with the same cpu, or the same interface
+-- two operations of one rank that use the same cpu, or the same NIC
 abbrev pub same_place : (Op → ℕ) → OpId → Option Op → OpId → Option Op → Bool
 same_place place x (Some o) y (Some p) = (x.rank == y.rank) && (place o == place p)
 same_place place x _ y _ = false
 
--- the operations of a rank, none where there is no such rank
+-- the operations of a rank, or none if the rank does not exist
 unfoldable pub ops_at : List Plan → ℕ → List Op
 ops_at plans rank = unwrap_or (option_map (λ (p : Plan). p.ops) (slice_get plans rank)) []
 
--- the dependencies of a rank, none where there is no such rank
+-- the dependencies of a rank, or none if the rank does not exist
 unfoldable pub deps_at : List Plan → ℕ → List Dep
 deps_at plans rank = unwrap_or (option_map (λ (p : Plan). p.deps) (slice_get plans rank)) []
 
@@ -53,15 +53,15 @@ deps_at plans rank = unwrap_or (option_map (λ (p : Plan). p.deps) (slice_get pl
 abbrev pub earlier_of : Dep → Need
 earlier_of d = record { op = d.earlier; when = d.when }
 
--- what an operation needs, in the order of the rank's dependencies
+-- what an operation needs, each with its earlier side, in the order of the rank's dependencies
 unfoldable pub needs : List Plan → OpId → List Need
 needs plans x = map earlier_of (filter (λ (d : Dep). d.later == x.op) (deps_at plans x.rank))
 
--- the operation that a need of x names
+-- the operation that a need of x names; it has x's rank
 abbrev pub needed : OpId → Need → OpId
 needed x d = record { rank = x.rank; op = d.op }
 
--- the places of one rank's operations, the first of which has the number given
+-- the places of one rank's operations; the first has the number `op`
 unfoldable pub places_of_rank : ℕ → ℕ → List Op → List OpId
 places_of_rank rank op [] = []
 places_of_rank rank op (o ∷ os) = record { rank = rank; op = op } ∷ places_of_rank rank (op + 1) os

@@ -1,4 +1,4 @@
--- Where each operation stands in the order of all, and what is kept by that place.
+-- The place of each operation in the order of all, and the tables kept by that place.
 use Rattle.std.specs.Prelude.{◌≡◌, ℕ, ◌+◌, ◌≤◌, List, length, None, take, slice_index}
 use Rattle.goal_graph.specs.declared.action.OpId.{OpId}
 use Rattle.goal_graph.specs.declared.plan.Need.{Need}
@@ -11,12 +11,12 @@ use Rattle.goal_graph.specs.Rows.{all_rows}
 unfoldable pub index_of : List Plan → OpId → ℕ
 index_of plans x = op_count (take x.rank plans) + x.op
 
--- the place of the first operation of each rank, and last the number of all operations
+-- the place of each rank's first operation, and at the end the number of all operations
 pub record AreStarts (plans : List Plan) (starts : List ℕ) : Type 0 where
   pub one_each : length starts ≡ length plans + 1
   pub start : (rank : ℕ) → rank ≤ length plans → slice_index starts rank ≡ op_count (take rank plans)
 
--- plans that have no fault but a cycle, with the rows of their dependencies
+-- plans without a fault other than a cycle, and the rows of their dependencies
 pub record IsTabled (plans : List Plan) (starts : List ℕ) (needs waiting_on : List (List Need)) : Type 0 where
   pub plain : plain_fault plans ≡ None
   pub starts_are : AreStarts plans starts

@@ -1,20 +1,22 @@
-// The actions of operations, and what is said of an operation that stays stuck.
+//! The actions of operations, and why an operation is stuck.
 
-/// The place of an operation: its rank, and its number in the rank's list, from 0.
+/// Identifies an operation: its rank, and its number in the rank's list, from 0.
 #[derive(Clone, Copy, Debug, PartialEq, Eq, PartialOrd, Ord, Hash)]
 pub struct OpId {
+    /// The rank, from 0.
     pub rank: u32,
+    /// The number in the rank's list of operations, from 0.
     pub op: u32,
 }
 
-/// The classes of actions, in the order in which they happen at one time.
+/// The classes of actions. At one time they happen in this order.
 #[derive(Clone, Copy, Debug, PartialEq, Eq, PartialOrd, Ord)]
 pub enum Class {
-    /// A message, or the request of a large one, reaches the rank of its target.
+    /// An eager message, or the request of a rendezvous message, reaches the receiving rank.
     Arrive,
     /// A receive takes its message.
     Serve,
-    /// A large send hands over its bytes.
+    /// A rendezvous send transfers its data.
     Data,
     /// A receive is posted.
     Post,
@@ -22,18 +24,21 @@ pub enum Class {
     Begin,
 }
 
-/// An action at its time, in nanoseconds. For `Arrive` and `Data` the operation is the send.
+/// A timed action.
 #[derive(Clone, Copy, Debug, PartialEq, Eq)]
 pub struct Timed {
+    /// When it happens, in nanoseconds.
     pub time: u64,
+    /// What happens.
     pub class: Class,
+    /// Its operation; for `Arrive` and `Data` the send.
     pub op: OpId,
 }
 
-/// Why an operation has no end.
+/// Why an operation never ends.
 #[derive(Clone, Copy, Debug, PartialEq, Eq)]
 pub enum Why {
-    /// It needs this operation, which never gets so far.
+    /// It needs this operation, which never starts or ends as it must.
     Op(OpId),
     /// This operation fits it, and never starts.
     Partner(OpId),
@@ -41,9 +46,11 @@ pub enum Why {
     Alone,
 }
 
-/// A stuck operation with its reason.
+/// A stuck operation and the reason.
 #[derive(Clone, Copy, Debug, PartialEq, Eq)]
 pub struct Stuck {
+    /// The operation.
     pub op: OpId,
+    /// Its reason.
     pub why: Why,
 }

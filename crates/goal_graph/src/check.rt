@@ -1,4 +1,4 @@
-// The first rule that a list of plans breaks, but for cycles.
+//! The first rule that a list of plans breaks, other than the rule against cycles.
 ghost use Rattle.std.specs.Prelude.{◌≡◌, ◌≤◌, ◌^◌, length, All, IfNone};
 ghost use Rattle.std.specs.Option.{option_copied};
 ghost use Rattle.goal_graph.specs.Fault.{value_fits, has_peer, can_add, can_move, op_fault, dep_fault, note_fault, first_fault, rank_fault, count_over, op_count, dep_count, note_count, count_fault, plain_fault};
@@ -8,7 +8,7 @@ use crate::fault::PlanFault;
 use crate::plan::{Dep, Kind, Note, Op, RankPlan};
 use goal_limits::{MAX_BYTES, MAX_DEPS, MAX_NANOS, MAX_NOTES, MAX_OPS, MAX_RANKS};
 
-// Its size or duration is within the limit, and a calc has nic 0.
+// Returns whether a size or duration is within its limit, and a calc has nic 0.
 fn is_value_in_range(kind: Kind, nic: u8) -> bool
     ensures { result ≡ value_fits kind nic }
 {
@@ -18,7 +18,7 @@ fn is_value_in_range(kind: Kind, nic: u8) -> bool
     }
 }
 
-// The target of a send, and the source of a receive, is a rank.
+// Returns whether the target of a send, or the source of a receive, is a rank.
 fn is_peer_in_range(ranks: u32, kind: Kind) -> bool
     ensures peer { result ≡ has_peer ranks kind }
     ensures width { IsKindInWidth kind }
@@ -30,7 +30,7 @@ fn is_peer_in_range(ranks: u32, kind: Kind) -> bool
     }
 }
 
-// The fault of one operation: its value comes before its peer.
+// The fault of one operation. A wrong value comes before a wrong peer.
 fn fault_of_op(ranks: u32, rank: u32, number: u32, op: Op) -> Option<PlanFault>
     ensures fault { result ≡ op_fault ranks rank number op }
     ensures width { IsOpInWidth op }
@@ -142,15 +142,18 @@ fn first_fault_in(ranks: u32, rank: u32, plan: &RankPlan) -> Option<PlanFault>
     first_note_fault(&plan.ops, rank, &plan.notes)
 }
 
-/// How many operations, dependencies and notes all ranks have together.
+/// The totals of all ranks.
 #[derive(Clone, Copy)]
 pub struct Totals {
+    /// The number of operations.
     pub ops: u128,
+    /// The number of dependencies.
     pub deps: u128,
+    /// The number of notes.
     pub notes: u128,
 }
 
-/// The totals of these plans.
+/// Returns the totals of these plans.
 pub fn totals_of(plans: &[RankPlan]) -> Totals
     requires { length plans.now ≤ MAX_RANKS }
     ensures ops { result.ops ≡ op_count plans.now }
@@ -168,7 +171,7 @@ pub fn totals_of(plans: &[RankPlan]) -> Totals
     Totals { ops, deps, notes }
 }
 
-// The fault of a number that may be over its limit.
+// The fault of a number that is over its limit.
 fn fault_of_number(limit: u32, found: u128) -> Option<PlanFault>
     ensures { result ≡ count_over limit found }
 {
@@ -180,7 +183,7 @@ fn fault_of_number(limit: u32, found: u128) -> Option<PlanFault>
     }
 }
 
-// The fault of the numbers of ranks, operations, dependencies and notes.
+// The fault of the numbers of ranks, operations, dependencies or notes.
 fn fault_of_counts(plans: &[RankPlan]) -> Option<PlanFault>
     ensures { result ≡ count_fault plans.now }
 {
@@ -197,7 +200,7 @@ fn fault_of_counts(plans: &[RankPlan]) -> Option<PlanFault>
         .or(fault_of_number(MAX_NOTES, totals.notes))
 }
 
-/// The first fault but for cycles, if there is one.
+/// Returns the first fault other than a cycle, if any.
 pub fn first_plain_fault(plans: &[RankPlan]) -> Option<PlanFault>
     ensures fault { result ≡ plain_fault plans.now }
     ensures width { IfNone result (AreInWidth plans.now) }

@@ -1,4 +1,4 @@
-// The first operation without a depth: one that waits for itself, or only follows one that does.
+//! The first operation without a depth: one that waits for itself, or only follows one that does.
 ghost use Rattle.std.specs.Prelude.{◌≡◌, ◌+◌, ◌-◌, ◌<◌, ◌≤◌, ◌↔◌, [], length, All, sum, None, IsTrue, IfOk, OnOk, slice_index, slice_set};
 ghost use Rattle.goal_graph.specs.Fault.{plain_fault};
 ghost use Rattle.goal_graph.specs.Search.{IsSearch, CoversRank, IsFirstMissing, IsFirstInRank, IsFirstOfAll};
@@ -8,7 +8,7 @@ use crate::plan::Dep;
 use crate::tables::Tables;
 use std::alloc::{AllocError, Global};
 
-/// The first operation without a depth, if there is one.
+/// Returns the first operation without a depth, by rank and number, if any. `Err` means out of memory.
 pub fn first_cycle(alloc: Global, tables: &Tables) -> Result<Option<OpId>, AllocError>
     ensures { IfOk result (IsFirstOfAll tables.now) }
 {
@@ -21,15 +21,15 @@ pub fn first_cycle(alloc: Global, tables: &Tables) -> Result<Option<OpId>, Alloc
     Ok(None)
 }
 
-// For each operation how many of its needs are not finished, and the operations that miss none, in the order in which
-// they were found.
+// For each operation the number of its needs that are not finished, and the operations that miss none, in the order in
+// which they were found.
 #[derive(Drop)]
 struct Search {
     missing: Vec<u32>,
     order: Vec<u32>,
 }
 
-// The first operation of a rank that has no depth.
+// The first operation of a rank without a depth.
 fn first_in_rank(alloc: Global, tables: &Tables, rank: u32) -> Result<Option<u32>, AllocError>
     requires plain { plain_fault tables.now ≡ None }
     requires rank { rank < length tables.now }
@@ -45,7 +45,7 @@ fn first_in_rank(alloc: Global, tables: &Tables, rank: u32) -> Result<Option<u32
     search_rank(alloc, tables, rank)
 }
 
-// Each operation needs only ones of lesser numbers.
+// Returns true only if each operation needs only ones of lesser numbers.
 fn all_go_back(deps: &[Dep]) -> bool
     ensures { IsTrue result → All (λ d. d.earlier < d.later) deps.now }
 {
@@ -57,7 +57,7 @@ fn all_go_back(deps: &[Dep]) -> bool
     true
 }
 
-// Each operation needs only ones of greater numbers.
+// Returns true only if each operation needs only ones of greater numbers.
 fn all_go_ahead(deps: &[Dep]) -> bool
     ensures { IsTrue result → All (λ d. d.later < d.earlier) deps.now }
 {
@@ -69,7 +69,7 @@ fn all_go_ahead(deps: &[Dep]) -> bool
     true
 }
 
-// The first operation of a rank that has no depth, by a search.
+// The first operation of a rank without a depth, by a search.
 fn search_rank(alloc: Global, tables: &Tables, rank: u32) -> Result<Option<u32>, AllocError>
     requires plain { plain_fault tables.now ≡ None }
     requires rank { rank < length tables.now }
@@ -84,7 +84,7 @@ fn search_rank(alloc: Global, tables: &Tables, rank: u32) -> Result<Option<u32>,
     Ok(first_missing(&search.missing))
 }
 
-// Nothing is finished.
+// Begins a search: nothing is finished.
 fn begin(alloc: Global, tables: &Tables, rank: u32) -> Result<Search, AllocError>
     requires plain { plain_fault tables.now ≡ None }
     requires rank { rank < length tables.now }
@@ -105,7 +105,7 @@ fn begin(alloc: Global, tables: &Tables, rank: u32) -> Result<Search, AllocError
     Ok(Search { missing, order })
 }
 
-// The next operation in the order is finished.
+// Finishes the next operation in the order.
 fn finish(
     tables: &Tables,
     rank: u32,
@@ -131,7 +131,7 @@ fn finish(
     Ok(())
 }
 
-// The operation misses one need less. Answers whether it misses none.
+// Subtracts one need of an operation. Returns whether it misses none now.
 fn take_off(missing: &mut [u32], op: usize) -> bool
     requires in_rank { op < length missing.old }
     requires some { 0 < slice_index missing.old op }

@@ -1,4 +1,4 @@
-// What makes a list of plans no schedule.
+//! Why a list of plans is no schedule.
 ghost use Rattle.std.specs.Prelude.{◌≡◌};
 ghost use Rattle.goal_graph.specs.declared.fault.PlanFault.TheVariants.{NoMemory};
 
@@ -7,20 +7,22 @@ use std::alloc::{AllocError, AllocFailed};
 /// The first rule that a list of plans breaks.
 #[derive(Clone, Copy, Debug, PartialEq, Eq)]
 pub enum PlanFault {
-    /// There is no rank, or there are too many ranks, or too many operations, dependencies or notes of all ranks
-    /// together: `found` of them, where at most `limit` may be.
+    /// There is no rank, or there are too many ranks, operations, dependencies or notes in all ranks together: `found`,
+    /// where at most `limit` are allowed.
     Count { found: u128, limit: u64 },
-    /// A size or a duration is over its limit, or a calc has another nic than 0.
+    /// The size or duration of operation `op` is over its limit, or it is a calc with a nic other than 0.
     Value { rank: u32, op: u32 },
-    /// The target of a send, or the source of a receive, is no rank.
+    /// The target of a send, or the source of a receive, does not exist.
     Peer { rank: u32, op: u32 },
-    /// A dependency names an operation that its rank does not have.
+    /// Dependency number `dep` of the rank names an operation that the rank does not have.
     DepRange { rank: u32, dep: u32 },
-    /// A note names an operation that its rank does not have, or one that it does not fit, or slots in the wrong order.
+    /// Note number `note` of the rank names an operation that the rank does not have or that cannot do this, or its
+    /// slots are in the wrong order.
     NoteMisfit { rank: u32, note: u32 },
-    /// The operation waits for itself, or only follows one that does.
+    /// The operation waits for itself, or only follows one that does. It is the first such operation by rank and
+    /// number.
     Cycle { rank: u32, op: u32 },
-    /// Memory ran out.
+    /// Out of memory.
     NoMemory,
 }
 

@@ -1,4 +1,4 @@
-//! Communication schedules: for each rank a list of operations, dependencies and notes.
+//! Communication schedules: for each rank a list of operations, of dependencies and of notes.
 #![tactic(auto)]
 
 mod action;

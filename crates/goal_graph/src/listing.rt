@@ -1,4 +1,4 @@
-// The places of all operations, in order.
+//! The list of all operations, in order.
 ghost use Rattle.std.specs.Prelude.{◌≡◌, ◌<◌, ◌≤◌, ◌^◌, ◌++◌, IfOk, OnOk, length};
 ghost use Rattle.goal_graph.specs.Schedule.{operations, places_of_rank};
 ghost use Rattle.goal_graph.specs.Fault.{op_count};
@@ -7,7 +7,8 @@ use crate::action::OpId;
 use crate::plan::{Op, RankPlan};
 use std::alloc::{AllocError, Global};
 
-/// Every operation of the plans, by rank and number. Room is made for `count` of them at once.
+/// Returns every operation of the plans, by rank and number. It reserves room for `count` at once. `Err` means out of
+/// memory.
 pub fn list_operations(
     alloc: Global,
     plans: &[RankPlan],
@@ -24,7 +25,7 @@ pub fn list_operations(
     Ok(ids)
 }
 
-// Appends the places of one rank's operations.
+// Appends the operations of one rank.
 fn list_rank(ids: &mut Vec<OpId>, rank: u32, ops: &[Op]) -> Result<(), AllocError>
     requires { length ops.now < 2 ^ 32 }
     ensures { OnOk result (ids.new.items ≡ ids.old.items ++ places_of_rank rank 0 ops.now) }

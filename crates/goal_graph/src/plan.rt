@@ -1,81 +1,102 @@
-// What one rank does: operations, the order among them, and notes on the slots that they touch.
+//! The work of one rank: operations, dependencies among them, and notes on the slots that they use.
 use std::marker::Model;
 
-/// What an operation does.
+/// The kind of an operation.
 #[derive(Clone, Copy, Debug, PartialEq, Eq)]
 pub enum Kind {
-    /// A computation that holds its cpu for `nanos` nanoseconds, at most 2^48-1.
+    /// A computation that holds its cpu.
     Calc {
+        /// The duration in nanoseconds, at most 2^48-1.
         nanos: u64,
     },
-    /// A message of `bytes` bytes, at most 2^40-1, to the rank `to`.
+    /// A message to another rank, or to its own.
     Send {
+        /// The size in bytes, at most 2^40-1.
         bytes: u64,
+        /// The receiving rank.
         to: u32,
+        /// The tag, which the receive must accept.
         tag: u32,
     },
-    /// Room for a message of `bytes` bytes, at most 2^40-1. `None` stands for any source or any tag.
+    /// Room for a message.
     Recv {
+        /// The room in bytes, at most 2^40-1.
         bytes: u64,
+        /// The sending rank, or `None` for any.
         from: Option<u32>,
+        /// The tag, or `None` for any.
         tag: Option<u32>,
     },
 }
 
-/// An operation, with the cpu and the interface of its rank that it uses.
+/// An operation.
 #[derive(Clone, Copy, Debug, PartialEq, Eq)]
 pub struct Op {
+    /// Its kind, with its size or duration.
     pub kind: Kind,
+    /// The cpu of its rank that it uses.
     pub cpu: u8,
+    /// The NIC of its rank that it uses; 0 for a calc.
     pub nic: u8,
 }
 
-/// Which moment of the earlier operation the later one waits for.
+/// Whether a dependency waits for the end or the start of the earlier operation.
 #[derive(Clone, Copy, Debug, PartialEq, Eq)]
 pub enum When {
-    /// `requires`: the end of the earlier operation.
+    /// `requires`: it waits for the end.
     AfterEnd,
-    /// `irequires`: the start of the earlier operation.
+    /// `irequires`: it waits for the start.
     AfterStart,
 }
 
-/// What a send hands over: the rank that it is for, its size in bytes, and its tag.
+/// The message of a send.
 #[derive(Clone, Copy, Debug, PartialEq, Eq)]
 pub struct Message {
+    /// The receiving rank.
     pub to: u32,
+    /// The size in bytes, at most 2^40-1.
     pub bytes: u64,
+    /// The tag.
     pub tag: u32,
 }
 
-/// The operation `later` needs the operation `earlier`, both of one rank.
+/// A dependency between two operations of one rank.
 #[derive(Clone, Copy, Debug, PartialEq, Eq)]
 pub struct Dep {
+    /// The operation that waits.
     pub later: u32,
+    /// The operation that it waits for.
     pub earlier: u32,
+    /// Whether it waits for the end or the start.
     pub when: When,
 }
 
 /// What an operation does to the slots of its rank.
 #[derive(Clone, Copy, Debug, PartialEq, Eq)]
 pub enum Note {
-    /// A send reads, or a receive sets, the slots `lo` up to `hi`.
+    /// The send `op` reads, or the receive `op` sets, the slots from `lo` to `hi`, both included.
     Moves { op: u32, lo: u32, hi: u32 },
-    /// A calc adds the value of slot `from` to that of slot `to`.
+    /// The calc `op` adds the value of slot `from` to that of slot `to`.
     Adds { op: u32, from: u32, to: u32 },
 }
 
-/// An operation of the same rank, and the moment of it that counts.
+/// An operation of the same rank that another needs, or that needs it.
 #[derive(Clone, Copy, Debug, PartialEq, Eq)]
 pub struct Need {
+    /// The number of the operation.
     pub op: u32,
+    /// Whether the dependency waits for the end or the start of its earlier side.
     pub when: When,
 }
 
-/// What one rank does. Contracts see it as its three lists.
+/// The work of one rank. Contracts see its three lists.
 #[derive(Debug, Drop)]
 pub struct RankPlan {
+    /// Its operations. An operation's number is its place in this list.
     pub ops: Vec<Op>,
+    /// The dependencies among them.
     pub deps: Vec<Dep>,
+    /// The notes on its slots.
     pub notes: Vec<Note>,
 }
 

@@ -1,4 +1,4 @@
-// Schedules: lists of plans that break no rule.
+//! Schedules: lists of plans that break no rule.
 ghost use Rattle.std.specs.Prelude.{◌≡◌, ◌≢◌, ◌<◌, ◌≤◌, ◌⊎◌, List, length, Some, All, IfOk, IfErr, OnOk, IsTrue, IsOkUnless, IsErrOf, slice_get};
 ghost use Rattle.goal_graph.specs.declared.fault.PlanFault.{PlanFault};
 ghost use Rattle.goal_graph.specs.Schedule.{Plan, op_at, kind_at, ops_at, needs, needed, operations, IsSend};
@@ -19,8 +19,8 @@ use goal_limits::{MAX_BYTES, MAX_OPS};
 use std::alloc::Global;
 use std::marker::Model;
 
-/// A schedule: for each rank its operations, the order among them, and notes. It breaks no rule.
-/// Contracts see it as the list of its plans.
+/// A schedule: for each rank its operations, dependencies and notes. It breaks no rule of [`PlanFault`].
+/// Contracts see the list of its plans.
 #[derive(Debug, Drop)]
 pub struct Sched {
     tables: Tables,
@@ -41,7 +41,7 @@ impl Model for Sched {
 }
 
 impl Sched {
-    /// The schedule of these plans, or the first rule that they break.
+    /// Builds the schedule of these plans. Otherwise `Err` names the first rule that they break, or is `NoMemory`.
     pub fn build(alloc: Global, plans: Vec<RankPlan>) -> Result<Sched, PlanFault>
         ensures schedule { IfOk result (λ sched. sched ≡ plans.items) }
         ensures accepted { OnOk result (IsAccepted plans.items) }
@@ -61,7 +61,7 @@ impl Sched {
         Ok(Sched { tables, operations })
     }
 
-    /// The plans of all ranks.
+    /// Returns the plans of all ranks.
     pub fn plans(&self) -> &[RankPlan]
         ensures plans { result.now ≡ self.now }
         ensures accepted { IsAccepted self.now }
@@ -71,14 +71,14 @@ impl Sched {
         self.tables.plans()
     }
 
-    /// The schedule breaks no rule.
+    /// States to a proof that the schedule breaks no rule. It does nothing.
     pub fn known(&self)
         ensures accepted { IsAccepted self.now }
     {
         let _ = &self.tables;
     }
 
-    /// Every operation, by rank and number.
+    /// Returns every operation, by rank and number.
     pub fn operations(&self) -> &[OpId]
         ensures all { result.now ≡ operations self.now }
         ensures exist { All (λ x. IsOp self.now x) result.now }
@@ -86,7 +86,7 @@ impl Sched {
         &self.operations
     }
 
-    /// The operation at this place.
+    /// Returns an operation.
     pub fn op(&self, id: OpId) -> &Op
         requires { IsOp self.now id }
         ensures op { op_at self.now id ≡ Some result.now }
@@ -96,7 +96,7 @@ impl Sched {
         self.tables.op(id)
     }
 
-    /// The message of a send.
+    /// Returns the message of a send.
     pub fn message(&self, send: OpId) -> Message
         requires { IsSend self.now send }
         ensures kind { kind_at self.now send ≡ Some (kind.Send result.bytes result.to result.tag) }
@@ -108,7 +108,7 @@ impl Sched {
         }
     }
 
-    /// How many operations a rank has.
+    /// Returns the number of operations of a rank, at most 2^20.
     pub fn op_count(&self, rank: u32) -> u32
         requires { rank < length self.now }
         ensures count { result ≡ length (ops_at self.now rank) }
@@ -118,7 +118,7 @@ impl Sched {
         plan.ops.len() as u32
     }
 
-    /// What the operation needs, in the order of the rank's dependencies.
+    /// Returns what an operation needs, in the order of the rank's dependencies.
     pub fn needs(&self, id: OpId) -> &[Need]
         requires { IsOp self.now id }
         ensures needs { result.now ≡ needs self.now id }
@@ -127,7 +127,7 @@ impl Sched {
         self.tables.needs(id)
     }
 
-    /// The operations that need this one, in the order of the rank's dependencies.
+    /// Returns the operations that need this one, in the order of the rank's dependencies.
     pub fn waiting_on(&self, id: OpId) -> &[Need]
         requires { IsOp self.now id }
         ensures waiting_on { result.now ≡ waiting_on self.now id }
@@ -136,7 +136,7 @@ impl Sched {
         self.tables.waiting_on(id)
     }
 
-    /// The number of all operations.
+    /// Returns the number of all operations, at most 2^20.
     pub fn count(&self) -> u32
         ensures count { result ≡ length (operations self.now) }
         ensures small { result ≤ MAX_OPS }
@@ -144,7 +144,7 @@ impl Sched {
         self.tables.count()
     }
 
-    /// The place of the operation in the order of all, by rank and number.
+    /// Returns the place of an operation in `operations`.
     pub fn index(&self, id: OpId) -> u32
         requires { IsOp self.now id }
         ensures index { slice_get (operations self.now) result ≡ Some id }

@@ -1,4 +1,4 @@
-// Plans with the rows of their dependencies, and the place of each operation in the order of all.
+//! Plans with the rows of their dependencies, and the place of each operation in the order of all.
 ghost use Rattle.std.specs.Prelude.{◌≡◌, ◌+◌, ◌<◌, ◌≤◌, ◌^◌, List, length, Some, None, IfOk, slice_get, slice_index};
 ghost use Rattle.goal_graph.specs.Schedule.{Plan, op_at, needs, operations};
 ghost use Rattle.goal_graph.specs.Concerned.{waiting_on};
@@ -11,7 +11,7 @@ use crate::rows::{Listing, Rows};
 use std::alloc::{AllocError, Global};
 use std::marker::Model;
 
-/// Plans that have no fault but perhaps a cycle.
+/// Plans without a fault other than perhaps a cycle. Contracts see the list of the plans.
 #[derive(Debug, Drop)]
 pub struct Tables {
     plans: Vec<RankPlan>,
@@ -29,6 +29,7 @@ impl Model for Tables {
 }
 
 impl Tables {
+    /// Builds the tables of these plans. `Err` means out of memory.
     pub fn of(alloc: Global, plans: Vec<RankPlan>) -> Result<Tables, AllocError>
         requires { plain_fault plans.items ≡ None }
         ensures { IfOk result (λ tables. tables ≡ plans.items) }
@@ -44,6 +45,7 @@ impl Tables {
         })
     }
 
+    /// Returns the plans of all ranks.
     pub fn plans(&self) -> &[RankPlan]
         ensures plans { result.now ≡ self.now }
         ensures plain { plain_fault self.now ≡ None }
@@ -51,6 +53,7 @@ impl Tables {
         &self.plans
     }
 
+    /// Returns an operation.
     pub fn op(&self, id: OpId) -> &Op
         requires { IsOp self.now id }
         ensures { op_at self.now id ≡ Some result.now }
@@ -59,6 +62,7 @@ impl Tables {
         &plan.ops[id.op as usize]
     }
 
+    /// Returns what an operation needs, in the order of the rank's dependencies.
     pub fn needs(&self, id: OpId) -> &[Need]
         requires { IsOp self.now id }
         ensures { result.now ≡ needs self.now id }
@@ -67,6 +71,7 @@ impl Tables {
             .row(index_in(&self.plans, &self.starts, id) as usize)
     }
 
+    /// Returns the operations that need this one, in the order of the rank's dependencies.
     pub fn waiting_on(&self, id: OpId) -> &[Need]
         requires { IsOp self.now id }
         ensures { result.now ≡ waiting_on self.now id }
@@ -75,12 +80,14 @@ impl Tables {
             .row(index_in(&self.plans, &self.starts, id) as usize)
     }
 
+    /// Returns the number of all operations.
     pub fn count(&self) -> u32
         ensures { result ≡ length (operations self.now) }
     {
         self.starts[self.plans.len()]
     }
 
+    /// Returns the place of an operation in the order of all.
     pub fn index(&self, id: OpId) -> u32
         requires { IsOp self.now id }
         ensures { slice_get (operations self.now) result ≡ Some id }
@@ -89,7 +96,7 @@ impl Tables {
     }
 }
 
-// The place of the first operation of each rank, and last the number of all operations.
+// The place of each rank's first operation, and at the end the number of all operations.
 fn starts_of(alloc: Global, plans: &[RankPlan]) -> Result<Vec<u32>, AllocError>
     requires { op_count plans.now < 2 ^ 32 }
     ensures { IfOk result (λ starts. AreStarts plans.now starts.items) }
@@ -104,7 +111,7 @@ fn starts_of(alloc: Global, plans: &[RankPlan]) -> Result<Vec<u32>, AllocError>
     Ok(starts)
 }
 
-// The place of an operation in the order of all.
+// Returns the place of an operation in the order of all.
 fn index_in(plans: &[RankPlan], starts: &[u32], id: OpId) -> u32
     requires starts { AreStarts plans.now starts.now }
     requires exists { IsOp plans.now id }

@@ -1,4 +1,4 @@
--- Each operation of the row misses one need less.
+-- Each operation of the row misses one need fewer.
 use Rattle.std.proofs.Common.{get_or, sym, ◌∙◌, arith}
 use Rattle.std.proofs.lemmas.List.{get_or_default, get_or_append_left, length_push, take_all}
 use Rattle.std.proofs.lemmas.Bool.{true≢false}

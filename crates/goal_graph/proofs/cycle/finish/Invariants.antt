@@ -2,7 +2,7 @@ use Rattle.std.proofs.Common.{◌≡◌, ◌+◌, ◌<◌, ◌≤◌, length, su
 use Rattle.goal_graph.specs.Search.{IsSearch}
 use Rattle.goal_graph.proofs.cycle.finish.Given as goal
 
--- the entries of the row so far are taken off
+-- the entries of the row so far are subtracted
 abbrev pub invariant-loop-waiting : goal.invariant-loop-waiting
 invariant-loop-waiting l = record {
   search : IsSearch l.tables l.rank l.missing l.order.items l.done (take l.waiting-index l.waiting-items);

@@ -1,4 +1,4 @@
--- What misses nothing in the end has a depth, and what misses something has none.
+-- In the end an operation that misses nothing has a depth, and one that misses something has none.
 use Rattle.std.proofs.Common.{◌≡◌, length, drop, ◌∙◌, arith}
 use Rattle.std.proofs.lemmas.List.{take_at}
 use Rattle.goal_graph.proofs.Plain.{plain-counts}

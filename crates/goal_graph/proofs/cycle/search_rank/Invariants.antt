@@ -10,6 +10,6 @@ invariant-loop-done l = record {
   found : l.done ≤ length l.search.order.items;
 }
 
--- each entry that is taken off lets at most one more operation in
+-- each subtracted entry lists at most one more operation
 abbrev pub decreases-loop-done : goal.decreases-loop-done
 decreases-loop-done l = sum l.search.missing.items + length l.search.order.items - l.done

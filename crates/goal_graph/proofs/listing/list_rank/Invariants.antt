@@ -2,7 +2,8 @@ use Rattle.std.proofs.Common.{◌≡◌, ◌+◌, ◌≤◌, ◌++◌, drop, len
 use Rattle.goal_graph.specs.Schedule.{places_of_rank}
 use Rattle.goal_graph.proofs.listing.list_rank.Given as goal
 
--- what is listed, and then what is left, is what was there and the places of the rank; for what is left there is room
+-- what is listed, followed by what is left, is what was there and the operations of the rank; there is room for what is
+-- left
 abbrev pub invariant-loop-op : goal.invariant-loop-op
 invariant-loop-op l = record {
   listed : l.ids.items ++ places_of_rank l.rank l.op (drop l.op l.ops) ≡ l.fn.ids.items ++ places_of_rank l.rank 0 l.ops;
