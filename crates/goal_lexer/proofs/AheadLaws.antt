@@ -1,4 +1,4 @@
--- What stands ahead, one after another, and a lexer that goes on by it.
+-- Tokens at the front of a piece, one after another, and a lexer that takes them.
 use Rattle.std.proofs.Common.{◌≡◌, ℕ, ◌+◌, ◌<◌, ◌≤◌, Bool, true, false, List, [], ◌∷◌, ◌++◌, length, take, drop, refl, sym, ap, subst, ◌∙◌, arith, append_assoc, length-append, length-drop}
 use Rattle.std.proofs.lemmas.List.{length-take, length-take-le, drop-drop}
 use Rattle.std.proofs.Math.Seq.{take-add}
@@ -13,18 +13,18 @@ use Rattle.goal_lexer.specs.Ahead.{IsAhead}
 use Rattle.goal_lexer.proofs.ScanLaws.{scan-append}
 use Rattle.goal_lexer.proofs.StandsLaws.{scan_past_run, goes_on, went_on, stands_on, begins_run-take}
 
--- what is ahead stands inside the piece
+-- the tokens are inside the piece
 pub ahead_within : (place : ℕ) (piece : List ℕ) (n : ℕ) (e : Bool) (ts : List Token) → IsAhead place piece n e ts → n ≤ length piece
 ahead_within place piece n false ts ahead = ahead.0
 ahead_within place piece n true ts ahead = omega (arith, ahead.0)
 
--- where it ends with a run, the piece goes on with no more of it
+-- where they end with a run, what follows does not continue it
 pub ahead_apart : (place : ℕ) (piece : List ℕ) (n : ℕ) (e : Bool) (ts : List Token) → IsAhead place piece n e ts →
     e ≡ true → begins_run (drop n piece) ≡ false
 ahead_apart place piece n false ts ahead is = cc
 ahead_apart place piece n true ts ahead is = ahead.1
 
--- the scan of a run and of bytes behind it that are no more of it
+-- the scan of a run and of following bytes that do not continue it
 behind_run : (run : Mode) (place : ℕ) (tokens : List Token) (ys : List ℕ) → IsRun run → 0 < length ys → begins_run ys ≡ false →
     after_tokens tokens (scan run place ys)
     ≡ after_tokens (ended place (run, tokens)).1 (scan (ended place (run, tokens)).0 place ys)
@@ -34,7 +34,7 @@ behind_run run place tokens (c ∷ cs) is some apart =
     ap (after_tokens tokens) (scan_past_run run place c cs is apart)
     ∙ ap (λ (ts : List Token). (rest.0, ts)) (sym (append_assoc tokens (closing place run) rest.1))
 
--- the scan of what is ahead and of bytes behind it
+-- the scan of tokens at the front and of the bytes after them
 scan_behind : (place : ℕ) (piece : List ℕ) (n : ℕ) (e : Bool) (ts : List Token) (ys : List ℕ) → IsAhead place piece n e ts →
     0 < length ys → (e ≡ true → begins_run ys ≡ false) →
     scan Between place (take n piece ++ ys) ≡ after_tokens ts (scan Between (place + n) ys)
@@ -51,7 +51,7 @@ scan_behind place piece n true ts ys ahead some apart =
     ∙ behind_run front.0 (place + n) front.1 ys ahead.2 some (apart refl)
     ∙ ap (λ (r : Scanned). after_tokens r.1 (scan r.0 (place + n) ys)) ahead.3
 
--- the tokens of both are the scan's
+-- the tokens of both are those of the scan
 ahead_more : (place : ℕ) (piece : List ℕ) (n m : ℕ) (f : Bool) (ts us : List Token) → n ≤ length piece →
     scan Between place (take (n + m) piece) ≡ after_tokens ts (scan Between (place + n) (take m (drop n piece))) →
     IsAhead (place + n) (drop n piece) m f us → IsAhead place piece (n + m) f (ts ++ us)
@@ -71,7 +71,7 @@ ahead_more place piece n m true ts us within scan_is ahead =
           ∙ ap (after_tokens ts) ahead.3,
     )
 
--- what is ahead, and what is ahead behind it
+-- tokens at the front, and tokens after them
 pub ahead_on : (place : ℕ) (piece : List ℕ) (n m : ℕ) (e f : Bool) (ts us : List Token) → IsAhead place piece n e ts →
     IsAhead (place + n) (drop n piece) m f us → 0 < m → IsAhead place piece (n + m) f (ts ++ us)
 ahead_on place piece n m e f ts us first second some =
@@ -83,7 +83,7 @@ ahead_on place piece n m e f ts us first second some =
     (λ is. begins_run-take m (drop n piece) (ahead_apart place piece n e ts first is)))
     second
 
--- the text goes on by what is ahead, where nothing is open
+-- the text continued by tokens, while nothing is open
 stands_ahead : (place n : ℕ) (was e : Bool) (rest : List ℕ) (tokens : List Token) (text : List ℕ) →
     Stands (record { mode = Between; place = place; ends_run = was }) text → (was ≡ true → begins_run rest ≡ false) → 0 < n →
     IsAhead place rest n e tokens →
@@ -119,7 +119,7 @@ stands_ahead place n was true rest tokens text stands apart some ahead =
       ap (λ (r : Scanned). r.1) over,
     )
 
--- the same, where the lexer's state is another spelling of its parts
+-- the same, with the lexer's state given by its parts
 pub goes_ahead : (mode : Mode) (place : ℕ) (was : Bool) (lexer : LexState) →
     ◌≡◌ {A = LexState} (record { mode = mode; place = place; ends_run = was }) lexer → lexer.mode ≡ Between →
     (n : ℕ) (rest : List ℕ) (e : Bool) (tokens : List Token) (text : List ℕ) →

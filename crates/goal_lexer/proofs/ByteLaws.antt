@@ -1,4 +1,4 @@
--- What a byte is, it is alone.
+-- Each byte is in one class only.
 use Rattle.std.proofs.Common.{◌≡◌, ℕ, true, false, IsSome, arith}
 use Rattle.std.proofs.lemmas.Bool.Decides.{nat_tests}
 use Rattle.goal_lexer.specs.Bytes.{is_blank, begins_word, is_digit, is_run_byte, slash}

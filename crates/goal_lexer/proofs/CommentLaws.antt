@@ -17,7 +17,7 @@ or_of_true : (a b : Bool) → b ≡ true → (a || b) ≡ true
 or_of_true false b is = is
 or_of_true true b is = refl
 
--- a byte more
+-- another byte
 pub has_close-push : (inside : List ℕ) (c : ℕ) → has_close inside ≡ false → (ends_in_star inside && c == slash) ≡ false →
     has_close (inside ++ c ∷ []) ≡ false
 has_close-push [] c none apart = refl
@@ -38,7 +38,7 @@ before_star (c ∷ []) is = let same : c ≡ star = grind (arith, nat_tests) in 
 before_star (c ∷ d ∷ cs) is =
     let known = before_star (d ∷ cs) is in (c ∷ known.0, ap (λ (t : List ℕ). c ∷ t) known.1)
 
--- a front of bytes with no `*/`
+-- a prefix of bytes without `*/`
 pub has_close-front : (xs ys : List ℕ) → has_close (xs ++ ys) ≡ false → has_close xs ≡ false
 has_close-front [] ys none = refl
 has_close-front (a ∷ []) ys none = refl
@@ -46,14 +46,14 @@ has_close-front (a ∷ b ∷ xs) ys none =
     let known = or_false (a == star && b == slash) (has_close (b ∷ xs ++ ys)) none in
     or_of_false (a == star && b == slash) (has_close (b ∷ xs)) known.0 (has_close-front (b ∷ xs) ys known.1)
 
--- a `*/` among bytes
+-- a `*/` inside bytes
 pub has_close-found : (xs ys : List ℕ) → has_close (xs ++ star ∷ slash ∷ ys) ≡ true
 has_close-found [] ys = refl
 has_close-found (a ∷ []) ys = or_of_true (a == star && star == slash) (has_close (star ∷ slash ∷ ys)) refl
 has_close-found (a ∷ b ∷ xs) ys =
     or_of_true (a == star && b == slash) (has_close (b ∷ xs ++ star ∷ slash ∷ ys)) (has_close-found (b ∷ xs) ys)
 
--- bytes behind the first
+-- the bytes after the first
 pub has_close-tail : (c : ℕ) (cs : List ℕ) → has_close (c ∷ cs) ≡ false → has_close cs ≡ false
 has_close-tail c [] none = refl
 has_close-tail c (d ∷ cs) none = (or_false (c == star && d == slash) (has_close (d ∷ cs)) none).1

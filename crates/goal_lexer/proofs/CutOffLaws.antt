@@ -1,4 +1,4 @@
--- Where a text that a lexer stands for has a fault so far.
+-- The fault of a text that a lexer represents, if it ended here.
 use Rattle.std.proofs.Common.{◌≡◌, ℕ, inl, inr, List, [], ◌++◌, length, Option, Some, refl, sym, ap, ◌∙◌}
 use Rattle.std.proofs.lemmas.List.{append-nil}
 use Rattle.goal_lexer.specs.declared.mode.Mode.{Mode}

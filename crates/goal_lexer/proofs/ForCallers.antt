@@ -1,4 +1,4 @@
--- The lemmas of this crate that upper crates cite: they import this file alone.
+-- The lemmas that upper crates may use: they import this file alone.
 pub use Rattle.goal_lexer.proofs.StandsLaws.{finishes, goes_on}
 pub use Rattle.goal_lexer.proofs.AheadLaws.{ahead_on, ahead_within, goes_ahead}
 pub use Rattle.goal_lexer.proofs.FormLaws.{first_in_run}

@@ -33,13 +33,13 @@ forms-append None xs ys = refl
 forms-append (Some form) [] ys = refl
 forms-append (Some form) (x ∷ xs) ys = forms-append (if is_run_byte x then form_with form x else None) xs ys
 
--- a run and more bytes
+-- a run extended by more bytes
 pub form_of-append : (bytes ys : List ℕ) (form : Form) → form_of bytes ≡ Some form →
     form_of (bytes ++ ys) ≡ forms_with (Some form) ys
 form_of-append [] ys form has = cc
 form_of-append (c ∷ cs) ys form has = forms-append (first_form c) cs ys ∙ ap (λ (f : Option Form). forms_with f ys) has
 
--- a run and one byte of a run more
+-- a run extended by a run byte
 pub form_of-grown : (bytes : List ℕ) (c : ℕ) (form : Form) → form_of bytes ≡ Some form → is_run_byte c ≡ true →
     form_of (bytes ++ c ∷ []) ≡ form_with form c
 form_of-grown bytes c form has in_run =
@@ -47,12 +47,12 @@ form_of-grown bytes c form has in_run =
     ∙ ap (λ (b : Bool). forms_with (if b then form_with form c else None) []) in_run
     ∙ forms_nil (form_with form c)
 
--- what has no form has none with more bytes
+-- what has no form has none with more bytes either
 pub form_of-none : (bytes ys : List ℕ) → bytes ≢ [] → form_of bytes ≡ None → form_of (bytes ++ ys) ≡ None
 form_of-none [] ys some none = absurd (some refl)
 form_of-none (c ∷ cs) ys some none = forms-append (first_form c) cs ys ∙ ap (λ (f : Option Form). forms_with f ys) none
 
--- behind a word: bytes of a run
+-- after a word: run bytes
 words_more : (b : Bool) (c : ℕ) (cs : List ℕ) (form : Form) → is_run_byte c ≡ b →
     (forms_with (Some Word) cs ≡ Some form → (Word ≡ form) × Each is_run_byte cs) →
     forms_with (if b then Some Word else None) cs ≡ Some form → (Word ≡ form) × Each is_run_byte (c ∷ cs)
@@ -63,7 +63,7 @@ words : (cs : List ℕ) (form : Form) → forms_with (Some Word) cs ≡ Some for
 words [] form has = (cc, tt)
 words (c ∷ cs) form has = words_more (is_run_byte c) c cs form refl (words cs form) has
 
--- behind a size: nothing
+-- after a size: nothing
 sized_more : (b : Bool) (c : ℕ) (cs : List ℕ) (form : Form) →
     forms_with (if b then None else None) cs ≡ Some form → (Sized ≡ form) × (c ∷ cs ≡ [])
 sized_more true c cs form has = cc
@@ -73,7 +73,7 @@ sized : (cs : List ℕ) (form : Form) → forms_with (Some Sized) cs ≡ Some fo
 sized [] form has = (cc, refl)
 sized (c ∷ cs) form has = sized_more (is_run_byte c) c cs form has
 
--- behind digits: digits, and maybe the mark of a size
+-- after digits: digits, and at most one mark of a size
 abbrev BehindDigits : Form → List ℕ → Type 0
 BehindDigits Word cs = ⊥
 BehindDigits Digits cs = Each is_digit cs
@@ -101,7 +101,7 @@ digits : (cs : List ℕ) (form : Form) → forms_with (Some Digits) cs ≡ Some 
 digits [] form has = let is : Digits ≡ form = cc in subst (λ (f : Form). BehindDigits f []) is tt
 digits (c ∷ cs) form has = digits_more (is_run_byte c) (is_digit c) (c == size_mark) c cs form refl refl (digits cs form) has
 
--- digits with a digit in front, and maybe the mark behind
+-- digits after a first digit, and at most one mark after them
 digits_first : (form : Form) (c : ℕ) (cs : List ℕ) → is_digit c ≡ true → BehindDigits form cs → HasForm form (c ∷ cs)
 digits_first Word c cs digit behind = absurd behind
 digits_first Digits c cs digit behind = (digit, behind)
@@ -119,7 +119,7 @@ pub has_form : (bytes : List ℕ) (form : Form) → form_of bytes ≡ Some form 
 has_form [] form has = cc
 has_form (c ∷ cs) form has = from_first (begins_word c) (is_digit c) c cs form refl refl has
 
--- and the other way round
+-- and conversely
 words_back : (cs : List ℕ) → Each is_run_byte cs → forms_with (Some Word) cs ≡ Some Word
 words_back [] each = refl
 words_back (c ∷ cs) each =
@@ -150,7 +150,7 @@ form_from Word (c ∷ cs) has =
 form_from Digits bytes has = ap form_of (sym (append-nil bytes)) ∙ digits_of bytes [] has
 form_from Sized bytes has = ap form_of has.1 ∙ digits_of has.0 (size_mark ∷ []) has.2
 
--- a run has a first byte, which belongs to runs
+-- the first byte of a run is a run byte
 pub first_in_run : (form : Form) (bytes : List ℕ) → HasForm form bytes →
     (c : ℕ) × (cs : List ℕ) × (bytes ≡ c ∷ cs) × (is_run_byte c ≡ true)
 first_in_run Word [] has = absurd has

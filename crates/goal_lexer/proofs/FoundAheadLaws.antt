@@ -1,4 +1,4 @@
--- Tokens that are found ahead.
+-- Tokens found at the front of a piece.
 use Rattle.std.proofs.Common.{◌≡◌, ℕ, zero, suc, ◌+◌, ◌-◌, ◌*◌, ◌<◌, ◌≤◌, Bool, true, false, ◌||◌, List, [], ◌∷◌, ◌++◌, length, take, drop, bytes_eq, get_or, nat_eq, refl, sym, ap, subst, ◌∙◌, arith, length-drop}
 use Rattle.std.proofs.Math.Seq.{take-add}
 use Rattle.std.proofs.lemmas.Slice.Eq.{bytes_eq-Decides}
@@ -28,7 +28,7 @@ use Rattle.goal_lexer.proofs.StretchLaws.{Each-take, scan_blanks}
 use Rattle.goal_lexer.proofs.WholeLaws.{whole_letters, whole_digits, whole_size, run_in_piece, scan_of_run}
 use Rattle.goal_lexer.proofs.ReservedWords.{ends_as_reserved, label_by_end}
 
--- what is behind the blanks, as code takes it
+-- what follows the blanks, as the code takes it
 abbrev pub behind : ℕ → List ℕ → List ℕ
 behind n xs = take (length xs - n) (drop n xs)
 
@@ -38,7 +38,7 @@ get_or-behind xs n k = ap (λ (ys : List ℕ). get_or ys k 0) (take_rest xs n) �
 length-behind : (xs : List ℕ) (n : ℕ) → length (behind n xs) ≡ length xs - n
 length-behind xs n = ap length (take_rest xs n) ∙ length-drop n xs
 
--- a run behind blanks is ahead
+-- a run after blanks
 run_ahead : (place blanks count total : ℕ) (piece : List ℕ) (kind : TokenKind) → AreBlanks piece blanks →
     total ≡ blanks + count →
     IsWholeRun (place + blanks) (behind blanks piece) count (record { kind = kind; start = place + blanks; end = place + blanks + count }) →
@@ -59,7 +59,7 @@ run_ahead place blanks count total piece kind are total_is whole =
           ∙ ap (λ (e : ℕ). (Between, record { kind = kind; start = place + blanks; end = e } ∷ [])) at,
     )
 
--- digits behind blanks
+-- digits after blanks
 pub digits_ahead : (place blanks count value : ℕ) (piece : List ℕ) → AreBlanks piece blanks → 0 < count →
     blanks + count < length piece → count ≤ 64 →
     ((k : ℕ) → k < count → is_digit (get_or (behind blanks piece) k 0) ≡ true) → is_run_byte (get_or piece (blanks + count) 0) ≡ false →
@@ -98,7 +98,7 @@ most_of_digit c is = grind (arith, nat_tests)
 first : (k : ℕ) → k < 1 → 0 ≡ k
 first k few = omega (arith, few)
 
--- one digit behind a space
+-- one digit after a space
 pub one_digit_ahead : (place value : ℕ) (piece : List ℕ) → 2 < length piece → get_or piece 0 0 ≡ 32 → is_digit (get_or piece 1 0) ≡ true →
     get_or piece 1 0 ≤ 57 → is_run_byte (get_or piece 2 0) ≡ false → value ≡ get_or piece 1 0 - 48 →
     IsAhead place piece 2 true (record { kind = Number value; start = place + 1; end = place + 2 } ∷ [])
@@ -139,7 +139,7 @@ digits_value_4 (a ∷ b ∷ c ∷ d ∷ []) long one two three four = absurd (om
 digits_value_4 (a ∷ b ∷ c ∷ d ∷ e ∷ fs) long one two three four =
     sym (ap (λ (ys : List ℕ). number_value (take 4 ys)) (take_rest (a ∷ b ∷ c ∷ d ∷ e ∷ fs) 1) ∙ value_of_four b c d e one two three four)
 
--- what holds at each of two places, of three, or of four
+-- a property that holds at each of two, three or four places
 each_of_2 : (P : ℕ → Type 0) → P 0 → P 1 → (k : ℕ) → k < 2 → P k
 each_of_2 P one two zero few = one
 each_of_2 P one two (suc zero) few = two
@@ -163,11 +163,11 @@ one_space : (piece : List ℕ) → 1 ≤ length piece → get_or piece 0 0 ≡ 3
 one_space piece long blank =
     (long, λ k few. subst (λ (j : ℕ). is_blank (get_or piece j 0) ≡ true) (first k few) (ap is_blank blank))
 
--- the digit at that place behind a space
+-- the digit at that place after a space
 digit_there : (piece : List ℕ) (k : ℕ) → is_digit (get_or piece (1 + k) 0) ≡ true → is_digit (get_or (behind 1 piece) k 0) ≡ true
 digit_there piece k is = ap is_digit (get_or-behind piece 1 k) ∙ is
 
--- two digits behind a space, three, and four
+-- two, three and four digits after a space
 pub two_digits_ahead : (place value : ℕ) (piece : List ℕ) → 3 < length piece → get_or piece 0 0 ≡ 32 →
     is_digit (get_or piece 1 0) ≡ true → is_digit (get_or piece 2 0) ≡ true → is_run_byte (get_or piece 3 0) ≡ false →
     value ≡ (get_or piece 1 0 - 48) * 10 + (get_or piece 2 0 - 48) →
@@ -198,7 +198,7 @@ four_digits_ahead place value piece long blank one two three four ends is =
     (digit_there piece 3 four)) ends
     (is ∙ digits_value_4 piece (omega (arith, long)) (most_of_digit _ one) (most_of_digit _ two) (most_of_digit _ three) (most_of_digit _ four))
 
--- a size behind blanks
+-- a size after blanks
 pub size_found : (place blanks count value : ℕ) (piece : List ℕ) → AreBlanks piece blanks → 0 < count →
     blanks + count + 1 < length piece → count < 64 →
     ((k : ℕ) → k < count → is_digit (get_or (behind blanks piece) k 0) ≡ true) → get_or piece (blanks + count) 0 ≡ size_mark →
@@ -212,7 +212,7 @@ size_found place blanks count value piece are some inside few each mark ends is 
     (get_or-behind piece blanks count ∙ mark)
     (ap is_run_byte (get_or-behind piece blanks (count + 1)) ∙ ap (λ (k : ℕ). is_run_byte (get_or piece k 0)) (sym at) ∙ ends) is)
 
--- a size of one digit behind a space
+-- a size of one digit after a space
 pub one_digit_size : (place value : ℕ) (piece : List ℕ) → 3 < length piece → get_or piece 0 0 ≡ 32 → is_digit (get_or piece 1 0) ≡ true →
     get_or piece 2 0 ≡ 98 → is_run_byte (get_or piece 3 0) ≡ false → value ≡ get_or piece 1 0 - 48 →
     IsAhead place piece 3 true (record { kind = Size value; start = place + 1; end = place + 3 } ∷ [])
@@ -221,7 +221,7 @@ one_digit_size place value piece long blank digit mark ends is =
     (λ k few. subst (λ (j : ℕ). is_digit (get_or (behind 1 piece) j 0) ≡ true) (first k few) (digit_there piece 0 digit)) mark ends
     (is ∙ digit_value piece (omega (arith, long)) (most_of_digit _ digit))
 
--- a byte of a run behind `9` is no digit
+-- a run byte above `9` is no digit
 pub letter_of_run : (c : ℕ) → is_run_byte c ≡ true → 57 < c → begins_word c ≡ true
 letter_of_run c is high = left (begins_word c) (is_digit c) is (grind (arith, nat_tests))
   where
@@ -229,7 +229,7 @@ letter_of_run c is high = left (begins_word c) (is_digit c) is (grind (arith, na
     left true b is off = refl
     left false b is off = absurd (false≢true (sym off ∙ is))
 
--- a word that ends with a digit, behind blanks
+-- a word that ends with a digit, after blanks
 pub label_found : (place blanks count : ℕ) (piece : List ℕ) → AreBlanks piece blanks → 0 < count → count < length (behind blanks piece) →
     count ≤ 64 → begins_word (get_or (behind blanks piece) 0 0) ≡ true →
     ((k : ℕ) → k < count → is_run_byte (get_or (behind blanks piece) k 0) ≡ true) →
@@ -272,7 +272,7 @@ word_some : (word : List ℕ) → AreWord word → 0 < length word
 word_some [] are = absurd are
 word_some (c ∷ cs) are = omega arith
 
--- the word itself, behind blanks
+-- the word itself, after blanks
 pub word_found : (place blanks : ℕ) (piece word : List ℕ) → AreBlanks piece blanks → is_word word ≡ true → length word ≤ 64 →
     blanks + length word < length piece → take (length word) (drop blanks piece) ≡ word →
     is_run_byte (get_or piece (blanks + length word) 0) ≡ false →
@@ -292,7 +292,7 @@ word_found place blanks piece word are is short inside same ends =
       (Run at word Word, ap (scan Between at) front ∙ scan_of_run at word Word (word_each word parts) parts short, refl),
     )
 
--- a colon in front
+-- a colon at the front
 pub colon_found : (piece : List ℕ) → 0 < length piece → nat_eq (get_or piece 0 0) 58 ≡ true → (place : ℕ) →
     IsAhead place piece 1 false (record { kind = Colon; start = place; end = place + 1 } ∷ [])
 colon_found [] some is place = absurd (omega arith)
@@ -303,7 +303,7 @@ colon_found (c ∷ cs) some is place =
           ∙ subst (λ (b : ℕ). next Between place b ≡ (Between, record { kind = Colon; start = place; end = place + 1 } ∷ [])) (sym same) refl,
     )
 
--- four bytes more that are the same in both
+-- four more bytes that are the same in both
 pub four_more : (xs ys : List ℕ) (n : ℕ) → take n xs ≡ take n ys → bytes_eq (take 4 (behind n xs)) (take 4 (behind n ys)) ≡ true →
     take (n + 4) xs ≡ take (n + 4) ys
 four_more xs ys n same alike =
@@ -317,7 +317,7 @@ four_more xs ys n same alike =
     same_bytes : (us vs : List ℕ) → bytes_eq us vs ≡ true → us ≡ vs
     same_bytes us vs alike = (bytes_eq-Decides us vs).0 alike
 
--- a space and the word behind it
+-- a space and the word after it
 pub spaced_found : (place : ℕ) (piece spaced : List ℕ) → take 1 spaced ≡ 32 ∷ [] → is_word (drop 1 spaced) ≡ true →
     length spaced ≤ 65 → length spaced < length piece → take (length spaced) piece ≡ spaced →
     is_run_byte (get_or piece (length spaced) 0) ≡ false →

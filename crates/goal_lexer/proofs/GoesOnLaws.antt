@@ -1,4 +1,4 @@
--- How a text that a lexer stands for goes on.
+-- How a text that a lexer represents may continue.
 use Rattle.std.proofs.Common.{◌≡◌, ℕ, Bool, true, false, List, [], ◌∷◌, ◌++◌, length, Option, None, refl, ap, ◌∙◌, arith, append_assoc}
 use Rattle.std.proofs.lemmas.List.{append-nil}
 use Rattle.goal_lexer.specs.declared.mode.Mode.{Mode}
@@ -22,7 +22,7 @@ closed_by (BlockComment start true) place sound = (slash ∷ [], refl)
 closed_by (BlockComment start false) place sound = (star ∷ slash ∷ [], refl)
 closed_by (Failed at) place sound = absurd sound
 
--- the same by the lexer's parts
+-- the same for the parts of the lexer
 goes_on_from : (mode : Mode) (place : ℕ) (ends : Bool) (text : List ℕ) →
     Stands (record { mode = mode; place = place; ends_run = ends }) text →
     (more : List ℕ) × ((lexed (text ++ more)).1 ≡ None)
@@ -39,7 +39,7 @@ goes_on_from mode place true text stands =
 pub text_goes_on : (lexer : LexState) (text : List ℕ) → Stands lexer text → (more : List ℕ) × ((lexed (text ++ more)).1 ≡ None)
 text_goes_on lexer text stands = goes_on_from lexer.mode lexer.place lexer.ends_run text stands
 
--- the tokens handed out are the first of the text and more, by the lexer's parts
+-- the tokens returned are the first of the continued text, for the parts of the lexer
 first_from : (mode : Mode) (place : ℕ) (ends : Bool) (text more : List ℕ) →
     Stands (record { mode = mode; place = place; ends_run = ends }) text → (ends ≡ true → begins_run more ≡ false) →
     (later : List Token) × ((lexed (text ++ more)).0 ≡ (so_far ends text).1 ++ later)

@@ -11,7 +11,7 @@ use Rattle.goal_lexer.proofs.ByteLaws.{run_no_blank, run_no_slash, run_no_sign, 
 use Rattle.goal_lexer.proofs.FormLaws.{form_of, forms_with, first_form, form_from, has_form, first_in_run, form_of-none}
 use Rattle.goal_lexer.proofs.CommentLaws.{has_close-found}
 
--- a run in front begins with a byte of runs
+-- a run at the front begins with a run byte
 pub run_in_front : (form : Form) (bytes after : List ℕ) (c : ℕ) (xs : List ℕ) → c ∷ xs ≡ bytes ++ after → HasForm form bytes →
     is_run_byte c ≡ true
 run_in_front form bytes after c xs same has =
@@ -70,7 +70,7 @@ nothing_in_comment inside none (run form bytes) after same right =
     false≢true (run_in_front form bytes after slash (star ∷ inside) same right.0)
 nothing_in_comment inside none (sign b) after same right = let head : b ≡ slash = cc in slash_no_sign b head right
 
--- a longest run takes all bytes of runs in front
+-- a longest run takes all run bytes at the front
 longest : (front bytes more after : List ℕ) → Each is_run_byte front → begins_run after ≡ false →
     front ++ more ≡ bytes ++ after → (tail : List ℕ) × (bytes ≡ front ++ tail)
 longest [] bytes more after each apart same = (bytes, refl)
@@ -82,7 +82,7 @@ longest (f ∷ fs) (b ∷ bs) more after each apart same =
     let known = longest fs bs more after each.1 apart tails in
     (known.0, ap (λ (c : ℕ). c ∷ bs) head ∙ ap (λ (t : List ℕ). f ∷ t) known.1)
 
--- bytes of runs in front that no run begins with
+-- run bytes at the front that no run begins with
 pub nothing_in_run : (c : ℕ) (cs more : List ℕ) → Each is_run_byte (c ∷ cs) →
     ((tail : List ℕ) (form : Form) → form_of (c ∷ cs ++ tail) ≡ Some form → length (c ∷ cs ++ tail) ≤ 64 → ⊥) →
     NothingBegins (c ∷ cs ++ more)
@@ -99,7 +99,7 @@ nothing_in_run c cs more each doomed (run form bytes) after same right =
 nothing_in_run c cs more each doomed (sign b) after same right =
     let head : c ≡ b = cc in run_no_sign b (ap is_run_byte (sym head) ∙ each.0) right
 
--- the bytes of a run are bytes of runs
+-- the bytes of a run are run bytes
 each_run_more : (b : Bool) (c : ℕ) (cs : List ℕ) (form : Option Form) (last : Form) → is_run_byte c ≡ b →
     (forms_with form cs ≡ Some last → Each is_run_byte cs) → forms_with (if b then form else None) cs ≡ Some last →
     Each is_run_byte (c ∷ cs)

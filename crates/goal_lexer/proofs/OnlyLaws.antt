@@ -1,4 +1,4 @@
--- A text is pieces in one way only.
+-- A text can be cut into pieces in only one way.
 use Rattle.std.proofs.Common.{◌≡◌, ℕ, ◌+◌, Bool, false, List, [], ◌∷◌, ◌++◌, length, Option, Some, None, IsSome, refl, sym, ap, subst, ◌∙◌, arith, append_assoc}
 use Rattle.std.proofs.lemmas.Bool.{false≢true}
 use Rattle.goal_lexer.specs.declared.mode.Form.{Form}
@@ -17,7 +17,7 @@ abbrev starts : (ℕ → Bool) → List ℕ → Bool
 starts test [] = false
 starts test (c ∷ cs) = test c
 
--- the longest front of bytes that pass a test is one
+-- the longest prefix of bytes that pass a test is unique
 one_front : (test : ℕ → Bool) (xs ys a b : List ℕ) → Each test xs → Each test ys → starts test a ≡ false → starts test b ≡ false →
     xs ++ a ≡ ys ++ b → (xs ≡ ys) × (a ≡ b)
 one_front test [] [] a b each_x each_y stop_a stop_b same = (refl, same)
@@ -39,7 +39,7 @@ line_stops : (after : List ℕ) → EndsLine after → starts in_line after ≡ 
 line_stops [] ends = refl
 line_stops (c ∷ cs) ends = ap in_line ends
 
--- the first `*/` is one
+-- the first `*/` is unique
 one_close : (xs ys a b : List ℕ) → has_close xs ≡ false → has_close ys ≡ false →
     xs ++ star ∷ slash ∷ a ≡ ys ++ star ∷ slash ∷ b → (xs ≡ ys) × (a ≡ b)
 one_close [] [] a b none_x none_y same = (refl, cc)
@@ -65,7 +65,7 @@ one_block xs ys a b none_x none_y same =
     one_close xs ys a b none_x none_y
     (sym (append_assoc xs (star ∷ slash ∷ []) a) ∙ same ∙ append_assoc ys (star ∷ slash ∷ []) b)
 
--- two runs in front are one
+-- two runs at the front are the same
 one_run : (f g : Form) (xs ys a b : List ℕ) → HasForm f xs → HasForm g ys → begins_run a ≡ false → begins_run b ≡ false →
     xs ++ a ≡ ys ++ b → (run f xs ≡ run g ys) × (a ≡ b)
 one_run f g xs ys a b has_f has_g apart_a apart_b same =
@@ -76,7 +76,7 @@ one_run f g xs ys a b has_f has_g apart_a apart_b same =
     let form : f ≡ g = cc in
     (ap (λ (h : Form). run h xs) form ∙ ap (λ (t : List ℕ). run g t) known.0, known.1)
 
--- one piece in front of a text
+-- two pieces at the front of a text are the same
 one_piece : (p q : Piece) (a b : List ℕ) → bytes_of p ++ a ≡ bytes_of q ++ b → IsRight p a → IsRight q b → (p ≡ q) × (a ≡ b)
 one_piece (blank c) (blank d) a b same right_p right_q = let head : c ≡ d = cc in (ap (λ (e : ℕ). blank e) head, cc)
 one_piece (blank c) (line_comment j) a b same right_p right_q =
@@ -145,7 +145,7 @@ one_cut (p ∷ ps) (q ∷ qs) r s same right_p right_q nothing_r nothing_s =
     let others = one_cut ps qs r s first.1 right_p.1 right_q.1 nothing_r nothing_s in
     (ap (λ (x : Piece). x ∷ ps) first.0 ∙ ap (λ (xs : List Piece). q ∷ xs) others.0, others.1)
 
--- nothing begins where nothing is
+-- nothing begins at the end of a text
 nothing_at_end : NothingBegins []
 nothing_at_end (blank c) after same right = cc
 nothing_at_end (line_comment inside) after same right = cc
@@ -174,7 +174,7 @@ only_reading text pieces rest cut nothing =
           (subst (λ (p : ℕ). EndsWith (lexed text).1 p reading.rest) place reading.end)),
     )
 
--- two cuts of one text are one
+-- two cuts of one text are the same
 pub one_cut_only : (text : List ℕ) (pieces others : List Piece) (rest left : List ℕ) → IsCutInto text pieces rest → NothingBegins rest →
     IsCutInto text others left → NothingBegins left → (pieces ≡ others) × (rest ≡ left)
 one_cut_only text pieces others rest left cut nothing other_cut nothing_left =

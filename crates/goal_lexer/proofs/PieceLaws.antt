@@ -11,14 +11,14 @@ use Rattle.goal_lexer.specs.Pieces.{Piece, bytes_of, IsRight, spelled, piece_tok
 use Rattle.goal_lexer.proofs.ScanLaws.{scan_failed}
 use Rattle.goal_lexer.proofs.StandsLaws.{scan_past_run}
 
--- the tokens of the scan of a text that goes on, up to the text's end
+-- the tokens of the scan of a continued text, up to the end of the text
 abbrev pub tokens_to_end : Mode → ℕ → List ℕ → List Token
 tokens_to_end mode place xs = (ended (place + length xs) (scan mode place xs)).1
 
 abbrev pub fault_of : Mode → ℕ → List ℕ → Option ℕ
 fault_of mode place xs = fault_at_end (scan mode place xs).0
 
--- these bytes are open from this place on, and the text goes on by xs: its reading is the scan's
+-- these bytes are open from this place on, and xs follow: the reading of the text is that of the scan
 abbrev pub Read : Mode → ℕ → List ℕ → List ℕ → Type 0
 Read mode start bytes xs =
     IsReading start (bytes ++ xs) (tokens_to_end mode (start + length bytes) xs) (fault_of mode (start + length bytes) xs)
@@ -27,7 +27,7 @@ Read mode start bytes xs =
 abbrev pub ReadOn : ℕ → List ℕ → Type 0
 ReadOn start xs = IsReading start xs (tokens_to_end Between start xs) (fault_of Between start xs)
 
--- a reading, in other words for its parts
+-- a reading, from its parts
 reading_as : (start : ℕ) (text text' : List ℕ) (tokens tokens' : List Token) (fault fault' : Option ℕ) →
     text ≡ text' → tokens ≡ tokens' → fault ≡ fault' → IsReading start text tokens fault → IsReading start text' tokens' fault'
 reading_as start text text' tokens tokens' fault fault' same_text same_tokens same_fault reading =
@@ -35,7 +35,7 @@ reading_as start text text' tokens tokens' fault fault' same_text same_tokens sa
     (subst (λ (ts : List Token). IsReading start text' ts fault) same_tokens
     (subst (λ (t : List ℕ). IsReading start t tokens fault) same_text reading))
 
--- a piece in front
+-- a piece at the front
 with_piece : (piece : Piece) (start : ℕ) (after : List ℕ) (tokens : List Token) (fault : Option ℕ) → IsRight piece after →
     IsReading (start + length (bytes_of piece)) after tokens fault →
     IsReading start (bytes_of piece ++ after) (piece_tokens start piece ++ tokens) fault
@@ -71,7 +71,7 @@ pub next_fault : (mode : Mode) (place c : ℕ) (xs : List ℕ) (new : Mode) (tok
 unfolding scan
 next_fault mode place c xs new tokens made = ap (λ (r : Scanned). fault_at_end (scan r.0 (place + 1) xs).0) made
 
--- what is open goes on by a byte
+-- what is open takes another byte
 pub goes_on_by : (mode new : Mode) (start : ℕ) (bytes : List ℕ) (c : ℕ) (xs : List ℕ) →
     next mode (start + length bytes) c ≡ (new, []) → Read new start (bytes ++ c ∷ []) xs → Read mode start bytes (c ∷ xs)
 goes_on_by mode new start bytes c xs made read =
@@ -148,7 +148,7 @@ ends_open mode start bytes none fault some nothing =
       end = (omega arith, some, nothing);
     })
 
--- where nothing is open a byte opens something
+-- while nothing is open, a byte opens something
 pub opens_with : (start c : ℕ) (xs : List ℕ) (new : Mode) → next Between start c ≡ (new, []) → Read new start (c ∷ []) xs →
     ReadOn start (c ∷ xs)
 opens_with start c xs new made read =
@@ -156,7 +156,7 @@ opens_with start c xs new made read =
     subst (λ (p : ℕ). IsReading start (c ∷ xs) (tokens_to_end Between p (c ∷ xs)) (fault_of Between p (c ∷ xs))) same
     (goes_on_by Between new start [] c xs (ap (λ (p : ℕ). next Between p c) same ∙ made) read)
 
--- where nothing is open a byte is a piece
+-- while nothing is open, a byte is a piece
 pub is_piece : (start c : ℕ) (xs : List ℕ) (piece : Piece) → next Between start c ≡ (Between, piece_tokens start piece) →
     bytes_of piece ≡ c ∷ [] → IsRight piece xs → ((place : ℕ) → ReadOn place xs) → ReadOn start (c ∷ xs)
 is_piece start c xs piece made spelling right between =
@@ -164,7 +164,7 @@ is_piece start c xs piece made spelling right between =
     subst (λ (p : ℕ). IsReading start (c ∷ xs) (tokens_to_end Between p (c ∷ xs)) (fault_of Between p (c ∷ xs))) same
     (ends_with_byte Between start [] c xs piece (ap (λ (p : ℕ). next Between p c) same ∙ made) spelling right between)
 
--- the tokens of a scan behind a run
+-- the tokens of a scan after a run
 pub tokens_past_run : (start : ℕ) (bytes : List ℕ) (form : Form) (place c : ℕ) (xs : List ℕ) → is_run_byte c ≡ false →
     tokens_to_end (Run start bytes form) place (c ∷ xs)
     ≡ run_token start bytes form place ∷ [] ++ tokens_to_end Between place (c ∷ xs)

@@ -20,7 +20,7 @@ use Rattle.goal_lexer.proofs.PieceLaws.{Read, ReadOn, goes_on_by, ends_with_byte
 abbrev pub in_line : ℕ → Bool
 in_line c = not (c == line_feed)
 
--- whatever is open, the reading goes on by xs
+-- whatever is open, the reading continues by xs
 record Going (xs : List ℕ) : Type 0 where
   at_between : (start : ℕ) → ReadOn start xs
   at_run : (start : ℕ) (bytes : List ℕ) (form : Form) → form_of bytes ≡ Some form → length bytes ≤ 64 →
@@ -65,7 +65,7 @@ going_end = record {
       (subst (λ (t : List ℕ). NothingBegins (slash ∷ star ∷ t)) (sym (append-nil inside)) (nothing_in_comment inside none));
 }
 
--- a byte where nothing is open, by what it is
+-- a byte while nothing is open, by its class
 module _ (xs : List ℕ) (going : Going xs) (start c : ℕ) where
   byte_fault : begins_word c ≡ false → is_digit c ≡ false → is_blank c ≡ false → (c == 123) ≡ false → (c == 125) ≡ false →
       (c == 58) ≡ false → (c == slash) ≡ false → ReadOn start (c ∷ xs)
@@ -125,12 +125,12 @@ module _ (xs : List ℕ) (going : Going xs) (start c : ℕ) where
 at_byte : (xs : List ℕ) → Going xs → (c start : ℕ) → ReadOn start (c ∷ xs)
 at_byte xs going c start = byte_word xs going start c (begins_word c) refl
 
--- bytes are there
+-- some bytes follow
 some_byte : (bytes : List ℕ) (c : ℕ) (xs : List ℕ) → bytes ++ c ∷ [] ++ xs ≢ []
 some_byte [] c xs empty = cc
 some_byte (b ∷ bs) c xs empty = cc
 
--- a byte behind a run
+-- a byte after a run
 module _ (xs : List ℕ) (going : Going xs) (start : ℕ) (bytes : List ℕ) (form : Form) (c : ℕ) (has : form_of bytes ≡ Some form) where
   run_grown : (long : Bool) (other : Form) → is_run_byte c ≡ true → form_with form c ≡ Some other →
       nat_lt 64 (length (bytes ++ c ∷ [])) ≡ long → Read (Run start bytes form) start bytes (c ∷ xs)
@@ -162,7 +162,7 @@ module _ (xs : List ℕ) (going : Going xs) (start : ℕ) (bytes : List ℕ) (fo
       (fault_past_run start bytes form (start + length bytes) c xs apart)
       (has_form bytes form has, short, apart) (at_byte xs going c)
 
--- a byte behind a `/`
+-- a byte after a `/`
 module _ (xs : List ℕ) (going : Going xs) (start c : ℕ) where
   no_comment : (c == slash) ≡ false → (c == star) ≡ false → Read (Slash start) start (slash ∷ []) (c ∷ xs)
   no_comment no_slash no_star =
@@ -186,7 +186,7 @@ module _ (xs : List ℕ) (going : Going xs) (start c : ℕ) where
 
 -- a byte in a line comment
 module _ (xs : List ℕ) (going : Going xs) (start : ℕ) (inside : List ℕ) (each : Each in_line inside) where
-  -- the line feed is a blank behind the comment
+  -- the line feed is a blank after the comment
   line_ends : Read (LineComment start) start (slash ∷ slash ∷ inside) (line_feed ∷ xs)
   line_ends =
       let at = start + length (slash ∷ slash ∷ inside) in

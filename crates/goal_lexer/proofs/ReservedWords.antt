@@ -1,4 +1,4 @@
--- Reserved words are looked up among those of their length, and known by their last bytes.
+-- A reserved word is found among those of its length, by its last byte first.
 use Rattle.std.proofs.Common.{◌≡◌, ℕ, ◌-◌, ◌&&◌, Bool, true, false, List, [], ◌∷◌, length, get_or, nat_eq, bytes_eq, if◌then◌else◌, refl, sym, ap, ◌∙◌, arith}
 use Rattle.std.proofs.lemmas.Bool.{and_parts}
 use Rattle.std.proofs.lemmas.Slice.Eq.{bytes_eq-Decides}
@@ -38,12 +38,12 @@ kind_among_length (entry ∷ entries) word =
 abbrev pub ends_as_reserved : List ℕ → Bool
 ends_as_reserved bytes = ends_reserved (get_or bytes (length bytes - 1) 0)
 
--- each word of the table ends so
+-- each word of the table ends with such a byte
 abbrev all_end_so : List (List ℕ × TokenKind) → Bool
 all_end_so [] = true
 all_end_so (entry ∷ entries) = ends_as_reserved entry.0 && all_end_so entries
 
--- bytes that end otherwise are not the word
+-- bytes with another end are not the word
 other_end : (xs ys : List ℕ) → ends_as_reserved xs ≡ false → ends_as_reserved ys ≡ true → bytes_eq xs ys ≡ false
 other_end xs ys free other = differs (bytes_eq xs ys) refl
   where
@@ -62,6 +62,6 @@ label_among (entry ∷ entries) word all free =
     ap (λ (b : Bool). if b then entry.1 else kind_among entries word) (other_end word entry.0 free parts.0)
     ∙ label_among entries word parts.1 free
 
--- a word that ends as none of them does is a label
+-- a word with an end that no reserved word has is a label
 pub label_by_end : (word : List ℕ) → ends_as_reserved word ≡ false → word_kind word ≡ Label word
 label_by_end word free = label_among reserved_words word refl free

@@ -1,4 +1,4 @@
--- The table of the bytes of runs is right.
+-- The table of run bytes is right.
 use Rattle.std.proofs.Common.{◌≡◌, ◌∙◌, ℕ, zero, suc, ◌+◌, ◌<◌, ◌&&◌, Bool, true, false, true≢false, not, nat_eq, List, [], ◌∷◌, length, get_or, refl, sym, ap, arith}
 use Rattle.goal_lexer.specs.Bytes.{is_run_byte}
 use Rattle.goal_lexer.specs.declared.bytes.TheConstants.{RUN_BYTES}
@@ -17,7 +17,7 @@ and-parts : (a b : Bool) → (a && b) ≡ true → (a ≡ true) × (b ≡ true)
 and-parts true b h = (refl, h)
 and-parts false b h = absurd (true≢false (sym h))
 
--- each byte of the list, of which the first is this one, is marked where it is one of a run
+-- each byte from this one on is marked in the list exactly if it is a run byte
 abbrev agree : ℕ → List ℕ → Bool
 agree c [] = true
 agree c (x ∷ xs) = same (nat_eq x 120) (is_run_byte c) && agree (1 + c) xs

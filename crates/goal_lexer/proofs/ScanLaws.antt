@@ -1,4 +1,4 @@
--- How scans of parts of a text make the scan of the text.
+-- How scans of parts of a text give the scan of the text.
 use Rattle.std.proofs.Common.{◌≡◌, ℕ, ◌+◌, ◌-◌, ◌<◌, ◌≤◌, List, [], ◌∷◌, ◌++◌, length, take, drop, get_or, refl, sym, ap, subst, ◌∙◌, arith, append_assoc, add-zero, take-append-drop}
 use Rattle.std.proofs.lemmas.List.{append-nil, take_more, length-take-le, take_rest, length-drop}
 use Rattle.std.proofs.Math.Seq.{take-add}
@@ -39,7 +39,7 @@ scan_quiet mode begun_here place xs ys quiet =
     scan-append mode place xs ys
     ∙ ap (λ (r : Scanned). after_tokens r.1 (scan r.0 (place + length xs) ys)) quiet
 
--- a byte more
+-- another byte
 pub scan_more : (mode begun_here : Mode) (place : ℕ) (xs : List ℕ) (n : ℕ) → n < length xs →
     scan mode place (take n xs) ≡ (begun_here, []) →
     scan mode place (take (n + 1) xs) ≡ next begun_here (place + n) (get_or xs n 0)
@@ -50,7 +50,7 @@ scan_more mode begun_here place xs n here quiet =
     ∙ ap (λ (k : ℕ). scan begun_here (place + k) (get_or xs n 0 ∷ [])) long
     ∙ scan_one begun_here (place + n) (get_or xs n 0)
 
--- bytes more that ended no token
+-- more bytes that ended no token
 pub scan_stretch : (mode begun_here new : Mode) (place : ℕ) (xs : List ℕ) (n m : ℕ) → n ≤ length xs →
     scan mode place (take n xs) ≡ (begun_here, []) → scan begun_here (place + n) (take m (drop n xs)) ≡ (new, []) →
     scan mode place (take (n + m) xs) ≡ (new, [])
@@ -75,7 +75,7 @@ sliced_within xs n m within inside =
     let there : m ≤ length (drop n xs) = subst (λ (ys : List ℕ). m ≤ length ys) (take_rest xs n) inside in
     omega (arith, length-drop n xs)
 
--- the fault of a front is the fault of the whole
+-- the fault of a prefix is the fault of the whole
 pub scan_fault : (mode : Mode) (at place : ℕ) (xs : List ℕ) (n : ℕ) →
     scan mode place (take n xs) ≡ (Failed at, []) → scan mode place xs ≡ (Failed at, [])
 scan_fault mode at place xs n failed =

@@ -1,4 +1,4 @@
--- A lexer that stands for a text, and what it stands for after more bytes.
+-- A lexer that represents a text, and what it represents after more bytes.
 use Rattle.std.proofs.Common.{zero, suc, ◌≡◌, ℕ, ◌+◌, ◌<◌, ◌≤◌, Bool, true, false, List, [], ◌∷◌, ◌++◌, length, take, Option, Some, None, refl, sym, ap, subst, ◌∙◌, arith, append_assoc, length-append}
 use Rattle.std.proofs.lemmas.List.{append-nil, length-take}
 use Rattle.goal_lexer.specs.declared.tokens.Token.{Token}
@@ -11,7 +11,7 @@ use Rattle.goal_lexer.specs.State.{LexState}
 use Rattle.goal_lexer.specs.Stands.{Stands, handed, so_far, begins_run}
 use Rattle.goal_lexer.proofs.ScanLaws.{scan-append, scan_failed}
 
--- a text and more of it
+-- a text and its continuation
 pub scanned-append : (text xs : List ℕ) →
     scanned (text ++ xs) ≡ after_tokens (scanned text).1 (scan (scanned text).0 (length text) xs)
 scanned-append text xs =
@@ -19,7 +19,7 @@ scanned-append text xs =
     scan-append Between 0 text xs
     ∙ ap (λ (p : ℕ). after_tokens (scanned text).1 (scan (scanned text).0 p xs)) same
 
--- a byte that belongs to no run ends the run, and goes on as where none is open
+-- a byte that is no run byte ends the run, and is then taken as if nothing were open
 past_run : (mode : Mode) (place c : ℕ) → IsRun mode → is_run_byte c ≡ false →
     next mode place c ≡ after_tokens (closing place mode) (next (after_run mode) place c)
 past_run (Run start bytes form) place c run apart = rw apart
@@ -38,7 +38,7 @@ scan_past_run mode place c cs run apart =
     ap (λ (r : Scanned). after_tokens r.1 (scan r.0 (place + 1) cs)) (past_run mode place c run apart)
     ∙ ap (λ (ts : List Token). (rest.0, ts)) (append_assoc (closing place mode) made.1 rest.1)
 
--- the scan of the text that a lexer stands for, and more, is the lexer's scan of the bytes more
+-- the scan of a continued text is the lexer's scan of the bytes that continue it
 pub goes_on : (mode : Mode) (place : ℕ) (ends : Bool) (text xs : List ℕ) →
     Stands (record { mode = mode; place = place; ends_run = ends }) text →
     (ends ≡ true → begins_run xs ≡ false) → (ends ≡ true → 0 < length xs) →
@@ -59,7 +59,7 @@ goes_on mode place true text (c ∷ cs) stands apart some =
     ∙ ap (λ (m : Mode). after_tokens (before ++ tokens) (scan m (length text) (c ∷ cs))) stands.open_there
     ∙ ap (λ (p : ℕ). after_tokens (before ++ tokens) (scan mode p (c ∷ cs))) stands.place
 
--- the scan of the text and more, where the lexer's scan of the bytes more is known
+-- the scan of a continued text, where the lexer's scan of the continuation is known
 pub went_on : (mode new : Mode) (place : ℕ) (ends : Bool) (text xs : List ℕ) (tokens : List Token) →
     Stands (record { mode = mode; place = place; ends_run = ends }) text →
     (ends ≡ true → begins_run xs ≡ false) → (ends ≡ true → 0 < length xs) →
@@ -67,14 +67,14 @@ pub went_on : (mode new : Mode) (place : ℕ) (ends : Bool) (text xs : List ℕ)
 went_on mode new place ends text xs tokens stands apart some scan_is =
     goes_on mode place ends text xs stands apart some ∙ ap (after_tokens (so_far ends text).1) scan_is
 
--- no run was handed out: the lexer keeps what is open
+-- no run was returned: the lexer keeps what is open
 pub stands_on : (new : Mode) (place : ℕ) (text xs : List ℕ) (tokens : List Token) → length (text ++ xs) ≡ place →
     scanned (text ++ xs) ≡ (new, tokens) → IsSound new →
     Stands (record { mode = new; place = place; ends_run = false }) (text ++ xs)
 stands_on new place text xs tokens at_place scan_is sound =
     record { place = at_place; open_there = ap (λ (r : Scanned). r.0) scan_is; run_there = tt; sound = sound }
 
--- what a run's token says of what is open
+-- what the token of a run says of what was open
 pub run_by_closing : (mode : Mode) (place : ℕ) (token : Token) → closing place mode ≡ token ∷ [] →
     (after_run mode ≡ Between) × IsRun mode
 run_by_closing (Run start bytes form) place token some = (refl, tt)
@@ -84,7 +84,7 @@ run_by_closing (LineComment start) place token some = cc
 run_by_closing (BlockComment start closes) place token some = cc
 run_by_closing (Failed at) place token some = cc
 
--- a run was handed out: nothing is open
+-- a run was returned: nothing is open
 pub stands_past_run : (run : Mode) (place : ℕ) (text xs : List ℕ) (tokens : List Token) (token : Token) →
     length (text ++ xs) ≡ place → scanned (text ++ xs) ≡ (run, tokens) → closing place run ≡ token ∷ [] →
     Stands (record { mode = Between; place = place; ends_run = true }) (text ++ xs)
@@ -112,7 +112,7 @@ run_was_open mode run place at [] token scan_is closing_is between =
     cc
 run_was_open mode run place at (x ∷ xs) token scan_is closing_is between = omega arith
 
--- the front of a piece
+-- a prefix of a piece
 pub begins_run-take : (n : ℕ) (xs : List ℕ) → begins_run xs ≡ false → begins_run (take n xs) ≡ false
 begins_run-take zero xs apart = refl
 begins_run-take (suc n) [] apart = refl
@@ -130,7 +130,7 @@ fault_of_every text more at tokens scan_is =
     ap (λ (r : Scanned). (r.1 ++ closing (length (text ++ more)) r.0, fault_at_end r.0)) whole
     ∙ ap (λ (ts : List Token). (ts, Some at)) (append-nil tokens)
 
--- behind a run nothing is at fault
+-- nothing is at fault after a run
 pub no_fault_in_run : (mode : Mode) → IsRun mode → (after_run mode ≡ Between) × (fault_at_end mode ≡ None)
 no_fault_in_run (Run start bytes form) run = (refl, refl)
 no_fault_in_run Between run = absurd run
@@ -139,7 +139,7 @@ no_fault_in_run (LineComment start) run = absurd run
 no_fault_in_run (BlockComment start closes) run = absurd run
 no_fault_in_run (Failed at) run = absurd run
 
--- what the lexer gives where the text ends
+-- what the lexer returns at the end of the text
 pub finishes : (mode : Mode) (place : ℕ) (ends : Bool) (text : List ℕ) →
     Stands (record { mode = mode; place = place; ends_run = ends }) text →
     lexed text ≡ ((so_far ends text).1 ++ closing place mode, fault_at_end mode)
@@ -154,7 +154,7 @@ finishes mode place true text stands =
     ∙ ap (λ (ts : List Token). (ts, None)) (sym (append-nil handed_out))
     ∙ ap (λ (m : Mode). (handed_out ++ closing place m, fault_at_end m)) between
 
--- the same for the front of a piece, where the lexer's state is another spelling of its parts
+-- the same for a prefix of a piece, with the lexer's state given by its parts
 pub went_view : (mode new : Mode) (place : ℕ) (ends : Bool) (lexer : LexState) →
     ◌≡◌ {A = LexState} (record { mode = mode; place = place; ends_run = ends }) lexer →
     (n : ℕ) (rest : List ℕ) (tokens : List Token) → (lexer.ends_run ≡ true → begins_run rest ≡ false) →
@@ -166,7 +166,7 @@ went_view mode new place ends lexer view_is n rest tokens apart some scan_is tex
     (λ was_apart stood. went_on mode new place ends text (take n rest) tokens stood (λ e. begins_run-take n rest (was_apart e)) some scan_is)
     apart stands
 
--- the length of the text goes on by the bytes taken
+-- the length of the text grows by the bytes taken
 pub place_on : (mode : Mode) (place : ℕ) (ends : Bool) (lexer : LexState) →
     ◌≡◌ {A = LexState} (record { mode = mode; place = place; ends_run = ends }) lexer →
     (n : ℕ) (rest text : List ℕ) → n ≤ length rest → Stands lexer text → length (text ++ take n rest) ≡ place + n

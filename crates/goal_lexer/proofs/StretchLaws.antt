@@ -11,7 +11,7 @@ use Rattle.goal_lexer.specs.Scan.{Scanned, after_tokens, next, scan, form_with}
 use Rattle.goal_lexer.specs.Pieces.{Each}
 use Rattle.goal_lexer.proofs.ByteLaws.{digit_in_run}
 
--- what holds at each place of a front holds of its bytes
+-- what holds at each place of a prefix holds of its bytes
 pub Each-take : (test : ℕ → Bool) (n : ℕ) (xs : List ℕ) → ((k : ℕ) → k < n → test (get_or xs k 0) ≡ true) → n ≤ length xs →
     Each test (take n xs)
 Each-take test zero xs each within = tt
@@ -19,7 +19,7 @@ Each-take test (suc n) [] each within = tt
 Each-take test (suc n) (x ∷ xs) each within =
     (each 0 (omega arith), Each-take test n xs (λ k below. each (suc k) (omega arith)) (omega arith))
 
--- the scan goes through bytes that leave what is open as it is
+-- the scan of bytes that leave what is open unchanged
 stays : (mode : Mode) (test : ℕ → Bool) → ((place c : ℕ) → test c ≡ true → next mode place c ≡ (mode, [])) →
     (place : ℕ) (xs : List ℕ) → Each test xs → scan mode place xs ≡ (mode, [])
 unfolding scan
@@ -37,7 +37,7 @@ one_blank place c blank =
 pub scan_blanks : (place : ℕ) (xs : List ℕ) → Each is_blank xs → scan Between place xs ≡ (Between, [])
 scan_blanks place xs each = stays Between is_blank one_blank place xs each
 
--- a byte other than this one
+-- a byte different from this one
 abbrev pub differs : ℕ → ℕ → Bool
 differs b c = if c == b then false else true
 
@@ -61,7 +61,7 @@ pub scan_before_star : (start place : ℕ) (xs : List ℕ) → Each (differs sta
 scan_before_star start place xs each =
     stays (BlockComment start false) (differs star) (λ p c is. let no = not_this star c is in rw no) place xs each
 
--- a run takes bytes that keep its form, as far as it has room
+-- a run takes bytes that keep its form, up to its room
 grows : (form : Form) (test : ℕ → Bool) → ((c : ℕ) → test c ≡ true → (is_run_byte c ≡ true) × (form_with form c ≡ Some form)) →
     (start place : ℕ) (bytes xs : List ℕ) → Each test xs → (0 < length xs → length (bytes ++ xs) ≤ 64) →
     scan (Run start bytes form) place xs ≡ (Run start (bytes ++ xs) form, [])

@@ -1,4 +1,4 @@
--- A lexer stands for each text of which it has taken whole pieces, and then what is open.
+-- A lexer represents each text of which it has taken whole pieces and then what is open.
 use Rattle.std.proofs.Common.{◌≡◌, ℕ, ◌+◌, ◌≤◌, Bool, true, false, ◌&&◌, not, List, [], ◌∷◌, ◌++◌, length, ◌==◌, refl, sym, ap, subst, ◌∙◌, arith, append_assoc, length-append}
 use Rattle.std.proofs.lemmas.Bool.{false≢true}
 use Rattle.std.proofs.lemmas.Bool.Decides.{nat_tests}
@@ -24,7 +24,7 @@ use Rattle.goal_lexer.proofs.StandsLaws.{scan_past_run}
 use Rattle.goal_lexer.proofs.WholeLaws.{scan_of_run, next_sign}
 use Rattle.goal_lexer.proofs.TakenLaws.{spelled-push, tokens_of-push}
 
--- the scan of a run, which is open behind it
+-- the scan of a run, which stays open
 scan_run : (place : ℕ) (form : Form) (bytes : List ℕ) → HasForm form bytes → length bytes ≤ 64 → scan Between place bytes ≡ (Run place bytes form, [])
 scan_run place form bytes has short = scan_of_run place bytes form (run_bytes bytes form (form_from form bytes has)) has short
 
@@ -88,7 +88,7 @@ unfolding scan
 scan_closed start place true rest = refl
 scan_closed start place false rest = refl
 
--- a byte and more
+-- a byte and those after it
 scan_byte : (mode new : Mode) (place c : ℕ) (ts : List Token) (rest : List ℕ) → next mode place c ≡ (new, ts) →
     scan mode place (c ∷ rest) ≡ after_tokens ts (scan new (place + 1) rest)
 unfolding scan
@@ -100,7 +100,7 @@ next_blank place c is =
     let no_digit : is_digit c ≡ false = grind (arith, nat_tests) in
     rw (no_word, no_digit, is)
 
--- the line feed behind a line comment
+-- the line feed after a line comment
 scan_line_end : (start place : ℕ) (ds : List ℕ) → scan (LineComment start) place (line_feed ∷ ds) ≡ scan Between place (line_feed ∷ ds)
 unfolding scan
 scan_line_end start place ds = refl
@@ -128,7 +128,7 @@ scan_piece (run form bytes) place (d ∷ ds) right settled =
     ∙ scan_past_run (Run place bytes form) (place + length bytes) d ds tt right.2
 scan_piece (sign c) place rest right settled = scan_byte Between Between place c (sign_tokens (sign_kind c) place) rest (next_sign place c right)
 
--- nothing written is no bytes
+-- no pieces have no bytes
 no_bytes : (xs ys : List ℕ) → xs ++ ys ≡ [] → (xs ≡ []) × (ys ≡ [])
 no_bytes [] ys none = (refl, none)
 no_bytes (x ∷ xs) ys none = cc
@@ -151,7 +151,7 @@ scan_pieces (p ∷ ps) place rest right settled =
     ∙ ap (λ (n : ℕ). after_tokens (piece_tokens place p) (after_tokens (tokens_of after ps) (scan Between n rest))) same
     ∙ ap (λ (ts : List Token). (last.0, ts)) (sym (append_assoc (piece_tokens place p) (tokens_of after ps) last.1))
 
--- what is open behind nothing open
+-- what is open after nothing was open
 scan_open : (mode : Mode) (place : ℕ) (bytes : List ℕ) → IsOpen mode place bytes → scan Between place bytes ≡ (mode, [])
 unfolding scan
 scan_open Between place bytes opened = ap (scan Between place) opened
@@ -196,7 +196,7 @@ AreRight-pop (q ∷ qs) p rest right =
     let others = AreRight-pop qs p rest right.1 in
     ((subst (IsRight q) same right.0, others.0), others.1)
 
--- by the lexer's parts
+-- for the parts of the lexer
 quiet_from : (mode : Mode) (place : ℕ) (text : List ℕ) → (taken : IsTaken (record { mode = mode; place = place; ends_run = false }) text) →
     scanned text ≡ (mode, tokens_of 0 taken.pieces)
 quiet_from mode place text taken =
@@ -209,7 +209,7 @@ quiet_from mode place text taken =
     (λ none more. subst (λ (t : List ℕ). AreRight ps (t ++ more)) none (taken.cut more (λ is. cc)).right)
     taken.opened
 
--- the same where a run was handed out: it was open at the end
+-- the same where a run was returned: it was open at the end
 run_from : (mode : Mode) (place : ℕ) (text : List ℕ) → (taken : IsTaken (record { mode = mode; place = place; ends_run = true }) text) →
     (start : ℕ) × (kept : List ℕ) × (form : Form) × (tokens : List Token) × (scanned text ≡ (Run start kept form, tokens))
     × (tokens ++ run_token start kept form (length text) ∷ [] ≡ tokens_of 0 taken.pieces)

@@ -1,4 +1,4 @@
--- A lexer that stands for a text has taken whole pieces, and then what is open.
+-- A lexer that represents a text has taken whole pieces and then what is open.
 use Rattle.std.proofs.Common.{◌≡◌, ℕ, ◌+◌, ◌≤◌, Bool, true, false, ◌&&◌, not, List, [], ◌∷◌, ◌++◌, length, Option, Some, None, IsSome, ◌==◌, nat_lt, if◌then◌else◌, refl, sym, ap, subst, ◌∙◌, arith, append_assoc, length-append}
 use Rattle.std.specs.Prelude.{⊤}
 use Rattle.std.proofs.lemmas.Bool.Decides.{nat_tests}
@@ -24,7 +24,7 @@ use Rattle.goal_lexer.proofs.NothingLaws.{Each-push}
 use Rattle.goal_lexer.proofs.ReadingLaws.{in_line}
 use Rattle.goal_lexer.proofs.ScanLaws.{scan_failed}
 
--- a piece behind pieces
+-- a piece after pieces
 pub spelled-push : (ps : List Piece) (p : Piece) → spelled (ps ++ p ∷ []) ≡ spelled ps ++ bytes_of p
 spelled-push [] p = append-nil (bytes_of p)
 spelled-push (q ∷ qs) p = ap (λ (t : List ℕ). bytes_of q ++ t) (spelled-push qs p) ∙ sym (append_assoc (bytes_of q) (spelled qs) (bytes_of p))
@@ -47,7 +47,7 @@ tokens_of-push at (q ∷ qs) p =
     ∙ ap (λ (n : ℕ). piece_tokens at q ++ (tokens_of next_at qs ++ piece_tokens n p)) same
     ∙ sym (append_assoc (piece_tokens at q) (tokens_of next_at qs) (piece_tokens (at + length (bytes_of q ++ spelled qs)) p))
 
--- whatever follows of these, the text is pieces with these tokens, and then what is open
+-- whatever of these bytes follows, the text is pieces with these tokens, and then what is open
 pub record Cut (follows : List ℕ → Type 0) (mode : Mode) (text : List ℕ) (tokens : List Token) : Type 0 where
   pub pieces : List Piece
   pub bytes : List ℕ
@@ -86,7 +86,7 @@ ready_of follows text tokens cut =
       tokens_are = cut.tokens_are;
     }
 
--- one piece more
+-- another piece
 with_piece : (follows : List ℕ → Type 0) (ps : List Piece) (p : Piece) (text : List ℕ) (tokens : List Token) →
     text ≡ spelled ps ++ bytes_of p → ((more : List ℕ) → follows more → AreRight ps (bytes_of p ++ more)) →
     ((more : List ℕ) → follows more → IsRight p more) → tokens ≡ tokens_of 0 ps →
@@ -101,7 +101,7 @@ with_piece follows ps p text tokens whole right one tokens_are =
           ∙ ap (λ (n : ℕ). tokens_of 0 ps ++ piece_tokens n p) (sym same) ∙ sym (tokens_of-push 0 ps p);
     }
 
--- what a byte makes of what is open, where it makes no fault
+-- what is open after a byte that makes no fault
 abbrev Went : List ℕ → List Token → ℕ → Scanned → Type 0
 Went text tokens c made = IsSound made.0 → Cut anything made.0 (text ++ c ∷ []) (tokens ++ made.1)
 
@@ -215,7 +215,7 @@ module _ (mode : Mode) (text : List ℕ) (tokens : List Token) (c : ℕ) (cut : 
       (cut.right (c ∷ more) tt))
       (λ more any. right more) cut.tokens_are))
 
-  -- what is open is a piece that ended before these
+  -- what is open is a piece that ended before these bytes
   ended_before : (follows : List ℕ → Type 0) (p : Piece) → bytes_of p ≡ cut.bytes → ((more : List ℕ) → follows more → IsRight p more) →
       Ready follows text (tokens ++ piece_tokens (length (spelled cut.pieces)) p)
   ended_before follows p spelling right =
@@ -223,11 +223,11 @@ module _ (mode : Mode) (text : List ℕ) (tokens : List Token) (c : ℕ) (cut : 
       (λ more fits. subst (λ (t : List ℕ). AreRight cut.pieces (t ++ more)) (sym spelling) (cut.right more tt))
       right cut.tokens_are
 
--- no more of a run
+-- bytes that do not continue a run
 abbrev pub apart : List ℕ → Type 0
 apart more = begins_run more ≡ false
 
--- a byte behind a run
+-- a byte after a run
 module _ (start : ℕ) (kept : List ℕ) (form : Form) (text : List ℕ) (tokens : List Token) (c : ℕ) (cut : Cut anything (Run start kept form) text tokens) where
   run_formed : (o : Option Form) → form_with form c ≡ o → is_run_byte c ≡ true → Went text tokens c (run_or_fault start (kept ++ c ∷ []) o, [])
   run_formed None grown in_run = faulty text tokens c start
@@ -266,7 +266,7 @@ module _ (start : ℕ) (kept : List ℕ) (form : Form) (text : List ℕ) (tokens
       (λ sound. subst (λ (ts : List Token). Cut anything made.0 (text ++ c ∷ []) ts) (append_assoc tokens closed made.1)
       (at_byte apart text (tokens ++ closed) c run_ends (λ more. no_run) sound))
 
--- a byte behind a `/`
+-- a byte after a `/`
 module _ (start : ℕ) (text : List ℕ) (tokens : List Token) (c : ℕ) (cut : Cut anything (Slash start) text tokens) where
   behind_star : (s : Bool) → (c == star) ≡ s → (c == slash) ≡ false → Went text tokens c (next (Slash start) (length text) c)
   behind_star false is_s no_slash =
@@ -285,7 +285,7 @@ module _ (start : ℕ) (text : List ℕ) (tokens : List Token) (c : ℕ) (cut : 
       (goes_on_by (Slash start) text tokens c cut (LineComment start)
       (cut.opened.0, ([], ap (λ (t : List ℕ). t ++ c ∷ []) cut.opened.1 ∙ ap (λ (b : ℕ). slash ∷ b ∷ []) same, tt)))
 
--- the line feed is a blank behind the comment
+-- the line feed is a blank after the comment
 module _ (start : ℕ) (text : List ℕ) (tokens : List Token) (c : ℕ) (cut : Cut anything (LineComment start) text tokens) where
   in_line_comment : (s : Bool) → (c == line_feed) ≡ s → Went text tokens c (next (LineComment start) (length text) c)
   in_line_comment false is_s =
@@ -338,7 +338,7 @@ step (LineComment start) text tokens c cut = in_line_comment start text tokens c
 step (BlockComment start closes) text tokens c cut = in_block_comment start closes text tokens c cut (closes && c == slash) refl
 step (Failed at) text tokens c cut = faulty text tokens c at
 
--- what a scan left sound was sound
+-- if no fault was met after a scan, none was met before
 sound_before : (mode : Mode) (place : ℕ) (xs : List ℕ) → IsSound (scan mode place xs).0 → IsSound mode
 sound_before Between place xs sound = tt
 sound_before (Run start kept form) place xs sound = tt
@@ -377,7 +377,7 @@ cut_of text sound =
       tokens_are = refl;
     }) sound
 
--- a lexer that handed out a run, and one that did not
+-- a lexer that just returned a run, and one that did not
 taken_from : (mode : Mode) (place : ℕ) (ends : Bool) (text : List ℕ) → Stands (record { mode = mode; place = place; ends_run = ends }) text →
     IsTaken (record { mode = mode; place = place; ends_run = ends }) text
 taken_from mode place false text stands =

@@ -1,9 +1,9 @@
--- The value of digits, one digit more.
+-- The value of digits extended by one.
 use Rattle.std.proofs.Common.{◌≡◌, ℕ, ◌+◌, ◌-◌, ◌*◌, ◌^◌, min, List, [], ◌∷◌, ◌++◌, arith, ap, ◌∙◌, sym}
 use Rattle.std.proofs.lemmas.List.Sums.{fold-append}
 use Rattle.goal_lexer.specs.Numbers.{decimal_value, number_value}
 
--- a value that stops at a limit, with a digit behind it
+-- a value bounded by a limit, extended by a digit
 stopped : (limit value ones : ℕ) → min (min (min value limit * 10) limit + ones) limit ≡ min (value * 10 + ones) limit
 stopped limit value ones = omega arith
 

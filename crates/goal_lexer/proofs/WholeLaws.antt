@@ -43,7 +43,7 @@ scan_of_digits place (c ∷ cs) some each short =
     let no_word = digit_no_word c digit in
     scan_first place c cs Digits (rw (no_word, digit)) (scan_digits place (place + 1) (c ∷ []) cs each.1 (λ _. short))
 
--- the mark of a size behind digits
+-- the mark of a size after digits
 next_mark : (start place : ℕ) (digits : List ℕ) → length (digits ++ size_mark ∷ []) ≤ 64 →
     next (Run start digits Digits) place size_mark ≡ (Run start (digits ++ size_mark ∷ []) Sized, [])
 next_mark start place digits short =
@@ -66,7 +66,7 @@ digits_each : (xs : List ℕ) → AreDigits xs → Each is_digit xs
 digits_each [] are = absurd are
 digits_each (x ∷ xs) are = are
 
--- a run of a form is open behind its bytes
+-- a run of a form is open after its bytes
 pub scan_of_run : (place : ℕ) (run : List ℕ) (form : Form) → Each is_run_byte run → HasForm form run → length run ≤ 64 →
     scan Between place run ≡ (Run place run form, [])
 scan_of_run place [] Word each has short = absurd has
@@ -78,13 +78,13 @@ scan_of_run place run Sized each has short =
     subst (λ (t : List ℕ). scan Between place t ≡ (Run place t Sized, [])) (sym has.1)
     (scan_of_size place digits (digits_some digits has.2) (digits_each digits has.2) fits)
 
--- the first byte of a front
+-- the first byte of a prefix
 begins_front : (n : ℕ) (xs : List ℕ) → 0 < n → 0 < length xs → begins_word (get_or xs 0 0) ≡ true → BeginsWord (take n xs)
 begins_front zero xs some has is = absurd (omega arith)
 begins_front (suc n) [] some has is = absurd (omega arith)
 begins_front (suc n) (x ∷ xs) some has is = is
 
--- a byte of no run stands there
+-- the byte at that place is no run byte
 ends_at : (piece : List ℕ) (n : ℕ) → n < length piece → is_run_byte (get_or piece n 0) ≡ false → begins_run (drop n piece) ≡ false
 ends_at piece n inside ends = ap begins_run (drop_more piece n 0 inside) ∙ ends
 
@@ -158,7 +158,7 @@ whole_size place count value piece some inside few each mark ends is =
       ),
     )
 
--- a whole run behind bytes that ended no token and left nothing open
+-- a whole run after bytes that ended no token and left nothing open
 pub run_in_piece : (mode : Mode) (place n count : ℕ) (piece : List ℕ) (token : Token) → n ≤ length piece →
     scan mode place (take n piece) ≡ (Between, []) → IsWholeRun (place + n) (take (length piece - n) (drop n piece)) count token →
     (n + count < length piece) × (begins_run (drop (n + count) piece) ≡ false)
@@ -179,7 +179,7 @@ run_in_piece mode place n count piece token within quiet given =
       whole.3 ∙ at,
     )
 
--- a sign is a token by itself
+-- a sign is a token
 module _ (place c : ℕ) where
   abbrev IsOwn : ℕ → Type 0
   IsOwn b = next Between place b ≡ (Between, sign_tokens (sign_kind b) place)
@@ -202,7 +202,7 @@ module _ (place c : ℕ) where
   pub next_sign : IsSome (sign_kind c) → next Between place c ≡ (Between, sign_tokens (sign_kind c) place)
   next_sign some = by_open (c == 123) refl some
 
--- a sign behind bytes that ended no token
+-- a sign after bytes that ended no token
 pub sign_in_piece : (place n : ℕ) (piece : List ℕ) (kind : TokenKind) → n < length piece →
     scan Between place (take n piece) ≡ (Between, []) → sign_kind (get_or piece n 0) ≡ Some kind →
     scan Between place (take (n + 1) piece) ≡ (Between, record { kind = kind; start = place + n; end = place + n + 1 } ∷ [])

@@ -1,4 +1,4 @@
--- What stands ahead in a piece, where nothing is open.
+-- The tokens at the front of a piece, while nothing is open.
 use Rattle.std.specs.Prelude.{◌≡◌, ℕ, ◌+◌, ◌<◌, ◌≤◌, Bool, true, false, ◌&&◌, List, [], ◌∷◌, length, take, drop, slice_index}
 use Rattle.std.specs.List.{list_all}
 use Rattle.goal_lexer.specs.declared.mode.Mode.TheVariants.{Between}
@@ -8,17 +8,17 @@ use Rattle.goal_lexer.specs.Scan.{scan, ended}
 use Rattle.goal_lexer.specs.Sound.{IsRun}
 use Rattle.goal_lexer.specs.Stands.{begins_run}
 
--- so many blanks stand in front
+-- the first n bytes of the piece are blanks
 abbrev pub AreBlanks : List ℕ → ℕ → Type 0
 AreBlanks piece n = (n ≤ length piece) × ((k : ℕ) → k < n → is_blank (slice_index piece k) ≡ true)
 
--- a letter or `_`, and bytes of a run behind it
+-- a letter or `_`, followed by run bytes
 abbrev pub is_word : List ℕ → Bool
 is_word [] = false
 is_word (c ∷ cs) = begins_word c && list_all is_run_byte cs
 
--- So many bytes in front of a piece, the first of which stands at this place where nothing is open, are these tokens, and
--- leave nothing open. Where they end with a run, that is told, and the piece goes on with no more of it.
+-- The first `count` bytes of a piece at this place are these tokens and leave nothing open, if nothing was open before.
+-- The flag says that they end with a run; then what follows in the piece does not continue it.
 abbrev pub IsAhead : ℕ → List ℕ → ℕ → Bool → List Token → Type 0
 IsAhead place piece count false tokens =
     (count ≤ length piece) × (scan Between place (take count piece) ≡ (Between, tokens))

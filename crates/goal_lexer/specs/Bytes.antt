@@ -1,4 +1,4 @@
--- What a byte of the text is.
+-- Classes of bytes.
 use Rattle.std.specs.Prelude.{ℕ, Bool, ◌||◌, ◌==◌}
 use Rattle.std.specs.Char.{is_ascii_alphabetic, is_ascii_digit}
 
@@ -14,11 +14,11 @@ begins_word c = is_ascii_alphabetic c || c == 95
 abbrev pub is_digit : ℕ → Bool
 is_digit c = is_ascii_digit c
 
--- a letter, a digit or `_`: the bytes of a run
+-- a run byte: a letter, a digit or `_`
 abbrev pub is_run_byte : ℕ → Bool
 is_run_byte c = begins_word c || is_digit c
 
--- `{`, `}` and `:`, which are tokens by themselves
+-- `{`, `}` and `:`, each of which is a token
 abbrev pub left_brace : ℕ
 left_brace = 123
 
@@ -38,6 +38,6 @@ star = 42
 abbrev pub line_feed : ℕ
 line_feed = 10
 
--- the `b` behind the digits of a size
+-- the `b` after the digits of a size
 abbrev pub size_mark : ℕ
 size_mark = 98

@@ -1,8 +1,8 @@
--- The token that a call of the lexer writes to its place.
+-- The token that a call of the lexer writes to the given place.
 use Rattle.std.specs.Prelude.{Bool, true, false, Option, Some, None}
 use Rattle.goal_lexer.specs.declared.tokens.Token.{Token}
 
--- what stands in the place is a token that was found, or else what stood there before, which says nothing
+-- the token written, if one was found; otherwise the place has no meaning
 abbrev pub found_token : Bool → Token → Option Token
 found_token true token = Some token
 found_token false token = None

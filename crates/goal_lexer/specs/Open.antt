@@ -1,4 +1,4 @@
--- What a lexer stands for, by the rules of pieces: whole pieces, and then what is open.
+-- The text that a lexer has taken, as whole pieces followed by what is open.
 use Rattle.std.specs.Prelude.{◌≡◌, ℕ, ◌≤◌, ◌⊎◌, Bool, true, false, not, List, [], ◌∷◌, ◌++◌, length, ◌==◌}
 use Rattle.goal_lexer.specs.declared.mode.Form.{Form}
 use Rattle.goal_lexer.specs.declared.mode.Mode.{Mode}
@@ -8,14 +8,14 @@ use Rattle.goal_lexer.specs.State.{LexState}
 use Rattle.goal_lexer.specs.Stands.{begins_run}
 use Rattle.goal_lexer.specs.Pieces.{Piece, run, Each, HasForm, has_close, spelled, IsCutInto}
 
--- a `*` stands at the end
+-- the bytes end with a `*`
 abbrev pub ends_in_star : List ℕ → Bool
 ends_in_star [] = false
 ends_in_star (c ∷ []) = c == star
 ends_in_star (c ∷ d ∷ cs) = ends_in_star (d ∷ cs)
 
--- The bytes at this place are open, as the lexer keeps them: no bytes; a run of a form, of at most 64 bytes; a `/`; a line
--- comment so far; or a block comment that has no `*/` so far, and maybe the `*` of one.
+-- The bytes from this place on are what the mode keeps open: nothing; a run of at most 64 bytes, with its form; a `/`;
+-- the beginning of a line comment; or that of a block comment without `*/`, which may end in `*`.
 abbrev pub IsOpen : Mode → ℕ → List ℕ → Type 0
 IsOpen Between place bytes = bytes ≡ []
 IsOpen (Run start kept form) place bytes = (start ≡ place) × (kept ≡ bytes) × HasForm form bytes × (length bytes ≤ 64)
@@ -30,8 +30,8 @@ IsOpen (Failed at) place bytes = ⊥
 abbrev pub EndInRun : List Piece → Type 0
 EndInRun pieces = (before : List Piece) × (form : Form) × (bytes : List ℕ) × (pieces ≡ before ++ run form bytes ∷ [])
 
--- Whatever follows, the text is these pieces and then the open bytes. Where a run was handed out, it is the last piece,
--- nothing is open, and what follows is no more of the run.
+-- Whatever follows, the text is these pieces and then the open bytes. If a run was just returned, it is the last piece,
+-- nothing is open, and what follows does not continue it.
 pub record IsTaken (lexer : LexState) (text : List ℕ) : Type 0 where
   pub pieces : List Piece
   pub bytes : List ℕ
@@ -40,7 +40,7 @@ pub record IsTaken (lexer : LexState) (text : List ℕ) : Type 0 where
   pub run_out : lexer.ends_run ≡ true → EndInRun pieces × (bytes ≡ [])
   pub place : length text ≡ lexer.place
 
--- The text ends with a `/`, or with a block comment that has no `*/`, and this begins at the place.
+-- The text ends with a `/`, or with an unclosed block comment, which begins at this place.
 pub record IsCutOff (text : List ℕ) (at : ℕ) : Type 0 where
   pub front : List ℕ
   pub bytes : List ℕ

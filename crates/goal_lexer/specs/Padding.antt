@@ -1,9 +1,9 @@
--- How a label lies in its 64 bytes.
+-- A label, padded to its 64 bytes.
 use Rattle.std.specs.Prelude.{◌≡◌, ℕ, ◌-◌, ◌≤◌, List, ◌++◌, length, replicate, take}
 use Rattle.std.proofs.Common.{arith, ap, length-append}
 use Rattle.std.proofs.lemmas.List.{length-take, length-replicate}
 
--- the bytes, and zeros behind them up to 64 in all
+-- the bytes, followed by zeros up to 64 bytes
 abbrev pub padded : List ℕ → List ℕ
 padded bs = bs ++ replicate (64 - length bs) 0
 

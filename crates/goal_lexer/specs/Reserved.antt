@@ -1,8 +1,8 @@
--- What the code asks of reserved words.
+-- How the code finds reserved words.
 use Rattle.std.specs.Prelude.{ℕ, Bool, ◌||◌, ◌==◌, List, [], ◌∷◌, length, nat_eq, if◌then◌else◌}
 use Rattle.goal_lexer.specs.declared.tokens.TokenKind.{TokenKind}
 
--- a byte that a reserved word ends with
+-- a reserved word ends with this byte
 abbrev pub ends_reserved : ℕ → Bool
 ends_reserved c =
     c == 99 || c == 100 || c == 103 || c == 107 || c == 109 || c == 111 || c == 115 || c == 117 || c == 118 || c == 121

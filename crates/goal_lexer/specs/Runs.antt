@@ -1,4 +1,4 @@
--- Which token a run is.
+-- The token of a run.
 use Rattle.std.specs.Prelude.{ℕ, ◌-◌, List, length, take}
 use Rattle.goal_lexer.specs.declared.tokens.Token.{Token}
 use Rattle.goal_lexer.specs.declared.tokens.TokenKind.{TokenKind}
@@ -8,7 +8,7 @@ use Rattle.goal_lexer.specs.declared.mode.Form.TheVariants.{Word, Digits, Sized}
 use Rattle.goal_lexer.specs.Words.{word_kind}
 use Rattle.goal_lexer.specs.Numbers.{number_value}
 
--- the kind of a run of this form: of a size, the last byte is the `b`
+-- the kind of a run of this form; a size ends with its `b`
 abbrev pub run_kind : Form → List ℕ → TokenKind
 run_kind Word bytes = word_kind bytes
 run_kind Digits bytes = Number (number_value bytes)

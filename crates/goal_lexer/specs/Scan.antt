@@ -10,19 +10,19 @@ use Rattle.goal_lexer.specs.declared.mode.Mode.TheVariants.{Between, Run, Slash,
 use Rattle.goal_lexer.specs.Bytes.{is_blank, begins_word, is_digit, is_run_byte, left_brace, right_brace, colon, slash, star, line_feed, size_mark}
 use Rattle.goal_lexer.specs.Runs.{run_token}
 
--- what is open after some bytes, and the tokens that ended in them
+-- what is open after some bytes, and the tokens that they ended
 abbrev pub Scanned : Type 0
 Scanned = Mode × List Token
 
--- the same with tokens before
+-- the same, preceded by other tokens
 abbrev pub after_tokens : List Token → Scanned → Scanned
 after_tokens tokens scanned = (scanned.0, tokens ++ scanned.1)
 
--- the token of one byte
+-- the token of a byte that is a sign
 abbrev pub sign : TokenKind → ℕ → Scanned
 sign kind place = (Between, record { kind = kind; start = place; end = place + 1 } ∷ [])
 
--- what a byte begins at this place, where nothing is open
+-- what a byte at this place begins, while nothing is open
 abbrev pub begun : ℕ → ℕ → Scanned
 begun place c =
     if begins_word c then (Run place (c ∷ []) Word, [])
@@ -34,19 +34,19 @@ begun place c =
     else (if c == slash then (Slash place, [])
     else (Failed place, [])))))))
 
--- the form of a run with one byte more, where there is one: a word takes each byte of a run, digits take digits and
--- one `b`, and nothing may stand behind that
+-- the form of a run extended by a run byte, if it has one: a word takes any run byte; digits take digits and then one
+-- `b`; nothing may follow that `b`
 abbrev pub form_with : Form → ℕ → Option Form
 form_with Word c = Some Word
 form_with Digits c = if is_digit c then Some Digits else (if c == size_mark then Some Sized else None)
 form_with Sized c = None
 
--- a run of at most 64 bytes of this form, or the fault at the run's first byte
+-- a run of this form, or a fault at its first byte if it has no form or more than 64 bytes
 abbrev pub run_or_fault : ℕ → List ℕ → Option Form → Mode
 run_or_fault start bytes None = Failed start
 run_or_fault start bytes (Some form) = if nat_lt 64 (length bytes) then Failed start else Run start bytes form
 
--- the tokens that end at this place where the next byte, if there is one, belongs to no run
+-- the tokens that end at this place, if no run byte follows
 abbrev pub closing : ℕ → Mode → List Token
 closing place (Run start bytes form) = run_token start bytes form place ∷ []
 closing place Between = []
@@ -55,7 +55,7 @@ closing place (LineComment start) = []
 closing place (BlockComment start closes) = []
 closing place (Failed at) = []
 
--- what the byte at this place makes of what is open
+-- what is open after the byte at this place, and the token that it ended
 abbrev pub next : Mode → ℕ → ℕ → Scanned
 next Between place c = begun place c
 next (Run start bytes form) place c =
@@ -70,12 +70,12 @@ next (BlockComment start closes) place c =
     if closes && c == slash then (Between, []) else (BlockComment start (c == star), [])
 next (Failed at) place c = (Failed at, [])
 
--- the same of a list of bytes, the first of which stands at this place
+-- the same for a list of bytes, of which the first is at this place
 unfoldable pub scan : Mode → ℕ → List ℕ → Scanned
 scan mode place [] = (mode, [])
 scan mode place (c ∷ cs) = after_tokens (next mode place c).1 (scan (next mode place c).0 (place + 1) cs)
 
--- the scan of a text from its begin
+-- the scan of a text from its beginning
 abbrev pub scanned : List ℕ → Scanned
 scanned text = scan Between 0 text
 
@@ -91,7 +91,7 @@ after_run (Failed at) = Failed at
 abbrev pub ended : ℕ → Scanned → Scanned
 ended place scanned = (after_run scanned.0, scanned.1 ++ closing place scanned.0)
 
--- the place where no token, blank or comment begins, if a text ends where this is open
+-- the place of the fault, if a text ends while this is open
 abbrev pub fault_at_end : Mode → Option ℕ
 fault_at_end Between = None
 fault_at_end (Run start bytes form) = None
@@ -100,6 +100,6 @@ fault_at_end (LineComment start) = None
 fault_at_end (BlockComment start closes) = Some start
 fault_at_end (Failed at) = Some at
 
--- the tokens of a text up to its fault, and the place of that fault, if it has one
+-- the tokens of a text up to its fault, and the place of that fault, if any
 abbrev pub lexed : List ℕ → List Token × Option ℕ
 lexed text = ((ended (length text) (scanned text)).1, fault_at_end (scanned text).0)

@@ -1,9 +1,9 @@
--- Facts on what is open.
+-- Conditions on what is open.
 use Rattle.std.specs.Prelude.{⊤}
 use Rattle.goal_lexer.specs.declared.mode.Mode.{Mode}
 use Rattle.goal_lexer.specs.declared.mode.Mode.TheVariants.{Between, Run, Slash, LineComment, BlockComment, Failed}
 
--- the lexer has met no fault
+-- no fault was met
 abbrev pub IsSound : Mode → Type 0
 IsSound (Failed at) = ⊥
 IsSound Between = ⊤

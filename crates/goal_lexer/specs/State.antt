@@ -1,8 +1,8 @@
--- What a lexer keeps.
+-- The state of a lexer.
 use Rattle.std.specs.Prelude.{ℕ, Bool}
 use Rattle.goal_lexer.specs.declared.mode.Mode.{Mode}
 
--- what is open or the fault, the number of bytes taken, and whether a run that was handed out ends there
+-- what is open or the fault, the number of bytes taken, and whether a run that was just returned ends there
 pub record LexState : Type 0 where
   pub mode : Mode
   pub place : ℕ

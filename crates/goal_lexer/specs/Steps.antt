@@ -1,4 +1,4 @@
--- What one byte, and what the bytes of a piece, do to what is open.
+-- How one byte, and the bytes of a piece, change what is open.
 use Rattle.std.specs.Prelude.{◌≡◌, ℕ, ◌+◌, ◌<◌, ◌≤◌, List, [], ◌∷◌, length, take, drop, false}
 use Rattle.goal_lexer.specs.declared.mode.Mode.{Mode}
 use Rattle.goal_lexer.specs.declared.mode.Mode.TheVariants.{Between, Failed}
@@ -12,7 +12,7 @@ use Rattle.goal_lexer.specs.Scan.{next, scan, closing}
 use Rattle.goal_lexer.specs.Sound.{IsSound}
 use Rattle.goal_lexer.specs.Stands.{begins_run}
 
--- what a step says of what was open, the byte's place, the byte, what is open then, and the token that it ends
+-- what a step says: what was open, the byte's place, the byte, what is open now, and the token that the byte ended
 abbrev pub StepsTo : Step → Mode → ℕ → ℕ → Mode → Token → Type 0
 StepsTo step.Nothing old place byte new token = (next old place byte ≡ (new, [])) × IsSound new
 StepsTo step.Run old place byte new token =
@@ -21,7 +21,7 @@ StepsTo step.Sign old place byte new token =
     (next old place byte ≡ (new, token ∷ [])) × (new ≡ Between) × (token.end ≡ place + 1)
 StepsTo (step.Fault at) old place byte new token = (next old place byte ≡ (Failed at, [])) × (new ≡ Failed at)
 
--- what a stop says of what was open, the piece's place, the piece, what is open then, and the token that ends there
+-- what a stop says: what was open, the piece's place, the piece, what is open now, and the token that ended there
 abbrev pub StopsAt : Stop → Mode → ℕ → List ℕ → Mode → Token → Type 0
 StopsAt stop.Piece old place piece new token = (scan old place piece ≡ (new, [])) × IsSound new
 StopsAt (stop.Run taken) old place piece new token =

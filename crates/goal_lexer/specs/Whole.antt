@@ -12,7 +12,7 @@ abbrev pub BeginsWord : List ℕ → Type 0
 BeginsWord [] = ⊥
 BeginsWord (c ∷ cs) = begins_word c ≡ true
 
--- so many bytes in front of a piece, the first of which stands at this place, are a run that ends there, and its token
+-- the first `count` bytes of a piece, which begins at this place, are a whole run, and this is its token
 abbrev pub IsWholeRun : ℕ → List ℕ → ℕ → Token → Type 0
 IsWholeRun place piece count token =
     (0 < count) × (count < length piece) × (begins_run (drop count piece) ≡ false) × (token.end ≡ place + count)

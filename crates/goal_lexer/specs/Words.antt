@@ -11,7 +11,7 @@ reserved_words =
     ∷ (codes "cpu", Cpu) ∷ (codes "nic", Nic) ∷ (codes "any", Any) ∷ (codes "requires", Requires)
     ∷ (codes "irequires", Irequires) ∷ (codes "moves", Moves) ∷ (codes "adds", Adds) ∷ []
 
--- the token of the first word of the table that is spelled so, or else a label
+-- the token of the first entry that has this spelling, or otherwise a label
 abbrev pub kind_among : List (List ℕ × TokenKind) → List ℕ → TokenKind
 kind_among [] word = Label word
 kind_among (entry ∷ entries) word = if bytes_eq word entry.0 then entry.1 else kind_among entries word

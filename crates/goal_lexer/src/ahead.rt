@@ -1,8 +1,7 @@
-//! What stands ahead in a piece, where nothing is open.
+//! The tokens at the front of a piece, while nothing is open.
 //!
-//! These look at tokens without taking them: a caller that finds what it waits for takes all of it by one
-//! [`crate::Lexer::go_on`]. Each finds less than a text may have: a token that isn't found so is taken by
-//! [`crate::Lexer::next_token_into`].
+//! These functions look at tokens without taking them: a caller that finds what it expects takes all of it by one
+//! [`crate::Lexer::go_on`]. They may miss a token that is there; [`crate::Lexer::next_token_into`] takes any token.
 ghost use Rattle.std.specs.Prelude.{◌≡◌, ℕ, ◌+◌, ◌-◌, ◌<◌, ◌≤◌, true, false, [], ◌∷◌, length, take, drop, bytes_eq};
 ghost use Rattle.goal_lexer.specs.declared.tokens.Token.{Token};
 ghost use Rattle.goal_lexer.specs.Ahead.{AreBlanks, is_word, IsAhead};
@@ -14,16 +13,16 @@ use crate::numbers::{Leading, leading_digits};
 use crate::stretches::{count_blanks, count_run};
 use crate::tokens::TokenKind;
 
-/// A number or a size that stands ahead.
+/// A number or a size at the front of a piece.
 #[derive(Clone, Copy, Debug, PartialEq, Eq)]
 pub struct Amount {
-    /// How many bytes it takes, with the blanks before it; 0 where none was found.
+    /// The number of its bytes, with the blanks before it; 0 if none was found.
     pub count: usize,
     /// Its value.
     pub value: u64,
 }
 
-/// How many blanks stand in front, where they may be many.
+/// Returns a number of blanks at the front, which may be many.
 #[inline(never)]
 fn many_blanks(rest: &[u8]) -> usize
     ensures { AreBlanks rest.now result }
@@ -31,7 +30,7 @@ fn many_blanks(rest: &[u8]) -> usize
     count_blanks(rest)
 }
 
-/// How many blanks stand in front.
+/// Returns a number of blanks at the front.
 #[inline(always)]
 pub fn blanks_ahead(rest: &[u8]) -> usize
     ensures { AreBlanks rest.now result }
@@ -42,7 +41,7 @@ pub fn blanks_ahead(rest: &[u8]) -> usize
     many_blanks(rest)
 }
 
-/// Whether two pieces begin with the same four bytes.
+/// Returns whether two pieces begin with the same four bytes.
 #[inline(always)]
 pub fn begin_alike(one: &[u8], other: &[u8]) -> bool
     requires one { 4 ≤ length one.now }
@@ -53,7 +52,7 @@ pub fn begin_alike(one: &[u8], other: &[u8]) -> bool
         == u32::from_le_bytes([other[0], other[1], other[2], other[3]])
 }
 
-/// Whether a piece begins with a word.
+/// Returns whether a piece begins with these bytes: true only if it does.
 #[inline(always)]
 fn begins_with(rest: &[u8], word: &[u8]) -> bool
     requires { length word.now ≤ length rest.now }
@@ -75,7 +74,7 @@ fn begins_with(rest: &[u8], word: &[u8]) -> bool
     true
 }
 
-/// How many bytes so many blanks and the word behind them take, where it ends inside the piece, and else 0.
+/// Returns the length of these blanks and the word after them, if the word ends inside the piece, and otherwise 0.
 #[inline(always)]
 pub fn word_ahead(rest: &[u8], blanks: usize, word: &[u8]) -> usize
     requires blanks { AreBlanks rest.now blanks }
@@ -94,7 +93,8 @@ pub fn word_ahead(rest: &[u8], blanks: usize, word: &[u8]) -> usize
     end
 }
 
-/// How many bytes a space and the word behind it take, which are given as one, where the word ends inside the piece, and else 0.
+/// Returns the length of a space and the word after it, both given in `spaced`, if the word ends inside the piece, and
+/// otherwise 0.
 #[inline(always)]
 pub fn spaced_word_ahead(rest: &[u8], spaced: &[u8]) -> usize
     requires space { take 1 spaced.now ≡ 32 ∷ [] }
@@ -107,14 +107,14 @@ pub fn spaced_word_ahead(rest: &[u8], spaced: &[u8]) -> usize
     if end >= rest.len() || !begins_with(rest, spaced) {
         return 0;
     }
-    // most words stand before a space
+    // most words are followed by a space
     if rest[end] != b' ' && is_run_byte(rest[end]) {
         return 0;
     }
     end
 }
 
-/// Whether ` cpu 0 nic 0` stands in front, and ends inside the piece.
+/// Returns whether the piece begins with ` cpu 0 nic 0`, which ends inside it: true only if it does.
 #[inline(always)]
 pub fn begins_with_no_places(rest: &[u8]) -> bool
     ensures { result ≡ true → (place : ℕ) → (cpu zero nic none : Token)
@@ -127,7 +127,7 @@ pub fn begins_with_no_places(rest: &[u8]) -> bool
     true
 }
 
-/// Whether a colon stands in front.
+/// Returns whether the piece begins with a colon: true only if it does.
 #[inline(always)]
 pub fn begins_with_colon(rest: &[u8]) -> bool
     ensures { result ≡ true → (place : ℕ) → IsAhead place rest.now 1 false (record { kind = TokenKind.Colon; start = place; end = place + 1 } ∷ []) }
@@ -135,7 +135,7 @@ pub fn begins_with_colon(rest: &[u8]) -> bool
     !rest.is_empty() && rest[0] == b':'
 }
 
-/// The number that stands ahead, where it ends inside the piece and has few digits.
+/// Finds a number at the front that ends inside the piece and has few digits.
 #[inline(never)]
 fn long_number_ahead(rest: &[u8]) -> Amount
     ensures within { result.count ≤ length rest.now }
@@ -150,7 +150,7 @@ fn long_number_ahead(rest: &[u8]) -> Amount
     Amount { count: end, value }
 }
 
-/// The number that stands ahead, where it ends inside the piece and has few digits. Most numbers are one to four digits behind
+/// Finds a number at the front that ends inside the piece and has few digits. Most numbers are one to four digits after
 /// a space.
 #[inline(always)]
 pub fn number_ahead(rest: &[u8]) -> Amount
@@ -194,7 +194,7 @@ pub fn number_ahead(rest: &[u8]) -> Amount
     Amount { count: 5, value }
 }
 
-/// The size that stands ahead, where it ends inside the piece and has few digits.
+/// Finds a size at the front that ends inside the piece and has few digits.
 #[inline(never)]
 fn long_size_ahead(rest: &[u8]) -> Amount
     ensures within { result.count ≤ length rest.now }
@@ -210,7 +210,7 @@ fn long_size_ahead(rest: &[u8]) -> Amount
     Amount { count: end, value }
 }
 
-/// The size that stands ahead, where it ends inside the piece and has few digits. Many sizes are a digit behind a space.
+/// Finds a size at the front that ends inside the piece and has few digits. Many sizes are one digit after a space.
 #[inline(always)]
 pub fn size_ahead(rest: &[u8]) -> Amount
     ensures within { result.count ≤ length rest.now }
@@ -228,8 +228,8 @@ pub fn size_ahead(rest: &[u8]) -> Amount
     long_size_ahead(rest)
 }
 
-/// How many bytes so many blanks and the label behind them take, where the label ends inside the piece and no reserved word
-/// ends as it does, and else 0.
+/// Returns the length of these blanks and the label after them, if the label ends inside the piece and with a byte that
+/// ends no reserved word, and otherwise 0.
 #[inline(never)]
 pub fn label_ahead(rest: &[u8], blanks: usize) -> usize
     requires blanks { AreBlanks rest.now blanks }
@@ -243,7 +243,7 @@ pub fn label_ahead(rest: &[u8], blanks: usize) -> usize
     if count == 0 || count >= run.len() || count > MOST_RUN_BYTES {
         return 0;
     }
-    // a byte of a run behind `9` is a letter or `_`
+    // a run byte above `9` is a letter or `_`
     if run[0] <= b'9' || ends_reserved(run[count - 1]) {
         return 0;
     }

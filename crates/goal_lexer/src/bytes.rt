@@ -1,9 +1,9 @@
-//! What a byte of the text is.
+//! Classes of bytes.
 ghost use Rattle.std.specs.Prelude.{◌≡◌};
 ghost use Rattle.goal_lexer.specs.Bytes.{is_blank, begins_word, is_digit, is_run_byte};
 ghost use Rattle.goal_lexer.specs.Reserved.{ends_reserved};
 
-/// The bytes of runs among all bytes: an `x` at each.
+/// The run bytes among all bytes: an `x` at each.
 const RUN_BYTES: [u8; 256] = *b"\
 ................................\
 ................xxxxxxxxxx......\
@@ -14,28 +14,28 @@ const RUN_BYTES: [u8; 256] = *b"\
 ................................\
 ................................";
 
-/// Whether the byte is a space, a tab, a carriage return or a line feed.
+/// Returns whether the byte is a space, a tab, a carriage return or a line feed.
 pub(crate) fn is_blank(byte: u8) -> bool
     ensures { result ≡ is_blank byte }
 {
     byte == b' ' || byte == b'\t' || byte == b'\r' || byte == b'\n'
 }
 
-/// Whether the byte is a letter or `_`.
+/// Returns whether the byte is a letter or `_`.
 pub(crate) fn begins_word(byte: u8) -> bool
     ensures { result ≡ begins_word byte }
 {
     byte.is_ascii_alphabetic() || byte == b'_'
 }
 
-/// Whether the byte is a decimal digit.
+/// Returns whether the byte is a decimal digit.
 pub(crate) fn is_digit(byte: u8) -> bool
     ensures { result ≡ is_digit byte }
 {
     byte.is_ascii_digit()
 }
 
-/// Whether a reserved word ends with the byte.
+/// Returns whether a reserved word ends with the byte.
 pub(crate) fn ends_reserved(byte: u8) -> bool
     ensures { result ≡ ends_reserved byte }
 {
@@ -47,7 +47,7 @@ pub(crate) fn ends_reserved(byte: u8) -> bool
         )
 }
 
-/// Whether the byte is a letter, a digit or `_`.
+/// Returns whether the byte is a run byte: a letter, a digit or `_`.
 pub(crate) fn is_run_byte(byte: u8) -> bool
     ensures { result ≡ is_run_byte byte }
 {

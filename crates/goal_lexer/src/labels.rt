@@ -1,4 +1,4 @@
-//! A label of an operation.
+//! The label of an operation.
 ghost use Rattle.std.specs.Prelude.{◌≡◌, ℕ, ◌<◌, ◌≤◌, List, [], ◌∷◌, ◌++◌, length, nat_eq};
 ghost use Rattle.std.specs.Cmp.Lexicographic.{pointwise, nat_list_eq_equiv};
 ghost use Rattle.std.specs.Cmp.{partial_equiv_from_equiv};
@@ -7,10 +7,10 @@ ghost use Rattle.goal_lexer.specs.Hashing.{one_write, one_write_alike};
 use std::hash::{Hash, Hasher};
 use std::marker::Model;
 
-/// The most bytes that a run has: a label, a reserved word, a number or a size.
+/// The most bytes of a run, which is a label, a reserved word, a number or a size.
 pub const MOST_RUN_BYTES: usize = 64;
 
-/// A label of 1 to 64 bytes, held without memory of its own. It is seen as the list of its bytes.
+/// A label of 1 to 64 bytes, stored in place. Contracts see the list of its bytes.
 #[derive(Clone, Copy, Debug)]
 pub struct Label {
     bytes: [u8; MOST_RUN_BYTES],
@@ -33,7 +33,7 @@ impl Model for Label {
 }
 
 impl Label {
-    /// The label of one byte.
+    /// Creates the label of one byte.
     pub(crate) fn of_byte(byte: u8) -> Label
         ensures { result ≡ byte ∷ [] }
     {
@@ -42,7 +42,7 @@ impl Label {
         Label { bytes, len: 1 }
     }
 
-    /// The label of these bytes.
+    /// Creates the label of these 1 to 64 bytes.
     pub fn of(text: &[u8]) -> Label
         requires some { 0 < length text.now }
         requires most { length text.now ≤ 64 }
@@ -56,7 +56,7 @@ impl Label {
         }
     }
 
-    /// Adds a byte at the end.
+    /// Appends a byte.
     pub(crate) fn push(&mut self, byte: u8)
         requires { length self.old < 64 }
         ensures { self.new ≡ self.old ++ byte ∷ [] }
@@ -65,7 +65,7 @@ impl Label {
         self.len += 1;
     }
 
-    /// The number of bytes.
+    /// Returns the number of bytes, 1 to 64.
     pub(crate) fn len(&self) -> usize
         ensures value { result ≡ length self.now }
         ensures above { 0 < result }
@@ -74,7 +74,7 @@ impl Label {
         self.len
     }
 
-    /// The bytes of the label, in order.
+    /// Returns the bytes, 1 to 64.
     pub fn as_bytes(&self) -> &[u8]
         ensures bytes { result.now ≡ self.now }
         ensures some { 0 < length result.now }

@@ -14,13 +14,12 @@ use crate::tokens::{LexFault, Lexed, Taken, Token};
 use crate::words::run_kind;
 use std::marker::Model;
 
-/// Takes a text in pieces, and hands out its tokens.
+/// Takes a text in pieces, and returns its tokens.
 ///
-/// A lexer keeps what is open where it stands, how many bytes it took, and whether a run that it handed
-/// out ends there. It doesn't keep the bytes that it took, so its contracts speak of each text that it
-/// *stands for* (`Stands`). [`Lexer::new`] stands for the empty text, and after a call that takes bytes
-/// the lexer stands for the text before followed by these bytes. After a fault it stands for no text, and
-/// answers the same fault from then on.
+/// A lexer keeps what is open, the number of bytes taken, and whether a run that it just returned ends there. It does
+/// not keep the bytes, so its contracts speak of each text that it *represents* (`Stands`). [`Lexer::new`] represents
+/// the empty text. After a call that takes bytes, the lexer represents the text before followed by these bytes. After a
+/// fault it represents no text, and returns the same fault from then on.
 #[derive(Drop)]
 pub struct Lexer {
     mode: Mode,
@@ -37,12 +36,12 @@ impl Model for Lexer {
 
     ghost view = { λ l. record { mode = l.mode; place = l.place; ends_run = l.ends_run } };
 
-    // Behind a run that was handed out, nothing is open.
+    // After a run that was returned, nothing is open.
     ghost invariant = { λ l. l.ends_run ≡ true → l.mode ≡ Between };
 }
 
 impl Lexer {
-    /// A lexer that has taken no byte.
+    /// Creates a lexer that has taken no byte.
     pub fn new() -> Lexer
         ensures stands { Stands result [] }
         ensures handed { handed result [] ≡ [] }
@@ -56,7 +55,7 @@ impl Lexer {
         }
     }
 
-    /// Whether nothing is open.
+    /// Returns whether nothing is open: true only if so.
     #[inline(always)]
     pub fn is_between(&self) -> bool
         ensures { result ≡ true → self.now.mode ≡ Mode.Between }
@@ -67,14 +66,14 @@ impl Lexer {
         }
     }
 
-    /// Takes so many bytes from the front of `rest`, which the functions that look ahead found to be tokens, and whether
-    /// they end with a run.
+    /// Takes `count` bytes from the front of `rest` that a function such as [`crate::word_ahead`] found to be tokens;
+    /// `ends_run` says whether they end with a run.
     #[inline(always)]
     pub fn go_on(&mut self, rest: &[u8], count: usize, ends_run: bool)
         // The places are numbers of 64 bits.
         requires place { self.old.place + length rest.now < 2 ^ 64 }
 
-        // Nothing is open, and what follows a run that was handed out is no more of that run.
+        // Nothing is open, and `rest` does not continue a run that was returned.
         requires between { self.old.mode ≡ Mode.Between }
         requires apart { self.old.ends_run ≡ true → begins_run rest.now ≡ false }
 
@@ -87,7 +86,7 @@ impl Lexer {
         ensures apart_next { self.new.ends_run ≡ true → begins_run (drop count rest.now) ≡ false }
         ensures left { self.new.ends_run ≡ true → count < length rest.now }
 
-        // The text goes on by these bytes, and the tokens handed out by their tokens.
+        // The text is continued by these bytes, and the tokens returned by theirs.
         ensures stands { (text : List ℕ) → Stands self.old text → Stands self.new (text ++ take count rest.now) }
         ensures handed { (tokens : List Token) → IsAhead self.old.place rest.now count ends_run tokens → (text : List ℕ) → Stands self.old text → handed self.new (text ++ take count rest.now) ≡ handed self.old text ++ tokens }
     {
@@ -96,21 +95,21 @@ impl Lexer {
         self.ends_run = ends_run;
     }
 
-    /// Takes bytes from the front of `rest`, up to the end of the next token, and hands that token out. Where
-    /// no token was completed, all of `rest` is taken and the token is `None`.
+    /// Takes bytes from the front of `rest`, up to the end of the next token, and returns that token. If no token was
+    /// completed, all of `rest` is taken and the token is `None`.
     ///
-    /// The token of a run is completed once the byte behind the run is given, and that byte isn't taken. `{`,
-    /// `}` and `:` are completed with their own byte.
+    /// The token of a run is completed by the byte after the run, which is not taken. `{`, `}` and `:` are completed by
+    /// their own byte.
     ///
     /// # Errors
     ///
-    /// `LexFault` at the first byte behind the tokens handed out, blanks and comments where no token, blank or
-    /// comment begins, whatever follows `rest`; and after a fault the same again.
+    /// `LexFault` at the first place, after the tokens, blanks and comments so far, where no token, blank or comment
+    /// begins, whatever follows `rest`. After a fault, the same fault again.
     pub fn next_token(&mut self, rest: &[u8]) -> Result<Lexed, LexFault>
         // The places are numbers of 64 bits.
         requires place { self.old.place + length rest.now < 2 ^ 64 }
 
-        // What follows a run that was handed out is no more of that run.
+        // `rest` does not continue a run that was returned.
         requires apart { self.old.ends_run ≡ true → begins_run rest.now ≡ false }
 
         ensures taken { IfOk result (λ l. l.taken ≤ length rest.now) }
@@ -121,14 +120,14 @@ impl Lexer {
         ensures apart_next { IfOk result (λ l. self.new.ends_run ≡ true → begins_run (drop l.taken rest.now) ≡ false) }
         ensures left { IfOk result (λ l. 0 < length rest.now → self.new.ends_run ≡ true → l.taken < length rest.now) }
 
-        // A call on bytes takes one, or hands out the run that ended before them.
+        // A call with bytes takes one, or returns the run that ended before them.
         ensures moves { IfOk result (λ l. 0 < length rest.now → (0 < l.taken) ⊎ ((self.old.ends_run ≡ false) × (self.new.ends_run ≡ true))) }
 
-        // The text goes on by the bytes taken, and the tokens handed out by the token.
+        // The text is continued by the bytes taken, and the tokens returned by the token.
         ensures stands { IfOk result (λ l. (text : List ℕ) → Stands self.old text → Stands self.new (text ++ take l.taken rest.now)) }
         ensures handed { IfOk result (λ l. (text : List ℕ) → Stands self.old text → handed self.new (text ++ take l.taken rest.now) ≡ handed self.old text ++ option_to_list l.token) }
 
-        // The fault is that of each text that begins with the bytes given so far, and its tokens are those handed out.
+        // Every text that begins with the bytes given so far has this fault, and the tokens returned are its tokens.
         ensures fault { IfErr result (λ e. (text : List ℕ) → Stands self.old text → scanned (text ++ rest.now) ≡ (Mode.Failed e.at, handed self.old text)) }
         ensures every { IfErr result (λ e. (text more : List ℕ) → Stands self.old text → lexed (text ++ rest.now ++ more) ≡ (handed self.old text, Some e.at)) }
         ensures failed { IfErr result (λ e. self.new.mode ≡ Mode.Failed e.at) }
@@ -150,8 +149,8 @@ impl Lexer {
         }
     }
 
-    /// The same as [`Lexer::next_token`], with the token written to its place, so that none is moved. Where no token was
-    /// completed, what stands in the place says nothing.
+    /// Does the same as [`Lexer::next_token`], but writes the token to `token`, so that none is moved. If no token was
+    /// completed, `token` has no meaning.
     ///
     /// # Errors
     ///
@@ -160,7 +159,7 @@ impl Lexer {
         // The places are numbers of 64 bits.
         requires place { self.old.place + length rest.now < 2 ^ 64 }
 
-        // What follows a run that was handed out is no more of that run.
+        // `rest` does not continue a run that was returned.
         requires apart { self.old.ends_run ≡ true → begins_run rest.now ≡ false }
 
         ensures taken { IfOk result (λ l. l.taken ≤ length rest.now) }
@@ -171,14 +170,14 @@ impl Lexer {
         ensures apart_next { IfOk result (λ l. self.new.ends_run ≡ true → begins_run (drop l.taken rest.now) ≡ false) }
         ensures left { IfOk result (λ l. 0 < length rest.now → self.new.ends_run ≡ true → l.taken < length rest.now) }
 
-        // A call on bytes takes one, or hands out the run that ended before them.
+        // A call with bytes takes one, or returns the run that ended before them.
         ensures moves { IfOk result (λ l. 0 < length rest.now → (0 < l.taken) ⊎ ((self.old.ends_run ≡ false) × (self.new.ends_run ≡ true))) }
 
-        // The text goes on by the bytes taken, and the tokens handed out by the token.
+        // The text is continued by the bytes taken, and the tokens returned by the token.
         ensures stands { IfOk result (λ l. (text : List ℕ) → Stands self.old text → Stands self.new (text ++ take l.taken rest.now)) }
         ensures handed { IfOk result (λ l. (text : List ℕ) → Stands self.old text → handed self.new (text ++ take l.taken rest.now) ≡ handed self.old text ++ option_to_list (found_token l.found token.new)) }
 
-        // The fault is that of each text that begins with the bytes given so far, and its tokens are those handed out.
+        // Every text that begins with the bytes given so far has this fault, and the tokens returned are its tokens.
         ensures fault { IfErr result (λ e. (text : List ℕ) → Stands self.old text → scanned (text ++ rest.now) ≡ (Mode.Failed e.at, handed self.old text)) }
         ensures every { IfErr result (λ e. (text more : List ℕ) → Stands self.old text → lexed (text ++ rest.now ++ more) ≡ (handed self.old text, Some e.at)) }
         ensures failed { IfErr result (λ e. self.new.mode ≡ Mode.Failed e.at) }
@@ -219,13 +218,12 @@ impl Lexer {
         }
     }
 
-    /// Says that the text has ended, and hands out its last token, where a run was open. Where none was, it is
-    /// `None`.
+    /// Ends the text, and returns its last token if a run is open, or otherwise `None`.
     ///
     /// # Errors
     ///
-    /// `LexFault` at a `/` that begins no comment or at a comment that is never closed, and after a fault the
-    /// same again.
+    /// `LexFault` at a `/` that begins no comment, or at a block comment that is not closed. After a fault, the same
+    /// fault again.
     pub fn finish(self) -> Result<Option<Token>, LexFault>
         ensures ok { IfOk result (λ last. (text : List ℕ) → Stands self text → lexed text ≡ (handed self text ++ option_to_list last, None)) }
         ensures fault { IfErr result (λ e. (text : List ℕ) → Stands self text → lexed text ≡ (handed self text, Some e.at)) }

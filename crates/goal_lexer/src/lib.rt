@@ -1,11 +1,10 @@
 //! The tokens of a schedule text, taken from the text in pieces.
 //!
-//! A [`Lexer`] is handed the text piece by piece, cut at any places. Each call of
-//! [`Lexer::next_token`] takes bytes from the front of a piece up to the end of the next token, and
-//! [`Lexer::finish`] ends the text. The lexer takes no memory, and keeps no byte but those of the run
-//! that is open.
+//! A [`Lexer`] takes the text piece by piece, cut at any places. Each call of [`Lexer::next_token`] takes bytes from
+//! the front of a piece up to the end of the next token, and [`Lexer::finish`] ends the text. The lexer allocates
+//! nothing, and keeps only the bytes of the run that is open.
 //!
-//! Functions as [`word_ahead`] and [`label_ahead`] look ahead at the tokens that a piece begins with and take none, and
+//! Functions such as [`word_ahead`] and [`label_ahead`] look at the tokens at the front of a piece and take none;
 //! [`Lexer::go_on`] takes what they found by one call.
 #![tactic(auto)]
 

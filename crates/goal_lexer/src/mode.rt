@@ -1,43 +1,51 @@
-//! What is open where the lexer stands.
+//! What is open after the bytes taken so far.
 use crate::labels::Label;
 
-/// The form that a run has so far. Each is the form of a whole token.
+/// The form of a run so far. Each is the form of a whole token.
 #[derive(Clone, Copy)]
 pub enum Form {
-    /// A letter or `_`, and any bytes of a run behind it.
+    /// A letter or `_`, followed by any run bytes.
     Word,
-    /// Digits alone.
+    /// Digits only.
     Digits,
-    /// Digits and a `b` behind them.
+    /// Digits, followed by a `b`.
     Sized,
 }
 
-/// What is open where the lexer stands, or the fault that it met.
+/// What is open after the bytes taken so far, or the fault that was met.
 #[derive(Clone, Copy)]
 pub enum Mode {
     /// Nothing is open.
     Between,
-    /// A run, with the place of its first byte, its bytes and their form.
+    /// A run.
     Run {
+        /// The place of its first byte.
         start: u64,
+        /// Its bytes so far.
         bytes: Label,
+        /// Their form.
         form: Form,
     },
-    /// A `/` at this place, which has to begin a comment.
+    /// A `/`, which has to begin a comment.
     Slash {
+        /// Its place.
         start: u64,
     },
     /// A comment that ends with its line.
     LineComment {
+        /// The place of its first byte.
         start: u64,
     },
-    /// A comment that ends with `*/`, and whether a `/` as the next byte would close it.
+    /// A comment that ends with `*/`.
     BlockComment {
+        /// The place of its first byte.
         start: u64,
+        /// Whether a `/` as the next byte would close it.
         closes: bool,
     },
-    /// No token, blank or comment begins at this place.
+    /// No token, blank or comment begins at a place.
     Failed {
+        /// That place.
         at: u64,
     },
 }

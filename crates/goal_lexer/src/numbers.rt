@@ -5,17 +5,17 @@ ghost use Rattle.goal_lexer.specs.Numbers.{number_value};
 
 use crate::bytes::is_digit;
 
-/// Whatever so many digits are, their value is below 2^64.
+/// A number of digits that is safe: every value of this many digits is below 2^64.
 const SURE_DIGITS: usize = 19;
 
-/// Digits in front of a piece: how many they are, and their value.
+/// The digits at the front of a piece: their number, at most 19, and their value.
 #[derive(Clone, Copy)]
 pub(crate) struct Leading {
     pub(crate) count: usize,
     pub(crate) value: u64,
 }
 
-/// The digits in front of a piece, or the first 19 of them.
+/// Returns the digits at the front of a piece, at most 19 of them.
 #[inline(always)]
 pub(crate) fn leading_digits(piece: &[u8]) -> Leading
     ensures within { result.count ≤ length piece.now }
@@ -32,7 +32,7 @@ pub(crate) fn leading_digits(piece: &[u8]) -> Leading
     Leading { count, value }
 }
 
-/// The decimal value of the digits, or 2^64-1 where it is larger.
+/// Returns the decimal value of the digits, or 2^64-1 if that is less.
 pub(crate) fn number_value(digits: &[u8]) -> u64
     ensures { result ≡ number_value digits.now }
 {

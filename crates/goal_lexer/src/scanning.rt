@@ -1,4 +1,4 @@
-//! What the bytes of a piece make of what is open.
+//! How the bytes of a piece change what is open.
 ghost use Rattle.std.specs.Prelude.{◌≡◌, ℕ, ◌+◌, ◌<◌, ◌^◌, true, false, length, IfSome};
 ghost use Rattle.goal_lexer.specs.declared.tokens.Token.{Token};
 ghost use Rattle.goal_lexer.specs.Sound.{IsSound, IsRun};
@@ -16,29 +16,29 @@ use crate::words::run_kind;
 
 /// What one byte ended.
 pub(crate) enum Step {
-    /// No token.
+    /// It ended no token.
     Nothing,
-    /// The run before it. The byte itself isn't taken.
+    /// It ended the run before it, and is not taken.
     Run,
-    /// The sign that it is.
+    /// It is a sign.
     Sign,
-    /// All tokens: none begins at this place.
+    /// No token, blank or comment begins at this place.
     Fault(u64),
 }
 
 /// What a piece ended.
 pub(crate) enum Stop {
-    /// No token: the whole piece is taken.
+    /// It ended no token, and is taken whole.
     Piece,
-    /// A run, after so many bytes.
+    /// It ended a run, after this number of bytes.
     Run(usize),
-    /// A sign, after so many bytes, its own included.
+    /// It ended with a sign, after this number of bytes with the sign.
     Sign(usize),
-    /// All tokens: none begins at this place.
+    /// No token, blank or comment begins at this place.
     Fault(u64),
 }
 
-/// Writes the token of one byte at this place.
+/// Writes the token of a sign at this place.
 fn sign(kind: TokenKind, place: u64, token: &mut Token) -> Step
     requires { place + 1 < 2 ^ 64 }
     ensures step { result ≡ Step.Sign }
@@ -50,7 +50,7 @@ fn sign(kind: TokenKind, place: u64, token: &mut Token) -> Step
     Step::Sign
 }
 
-/// Takes a byte where nothing is open.
+/// Takes a byte while nothing is open.
 fn begin_at(mode: &mut Mode, place: u64, byte: u8, token: &mut Token) -> Step
     requires room { place + 1 < 2 ^ 64 }
     requires between { mode.old ≡ Mode.Between }
@@ -87,7 +87,7 @@ fn begin_at(mode: &mut Mode, place: u64, byte: u8, token: &mut Token) -> Step
     }
 }
 
-/// The form of a run with one byte of a run more, where there is one.
+/// Returns the form of a run extended by a run byte, if it has one.
 fn form_with(form: Form, byte: u8) -> Option<Form>
     ensures { result ≡ form_with form byte }
 {
@@ -100,8 +100,8 @@ fn form_with(form: Form, byte: u8) -> Option<Form>
     }
 }
 
-/// Takes one byte at this place where a run is open: one that ends the run, or makes it longer, or else the fault is at its
-/// begin.
+/// Takes a byte at this place while a run is open. It ends the run or extends it; otherwise the fault is at the
+/// beginning of the run.
 #[cold]
 fn take_in_run(mode: &mut Mode, place: u64, byte: u8, token: &mut Token) -> Step
     requires { IsRun mode.old }
@@ -131,8 +131,8 @@ fn take_in_run(mode: &mut Mode, place: u64, byte: u8, token: &mut Token) -> Step
     }
 }
 
-/// Takes one byte behind a `/` that stands at `start`: one that begins a comment with it, or else the fault is there. The
-/// byte's own place makes no difference.
+/// Takes the byte after a `/` at `start`. It begins a comment with it; otherwise the fault is at the `/`. The byte's
+/// own place does not matter.
 #[cold]
 fn take_behind_slash(mode: &mut Mode, start: u64, byte: u8) -> Step
     ensures { (place : ℕ) (token : Token) → StepsTo result (Mode.Slash start) place byte mode.new token }
@@ -152,7 +152,7 @@ fn take_behind_slash(mode: &mut Mode, start: u64, byte: u8) -> Step
     }
 }
 
-/// Takes one byte at this place where a run or a comment may be open. Most runs and all blanks are taken without it.
+/// Takes a byte at this place while a run or a comment may be open. Most runs and all blanks are taken without it.
 #[cold]
 fn take_open_byte(mode: &mut Mode, place: u64, byte: u8, token: &mut Token) -> Step
     requires { place + 1 < 2 ^ 64 }
@@ -183,7 +183,7 @@ fn take_open_byte(mode: &mut Mode, place: u64, byte: u8, token: &mut Token) -> S
     }
 }
 
-/// Takes one byte at this place. A token that it ends is written to its place.
+/// Takes a byte at this place, and writes the token that it ends to `token`.
 #[inline(always)]
 fn take_byte(mode: &mut Mode, place: u64, byte: u8, token: &mut Token) -> Step
     requires { place + 1 < 2 ^ 64 }
@@ -195,7 +195,7 @@ fn take_byte(mode: &mut Mode, place: u64, byte: u8, token: &mut Token) -> Step
     }
 }
 
-/// Writes the kind of the sign that the byte is, and answers whether it is one.
+/// Writes the kind of the sign that the byte is, and returns whether it is one.
 #[inline(always)]
 fn sign_kind(byte: u8, kind: &mut TokenKind) -> bool
     ensures sign { result ≡ true → sign_kind byte ≡ Some kind.new }
@@ -210,9 +210,9 @@ fn sign_kind(byte: u8, kind: &mut TokenKind) -> bool
     true
 }
 
-/// Takes the blanks in front of a piece, the first byte of which stands at this place, and the token behind them, where
-/// nothing is open and the token ends inside the piece. The token is written to its place. A piece of blanks alone is taken
-/// whole. Any other piece is none, and so may be one with a run of many digits.
+/// Takes the blanks at the front of a piece that begins at this place, and the token after them, while nothing is open.
+/// It writes the token to `token`, if that ends inside the piece. A piece of blanks only is taken whole. For any other
+/// piece it returns `None`, and also for some runs of many digits.
 #[inline(always)]
 fn whole_token(place: u64, piece: &[u8], token: &mut Token) -> Option<Stop>
     requires { place + length piece.now < 2 ^ 64 }
@@ -234,8 +234,7 @@ fn whole_token(place: u64, piece: &[u8], token: &mut Token) -> Option<Stop>
     Some(Stop::Sign(blanks + 1))
 }
 
-/// Takes the bytes of a piece, the first of which stands at this place, up to the end of a token, which is written to its
-/// place.
+/// Takes the bytes of a piece that begins at this place, up to the end of a token, and writes the token to `token`.
 #[inline(always)]
 pub(crate) fn take_piece(mode: &mut Mode, place: u64, piece: &[u8], token: &mut Token) -> Stop
     requires room { place + length piece.now < 2 ^ 64 }
@@ -250,7 +249,7 @@ pub(crate) fn take_piece(mode: &mut Mode, place: u64, piece: &[u8], token: &mut 
     take_open_piece(mode, place, piece, token)
 }
 
-/// Does what [`take_piece`] does, whatever is open and wherever the token ends. Most tokens are taken without it.
+/// Does the same as [`take_piece`], whatever is open and wherever the token ends. Most tokens are taken without it.
 #[cold]
 fn take_open_piece(mode: &mut Mode, place: u64, piece: &[u8], token: &mut Token) -> Stop
     requires room { place + length piece.now < 2 ^ 64 }

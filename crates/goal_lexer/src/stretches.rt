@@ -1,4 +1,4 @@
-//! Bytes in a row that end nothing.
+//! Stretches of bytes that end no token.
 ghost use Rattle.std.specs.Prelude.{◌≡◌, ℕ, ◌+◌, ◌<◌, ◌≤◌, ◌++◌, [], true, false, length, take, slice_index, ◌==◌};
 ghost use Rattle.std.specs.List.{list_all};
 ghost use Rattle.goal_lexer.specs.Bytes.{is_blank, is_digit, is_run_byte, star, line_feed};
@@ -9,7 +9,7 @@ use crate::bytes::{is_blank, is_digit, is_run_byte};
 use crate::labels::{Label, MOST_RUN_BYTES};
 use crate::mode::{Form, Mode};
 
-/// How many blanks stand in front.
+/// Returns a number of blanks at the front.
 pub(crate) fn count_blanks(bytes: &[u8]) -> usize
     ensures within { result ≤ length bytes.now }
     ensures each { (k : ℕ) → k < result → is_blank (slice_index bytes.now k) ≡ true }
@@ -22,7 +22,7 @@ pub(crate) fn count_blanks(bytes: &[u8]) -> usize
     bytes.len()
 }
 
-/// How many bytes stand before the next line feed, or at all.
+/// Returns a number of bytes before the next line feed.
 fn count_in_line(bytes: &[u8]) -> usize
     ensures within { result ≤ length bytes.now }
     ensures each { (k : ℕ) → k < result → (slice_index bytes.now k == line_feed) ≡ false }
@@ -35,7 +35,7 @@ fn count_in_line(bytes: &[u8]) -> usize
     bytes.len()
 }
 
-/// How many bytes stand before the next `*`, or at all.
+/// Returns a number of bytes before the next `*`.
 fn count_before_star(bytes: &[u8]) -> usize
     ensures within { result ≤ length bytes.now }
     ensures each { (k : ℕ) → k < result → (slice_index bytes.now k == star) ≡ false }
@@ -48,7 +48,7 @@ fn count_before_star(bytes: &[u8]) -> usize
     bytes.len()
 }
 
-/// Adds the bytes of a run that stand in front to a word, as far as it has room.
+/// Appends the run bytes at the front to a word, up to its room, and returns their number.
 fn extend_word(word: &mut Label, bytes: &[u8]) -> usize
     ensures within { result ≤ length bytes.now }
     ensures each { (k : ℕ) → k < result → is_run_byte (slice_index bytes.now k) ≡ true }
@@ -63,7 +63,7 @@ fn extend_word(word: &mut Label, bytes: &[u8]) -> usize
     taken
 }
 
-/// Adds the digits that stand in front to digits, as far as they have room.
+/// Appends the digits at the front to digits, up to their room, and returns their number.
 fn extend_digits(digits: &mut Label, bytes: &[u8]) -> usize
     ensures within { result ≤ length bytes.now }
     ensures each { (k : ℕ) → k < result → is_digit (slice_index bytes.now k) ≡ true }
@@ -78,7 +78,8 @@ fn extend_digits(digits: &mut Label, bytes: &[u8]) -> usize
     taken
 }
 
-/// Adds the bytes that stand in front to a run of this form, as far as they keep it and it has room.
+/// Appends bytes at the front to a run of this form, while they keep the form and it has room, and returns their
+/// number.
 fn extend_run(run: &mut Label, form: Form, bytes: &[u8]) -> usize
     ensures within { result ≤ length bytes.now }
     ensures quiet { (start place : ℕ) → scan (Mode.Run start run.old form) place (take result bytes.now) ≡ (Mode.Run start run.new form, []) }
@@ -90,7 +91,7 @@ fn extend_run(run: &mut Label, form: Form, bytes: &[u8]) -> usize
     }
 }
 
-/// Takes bytes in front that end nothing where a run or a comment is open, and answers how many it took.
+/// Takes bytes at the front that end nothing, while a run or a comment is open, and returns their number.
 #[cold]
 fn take_open_stretch(mode: &mut Mode, bytes: &[u8]) -> usize
     requires { IsSound mode.old }
@@ -110,7 +111,7 @@ fn take_open_stretch(mode: &mut Mode, bytes: &[u8]) -> usize
     }
 }
 
-/// Takes bytes in front that end nothing, and answers how many it took.
+/// Takes bytes at the front that end nothing, and returns their number.
 pub(crate) fn take_stretch(mode: &mut Mode, bytes: &[u8]) -> usize
     requires { IsSound mode.old }
     ensures within { result ≤ length bytes.now }
@@ -123,14 +124,14 @@ pub(crate) fn take_stretch(mode: &mut Mode, bytes: &[u8]) -> usize
     }
 }
 
-/// How many bytes of a run stand in front.
+/// Returns the number of run bytes at the front.
 pub(crate) fn count_run(bytes: &[u8]) -> usize
     ensures within { result ≤ length bytes.now }
     ensures each { (k : ℕ) → k < result → is_run_byte (slice_index bytes.now k) ≡ true }
     ensures ends { result < length bytes.now → is_run_byte (slice_index bytes.now result) ≡ false }
 {
     let mut count = 0;
-    // four at a time, as long as there are so many: most runs have more than three
+    // four at a time while there are four: most runs have more than three bytes
     while bytes.len() - count >= 4 {
         if !is_run_byte(bytes[count]) {
             return count;

@@ -1,11 +1,11 @@
-//! Tokens, what a call of the lexer answers, and its fault.
+//! Tokens, the results of the lexer, and its fault.
 ghost use Rattle.std.specs.Prelude.{◌≡◌, ◌++◌, Some, codes, decimal};
 
 use crate::labels::Label;
 use std::error::Error;
 use std::fmt;
 
-/// What a token is.
+/// The kind of a token.
 #[derive(Clone, Copy, Debug, PartialEq, Eq)]
 pub enum TokenKind {
     /// The reserved word `num_ranks`.
@@ -38,16 +38,16 @@ pub enum TokenKind {
     Moves,
     /// The reserved word `adds`.
     Adds,
-    /// A word that isn't reserved.
+    /// A word that is not reserved.
     Label(Label),
-    /// Digits, with their decimal value, or 2^64-1 where that is larger.
+    /// Digits, with their decimal value.
     Number {
-        /// The value, at most 2^64-1.
+        /// The value, or 2^64-1 if that is less.
         value: u64,
     },
-    /// Digits and a `b` behind them, with the value of the digits, or 2^64-1 where that is larger.
+    /// Digits followed by a `b`, with the value of the digits.
     Size {
-        /// The value, at most 2^64-1.
+        /// The value, or 2^64-1 if that is less.
         value: u64,
     },
     /// The sign `{`.
@@ -61,7 +61,7 @@ pub enum TokenKind {
 /// A token with its place in the text.
 #[derive(Clone, Copy, Debug, PartialEq, Eq)]
 pub struct Token {
-    /// What the token is.
+    /// What it is.
     pub kind: TokenKind,
     /// The place of its first byte, from 0.
     pub start: u64,
@@ -70,7 +70,7 @@ pub struct Token {
 }
 
 impl Token {
-    /// A token that stands for none yet: a place for [`crate::Lexer::next_token_into`] to write to.
+    /// Returns a token without meaning, as a place for [`crate::Lexer::next_token_into`] to write to.
     pub fn nowhere() -> Token
         ensures { result.end ≡ 0 }
     {
@@ -82,21 +82,21 @@ impl Token {
     }
 }
 
-/// What a call of `Lexer::next_token` took and found.
+/// What a call of [`crate::Lexer::next_token`] took and found.
 #[derive(Clone, Copy, Debug, PartialEq, Eq)]
 pub struct Lexed {
-    /// How many bytes were taken from the front of the piece.
+    /// The number of bytes taken from the front of the piece.
     pub taken: usize,
-    /// The token that was completed, or `None` where the whole piece was taken and none was.
+    /// The token that was completed. `None`: the whole piece was taken and no token was completed.
     pub token: Option<Token>,
 }
 
-/// What a call of `Lexer::next_token_into` took, and whether it found a token.
+/// What a call of [`crate::Lexer::next_token_into`] took, and whether it found a token.
 #[derive(Clone, Copy, Debug, PartialEq, Eq)]
 pub struct Taken {
-    /// How many bytes were taken from the front of the piece.
+    /// The number of bytes taken from the front of the piece.
     pub taken: usize,
-    /// Whether a token was completed. Where none was, the whole piece was taken.
+    /// Whether a token was completed. If not, the whole piece was taken.
     pub found: bool,
 }
 

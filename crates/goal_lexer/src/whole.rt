@@ -9,7 +9,7 @@ use crate::stretches::count_run;
 use crate::tokens::{Token, TokenKind};
 use crate::words::word_kind;
 
-/// The word in front of a piece, where it ends inside the piece: how many bytes it has. Its token is written to its place.
+/// Returns the length of the word at the front of a piece, if it ends inside the piece, and writes its token.
 #[inline(always)]
 fn whole_word(place: u64, piece: &[u8], token: &mut Token) -> Option<usize>
     requires { place + length piece.now < 2 ^ 64 }
@@ -28,8 +28,8 @@ fn whole_word(place: u64, piece: &[u8], token: &mut Token) -> Option<usize>
     Some(count)
 }
 
-/// The number or the size in front of a piece, where it ends inside the piece and has few digits: how many bytes it has.
-/// Its token is written to its place.
+/// Returns the length of the number or size at the front of a piece, if it ends inside the piece and has few digits,
+/// and writes its token.
 #[inline(always)]
 fn whole_number(place: u64, piece: &[u8], token: &mut Token) -> Option<usize>
     requires { place + length piece.now < 2 ^ 64 }
@@ -55,9 +55,8 @@ fn whole_number(place: u64, piece: &[u8], token: &mut Token) -> Option<usize>
     Some(size)
 }
 
-/// The run in front of a piece, the first byte of which stands at this place, where it ends inside the piece and is a
-/// token: how many bytes it has. The token is written to its place. Any other run, and what is no run, is none, and so may
-/// be a run of many digits.
+/// Returns the length of the run at the front of a piece that begins at this place, if the run ends inside the piece
+/// and is a token, and writes that token. Otherwise it returns `None`, and also for some runs of many digits.
 #[inline(always)]
 pub(crate) fn whole_run(place: u64, piece: &[u8], token: &mut Token) -> Option<usize>
     requires { place + length piece.now < 2 ^ 64 }

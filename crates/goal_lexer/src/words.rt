@@ -1,4 +1,4 @@
-//! Which token a run is.
+//! The token of a run.
 ghost use Rattle.std.specs.Prelude.{◌≡◌, ◌<◌, ◌≤◌, length, bytes_eq};
 ghost use Rattle.goal_lexer.specs.Words.{word_kind, kind_among, reserved_words};
 ghost use Rattle.goal_lexer.specs.Reserved.{words_of_length};
@@ -9,7 +9,7 @@ use crate::mode::Form;
 use crate::numbers::number_value;
 use crate::tokens::TokenKind;
 
-/// Whether the two bytes are those of the word.
+/// Returns whether the two bytes spell the word.
 #[inline(always)]
 fn are_two(bytes: &[u8], word: [u8; 2]) -> bool
     requires { length bytes.now ≡ 2 }
@@ -18,7 +18,7 @@ fn are_two(bytes: &[u8], word: [u8; 2]) -> bool
     bytes[0] == word[0] && bytes[1] == word[1]
 }
 
-/// Whether the three bytes are those of the word.
+/// Returns whether the three bytes spell the word.
 #[inline(always)]
 fn are_three(bytes: &[u8], word: [u8; 3]) -> bool
     requires { length bytes.now ≡ 3 }
@@ -27,7 +27,7 @@ fn are_three(bytes: &[u8], word: [u8; 3]) -> bool
     bytes[0] == word[0] && bytes[1] == word[1] && bytes[2] == word[2]
 }
 
-/// Whether the four bytes are those of the word.
+/// Returns whether the four bytes spell the word.
 #[inline(always)]
 fn are_four(bytes: &[u8], word: [u8; 4]) -> bool
     requires { length bytes.now ≡ 4 }
@@ -36,7 +36,7 @@ fn are_four(bytes: &[u8], word: [u8; 4]) -> bool
     bytes[0] == word[0] && bytes[1] == word[1] && bytes[2] == word[2] && bytes[3] == word[3]
 }
 
-/// Whether the five bytes are those of the word.
+/// Returns whether the five bytes spell the word.
 #[inline(always)]
 fn are_five(bytes: &[u8], word: [u8; 5]) -> bool
     requires { length bytes.now ≡ 5 }
@@ -45,7 +45,7 @@ fn are_five(bytes: &[u8], word: [u8; 5]) -> bool
     are_two(&bytes[..2], [word[0], word[1]]) && are_three(&bytes[2..], [word[2], word[3], word[4]])
 }
 
-/// Whether the eight bytes are those of the word.
+/// Returns whether the eight bytes spell the word.
 #[inline(always)]
 fn are_eight(bytes: &[u8], word: [u8; 8]) -> bool
     requires { length bytes.now ≡ 8 }
@@ -55,7 +55,7 @@ fn are_eight(bytes: &[u8], word: [u8; 8]) -> bool
         && are_four(&bytes[4..], [word[4], word[5], word[6], word[7]])
 }
 
-/// Whether the nine bytes are those of the word.
+/// Returns whether the nine bytes spell the word.
 #[inline(always)]
 fn are_nine(bytes: &[u8], word: [u8; 9]) -> bool
     requires { length bytes.now ≡ 9 }
@@ -161,7 +161,7 @@ fn kind_of_nine(word: &[u8], kind: &mut TokenKind)
     }
 }
 
-/// Writes the reserved word that these bytes spell, or else a label.
+/// Writes the reserved word that these bytes spell, or otherwise a label.
 #[inline(always)]
 pub(crate) fn word_kind(word: &[u8], kind: &mut TokenKind)
     requires some { 0 < length word.now }
@@ -179,7 +179,7 @@ pub(crate) fn word_kind(word: &[u8], kind: &mut TokenKind)
     }
 }
 
-/// Writes the token that a whole run of this form is.
+/// Writes the token of a whole run of this form.
 pub(crate) fn run_kind(run: &[u8], form: Form, kind: &mut TokenKind)
     requires some { 0 < length run.now }
     requires most { length run.now ≤ 64 }

@@ -1,7 +1,7 @@
 use Rattle.std.proofs.Common.{◌≡◌, ◌-◌, ◌≤◌, length, take}
 use Rattle.goal_lexer.proofs.ahead.begins_with.Given as goal
 
--- the bytes of the word so far stand in front
+-- the bytes of the word so far are at the front
 abbrev pub invariant-loop-at : goal.invariant-loop-at
 invariant-loop-at l = (l.at ≤ length l.word) × (take l.at l.rest ≡ take l.at l.word)
 

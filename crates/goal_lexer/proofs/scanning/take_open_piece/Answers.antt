@@ -17,7 +17,7 @@ stretched c =
     scan_sliced c.args.mode.now c.loop-taken.mode c.take_stretch-taken.new.mode c.args.place c.args.piece.now
     c.loop-taken.taken c.take_stretch-taken.result was.within was.quiet c.take_stretch-taken.ensures.quiet
 
--- the byte stands in the piece
+-- the byte is in the piece
 below : (c : After-take_byte) → c.loop-taken.taken + c.take_stretch-taken.result < length c.args.piece.now
 below c =
     let fits = sliced_within c.args.piece.now c.loop-taken.taken c.take_stretch-taken.result c.loop-taken.invariant.within c.take_stretch-taken.ensures.within in
@@ -32,7 +32,7 @@ after_byte c =
     scan_more c.args.mode.now c.take_stretch-taken.new.mode c.args.place c.args.piece.now
     (c.loop-taken.taken + c.take_stretch-taken.result) (below c) (stretched c)
 
--- the stretch goes up to the end of the piece
+-- the stretch reaches the end of the piece
 pub returns-then-taken-piece : goal.returns-then-taken-piece
 returns-then-taken-piece c =
     let was = c.loop-taken.invariant in

@@ -4,7 +4,7 @@ use Rattle.std.proofs.Math.Seq.{take-append_seam}
 use Rattle.goal_lexer.specs.Padding.{padded}
 use Rattle.goal_lexer.proofs.labels.Label.of.Goals as goal
 
--- bytes and the zeros behind them
+-- bytes and the zeros after them
 in_front : (bytes : List ℕ) → padded (take (length bytes) (bytes ++ drop (length bytes) (replicate 64 0))) ≡ bytes ++ drop (length bytes) (replicate 64 0)
 in_front bytes =
     ap padded (take-append_seam bytes (drop (length bytes) (replicate 64 0)))

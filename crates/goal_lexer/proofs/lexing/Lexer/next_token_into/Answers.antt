@@ -14,7 +14,7 @@ use Rattle.goal_lexer.proofs.lexing.Lexer.next_token_into.Goals.{After-take_piec
 nonempty : (c : After-take_piece) → 0 < length c.args.rest.now
 nonempty c = omega (arith, false-eqb (length c.args.rest.now) 0 c.if-is_empty.ensures)
 
--- the scan of the text and the front of the piece, where the lexer's scan of that front is known
+-- the scan of the text and a prefix of the piece, where the lexer's scan of that prefix is known
 went : (c : After-take_piece) (n : ℕ) (new : Mode) (tokens : List Token) →
     (c.self.inside.ends_run ≡ true → 0 < length (take n c.args.rest.now)) →
     scan c.self.inside.mode c.self.inside.place (take n c.args.rest.now) ≡ (new, tokens) →
@@ -56,7 +56,7 @@ returns-in-Piece-clause-handed c text stands =
     let k = (goal.at.returns-in-Piece-clause-handed c).After-take_piece in
     ap (λ (r : Scanned). r.1) (went_whole k c.take_piece.new.mode c.in-Piece.ensures.0 text stands)
 
--- a run that ends before a byte is taken was open, so none was handed out there
+-- a run that ends before a byte is taken was open, so none was returned at that place
 run_took : (c : After-take_piece) (taken : ℕ) (token : Token) (run : Mode) →
     scan c.self.inside.mode c.self.inside.place (take taken c.args.rest.now) ≡ (run, []) →
     closing (c.self.inside.place + taken) run ≡ token ∷ [] → c.self.inside.ends_run ≡ true → 0 < length (take taken c.args.rest.now)
@@ -94,7 +94,7 @@ returns-in-Run-clause-handed c text stands =
     let said = c.in-Run.ensures in
     (run_stands k c.in-Run.taken c.take_piece.new.token said.3.0 (omega (arith, said.0)) said.3.1 said.3.2 text stands).1
 
--- it took a byte, or no run was handed out before
+-- it took a byte, or had not just returned a run
 took_or_not : (ends : Bool) (taken : ℕ) → (ends ≡ true → 0 < taken) → (0 < taken) ⊎ ((ends ≡ false) × (true ≡ true))
 took_or_not true taken took = inl (took refl)
 took_or_not false taken took = inr (refl, refl)
@@ -131,7 +131,7 @@ returns-in-Sign-clause-handed c text stands =
     let some : 0 < length (take c.in-Sign.taken rest) = omega (arith, said.0, said.1) in
     ap (λ (r : Scanned). r.1) (went k c.in-Sign.taken Between (c.take_piece.new.token ∷ []) (λ _. some) said.3 text stands)
 
--- the text and the whole piece are at fault
+-- the text followed by the whole piece is at fault
 fault_there : (c : After-take_piece) (at : ℕ) →
     scan c.self.inside.mode c.self.inside.place c.args.rest.now ≡ (Failed at, []) →
     (text : List ℕ) → Stands c.args.self.now text → scanned (text ++ c.args.rest.now) ≡ (Failed at, handed c.args.self.now text)
