@@ -1,4 +1,4 @@
--- Labels of 4 to 8 bytes are told by their ends.
+-- Labels of 4 to 8 bytes are equal if their first four and last four bytes are.
 use Rattle.std.proofs.Common.{◌≡◌, ℕ, ◌+◌, ◌-◌, ◌≤◌, true, false, List, ◌++◌, length, take, drop, bytes_eq, sym, ap, ◌∙◌, arith, length-drop, take-append-drop}
 use Rattle.std.specs.Bool.{one_answer}
 use Rattle.std.proofs.lemmas.Slice.Eq.{bytes_eq-Decides}
@@ -8,7 +8,7 @@ use Rattle.std.proofs.lemmas.List.{take_rest, take_all, take-take}
 abbrev last_four : List ℕ → ℕ → List ℕ
 last_four xs far = take 4 (take (length xs - far) (drop far xs))
 
--- these are all bytes behind the first
+-- these are all bytes after the first ones
 behind_far : (xs : List ℕ) (far : ℕ) → far + 4 ≡ length xs → last_four xs far ≡ drop far xs
 behind_far xs far long =
     let count = length-drop far xs in
@@ -22,7 +22,7 @@ whole_by_ends xs ys far few front back =
     ∙ ap (λ (l : List ℕ). take far ys ++ l) back
     ∙ take-append-drop far ys
 
--- where the last bytes are the same, the first decide
+-- if the last bytes are the same, the first decide
 pub told_by_front : (xs ys : List ℕ) (far : ℕ) → far + 4 ≡ length xs → far + 4 ≡ length ys → far ≤ 4 →
     bytes_eq (last_four xs far) (last_four ys far) ≡ true → bytes_eq (take 4 xs) (take 4 ys) ≡ bytes_eq xs ys
 told_by_front xs ys far one other few alike =
@@ -33,7 +33,7 @@ told_by_front xs ys far one other few alike =
       λ same. (bytes_eq-Decides (take 4 xs) (take 4 ys)).1 (ap (take 4) same),
     ) (bytes_eq-Decides xs ys)
 
--- where they are not, nothing is
+-- if they differ, the labels differ
 pub told_by_back : (xs ys : List ℕ) (far : ℕ) → bytes_eq (last_four xs far) (last_four ys far) ≡ false → false ≡ bytes_eq xs ys
 told_by_back xs ys far other =
     one_answer {P = xs ≡ ys} false (bytes_eq xs ys) (

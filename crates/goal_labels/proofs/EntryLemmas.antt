@@ -1,4 +1,4 @@
--- Entries, each the only one of its label.
+-- Entries, each of which is the only one of its label.
 use Rattle.std.proofs.Common.{◌≡◌, ℕ, zero, suc, ◌<◌, Bool, true, false, cond, List, [], ◌∷◌, ◌++◌, Option, Some, None, length, slice_get, slice_set, refl, sym, ap, subst, ◌∙◌, arith, bytes_eq, if◌then◌else◌, length-append, ltb, Decides}
 use Rattle.std.specs.Map.{lookup}
 use Rattle.std.specs.Option.{option_map_or}
@@ -33,7 +33,7 @@ is_at-no es label i h there =
     let mine = own label in
     absurd (cc)
 
--- a guess that is compared
+-- a guess that passed the test
 pub is_at-guess : (read es : Entries) (label : List ℕ) (guess : ℕ) → is_at read label guess ≡ true → read ≡ es → IsAt es label guess
 is_at-guess read es label guess told same = subst (λ (ds : Entries). IsAt ds label guess) same (is_at-yes read label guess told)
 
@@ -92,7 +92,7 @@ AreUnique-tail e es unique i j q a b =
 IsAbsent-tail : (e : List ℕ × Slot) (es : Entries) (label : List ℕ) → IsAbsent (e ∷ es) label → IsAbsent es label
 IsAbsent-tail e es label absent i at = absent (suc i) (IsAt-tail e es label i at)
 
--- the head is another's, where the label's entry is further on
+-- the first entry has another label, if the label's entry comes later
 other : (e : List ℕ × Slot) (es : Entries) (label : List ℕ) (i : ℕ) → AreUnique (e ∷ es) → IsAt es label i → bytes_eq label e.0 ≡ false
 other e es label i unique at = by (bytes_eq label e.0) refl
   where
@@ -109,7 +109,7 @@ not_first e es label absent = by (bytes_eq label e.0) refl
     by false h = refl
     by true h = absurd (absent 0 (e.1, ap (λ k. Some (k, e.1)) (sym (equal label e.0 h))))
 
--- what a look-up finds, and what is put
+-- what a lookup finds, and what `put` replaces
 
 pub lookup-there : (es : Entries) (label : List ℕ) (i : ℕ) (slot : Slot) → AreUnique es → slice_get es i ≡ Some (label, slot) → lookup (bytes_eq label) es ≡ Some slot
 lookup-there [] label i slot unique at = cc

@@ -1,4 +1,4 @@
--- The entries' labels among the bytes.
+-- Entries whose labels are inside the bytes.
 use Rattle.std.proofs.Common.{◌≡◌, ℕ, suc, ◌<◌, ◌≤◌, Bool, true, false, List, [], ◌∷◌, ◌++◌, Option, Some, None, length, take, drop, get_or, slice_get, slice_set, refl, sym, ap, subst, ◌∙◌, arith, bytes_eq, inl, inr, ◌⊎◌, ◌≢◌, length-append, length-drop, eqb, option_map}
 use Rattle.std.specs.Option.{option_map_or}
 use Rattle.std.proofs.lemmas.Option.{slice_get-get_or, slice_get-map, slice_get_within, slice_get_read}
@@ -25,7 +25,7 @@ pub length-entries_of : (bytes : List ℕ) (es : List Entry) → length (entries
 unfolding entries_of
 length-entries_of bytes es = length-map es _
 
--- what was read
+-- the entries, from what was read
 pub entries_of-read : (read bytes : List ℕ) (seen es : List Entry) → read ≡ bytes → seen ≡ es → entries_of read seen ≡ entries_of bytes es
 entries_of-read read bytes seen es same_bytes same_entries = ap (λ (bs : List ℕ). entries_of bs seen) same_bytes ∙ ap (entries_of bytes) same_entries
 
@@ -47,7 +47,7 @@ pub entry-read : (bytes : List ℕ) (es : List Entry) (i : ℕ) → slice_get (e
 unfolding entries_of
 entry-read bytes es i = slice_get-map _ es i
 
--- an entry that was read, where the label's stands
+-- an entry that was read, where its label's entry is
 pub entry-at : (bytes : List ℕ) (es : List Entry) (label : List ℕ) (i : ℕ) (e : Entry) → IsAt (entries_of bytes es) label i → e ≡ get_or es i e → slice_get es i ≡ Some e
 entry-at bytes es label i e at read =
     slice_get_read es (length es) i e refl (omega (arith, slice_get_within (entries_of bytes es) i (label, at.0) at.1, length-entries_of bytes es)) read
@@ -103,7 +103,7 @@ entries_of-left bytes more (e ∷ es) held =
     ap (λ (k : List ℕ). (k, e.slot) ∷ entries_of (bytes ++ more) es) (label_of-more bytes more e (held 0 e refl))
     ∙ ap (λ (ks : Entries). (label_of bytes e, e.slot) ∷ ks) (entries_of-left bytes more es (AreHeld-tail bytes e es held))
 
--- a label is added, behind the others
+-- a label is appended
 module _ (bytes label : List ℕ) (es : List Entry) (e : Entry) (from : e.from ≡ length bytes) (len : e.len ≡ length label) where
   label_of-last : label_of (bytes ++ label) e ≡ label
   label_of-last =
@@ -138,7 +138,7 @@ module _ (bytes label : List ℕ) (es : List Entry) (e : Entry) (from : e.from �
             short = was.short;
           }
 
--- the slot of an entry that was read changes, where the label's stands
+-- the slot of an entry that was read is replaced, where its label's entry is
 module _ (bytes : List ℕ) (es : List Entry) (label : List ℕ) (i : ℕ) (old : Entry) (slot : Slot) (at : IsAt (entries_of bytes es) label i) (read : old ≡ get_or es i old) where
   abbrev pub changed : Entry
   changed = record { slot = slot; from = old.from; len = old.len }

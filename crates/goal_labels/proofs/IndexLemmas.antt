@@ -1,4 +1,4 @@
--- What a map keeps, once it has changed.
+-- The invariant of a map after each change.
 use Rattle.std.proofs.Common.{◌≡◌, ◌≢◌, ℕ, ◌+◌, ◌<◌, ◌≤◌, Bool, true, false, List, [], ◌∷◌, ◌++◌, Option, Some, None, length, slice_get, slice_set, refl, sym, ap, subst, ◌∙◌, arith, inl, inr, ◌⊎◌, length-append, bytes_eq, eqb, ltb, Decides, if◌then◌else◌, unwrap_or}
 use Rattle.std.proofs.Common.{Result, Ok, Err}
 use Rattle.std.specs.Option.{IfNone}
@@ -20,12 +20,12 @@ use Rattle.goal_labels.proofs.EntryLemmas.{IsAt-within, IsAt-before, IsAt-left, 
 use Rattle.goal_labels.proofs.HeldLemmas.{AreHeld-none, entries_of-empty}
 use Rattle.goal_labels.proofs.OrderedLemmas.{IsAt-same, ascending_left, ascending_more}
 
--- what a call that succeeded says
+-- what a successful call ensures
 pub on_success : {T E P : Type 0} (r : Result T E) → false ≡ is_err r → OnOk r P → P
 on_success (Ok x) told said = said
 on_success (Err e) told said = absurd (cc)
 
--- a map has no labels
+-- a map without labels
 module _ (bytes : List ℕ) (es : List Entry) (first ascending : ℕ) (numbers : Numbers) (none : es ≡ []) (start : first ≡ 0) (end : ascending ≡ 0)
     (unnumbered : (label : List ℕ) → number_of numbers label ≡ None) (few : AreFew numbers) where
   empty : entries_of bytes es ≡ []
@@ -47,7 +47,7 @@ module _ (bytes : List ℕ) (es : List Entry) (first ascending : ℕ) (numbers :
     },
   )
 
--- a label that is not in the run, and has no number, has no entry
+-- a label that is neither in the run nor numbered has no entry
 pub find-absent : (es : Entries) (first ascending : ℕ) (numbers : Numbers) (label : List ℕ) → IsMap es first ascending numbers
     → ((i : ℕ) → first ≤ i → i < ascending → IsAt es label i → ⊥) → (o : Option ℕ) → o ≡ number_of numbers label → IfNone o (IsAbsent es label)
 find-absent es first ascending numbers label map not_in_run (Some i) is = tt
@@ -87,7 +87,7 @@ module _ (es : Entries) (label : List ℕ) (n : ℕ) (unique : AreUnique es) (at
   given : (q : List ℕ) (b : Bool) → bytes_eq label q ≡ b → number_of new q ≡ (if b then Some n else number_of numbers q)
   given q b told = gives q ∙ ap (λ (c : Bool). if c then Some n else number_of numbers q) told
 
-  -- it has this number, and each other label the one that it had
+  -- it has this number, and each other label keeps its own
   given-number : (i : ℕ) (q : List ℕ) → IsAt es q i → (i ≢ n → number_of numbers q ≡ Some i) → number_of new q ≡ Some i
   given-number i q is had = by (bytes_eq label q) refl
     where
@@ -101,7 +101,7 @@ module _ (es : Entries) (label : List ℕ) (n : ℕ) (unique : AreUnique es) (at
           let told : bytes_eq label q ≡ true = ap (bytes_eq label) same ∙ nat_list_eq_equiv.refl label in
           absurd cc)
 
-  -- a number is the new one, or was there
+  -- a number is the new one, or existed before
   given-there : (i : ℕ) (q : List ℕ) (P : ℕ → List ℕ → Type 0) → P n label → (number_of numbers q ≡ Some i → P i q) → number_of new q ≡ Some i → P i q
   given-there i q P here had is = by (bytes_eq label q) refl
     where
@@ -111,7 +111,7 @@ module _ (es : Entries) (label : List ℕ) (n : ℕ) (unique : AreUnique es) (at
           subst (λ (k : List ℕ). P i k) ((bytes_eq-Decides label q).0 same) (subst (λ (k : ℕ). P k label) number here)
       by false other = had (sym (given q false other) ∙ is)
 
--- a run of one label ends: its label gets a number
+-- a run of one label ends, and its label gets a number
 module _ (es : Entries) (first ascending : ℕ) (numbers : Numbers) (map : IsMap es first ascending numbers) (label : List ℕ) (at : IsAt es label first)
     (one : first + 1 ≡ ascending) where
   pub IsMap-ended : (new : Numbers) → AreFew new → ((q : List ℕ) → number_of new q ≡ (if bytes_eq label q then Some first else number_of numbers q))
@@ -129,7 +129,7 @@ module _ (es : Entries) (first ascending : ℕ) (numbers : Numbers) (map : IsMap
     unique = map.unique;
   }
 
--- a label is added
+-- a label is appended
 module _ (es : Entries) (label : List ℕ) (slot : Slot) (first ascending : ℕ) (numbers : Numbers) (map : IsMap es first ascending numbers) (absent : IsAbsent es label) where
   abbrev pub more : Entries
   more = es ++ (label, slot) ∷ []
@@ -140,7 +140,7 @@ module _ (es : Entries) (label : List ℕ) (slot : Slot) (first ascending : ℕ)
   unique : AreUnique more
   unique = AreUnique-more es label slot map.unique absent
 
-  -- it joins the run
+  -- the label joins the run
   pub IsMap-joined : ascending ≡ length es → AreBefore es first label → IsMap more first (ascending + 1) numbers
   IsMap-joined all before = record {
     begins = omega (arith, map.begins);
@@ -155,7 +155,7 @@ module _ (es : Entries) (label : List ℕ) (slot : Slot) (first ascending : ℕ)
     unique = unique;
   }
 
-  -- it gets a number
+  -- the label gets a number
   pub IsMap-numbered : (new : Numbers) (n : ℕ) → n ≡ length es → AreFew new
       → ((q : List ℕ) → number_of new q ≡ (if bytes_eq label q then Some n else number_of numbers q)) → IsMap more first ascending new
   IsMap-numbered new n last few gives = record {
@@ -177,7 +177,7 @@ module _ (es : Entries) (label : List ℕ) (slot : Slot) (first ascending : ℕ)
       earlier : (i : ℕ) (q : List ℕ) → IsAt more q i → i ≢ n → IsAt es q i
       earlier i q is other = IsAt-before es (label, slot) q i (omega (arith, other, last, count, IsAt-within more q i is)) is
 
--- an entry's slot changes
+-- the slot of an entry is replaced
 module _ (es : Entries) (i : ℕ) (label : List ℕ) (old slot : Slot) (at : slice_get es i ≡ Some (label, old)) where
   abbrev pub now : Entries
   now = slice_set es i (label, slot)
@@ -185,7 +185,7 @@ module _ (es : Entries) (i : ℕ) (label : List ℕ) (old slot : Slot) (at : sli
   here : slice_get now i ≡ Some (label, slot)
   here = slice_get-set es i (label, slot) (slice_get_within es i (label, old) at)
 
-  -- each label stands where it did
+  -- each label keeps its place
   was : (q : List ℕ) (j : ℕ) → IsAt now q j → IsAt es q j
   was q j is = by (eqb_tells j i)
     where

@@ -9,7 +9,7 @@ use Rattle.std.proofs.lemmas.Slice.Eq.{bytes_eq-Decides}
 use Rattle.goal_labels.specs.declared.numbers.Numbers.{Numbers}
 use Rattle.goal_labels.specs.Numbers.{hashed_at, ordered_at, number_of}
 
--- where there are no labels
+-- a table without labels
 pub none_numbered : (numbers : Numbers) → numbers.hashed.entries ≡ [] → numbers.ordered.entries ≡ [] → (label : List ℕ) → number_of numbers label ≡ None
 unfolding number_of
 none_numbered numbers hashed ordered label =
@@ -21,7 +21,7 @@ pub by_hash : (numbers : Numbers) (key label : List ℕ) → key ≡ label → (
 unfolding number_of
 by_hash numbers key label same n is = ap (λ (o : Option ℕ). option_or o (ordered_at numbers label)) (is ∙ ap (hashed_at numbers) same)
 
--- what a lookup found in order, where none is found by the hash
+-- what a lookup in the ordered map found, if none was found by the hash
 pub by_order : (numbers : Numbers) (one key label : List ℕ) → one ≡ label → key ≡ label → None ≡ hashed_at numbers one
     → (o : Option ℕ) → o ≡ ordered_at numbers key → o ≡ number_of numbers label
 unfolding number_of
@@ -43,7 +43,7 @@ module _ (old new : Numbers) (key label : List ℕ) (n : ℕ) (same : key ≡ la
       by true = refl
       by false = refl
 
-  -- in order
+  -- in the ordered map
   pub order_given : new.hashed ≡ old.hashed → number_of old label ≡ None
       → ((q : List ℕ) → ordered_at new q ≡ cond (is_at (slice_cmp nat_cmp key) q) (Some n) (ordered_at old q))
       → (q : List ℕ) → number_of new q ≡ (if bytes_eq label q then Some n else number_of old q)

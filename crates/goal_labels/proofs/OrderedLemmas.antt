@@ -1,4 +1,4 @@
--- Labels in their order.
+-- The order of labels.
 use Rattle.std.proofs.Common.{◌≡◌, ℕ, ◌+◌, ◌<◌, ◌≤◌, Bool, true, false, List, [], ◌∷◌, ◌++◌, Option, length, nat_cmp}
 use Rattle.std.proofs.Common.{refl, sym, ap, subst, ◌∙◌, arith, ltb, Decides}
 use Rattle.std.specs.Cmp.Lexicographic.{slice_cmp}
@@ -39,7 +39,7 @@ label_cmp-back x y past = total.antisymm y x ∙ ap ordering_reverse past
 pub label_cmp-same : (x : List ℕ) → label_cmp x x ≡ Equal
 label_cmp-same x = tied_itself total x
 
--- a label does not go before itself
+-- a label does not come before itself
 pub label_cmp-apart : (x y : List ℕ) → label_cmp x y ≡ Less → x ≡ y → ⊥
 label_cmp-apart x y before same =
     let one : Less ≡ Equal = sym before ∙ ap (λ (k : List ℕ). label_cmp k y) same ∙ label_cmp-same y in
@@ -55,11 +55,11 @@ label_cmp-tied x y tied =
     by Equal told = told
     by Greater told = absurd (cc)
 
--- a label that comes after all from `first` on is none of them
+-- a label after all from `first` on is none of them
 pub before_apart : (es : Entries) (first : ℕ) (label : List ℕ) → AreBefore es first label → (i : ℕ) → first ≤ i → IsAt es label i → ⊥
 before_apart es first label before i from at = label_cmp-apart label label (before i label from at) refl
 
--- one that comes after all is none of all
+-- a label after all labels is none of them
 pub before_absent : (es : Entries) (label : List ℕ) → AreBefore es 0 label → IsAbsent es label
 before_absent es label before i at = before_apart es 0 label before i (omega arith) at
 
@@ -67,7 +67,7 @@ before_absent es label before i at = before_apart es 0 label before i (omega ari
 pub IsAt-same : (es : Entries) (one other : List ℕ) (i : ℕ) → IsAt es one i → IsAt es other i → one ≡ other
 IsAt-same es one other i a b = ap (λ (o : Option (List ℕ × Slot)). option_map_or (λ e. e.0) o []) (sym a.1 ∙ b.1)
 
--- the last label goes before this one, and those from `first` on ascend: so all of these go before it
+-- a label after the last is after all from `first` on, if these ascend
 pub before_last : (es : Entries) (last label : List ℕ) (first n count : ℕ) → AreAscending es first count → count ≡ length es → length es ≡ n + 1
     → IsAt es last n → label_cmp last label ≡ Less → AreBefore es first label
 before_last es last label first n count ascending all many there less i one from at = by (ltb i n) (Decides-ltb _ _)
@@ -78,7 +78,7 @@ before_last es last label first n count ascending all many there less i one from
         let here : i ≡ n = omega (arith, many, IsAt-within es one i at, not_from_Decides false p refl) in
         ap (λ (k : List ℕ). label_cmp k label) (IsAt-same es one last n (subst (IsAt es one) here at) there) ∙ less
 
--- among labels that ascend, one that goes before another stands before it
+-- among ascending labels, one that is less has the lesser number
 pub stands_before : (es : Entries) (one other : List ℕ) (first i j count : ℕ) → AreAscending es first count → first ≤ j → i < count → IsAt es one i → IsAt es other j
     → label_cmp one other ≡ Less → i < j
 stands_before es one other first i j count ascending from within a b less = by (ltb i j) (Decides-ltb _ _) (ltb j i) (Decides-ltb _ _)
@@ -92,17 +92,17 @@ stands_before es one other first i j count ascending from within a b less = by (
         let here : i ≡ j = omega (arith, not_from_Decides false p refl, not_from_Decides false q refl) in
         absurd (label_cmp-apart one other less (IsAt-same es one other j (subst (IsAt es one) here a) b))
 
--- a label is added
+-- a label is appended
 module _ (es : Entries) (label : List ℕ) (slot : Slot) (first count : ℕ) (ascending : AreAscending es first count) where
   abbrev more : Entries
   more = es ++ (label, slot) ∷ []
 
-  -- the others ascend as before
+  -- the others still ascend
   pub ascending_left : count ≤ length es → AreAscending (es ++ (label, slot) ∷ []) first count
   ascending_left within i j one other from less below a b =
       ascending i j one other from less below (IsAt-before es _ one i (omega (arith, less, below, within)) a) (IsAt-before es _ other j (omega (arith, below, within)) b)
 
-  -- it comes after these, and all of them still ascend
+  -- the new label comes after these, and all of them ascend
   pub ascending_more : count ≡ length es → AreBefore es first label → AreAscending (es ++ (label, slot) ∷ []) first (count + 1)
   ascending_more all before i j one other from less below a b = by (ltb j (length es)) (Decides-ltb _ _)
     where

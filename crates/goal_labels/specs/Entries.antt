@@ -1,4 +1,4 @@
--- Labels with their slots, in the order in which the labels stood first.
+-- Labels with their slots, in the order of their first appearance.
 use Rattle.std.specs.Prelude.{◌≡◌, ℕ, ◌+◌, ◌<◌, ◌≤◌, Bool, false, List, [], ◌∷◌, Some, length, take, drop, map, slice_get, bytes_eq, if◌then◌else◌}
 use Rattle.std.specs.Option.{option_map_or}
 use Rattle.goal_labels.specs.declared.label_map.Slot.{Slot}
@@ -7,38 +7,38 @@ use Rattle.goal_labels.specs.declared.label_map.Entry.{Entry}
 abbrev pub Entries : Type 0
 Entries = List (List ℕ × Slot)
 
--- the entries once a label has a slot: a label that is there keeps its place, and a new one goes last
+-- the entries after a label gets a slot: a known label keeps its place, and a new one is appended
 abbrev pub put : Entries → List ℕ → Slot → Entries
 put [] label slot = (label, slot) ∷ []
 put (e ∷ es) label slot = if bytes_eq label e.0 then (e.0, slot) ∷ es else e ∷ put es label slot
 
--- the entry of that number is the label's
+-- entry i has this label
 abbrev pub IsAt : Entries → List ℕ → ℕ → Type 0
 IsAt entries label i = (slot : Slot) × (slice_get entries i ≡ Some (label, slot))
 
--- no entry is the label's
+-- no entry has this label
 abbrev pub IsAbsent : Entries → List ℕ → Type 0
 IsAbsent entries label = (i : ℕ) → IsAt entries label i → ⊥
 
--- a label has one entry at most
+-- each label has at most one entry
 abbrev pub AreUnique : Entries → Type 0
 AreUnique entries = (i j : ℕ) (label : List ℕ) → IsAt entries label i → IsAt entries label j → i ≡ j
 
--- whether the entry of that number is the label's
+-- entry i has this label, as a test
 unfoldable pub is_at : Entries → List ℕ → ℕ → Bool
 is_at entries label i = option_map_or (λ e. bytes_eq e.0 label) (slice_get entries i) false
 
--- The labels' bytes stand one after another, and an entry says which of them are its label.
+-- The bytes of all labels are kept one after another, and an entry says which of them are its label.
 
 -- the label of an entry
 abbrev pub label_of : List ℕ → Entry → List ℕ
 label_of bytes e = take e.len (drop e.from bytes)
 
--- the entries, each with its label
+-- the entries, each with its label and its slot
 unfoldable pub entries_of : List ℕ → List Entry → Entries
 entries_of bytes entries = map (λ e. (label_of bytes e, e.slot)) entries
 
--- the label of an entry stands among the bytes, and has 1 to 64 of them
+-- the label of an entry is inside the bytes, and has 1 to 64 of them
 pub record IsHeld (bytes : List ℕ) (entry : Entry) : Type 0 where
   pub within : entry.from + entry.len ≤ length bytes
   pub some : 0 < entry.len

@@ -5,8 +5,8 @@ use Rattle.goal_labels.specs.Entries.{Entries, IsAt, AreUnique}
 use Rattle.goal_labels.specs.Numbers.{number_of, AreFew}
 use Rattle.goal_labels.specs.Ordered.{AreAscending}
 
--- what a map of labels keeps: the labels from `first` up to `ascending` ascend, `numbers` has each other one and none of these,
--- and each label has one entry
+-- The invariant of a map of labels. The labels from `first` to before `ascending`, called the run, ascend. `numbers`
+-- has every label outside the run and none inside. Each label has one entry.
 pub record IsMap (entries : Entries) (first ascending : ℕ) (numbers : Numbers) : Type 0 where
   pub begins : first ≤ ascending
   pub within : ascending ≤ length entries

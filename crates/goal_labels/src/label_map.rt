@@ -1,4 +1,4 @@
-//! A map from labels to slots, in the order in which the labels came.
+//! A map from labels to slots, in the order of their first appearance.
 ghost use Rattle.std.specs.Prelude.{◌≡◌, ℕ, ◌^◌, ◌<◌, ◌≤◌, true, List, [], ◌∷◌, ◌++◌, Some, None, length, slice_get, bytes_eq, IfSome, IfNone, IfOk, OnOk};
 ghost use Rattle.std.specs.Map.{lookup};
 ghost use Rattle.goal_labels.specs.Entries.{Entries, put, is_at, label_of, entries_of, IsAt, IsAbsent, IsHeld, AreUnique, AreHeld};
@@ -15,34 +15,34 @@ use std::marker::Model;
 /// What is known of a label.
 #[derive(Clone, Copy, PartialEq, Eq)]
 pub struct Slot {
-    /// The number of its operation, once it is defined.
+    /// The number of its operation, or `None` while it is not defined.
     pub op: Option<u32>,
-    /// The place where it stood first, as long as it isn't defined.
+    /// The place of its first appearance in the text, which matters while it is not defined.
     pub at: u64,
 }
 
-/// A label's slot, and where among all labels' bytes its own stand.
+/// A label's slot, and the place of its bytes among those of all labels.
 #[derive(Clone, Copy)]
 pub struct Entry {
     /// What is known of the label.
     pub slot: Slot,
-    /// Where its bytes begin.
+    /// The place of its first byte.
     pub from: u32,
-    /// How many bytes it has.
+    /// The number of its bytes, 1 to 64.
     pub len: u32,
 }
 
 /// Labels with their slots, in the order of their first appearance. Contracts see the list of them.
 ///
-/// Most texts number their labels and define them in that order. Such labels are a run, which ascends: a label joins it at its
-/// end, and binary search finds it. All labels outside the run have an entry in [`Numbers`].
+/// Most texts number their labels and define them in that order. Such labels form an ascending run: a label is appended
+/// to it, and binary search finds it. All labels outside the run have an entry in [`Numbers`].
 pub struct LabelMap {
     entries: Vec<Entry>,
-    // The bytes of all labels, one label after another: a short label takes little memory.
+    // The bytes of all labels, one after another, so that a short label takes little memory.
     bytes: Vec<u8>,
-    // The number of the run's first label.
+    // The number of the first label of the run.
     first: usize,
-    // The labels from `first` up to this number are the run: they ascend.
+    // The number after the last label of the run.
     ascending: usize,
     // The numbers of all other labels.
     numbers: Numbers,
@@ -50,7 +50,7 @@ pub struct LabelMap {
     recent: [usize; 2],
 }
 
-// It goes by a call, and not field by field: so those that let one go are shorter to prove.
+// A function, instead of a field by field drop: callers are then shorter to prove.
 impl Drop for LabelMap {
     fn drop(self) {
         let LabelMap {
@@ -85,7 +85,8 @@ fn label_of<'a>(bytes: &'a [u8], entry: &Entry) -> &'a [u8]
     &bytes[from..from + entry.len as usize]
 }
 
-// Whether two labels of one length are the same. Most have few bytes: of these some are compared at once, from both ends.
+// Returns whether two labels of one length are the same. Most are short: up to 8 bytes are compared at once, from both
+// ends.
 #[inline(always)]
 fn are_same(one: &[u8], other: &[u8]) -> bool
     requires { length one.now ≡ length other.now }
@@ -104,7 +105,7 @@ fn are_same(one: &[u8], other: &[u8]) -> bool
     one == other
 }
 
-// Whether the entry of that number is the label's. The lengths are compared first, since that takes least.
+// Returns whether entry `i` has this label. The lengths are compared first, since that is cheapest.
 #[inline(always)]
 fn is_at(entries: &[Entry], bytes: &[u8], label: &[u8], i: usize) -> bool
     requires held { AreHeld bytes.now entries.now }
@@ -116,7 +117,7 @@ fn is_at(entries: &[Entry], bytes: &[u8], label: &[u8], i: usize) -> bool
     }
 }
 
-// The last byte of a label, or 0 where it has none.
+// Returns the last byte of a label, or 0 if it has none.
 #[inline(always)]
 fn last_of(label: &[u8]) -> usize
     ensures { result < 2 ^ 8 }
@@ -127,8 +128,8 @@ fn last_of(label: &[u8]) -> usize
     }
 }
 
-// The number of a label, if the labels are numbered and it is at most 5 labels from the one at `near`: their last digits are as
-// far apart as they are. Only a guess: any answer is right.
+// Guesses the number of a label that is at most 5 labels from the one at `near`: in numbered labels their last digits
+// are equally far apart. Any answer is right.
 #[inline(always)]
 fn number_near(entries: &[Entry], bytes: &[u8], label: &[u8], near: usize) -> usize
     requires held { AreHeld bytes.now entries.now }
@@ -148,7 +149,7 @@ fn number_near(entries: &[Entry], bytes: &[u8], label: &[u8], near: usize) -> us
     }
 }
 
-// The order of labels: by their lengths, and those of one length by their bytes.
+// Compares labels by their lengths, and those of one length by their bytes.
 #[inline(always)]
 fn order(one: &[u8], other: &[u8]) -> Ordering
     ensures { result ≡ label_cmp one.now other.now }
@@ -159,7 +160,7 @@ fn order(one: &[u8], other: &[u8]) -> Ordering
     }
 }
 
-// The number of a label among those from `first` up to `ascending`.
+// Returns the number of a label among those from `first` to before `ascending`.
 fn search(
     entries: &[Entry],
     bytes: &[u8],
@@ -186,7 +187,8 @@ fn search(
     None
 }
 
-// Whether this label comes after the last one. If the last labels ascend, it comes after all of these.
+// Returns whether this label comes after the last one: true only if it also comes after every ascending label up to
+// that one.
 #[inline(always)]
 fn comes_after_last(entries: &[Entry], bytes: &[u8], label: &[u8]) -> bool
     requires held { AreHeld bytes.now entries.now }
@@ -201,7 +203,7 @@ fn comes_after_last(entries: &[Entry], bytes: &[u8], label: &[u8]) -> bool
     }
 }
 
-// The number of a label.
+// Returns the number of a label.
 fn find(
     entries: &[Entry],
     bytes: &[u8],
@@ -226,7 +228,7 @@ fn find(
     }
 }
 
-// Adds an entry with a label that has none.
+// Appends an entry with a label that has none.
 #[inline(always)]
 fn hold(
     entries: &mut Vec<Entry>,
@@ -252,8 +254,8 @@ fn hold(
     Ok(())
 }
 
-// Whether a new label joins the run at its end. Where it is out of order, and the run has one label, the last of all, that one
-// gets a number, and the new label begins a run.
+// Returns whether a new label joins the end of the run. If it is out of order and the run is one label, the last of
+// all, that label gets a number, and the new label begins a run.
 #[inline(always)]
 fn join_run(
     entries: &[Entry],
@@ -318,7 +320,7 @@ fn append(
     numbers.insert(label, number)
 }
 
-// Removes all labels. What they were need not be known: an append that runs out of memory may leave them in any state.
+// Removes all labels. Nothing need be known of them: an append that ran out of memory may leave any state.
 fn forget(
     entries: &mut Vec<Entry>,
     bytes: &mut Vec<u8>,
@@ -340,7 +342,7 @@ fn forget(
 }
 
 impl LabelMap {
-    /// No labels.
+    /// Creates a map without labels.
     pub fn new(alloc: Global) -> LabelMap
         ensures { result ≡ [] }
     {
@@ -367,14 +369,14 @@ impl LabelMap {
         );
     }
 
-    /// How many labels there are.
+    /// Returns the number of labels.
     pub fn len(&self) -> usize
         ensures { result ≡ length self.now }
     {
         self.entries.len()
     }
 
-    /// The slot of that number.
+    /// Returns the slot of label number `i`, or `None` if there are not as many.
     pub fn get(&self, i: usize) -> Option<Slot>
         ensures some { IfSome result (λ slot. (label : List ℕ) × (slice_get self.now i ≡ Some (label, slot)) × (lookup (bytes_eq label) self.now ≡ Some slot)) }
         ensures none { IfNone result (length self.now ≤ i) }
@@ -385,7 +387,7 @@ impl LabelMap {
         }
     }
 
-    // The number of a label.
+    // Returns the number of a label.
     #[inline(never)]
     fn find(&self, label: &[u8]) -> Option<usize>
         requires some { 0 < length label.now }
@@ -404,7 +406,7 @@ impl LabelMap {
         )
     }
 
-    // Whether all labels ascend, and this one comes after the last.
+    // Returns whether all labels ascend and this one comes after the last: true only if it comes after all.
     #[inline(always)]
     fn comes_after_all(&self, label: &[u8]) -> bool
         ensures { result ≡ true → AreBefore self.now 0 label.now }
@@ -414,8 +416,8 @@ impl LabelMap {
             && comes_after_last(&self.entries, &self.bytes, label)
     }
 
-    // The number of a label that is near the label mentioned before the last one. A dependency mentions two labels, and most
-    // dependencies go on as the last one did, as in `l4 requires l3` after `l3 requires l2`.
+    // Returns the number of a label near the one mentioned before the last. A dependency mentions two labels, and most
+    // continue the last one, as `l4 requires l3` does after `l3 requires l2`.
     #[inline(always)]
     fn find_near(&mut self, label: &[u8]) -> Option<usize>
         ensures found { IfSome result (IsAt self.new label.now) }
@@ -462,7 +464,8 @@ impl LabelMap {
         added
     }
 
-    /// Gives a slot to a label, and hands out the one that it had. Where there is no memory left, the map may lose its labels.
+    /// Gives a slot to a label of 1 to 64 bytes, and returns the one that it had, if any. On `Err` (out of memory) the
+    /// map may lose its labels.
     pub fn insert(&mut self, label: &[u8], slot: Slot) -> Result<Option<Slot>, AllocError>
         requires some { 0 < length label.now }
         requires short { length label.now ≤ 64 }
@@ -486,7 +489,7 @@ impl LabelMap {
         }
     }
 
-    // The number of a label, wherever it is. A new one gets this slot.
+    // Returns the number of a label, wherever it is. A new label gets this slot.
     #[inline(never)]
     fn number_anywhere(&mut self, label: &[u8], slot: Slot) -> Result<usize, AllocError>
         requires some { 0 < length label.now }
@@ -504,7 +507,8 @@ impl LabelMap {
         Ok(number)
     }
 
-    /// The number of a label. Where it is new, it gets this slot. Where there is no memory left, the map may lose its labels.
+    /// Returns the number of a label of 1 to 64 bytes. A new label gets this slot. On `Err` (out of memory) the map may
+    /// lose its labels.
     pub fn number(&mut self, label: &[u8], slot: Slot) -> Result<usize, AllocError>
         requires some { 0 < length label.now }
         requires short { length label.now ≤ 64 }

@@ -8,21 +8,21 @@ use indexmap::IndexMap;
 use std::alloc::{AllocError, Global};
 use std::collections::BTreeMap;
 
-/// The most labels that are found by their hashes. All of them may have one hash, and a lookup then compares each.
+/// The most labels that are found by their hashes. If all have one hash, a lookup compares each of them.
 const MOST_HASHED: usize = 1024;
 
-/// Labels with their numbers, found by their hashes. The author of a text can choose labels of one hash: labels beyond
-/// [`MOST_HASHED`] are therefore found in an ordered map.
+/// Labels with their numbers, found by their hashes. The author of a text can choose labels with equal hashes, so
+/// labels beyond [`MOST_HASHED`] are found in an ordered map.
 #[derive(Drop)]
 pub struct Numbers {
-    /// The first labels.
+    /// The first labels, at most [`MOST_HASHED`].
     pub hashed: IndexMap<Label, usize>,
     /// The labels after them.
     pub ordered: BTreeMap<Sorted, usize>,
 }
 
 impl Numbers {
-    /// No labels.
+    /// Creates an empty table.
     pub fn new(alloc: Global) -> Numbers
         ensures none { (label : List ℕ) → number_of result label ≡ None }
         ensures few { AreFew result }
@@ -42,7 +42,7 @@ impl Numbers {
         self.ordered.clear();
     }
 
-    /// The number of a label.
+    /// Returns the number of a label of 1 to 64 bytes, if it has one.
     pub fn get(&self, label: &[u8]) -> Option<usize>
         requires some { 0 < length label.now }
         requires short { length label.now ≤ 64 }
@@ -57,7 +57,7 @@ impl Numbers {
         }
     }
 
-    /// Gives a number to a label that has none.
+    /// Gives a number to a label of 1 to 64 bytes that has none. `Err` means out of memory.
     pub fn insert(&mut self, label: &[u8], number: usize) -> Result<(), AllocError>
         requires some { 0 < length label.now }
         requires short { length label.now ≤ 64 }

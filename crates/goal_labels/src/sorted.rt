@@ -25,7 +25,7 @@ impl Model for Sorted {
 }
 
 impl Sorted {
-    /// The label of these bytes, to be compared.
+    /// Returns the label of these 1 to 64 bytes, as one that is compared by its bytes.
     pub fn of(label: &[u8]) -> Sorted
         requires some { 0 < length label.now }
         requires short { length label.now ≤ 64 }

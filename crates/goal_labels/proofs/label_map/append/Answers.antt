@@ -44,7 +44,7 @@ insert-requires-clause-absent c =
     let map = subst (λ (ds : Entries). IsMap ds first ascending numbers) same c.in_ok-joins.ensures.map in
     unnumbered (entries_of bytes held) first ascending numbers c.args.label.now map c.requires.absent
 
--- two facts of an Ok make a third
+-- two facts about an Ok imply a third
 on_ok_both : {A E P Q R : Type 0} (r : Result A E) → (P → Q → R) → OnOk r P → OnOk r Q → OnOk r R
 on_ok_both (Ok x) f p q = f p q
 on_ok_both (Err e) f p q = tt
