@@ -27,7 +27,7 @@ use Rattle.goal_print.proofs.Seen.{Seen, ops_now, Good, BeginsItem}
 use Rattle.goal_print.proofs.ItemsRead.{after_op, calc_draft, send_draft, recv_draft, calc_read, send_read, recv_read, after_dep, after_note, dep_read, moves_read, adds_read}
 use Rattle.goal_print.proofs.LabelLaws.{Knows, knows_more, used_more, used_none}
 
--- what a block doesn't change before its end
+-- what a block leaves unchanged before its end
 pub record Frame : Type 0 where
   pub ranks : ℕ
   pub blocks : List ℕ
@@ -37,13 +37,13 @@ pub record Frame : Type 0 where
 abbrev pub frame_of : Seen → Frame
 frame_of s = record { ranks = s.ranks; blocks = s.blocks; rank = s.rank; plans = s.plans }
 
--- so many more operations, dependencies and notes may come
+-- there is room for more operations, dependencies and notes
 pub record IsRoom (counts : Counts) (ops deps notes : ℕ) : Type 0 where
   pub ops_fit : counts.ops + ops ≤ MAX_OPS
   pub deps_fit : counts.deps + deps ≤ MAX_DEPS
   pub notes_fit : counts.notes + notes ≤ MAX_NOTES
 
--- these operations are read, and no dependency or note
+-- these operations are read so far, and no dependency or note
 pub record InOps (s : Seen) (frame : Frame) (os : List Op) (ops deps notes : ℕ) : Type 0 where
   pub begins : BeginsItem s.state
   pub ops_are : ops_now s ≡ os
@@ -54,7 +54,7 @@ pub record InOps (s : Seen) (frame : Frame) (os : List Op) (ops deps notes : ℕ
   pub frame_is : frame_of s ≡ frame
   pub room : IsRoom s.counts ops deps notes
 
--- one operation more
+-- another operation
 module _ (s : Seen) (frame : Frame) (os : List Op) (n ops deps notes : ℕ) (long : length os ≡ n) (few : n < 2 ^ 32)
     (h : InOps s frame os (ops + 1) deps notes) (kinds : List TokenKind) (plans : List Plan) where
   new_label : is_defined s.defined (label n) ≡ false
@@ -112,7 +112,7 @@ ops_read (o ∷ more) s frame os n ops deps notes kinds plans long few fits h go
     (λ t h2. ops_read more t frame (os ++ o ∷ []) (n + 1) ops deps notes kinds plans (omega (arith, length-append os (o ∷ []), long)) (omega arith) fits.1 h2
     (λ u h3. good u (subst (λ (l : List Op). InOps u frame l ops deps notes) (append_assoc os (o ∷ []) more) h3)))
 
--- the operations are read, and of the dependencies and notes these
+-- the operations and these dependencies and notes are read so far
 pub record InItems (s : Seen) (frame : Frame) (os : List Op) (ds : List Dep) (ns : List Note) (ops deps notes : ℕ) : Type 0 where
   pub begins : BeginsItem s.state
   pub ops_are : ops_now s ≡ os
@@ -142,7 +142,7 @@ module _ (s : Seen) (frame : Frame) (os : List Op) (ds : List Dep) (ns : List No
   label_number : Knows s.defined (length os) → (i : ℕ) → i < length os → op_number s.defined (label i) ≡ i
   label_number knows i below = ap (λ (o : Option ℕ). unwrap_or o 0) (knows.there i below)
 
-  -- one dependency more
+  -- another dependency
   dep_more : (d : Dep) → DepFits (length os) d → InItems s frame os ds ns ops (deps + 1) notes
       → ((t : Seen) → InItems t frame os (ds ++ d ∷ []) ns ops deps notes → Good t kinds plans) → Good s (deps_kinds (d ∷ []) kinds) plans
   unfolding ends_action
@@ -166,7 +166,7 @@ module _ (s : Seen) (frame : Frame) (os : List Op) (ds : List Dep) (ns : List No
         room = let fit = h.room.deps_fit in record { ops_fit = h.room.ops_fit; deps_fit = omega arith; notes_fit = h.room.notes_fit };
       }))
 
-  -- one note more
+  -- another note
   after_note-items : (op : ℕ) (verb : Verb) (first second at : ℕ) → op < length os → InItems s frame os ds ns ops deps (notes + 1)
       → InItems (after_note s (label op) at verb first second) frame os ds (ns ++ note_as verb op first second ∷ []) ops deps notes
   unfolding ends_action

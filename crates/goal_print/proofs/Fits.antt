@@ -17,7 +17,7 @@ abbrev pub WildFits : Option ℕ → Type 0
 WildFits None = ⊤
 WildFits (Some n) = n < 2 ^ 32
 
--- what an operation does, on this interface
+-- the kind of an operation on this NIC
 abbrev pub KindFits : Kind → ℕ → Type 0
 KindFits (Calc nanos) nic = (nanos ≤ MAX_NANOS) × (nic ≡ 0)
 KindFits (Send bytes to tag) nic = (bytes ≤ MAX_BYTES) × (to < 2 ^ 32) × (tag < 2 ^ 32) × (nic ≤ 255)
@@ -27,7 +27,7 @@ pub record OpFits (o : Op) : Type 0 where
   pub kind : KindFits o.kind o.nic
   pub cpu : o.cpu ≤ 255
 
--- a dependency and a note, of a rank with so many operations
+-- a dependency and a note of a rank with `ops` operations
 abbrev pub DepFits : ℕ → Dep → Type 0
 DepFits ops d = (d.later < ops) × (d.earlier < ops)
 

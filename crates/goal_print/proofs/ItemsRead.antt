@@ -27,7 +27,7 @@ abbrev pub verb_of : When → Verb
 verb_of AfterEnd = verb.Requires
 verb_of AfterStart = verb.Irequires
 
--- what is given behind an operation
+-- the words after an operation
 abbrev pub after_op : Seen → List ℕ → ℕ → State → Draft → Seen
 after_op s label at st draft = record s {
   state = st;
@@ -38,7 +38,7 @@ after_op s label at st draft = record s {
   counts = record s.counts { ops = s.counts.ops + 1 };
 }
 
--- the drafts of whole actions
+-- the drafts of complete actions
 abbrev pub calc_draft : Draft → ℕ → ℕ → Draft
 calc_draft old nanos cpu = record (begun action.Calc old.option) { size = nanos; cpu = cpu; has_cpu = true; option = option.Cpu }
 
@@ -100,7 +100,7 @@ tag_read s tag kinds plans is word fits good =
     by None fits good = next (λ a b. refl) (λ a b. good)
     by (Some n) fits good = next (λ a b. passes_u32 n (fault.Number a) fits) (λ a b. good)
 
--- an operation, where its label is new and there is room for it
+-- an operation, if its label is new and there is room for it
 module _ (s : Seen) (label : List ℕ) (kinds : List TokenKind) (plans : List Plan) (begins : BeginsItem s.state)
     (new : is_defined s.defined label ≡ false) (few : s.counts.ops < MAX_OPS) where
   pub calc_read : (nanos cpu nic : ℕ) → nanos ≤ MAX_NANOS → cpu ≤ 255
@@ -153,7 +153,7 @@ module _ (s : Seen) (label : List ℕ) (kinds : List TokenKind) (plans : List Pl
       next (λ a b. refl) (λ a b.
       next (λ a b. passes_upto nic 255 (fault.Number a) nic_fits) (λ a b. good at))))))))))))
 
--- what is given behind a dependency
+-- the words after a dependency
 abbrev pub after_dep : Seen → List ℕ → List ℕ → ℕ → ℕ → When → Seen
 after_dep s later earlier at there when = record s {
   state = state.Item;
@@ -164,7 +164,7 @@ after_dep s later earlier at there when = record s {
   counts = record s.counts { deps = s.counts.deps + 1 };
 }
 
--- what is given behind a note
+-- the words after a note
 abbrev pub after_note : Seen → List ℕ → ℕ → Verb → ℕ → ℕ → Seen
 after_note s subject at verb first second = record s {
   state = state.Item;
@@ -175,7 +175,7 @@ after_note s subject at verb first second = record s {
   counts = record s.counts { notes = s.counts.notes + 1 };
 }
 
--- a dependency, and a note, where there is room for it
+-- a dependency and a note, if there is room for them
 module _ (s : Seen) (kinds : List TokenKind) (plans : List Plan) (begins : BeginsItem s.state) where
   pub dep_read : (later earlier : List ℕ) (when : When) → s.counts.deps < MAX_DEPS
       → ((at there : ℕ) → Good (after_dep s later earlier at there when) kinds plans)

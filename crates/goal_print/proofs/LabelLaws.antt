@@ -1,4 +1,4 @@
--- The labels of a block name its operations.
+-- The labels of a block are those of its operations.
 use Rattle.std.proofs.Common.{◌≡◌, ◌≢◌, ℕ, ◌+◌, ◌^◌, ◌<◌, ◌≤◌, Bool, true, false, List, [], ◌∷◌, ◌++◌, Option, Some, None, if◌then◌else◌, bytes_eq, nat_eq, decimal, refl, ap, subst, ◌∙◌, arith}
 use Rattle.std.specs.Option.{option_or}
 use Rattle.std.proofs.lemmas.Fmt.{decimal_injective}
@@ -25,7 +25,7 @@ label_other i j i_fits j_fits other = by (bytes_eq (label i) (label j)) refl
     by true is = absurd (other (label_injective i j i_fits j_fits ((bytes_eq-Decides (label i) (label j)).0 is)))
     by false is = is
 
--- the first n labels are defined, each with its number, and no other
+-- the first n labels are defined, each with its number, and no others
 pub record Knows (ds : List Definition) (n : ℕ) : Type 0 where
   pub there : (i : ℕ) → i < n → defined_as ds (label i) ≡ Some i
   pub new : (i : ℕ) → n ≤ i → i < 2 ^ 32 → defined_as ds (label i) ≡ None
@@ -55,7 +55,7 @@ knows_more ds n fits knows = record {
     there_now i below true is = let e : n ≡ i = grind (arith, nat_tests) in subst (λ (j : ℕ). option_or (defined_as ds (label j)) (if bytes_eq (label j) (label n) then Some n else None) ≡ Some j) e newest
     there_now i below false is = old i (grind (arith, nat_tests))
 
--- uses of labels that pass a test, one more
+-- another use of a label that passes a test
 
 pub used_more : (test : List ℕ → Bool) (us : List Mention) (u : Mention) → first_outside test us ≡ None → test u.label ≡ true → first_outside test (us ++ u ∷ []) ≡ None
 unfolding first_outside

@@ -1,4 +1,4 @@
--- The kinds of a text's tokens, from its end to its begin: one piece more in front.
+-- The kinds of a text's tokens, from its end to its beginning: another piece at the front.
 use Rattle.std.proofs.Common.{◌≡◌, ℕ, ◌+◌, ◌^◌, ◌<◌, ◌≤◌, Bool, true, false, List, [], ◌∷◌, ◌++◌, length, Option, Some, None, decimal, refl, sym, ap, subst, ◌∙◌, arith, append_assoc, length-append, nat_le, ◌&&◌}
 use Rattle.std.proofs.lemmas.List.{append-nil, map-append}
 use Rattle.std.proofs.lemmas.Bool.{and_parts}
@@ -27,7 +27,7 @@ pub record Lexes (text : List ℕ) (kinds : List TokenKind) : Type 0 where
 pub lexes_nothing : Lexes [] []
 lexes_nothing = record { pieces = []; spells = refl; right = tt; tells = λ place. refl }
 
--- one piece more
+-- another piece
 one_more : (p : Piece) (new : List TokenKind) (text : List ℕ) (kinds : List TokenKind) → IsRight p text
     → ((place : ℕ) → kinds_of (piece_tokens place p) ≡ new) → Lexes text kinds → Lexes (bytes_of p ++ text) (new ++ kinds)
 one_more p new text kinds right tells rest = record {
@@ -55,7 +55,7 @@ lexes_open {text} {kinds} rest = one_more (sign 123) (token.Open ∷ []) text ki
 pub lexes_close : {text : List ℕ} {kinds : List TokenKind} → Lexes text kinds → Lexes (125 ∷ text) (token.Close ∷ kinds)
 lexes_close {text} {kinds} rest = one_more (sign 125) (token.Close ∷ []) text kinds refl (λ place. refl) rest
 
--- a word, where no more of a run follows
+-- a word that no run byte follows
 pub lexes_word : (word : List ℕ) (kind : TokenKind) {text : List ℕ} {kinds : List TokenKind} → AreWord word → length word ≤ 64
     → run_kind Word word ≡ kind → begins_run text ≡ false → Lexes text kinds → Lexes (word ++ text) (kind ∷ kinds)
 lexes_word word kind {text} {kinds} are short is apart rest =
@@ -110,7 +110,7 @@ pub lexes_reserved : (word : List ℕ) (kind : TokenKind) {text : List ℕ} {kin
     → run_kind Word word ≡ kind → begins_run text ≡ false → Lexes text kinds → Lexes (word ++ text) (kind ∷ kinds)
 lexes_reserved word kind are is apart rest = let known = word_of word are in lexes_word word kind known.0 known.1 is apart rest
 
--- the tokens of a text have these kinds, and nothing else stands in it
+-- the tokens of a text have these kinds, and it has no other tokens
 
 nothing_at_end : NothingBegins []
 nothing_at_end p after same right = by p same right

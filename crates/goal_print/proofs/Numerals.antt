@@ -13,7 +13,7 @@ use Rattle.goal_lexer.specs.Runs.{run_kind}
 use Rattle.goal_print.specs.Canonical.{label}
 use Rattle.goal_lexer.proofs.ForCallers.{Each-push}
 
--- decimal numbers are digits
+-- decimal numbers are of digits
 digits_more : (ds : List ℕ) (c : ℕ) → AreDigits ds → is_digit c ≡ true → AreDigits (ds ++ c ∷ [])
 digits_more [] c are digit = absurd are
 digits_more (d ∷ ds) c are digit = (are.0, Each-push is_digit ds c are.1 digit)
@@ -43,7 +43,7 @@ number_value-decimal n h = let is : decimal_value (decimal n) ≡ n = decimal_va
 pub length-decimal : (n : ℕ) → n < 2 ^ 64 → length (decimal n) ≤ 20
 length-decimal n h = length-decimal-le 20 n (omega arith) (omega arith) h
 
--- labels are words, and none of them is reserved
+-- labels are words that are not reserved
 
 run_bytes : (cs : List ℕ) → Each is_digit cs → Each is_run_byte cs
 run_bytes [] each = tt

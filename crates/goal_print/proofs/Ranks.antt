@@ -5,7 +5,7 @@ use Rattle.goal_graph.specs.declared.plan.Op.{Op}
 use Rattle.goal_graph.specs.Schedule.{Plan}
 use Rattle.goal_print.specs.Canonical.{block, unless_empty, blocks}
 
--- one rank more
+-- another rank
 pub one_more : (i : ℕ) (ps : List Plan) (p : Plan) (out all : List ℕ) → i < length ps → p ≡ get_or ps i p
     → out ++ blocks i (drop i ps) ≡ all
     → (out ++ unless_empty p.ops (block i p)) ++ blocks (i + 1) (drop (i + 1) ps) ≡ all
@@ -21,12 +21,12 @@ none_left : (i : ℕ) → blocks i [] ≡ []
 unfolding blocks
 none_left i = refl
 
--- where no rank is left, what is printed is all
+-- after the last rank the whole text is printed
 pub all_done : (i : ℕ) (ps : List Plan) (out all : List ℕ) → length ps ≤ i → out ++ blocks i (drop i ps) ≡ all → out ≡ all
 all_done i ps out all over is =
     sym (append-nil out) ∙ ap (λ (l : List ℕ). out ++ l) (sym (at_drop_all (blocks i) ps i over ∙ none_left i)) ∙ is
 
--- a text with operations has bytes: one rank more
+-- a text with operations has bytes: another rank
 pub more_bytes : (os : List Op) (out text : List ℕ) (operations : ℕ) → 0 < length text → (0 < operations → 0 < length out)
     → 0 < operations + length os → 0 < length (out ++ unless_empty os text)
 more_bytes [] out text operations long before some =

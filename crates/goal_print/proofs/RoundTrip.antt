@@ -1,6 +1,6 @@
--- What is read of the canonical text of a schedule is the schedule. `Lexes` and `TextKinds` have the text's tokens,
--- without their places. `Seen` has all that tokens give in one record, and what it is for tokens of these kinds to fail no
--- test, wherever they stand. `ItemsRead` reads the items of a block, `BlocksRead` their lists, and `TextRead` all blocks.
+-- Reading the canonical text of a schedule gives the schedule back. `Lexes` and `TextKinds` find the tokens of the
+-- text, without their places. `Seen` says when tokens of given kinds pass all tests of the reader, wherever they are.
+-- `ItemsRead` reads the items of a block, `BlocksRead` their lists, and `TextRead` all blocks.
 use Rattle.std.proofs.Common.{◌≡◌, ℕ, List, [], length, reverse, Option, None, sym, ap, subst, ◌∙◌, arith}
 use Rattle.std.specs.Option.{option_or}
 use Rattle.std.proofs.lemmas.List.{append-nil}
@@ -23,7 +23,7 @@ use Rattle.goal_print.proofs.TextKinds.{canonical_kinds, lexes_canonical}
 use Rattle.goal_print.proofs.TextRead.{canonical_read}
 use Rattle.goal_print.proofs.Accepted.{plans_fit}
 
--- a text whose tokens are good says these plans
+-- a text whose tokens pass all tests has these plans
 reads_good : (text : List ℕ) (kinds : List TokenKind) (ps : List Plan) → Lexes text kinds → Good (seen_of []) kinds ps → reads text ≡ plans ps
 unfolding reads text_fault text_plans
 reads_good text kinds ps lexes good =
@@ -36,7 +36,7 @@ reads_good text kinds ps lexes good =
     ∙ ap (λ (s : State). reading (last_fault None s (length text)) (plans_of (reverse tokens))) ends.0
     ∙ ap plans ends.1
 
--- the canonical text of a schedule says its plans
+-- the canonical text of a schedule has its plans
 pub reads_canonical : (ps : List Plan) → IsAccepted ps → AreCountsWithin ps → AreInWidth ps → reads (canonical ps) ≡ plans ps
 reads_canonical ps accepted counts width =
     let fits = plans_fit ps accepted counts width in

@@ -1,4 +1,4 @@
--- The reading of tokens by their kinds, wherever they stand.
+-- Reading tokens by their kinds, wherever they are.
 use Rattle.std.proofs.Common.{◌≡◌, ℕ, List, [], ◌∷◌, ◌++◌, reverse, None, refl, sym, ap, subst, ◌∙◌, append_assoc}
 use Rattle.std.specs.Option.{option_or, option_map}
 use Rattle.std.proofs.lemmas.List.{reverse-append}
@@ -25,7 +25,7 @@ use Rattle.goal_parser.proofs.ForCallers.{kinds_of}
 abbrev pub Ends : Seen → List Plan → Type 0
 Ends s plans = (s.state ≡ state.Top) × (s.plans ≡ plans)
 
--- Tokens of these kinds, wherever they stand, fail no test, and with them the text may end with these plans.
+-- Tokens of these kinds, wherever they are, pass all tests, and the text may then end with these plans.
 pub data Good : Seen → List TokenKind → List Plan → Type 0 where
   ends : {s : Seen} {plans : List Plan} → Ends s plans → Good s [] plans
   next : {s : Seen} {kind : TokenKind} {kinds : List TokenKind} {plans : List Plan}

@@ -21,7 +21,7 @@ abbrev pub wild_kind : Option ℕ → TokenKind
 wild_kind None = token.Any
 wild_kind (Some n) = token.Number n
 
--- the kinds of an action, and those that follow
+-- the kinds of an action, and those after it
 abbrev pub action_kinds : Kind → ℕ → ℕ → List TokenKind → List TokenKind
 action_kinds (Calc nanos) cpu nic more = token.Calc ∷ token.Number nanos ∷ token.Cpu ∷ token.Number cpu ∷ more
 action_kinds (Send bytes to tag) cpu nic more =
@@ -76,7 +76,7 @@ dep_text later verb earlier text =
     ∙ append_assoc (later ++ verb) earlier (10 ∷ text)
     ∙ append_assoc later verb (earlier ++ 10 ∷ text)
 
--- each line in front of a text
+-- each line at the front of a text
 
 lexes_wild : (o : Option ℕ) {text : List ℕ} {kinds : List TokenKind} → WildFits o → begins_run text ≡ false
     → Lexes text kinds → Lexes (number_or_any o ++ text) (wild_kind o ∷ kinds)

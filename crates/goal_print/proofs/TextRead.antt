@@ -29,7 +29,7 @@ use Rattle.goal_print.proofs.Seen.{Seen, seen_of, step, fault_in, ends, next, op
 use Rattle.goal_print.proofs.LabelLaws.{Knows, knows_none}
 use Rattle.goal_print.proofs.BlocksRead.{Frame, IsRoom, ops_read, items_begin, deps_read, notes_read}
 
--- Nothing of a block is open. The ranks from this number on had no block, and these plans are read.
+-- No block is open. The ranks from this number on have had no block, and these plans are read.
 pub record InTop (s : Seen) (ranks rank : ℕ) (plans : List Plan) : Type 0 where
   pub top : s.state ≡ state.Top
   pub no_ops : s.ops ≡ []
@@ -41,7 +41,7 @@ pub record InTop (s : Seen) (ranks rank : ℕ) (plans : List Plan) : Type 0 wher
   pub fresh : (i : ℕ) → rank ≤ i → list_any (nat_eq i) s.blocks ≡ false
   pub plans_are : s.plans ≡ plans
 
--- the state behind the begin of a block
+-- the state after the beginning of a block
 abbrev pub at_open : Seen → ℕ → Seen
 at_open s rank = record s { state = state.Item; blocks = s.blocks ++ rank ∷ []; rank = rank }
 
@@ -106,7 +106,7 @@ block_read s ranks rank p ps ops deps notes kinds plans below small fits h room 
         ∙ ap (λ (l : List Dep). record { ops = p.ops; deps = l; notes = (plan_now v).notes }) deps_are
         ∙ ap (λ (l : List Note). record { ops = p.ops; deps = p.deps; notes = l }) notes_are
 
--- the plans so far, and empty ones for the ranks to come
+-- the plans so far, and empty ones for the ranks that follow
 
 abbrev pub with_empty : List Plan → ℕ → List Plan
 with_empty done n = done ++ replicate n empty_plan
@@ -161,7 +161,7 @@ IsRoom-fewer counts a b c d e f room = record {
   notes_fit = let fit = room.notes_fit in omega arith;
 }
 
--- the block of a rank, or nothing where it has no operations
+-- the block of a rank, or nothing if it has no operations
 module _ (p : Plan) (more : List Plan) (s : Seen) (ranks rank : ℕ) (done plans : List Plan) (long : length done ≡ rank) (below : rank < ranks) (small : ranks < 2 ^ 32)
     (fits : PlanFits p) (h : InTop s ranks rank (with_empty done (suc (length more))))
     (rest : (t : Seen) → InTop t ranks (rank + 1) (with_empty (done ++ p ∷ []) (length more)) → IsRoom t.counts (op_count more) (dep_count more) (note_count more)

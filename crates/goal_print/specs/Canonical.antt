@@ -16,16 +16,16 @@ use Rattle.goal_graph.specs.Schedule.{Plan}
 abbrev pub line_feed : List ℕ
 line_feed = codes "\n"
 
--- the label of an operation: `l1` is that of number 0
+-- the label of an operation; `l1` is operation number 0
 abbrev pub label : ℕ → List ℕ
 label op = codes "l" ++ decimal (op + 1)
 
--- the source or the tag of a receive
+-- the source or the tag of a receive, which may be any
 abbrev pub number_or_any : Option ℕ → List ℕ
 number_or_any None = codes "any"
 number_or_any (Some n) = decimal n
 
--- the words behind the label of an operation of this kind, on this cpu and this interface
+-- the words after the label of an operation of this kind, on this cpu and this NIC
 abbrev pub action : Kind → ℕ → ℕ → List ℕ
 action (Calc nanos) cpu nic = codes "calc " ++ decimal nanos ++ codes " cpu " ++ decimal cpu ++ line_feed
 action (Send bytes to tag) cpu nic =
@@ -39,7 +39,7 @@ action (Recv bytes from tag) cpu nic =
 abbrev pub op_line : ℕ → Op → List ℕ
 op_line number o = label number ++ codes ": " ++ action o.kind o.cpu o.nic
 
--- the lines of operations, of which the first has this number
+-- the lines of operations, of which the first has number `number`
 unfoldable pub op_lines : ℕ → List Op → List ℕ
 op_lines number [] = []
 op_lines number (o ∷ os) = op_line number o ++ op_lines (number + 1) os
@@ -69,12 +69,12 @@ abbrev pub unless_empty : List Op → List ℕ → List ℕ
 unless_empty [] text = []
 unless_empty (o ∷ os) text = text
 
--- the lines of ranks, of which the first has this number
+-- the lines of ranks, of which the first has number `rank`
 unfoldable pub blocks : ℕ → List Plan → List ℕ
 blocks rank [] = []
 blocks rank (p ∷ ps) = unless_empty p.ops (block rank p) ++ blocks (rank + 1) ps
 
--- the first line of a text with so many ranks
+-- the first line of a text with this number of ranks
 abbrev pub heading : ℕ → List ℕ
 heading ranks = codes "num_ranks " ++ decimal ranks ++ line_feed
 

@@ -1,4 +1,4 @@
--- The law that joins a schedule and its canonical text.
+-- The law that relates a schedule and its canonical text.
 use Rattle.std.specs.Prelude.{◌≡◌, List}
 use Rattle.goal_graph.specs.Schedule.{Plan}
 use Rattle.goal_graph.specs.Fault.{IsAccepted}
@@ -7,6 +7,6 @@ use Rattle.goal_graph.specs.Widths.{AreInWidth}
 use Rattle.goal_parser.specs.Reads.{reads, plans}
 use Rattle.goal_print.specs.Canonical.{canonical}
 
--- what is read of the canonical text of an accepted schedule, whose numbers fit their types, is the schedule
+-- reading the canonical text of an accepted schedule gives the schedule back
 abbrev pub ReadBack : Type 0
 ReadBack = (ps : List Plan) → IsAccepted ps → AreCountsWithin ps → AreInWidth ps → reads (canonical ps) ≡ plans ps

@@ -1,4 +1,4 @@
-// A schedule that is printed and read again.
+//! Printing a schedule and reading it again.
 ghost use Rattle.std.specs.Prelude.{◌≡◌, IfOk, IfErr};
 
 use crate::print::print_text;
@@ -7,11 +7,11 @@ use goal_limits::NoMemory;
 use goal_parser::{TextFault, read_text};
 use std::alloc::Global;
 
-/// The schedule that is read of a schedule's canonical text. It is the same.
+/// Prints a schedule and returns the schedule that is read of the text: the same one.
 ///
 /// # Errors
 ///
-/// Want of memory alone: a canonical text has no fault.
+/// Only `NoMemory`: a canonical text has no fault.
 pub fn read_printed(alloc: Global, sched: &Sched) -> Result<Sched, TextFault>
     ensures same { IfOk result (λ again. again ≡ sched.now) }
     ensures faultless { IfErr result (λ fault. fault ≡ TextFault.NoMemory) }

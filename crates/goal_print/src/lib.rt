@@ -1,7 +1,7 @@
-//! The canonical text of a schedule: [`print_text`] gives it whole, and [`heading`] and [`Blocks`] page by page. What is
-//! read of it is the schedule.
+//! The canonical text of a schedule: [`print_text`] prints it whole, and [`heading`] and [`Blocks`] page by page.
+//! Reading it gives the schedule back.
 //!
-//! `specs/Canonical` says what the text is, by lines. [`read_printed`] prints a schedule and reads it again.
+//! `specs/Canonical` defines the text, by lines. [`read_printed`] prints a schedule and reads it again.
 #![tactic(auto)]
 
 mod again;

@@ -1,4 +1,4 @@
-// The blocks of a canonical text, page by page.
+//! The blocks of a canonical text, page by page.
 ghost use Rattle.std.specs.Prelude.{◌≡◌, ◌++◌, [], IfOk, OnErr};
 ghost use Rattle.goal_print.specs.Canonical.{blocks};
 
@@ -9,17 +9,17 @@ use goal_limits::NoMemory;
 use std::alloc::Global;
 use std::marker::Model;
 
-// A page ends with the rank whose block brings its operations to so many.
+// A page ends with the first rank that brings it to this many operations.
 const PAGE: usize = 1024;
 
-// So many bytes the lines of an operation, its dependencies and its notes mostly have at most.
+// Usually at least the bytes of an operation's lines, with its dependencies and notes.
 const ROOM: usize = 112;
 
-/// The blocks of the canonical text of a schedule, by rank, as far as they are still to come. Contracts see their text.
+/// The blocks of a schedule's canonical text that are not yet printed, by rank. Contracts see their text.
 #[derive(Drop)]
 pub struct Blocks<'a> {
     sched: &'a Sched,
-    // of how many ranks the blocks have come
+    // the number of ranks whose blocks are printed
     done: usize,
 }
 
@@ -33,18 +33,18 @@ impl<'a> Model for Blocks<'a> {
 }
 
 impl<'a> Blocks<'a> {
-    /// The blocks of all ranks.
+    /// Starts with the blocks of all ranks.
     pub fn new(sched: &'a Sched) -> Blocks<'a>
         ensures { result ≡ blocks 0 sched.now }
     {
         Blocks { sched, done: 0 }
     }
 
-    /// The next page of blocks. It is empty where no block is left.
+    /// Returns the next page of blocks. It is empty only after the last block.
     ///
     /// # Errors
     ///
-    /// Want of memory alone. The blocks are then still to come.
+    /// Only `NoMemory`. The blocks of that page remain to be printed.
     pub fn next_page(&mut self, alloc: Global) -> Result<Vec<u8>, NoMemory>
         ensures page { IfOk result (λ page. self.old ≡ page.items ++ self.new) }
         ensures end { IfOk result (λ page. page.items ≡ [] → self.old ≡ []) }

@@ -1,4 +1,4 @@
-// From a schedule to its canonical text.
+//! Printing a schedule as its canonical text.
 ghost use Rattle.std.specs.Prelude.{◌≡◌, ◌+◌, ◌-◌, ◌^◌, ◌<◌, ◌≤◌, ◌++◌, length, take, decimal, codes, IfOk, OnOk};
 ghost use Rattle.std.specs.List.{flat_map};
 ghost use Rattle.goal_parser.specs.Reads.{reads, plans};
@@ -9,21 +9,21 @@ use goal_graph::{Dep, Kind, Note, Op, RankPlan, Sched, When};
 use goal_limits::NoMemory;
 use std::alloc::Global;
 
-// A line of an operation, a dependency or a note has at most so many bytes.
+// The most bytes of the line of an operation, a dependency or a note.
 const LINE: usize = 112;
 
-// So many bytes of lines are made before they are appended to a text.
+// The bytes of lines that are built before they are appended to a text.
 const LINES: usize = 1024;
 
-/// The canonical text of a schedule.
+/// Returns the canonical text of a schedule.
 ///
 /// # Errors
 ///
-/// Want of memory alone.
+/// Only `NoMemory`.
 pub fn print_text(alloc: Global, sched: &Sched) -> Result<Vec<u8>, NoMemory>
     ensures canonical { IfOk result (λ text. text.items ≡ canonical sched.now) }
 
-    // What is read of it is the schedule.
+    // Reading it gives the schedule back.
     ensures read_back { IfOk result (λ text. reads text.items ≡ plans sched.now) }
 {
     let plans = sched.plans();
@@ -35,15 +35,15 @@ pub fn print_text(alloc: Global, sched: &Sched) -> Result<Vec<u8>, NoMemory>
     Ok(out.into_bytes())
 }
 
-/// The first line of the canonical text of a schedule. Behind it stand the blocks of all ranks.
+/// Returns the first line of the canonical text of a schedule. The blocks of all ranks follow it.
 ///
 /// # Errors
 ///
-/// Want of memory alone.
+/// Only `NoMemory`.
 pub fn heading(alloc: Global, sched: &Sched) -> Result<Vec<u8>, NoMemory>
     ensures canonical { IfOk result (λ text. text.items ++ blocks 0 sched.now ≡ canonical sched.now) }
 
-    // What is read of the whole text is the schedule.
+    // Reading the whole text gives the schedule back.
     ensures read_back { OnOk result (reads (canonical sched.now) ≡ plans sched.now) }
 {
     let plans = sched.plans();
@@ -61,7 +61,7 @@ fn put_heading(out: &mut TextOut, ranks: usize) -> Result<(), NoMemory>
     out.word("\n")
 }
 
-/// Appends the lines of a rank: none where it has no operation.
+/// Appends the lines of a rank: none if it has no operation. `Err` means out of memory.
 pub fn put_rank(out: &mut TextOut, rank: u64, plan: &RankPlan) -> Result<(), NoMemory>
     ensures { OnOk result (out.new ≡ out.old ++ unless_empty plan.now.ops (block rank plan.now)) }
 {
@@ -124,7 +124,7 @@ fn put_notes(out: &mut TextOut, lines: &mut [u8], notes: &[Note]) -> Result<(), 
     out.piece(&lines[..end])
 }
 
-// Writes the line of the operation with this number, and says where it ends, as all that follow here do.
+// Writes the line of the operation with this number, and returns its end, as all functions below do.
 #[inline(always)]
 fn put_op(line: &mut [u8], at: usize, number: u64, op: Op) -> usize
     requires fits { number < 2 ^ 64 - 1 }
@@ -149,7 +149,7 @@ fn put_label(line: &mut [u8], at: usize, number: u64) -> usize
     put_long(line, at, number + 1)
 }
 
-// Writes what stands behind the label of an operation.
+// Writes what follows the label of an operation.
 #[inline(always)]
 fn put_action(line: &mut [u8], at: usize, op: Op) -> usize
     requires room { at + 88 ≤ length line.old }
@@ -163,7 +163,7 @@ fn put_action(line: &mut [u8], at: usize, op: Op) -> usize
     }
 }
 
-// Writes a source or a tag, which may be any.
+// Writes a source or a tag, or `any`.
 #[inline(always)]
 fn put_number_or_any(line: &mut [u8], at: usize, number: Option<u32>) -> usize
     requires room { at + 10 ≤ length line.old }
@@ -176,7 +176,7 @@ fn put_number_or_any(line: &mut [u8], at: usize, number: Option<u32>) -> usize
     }
 }
 
-// Writes what stands behind the label of a calculation.
+// Writes what follows the label of a calc.
 #[inline(always)]
 fn put_calc(line: &mut [u8], at: usize, nanos: u64, cpu: u8) -> usize
     requires room { at + 41 ≤ length line.old }
@@ -190,7 +190,7 @@ fn put_calc(line: &mut [u8], at: usize, nanos: u64, cpu: u8) -> usize
     put_word(line, at, "\n")
 }
 
-// Writes what stands behind the label of a message.
+// Writes what follows the label of a send.
 #[inline(always)]
 fn put_send(line: &mut [u8], at: usize, bytes: u64, to: u32, tag: u32, cpu: u8, nic: u8) -> usize
     requires room { at + 86 ≤ length line.old }
@@ -206,7 +206,7 @@ fn put_send(line: &mut [u8], at: usize, bytes: u64, to: u32, tag: u32, cpu: u8, 
     put_place(line, at, cpu, nic)
 }
 
-// Writes what stands behind the label of a receive.
+// Writes what follows the label of a receive.
 #[inline(always)]
 fn put_recv(
     line: &mut [u8],
@@ -230,7 +230,7 @@ fn put_recv(
     put_place(line, at, cpu, nic)
 }
 
-// Writes the cpu and the interface of a message or a receive, and the end of its line.
+// Writes the cpu and the NIC of a send or a receive, and the end of its line.
 #[inline(always)]
 fn put_place(line: &mut [u8], at: usize, cpu: u8, nic: u8) -> usize
     requires room { at + 31 ≤ length line.old }

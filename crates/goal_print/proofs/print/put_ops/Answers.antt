@@ -6,7 +6,7 @@ use Rattle.goal_graph.specs.declared.plan.Kind.TheVariants.{Calc}
 use Rattle.goal_print.specs.Canonical.{op_line, op_lines}
 use Rattle.goal_print.proofs.print.put_ops.Goals as goal
 
--- one line more
+-- another line
 one_more : (i : ℕ) (os : List Op) (d : Op) (out all : List ℕ) → i < length os → out ++ op_lines i (drop i os) ≡ all
     → (out ++ op_line i (get_or os i d)) ++ op_lines (i + 1) (drop (i + 1) os) ≡ all
 unfolding op_lines
@@ -14,7 +14,7 @@ one_more i os d out all within is =
     append_assoc out (op_line i (get_or os i d)) (op_lines (i + 1) (drop (i + 1) os))
     ∙ ap (λ (l : List ℕ). out ++ l) (sym (at_drop_more (op_lines i) os i d within)) ∙ is
 
--- none is left
+-- no line remains
 done : (i : ℕ) (os : List Op) (out all : List ℕ) → length os ≤ i → out ++ op_lines i (drop i os) ≡ all → out ≡ all
 unfolding op_lines
 done i os out all over is = sym (append-nil out) ∙ ap (λ (l : List ℕ). out ++ l) (sym (at_drop_all (op_lines i) os i over)) ∙ is

@@ -2,7 +2,7 @@ use Rattle.std.proofs.Common.{◌≡◌, ◌≤◌, ◌++◌, length, take, drop
 use Rattle.goal_print.specs.Canonical.{op_lines}
 use Rattle.goal_print.proofs.print.put_ops.Given as goal
 
--- the lines so far, and then the lines that are left, are what was there and the lines of all
+-- the lines so far, followed by the remaining lines, are what was there and the lines of all
 abbrev pub invariant-loop-number : goal.invariant-loop-number
 invariant-loop-number l =
     record {
