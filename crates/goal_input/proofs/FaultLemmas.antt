@@ -1,4 +1,4 @@
--- An input has one fault, and none where it says a schedule.
+-- An input has at most one fault, and none if it means a schedule.
 use Rattle.std.proofs.Common.{◌≡◌, ◌≢◌, ℕ, List, refl, ap, arith}
 use Rattle.goal_graph.specs.Schedule.{Plan}
 use Rattle.goal_input.specs.declared.unread.Unread.{Unread}

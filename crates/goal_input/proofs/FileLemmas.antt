@@ -9,12 +9,12 @@ use Rattle.goal_binary.specs.File.{file, written, header}
 use Rattle.goal_binary.specs.Meaning.{meaning}
 use Rattle.goal_input.specs.Input.{is_compiled, IsReadAs}
 
--- a file begins with the first byte of the magic
+-- a file begins with the first byte of the magic number
 begins_compiled : (plans : List Plan) → is_compiled (file plans) ≡ true
 unfolding written header
 begins_compiled plans = refl
 
--- the file of a schedule says the schedule
+-- the file of a schedule means the schedule
 pub file_again : (plans : List Plan) → IsAccepted plans → length (file plans) ≤ MAX_INPUT → meaning (file plans) ≡ Ok plans
     → IsReadAs (file plans) plans
 file_again plans accepted short means = record {
@@ -23,7 +23,7 @@ file_again plans accepted short means = record {
   accepted = accepted;
 }
 
--- and so do bytes that are the file
+-- so do bytes equal to that file
 pub bytes_again : (r : Result (Vec ℕ Global) NoMemory) (plans : List Plan) → IfOk r (λ bytes. bytes.items ≡ file plans)
     → IsReadAs (file plans) plans → IfOk r (λ bytes. IsReadAs bytes.items plans)
 bytes_again (Ok bytes) plans is again = rw is again

@@ -1,4 +1,4 @@
--- An input says one schedule, or has one fault.
+-- An input means one schedule, or has one fault.
 use Rattle.std.proofs.Common.{◌≡◌, ℕ, ◌<◌, ◌^◌, Bool, true, false, List, length, Result, sym, arith, ◌∙◌}
 use Rattle.std.specs.declared.result.Result.TheVariants.{Ok, Err}
 use Rattle.goal_graph.specs.Schedule.{Plan}
@@ -24,7 +24,7 @@ same_by : (b : Bool) (input : List ℕ) (p q : List Plan) → SaysBy b input p �
 same_by true input p q a b = same_meaning p q (sym a ∙ b)
 same_by false input p q a b = same_text p q (sym a ∙ b)
 
--- an input says one schedule
+-- an input means at most one schedule
 pub same_schedule : (input : List ℕ) (p q : List Plan) → IsReadAs input p → IsReadAs input q → p ≡ q
 same_schedule input p q a b = same_by (is_compiled input) input p q a.says b.says
 
@@ -55,7 +55,7 @@ same_of_reading (plans p) f g a b = text_of_plans p f g a b
 pub same_text_fault : (input : List ℕ) (f g : TextFault) → IsTextFault input f → IsTextFault input g → f ≡ g
 same_text_fault input f g a b = same_of_reading (reads input) f g a.first b.first
 
--- and so has a compiled file
+-- so has a compiled file
 file_of_plans : (p : List Plan) (f g : FileFault) → meant.IsFaultOfPlans p f → meant.IsFaultOfPlans p g → f ≡ g
 file_of_plans p (file.Plan f) (file.Plan g) a b = let same = IsFault-unique p f g a b in cc
 file_of_plans p (file.Plan f) (file.Short at) a b = absurd b
@@ -103,7 +103,7 @@ no_fault_of_file p (file.Field at) accepted a = a
 no_fault_of_file p (file.Extra at) accepted a = a
 no_fault_of_file p file.NoMemory accepted a = a
 
--- what says a schedule has no fault, and is not too long
+-- an input that means a schedule has no fault, and is not too long
 text_said : (b : Bool) (input : List ℕ) (p : List Plan) (f : TextFault) → b ≡ false → said.IsFaultOf (reads input) f → IsAccepted p → SaysBy b input p → ⊥
 text_said true input p f form first accepted says = cc
 text_said false input p f form first accepted says = no_fault_of_text p f accepted (rw says at first)

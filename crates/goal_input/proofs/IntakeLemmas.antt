@@ -1,4 +1,4 @@
--- What came of an input.
+-- What is known of an input that has come.
 use Rattle.std.proofs.Common.{◌≡◌, ◌<◌, ◌≤◌, ℕ, Bool, List, [], ◌∷◌, length, IfErr, Result, arith}
 use Rattle.std.specs.declared.result.Result.TheVariants.{Ok, Err}
 use Rattle.goal_limits.specs.declared.limits.TheConstants.{MAX_INPUT}
@@ -15,7 +15,7 @@ pub begins : (b : Bool) (input : List ℕ) → 0 < length input → is_compiled 
 begins b [] some is = absurd (omega arith)
 begins b (x ∷ xs) some is = is
 
--- an input that came to its end has no fault of the host
+-- an input that was read to its end had no fault of the host
 pub counts_at_end : {A : Type 0} (result : Result A Unread) (a b : HostState) (faulted : Type 0) (kept : Intake) (input : List ℕ)
     → SameReadCounts a b → IfErr result (λ why. (input : List ℕ) → length input ≤ MAX_INPUT → Stands kept input → IsFaultIn input why)
     → length input ≤ MAX_INPUT → Stands kept input → CountsReading result a b faulted

@@ -13,29 +13,29 @@ use Rattle.goal_input.specs.Input.{IsTextFault, IsFaultOfFile}
 use Rattle.goal_input.specs.Unread.{IsFaultIn}
 use Rattle.goal_input.specs.Follows.{Follows}
 
--- the input has a first byte, and this tells whether it is that of a compiled file
+-- the input has a first byte, and `compiled` says whether it is that of a compiled file
 abbrev pub Begins : Bool → List ℕ → Type 0
 Begins compiled [] = ⊥
 Begins compiled (b ∷ bs) = (b == 137) ≡ compiled
 
--- these are the bytes that came
+-- this is kept of these bytes
 abbrev pub Stands : Intake → List ℕ → Type 0
 Stands intake.Nothing input = input ≡ []
 Stands (intake.Text reader) input = Begins false input × Follows reader input
 Stands (intake.File bytes) input = Begins true input × (bytes.items ≡ input)
 
--- with this piece at most a byte more came than an input may have
+-- with this piece, at most one byte more has come than an input may have
 abbrev pub HasRoom : Intake → List ℕ → Type 0
 HasRoom kept piece = (input : List ℕ) × Stands kept input × (length input + length piece ≤ input_limit + 1)
 
--- so many bytes were taken from the input of a host, and these are those that came
+-- `count` bytes were read from the input of a host, and this is kept of them
 pub record HasTaken (old new : HostState) (kept : Intake) (count : ℕ) : Type 0 where
   pub input : List ℕ
   pub counted : length input ≡ count
   pub stands : Stands kept input
   pub takes : Takes old new input
 
--- the rest of the open input is not read as a schedule for this reason: `IsUnread` says it of a file
+-- the rest of the open input gives no schedule for this reason; `IsUnread` says the same of a file
 abbrev pub IsUnreadRest : HostState → Unread → Type 0
 IsUnreadRest host unread.Fault = Unit {0}
 IsUnreadRest host unread.TooLong = host.tells ≡ true → IsFaultIn host.rest unread.TooLong

@@ -1,4 +1,4 @@
--- What reading a schedule from a file answers.
+-- Why a file gives no schedule.
 use Rattle.std.specs.Prelude.{ℕ, ◌≢◌, ◌<◌, List, length, Result, Ok, Err}
 use Rattle.goal_limits.specs.Limits.{input_limit}
 use Rattle.goal_base.specs.Device.{HostState, Later, KeepsFiles, SameReadCounts}
@@ -8,7 +8,7 @@ use Rattle.goal_input.specs.declared.unread.Unread.{Unread}
 use Rattle.goal_input.specs.declared.unread.Unread.TheVariants as unread
 use Rattle.goal_input.specs.Input.{IsTextFault, IsFaultOfFile, ForFile}
 
--- an input is not read as a schedule for this reason; want of memory is free
+-- an input gives no schedule for this reason; any input may run out of memory
 abbrev pub IsFaultIn : List ℕ → Unread → Type 0
 IsFaultIn input unread.Fault = ⊥
 IsFaultIn input unread.TooLong = input_limit < length input
@@ -16,8 +16,8 @@ IsFaultIn input (unread.Text fault) = IsTextFault input fault
 IsFaultIn input (unread.File fault) = IsFaultOfFile input fault
 IsFaultIn input unread.NoMemory = Unit {0}
 
--- A file is not read as a schedule for this reason. Want of memory is free, and is no fault of a text or a compiled
--- file; `CountsReading` says what is so at a fault of the host.
+-- A file gives no schedule for this reason. Out of memory is always possible, and is not a fault of a text or of a
+-- compiled file; `CountsReading` says when the host has a fault.
 abbrev pub IsUnread : HostState → List ℕ → Unread → Type 0
 IsUnread host name unread.Fault = Unit {0}
 IsUnread host name unread.TooLong = ForFile host name (λ input. IsFaultIn input unread.TooLong)
@@ -25,7 +25,7 @@ IsUnread host name (unread.Text fault) = (fault ≢ text.NoMemory) × ForFile ho
 IsUnread host name (unread.File fault) = (fault ≢ file.NoMemory) × ForFile host name (λ input. IsFaultOfFile input fault)
 IsUnread host name unread.NoMemory = Unit {0}
 
--- what reading a schedule says of the counts of reading: at Fault they rose, as is said, and else they are as they were
+-- the counts of reading after a schedule was read: for Fault as `faulted` says, and unchanged otherwise
 abbrev pub CountsReading : {A : Type 0} → Result A Unread → HostState → HostState → Type 0 → Type 0
 CountsReading (Ok a) old new faulted = SameReadCounts old new
 CountsReading (Err unread.Fault) old new faulted = faulted
@@ -34,7 +34,7 @@ CountsReading (Err (unread.Text fault)) old new faulted = SameReadCounts old new
 CountsReading (Err (unread.File fault)) old new faulted = SameReadCounts old new
 CountsReading (Err unread.NoMemory) old new faulted = SameReadCounts old new
 
--- A schedule was read from a file, or not. No file changes.
+-- A schedule was read from a file, or the reading was refused. No file and no output changes.
 pub record ReadsSchedule {A : Type 0} (result : Result A Unread) (old new : HostState) (faulted : Type 0) : Type 0 where
   pub counts : CountsReading result old new faulted
   pub kept : KeepsFiles old new

@@ -1,4 +1,4 @@
-//! An input as it comes, piece by piece.
+//! An input that comes piece by piece.
 ghost use Rattle.std.specs.Prelude.{◌≡◌, ◌<◌, ◌≤◌, ℕ, ◌+◌, ◌^◌, List, [], ◌++◌, length, true, false, IfOk, IfErr, OnOk};
 ghost use Rattle.goal_limits.specs.declared.limits.TheConstants.{MAX_INPUT};
 ghost use Rattle.goal_input.specs.Input.{is_compiled, IsReadAs};
@@ -12,8 +12,8 @@ use goal_limits::NoMemory;
 use goal_parser::{TextFault, TextReader};
 use std::alloc::Global;
 
-/// What is kept of the bytes of an input so far. The first byte decides: a text goes to its reader, and a compiled file
-/// is collected.
+/// What is kept of an input so far. The first byte decides: a text goes to its reader, and the bytes of a compiled file
+/// are collected.
 #[derive(Drop)]
 pub enum Intake {
     /// No byte came.
@@ -24,7 +24,7 @@ pub enum Intake {
     File(Vec<u8>),
 }
 
-/// Whether an input is a compiled file: it begins with the first byte of the magic.
+/// Returns whether an input is a compiled file: it begins with the first byte of the magic number.
 fn is_compiled(input: &[u8]) -> bool
     ensures { result ≡ is_compiled input.now }
 {
@@ -34,7 +34,7 @@ fn is_compiled(input: &[u8]) -> bool
     }
 }
 
-/// Takes a piece of a text. The reader keeps the first fault that it meets, and answers it at the end.
+/// Takes a piece of a text. The reader keeps the first fault that it meets until the end.
 fn feed(reader: &mut TextReader, piece: &[u8]) -> Result<(), NoMemory>
     requires place { (input : List ℕ) × Follows reader.old input × (length input + length piece.now < 2 ^ 64) }
     ensures { OnOk result ((input : List ℕ) → Follows reader.old input → Follows reader.new (input ++ piece.now)) }
@@ -46,7 +46,7 @@ fn feed(reader: &mut TextReader, piece: &[u8]) -> Result<(), NoMemory>
     }
 }
 
-/// The schedule of a text, which ends here.
+/// Returns the schedule of a text, which ends here.
 fn finish_text(reader: TextReader) -> Result<Sched, Unread>
     ensures read { IfOk result (λ sched. (input : List ℕ) → length input ≤ MAX_INPUT → is_compiled input ≡ false → Follows reader input → IsReadAs input sched) }
     ensures unread { IfErr result (λ unread. (input : List ℕ) → length input ≤ MAX_INPUT → is_compiled input ≡ false → Follows reader input → IsFaultIn input unread) }
@@ -58,7 +58,7 @@ fn finish_text(reader: TextReader) -> Result<Sched, Unread>
     }
 }
 
-/// The schedule of a compiled file.
+/// Returns the schedule of a compiled file.
 fn finish_file(alloc: Global, input: &[u8]) -> Result<Sched, Unread>
     ensures read { IfOk result (λ sched. length input.now ≤ MAX_INPUT → is_compiled input.now ≡ true → IsReadAs input.now sched) }
     ensures unread { IfErr result (λ unread. length input.now ≤ MAX_INPUT → is_compiled input.now ≡ true → IsFaultIn input.now unread) }
@@ -73,7 +73,7 @@ fn finish_file(alloc: Global, input: &[u8]) -> Result<Sched, Unread>
 impl Intake {
     ghost use Rattle.goal_input.specs.Intake.{Stands, HasRoom};
 
-    /// What is kept of the first piece, which has a byte.
+    /// Takes the first piece, which is not empty.
     fn begin(alloc: Global, piece: &[u8]) -> Result<Intake, NoMemory>
         requires some { 0 < length piece.now }
         ensures { IfOk result (λ intake. Stands intake piece.now) }
@@ -89,7 +89,7 @@ impl Intake {
         }
     }
 
-    /// Takes a piece, which has a byte.
+    /// Takes a piece, which is not empty. `Err` means out of memory.
     pub fn take(self, alloc: Global, piece: &[u8]) -> Result<Intake, NoMemory>
         requires some { 0 < length piece.now }
         requires room { HasRoom self piece.now }
@@ -108,7 +108,7 @@ impl Intake {
         }
     }
 
-    /// The schedule of the input, which ends here.
+    /// Ends the input, and returns its schedule or why it gives none.
     pub fn finish(self, alloc: Global) -> Result<Sched, Unread>
         ensures read { IfOk result (λ sched. (input : List ℕ) → length input ≤ MAX_INPUT → Stands self input → IsReadAs input sched) }
         ensures unread { IfErr result (λ unread. (input : List ℕ) → length input ≤ MAX_INPUT → Stands self input → IsFaultIn input unread) }

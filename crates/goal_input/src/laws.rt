@@ -1,4 +1,4 @@
-//! What follows from the definitions of what an input says.
+//! Laws of the meaning of an input.
 ghost use Rattle.std.specs.Prelude.{◌≡◌, ◌≢◌, ℕ, List};
 ghost use Rattle.goal_graph.specs.Schedule.{Plan};
 ghost use Rattle.goal_input.specs.declared.unread.Unread.{Unread};
@@ -6,8 +6,8 @@ ghost use Rattle.goal_input.specs.declared.unread.Unread.TheVariants.{NoMemory};
 ghost use Rattle.goal_input.specs.Input.{IsReadAs};
 ghost use Rattle.goal_input.specs.Unread.{IsFaultIn};
 
-/// An input says one schedule or has one fault, and never both: so what `read_schedule` answers of a file is all that it could
-/// answer, but for want of memory.
+/// An input means one schedule or has one fault, and never both. So what `read_schedule` returns for a file is all that
+/// it could return, except for `NoMemory`.
 pub fn laws_of_inputs()
     ensures one_schedule { (input : List ℕ) (p q : List Plan) → IsReadAs input p → IsReadAs input q → p ≡ q }
     ensures one_fault { (input : List ℕ) (f g : Unread) → f ≢ NoMemory → g ≢ NoMemory → IsFaultIn input f → IsFaultIn input g → f ≡ g }

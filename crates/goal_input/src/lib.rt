@@ -1,6 +1,6 @@
 //! Reading a schedule from a file of a host: a text, or a compiled file.
 //!
-//! `specs/Input` says what the bytes of an input say, and `specs/Unread` why a file is not read as a schedule.
+//! `specs/Input` defines the meaning of the bytes of an input, and `specs/Unread` why a file gives no schedule.
 #![tactic(auto)]
 
 mod intake;

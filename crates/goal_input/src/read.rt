@@ -14,30 +14,30 @@ use goal_graph::Sched;
 use goal_limits::MAX_INPUT;
 use std::alloc::Global;
 
-// How many bytes are asked for at once.
+// The bytes asked for per call.
 const PIECE: usize = 65_536;
 
-/// Opens a file, reads it to its end or to 2^27+1 bytes, and gives the schedule that it says, as a text or as a compiled
-/// file. It changes no file and no output. A text is read as it comes, and none of its bytes is kept but those of a run that
-/// is open; a compiled file is kept until it is decoded.
+/// Opens a file, reads it to its end or to 2^27+1 bytes, and returns its schedule, given as a text or as a compiled
+/// file. It changes no file and no output. A text is read piece by piece, and none of its bytes is kept, except those
+/// of a run that is open. A compiled file is kept until it is decoded.
 ///
 /// # Errors
 ///
-/// `Fault` where the host failed; else `TooLong`; else the first fault of the text or the compiled file. So a file with
-/// a fault was read to its end. And want of memory.
+/// The first of these that applies: `Fault` if the host failed, `TooLong`, or the first fault of the text or the
+/// compiled file. So a file with such a fault was read to its end. `NoMemory` may come at any time.
 pub fn read_schedule<H: Host>(alloc: Global, host: &mut H, name: &str) -> Result<Sched, Unread>
-    // The schedule is the one that the file says.
+    // The schedule is that of the file.
     ensures read { IfOk result (λ sched. ForFile (H.state host.old) name.now (λ input. IsReadAs input sched)) }
 
-    // The file is too long, or the fault is the one that it has.
+    // The file is too long, or has this fault.
     ensures unread { IfErr result (λ unread. IsUnread (H.state host.old) name.now unread) }
 
-    // `Fault` comes only where the read count rose, or the absent count rose for a name that isn't among the files that
-    // are told. No other answer comes where one of them rose. No file changes.
+    // `Fault` comes only where the read count rose, or the absent count rose and no known file has that name. Any other
+    // result leaves both counts unchanged. No file and no output changes.
     ensures call { ReadsSchedule result (H.state host.old) (H.state host.new)
         (ReadFaulted (H.state host.old) (H.state host.new) name.now) }
 
-    // Nothing was taken from the input, or at most 2^27+1 bytes from the file.
+    // The input is unchanged, or at most 2^27+1 bytes of the file were read.
     ensures taken { SameRest (H.state host.old) (H.state host.new)
         ⊎ ReadsAtMost (H.state host.old) (H.state host.new) name.now (MAX_INPUT + 1) }
 {
@@ -49,7 +49,7 @@ pub fn read_schedule<H: Host>(alloc: Global, host: &mut H, name: &str) -> Result
     }
 }
 
-// Reads the open input to its end, or to 2^27+1 bytes, and gives the schedule that it says.
+// Reads the open input to its end, or to 2^27+1 bytes, and returns its schedule.
 fn read_rest<H: Host>(alloc: Global, host: &mut H) -> Result<Sched, Unread>
     requires open { (H.state host.old).reading ≡ true }
 
@@ -66,7 +66,7 @@ fn read_rest<H: Host>(alloc: Global, host: &mut H) -> Result<Sched, Unread>
     }
 }
 
-// The same, through a buffer for one piece.
+// The same, through a buffer of one piece.
 fn read_pieces<H: Host>(alloc: Global, host: &mut H, buffer: &mut [u8]) -> Result<Sched, Unread>
     requires open { (H.state host.old).reading ≡ true }
     requires piece { length buffer.old ≡ PIECE }

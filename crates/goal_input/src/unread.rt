@@ -1,4 +1,4 @@
-//! Why a file is not read as a schedule.
+//! Why a file gives no schedule.
 ghost use Rattle.std.specs.Prelude.{◌≡◌};
 ghost use Rattle.goal_input.specs.declared.unread.Unread.TheVariants.{NoMemory};
 
@@ -6,19 +6,19 @@ use goal_binary::FileFault;
 use goal_limits::NoMemory;
 use goal_parser::TextFault;
 
-/// Why a file is not read as a schedule: the first of these that applies. Want of memory is `NoMemory`, and no fault of
-/// a text or a compiled file.
+/// Why a file gives no schedule: the first of these that applies. Out of memory is always `NoMemory`, never a fault of
+/// a text or of a compiled file.
 #[derive(Clone, Copy, Debug, PartialEq, Eq)]
 pub enum Unread {
-    /// The host failed, or has no file of that name. It counts both.
+    /// The host failed, or no file has that name. It counts both.
     Fault,
     /// The file has more than 2^27 bytes.
     TooLong,
-    /// As a text it has this first fault.
+    /// The file is a text, with this first fault.
     Text(TextFault),
-    /// As a compiled file it has this first fault.
+    /// The file is a compiled file, with this first fault.
     File(FileFault),
-    /// There was no memory left.
+    /// Out of memory.
     NoMemory,
 }
 
