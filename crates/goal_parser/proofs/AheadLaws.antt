@@ -1,4 +1,4 @@
--- What stands ahead, one after another, and a reader that goes on by it.
+-- Tokens at the front of a piece, one after another, and a reader that takes them.
 use Rattle.std.proofs.Common.{◌≡◌, ℕ, zero, suc, ◌+◌, ◌-◌, ◌<◌, ◌⊎◌, inl, inr, true, false, List, [], ◌∷◌, ◌++◌, length, take, drop, reverse, Option, Some, None, refl, sym, ap, subst, ◌∙◌, arith, length-drop, append_assoc, take-append-drop}
 use Rattle.std.specs.Option.{option_or, IfSome}
 use Rattle.std.proofs.lemmas.Bool.{lt-leb}
@@ -94,7 +94,7 @@ word_number place piece word end value kind first behind =
     let known = behind place in
     (first.run, known.0, first.is, known.1, ahead_then place piece word end (first.run ∷ []) (known.0 ∷ []) first.ahead known.2)
 
--- the number that stands ahead behind so many bytes
+-- the number that follows these bytes
 pub number_of : (piece : List ℕ) (at count value : ℕ) → 0 < count →
     ((place : ℕ) → (start : ℕ) × IsAhead place (take (length piece - at) (drop at piece)) count true (record { kind = token.Number value; start = start; end = place + count } ∷ [])) →
     IsSmallAhead piece at value (at + count)
@@ -133,7 +133,7 @@ pub definition_whole : (place : ℕ) (piece : List ℕ) (blanks label : ℕ) (co
 definition_whole place piece blanks label colon first behind =
     ahead_on place piece label 1 true false (label_token place piece blanks label ∷ []) (colon ∷ []) first.ahead behind (omega arith)
 
--- a label that stands ahead behind so many bytes
+-- a label that follows these bytes
 pub label_of : (place : ℕ) (piece : List ℕ) (at blanks label : ℕ) → 0 < label →
     IsAhead (place + at) (take (length piece - at) (drop at piece)) label true
     (record { kind = token.Label (take (label - blanks) (drop blanks (take (length piece - at) (drop at piece)))); start = place + at + blanks; end = place + at + label } ∷ []) →
@@ -197,7 +197,7 @@ fault_behind hs ts passed =
     ∙ ap (λ (o : Option TextFault). option_or o (first_fault (reverse hs ++ []) ts)) passed
     ∙ ap (λ (l : List Token). first_fault l ts) (append-nil (reverse hs))
 
--- the tokens handed out, and tokens that the parser took
+-- the tokens returned, and tokens that the parser took
 pub takes_on : (before after : Parser) (hs ts : List Token) → TakesAll before ts after → first_fault [] hs ≡ None →
     HasTaken before (reverse hs) → (first_fault [] (hs ++ ts) ≡ None) × HasTaken after (reverse (hs ++ ts))
 takes_on before after hs ts takes passed taken =
@@ -214,7 +214,7 @@ fault_of_tokens whole hs ys f tokens fails =
     ap (λ (o : Option TextFault). option_or o (last_fault (lexed whole).1 (state_of (reverse (lexed whole).0)) (length whole)))
     (ap (first_fault []) tokens ∙ first_fault-front hs ys f fails)
 
--- tokens that stand ahead, and that the parser refuses, are at fault in each text that goes on with the piece
+-- tokens at the front that the parser refuses are at fault in each text that is continued by them
 pub refused_ahead : (old : Reader) (rest : List ℕ) (n : ℕ) (ts : List Token) (f : TextFault) →
     MayGoOn old.lexer old.place rest → 0 < n → IsAhead old.place rest n false ts →
     ((before : List Token) → HasTaken old.parser before → first_fault before ts ≡ Some f) →
@@ -282,7 +282,7 @@ pub IfSome-map : {A : Type 0} (P Q : A → Type 0) (o : Option A) → ((x : A) �
 IfSome-map P Q None f known = known
 IfSome-map P Q (Some x) f known = f x known
 
--- A piece of which so many bytes were taken, and then more.
+-- A piece of which some bytes were taken, and then more.
 
 pub stands_on_piece : (start old new : Reader) (piece : List ℕ) (at n : ℕ) →
     ((text : List ℕ) → StandsFor start text → StandsFor old (text ++ take at piece)) →
@@ -352,7 +352,7 @@ goes_both old mid new piece n m first second =
       none = λ is. second.none (omega (arith, is)) ∙ first.none (omega (arith, is));
     }
 
--- and a fault of what stands behind bytes that it took
+-- a fault of what follows the bytes that it took
 pub fault_behind_ahead : (old mid : Reader) (piece : List ℕ) (n : ℕ) (f : TokenFault) → GoesAhead old piece mid n →
     IsFaultAhead mid (take (length piece - n) (drop n piece)) f → IsFaultAhead old piece f
 fault_behind_ahead old mid piece n f first fault memory text more stood =

@@ -1,4 +1,4 @@
--- Each fault that a text has is answered, or want of memory.
+-- Each fault of a text is returned, unless memory runs out.
 use Rattle.std.proofs.Common.{◌≡◌, ◌≢◌, ◌⊎◌, inl, inr, List, ℕ, Result, Ok, Err, IfOk, IfErr, IsErrOf, sym, ap, subst, ◌∙◌, refl}
 use Rattle.goal_graph.specs.Schedule.{Plan}
 use Rattle.goal_graph.specs.Fault.{IsAccepted}

@@ -43,7 +43,7 @@ use Rattle.goal_parser.specs.Faults.{fault_by, token_fault, syntax_fault, number
 use Rattle.goal_parser.proofs.ParserLaws.{none_first, none_second, not_so, rank_passes}
 use Rattle.goal_parser.specs.Grammar.{Amount, plain, marked, Setting, tag, cpu, nic, Item, calc, send, recv, requires, irequires, moves, adds, Block, Written, number_or_any, amount_token, setting_tokens, label_tokens, item_tokens, block_tokens, text_tokens, amount, tag_of, cpu_of, nic_of, op_said, defined_before, defined_by, definitions, dep_said, note_said, plan_said, rank_said, AreSaid, used_by, is_tag, is_cpu, is_nic, AreGivenOnce, HasOptionsOnce, KeepsRules, AreRight, IsWritten, IsNewRank}
 
--- what is kept of the tokens so far, but for the newest action and the newest head
+-- what is kept of the tokens so far, except for the newest action and the newest head
 record Kept : Type 0 where
   ranks : ℕ
   used : List Mention
@@ -208,7 +208,7 @@ record In (kept : Kept) (ks part : List TokenKind) (label : Option (List ℕ)) :
   options : All HasOptionsOnce items
 
 module _ (kept : Kept) (ks part : List TokenKind) (label : Option (List ℕ)) (inside : In kept ks part label) where
-  -- a token more of the item
+  -- another token of the item
   stay : (k : TokenKind) (longer : List TokenKind) → part ++ k ∷ [] ≡ longer → In kept (ks ++ k ∷ []) longer label
   stay k longer same =
       let front = text_tokens inside.written in
@@ -743,7 +743,7 @@ record Fits (s : State) (kept : Kept) (head : ItemHead) (k : TokenKind) : Type 0
   fresh : label_fault_of kept.defined head.subject k ≡ None
   found : unknown_fault_of kept.defined kept.used k ≡ None
 
--- what a token makes of what the tokens before it are, where it passes these tests
+-- how a token that passes these tests extends the sentences before it
 abbrev Steps : State → Type 0
 Steps s = (k : TokenKind) (at : ℕ) (kept : Kept) (draft : Draft) (head : ItemHead) (ks : List TokenKind) →
     is_none (entry s k) ≡ false → has_option k draft ≡ false → Fits s kept head k → At s kept draft head ks →

@@ -238,7 +238,7 @@ ranks_fit state.Ranks _ option rank plan ps w h = tt
 ranks_fit _ token.Close option rank plan ps w h = set_fits ps rank plan h
 ranks_fit _ _ option rank plan ps w h = h
 
--- the action of the newest operation, its size, and the interface of a calc
+-- the action of the newest operation, its size, and the NIC of a calc
 abbrev CalcFits : Draft → Type 0
 CalcFits d = (d.action ≡ action.Calc) × (d.nic ≡ 0) × (d.size ≤ MAX_NANOS)
 

@@ -52,7 +52,7 @@ NamesHold-labels names labels ds es us vs deps notes grows keeps holds = record 
   notes = AllZip-weaker (IsNote names.labels.slots) (IsNote labels.slots) (IsNote-grows names.labels.slots labels.slots grows) names.notes.items notes holds.notes;
 }
 
--- a dependency more
+-- another dependency
 pub NamesHold-dep : (old new : Names) (between : Labels) (ds : List Definition) (us : List Mention) (deps : List NamedDep) (notes : List NamedNote) (s u : Mention) (v : Verb) (later earlier : ℕ)
     → Grows old.labels.slots between.slots → Grows between.slots new.labels.slots
     → Keeps new.labels.slots ds ((us ++ s ∷ []) ++ u ∷ [])
@@ -73,7 +73,7 @@ NamesHold-dep old new between ds us deps notes s u v later earlier g1 g2 keeps f
           (AllZip-weaker (IsNote ms) (IsNote fs) (IsNote-grows ms fs g2) old.notes.items notes (AllZip-weaker (IsNote es) (IsNote ms) (IsNote-grows es ms g1) old.notes.items notes holds.notes));
     }
 
--- a note more
+-- another note
 pub NamesHold-note : (old new : Names) (ds : List Definition) (us : List Mention) (deps : List NamedDep) (notes : List NamedNote) (s : Mention) (v : Verb) (slot first second : ℕ)
     → Grows old.labels.slots new.labels.slots → Keeps new.labels.slots ds (us ++ s ∷ []) → IsSlot new.labels.slots slot s.label
     → new.deps.items ≡ old.deps.items → new.notes.items ≡ old.notes.items ++ note_as v slot first second ∷ []

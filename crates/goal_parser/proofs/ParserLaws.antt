@@ -132,7 +132,7 @@ fault_kept s draft ranks blocks ds kept given counts us t keeps = by t.kind s ke
     by token.Colon _ keeps = refl
     by _ s keeps = refl
 
--- the first test that a token fails is told from what a parser keeps
+-- what a parser keeps decides the first test that a token fails
 pub fault_taken : (parser : Parser) (before : List Token) (t : Token) (fault : Option TextFault) → HasTaken parser before
     → fault ≡ fault_by parser.state parser.draft parser.ranks.count parser.ranks.blocks.keys (defined_of before) parser.head.subject parser.counts (used_of before) t
     → fault ≡ token_fault before t

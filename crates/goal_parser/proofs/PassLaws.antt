@@ -1,4 +1,4 @@
--- What is true of a text that a reader has read: its tokens pass but for a run that is open at its end.
+-- What is true of a text that a reader has read: its tokens pass except for a run that is open at its end.
 use Rattle.std.proofs.Common.{◌≡◌, ℕ, inl, inr, ◌⊎◌, ⊎_elim, List, [], ◌∷◌, ◌++◌, reverse, Option, Some, None, Bool, true, false, bytes_eq, refl, sym, ap, subst, ◌∙◌, arith}
 use Rattle.std.specs.Option.{option_or}
 use Rattle.std.proofs.lemmas.List.{append-nil}
@@ -27,7 +27,7 @@ use Rattle.goal_parser.proofs.ReaderLaws.{first_fault-append}
 abbrev Stood : List Token → Token → Type 0
 Stood cs t = (xs : List Token) × (ys : List Token) × (cs ≡ xs ++ t ∷ ys)
 
--- a token of two lists, one behind the other, stands in the first behind the same tokens, or in the second
+-- a token of two lists, one after the other, is in the first or in the second after the whole first
 in_front : (before later hs cs : List Token) (t : Token) → before ++ t ∷ later ≡ hs ++ cs → ((more : List Token) × (hs ≡ before ++ t ∷ more)) ⊎ Stood cs t
 in_front [] later [] cs t e = inr ([], later, sym e)
 in_front [] later (h ∷ hs) cs t e =

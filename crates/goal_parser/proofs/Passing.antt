@@ -87,7 +87,7 @@ first_state action.Calc = state.Calc1
 first_state action.Send = state.Send1
 first_state action.Recv = state.Recv1
 
--- what is given behind the word of an action that stands behind this label, or behind none
+-- what is given after the word of an action, with or without a label before it
 abbrev begun_at : Seen → Option (List ℕ) → ItemHead → Action → Seen
 begun_at s label head a = record s {
   state = first_state a;
@@ -514,7 +514,7 @@ record BehindAll (s t : Seen) (items : List Item) : Type 0 where
   dep_count : t.counts.deps ≡ s.counts.deps + dep_total items
   note_count : t.counts.notes ≡ s.counts.notes + note_total items
 
--- one item more
+-- another item
 module _ (item : Item) (items : List Item) (s : Seen) (fits : FitAll s (item ∷ items)) where
   abbrev behind_first : List Definition
   behind_first = definitions (length (ops_now s) + length (op_said item)) items

@@ -1,4 +1,4 @@
--- The first fault of a text, and the tokens that a lexer has handed out.
+-- The first fault of a text, and the tokens that a lexer has returned.
 use Rattle.std.proofs.Common.{◌≡◌, ◌≢◌, ℕ, ◌+◌, ◌<◌, true, false, List, [], ◌∷◌, ◌++◌, length, take, drop, reverse, Option, Some, None, refl, sym, ap, subst, ◌∙◌, arith, append_assoc, take-append-drop, length-drop}
 use Rattle.std.specs.Option.{option_or}
 use Rattle.std.proofs.lemmas.List.{append-nil, reverse-append, drop-drop}
@@ -39,7 +39,7 @@ first_fault-append before (x ∷ xs) ys =
     ∙ or_assoc (token_fault before x) (first_fault (x ∷ before) xs) (first_fault (reverse xs ++ x ∷ before) ys)
     ∙ ap (λ l. option_or (option_or (token_fault before x) (first_fault (x ∷ before) xs)) (first_fault l ys)) (sym turned)
 
--- a token more, behind tokens that pass
+-- another token, behind tokens that pass
 pub first_fault-more : (hs : List Token) (t : Token) → first_fault [] hs ≡ None → first_fault [] (hs ++ t ∷ []) ≡ token_fault (reverse hs) t
 unfolding first_fault
 first_fault-more hs t passed =
@@ -54,7 +54,7 @@ reverse-more hs t = sym (reverse-append hs (t ∷ []))
 pub first_fault-front : (hs ys : List Token) (f : TextFault) → first_fault [] hs ≡ Some f → first_fault [] (hs ++ ys) ≡ Some f
 first_fault-front hs ys f h = first_fault-append [] hs ys ∙ ap (λ o. option_or o (first_fault (reverse hs ++ []) ys)) h
 
--- the tokens that were handed out stand in front of those of each text that goes on, where no run goes on
+-- the tokens that were returned are the first of each continued text
 pub handed_front : (lexer : LexState) (text more : List ℕ) → Stands lexer text → (lexer.ends_run ≡ true → begins_run more ≡ false) → (tokens : List Token) × ((lexed (text ++ more)).0 ≡ handed lexer text ++ tokens)
 handed_front lexer text [] stands apart = (
   closing lexer.place lexer.mode,

@@ -127,7 +127,7 @@ keys_put (e ∷ es) x v = by (bytes_eq x e.0) (keys_put es x v)
 pub Grows-put : (es fs : Entries) (x : List ℕ) (v : Slot) → fs ≡ put es x v → Grows es fs
 Grows-put es fs x v same = Grows-by_keys es fs (keys_put es x v).0 (ap keys_of same ∙ (keys_put es x v).1)
 
--- what a look-up finds then
+-- what a lookup finds then
 pub lookup-put : (es : Entries) (x : List ℕ) (v : Slot) (q : List ℕ) → lookup (bytes_eq q) (put es x v) ≡ cond (bytes_eq x q) (Some v) (lookup (bytes_eq q) es)
 lookup-put [] x v q = ap (λ b. cond b (Some v) None) (nat_list_eq_equiv.symm q x)
 lookup-put (e ∷ es) x v q = by (bytes_eq x e.0) refl (lookup-put es x v q)
@@ -275,7 +275,7 @@ first_by-more test es i e before at passes =
     ∙ ap (λ b. option_or (first_by test (take i es)) (if b then None else Some e.1.at)) passes
     ∙ ap (λ o. option_or o None) before
 
--- the slot of an entry tells whether its label is defined
+-- the slot of an entry says whether its label is defined
 pub slot_tells : (es : Entries) (ds : List Definition) (us : List Mention) (k : List ℕ) (s : Slot) → Keeps es ds us → lookup (bytes_eq k) es ≡ Some s → is_defined ds k ≡ is_some s.op
 unfolding op_by
 slot_tells es ds us k s keeps h = ap is_some (sym (keeps.numbers k) ∙ ap op_in h)

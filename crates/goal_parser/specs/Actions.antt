@@ -1,4 +1,4 @@
--- What the tokens of an action say of its operation.
+-- The operation that the tokens of an action describe.
 use Rattle.std.specs.Prelude.{ℕ, Bool, true, false, List, [], ◌∷◌, Some, None, unwrap_or}
 use Rattle.goal_lexer.specs.declared.tokens.Token.{Token}
 use Rattle.goal_lexer.specs.declared.tokens.TokenKind.{TokenKind}
@@ -15,18 +15,18 @@ use Rattle.goal_parser.specs.declared.draft.OptionWord.TheVariants as option
 use Rattle.goal_parser.specs.declared.draft.Draft.{Draft}
 use Rattle.goal_parser.specs.Sentence.{state_of}
 
--- an action that has only begun: what isn't given is 0
+-- an action of which only the first word is read: what is not given is 0
 abbrev pub begun : Action → OptionWord → Draft
 begun action option =
     record { action = action; size = 0; peer = None; tag = Some 0; cpu = 0; nic = 0; has_tag = false; has_cpu = false; has_nic = false; option = option }
 
--- the number behind an option's word
+-- the number after an option's word
 abbrev pub option_with : OptionWord → ℕ → Draft → Draft
 option_with option.Tag n draft = record draft { tag = Some n }
 option_with option.Cpu n draft = record draft { cpu = n }
 option_with option.Nic n draft = record draft { nic = n }
 
--- what a number or a size of an action gives: its size first, then its target or source, then the values of its options
+-- what a number or a size of an action gives: first the size, then the target or source, then the values of options
 abbrev pub number_with : State → ℕ → Draft → Draft
 number_with state.Calc1 n draft = record draft { size = n }
 number_with state.Send1 n draft = record draft { size = n }
@@ -45,7 +45,7 @@ any_with state.Recv3 draft = record draft { peer = None }
 any_with state.Recv5 draft = record draft { tag = None }
 any_with _ draft = draft
 
--- the same with one token more
+-- the same after another token
 unfoldable pub draft_with : State → TokenKind → Draft → Draft
 draft_with s token.Calc draft = begun action.Calc draft.option
 draft_with s token.Send draft = begun action.Send draft.option
@@ -58,7 +58,7 @@ draft_with s (token.Number n) draft = number_with s n draft
 draft_with s (token.Size n) draft = number_with s n draft
 draft_with s _ draft = draft
 
--- What the tokens of the newest action give, and the option word that stood last. The newest token stands first.
+-- What the tokens of the newest action give, and the last option word. The newest token comes first.
 unfoldable pub draft_of : List Token → Draft
 draft_of [] = begun action.Calc option.Tag
 draft_of (t ∷ before) = draft_with (state_of before) t.kind (draft_of before)
@@ -72,7 +72,7 @@ kind_of action.Recv draft = kind.Recv draft.size draft.peer draft.tag
 abbrev pub op_of : Draft → Op
 op_of draft = record { kind = kind_of draft.action draft; cpu = draft.cpu; nic = draft.nic }
 
--- the word is that of an option which the action has already
+-- the word is that of an option that the action already has
 abbrev pub has_option : TokenKind → Draft → Bool
 has_option token.Tag draft = draft.has_tag
 has_option token.Cpu draft = draft.has_cpu

@@ -1,4 +1,4 @@
--- How many operations, dependencies and notes a text begins.
+-- The numbers of operations, dependencies and notes that a text has begun.
 use Rattle.std.specs.Prelude.{◌+◌, Bool, false, nat_le, List, [], ◌∷◌}
 use Rattle.goal_lexer.specs.declared.tokens.Token.{Token}
 use Rattle.goal_lexer.specs.declared.tokens.TokenKind.{TokenKind}
@@ -17,12 +17,12 @@ counts_with token.Moves counts = record counts { notes = counts.notes + 1 }
 counts_with token.Adds counts = record counts { notes = counts.notes + 1 }
 counts_with _ counts = counts
 
--- how many of each the whole text has begun
+-- the numbers of each that the text has begun
 unfoldable pub counts_of : List Token → Counts
 counts_of [] = record { ops = 0; deps = 0; notes = 0 }
 counts_of (t ∷ before) = counts_with t.kind (counts_of before)
 
--- the word begins one more than a schedule may have
+-- the word begins an item beyond the limit
 unfoldable pub is_too_many : TokenKind → Counts → Bool
 is_too_many token.Calc counts = nat_le op_limit counts.ops
 is_too_many token.Send counts = nat_le op_limit counts.ops

@@ -1,4 +1,4 @@
--- The fault of a token or of plans, as that of the text.
+-- The fault of a token or of plans, as a fault of the text.
 use Rattle.goal_parser.specs.declared.faults.TextFault.{TextFault}
 use Rattle.goal_parser.specs.declared.faults.TextFault.TheVariants as text
 use Rattle.goal_parser.specs.declared.token_faults.TokenFault.{TokenFault}
@@ -17,12 +17,12 @@ fault_in_text (token.TooMany at) = text.TooMany at
 fault_in_text (token.UnknownLabel at) = text.UnknownLabel at
 fault_in_text token.NoMemory = text.NoMemory
 
--- the fault of plans, as that of the text
+-- the fault of plans, as a fault of the text
 abbrev pub fault_of_plans : PlanFault → TextFault
 fault_of_plans plan.NoMemory = text.NoMemory
 fault_of_plans f = text.Plan f
 
--- the fault is that of a count or a value over its limit
+-- the fault is a count or a value over its limit
 abbrev pub IsLimitFault : TextFault → Type 0
 IsLimitFault (text.Plan rule) = IsLimitRule rule
 IsLimitFault _ = ⊥

@@ -1,4 +1,4 @@
--- The tests of a token. Each is a fact about the token and the tokens before it, of which the newest stands first.
+-- The tests of a token. Each looks at the token and the tokens before it, of which the newest comes first.
 use Rattle.std.specs.Prelude.{ℕ, Bool, not, List, Option, Some, None, is_none, if◌then◌else◌, nat_lt, nat_eq}
 use Rattle.std.specs.List.{list_any}
 use Rattle.std.specs.Option.{option_or, option_map}
@@ -23,15 +23,15 @@ use Rattle.goal_parser.specs.Items.{Definition, is_defined, first_unknown, head_
 abbrev pub fault_if : Bool → TextFault → Option TextFault
 fault_if test fault = if test then Some fault else None
 
--- 1: the token has no entry for the present state
+-- 1: the grammar has no entry for the token in the present state
 unfoldable pub syntax_fault : State → Token → Option TextFault
 syntax_fault s t = fault_if (is_none (entry s t.kind)) (Syntax t.start)
 
--- 2: a number outside the limits of its place
+-- 2: a number is outside the limits of its place
 unfoldable pub number_fault : State → OptionWord → Token → Option TextFault
 number_fault s option t = fault_if (not (is_within s option t.kind)) (Number t.start)
 
--- 3 and 4: the number behind `rank` isn't below the number of ranks, or the rank had a block before
+-- 3 and 4: the number after `rank` is not below the number of ranks, or the rank already had a block
 abbrev pub numbered_rank_fault : State → ℕ → List ℕ → ℕ → ℕ → Option TextFault
 numbered_rank_fault state.Block ranks blocks n at =
     option_or (fault_if (not (nat_lt n ranks)) (Rank at)) (fault_if (list_any (nat_eq n) blocks) (Repeat at))
@@ -44,7 +44,7 @@ rank_fault_of s ranks blocks _ at = None
 unfoldable pub rank_fault : State → ℕ → List ℕ → Token → Option TextFault
 rank_fault s ranks blocks t = rank_fault_of s ranks blocks t.kind t.start
 
--- 4: the action has the option already
+-- 4: the action already has the option
 unfoldable pub option_fault : Draft → Token → Option TextFault
 option_fault draft t = fault_if (has_option t.kind draft) (Repeat t.start)
 
@@ -60,11 +60,11 @@ label_fault_of defined subject _ = None
 unfoldable pub label_fault : List Definition → Option Mention → Token → Option TextFault
 label_fault defined subject t = label_fault_of defined subject t.kind
 
--- 5: the word begins one operation, dependency or note more than a schedule may have
+-- 5: the word begins an operation, a dependency or a note beyond the limit
 unfoldable pub count_fault : Counts → Token → Option TextFault
 count_fault counts t = fault_if (is_too_many t.kind counts) (TooMany t.start)
 
--- 6: a block ends that uses a label and doesn't define it
+-- 6: a block ends that uses a label without defining it
 abbrev pub unknown_fault_of : List Definition → List Mention → TokenKind → Option TextFault
 unknown_fault_of defined used token.Close = option_map UnknownLabel (first_unknown defined used)
 unknown_fault_of defined used _ = None
@@ -72,7 +72,7 @@ unknown_fault_of defined used _ = None
 unfoldable pub unknown_fault : List Definition → List Mention → Token → Option TextFault
 unknown_fault defined used t = unknown_fault_of defined used t.kind
 
--- the first test that a token fails, in this order
+-- the first of these tests that a token fails, in this order
 unfoldable pub fault_by : State → Draft → ℕ → List ℕ → List Definition → Option Mention → Counts → List Mention → Token → Option TextFault
 fault_by s draft ranks blocks defined subject counts used t =
     option_or (syntax_fault s t)
@@ -83,7 +83,7 @@ fault_by s draft ranks blocks defined subject counts used t =
     (option_or (count_fault counts t)
     (unknown_fault defined used t))))))
 
--- the first test that a token fails behind these tokens
+-- the first test that a token fails after these tokens
 unfoldable pub token_fault : List Token → Token → Option TextFault
 token_fault before t =
     fault_by (state_of before) (draft_of before) (ranks_of before) (blocks_of before) (defined_of before) (head_of before).subject (counts_of before) (used_of before) t

@@ -1,4 +1,4 @@
--- The sentences of a text as one writes them: their tokens, and what they mean.
+-- The sentences of a text as they are written: their tokens and their meaning.
 use Rattle.std.specs.Prelude.{◌≡◌, ℕ, ◌+◌, ◌<◌, ◌≤◌, ◌==◌, Bool, true, false, List, [], ◌∷◌, ◌++◌, Option, Some, None, length, map, unwrap_or, IsSome, slice_index_or, bytes_eq, if◌then◌else◌, All, ⊤, ◌^◌, nat_eq}
 use Rattle.std.specs.List.{flat_map, count_by, sum_by, list_any}
 use Rattle.goal_lexer.specs.declared.tokens.Token.{Token}
@@ -22,13 +22,13 @@ pub data Amount : Type 0 where
   plain : ℕ → Amount
   marked : ℕ → Amount
 
--- an option of a send or a receive with its number; a tag may be `any`
+-- an option of an action with its number; a tag may be `any`
 pub data Setting : Type 0 where
   tag : Option ℕ → Setting
   cpu : ℕ → Setting
   nic : ℕ → Setting
 
--- An item of a block. An action may stand behind a label and a colon, and `any` is None:
+-- An item of a block. A label and a colon may precede an action; `any` is None:
 --   calc T cpu C · send S to R .. · recv S from R .. · X requires Y · X irequires Y · X moves A to B · X adds A to B
 pub data Item : Type 0 where
   calc : Option (List ℕ) → ℕ → Option ℕ → Item
@@ -39,17 +39,17 @@ pub data Item : Type 0 where
   moves : List ℕ → ℕ → ℕ → Item
   adds : List ℕ → ℕ → ℕ → Item
 
--- the block of a rank
+-- a rank and the items of its block
 pub record Block : Type 0 where
   pub rank : ℕ
   pub items : List Item
 
--- a text: its number of ranks, and then blocks
+-- a text: its number of ranks, followed by blocks
 pub record Written : Type 0 where
   pub ranks : ℕ
   pub blocks : List Block
 
--- How sentences are written: their tokens.
+-- The tokens of sentences.
 
 abbrev pub number_or_any : Option ℕ → TokenKind
 number_or_any None = token.Any
@@ -89,13 +89,13 @@ block_tokens b = token.Rank ∷ token.Number b.rank ∷ token.Open ∷ flat_map 
 abbrev pub text_tokens : Written → List TokenKind
 text_tokens w = token.NumRanks ∷ token.Number w.ranks ∷ flat_map block_tokens w.blocks
 
--- What sentences mean.
+-- The meaning of sentences.
 
 abbrev pub amount : Amount → ℕ
 amount (plain n) = n
 amount (marked n) = n
 
--- the number of an option, 0 where it isn't given
+-- the number of an option, or 0 if it is not given
 abbrev pub tag_of : List Setting → Option ℕ
 tag_of [] = Some 0
 tag_of (tag n ∷ settings) = n
@@ -123,7 +123,7 @@ op_said (recv label size from settings) =
     record { kind = kind.Recv (amount size) from (tag_of settings); cpu = cpu_of settings; nic = nic_of settings } ∷ []
 op_said _ = []
 
--- the label of an action, with the number of its operation
+-- the label of an action, if it has one, defines its operation
 abbrev pub defined_before : Option (List ℕ) → ℕ → List Definition
 defined_before None op = []
 defined_before (Some label) op = record { label = label; op = op } ∷ []
@@ -134,12 +134,12 @@ defined_by (send label size to settings) op = defined_before label op
 defined_by (recv label size from settings) op = defined_before label op
 defined_by _ op = []
 
--- the labels of items, behind so many operations of their block
+-- the labels that items define, after `op` operations of their block
 abbrev pub definitions : ℕ → List Item → List Definition
 definitions op [] = []
 definitions op (item ∷ items) = defined_by item op ++ definitions (op + length (op_said item)) items
 
--- the dependency and the note of an item, if it is one, where labels mean these operations
+-- the dependency or the note of an item, if it is one, with labels defined as given
 abbrev pub dep_said : List Definition → Item → List Dep
 dep_said ds (requires later earlier) = record { later = op_number ds later; earlier = op_number ds earlier; when = AfterEnd } ∷ []
 dep_said ds (irequires later earlier) = record { later = op_number ds later; earlier = op_number ds earlier; when = AfterStart } ∷ []
@@ -158,17 +158,17 @@ plan_said items = record {
   notes = flat_map (note_said (definitions 0 items)) items;
 }
 
--- the plan of a rank is that of its block, and empty where it has none
+-- the plan of a rank: that of its block, or an empty one if it has none
 abbrev pub rank_said : List Block → ℕ → Plan
 rank_said [] rank = empty_plan
 rank_said (b ∷ bs) rank = if rank == b.rank then plan_said b.items else rank_said bs rank
 
--- the plans are those that the sentences say, one for each rank
+-- the plans of all ranks are those of the sentences
 pub record AreSaid (w : Written) (ps : List Plan) : Type 0 where
   pub ranks : length ps ≡ w.ranks
   pub each : (rank : ℕ) → rank < w.ranks → slice_index_or ps rank empty_plan ≡ rank_said w.blocks rank
 
--- The rules that sentences keep.
+-- The rules of sentences.
 
 -- the labels that a dependency or a note uses
 abbrev pub used_by : Item → List (List ℕ)
@@ -190,7 +190,7 @@ abbrev pub is_nic : Setting → Bool
 is_nic (nic n) = true
 is_nic _ = false
 
--- each option is given once at most
+-- each option is given at most once
 pub record AreGivenOnce (settings : List Setting) : Type 0 where
   pub tags : count_by is_tag settings ≤ 1
   pub cpus : count_by is_cpu settings ≤ 1
@@ -201,21 +201,21 @@ HasOptionsOnce (send label size to settings) = AreGivenOnce settings
 HasOptionsOnce (recv label size from settings) = AreGivenOnce settings
 HasOptionsOnce _ = ⊤
 
--- a block defines each label once at most, and each label that it uses, and its actions give each option once at most
+-- a block defines each label at most once and each label that it uses, and each action gives each option at most once
 pub record KeepsRules (b : Block) : Type 0 where
   pub once : (label : List ℕ) → count_by (λ (d : Definition). bytes_eq label d.label) (definitions 0 b.items) ≤ 1
   pub defined : All (λ (label : List ℕ). is_defined (definitions 0 b.items) label ≡ true) (flat_map used_by b.items)
   pub options : All HasOptionsOnce b.items
 
--- the blocks are of ranks that there are, one of each at most, and keep their rules
+-- the blocks belong to existing ranks, at most one to each, and obey the rules
 pub record AreRight (w : Written) : Type 0 where
   pub ranks : All (λ (b : Block). b.rank < w.ranks) w.blocks
   pub once : (rank : ℕ) → count_by (λ (b : Block). rank == b.rank) w.blocks ≤ 1
   pub blocks : All KeepsRules w.blocks
 
--- The limits that sentences keep.
+-- The limits of sentences.
 
--- the number of an option; `any` is no number
+-- the number of an option is within its limit; `any` has no number
 abbrev pub IsSettingWithin : Setting → Type 0
 IsSettingWithin (tag n) = unwrap_or n 0 < 2 ^ 32
 IsSettingWithin (cpu n) = n ≤ 255
@@ -234,7 +234,7 @@ IsItemWithin (moves label first last) = (first < 2 ^ 32) × (last < 2 ^ 32)
 IsItemWithin (adds label from to) = (from < 2 ^ 32) × (to < 2 ^ 32)
 IsItemWithin _ = ⊤
 
--- how many operations, dependencies and notes blocks have together
+-- the numbers of operations, dependencies and notes of all blocks together
 abbrev pub ops_in : List Block → ℕ
 ops_in bs = sum_by (λ (b : Block). length (plan_said b.items).ops) bs
 
@@ -244,7 +244,7 @@ deps_in bs = sum_by (λ (b : Block). length (plan_said b.items).deps) bs
 abbrev pub notes_in : List Block → ℕ
 notes_in bs = sum_by (λ (b : Block). length (plan_said b.items).notes) bs
 
--- the ranks, operations, dependencies and notes are within their limits, and so is each number
+-- the numbers of ranks, operations, dependencies and notes are within their limits, and so is each other number
 pub record AreWithin (w : Written) : Type 0 where
   pub some_rank : 1 ≤ w.ranks
   pub ranks : w.ranks ≤ rank_limit
@@ -253,14 +253,14 @@ pub record AreWithin (w : Written) : Type 0 where
   pub notes : notes_in w.blocks ≤ note_limit
   pub items : All (λ (b : Block). All IsItemWithin b.items) w.blocks
 
--- the tokens are those of sentences that keep the rules, and the plans are what these say
+-- the tokens are those of sentences that obey the rules, and these are the plans of the sentences
 pub record IsWritten (tokens : List Token) (ps : List Plan) : Type 0 where
   pub written : Written
   pub spelled : map (λ (t : Token). t.kind) tokens ≡ text_tokens written
   pub right : AreRight written
   pub said : AreSaid written ps
 
--- a rank that is given by this token had no block before
+-- a rank that this token gives had no block before
 abbrev pub IsNewRank : State → List ℕ → TokenKind → Type 0
 IsNewRank state.Block blocks (token.Number n) = list_any (nat_eq n) blocks ≡ false
 IsNewRank _ blocks _ = ⊤

@@ -18,7 +18,7 @@ use Rattle.goal_parser.specs.declared.head.ItemHead.{ItemHead}
 use Rattle.goal_parser.specs.Sentence.{state_of}
 use Rattle.goal_parser.specs.Actions.{draft_of, op_of}
 
--- a label begins an item, but behind `requires` or `irequires`
+-- a label begins an item, except after `requires` or `irequires`
 abbrev pub label_head : State → Mention → ItemHead → ItemHead
 label_head state.Label mention head = head
 label_head _ mention head = record head { subject = Some mention }
@@ -41,12 +41,12 @@ head_with s (token.Label label) at head = label_head s (record { label = label; 
 head_with s (token.Number n) at head = low_head s n head
 head_with s kind at head = verb_head kind head
 
--- The label that the newest item begins with, the newest verb, and the newest first slot. The newest token stands first.
+-- The label that begins the newest item, the newest verb, and the newest first slot. The newest token comes first.
 unfoldable pub head_of : List Token → ItemHead
 head_of [] = record { subject = None; verb = verb.Requires; low = 0 }
 head_of (t ∷ before) = head_with (state_of before) t.kind t.start (head_of before)
 
--- the token ends an action: it isn't one of the action's own
+-- the token ends an action, since it cannot belong to it
 abbrev pub begins_item : TokenKind → Bool
 begins_item token.Close = true
 begins_item (token.Label label) = true
@@ -61,7 +61,7 @@ ends_action state.Send4 kind = begins_item kind
 ends_action state.Recv4 kind = begins_item kind
 ends_action _ kind = false
 
--- the operations with an action that ends at this token
+-- the operations, with that of an action that ends at this token
 abbrev pub ended_ops : State → TokenKind → Op → List Op → List Op
 ended_ops s kind op ops = if ends_action s kind then ops ++ op ∷ [] else ops
 
@@ -74,7 +74,7 @@ unfoldable pub ops_of : List Token → List Op
 ops_of [] = []
 ops_of (t ∷ before) = ops_with (state_of before) t.kind (op_of (draft_of before)) (ops_of before)
 
--- a label with the number of the operation that it stands before
+-- a label with the number of the operation that it precedes
 pub record Definition : Type 0 where
   pub label : List ℕ
   pub op : ℕ
@@ -166,21 +166,21 @@ used_with s (token.Label label) at head used = dep_uses s head.subject (record {
 used_with s (token.Number n) at head used = note_uses s head.subject used
 used_with s _ at head used = used
 
--- the labels that stand in dependencies and notes of the present block, in the order of the text
+-- the labels in dependencies and notes of the present block, in the order of the text
 unfoldable pub used_of : List Token → List Mention
 used_of [] = []
 used_of (t ∷ before) = used_with (state_of before) t.kind t.start (head_of before) (used_of before)
 
--- the place of the first of these labels that doesn't pass the test
+-- the place of the first of these labels that does not pass the test
 unfoldable pub first_outside : (List ℕ → Bool) → List Mention → Option ℕ
 first_outside test [] = None
 first_outside test (u ∷ us) = if test u.label then first_outside test us else Some u.at
 
--- the place of the first of these labels that isn't defined
+-- the place of the first of these labels that is not defined
 abbrev pub first_unknown : List Definition → List Mention → Option ℕ
 first_unknown ds us = first_outside (is_defined ds) us
 
--- a dependency and a note, by the numbers of operations
+-- a dependency or a note, with operations instead of labels
 abbrev pub op_number : List Definition → List ℕ → ℕ
 op_number ds label = unwrap_or (defined_as ds label) 0
 

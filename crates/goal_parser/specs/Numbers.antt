@@ -8,7 +8,7 @@ use Rattle.goal_parser.specs.declared.sentence.State.TheVariants as state
 use Rattle.goal_parser.specs.declared.draft.OptionWord.{OptionWord}
 use Rattle.goal_parser.specs.declared.draft.OptionWord.TheVariants as option
 
--- a schedule has a rank
+-- the least number at its place: a schedule has a rank
 abbrev pub least : State → ℕ
 least state.Ranks = 1
 least _ = 0
@@ -19,7 +19,7 @@ option_most option.Tag = 2 ^ 32 - 1
 option_most option.Cpu = 255
 option_most option.Nic = 255
 
--- the limit of a number that stands here, where this option word stood last
+-- the limit of a number in this state, after this option word
 abbrev pub most : State → OptionWord → ℕ
 most state.Ranks option = rank_limit
 most state.Calc1 option = calc_limit

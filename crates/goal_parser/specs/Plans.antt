@@ -15,7 +15,7 @@ use Rattle.goal_parser.specs.Items.{ended_ops, ops_of, defined_of, deps_of, note
 abbrev pub empty_plan : Plan
 empty_plan = record { ops = []; deps = []; notes = [] }
 
--- the plan of the block that ends behind these tokens: its operations, its dependencies and its notes, in the text's order
+-- the plan of the block that ends after these tokens: its operations, dependencies and notes, in the order of the text
 abbrev pub block_plan : List Token → Plan
 block_plan before = record {
   ops = ended_ops (state_of before) token.Close (op_of (draft_of before)) (ops_of before);
@@ -23,7 +23,7 @@ block_plan before = record {
   notes = map (note_by (defined_of before)) (notes_of before);
 }
 
--- behind `num_ranks` all ranks are empty
+-- after `num_ranks` all ranks are empty
 abbrev pub first_plans : State → ℕ → List Plan → List Plan
 first_plans state.Ranks n plans = replicate n empty_plan
 first_plans _ n plans = plans
@@ -33,7 +33,7 @@ plans_with s (token.Number n) rank plan plans = first_plans s n plans
 plans_with s token.Close rank plan plans = slice_set plans rank plan
 plans_with s _ rank plan plans = plans
 
--- the plan of each rank: that of its block, and an empty one where it has none
+-- the plan of each rank: that of its block so far, or an empty one
 unfoldable pub plans_of : List Token → List Plan
 plans_of [] = []
 plans_of (t ∷ before) = plans_with (state_of before) t.kind (rank_of before) (block_plan before) (plans_of before)

@@ -7,7 +7,7 @@ use Rattle.goal_parser.specs.declared.sentence.State.{State}
 use Rattle.goal_parser.specs.declared.sentence.State.TheVariants as state
 use Rattle.goal_parser.specs.Sentence.{state_of}
 
--- the number behind `num_ranks`
+-- the number after `num_ranks`
 unfoldable pub ranks_with : State → TokenKind → ℕ → ℕ
 ranks_with state.Ranks (token.Number n) ranks = n
 ranks_with _ _ ranks = ranks
@@ -16,7 +16,7 @@ unfoldable pub ranks_of : List Token → ℕ
 ranks_of [] = 0
 ranks_of (t ∷ before) = ranks_with (state_of before) t.kind (ranks_of before)
 
--- the numbers behind `rank`, in the order of the text
+-- the numbers after `rank`, in the order of the text
 unfoldable pub blocks_with : State → TokenKind → List ℕ → List ℕ
 blocks_with state.Block (token.Number n) blocks = blocks ++ n ∷ []
 blocks_with _ _ blocks = blocks
@@ -25,7 +25,7 @@ unfoldable pub blocks_of : List Token → List ℕ
 blocks_of [] = []
 blocks_of (t ∷ before) = blocks_with (state_of before) t.kind (blocks_of before)
 
--- the number behind the newest `rank`
+-- the number after the newest `rank`
 unfoldable pub rank_with : State → TokenKind → ℕ → ℕ
 rank_with state.Block (token.Number n) rank = n
 rank_with _ _ rank = rank

@@ -1,4 +1,4 @@
--- The sentences of a text: which token may follow.
+-- The grammar of a text: which token may follow.
 use Rattle.std.specs.Prelude.{Option, Some, None, List, [], ◌∷◌, unwrap_or}
 use Rattle.goal_lexer.specs.declared.tokens.Token.{Token}
 use Rattle.goal_lexer.specs.declared.tokens.TokenKind.{TokenKind}
@@ -6,7 +6,7 @@ use Rattle.goal_lexer.specs.declared.tokens.TokenKind.TheVariants as token
 use Rattle.goal_parser.specs.declared.sentence.State.{State}
 use Rattle.goal_parser.specs.declared.sentence.State.TheVariants as state
 
--- what an item of a block begins with, or the block's end
+-- the state after a token that begins an item or ends the block
 abbrev pub item_entry : TokenKind → Option State
 item_entry token.Close = Some state.Top
 item_entry (token.Label label) = Some state.Word
@@ -15,8 +15,8 @@ item_entry token.Send = Some state.Send1
 item_entry token.Recv = Some state.Recv1
 item_entry _ = None
 
--- The state behind a token of this kind, where there is one. An action may be followed by its options, and by all that
--- an item begins with.
+-- The grammar: the state after a token of this kind, if it is allowed. An action may be followed by its options, and by
+-- whatever begins an item.
 unfoldable pub entry : State → TokenKind → Option State
 entry state.Start token.NumRanks = Some state.Ranks
 entry state.Ranks (token.Number n) = Some state.Top
@@ -63,8 +63,8 @@ entry state.Recv5 token.Any = Some state.Recv4
 entry state.Recv6 (token.Number n) = Some state.Recv4
 entry _ _ = None
 
--- The state behind tokens, of which the newest stands first: the fold of the table. A token that has no entry leaves the
--- state; it is a fault.
+-- The state after tokens, of which the newest comes first. A token that is not allowed is a fault, and leaves the state
+-- unchanged.
 unfoldable pub state_of : List Token → State
 state_of [] = state.Start
 state_of (t ∷ before) = unwrap_or (entry (state_of before) t.kind) (state_of before)

@@ -1,4 +1,4 @@
--- How the labels of a block are kept: each label that stood in it, in the order of the text, with a slot.
+-- The labels of a block, each with a slot, in the order of their first appearance in it.
 use Rattle.std.specs.Prelude.{◌≡◌, ℕ, ◌<◌, ◌≤◌, Bool, true, List, [], ◌∷◌, Option, Some, None, length, nat_lt, unwrap_or, slice_index_or, bytes_eq, if◌then◌else◌}
 use Rattle.std.specs.Map.{lookup, keys_of}
 use Rattle.std.specs.List.{AllZip}
@@ -19,7 +19,7 @@ op_in (Some slot) = slot.op
 unfoldable pub op_by : Entries → List ℕ → Option ℕ
 op_by entries label = op_in (lookup (bytes_eq label) entries)
 
--- the place of the first label that doesn't pass the test
+-- the place of the first label that does not pass the test
 unfoldable pub first_by : (List ℕ → Bool) → Entries → Option ℕ
 first_by test [] = None
 first_by test (e ∷ es) = if test e.0 then first_by test es else Some e.1.at
@@ -28,21 +28,21 @@ first_by test (e ∷ es) = if test e.0 then first_by test es else Some e.1.at
 unfoldable pub label_at : Entries → ℕ → List ℕ
 label_at entries slot = slice_index_or (keys_of entries) slot []
 
--- The slots know which labels are defined, and where each label that isn't is used first.
+-- The slots know which labels are defined, and where each undefined label is used first.
 pub record Keeps (entries : Entries) (ds : List Definition) (us : List Mention) : Type 0 where
   pub numbers : (label : List ℕ) → op_by entries label ≡ defined_as ds label
   pub firsts : (test : List ℕ → Bool) → ((label : List ℕ) → is_defined ds label ≡ true → test label ≡ true) → first_by test entries ≡ first_outside test us
 
--- the slots stay, and more may follow
+-- the slots stay, and others may be appended
 pub record Grows (old new : Entries) : Type 0 where
   pub more : length old ≤ length new
   pub labels : (slot : ℕ) → slot < length old → label_at new slot ≡ label_at old slot
 
--- the number of a slot's operation, 0 where its label isn't defined or there is no such slot
+-- the number of a slot's operation, or 0 if its label is not defined or there is no such slot
 unfoldable pub op_at : Entries → ℕ → ℕ
 op_at entries slot = if nat_lt slot (length entries) then unwrap_or (op_by entries (label_at entries slot)) 0 else 0
 
--- a dependency and a note of slots, by the numbers of their operations
+-- a dependency or a note between slots, with operations instead
 abbrev pub dep_at : Entries → Dep → Dep
 dep_at entries d = record { later = op_at entries d.later; earlier = op_at entries d.earlier; when = d.when }
 
@@ -55,7 +55,7 @@ pub record IsSlot (entries : Entries) (slot : ℕ) (label : List ℕ) : Type 0 w
   pub within : slot < length entries
   pub named : label_at entries slot ≡ label
 
--- a dependency of slots is the one of labels, and a note likewise
+-- a dependency of slots is the same as one of labels; so is a note
 pub record IsDep (entries : Entries) (d : Dep) (named : NamedDep) : Type 0 where
   pub later : IsSlot entries d.later named.later
   pub earlier : IsSlot entries d.earlier named.earlier
@@ -66,7 +66,7 @@ pub record IsNote (entries : Entries) (n : Note) (named : NamedNote) : Type 0 wh
   pub subject : IsSlot entries slot named.subject
   pub is : n ≡ note_as named.verb slot named.first named.second
 
--- what is kept of a block's labels, dependencies and notes
+-- the state of a block's labels, dependencies and notes
 pub record NamesHold (names : Names) (ds : List Definition) (us : List Mention) (named_deps : List NamedDep) (named_notes : List NamedNote) : Type 0 where
   pub labels : Keeps names.labels.slots ds us
   pub deps : AllZip (IsDep names.labels.slots) names.deps.items named_deps

@@ -1,4 +1,4 @@
--- What a parser keeps of the tokens that it has taken.
+-- The state of a parser after the tokens that it has taken.
 use Rattle.std.specs.Prelude.{◌≡◌, ℕ, ◌⊎◌, List, ◌∷◌, ◌++◌, None, Some, ⊤, reverse, true}
 use Rattle.goal_lexer.specs.declared.tokens.Token.{Token}
 use Rattle.goal_lexer.specs.declared.tokens.TokenKind.{TokenKind}
@@ -23,7 +23,7 @@ use Rattle.goal_parser.specs.Slots.{NamesHold}
 use Rattle.goal_parser.specs.declared.draft.OptionWord.{OptionWord}
 use Rattle.goal_parser.specs.Numbers.{is_within}
 
--- What is kept of the newest item that begins with a label, as long as its tokens need it: the label, then its verb, then
+-- What is kept of the newest item that begins with a label, while its tokens need it: the label, then its verb, then
 -- its first slot.
 abbrev pub KeepsHead : State → ItemHead → ItemHead → Type 0
 KeepsHead state.Word kept given = kept.subject ≡ given.subject
@@ -33,7 +33,7 @@ KeepsHead state.Note2 kept given = kept ≡ given
 KeepsHead state.Note3 kept given = kept ≡ given
 KeepsHead _ kept given = ⊤
 
--- The parser has taken these tokens, of which the newest stands first: it keeps what they give.
+-- The parser has taken these tokens, of which the newest comes first, and its state is what they give.
 pub record HasTaken (parser : Parser) (before : List Token) : Type 0 where
   pub state : parser.state ≡ state_of before
   pub ranks : parser.ranks.count ≡ ranks_of before
@@ -46,7 +46,7 @@ pub record HasTaken (parser : Parser) (before : List Token) : Type 0 where
   pub names : NamesHold parser.block.names (defined_of before) (used_of before) (deps_of before) (notes_of before)
   pub plans : parser.plans.items ≡ plans_of before
 
--- the parser takes the token: it fails no test, and what it gives is kept
+-- the parser takes the token: it fails no test, and the state is updated by it
 abbrev pub Takes : Parser → Token → Parser → Type 0
 Takes old token new = (before : List Token) → HasTaken old before → (token_fault before token ≡ None) × HasTaken new (token ∷ before)
 
@@ -54,12 +54,12 @@ Takes old token new = (before : List Token) → HasTaken old before → (token_f
 abbrev pub Refuses : Parser → Token → TokenFault → Type 0
 Refuses old token fault = (before : List Token) → HasTaken old before → token_fault before token ≡ Some (fault_in_text fault)
 
--- the parser takes these tokens, one after another: none fails a test, and what they give is kept
+-- the parser takes these tokens, one after another: none fails a test, and the state is updated by them
 abbrev pub TakesAll : Parser → List Token → Parser → Type 0
 TakesAll old tokens new =
     (before : List Token) → HasTaken old before → (first_fault before tokens ≡ None) × HasTaken new (reverse tokens ++ before)
 
--- the parser refuses these tokens: this is the first test that one of them fails
+-- the parser refuses these tokens: this is the fault of the first that fails a test
 abbrev pub RefusesAll : Parser → List Token → TokenFault → Type 0
 RefusesAll old tokens fault = (before : List Token) → HasTaken old before → first_fault before tokens ≡ Some (fault_in_text fault)
 
@@ -70,7 +70,7 @@ verb_kind verb.Irequires = token.Irequires
 verb_kind verb.Moves = token.Moves
 verb_kind verb.Adds = token.Adds
 
--- the verb of a dependency, and that of a note
+-- the verb is one of a dependency, or one of a note
 abbrev pub IsOfDeps : Verb → Type 0
 IsOfDeps verb.Requires = ⊤
 IsOfDeps verb.Irequires = ⊤
@@ -81,7 +81,7 @@ IsOfNotes verb.Moves = ⊤
 IsOfNotes verb.Adds = ⊤
 IsOfNotes _ = ⊥
 
--- so many bytes, as a number or as a size
+-- a token for this number of bytes, given as a number or as a size
 abbrev pub IsAmount : TokenKind → ℕ → Type 0
 IsAmount kind bytes = (kind ≡ token.Number bytes) ⊎ (kind ≡ token.Size bytes)
 
@@ -107,7 +107,7 @@ IsVerb token.Moves = ⊤
 IsVerb token.Adds = ⊤
 IsVerb _ = ⊥
 
--- a word or a sign that gives nothing
+-- a word or a sign that only changes the grammar's state
 abbrev pub IsPlain : TokenKind → Type 0
 IsPlain token.NumRanks = ⊤
 IsPlain token.Rank = ⊤
@@ -116,6 +116,6 @@ IsPlain token.From = ⊤
 IsPlain token.Open = ⊤
 IsPlain _ = ⊥
 
--- the number is within the limit of its place, after some option word
+-- the number is within the limit of its place after some option word
 abbrev pub IsWithin : State → TokenKind → Type 0
 IsWithin s kind = (option : OptionWord) × (is_within s option kind ≡ true)

@@ -1,4 +1,4 @@
-//! Tokens that are taken several at once, where they stand in the piece as most texts have them.
+//! Tokens that are taken several at once, where a piece has them in the usual order.
 ghost use Rattle.std.specs.Prelude.{◌≡◌, ◌≢◌, ℕ, ◌+◌, ◌-◌, ◌<◌, ◌≤◌, ◌⊎◌, ◌^◌, true, false, List, [], ◌∷◌, length, take, drop, Some, IfOk, IfErr, IfSome, slice_index};
 ghost use Rattle.goal_limits.specs.declared.limits.TheConstants.{MAX_BYTES, MAX_OPS};
 ghost use Rattle.goal_lexer.specs.declared.tokens.Token.{Token};
@@ -20,14 +20,14 @@ use goal_lexer::{
 };
 use goal_limits::{MAX_BYTES, MAX_DEPS, MAX_NANOS, MAX_NOTES, MAX_OPS};
 
-/// A number below 2^32 that stands ahead, and the index behind it.
+/// A number below 2^32 at the front of a piece, and the index after it.
 #[derive(Clone, Copy)]
 struct Small {
     value: u32,
     end: usize,
 }
 
-/// The size of a message in bytes and its peer, as they stand ahead, and the index behind them.
+/// The size of a message in bytes and its peer, at the front of a piece, and the index after them.
 #[derive(Clone, Copy)]
 struct MessageAhead {
     bytes: u64,
@@ -35,7 +35,7 @@ struct MessageAhead {
     end: usize,
 }
 
-/// The options of a message as they stand ahead, `tag`, `cpu` and `nic` in this order, and the index behind them.
+/// The options `tag`, `cpu` and `nic` of a message, in this order, and the index after them.
 #[derive(Clone, Copy)]
 struct OptionsAhead {
     tag: u32,
@@ -44,7 +44,7 @@ struct OptionsAhead {
     end: usize,
 }
 
-/// The bytes of a message that stand ahead, as a size or as a number.
+/// Finds the bytes of a message at the front, given as a size or as a number.
 #[inline(always)]
 fn amount_ahead(rest: &[u8]) -> Amount
     ensures within { result.count ≤ length rest.now }
@@ -57,7 +57,7 @@ fn amount_ahead(rest: &[u8]) -> Amount
     number_ahead(rest)
 }
 
-/// The number that stands at this index, where it is below 2^32.
+/// Finds the number at this index, if it is below 2^32.
 #[inline(always)]
 fn small_ahead(rest: &[u8], at: usize) -> Option<Small>
     requires { at ≤ length rest.now }
@@ -77,7 +77,7 @@ fn small_ahead(rest: &[u8], at: usize) -> Option<Small>
     })
 }
 
-/// The word and the number below 2^32 that stand at this index, behind any blanks.
+/// Finds the word and the number below 2^32 at this index, after any blanks.
 #[inline(never)]
 fn blank_peer_ahead(rest: &[u8], at: usize, word: &[u8]) -> Option<Small>
     requires at { at ≤ length rest.now }
@@ -94,7 +94,7 @@ fn blank_peer_ahead(rest: &[u8], at: usize, word: &[u8]) -> Option<Small>
     small_ahead(rest, at + count)
 }
 
-/// A space, the word and the number below 2^32 that stand at this index. The space and the word are given as one.
+/// Finds a space, the word and the number below 2^32 at this index. The space and the word are given as one.
 #[inline(always)]
 fn peer_ahead(rest: &[u8], at: usize, spaced: &[u8]) -> Option<Small>
     requires at { at ≤ length rest.now }
@@ -112,8 +112,8 @@ fn peer_ahead(rest: &[u8], at: usize, spaced: &[u8]) -> Option<Small>
     small_ahead(rest, at + count)
 }
 
-/// What stands at this index of a message behind its first word: its size, a word, which is given with the space before it,
-/// and its peer.
+/// Finds what follows the first word of a message: its size, a word, which is given with the space before it, and its
+/// peer.
 #[inline(always)]
 fn message_ahead(rest: &[u8], at: usize, spaced: &[u8]) -> Option<MessageAhead>
     requires at { at ≤ length rest.now }
@@ -138,8 +138,8 @@ fn message_ahead(rest: &[u8], at: usize, spaced: &[u8]) -> Option<MessageAhead>
     }
 }
 
-/// What stands at this index of a message behind its peer: its tag, which is known, and behind it its other options, where it
-/// has all three, in the order in which most texts have them.
+/// Finds what follows the peer of a message: the tag is given, and the other options are found if both follow in the
+/// usual order.
 #[inline(always)]
 fn options_ahead(rest: &[u8], at: usize, tag: Small) -> Option<OptionsAhead>
     requires from { at < tag.end }
@@ -148,7 +148,7 @@ fn options_ahead(rest: &[u8], at: usize, tag: Small) -> Option<OptionsAhead>
     ensures within { IfSome result (λ o. at < o.end) }
     ensures ahead { IfSome result (λ o. IsOptionsAhead rest.now at o.tag o.cpu o.nic o.end) }
 {
-    // most messages go on so
+    // most messages continue in this way
     if begins_with_no_places(&rest[tag.end..]) {
         return Some(OptionsAhead {
             tag: tag.value,
@@ -180,8 +180,8 @@ fn options_ahead(rest: &[u8], at: usize, tag: Small) -> Option<OptionsAhead>
     })
 }
 
-/// How many bytes so many blanks and the word of an option behind them take, by the word's first byte, and 0 where no such
-/// word stands there.
+/// Returns the length of these blanks and the word of an option after them, by the word's first byte, or 0 if no such
+/// word follows.
 #[inline(always)]
 fn option_ahead(rest: &[u8], blanks: usize) -> usize
     requires blanks { AreBlanks rest.now blanks }
@@ -198,15 +198,15 @@ fn option_ahead(rest: &[u8], blanks: usize) -> usize
     }
 }
 
-/// What was taken of an item ahead of its action: so many bytes, and whether an action may stand behind them. Any answer to the latter is
-/// right: it says where to look.
+/// What was taken of an item before its action: the number of bytes, and whether an action may follow them. The latter
+/// is only a hint where to look: any value is right.
 #[derive(Clone, Copy)]
 struct Begun {
     taken: usize,
     may_act: bool,
 }
 
-/// Whether the word of an action stands behind so many blanks. Any answer is right: it saves time alone.
+/// Returns whether the word of an action follows these blanks. It only saves time: any answer is right.
 #[inline(always)]
 fn begins_as_action(rest: &[u8], blanks: usize) -> bool
     requires { AreBlanks rest.now blanks }
@@ -223,7 +223,7 @@ fn begins_as_action(rest: &[u8], blanks: usize) -> bool
 }
 
 impl Parser {
-    /// Whether a send or a receive without an option is open.
+    /// Returns whether a send or a receive without options is open.
     #[inline(always)]
     fn is_bare_message(&self) -> bool
         ensures here { result ≡ true → (self.now.state ≡ State.Send4) ⊎ (self.now.state ≡ State.Recv4) }
@@ -237,7 +237,7 @@ impl Parser {
         }
     }
 
-    /// Whether a calc without an option is open.
+    /// Returns whether a calc without options is open.
     #[inline(always)]
     fn is_bare_calc(&self) -> bool
         ensures here { result ≡ true → self.now.state ≡ State.Calc2 }
@@ -249,8 +249,7 @@ impl Parser {
         }
     }
 
-    /// Takes the options of a message that stand at this index, where all three do, or its tag alone, and answers the index
-    /// behind them.
+    /// Takes the options of a message at this index, all three or the tag alone, and returns the index after them.
     #[inline(always)]
     #[tactic(auto, using(crate::proofs::AheadLaws::nothing_next))]
     fn take_options_ahead(&mut self, rest: &[u8], at: usize) -> usize
@@ -276,7 +275,7 @@ impl Parser {
         }
     }
 
-    /// Takes the cpu of a calc that stands at this index, where it does, and answers the index behind it.
+    /// Takes the cpu of a calc at this index, if it is given, and returns the index after it.
     #[inline(always)]
     #[tactic(auto, using(crate::proofs::AheadLaws::nothing_next))]
     fn take_cpu_ahead(&mut self, rest: &[u8], at: usize) -> usize
@@ -301,7 +300,7 @@ impl Parser {
 }
 
 impl Reader {
-    /// Takes so many bytes, which are tokens that the parser took, and whether they end with a run.
+    /// Takes `count` bytes, whose tokens the parser took; `ends_run` says whether they end with a run.
     #[inline(always)]
     fn go_on(&mut self, rest: &[u8], count: usize, ends_run: bool)
         requires ready { MayGoOn self.old.lexer self.old.place rest.now }
@@ -314,7 +313,7 @@ impl Reader {
         self.place += count as u64;
     }
 
-    /// Takes a label, of which the bytes are known, and the colon behind it.
+    /// Takes a label, whose bytes are known, and the colon after it.
     #[inline(always)]
     fn take_definition(
         &mut self,
@@ -341,7 +340,7 @@ impl Reader {
         }
     }
 
-    /// Takes a dependency, of which the bytes of the first label and of the word are known; 0 where the word isn't there.
+    /// Takes a dependency, whose first label and word are known; returns 0 if the word is not there.
     #[inline(always)]
     fn take_dependency(
         &mut self,
@@ -381,7 +380,7 @@ impl Reader {
         Ok(end)
     }
 
-    /// Takes a note, of which the bytes of the label and of the word are known; 0 where the word isn't there.
+    /// Takes a note, whose label and word are known; returns 0 if the word is not there.
     #[inline(always)]
     fn take_note(
         &mut self,
@@ -419,7 +418,7 @@ impl Reader {
         Ok(second.end)
     }
 
-    /// Takes a dependency or a note, of which the bytes of the label are known.
+    /// Takes a dependency or a note, whose label is known.
     #[inline(always)]
     fn take_labelled(
         &mut self,
@@ -459,7 +458,7 @@ impl Reader {
         }
     }
 
-    /// Takes a calc with its cpu, of which the bytes of the word are known; 0 where the word isn't there.
+    /// Takes a calc with its cpu, whose word is known; returns 0 if the word is not there.
     #[inline(always)]
     fn take_calc(&mut self, rest: &[u8], word: usize) -> Result<usize, TokenFault>
         requires ready { MayGoOn self.old.lexer self.old.place rest.now }
@@ -482,7 +481,7 @@ impl Reader {
         Ok(end)
     }
 
-    /// Takes a send with its options, of which the bytes of the word are known; 0 where the word isn't there.
+    /// Takes a send with its options, whose word is known; returns 0 if the word is not there.
     #[inline(always)]
     fn take_send(&mut self, rest: &[u8], word: usize) -> Result<usize, TokenFault>
         requires ready { MayGoOn self.old.lexer self.old.place rest.now }
@@ -504,7 +503,7 @@ impl Reader {
         Ok(end)
     }
 
-    /// Takes a receive with its options, of which the bytes of the word are known; 0 where the word isn't there.
+    /// Takes a receive with its options, whose word is known; returns 0 if the word is not there.
     #[inline(always)]
     fn take_recv(&mut self, rest: &[u8], word: usize) -> Result<usize, TokenFault>
         requires ready { MayGoOn self.old.lexer self.old.place rest.now }
@@ -526,7 +525,7 @@ impl Reader {
         Ok(end)
     }
 
-    /// Takes an action, before which so many blanks stand, with the options behind it that most texts have.
+    /// Takes an action after these blanks, with the options that most texts give it.
     #[inline(always)]
     fn take_whole_action(&mut self, rest: &[u8], blanks: usize) -> Result<usize, TokenFault>
         requires ready { MayGoOn self.old.lexer self.old.place rest.now }
@@ -546,7 +545,7 @@ impl Reader {
         }
     }
 
-    /// Takes the option `tag`, of which the bytes of the word are known.
+    /// Takes the option `tag`, whose word is known.
     #[inline(always)]
     fn take_tag(&mut self, rest: &[u8], word: usize) -> Result<usize, TokenFault>
         requires ready { MayGoOn self.old.lexer self.old.place rest.now }
@@ -566,7 +565,7 @@ impl Reader {
         Ok(tag.end)
     }
 
-    /// Takes the option `cpu`, of which the bytes of the word are known.
+    /// Takes the option `cpu`, whose word is known.
     #[inline(always)]
     fn take_cpu(&mut self, rest: &[u8], word: usize) -> Result<usize, TokenFault>
         requires ready { MayGoOn self.old.lexer self.old.place rest.now }
@@ -588,7 +587,7 @@ impl Reader {
         Ok(end)
     }
 
-    /// Takes the option `nic`, of which the bytes of the word are known.
+    /// Takes the option `nic`, whose word is known.
     #[inline(always)]
     fn take_nic(&mut self, rest: &[u8], word: usize) -> Result<usize, TokenFault>
         requires ready { MayGoOn self.old.lexer self.old.place rest.now }
@@ -610,7 +609,7 @@ impl Reader {
         Ok(end)
     }
 
-    /// Takes an option of an action, of which so many blanks stand before; 0 where another token stands there.
+    /// Takes an option of an action after these blanks; returns 0 if another token follows.
     #[inline(always)]
     fn take_option(&mut self, rest: &[u8], blanks: usize) -> Result<usize, TokenFault>
         requires ready { MayGoOn self.old.lexer self.old.place rest.now }
@@ -634,7 +633,7 @@ impl Reader {
         }
     }
 
-    /// Takes the action that may come, where it stands ahead.
+    /// Takes an action that is allowed and at the front.
     #[inline(always)]
     fn take_action_ahead(&mut self, rest: &[u8]) -> Result<usize, TokenFault>
         requires place { self.old.place + length rest.now < 2 ^ 64 }
@@ -654,8 +653,8 @@ impl Reader {
         }
     }
 
-    /// Takes an item that begins with a label, before which so many blanks stand: a dependency or a note, or of a definition what stands
-    /// ahead of its action.
+    /// Takes an item that begins with a label after these blanks: a dependency, a note, or the definition before an
+    /// action.
     #[inline(always)]
     fn take_label(&mut self, rest: &[u8], blanks: usize) -> Result<Begun, TokenFault>
         requires ready { MayGoOn self.old.lexer self.old.place rest.now }
@@ -689,7 +688,8 @@ impl Reader {
         }
     }
 
-    /// Takes what may stand ahead of an action: nothing, or a label that it defines; or an option, a dependency or a note.
+    /// Takes what may come before an action: nothing, or a label that it defines; or else an option, a dependency or a
+    /// note.
     #[inline(always)]
     fn take_before_action(&mut self, rest: &[u8]) -> Result<Begun, TokenFault>
         requires place { self.old.place + length rest.now < 2 ^ 64 }
@@ -739,10 +739,10 @@ impl Reader {
         self.take_label(rest, blanks)
     }
 
-    /// Takes bytes from the front of `rest` that are several whole tokens: a definition with its action, a dependency, a note, an
-    /// action with its options, or an option. The answer is how many; it is 0, and nothing is taken, where other tokens stand
-    /// ahead, where they go on behind the piece, or where one of them fails a test that is made before it is taken. Each kind is taken at
-    /// one place, so that the compiler makes it a part of the loop that calls this.
+    /// Takes several whole tokens from the front of `rest`: a definition with its action, a dependency, a note, an
+    /// action with its options, or an option. Returns the number of bytes taken. It is 0, and nothing is taken, if
+    /// other tokens follow, if they continue after the piece, or if one fails a test that is made before it is taken.
+    /// Each kind is taken at one place, so that the compiler inlines it into the loop that calls this.
     #[inline(always)]
     pub fn take_ahead(&mut self, rest: &[u8]) -> Result<usize, TokenFault>
         requires place { self.old.place + length rest.now < 2 ^ 64 }

@@ -1,4 +1,4 @@
-//! The block that is read.
+//! The block that is being read.
 ghost use Rattle.std.specs.Prelude.{◌≡◌, List, [], IfOk, OnOk, map};
 ghost use Rattle.goal_parser.specs.declared.head.Mention.{Mention};
 ghost use Rattle.goal_parser.specs.Actions.{op_of};
@@ -13,11 +13,11 @@ use goal_lexer::TokenKind;
 use std::alloc::{AllocError, Global};
 use std::mem;
 
-/// The most items that a list of the next block gets room for at once. The ranks of most schedules are of like sizes.
+/// The most items for which a list of the next block gets room at once. The ranks of most schedules are of like sizes.
 /// The bound keeps the room small where a large rank is followed by many small ones.
 const MOST_ROOM: usize = 256;
 
-/// What is read of a block. Between blocks it is empty.
+/// What was read of a block. Between blocks it is empty.
 #[derive(Drop)]
 pub struct Block {
     /// The operations whose actions have ended.
@@ -26,7 +26,7 @@ pub struct Block {
     pub names: Names,
 }
 
-/// Whether the token begins an item, or ends the block.
+/// Returns whether the token begins an item, or ends the block.
 fn begins_item(kind: &TokenKind) -> bool
     ensures { result ≡ begins_item kind.now }
 {
@@ -40,7 +40,7 @@ fn begins_item(kind: &TokenKind) -> bool
     }
 }
 
-/// Whether the token ends an action.
+/// Returns whether the token ends an action.
 #[tactic(auto, unfolding(crate::specs::Items::ends_action))]
 fn ends_action(state: State, kind: &TokenKind) -> bool
     ensures { result ≡ ends_action state kind.now }
@@ -51,7 +51,7 @@ fn ends_action(state: State, kind: &TokenKind) -> bool
     }
 }
 
-/// Adds the operation of the action that ends at this token, if one does.
+/// Appends the operation of the action that ends at this token, if one does. `Err` means out of memory.
 pub fn end_action(
     ops: &mut Vec<Op>,
     state: State,
@@ -66,7 +66,7 @@ pub fn end_action(
     Ok(())
 }
 
-/// Takes all of a list, shrunk to its size, and leaves an empty one with room for as many, at most `MOST_ROOM`.
+/// Takes a whole list, shrunk to its size, and leaves an empty one with room for as many items, at most `MOST_ROOM`.
 fn take_all<T>(alloc: Global, list: &mut Vec<T>) -> Result<Vec<T>, AllocError>
     ensures all { IfOk result (λ all. all.items ≡ list.old.items) }
     ensures empty { OnOk result (list.new.items ≡ []) }
@@ -78,7 +78,7 @@ fn take_all<T>(alloc: Global, list: &mut Vec<T>) -> Result<Vec<T>, AllocError>
 }
 
 impl Block {
-    /// An empty block.
+    /// Creates an empty block.
     pub fn new(alloc: Global) -> Block
         ensures ops { result.ops.items ≡ [] }
         ensures names { NamesHold result.names [] [] [] [] }
@@ -89,8 +89,8 @@ impl Block {
         }
     }
 
-    /// Ends the block in this state, and leaves an empty one, with the memory of the labels and room for lists of like
-    /// sizes. The answer is its plan.
+    /// Ends the block in this state, and returns its plan. It leaves an empty block, with the memory of the labels and
+    /// room for lists of like sizes.
     pub fn close(
         &mut self,
         alloc: Global,

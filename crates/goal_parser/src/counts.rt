@@ -1,11 +1,11 @@
-//! How many operations, dependencies and notes a text has begun.
+//! The numbers of operations, dependencies and notes that a text has begun.
 ghost use Rattle.std.specs.Prelude.{◌≡◌, false};
 ghost use Rattle.goal_parser.specs.Counts.{counts_with, is_too_many};
 
 use goal_lexer::TokenKind;
 use goal_limits::{MAX_DEPS, MAX_NOTES, MAX_OPS};
 
-/// How many of each the whole text has begun so far.
+/// The numbers of each that the whole text has begun so far.
 #[derive(Clone, Copy)]
 pub struct Counts {
     /// The operations.
@@ -17,7 +17,7 @@ pub struct Counts {
 }
 
 impl Counts {
-    /// Nothing has begun.
+    /// Starts with nothing.
     pub fn new() -> Counts
         ensures { result ≡ record { ops = 0; deps = 0; notes = 0 } }
     {
@@ -28,7 +28,7 @@ impl Counts {
         }
     }
 
-    /// Whether the word begins one operation, dependency or note more than a schedule may have.
+    /// Returns whether the word begins an operation, a dependency or a note beyond the limit of a schedule.
     #[tactic(auto, unfolding(crate::specs::Counts::is_too_many))]
     pub fn is_too_many(&self, kind: &TokenKind) -> bool
         ensures { result ≡ is_too_many kind.now self.now }

@@ -1,4 +1,4 @@
-//! What the tokens of an action say of its operation.
+//! The operation that the tokens of an action describe.
 ghost use Rattle.std.specs.Prelude.{◌≡◌, ◌≤◌, true};
 ghost use Rattle.goal_parser.specs.Actions.{begun, option_with, number_with, any_with, draft_with, op_of, has_option};
 ghost use Rattle.goal_parser.specs.Numbers.{option_most, number_within, is_within};
@@ -7,7 +7,7 @@ use crate::sentence::State;
 use goal_graph::{Kind, Op};
 use goal_lexer::TokenKind;
 
-/// The three actions.
+/// The kinds of action.
 #[derive(Clone, Copy)]
 pub enum Action {
     /// `calc`
@@ -29,20 +29,20 @@ pub enum OptionWord {
     Nic,
 }
 
-/// An action as far as it is read.
+/// An action as far as it has been read.
 #[derive(Clone, Copy)]
 pub struct Draft {
-    /// What the action is.
+    /// Its kind.
     pub action: Action,
-    /// The time of a calc in nanoseconds, or the size of a send or a receive in bytes.
+    /// The duration of a calc in nanoseconds, or the size of a send or a receive in bytes.
     pub size: u64,
-    /// The target or the source; `None` is any, or none that is read yet.
+    /// The target or the source. `None`: any, or not read yet.
     pub peer: Option<u32>,
-    /// The tag; `None` is any.
+    /// The tag. `None`: any.
     pub tag: Option<u32>,
     /// The cpu.
     pub cpu: u8,
-    /// The interface.
+    /// The NIC.
     pub nic: u8,
     /// Whether the action has the option `tag`.
     pub has_tag: bool,
@@ -50,12 +50,12 @@ pub struct Draft {
     pub has_cpu: bool,
     /// Whether the action has the option `nic`.
     pub has_nic: bool,
-    /// The option word that stood last.
+    /// The last option word.
     pub option: OptionWord,
 }
 
 impl Draft {
-    /// An action that has only begun, where this option word stood last.
+    /// Begins an action, after this option word.
     #[inline(always)]
     pub fn begun(action: Action, option: OptionWord) -> Draft
         ensures { result ≡ begun action option }
@@ -74,14 +74,14 @@ impl Draft {
         }
     }
 
-    /// What no token has given.
+    /// The draft before any token.
     pub fn new() -> Draft
         ensures { result ≡ begun Action.Calc OptionWord.Tag }
     {
         Draft::begun(Action::Calc, OptionWord::Tag)
     }
 
-    /// Takes the number behind an option's word.
+    /// Takes the number after an option's word.
     #[inline(always)]
     fn take_option(&mut self, value: u64)
         requires { value ≤ option_most self.old.option }
@@ -119,7 +119,7 @@ impl Draft {
         }
     }
 
-    /// Takes a token that stands in this state.
+    /// Takes a token in this state.
     #[inline(always)]
     #[tactic(auto, unfolding(crate::specs::Numbers::is_within, crate::specs::Actions::draft_with))]
     pub fn take(&mut self, state: State, kind: &TokenKind)
@@ -150,7 +150,7 @@ impl Draft {
         }
     }
 
-    /// Whether the word is that of an option which the action has already.
+    /// Returns whether the word is that of an option that the action already has.
     pub fn has_option(&self, kind: &TokenKind) -> bool
         ensures { result ≡ has_option kind.now self.now }
     {
@@ -162,7 +162,7 @@ impl Draft {
         }
     }
 
-    /// The operation of the action.
+    /// Returns the operation of the action.
     #[inline(always)]
     pub fn op(&self) -> Op
         ensures { result ≡ op_of self.now }

@@ -1,4 +1,4 @@
-//! Why a text is no schedule.
+//! Why a text has no schedule.
 ghost use Rattle.std.specs.Prelude.{◌≡◌, Some};
 ghost use Rattle.goal_parser.specs.declared.faults.TextFault.TheVariants.{NoMemory};
 ghost use Rattle.goal_parser.specs.FaultWords.{fault_words};
@@ -8,27 +8,27 @@ use std::alloc::{AllocError, AllocFailed};
 use std::error::Error;
 use std::fmt;
 
-/// The first fault of a text. Each place is that of a byte of the text, from 0.
+/// The first fault of a text. `at` is the place of a byte of the text, from 0.
 #[derive(Clone, Copy, Debug, PartialEq, Eq)]
 pub enum TextFault {
     /// No token, blank or comment begins at this place.
     Lex { at: u64 },
-    /// The token at this place may not follow those before it, or the text may not end here.
+    /// The token at this place may not follow those before it, or the text may not end at this place.
     Syntax { at: u64 },
     /// The number at this place is outside its limits.
     Number { at: u64 },
-    /// The number at this place is no rank of the schedule.
+    /// The number at this place is not below the number of ranks.
     Rank { at: u64 },
-    /// The rank at this place had a block before, the action has the option at this place already, or the block
-    /// has defined the label at this place before.
+    /// The rank at this place already had a block, or the action already has the option at this place, or the block has
+    /// already defined the label at this place.
     Repeat { at: u64 },
-    /// The word at this place begins one operation, dependency or note more than a schedule may have.
+    /// The word at this place begins an operation, a dependency or a note beyond the limit of a schedule.
     TooMany { at: u64 },
-    /// The block uses the label at this place, and doesn't define it.
+    /// The block uses the label at this place without defining it.
     UnknownLabel { at: u64 },
-    /// The text is read, and its plans are no schedule.
+    /// The text has plans, but they are no schedule.
     Plan(PlanFault),
-    /// Memory ran out.
+    /// Out of memory.
     NoMemory,
 }
 

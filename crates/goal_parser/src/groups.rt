@@ -1,6 +1,7 @@
-//! Tokens that are taken several at once: a definition, a dependency, a note, an action up to its options, its options or one.
+//! Tokens that are taken several at once: a definition, a dependency, a note, an action up to its options, its options,
+//! or one.
 //!
-//! The parser keeps then what it keeps where it takes them one by one.
+//! The parser is left as if it had taken them one by one.
 ghost use Rattle.std.specs.Prelude.{◌≡◌, ◌≢◌, ℕ, ◌<◌, ◌≤◌, ◌⊎◌, ◌++◌, false, List, [], ◌∷◌, Some, OnOk, IfErr, length, if◌then◌else◌};
 ghost use Rattle.goal_limits.specs.declared.limits.TheConstants.{MAX_BYTES, MAX_NANOS};
 ghost use Rattle.goal_lexer.specs.declared.tokens.Token.{Token};
@@ -20,7 +21,7 @@ use goal_graph::{Dep, Op};
 use goal_lexer::TokenKind;
 use std::alloc::AllocError;
 
-/// Adds an item to the end of a list. Room is asked for apart, so that a build makes the rest a part of what calls it.
+/// Appends an item to a list. Making room is a function apart, so that the rest is inlined.
 #[inline(always)]
 fn append<T: Copy>(list: &mut Vec<T>, item: T) -> Result<(), AllocError>
     ensures { OnOk result (list.new.items ≡ list.old.items ++ item ∷ []) }
@@ -30,7 +31,7 @@ fn append<T: Copy>(list: &mut Vec<T>, item: T) -> Result<(), AllocError>
     Ok(())
 }
 
-/// Adds the operation of the action that is open in this state, if one is.
+/// Appends the operation of the action that is open in this state, if any.
 #[inline(always)]
 #[tactic(auto, unfolding(crate::specs::Items::ends_action))]
 fn end_open_action(ops: &mut Vec<Op>, state: State, draft: &Draft) -> Result<(), AllocError>
@@ -44,11 +45,11 @@ fn end_open_action(ops: &mut Vec<Op>, state: State, draft: &Draft) -> Result<(),
 }
 
 impl Parser {
-    /// Takes a label, of which the first byte stands at this place, and the colon that defines it.
+    /// Takes a label, whose first byte is at this place, and the colon that defines it.
     ///
     /// # Errors
     ///
-    /// `Repeat` where the block has defined the label before, and want of memory.
+    /// `Repeat` if the block has already defined the label, or `NoMemory`.
     #[inline(always)]
     pub fn take_definition(&mut self, label: &[u8], at: u64) -> Result<(), TokenFault>
         requires some { 0 < length label.now }
@@ -60,7 +61,7 @@ impl Parser {
             → RefusesAll self.old (record { kind = TokenKind.Label label.now; start = at; end = end } ∷ colon ∷ []) f) }
     {
         end_open_action(&mut self.block.ops, self.state, &self.draft)?;
-        // More operations than 32 bits can number count as want of memory.
+        // More operations than 32 bits can number count as out of memory.
         let Ok(op) = u32::try_from(self.block.ops.len()) else {
             return Err(TokenFault::NoMemory);
         };
@@ -101,7 +102,7 @@ impl Parser {
         Ok(())
     }
 
-    /// Takes a note: a label, of which the first byte stands at this place, a verb, a slot, `to` and a slot.
+    /// Takes a note: a label, whose first byte is at this place, a verb, a slot, `to` and a slot.
     #[inline(always)]
     #[tactic(auto, unfolding(crate::specs::Counts::is_too_many))]
     pub fn take_note(
@@ -129,7 +130,7 @@ impl Parser {
         Ok(())
     }
 
-    /// Takes `calc` and its time in nanoseconds.
+    /// Takes `calc` and its duration in nanoseconds.
     #[inline(always)]
     #[tactic(auto, unfolding(crate::specs::Counts::is_too_many))]
     pub fn take_calc(&mut self, nanos: u64) -> Result<(), AllocError>

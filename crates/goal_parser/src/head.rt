@@ -1,4 +1,4 @@
-//! The label and the verb that an item of a block begins with.
+//! The label and the verb at the beginning of an item.
 ghost use Rattle.std.specs.Prelude.{◌≡◌, Some};
 ghost use Rattle.goal_parser.specs.Items.{low_head, verb_head};
 ghost use Rattle.goal_parser.specs.Taken.{IsWithin};
@@ -33,14 +33,14 @@ pub enum Verb {
 pub struct ItemHead {
     /// The label that the newest such item begins with.
     pub subject: Option<Mention>,
-    /// The verb that stood last.
+    /// The last verb.
     pub verb: Verb,
     /// The first slot of the newest note.
     pub low: u32,
 }
 
 impl ItemHead {
-    /// What no token has given.
+    /// The state before any token.
     pub fn new() -> ItemHead
         ensures { result ≡ record { subject = None; verb = Verb.Requires; low = 0 } }
     {
@@ -51,7 +51,7 @@ impl ItemHead {
         }
     }
 
-    /// Begins an item with a label, of which the first byte stands at this place.
+    /// Begins an item with a label, whose first byte is at this place.
     pub fn begin(&mut self, label: &Label, at: u64)
         ensures { self.new ≡ record self.old { subject = Some (record { label = label.now; at = at }) } }
     {
@@ -70,7 +70,7 @@ impl ItemHead {
         }
     }
 
-    /// Takes a verb. Another word leaves what was given.
+    /// Takes a verb. Another word changes nothing.
     pub fn take_verb(&mut self, kind: &TokenKind)
         ensures { self.new ≡ verb_head kind.now self.old }
     {

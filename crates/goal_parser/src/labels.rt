@@ -10,7 +10,7 @@ use crate::token_faults::TokenFault;
 use goal_labels::{LabelMap, Slot};
 use std::alloc::{AllocError, Global};
 
-/// The number of a slot's operation, if there is a slot and it has one.
+/// Returns the number of a slot's operation, if there is a slot and its label is defined.
 fn op_in(slot: Option<Slot>) -> Option<u32>
     ensures { result ≡ op_in slot }
 {
@@ -20,7 +20,7 @@ fn op_in(slot: Option<Slot>) -> Option<u32>
     }
 }
 
-/// The labels of a block, in the order in which they stood first.
+/// The labels of a block, in the order of their first appearance.
 #[derive(Drop)]
 pub struct Labels {
     /// The labels with their slots.
@@ -28,7 +28,7 @@ pub struct Labels {
 }
 
 impl Labels {
-    /// No labels.
+    /// Starts without labels.
     pub fn new(alloc: Global) -> Labels
         ensures kept { Keeps result.slots [] [] }
         ensures empty { result.slots ≡ [] }
@@ -46,11 +46,11 @@ impl Labels {
         self.slots.clear();
     }
 
-    /// Defines a label: it stands before the operation of this number.
+    /// Defines a label: it precedes operation number `op`.
     ///
     /// # Errors
     ///
-    /// `Repeat` where the label is defined already, and want of memory.
+    /// `Repeat` if the label is already defined, or `NoMemory`.
     pub fn define(&mut self, label: &[u8], at: u64, op: u32) -> Result<(), TokenFault>
         requires some { 0 < length label.now }
         requires short { length label.now ≤ 64 }
@@ -67,7 +67,7 @@ impl Labels {
         }
     }
 
-    /// The index of a label that is used here, with a slot of its own from now on.
+    /// Returns the index of a label that is used at this place; it has a slot from now on.
     fn place(&mut self, label: &[u8], at: u64) -> Result<usize, AllocError>
         requires some { 0 < length label.now }
         requires short { length label.now ≤ 64 }
@@ -81,7 +81,7 @@ impl Labels {
         Ok(slot)
     }
 
-    /// The slot of a label that is used here.
+    /// Returns the slot of a label that is used at this place. `Err` means out of memory.
     pub fn mention(&mut self, label: &[u8], at: u64) -> Result<u32, AllocError>
         requires some { 0 < length label.now }
         requires short { length label.now ≤ 64 }
@@ -92,14 +92,14 @@ impl Labels {
         ensures label { IfOk result (λ slot. label_at self.new.slots slot ≡ label.now) }
     {
         let slot = self.place(label, at)?;
-        // More slots than 32 bits can number count as want of memory.
+        // More slots than 32 bits can number count as out of memory.
         match u32::try_from(slot) {
             Ok(slot) => Ok(slot),
             Err(_) => Err(AllocError),
         }
     }
 
-    /// The number of a slot's operation, or 0 where it has none.
+    /// Returns the number of a slot's operation, or 0 if it has none.
     pub fn op(&self, slot: u32) -> u32
         ensures { result ≡ op_at self.now.slots slot }
     {
@@ -112,7 +112,7 @@ impl Labels {
         }
     }
 
-    /// The place of the first label that is used and not defined, if there is one.
+    /// Returns the place of the first label that is used and not defined, if any.
     pub fn first_unknown(&self) -> Option<u64>
         ensures { (ds : List Definition) (us : List Mention) → Keeps self.now.slots ds us → result ≡ first_unknown ds us }
     {

@@ -3,12 +3,14 @@ ghost use Rattle.goal_parser.specs.Laws.{KeepLimits, SayPlans, ReadAsWritten, Ha
 
 /// The laws of texts:
 ///
-/// - `keep_limits`: the plans that a text says have counts and values within their limits;
-/// - `say_plans`: a text that says plans is sentences that keep the rules of ranks, labels and options: a block for each
-///   rank at most, of actions, dependencies and notes. Operation, dependency and note number i of a rank are what number i
-///   of its block's actions, dependencies and notes says;
-/// - `read_as_written`: the other way round, sentences that keep these rules and the limits, however they are written, are
-///   read as the plans that they say;
+/// - `keep_limits`: the plans of a text have counts and values within their limits;
+/// - `say_plans`: a text with plans is sentences that obey the rules of ranks, labels and options: at most one block
+/// per
+///   rank, of actions, dependencies and notes. Operation, dependency and note number i of a rank are those of number i
+/// of
+///   its block's actions, dependencies and notes;
+/// - `read_as_written`: conversely, sentences within these rules and the limits, however they are written, are read as
+///   their plans;
 /// - `one_reading`: no other sentences have the same tokens.
 pub fn laws_of_texts()
     ensures keep_limits { KeepLimits }
@@ -17,11 +19,13 @@ pub fn laws_of_texts()
     ensures one_reading { HaveOneReading }
 {}
 
-/// The law of readers of pieces, which says what is known where `feed` has answered Ok:
+/// The law of readers in pieces, which says what is known after `feed` returned Ok:
 ///
-/// - `passes_so_far`: of the text that the pieces so far make, no token that ends before the last byte does fails a test, and
-///   no brace or colon: all but a run that the next piece may go on with. Where no token, blank or comment could begin at a
-///   place, if the text ended here, a `/` stands there as the last byte, or a block comment that goes on.
+/// - `passes_so_far`: no token that ends before the last byte of the text so far fails a test, and no brace or colon
+/// does.
+///   Only a run that the next piece may continue is not tested. If the text ended here and had a lexical fault, it
+/// would
+///   be at a `/` as the last byte, or at an unclosed block comment.
 pub fn laws_of_readers()
     ensures passes_so_far { ReadPassesSoFar }
 {}

@@ -1,17 +1,19 @@
 //! From the text of a schedule to the schedule, or to the first fault of the text.
 //!
-//! [`read_text`] is the whole of it. What a text says is stated in `specs/`, apart from how it is read:
+//! [`read_text`] does all of this. `specs/` defines the meaning of a text, apart from how it is read:
 //!
-//! - `Sentence` is the table of which token may follow, and `Numbers` has the limits of numbers.
-//! - `Ranks`, `Actions`, `Counts`, `Items` and `Plans` say what the tokens before a place give. In these lists of tokens
-//!   the newest stands first.
-//! - `Faults` has the tests of a token, each a fact about the token and the tokens before it, in their order.
-//! - `Reads` has the first fault of a text, and else its plans.
+//! - `Sentence` is the grammar, which says which token may follow, and `Numbers` has the limits of numbers.
+//! - `Ranks`, `Actions`, `Counts`, `Items` and `Plans` say what the tokens before a place give. In these lists of
+//! tokens
+//!   the newest comes first.
+//! - `Faults` has the tests of a token, in their order. Each looks at the token and the tokens before it.
+//! - `Reads` has the first fault of a text, or otherwise its plans.
 //!
 //! [`TextReader`] takes the text in pieces, over the same `Reader`.
 //!
-//! The code reads in one pass. A `Reader` takes bytes, in pieces if need be, its `Parser` takes the tokens, and the
-//! labels of a block are numbered by slots up to the block's end. `Slots`, `Taken` and `Reader` say what these keep.
+//! The code reads in one pass. A `Reader` takes bytes, in pieces if need be, and its `Parser` takes the tokens. The
+//! labels of a block are numbered by slots until the block ends. `Slots`, `Taken` and `Reader` define the states of
+//! these.
 #![tactic(auto)]
 
 mod ahead;

@@ -15,7 +15,7 @@ use goal_graph::{Dep, Note, When};
 use goal_lexer::{Label, TokenKind};
 use std::alloc::{AllocError, Global};
 
-/// The labels of a block, and its dependencies and notes with slots of labels in place of operations.
+/// The labels of a block, and its dependencies and notes with the slots of labels instead of operations.
 pub struct Names {
     /// The labels.
     pub labels: Labels,
@@ -25,7 +25,7 @@ pub struct Names {
     pub notes: Vec<Note>,
 }
 
-// They go by a call, and not field by field: so those that let them go are shorter to prove.
+// A function, instead of a field by field drop: callers are then shorter to prove.
 impl Drop for Names {
     fn drop(self) {
         let Names {
@@ -36,7 +36,7 @@ impl Drop for Names {
     }
 }
 
-/// Which moment of the earlier operation a dependency waits for.
+/// Returns whether a dependency with this verb waits for the end or the start of the earlier operation.
 pub fn when_of(verb: Verb) -> When
     ensures { result ≡ when_of verb }
 {
@@ -46,7 +46,7 @@ pub fn when_of(verb: Verb) -> When
     }
 }
 
-/// A note of an operation or a slot.
+/// Returns a note of an operation or of a slot.
 pub fn note_as(verb: Verb, op: u32, first: u32, second: u32) -> Note
     ensures { result ≡ note_as verb op first second }
 {
@@ -65,7 +65,7 @@ pub fn note_as(verb: Verb, op: u32, first: u32, second: u32) -> Note
 }
 
 impl Names {
-    /// Nothing is named.
+    /// Starts with nothing.
     pub fn new(alloc: Global) -> Names
         ensures { NamesHold result [] [] [] [] }
     {
@@ -76,11 +76,11 @@ impl Names {
         }
     }
 
-    /// Defines a label: it stands before the operation of this number.
+    /// Defines a label: it precedes operation number `op`.
     ///
     /// # Errors
     ///
-    /// `Repeat` where the block has defined the label before, and want of memory.
+    /// `Repeat` if the block has already defined the label, or `NoMemory`.
     pub fn define(&mut self, subject: &Option<Mention>, op: u32) -> Result<(), TokenFault>
         ensures ok { OnOk result ((ds : List Definition) (us : List Mention) (deps : List NamedDep) (notes : List NamedNote) → NamesHold self.old ds us deps notes →
             (defined_fault ds subject.now ≡ None) × NamesHold self.new (define subject.now op ds) us deps notes) }
@@ -92,7 +92,7 @@ impl Names {
         }
     }
 
-    /// Takes the second label of a dependency, of which the first byte stands at this place.
+    /// Takes the second label of a dependency, whose first byte is at this place.
     pub fn end_dep(&mut self, head: &ItemHead, label: &Label, at: u64) -> Result<(), AllocError>
         ensures { OnOk result ((ds : List Definition) (us : List Mention) (deps : List NamedDep) (notes : List NamedNote) → NamesHold self.old ds us deps notes →
             NamesHold self.new ds (dep_uses State.Label head.now.subject (record { label = label.now; at = at }) us) (dep_ended State.Label head.now.subject head.now.verb label.now deps) notes) }
@@ -130,7 +130,7 @@ impl Names {
         }
     }
 
-    /// Puts the numbers of operations in the place of slots.
+    /// Replaces the slots by the numbers of their operations.
     pub fn resolve(&mut self)
         ensures deps { self.new.deps.items ≡ map (dep_at self.old.labels.slots) self.old.deps.items }
         ensures notes { self.new.notes.items ≡ map (note_at self.old.labels.slots) self.old.notes.items }
@@ -140,7 +140,7 @@ impl Names {
     }
 }
 
-/// A dependency of slots, by the numbers of their operations.
+/// Returns a dependency of slots with their operations instead.
 fn dep_at(labels: &Labels, dep: &Dep) -> Dep
     ensures { result ≡ dep_at labels.now.slots dep.now }
 {
@@ -151,7 +151,7 @@ fn dep_at(labels: &Labels, dep: &Dep) -> Dep
     }
 }
 
-/// A note of a slot, by the number of its operation.
+/// Returns a note of a slot with its operation instead.
 fn note_at(labels: &Labels, note: &Note) -> Note
     ensures { result ≡ note_at labels.now.slots note.now }
 {
@@ -169,7 +169,7 @@ fn note_at(labels: &Labels, note: &Note) -> Note
     }
 }
 
-/// Puts the numbers of operations in the place of slots.
+/// Replaces the slots by the numbers of their operations.
 fn resolve_deps(labels: &Labels, deps: &mut [Dep])
     ensures { deps.new ≡ map (dep_at labels.now.slots) deps.old }
 {
@@ -178,7 +178,7 @@ fn resolve_deps(labels: &Labels, deps: &mut [Dep])
     }
 }
 
-/// Puts the numbers of operations in the place of slots.
+/// Replaces the slots by the numbers of their operations.
 fn resolve_notes(labels: &Labels, notes: &mut [Note])
     ensures { notes.new ≡ map (note_at labels.now.slots) notes.old }
 {

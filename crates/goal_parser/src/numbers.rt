@@ -6,7 +6,7 @@ use crate::draft::OptionWord;
 use crate::sentence::State;
 use goal_limits::{MAX_BYTES, MAX_NANOS, MAX_RANKS};
 
-/// The limit of an option's number.
+/// Returns the limit of an option's number.
 fn option_most(option: OptionWord) -> u64
     ensures { result ≡ option_most option }
 {
@@ -16,7 +16,7 @@ fn option_most(option: OptionWord) -> u64
     }
 }
 
-/// The limit of a number that stands in this state, where this option word stood last.
+/// Returns the limit of a number in this state, after this option word.
 fn most(state: State, option: OptionWord) -> u64
     ensures { result ≡ most state option }
 {
@@ -29,7 +29,7 @@ fn most(state: State, option: OptionWord) -> u64
     }
 }
 
-/// The least number that may stand in this state.
+/// Returns the least number in this state.
 fn least(state: State) -> u64
     ensures { result ≡ least state }
 {
@@ -39,7 +39,7 @@ fn least(state: State) -> u64
     }
 }
 
-/// Whether the number is within the limits of its place.
+/// Returns whether the number is within the limits of its place.
 #[inline(always)]
 pub fn number_within(state: State, option: OptionWord, value: u64) -> bool
     ensures { result ≡ number_within state option value }

@@ -1,9 +1,9 @@
 //! The parser: from tokens to plans.
 //!
-//! `take` takes any token. But most items of a text never come to it: where a definition, a dependency, a note, an action up to
-//! its options, or an option stands whole in a piece, `take_ahead` (ahead.rt) finds it by its bytes, and a function of groups.rt
-//! takes all of its tokens at once. This leaves the parser as `take` leaves it, token by token (`TakesAll`, specs/Taken.antt):
-//! so what an item means is said here, and whoever changes that changes groups.rt as well.
+//! `take` takes any token. But most items never reach it: if a piece has a whole definition, dependency, note, action
+//! up to its options, or option, `take_ahead` (ahead.rt) finds it by its bytes, and a function of groups.rt takes all
+//! its tokens at once. It leaves the parser as `take` would, token by token (`TakesAll`, specs/Taken.antt). So this
+//! file defines what an item means, and a change here needs the same change in groups.rt.
 ghost use Rattle.std.specs.Prelude.{◌≡◌, ◌≢◌, true, List, [], ◌∷◌, None, Some, OnOk, IfErr};
 ghost use Rattle.goal_parser.specs.Numbers.{number_within};
 ghost use Rattle.goal_lexer.specs.declared.tokens.Token.{Token};
@@ -28,13 +28,13 @@ use std::alloc::{AllocError, Global};
 /// Takes the tokens of a text, one by one, up to the first that fails a test.
 #[derive(Drop)]
 pub struct Parser {
-    /// Where the memory comes from.
+    /// The allocator.
     pub alloc: Global,
-    /// Where the text stands.
+    /// The state of the grammar.
     pub state: State,
     /// The number of ranks, and the ranks of the blocks.
     pub ranks: Ranks,
-    /// How many operations, dependencies and notes have begun.
+    /// The numbers of operations, dependencies and notes begun so far.
     pub counts: Counts,
     /// The newest action.
     pub draft: Draft,
@@ -47,7 +47,7 @@ pub struct Parser {
 }
 
 impl Parser {
-    /// A parser that has taken no token.
+    /// Creates a parser that has taken no token.
     pub fn new(alloc: Global) -> Parser
         ensures { HasTaken result [] }
     {
@@ -187,7 +187,7 @@ impl Parser {
         }
     }
 
-    /// Takes a colon: it defines the label before it.
+    /// Takes a colon, which defines the label before it.
     #[inline(always)]
     fn take_colon(&mut self, next: State, token: &Token) -> Result<(), TokenFault>
         requires next { entry self.old.state token.now.kind ≡ Some next }
@@ -195,7 +195,7 @@ impl Parser {
         ensures ok { OnOk result (Takes self.old token.now self.new) }
         ensures fault { IfErr result (λ f. f ≢ TokenFault.NoMemory → Refuses self.old token.now f) }
     {
-        // More operations than 32 bits can number count as want of memory.
+        // More operations than 32 bits can number count as out of memory.
         let Ok(op) = u32::try_from(self.block.ops.len()) else {
             return Err(TokenFault::NoMemory);
         };
@@ -221,7 +221,7 @@ impl Parser {
         Ok(())
     }
 
-    /// Takes the word behind the label of a dependency or a note.
+    /// Takes the word after the label of a dependency or a note.
     #[inline(always)]
     fn take_verb(&mut self, next: State, token: &Token) -> Result<(), TokenFault>
         requires next { entry self.old.state token.now.kind ≡ Some next }
@@ -254,7 +254,7 @@ impl Parser {
         Ok(())
     }
 
-    /// Takes a word or a sign that nothing is kept of but the state behind it.
+    /// Takes a word or a sign that only changes the grammar's state.
     #[inline(always)]
     fn take_plain(&mut self, next: State, token: &Token)
         requires next { entry self.old.state token.now.kind ≡ Some next }
@@ -275,7 +275,7 @@ impl Parser {
         self.state = next;
     }
 
-    /// Takes the next token. Only the tests that its kind can fail are made, in their order.
+    /// Takes the next token. It makes only the tests that a token of this kind can fail, in their order.
     #[inline(always)]
     pub fn take(&mut self, token: &Token) -> Result<(), TokenFault>
         ensures ok { OnOk result ((before : List Token) → HasTaken self.old before → (token_fault before token.now ≡ None) × HasTaken self.new (token.now ∷ before)) }
@@ -309,7 +309,7 @@ impl Parser {
         }
     }
 
-    /// The plans that were read.
+    /// Returns the plans that were read.
     pub fn into_plans(self) -> Vec<RankPlan>
         ensures { result.items ≡ self.plans.items }
     {

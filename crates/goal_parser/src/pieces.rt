@@ -11,22 +11,22 @@ use crate::token_faults::fault_in_text;
 use goal_graph::{PlanFault, Sched};
 use std::alloc::Global;
 
-/// Takes a text in pieces, cut at any places, and gives its schedule or its first fault. It keeps no byte of the text but
-/// those of a run that is open where it stands, so its contracts speak of each text that it *has read* (`HasRead`): those
-/// that the pieces so far make. After a fault it has read no text, and answers the same fault from then on. What it means for
-/// the tokens and bytes of a text that it was read is said by `laws_of_readers`.
+/// Takes a text in pieces, cut at any places, and returns its schedule or its first fault. It keeps no byte of the
+/// text, except those of a run that is open. So its contracts speak of each text that it *has read* (`HasRead`): the
+/// pieces so far, joined. After a fault it has read no text, and returns the same fault from then on. `laws_of_readers`
+/// says what holds of the tokens and bytes of a text that was read.
 #[derive(Drop)]
 pub struct TextReader {
     alloc: Global,
     reader: Reader,
     fault: Option<TextFault>,
 
-    // Where no fault was met, lexer and parser stand at the same place, and no run was handed out there.
+    // If no fault was met, lexer and parser are at the same place, and no run was returned there.
     ghost together: { fault ≡ None → reader.lexer.place ≡ reader.place },
     ghost apart: { fault ≡ None → reader.lexer.ends_run ≡ false },
 }
 
-/// The fault of the plans, as that of the text.
+/// Returns the fault of the plans as a fault of the text.
 fn fault_of_plans(fault: PlanFault) -> TextFault
     ensures { result ≡ fault_of_plans fault }
 {
@@ -39,7 +39,7 @@ fn fault_of_plans(fault: PlanFault) -> TextFault
 impl TextReader {
     ghost use Rattle.goal_parser.specs.TextRead.{HasRead, bytes_read, fault_met};
 
-    /// A reader that has taken no byte.
+    /// Creates a reader that has taken no byte.
     pub fn new(alloc: Global) -> TextReader
         ensures read { HasRead result [] }
         ensures place { bytes_read result ≡ 0 }
@@ -51,21 +51,21 @@ impl TextReader {
         }
     }
 
-    /// Takes a piece of the text. The next piece goes on where this one ends.
+    /// Takes a piece of the text. The next piece continues after it.
     ///
     /// # Errors
     ///
-    /// The first fault of each text that begins with the pieces so far, and want of memory. After a fault the same
+    /// The first fault of each text that begins with the pieces so far, or `NoMemory`. After a fault, the same fault
     /// again.
     pub fn feed(&mut self, piece: &[u8]) -> Result<(), TextFault>
         // The places are numbers of 64 bits.
         requires place { fault_met self.old ≡ None → bytes_read self.old + length piece.now < 2 ^ 64 }
 
-        // The text goes on by the piece.
+        // The text is continued by the piece.
         ensures read { OnOk result ((text : List ℕ) → HasRead self.old text → HasRead self.new (text ++ piece.now)) }
         ensures place { OnOk result (bytes_read self.new ≡ bytes_read self.old + length piece.now) }
 
-        // The fault is that of each text that begins so, whatever follows.
+        // This is the fault of each text that begins so, whatever follows.
         ensures fault { IfErr result (λ f. f ≢ TextFault.NoMemory → (text more : List ℕ) → HasRead self.old text → reads (text ++ piece.now ++ more) ≡ faulty f) }
         ensures kept { IfErr result (λ f. fault_met self.new ≡ Some f) }
         ensures again { (f : TextFault) → fault_met self.old ≡ Some f → result ≡ Err f }
@@ -83,11 +83,12 @@ impl TextReader {
         }
     }
 
-    /// The schedule of the text, which ends here.
+    /// Ends the text, and returns its schedule.
     ///
     /// # Errors
     ///
-    /// The first fault of the text, or else the first of its plans, and want of memory. After a fault the same again.
+    /// The first fault of the text, or if it has none, the first fault of its plans; or `NoMemory`. After a fault, the
+    /// same fault again.
     pub fn finish(self) -> Result<Sched, TextFault>
         ensures ok { IfOk result (λ sched. (text : List ℕ) → HasRead self text → reads text ≡ plans sched) }
         ensures accepted { IfOk result (λ sched. IsAccepted sched) }

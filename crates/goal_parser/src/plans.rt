@@ -1,11 +1,11 @@
-//! The plans that are read.
+//! The plans that were read.
 ghost use Rattle.std.specs.Prelude.{◌≡◌, IfOk, replicate, slice_set};
 ghost use Rattle.goal_parser.specs.Plans.{empty_plan};
 
 use goal_graph::RankPlan;
 use std::alloc::{AllocError, Global};
 
-/// So many empty plans.
+/// Creates `count` empty plans. `Err` means out of memory.
 pub fn empty_plans(alloc: Global, count: u64) -> Result<Vec<RankPlan>, AllocError>
     ensures { IfOk result (λ plans. plans.items ≡ replicate count empty_plan) }
 {
@@ -20,7 +20,7 @@ pub fn empty_plans(alloc: Global, count: u64) -> Result<Vec<RankPlan>, AllocErro
     Ok(plans)
 }
 
-/// Puts the plan of a block in the place of its rank.
+/// Replaces the plan of a rank by that of its block.
 pub fn put(plans: &mut Vec<RankPlan>, rank: u64, plan: RankPlan)
     ensures { plans.new.items ≡ slice_set plans.old.items rank plan }
 {

@@ -23,7 +23,7 @@ pub struct Ranks {
 }
 
 impl Ranks {
-    /// What no token has given.
+    /// The state before any token.
     pub fn new(alloc: Global) -> Ranks
         ensures count { result.count ≡ 0 }
         ensures present { result.present ≡ 0 }
@@ -36,7 +36,7 @@ impl Ranks {
         }
     }
 
-    /// Why the number behind `rank` is refused, if it is.
+    /// Returns why the number after `rank` is refused, if it is.
     fn numbered_fault(&self, state: State, value: u64, at: u64) -> Option<TokenFault>
         ensures { option_map fault_in_text result ≡ numbered_rank_fault state self.now.count self.now.blocks.keys value at }
     {
@@ -54,7 +54,7 @@ impl Ranks {
         }
     }
 
-    /// Why the token is refused as a rank, if it is.
+    /// Returns why the token is refused as a rank, if it is.
     #[tactic(auto, unfolding(crate::specs::Faults::rank_fault))]
     pub fn fault(&self, state: State, token: &Token) -> Option<TokenFault>
         ensures { option_map fault_in_text result ≡ rank_fault state self.now.count self.now.blocks.keys token.now }
@@ -65,7 +65,7 @@ impl Ranks {
         }
     }
 
-    /// Takes the rank of a new block, which had none before.
+    /// Takes the rank of a new block; it had none before. `Err` means out of memory.
     pub fn take(&mut self, value: u64) -> Result<(), AllocError>
         requires new { list_any (nat_eq value) self.old.blocks.keys ≡ false }
         ensures count { OnOk result (self.new.count ≡ self.old.count) }

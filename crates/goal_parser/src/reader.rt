@@ -1,4 +1,4 @@
-//! The reader: from the bytes of a text to its plans.
+//! The reader, from the bytes of a text to its plans.
 ghost use Rattle.std.specs.Prelude.{◌≡◌, ◌≢◌, ℕ, ◌+◌, ◌<◌, ◌≤◌, ◌⊎◌, ◌^◌, true, false, List, [], ◌∷◌, ◌++◌, length, take, drop, None, Some, OnOk, IfOk, IfErr, reverse, option_to_list};
 ghost use Rattle.goal_lexer.specs.Stands.{begins_run};
 ghost use Rattle.goal_lexer.specs.declared.tokens.Token.{Token};
@@ -17,15 +17,15 @@ use std::alloc::Global;
 /// Reads a text, piece by piece.
 #[derive(Drop)]
 pub struct Reader {
-    /// Takes the bytes, and hands out the tokens.
+    /// Takes the bytes, and returns the tokens.
     pub lexer: Lexer,
     /// Takes the tokens.
     pub parser: Parser,
-    /// How many bytes were taken.
+    /// The number of bytes taken.
     pub place: u64,
 }
 
-/// Why the text may not end here, in this state, if it may not.
+/// Returns why the text may not end here in this state, if it may not.
 fn end_fault(state: State, place: u64) -> Option<TokenFault>
     ensures { option_map fault_in_text result ≡ end_fault state place }
 {
@@ -38,7 +38,7 @@ fn end_fault(state: State, place: u64) -> Option<TokenFault>
 impl Reader {
     ghost use Rattle.goal_parser.specs.Reader.{StandsFor};
 
-    /// A reader that has taken no byte.
+    /// Creates a reader that has taken no byte.
     pub fn new(alloc: Global) -> Reader
         ensures stands { StandsFor result [] }
         ensures place { result.place ≡ 0 }
@@ -52,8 +52,8 @@ impl Reader {
         }
     }
 
-    /// Takes bytes from the front of `rest` up to the end of a token, and that token, which is written to its place. The
-    /// answer is how many.
+    /// Takes bytes from the front of `rest` up to the end of a token, and that token, which is written to `token`.
+    /// Returns the number of bytes.
     #[inline(always)]
     fn step(&mut self, rest: &[u8], token: &mut Token) -> Result<usize, TokenFault>
         requires some { 0 < length rest.now }
@@ -85,7 +85,7 @@ impl Reader {
         }
     }
 
-    /// Takes a piece of the text. The next piece goes on where this one ends.
+    /// Takes a piece of the text. The next piece continues after it.
     pub fn feed(&mut self, piece: &[u8]) -> Result<(), TokenFault>
         requires place { self.old.place + length piece.now < 2 ^ 64 }
         requires same { self.old.lexer.place ≡ self.old.place }
@@ -127,7 +127,7 @@ impl Reader {
         }
     }
 
-    /// The plans of the text, which ends here.
+    /// Ends the text, and returns its plans.
     pub fn finish(self) -> Result<Vec<RankPlan>, TokenFault>
         requires { self.lexer.place ≡ self.place }
         ensures ok { IfOk result (λ plans. (text : List ℕ) → StandsFor self text → (text_fault text ≡ None) × (plans.items ≡ text_plans text)) }

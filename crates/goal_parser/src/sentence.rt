@@ -1,67 +1,67 @@
-//! The sentences of a text: which token may follow.
+//! The grammar of a text: which token may follow.
 ghost use Rattle.std.specs.Prelude.{◌≡◌};
 ghost use Rattle.goal_parser.specs.Sentence.{item_entry, entry};
 
 use goal_lexer::TokenKind;
 
-/// Where a text stands, between two tokens.
+/// The state of the grammar between two tokens.
 #[derive(Clone, Copy)]
 pub enum State {
     /// Before the first token.
     Start,
-    /// Behind `num_ranks`.
+    /// After `num_ranks`.
     Ranks,
     /// Between blocks: the text may end here.
     Top,
-    /// Behind `rank`.
+    /// After `rank`.
     Block,
-    /// Behind the number of a rank.
+    /// After the number of a rank.
     Open,
     /// In a block, where an item begins.
     Item,
-    /// Behind the label that an item begins with.
+    /// After the label at the beginning of an item.
     Word,
-    /// Behind `requires` or `irequires`.
+    /// After `requires` or `irequires`.
     Label,
-    /// Behind `moves` or `adds`.
+    /// After `moves` or `adds`.
     Note1,
-    /// Behind the first slot of a note.
+    /// After the first slot of a note.
     Note2,
-    /// Behind the `to` of a note.
+    /// After the `to` of a note.
     Note3,
-    /// Behind the colon of a label.
+    /// After the colon of a label.
     Action,
-    /// Behind `calc`.
+    /// After `calc`.
     Calc1,
-    /// Behind the time of a calc, or behind an option's number.
+    /// After the duration of a calc, or after an option's number.
     Calc2,
-    /// Behind the `cpu` of a calc.
+    /// After the `cpu` of a calc.
     Calc3,
-    /// Behind `send`.
+    /// After `send`.
     Send1,
-    /// Behind the size of a send.
+    /// After the size of a send.
     Send2,
-    /// Behind the `to` of a send.
+    /// After the `to` of a send.
     Send3,
-    /// Behind the target of a send, or behind an option's number.
+    /// After the target of a send, or after an option's number.
     Send4,
-    /// Behind an option's word of a send.
+    /// After an option's word of a send.
     Send5,
-    /// Behind `recv`.
+    /// After `recv`.
     Recv1,
-    /// Behind the size of a receive.
+    /// After the size of a receive.
     Recv2,
-    /// Behind the `from` of a receive.
+    /// After the `from` of a receive.
     Recv3,
-    /// Behind the source of a receive, or behind an option's number.
+    /// After the source of a receive, or after an option's number.
     Recv4,
-    /// Behind the `tag` of a receive.
+    /// After the `tag` of a receive.
     Recv5,
-    /// Behind the `cpu` or `nic` of a receive.
+    /// After the `cpu` or `nic` of a receive.
     Recv6,
 }
 
-/// The state behind a token that an item begins with, or that ends a block.
+/// Returns the state after a token that begins an item or ends a block.
 fn item_entry(kind: &TokenKind) -> Option<State>
     ensures { result ≡ item_entry kind.now }
 {
@@ -75,7 +75,7 @@ fn item_entry(kind: &TokenKind) -> Option<State>
     }
 }
 
-/// The state behind a token of this kind, where there is one.
+/// Returns the state after a token of this kind, or `None` if it may not follow.
 #[inline(always)]
 #[tactic(auto, unfolding(crate::specs::Sentence::entry))]
 pub fn entry(state: State, kind: &TokenKind) -> Option<State>

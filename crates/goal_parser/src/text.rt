@@ -10,7 +10,7 @@ use crate::pieces::TextReader;
 use goal_graph::Sched;
 use std::alloc::Global;
 
-/// The schedule of a text that is one piece, or the first fault.
+/// Returns the schedule of a text that is one piece, or its first fault.
 fn schedule_of(alloc: Global, text: &[u8]) -> Result<Sched, TextFault>
     ensures ok { IfOk result (λ sched. reads text.now ≡ plans sched) }
     ensures accepted { IfOk result (λ sched. IsAccepted sched) }
@@ -24,27 +24,30 @@ fn schedule_of(alloc: Global, text: &[u8]) -> Result<Sched, TextFault>
     }
 }
 
-/// The schedule of a text.
+/// Returns the schedule of a text.
 ///
 /// # Errors
 ///
-/// The first fault of the text: that of the first token, in the text's order, that fails a test; the byte where no
-/// token can be taken, or the end of the text, count as a last token. Where the text has no such fault, the first
-/// fault of its plans, which is neither `Count` nor `Value`. And want of memory.
+/// - The fault of the first token that fails a test. A byte where no token can be taken, or the end of the text, counts
+/// as
+///   a last token.
+/// - If there is none, the first fault of the plans, which is neither `Count` nor `Value`.
+/// - `NoMemory`.
 pub fn read_text(alloc: Global, text: &[u8]) -> Result<Sched, TextFault>
     // The plans are those of the text, and they are a schedule.
     ensures ok { IfOk result (λ sched. reads text.now ≡ plans sched) }
     ensures accepted { IfOk result (λ sched. IsAccepted sched) }
 
-    // So it has a compiled file, which is read as it.
+    // Its numbers fit the widths of a compiled file.
     ensures widths { IfOk result (λ sched. AreInWidth sched) }
 
-    // The fault is that of the text, or else that of its plans; and where there is one, it is told.
+    // The fault is that of the text, or else that of its plans; and every such fault is returned, unless memory runs
+    // out.
     ensures fault { IfErr result (λ fault. fault ≢ TextFault.NoMemory → IsFaultOf (reads text.now) fault) }
     ensures faults { (fault : TextFault) → IsFaultOf (reads text.now) fault
         → IsErrOf result fault ⊎ IsErrOf result TextFault.NoMemory }
 
-    // A text that says plans keeps the limits of counts and values.
+    // The fault is never that of a count or a value over its limit.
     ensures limits { IfErr result (λ fault. IsLimitFault fault → ⊥) }
 {
     schedule_of(alloc, text)

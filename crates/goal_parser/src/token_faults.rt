@@ -6,8 +6,8 @@ ghost use Rattle.goal_parser.specs.FaultInText.{fault_in_text};
 use crate::faults::TextFault;
 use std::alloc::{AllocError, AllocFailed};
 
-/// Why a token is refused, or the place where none begins, or the end of the text: a [`TextFault`] in a quarter of its
-/// size, since every token has such an answer.
+/// Why a token is refused, or no token begins at a place, or the text may not end. It is a [`TextFault`] in a quarter
+/// of its size, since every token has such a result.
 #[derive(Clone, Copy)]
 pub enum TokenFault {
     /// [`TextFault::Lex`]
@@ -28,7 +28,7 @@ pub enum TokenFault {
     NoMemory,
 }
 
-/// The fault of a token, as that of the text.
+/// Returns the fault of a token as a fault of the text.
 pub fn fault_in_text(fault: TokenFault) -> TextFault
     ensures { result ≡ fault_in_text fault }
 {

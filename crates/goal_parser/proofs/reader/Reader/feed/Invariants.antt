@@ -13,6 +13,6 @@ invariant-loop-at l = record {
   stands : (text : List ℕ) → StandsFor l.initial.self text → StandsFor l.self (text ++ take l.at l.piece);
 }
 
--- the bytes left, and whether the run before them was handed out
+-- the bytes left, and whether the run before them was returned
 abbrev pub decreases-loop-at : goal.decreases-loop-at
 decreases-loop-at l = 2 * (length l.piece - l.at) + (if l.self.lexer.ends_run then 0 else 1)
