@@ -3,7 +3,7 @@ use Rattle.std.proofs.Common.{◌≡◌, ◌+◌, ◌<◌, ℕ, List, ◌++◌, 
 use Rattle.std.specs.List.{flat_map}
 use Rattle.std.proofs.lemmas.List.{flat_map_more, take_more}
 
--- one item more
+-- another item
 pub one_appended : {X : Type 0} (spelled : X → List ℕ) (before out new : List ℕ) (xs : List X) (i : ℕ) (x : X) → i < length xs → out ≡ before ++ flat_map spelled (take i xs) → new ≡ out ++ spelled (get_or xs i x) → new ≡ before ++ flat_map spelled (take (i + 1) xs)
 one_appended spelled before out new xs i x l so_far now =
     now ∙ ap (λ bytes. bytes ++ spelled (get_or xs i x)) so_far ∙ flat_map_more spelled before (take i xs) (get_or xs i x) ∙ ap (λ ys. before ++ flat_map spelled ys) (sym (take_more xs i x l))

@@ -1,4 +1,4 @@
--- The file of a schedule, cut or with more behind it; and bytes with which no file begins.
+-- The file of a schedule, cut off or with more after it; and bytes with which no file begins.
 use Rattle.std.proofs.Common.{◌≡◌, ℕ, ◌<◌, Bool, true, false, cond, ltb, List, ◌∷◌, ◌++◌, length, take, drop, Result, Ok, Err, refl, sym, ap, subst, ◌∙◌, arith, inl, inr}
 use Rattle.std.proofs.lemmas.Bool.{lt-ltb, ltb-false}
 use Rattle.std.proofs.lemmas.List.{take-append-drop, length-append, length-take}
@@ -13,7 +13,7 @@ use Rattle.goal_binary.specs.Laws.{IsSchedule, IsOfField}
 use Rattle.goal_binary.proofs.RanksAgain.{meaning_again}
 use Rattle.goal_binary.proofs.Follows.{Agree, IsPlaced, behind, plans_follow}
 
--- what so many bytes mean where their front is read so
+-- the meaning of bytes of this length, if a prefix of them is read so
 abbrev ended : (len : ℕ) (x : List Plan × ℕ) (b : Bool) → Result (List Plan) FileFault
 ended len x b = cond b (Err (Extra x.1)) (Ok x.0)
 
@@ -32,7 +32,7 @@ not_early len n plans (Ok x) means placed less =
     absurd cc
 not_early len n plans (Err f) means placed less = absurd cc
 
--- plans behind which more bytes stand
+-- plans after which more bytes follow
 first_extra : (len longer : ℕ) (plans : List Plan) (r : Read (List Plan)) → judged len r ≡ Ok plans → IsPlaced len behind r → len < longer → judged longer r ≡ Err (Extra len)
 first_extra len longer plans (Ok x) means placed less = go (ltb x.1 len) refl means
   where

@@ -1,4 +1,4 @@
--- Each fault that bytes have is answered, or want of memory.
+-- Each fault of bytes is returned, unless memory runs out.
 use Rattle.std.proofs.Common.{◌≡◌, ◌≢◌, ◌⊎◌, inl, inr, List, ℕ, Result, Ok, Err, IfOk, IfErr, IsErrOf, sym, ap, subst, ◌∙◌, refl}
 use Rattle.goal_graph.specs.Schedule.{Plan}
 use Rattle.goal_graph.specs.Fault.{IsAccepted}
@@ -7,7 +7,7 @@ use Rattle.goal_binary.specs.declared.fault.FileFault.{FileFault}
 use Rattle.goal_binary.specs.declared.fault.FileFault.TheVariants as fault
 use Rattle.goal_binary.specs.Meaning.{meaning, IsFaultOf, IsFileFault}
 
--- bytes have one fault at most, and none where they mean a schedule
+-- bytes have at most one fault, and none if they mean a schedule
 one_fault : (r : Result (List Plan) FileFault) (f g : FileFault) → IsFaultOf r f → IsFaultOf r g → f ≡ g
 one_fault (Err first) f g is other = sym is ∙ other
 one_fault (Ok plans) (fault.Plan f) (fault.Plan g) is other = ap fault.Plan (IsFault-unique plans f g is other)

@@ -1,4 +1,4 @@
--- Plans that bytes mean have a file, and what the faults of bytes say of them is true.
+-- Plans that bytes mean have a file, and the faults of bytes describe them.
 use Rattle.std.proofs.Common.{◌≡◌, ℕ, ◌+◌, ◌<◌, ◌≤◌, Bool, true, false, cond, ltb, List, [], ◌∷◌, ◌++◌, length, take, drop, Result, Ok, Err, refl, sym, ap, subst, ◌∙◌, append_assoc, arith, inl, inr}
 use Rattle.std.proofs.lemmas.Bool.{le-ltb}
 use Rattle.std.proofs.lemmas.Bool.Decides.{nat_tests}
@@ -25,7 +25,7 @@ use Rattle.goal_binary.proofs.RanksRead.{body, body_reads}
 use Rattle.goal_binary.proofs.Limits.{body_gives}
 use Rattle.goal_binary.proofs.Opening.{front_bytes, plans_is, IsOpened, IsClosed, opened_is, open_or_closed}
 
--- what plans mean that end at a place
+-- the meaning of plans that end at a place
 abbrev ended : ℕ → List Plan × ℕ → Result (List Plan) FileFault
 ended len x = cond (ltb x.1 len) (Err (fault.Extra x.1)) (Ok x.0)
 
@@ -60,7 +60,7 @@ ok_or_extra len n plans found e = go (ltb n len) e
     go false e = cc
 
 module _ (l : Layout) where
-  -- bytes with the same front are opened too
+  -- bytes with the same prefix are opened too
   opened_too : (bytes other : List ℕ) (n : ℕ) → 12 ≤ n → n ≤ length bytes → take n other ≡ take n bytes → IsOpened l bytes → IsOpened l other
   opened_too bytes other n long within same open_so =
       record { whole = omega (arith, long_enough n other bytes same within); front = take-shorter 12 n other bytes long same ∙ open_so.front }
@@ -93,7 +93,7 @@ within_limits bytes fits plans means = elim (open_or_closed bytes fits) [
     go l open_so (Err f) e = let stopped = sym (meaning_err bytes f (opened_plans l bytes open_so ∙ e)) ∙ means in absurd cc
 
 module _ (l : Layout) where
-  -- bytes with which reading can go on begin a file
+  -- bytes after which reading can continue begin a file
   begins : (front : List ℕ) → IsBytes front → IsOpened l front → Completed (body l) 12 front → BeginAFile l front
   begins front fits open_so c =
       let whole = front ++ c.tail in
@@ -143,7 +143,7 @@ module _ (bytes : List ℕ) (fits : IsBytes bytes) where
   closed_true fault.NoMemory why = absurd why
 
   module _ (l : Layout) (open_so : IsOpened l bytes) where
-    -- no file goes on with the field
+    -- no file continues with the field
     no_file : (n : ℕ) (f : FileFault) → 12 ≤ n → n ≤ length bytes → ((other : List ℕ) → take n other ≡ take n bytes → body l other 12 ≡ Err f) → BeginAFile l (take n bytes) → ⊥
     no_file n f long within stopped b =
         let other = written l b.plans in

@@ -1,4 +1,4 @@
--- A field that is spelled so is read.
+-- A field that is written is read back.
 use Rattle.std.proofs.Common.{◌≡◌, ℕ, ◌+◌, ◌-◌, ◌^◌, ◌<◌, ◌≤◌, true, false, ltb, List, ◌∷◌, ◌++◌, length, get_or, take, drop, Some, Ok, refl, sym, ap, ◌∙◌, arith}
 use Rattle.std.specs.Prelude.{slice_get}
 use Rattle.std.specs.Str.{bytes_eq}
@@ -16,7 +16,7 @@ use Rattle.goal_binary.specs.Fields.{Read, byte_or_short, byte_at, word_at, u32_
 pub lt-ltb-true : (m n : ℕ) → m < n → ltb m n ≡ true
 lt-ltb-true m n h = grind (arith, nat_tests)
 
--- a reader gives this value, and the place from which on the bytes are these
+-- a reader gives this value, and the place from which on these bytes follow
 pub record IsReadAs {A : Type 0} (bytes : List ℕ) (read : Read A) (x : A) (rest : List ℕ) : Type 0 where
   pub place : ℕ
   pub is : read ≡ Ok (x, place)

@@ -46,7 +46,7 @@ fault_of f = Err f
 pub error_is : (d f : FileFault) → fault_of d ≡ fault_of f → d ≡ f
 error_is d f e = cc
 
--- what stands between two places is the same in bytes that are the same up to the later place
+-- what is between two places is the same in bytes that are the same up to the later place
 between : (at width : ℕ) (xs ys : List ℕ) → take (at + width) xs ≡ take (at + width) ys → take width (drop at xs) ≡ take width (drop at ys)
 between at width xs ys same = sym (drop-take at width xs) ∙ ap (drop at) same ∙ drop-take at width ys
 

@@ -1,4 +1,4 @@
--- A field that is read is spelled so.
+-- A field that is read has been written so.
 use Rattle.std.proofs.Common.{◌≡◌, ℕ, ◌+◌, ◌-◌, ◌≤◌, Bool, true, false, cond, ltb, leb, List, [], ◌∷◌, ◌++◌, length, take, drop, Option, Some, None, Ok, Err, refl, sym, ap, subst, ◌∙◌, arith, inl, inr}
 use Rattle.std.specs.Prelude.{slice_get}
 use Rattle.std.specs.Bool.{Decides}
@@ -39,7 +39,7 @@ wide32 = record { back = λ bytes len fits. le_bytes_4 bytes _ len fits refl }
 wide64 : IsWide w64
 wide64 = record { back = λ bytes len fits. le_bytes_8 bytes _ len fits refl }
 
--- a test that did not fail
+-- a test that passed
 guard_ok : {A : Type 0} (b : Bool) (d : FileFault) (x y : A) → cond b (Err d) (Ok x) ≡ Ok y → (b ≡ false) × (x ≡ y)
 guard_ok true d x y e = absurd cc
 guard_ok false d x y e = (refl, cc)
@@ -97,7 +97,7 @@ module _ (bytes : List ℕ) where
   unfolding u64_up_to
   u64_up_to_ok most at x e = up_to_ok (u64_at bytes at) most at x e
 
-  -- the magic stands at the front
+  -- the magic number is at the front
   pub magic_taken : (after : ℕ) → magic_at bytes ≡ Ok after → Takes bytes 0 MAGIC after
   unfolding magic_at
   magic_taken after e = go (ltb (length bytes) 8) (bytes_eq MAGIC (take 8 bytes)) (bytes_eq-Decides MAGIC (take 8 bytes)) e

@@ -1,4 +1,4 @@
--- An operation, a dependency or a note that is spelled so in version 1 is read.
+-- An operation, a dependency or a note written in version 1 is read back.
 use Rattle.std.proofs.Common.{Ok, ◌≡◌, ℕ, ◌^◌, ◌<◌, ◌≤◌, leb, eqb, true, List, ◌∷◌, ◌++◌, drop, Some, None, refl, ap, subst, ◌∙◌, arith}
 use Rattle.std.proofs.lemmas.Bool.Decides.{nat_tests}
 use Rattle.goal_limits.specs.declared.limits.TheConstants.{MAX_BYTES, MAX_NANOS}

@@ -1,4 +1,4 @@
--- An operation, a dependency or a note of version 1 that is read is spelled so.
+-- An operation, a dependency or a note read in version 1 has been written so.
 use Rattle.std.proofs.Common.{◌≡◌, ℕ, zero, suc, ◌≤◌, List, [], ◌∷◌, Ok, refl, sym, ap, subst, arith}
 use Rattle.goal_graph.specs.declared.plan.Op.{Op}
 use Rattle.goal_graph.specs.declared.plan.Dep.{Dep}
@@ -36,7 +36,7 @@ made_op-spelled (suc (suc zero)) (suc (suc (suc zero))) cpu nic peer tag size h 
 made_op-spelled (suc (suc zero)) (suc (suc (suc (suc f)))) cpu nic peer tag size h = absurd (omega (arith, h.flags_fit))
 made_op-spelled (suc (suc (suc k))) flags cpu nic peer tag size h = absurd (omega (arith, h.kind_fits))
 
--- a number of a dependency or of a note that may be 1 at most
+-- a number of a dependency or of a note that is at most 1
 pub when_of-code : (n : ℕ) → n ≤ 1 → when_code (when_of n) ≡ n
 when_of-code zero h = refl
 when_of-code (suc zero) h = refl

@@ -1,4 +1,4 @@
--- Bytes that follow do not matter for what is read before them.
+-- Bytes that follow do not change what is read before them.
 use Rattle.std.proofs.Common.{◌≡◌, ◌⊎◌, ℕ, ◌+◌, ◌≤◌, Bool, true, false, cond, ltb, List, ◌++◌, length, take, Option, Some, None, Result, Ok, Err, refl, sym, ap, subst, ◌∙◌, arith, inl, inr}
 use Rattle.std.specs.Str.{bytes_eq}
 use Rattle.std.proofs.lemmas.Bool.{cases_lt, lt-ltb, le-ltb}
@@ -14,7 +14,7 @@ use Rattle.goal_binary.proofs.Readers.{Reader, Reads, Halts}
 use Rattle.goal_binary.proofs.FieldsRead.{u32_reads}
 use Rattle.goal_binary.proofs.RanksRead.{body, body_reads}
 
--- a value stands within so many bytes
+-- a value is within the first n bytes
 abbrev pub IsPlaced : {A : Type 0} → ℕ → (A → ℕ) → Result A FileFault → Type 0
 IsPlaced len place (Ok x) = place x ≤ len
 IsPlaced len place (Err f) = Unit {0}
@@ -22,11 +22,11 @@ IsPlaced len place (Err f) = Unit {0}
 abbrev pub failed : (A : Type 0) → FileFault → Result A FileFault
 failed A f = Err f
 
--- What reading gives, and what it gives where more bytes follow: the bytes end first, or both are the same.
+-- What reading gives with and without more bytes: the bytes end first, or both are the same.
 pub record Agree {A : Type 0} (len : ℕ) (place : A → ℕ) (cut whole : Result A FileFault) : Type 0 where
   pub is : (cut ≡ failed A (Short len)) ⊎ ((whole ≡ cut) × IsPlaced len place cut)
 
--- the place behind a value
+-- the place after a value
 abbrev pub behind : {A : Type 0} → A × ℕ → ℕ
 behind x = x.1
 
@@ -57,7 +57,7 @@ module _ (len : ℕ) where
   agree_test place true x f within = agree_ok place x within
   agree_test place false x f within = record { is = inr (refl, tt) }
 
--- a reader says of the front what it says of all, or that the front is short
+-- a reader gives the same for a prefix as for the whole, or finds that the prefix is short
 module _ {l : Layout} {A : Type 0} {V : A → Type 0} {P : Reader A} (reads : Reads l V P) (bytes more : List ℕ) where
   halts_follow : (at place width : ℕ) (fault : FileFault) → Halts P bytes at place width fault → P bytes at ≡ Err fault → Agree (length bytes) behind (P bytes at) (P (bytes ++ more) at)
   halts_follow at place width (Short n) how e = record { is = inl (e ∙ ap (λ (k : ℕ). Err (Short k)) how.0) }

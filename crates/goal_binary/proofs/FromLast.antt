@@ -1,4 +1,4 @@
--- The groups of a packed number, put together from the last one on.
+-- The groups of a packed number, joined from the last one to the first.
 use Rattle.std.proofs.Common.{◌≡◌, ℕ, zero, suc, ◌+◌, ◌-◌, ◌<◌, ◌≤◌, List, length, get_or}
 use Rattle.std.proofs.Common.{Option, Some, None, Ok, Err, refl, sym, ap, subst, ◌∙◌, arith, inl, inr}
 use Rattle.std.proofs.lemmas.Bool.{cases_lt, lt-ltb, le-ltb}
@@ -19,7 +19,7 @@ module _ (bytes : List ℕ) where
   unfolding byte_at
   byte_not_there at past = ap (byte_or_short bytes at) (slice_get_past bytes at past)
 
-  -- a byte that is not below 128, and so many of them
+  -- a byte that is at least 128, and several of them
   abbrev IsHigh : ℕ → Type 0
   IsHigh at = 128 ≤ get_or bytes at 0
 
@@ -45,7 +45,7 @@ module _ (bytes : List ℕ) where
       let here : at + (place - 1 - at) ≡ place - 1 = omega arith in
       subst IsHigh here (high (place - 1 - at) (omega arith))
 
-  -- its group, before those that are put together
+  -- its group, before those that are joined
   pub group_before : (left at place : ℕ) (v : Option ℕ) (after : ℕ) → at < place → place - at ≤ left
       → IsHigh (place - 1) → groups_at bytes (left - (place - at)) place ≡ Ok (read_of v after)
       → groups_at bytes (left - (place - 1 - at)) (place - 1) ≡ Ok (read_of (below (get_or bytes (place - 1) 0 - 128) v) after)
@@ -69,7 +69,7 @@ module _ (bytes : List ℕ) where
   pub no_group : (left at : ℕ) → left ≡ 0 → groups_at bytes left at ≡ Ok (read_of None at)
   no_group left at none = rw none (none_is bytes at)
 
-  -- the last group is not there
+  -- the last group is missing
   pub last_missing : (left more at : ℕ) (f : FileFault) → more < left → AreHigh more at → byte_at bytes (at + more) ≡ Err f
       → groups_at bytes left at ≡ Err f
   last_missing zero more at f few high e = absurd (omega (arith, few))

@@ -3,7 +3,7 @@ use Rattle.std.proofs.Common.{◌≡◌, ◌⊎◌, ℕ, zero, suc, ◌+◌, ◌
 use Rattle.std.proofs.lemmas.Bool.{cases_lt, lt-ltb, le-ltb}
 use Rattle.goal_binary.specs.File.{groups}
 
--- a number has so many groups at most
+-- the most groups of a number
 abbrev pub Fits : ℕ → ℕ → Type 0
 Fits zero n = ⊥
 Fits (suc left) n = (n < 128) ⊎ Fits left (n / 128)
@@ -36,7 +36,7 @@ pub groups-high : (left n : ℕ) → 128 ≤ n → groups (suc left) n ≡ (128 
 unfolding groups
 groups-high left n high = rw (le-ltb n 128 high) refl
 
--- so many groups at most
+-- at most this many groups
 pub length-groups : (most left n : ℕ) → Fits most n → length (groups left n) ≤ most
 unfolding groups
 length-groups zero left n fit = absurd fit

@@ -1,4 +1,4 @@
--- An operation, a dependency or a note that is spelled so is read, in both layouts; and so are many.
+-- An operation, a dependency or a note that is written is read back, in both layouts; so are lists of them.
 use Rattle.std.proofs.Common.{◌≡◌, ℕ, List, [], ◌∷◌, ◌++◌, length, drop, refl, ap, ◌∙◌, append_assoc}
 use Rattle.std.specs.List.{flat_map, AllByRecursion}
 use Rattle.std.proofs.lemmas.List.Concat.{flat_map-cons}

@@ -1,4 +1,4 @@
--- An operation, a dependency or a note that is read is spelled so, in both layouts.
+-- An operation, a dependency or a note that is read has been written so, in both layouts.
 use Rattle.std.proofs.Common.{◌≡◌, ℕ, List, Ok}
 use Rattle.goal_graph.specs.declared.plan.Op.{Op}
 use Rattle.goal_graph.specs.declared.plan.Dep.{Dep}

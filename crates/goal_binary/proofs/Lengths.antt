@@ -1,4 +1,4 @@
--- How many bytes the files have.
+-- The lengths of the files.
 use Rattle.std.proofs.Common.{◌≡◌, ℕ, ◌+◌, ◌*◌, ◌^◌, ◌<◌, ◌≤◌, Bool, true, false, cond, List, [], ◌∷◌, ◌++◌, length, refl, ap, arith}
 use Rattle.std.specs.List.{flat_map, AllByRecursion}
 use Rattle.std.proofs.lemmas.List.{length-append}
@@ -25,7 +25,7 @@ use Rattle.goal_binary.proofs.FixedAgain.{kind_fits, when_code-le}
 use Rattle.goal_binary.proofs.PackedItems.{is_some, packed_if, byte_is}
 use Rattle.goal_binary.proofs.PackedAgain.{peer_is, tag_is}
 
--- items of which each has so many bytes
+-- items that each have this number of bytes
 length-items : {A : Type 0} (spelled : A → List ℕ) (size : ℕ) → ((x : A) → length (spelled x) ≡ size) → (xs : List A) → length (flat_map spelled xs) ≡ size * length xs
 length-items spelled size each [] = omega arith
 length-items spelled size each (x ∷ xs) = rw (flat_map-cons spelled x xs, length-append (spelled x) (flat_map spelled xs), each x, length-items spelled size each xs) (omega arith)
@@ -92,7 +92,7 @@ old-within plans counts =
     let within : length (old plans) ≤ 93061136 = omega (arith, length-old plans, counts.ranks, counts.ops, counts.deps, counts.notes) in
     (within, omega (arith, within))
 
--- items of which each has so many bytes at most
+-- items that each have at most this number of bytes
 length-items-le : {A : Type 0} (spelled : A → List ℕ) (size : ℕ) (P : A → Type 0) → ((x : A) → P x → length (spelled x) ≤ size) → (xs : List A) → AllByRecursion P xs → length (flat_map spelled xs) ≤ size * length xs
 length-items-le spelled size P each [] all = omega arith
 length-items-le spelled size P each (x ∷ xs) all =

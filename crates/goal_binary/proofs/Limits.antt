@@ -1,4 +1,4 @@
--- What is read of bytes has a file: its numbers have room, its sizes and counts are within their limits.
+-- What is read of bytes has a file: its numbers fit, and its sizes and counts are within their limits.
 use Rattle.std.proofs.Common.{◌≡◌, ◌⊎◌, ℕ, zero, suc, ◌/◌, ◌%◌, ◌^◌, ◌<◌, ◌≤◌, Bool, true, false, cond, eqb, ltb, leb, ◌||◌, Option, Some, None, List, [], ◌∷◌, ◌++◌, length, take, drop, Ok, All, refl, sym, ap, subst, ◌∙◌, arith, inl, inr}
 use Rattle.std.specs.List.{AllByRecursion}
 use Rattle.std.proofs.lemmas.Bool.{le-leb}
@@ -69,7 +69,7 @@ byte_gives = gives_as (field 1 first_of always) byte_at byte_is (field_gives 1 f
 u32_gives : Gives (λ n. n < 2 ^ 32) u32_at
 u32_gives = gives_as (field 4 value_32 always) u32_at u32_is (field_gives 4 value_32 always (omega arith) (λ text len fits passed. value_32-lt text fits))
 
--- a number of so many bits that is at most so large
+-- a number of this number of bits that is at most the limit
 record IsUpTo (most bits n : ℕ) : Type 0 where
   below : n ≤ most
   width : n < 2 ^ bits
@@ -167,7 +167,7 @@ fixed_note_gives =
     gives_then u32_gives (λ second c.
     gives_it {V = IsNoteInWidth} (note_of kind op first second) (note_fits kind op first second a b c))))))
 
--- a number that is 0 where it is not there
+-- a number that is 0 if it is missing
 record IsThere (there : Bool) (bits n : ℕ) : Type 0 where
   width : n < 2 ^ bits
   none : there ≡ false → n ≡ 0
@@ -196,7 +196,7 @@ unfolding packed_u32_if
 packed_u32_if_gives true = record { valid = λ bytes fits at x after e. packed_u32_gives.valid bytes fits at x after e }
 packed_u32_if_gives false = record { valid = λ bytes fits at x after e. omega (arith, number_pair 0 x at after e) }
 
--- a head has a nic only where its operation may
+-- a head has a nic only if its operation may have one
 abbrev HasRoom : Head → Type 0
 HasRoom h = (h.has_nic ≡ false) ⊎ (most_nic h.form ≡ 255)
 

@@ -1,4 +1,4 @@
--- A file whose plans are no schedule keeps the limits of counts and values.
+-- A file whose plans are no schedule is still within the limits of counts and values.
 use Rattle.std.proofs.Common.{◌≡◌, ◌≢◌, ℕ, List, Result, Ok, Err, refl, subst}
 use Rattle.std.specs.Prelude.{IfErr}
 use Rattle.goal_graph.specs.Schedule.{Plan}

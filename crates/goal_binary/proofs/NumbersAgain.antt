@@ -1,4 +1,4 @@
--- A number, the magic and the version that are spelled so are read.
+-- A number, the magic number and the version are read back as written.
 use Rattle.std.proofs.Common.{◌≡◌, ℕ, ◌+◌, ◌^◌, ◌<◌, ◌≤◌, List, ◌++◌, drop, Some, Option, refl, ap, arith}
 use Rattle.std.proofs.lemmas.Bool.{le-leb}
 use Rattle.goal_limits.specs.declared.limits.TheConstants.{MAX_RANKS}

@@ -42,7 +42,7 @@ passes_is : (test : ℕ → Bool) (bytes : List ℕ) (at x after : ℕ) → Pass
 passes_is test bytes at x after p =
     tested_is test bytes at ∙ ap (judged test at) p.read ∙ ap (λ (b : Bool). allow b at (pair x after)) p.passed
 
--- a whole field whose number is none that passes
+-- a whole field whose number does not pass
 abbrev Fails : (ℕ → Bool) → Option ℕ → Type 0
 Fails test None = Unit {0}
 Fails test (Some n) = test n ≡ false
@@ -114,7 +114,7 @@ module _ {V : ℕ → Type 0} (test : ℕ → Bool) (valid : (n : ℕ) → test 
     stops = stops;
   }
 
--- a packed number that is at most so large
+-- a packed number that is at most the limit
 pub packed_up_to_reads : (most : ℕ) → Reads Packed (λ n. n ≤ most) (λ bytes at. packed_up_to bytes most at)
 unfolding packed_up_to
 packed_up_to_reads most =

@@ -1,4 +1,4 @@
--- A number, the magic and the version that are read are spelled so.
+-- A number, the magic number and the version that are read have been written so.
 use Rattle.std.proofs.Common.{◌≡◌, ℕ, zero, suc, ◌+◌, ◌≤◌, leb, ltb, ◌&&◌, List, ◌++◌, Option, Some, None, Ok, refl, sym, ap, subst, ◌∙◌}
 use Rattle.goal_limits.specs.declared.limits.TheConstants.{MAX_RANKS}
 use Rattle.goal_binary.specs.declared.layout.TheConstants.{MAGIC}
@@ -11,7 +11,7 @@ use Rattle.goal_binary.proofs.Steps.{IsBytes, bind_ok, allow_ok, ok_is, Takes, T
 use Rattle.goal_binary.proofs.FieldsTaken.{u32_taken, magic_taken, up_to_ok}
 use Rattle.goal_binary.proofs.Packed.{packed_taken}
 
--- the layout of a version is named by it
+-- the layout of a version has that version
 pub named_so : (n : ℕ) (l : Layout) → layout_of n ≡ Some l → version_of l ≡ n
 named_so zero l e = absurd cc
 named_so (suc zero) Fixed e = refl

@@ -72,7 +72,7 @@ option_fault f = Err f
 option_error : (d f : FileFault) → option_fault d ≡ option_fault f → d ≡ f
 option_error d f e = cc
 
--- the groups behind the first
+-- the groups after the first
 abbrev rest_of : (bytes : List ℕ) (left : ℕ) → ℕ × ℕ → Bool → Read (Option ℕ)
 rest_of bytes left group low = cond low (Ok (Some group.0, group.1)) (groups_at bytes left group.1 >>= λ others. Ok (read_of (below (group.0 - 128) others.0) others.1))
 
@@ -192,7 +192,7 @@ module _ (bytes : List ℕ) where
       let ends = step_ends left (groups_end left) at v after e in
       record { from = omega (arith, ends.from); inside = ends.inside; few = omega (arith, ends.few) }
 
-  -- a field that has groups has one at least
+  -- a field with groups has at least one
   pub field_ends : (left at : ℕ) (v : Option ℕ) (after : ℕ) → groups_at bytes (suc left) at ≡ Ok (read_of v after) → EndsAt left (at + 1) after
   field_ends left at v after e = step_ends left (groups_end left) at v after e
 
@@ -300,7 +300,7 @@ packed_again bytes at n rest lt h =
     let r = groups_again bytes 10 at n rest (fits_10 n lt) lt h in
     record { place = r.place; is = ap (λ (g : Read (Option ℕ)). g >>= λ number. given at number.0 number.1) r.is; rest_is = r.rest_is }
 
--- no packed number is the front of another
+-- no packed number is a prefix of another
 pub packed_apart : (m n : ℕ) (xs ys : List ℕ) → m < 2 ^ 64 → n < 2 ^ 64 → packed m ++ xs ≡ packed n ++ ys → (m ≡ n) × (xs ≡ ys)
 packed_apart m n xs ys few_m few_n joined =
     let bytes = packed m ++ xs in

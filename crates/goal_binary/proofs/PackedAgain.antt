@@ -1,4 +1,4 @@
--- An operation, a dependency or a note that is spelled so in version 2 is read.
+-- An operation, a dependency or a note written in version 2 is read back.
 use Rattle.std.proofs.Common.{Ok, ◌≡◌, ℕ, zero, suc, ◌+◌, ◌*◌, ◌/◌, ◌%◌, ◌^◌, ◌<◌, Bool, true, false, cond, ltb, leb, ◌||◌, List, [], ◌∷◌, ◌++◌, drop, Some, None, refl, sym, ap, subst, ◌∙◌, append_assoc, arith}
 use Rattle.std.proofs.lemmas.Bool.{lt-ltb, ltb-false}
 use Rattle.std.proofs.lemmas.Bool.Decides.{nat_tests}
@@ -20,7 +20,7 @@ use Rattle.goal_binary.proofs.NumbersAgain.{packed_up_to_again}
 use Rattle.goal_binary.proofs.FixedAgain.{AreFitting, kind_again, kind_fits, when_again, when_code-le}
 use Rattle.goal_binary.proofs.PackedItems.{is_some, joined, IsHead, parts_of, head_passes, packed_if, flag_is, byte_is}
 
--- the form of an operation, and what its head tells
+-- the form of an operation, and the parts of its head
 abbrev form_in : Kind → Form
 form_in k = form_of (kind_code k) (flags_of k)
 
@@ -33,7 +33,7 @@ joined_in o = joined (kind_code o.kind) (flags_of o.kind) (is_some o.cpu) (is_so
 code_is : (o : Op) → head_code o ≡ joined_in o
 code_is o = rw (flag_is 16 o.cpu, flag_is 32 o.nic) refl
 
--- the peer and the tag, as they are spelled and as the form says
+-- the peer and the tag, as written and as the form says
 pub peer_is : (k : Kind) → packed_if_some (peer_in k) ≡ packed_if (has_peer (form_in k)) (peer_of k)
 peer_is (Calc nanos) = refl
 peer_is (Send bytes to tag) = refl
@@ -132,7 +132,7 @@ module _ (bytes : List ℕ) where
   unfolding packed_op_at
   op_steps at head cpu nic peer tag size a b c d e f = rw (a, b, c, d, e, f) refl
 
-  -- the head and what it tells
+  -- the head and its parts
   op_head : (o : Op) (at : ℕ) (rest : List ℕ) → OpFits o → drop at bytes ≡ head_code o ∷ rest → IsReadAs bytes (head_at bytes at) (told o) rest
   op_head o at rest fits h =
       let k = o.kind in

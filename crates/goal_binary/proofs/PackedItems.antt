@@ -125,7 +125,7 @@ flags_of-of (suc (suc zero)) (suc (suc (suc zero))) peer tag size k h = refl
 flags_of-of (suc (suc zero)) (suc (suc (suc (suc f)))) peer tag size k h = absurd (omega (arith, h))
 flags_of-of (suc (suc (suc n))) flags peer tag size k h = absurd (omega (arith, k))
 
--- a packed number that is there, or nothing
+-- a packed number, or nothing
 abbrev pub packed_if : Bool → ℕ → List ℕ
 packed_if there n = cond there (packed n) []
 
@@ -146,7 +146,7 @@ size_of-of form.Calc peer tag size = refl
 size_of-of form.Send peer tag size = refl
 size_of-of (form.Recv any_source any_tag) peer tag size = refl
 
--- a flag and a byte of what is not 0
+-- a flag, and a byte if it is not 0
 not_zero : (k : ℕ) → eqb (suc k) 0 ≡ false
 not_zero k = grind (arith, nat_tests)
 

@@ -27,7 +27,7 @@ use Rattle.goal_binary.proofs.NumbersAgain.{count_again, rank_count_again, openi
 use Rattle.goal_binary.proofs.PackedAgain.{regroup}
 use Rattle.goal_binary.proofs.ItemsAgain.{op_again, dep_again, note_again, list_again}
 
--- the counts of a rank, behind so many of the ranks before
+-- the counts of a rank after the ranks before it
 record AreFew (ops deps notes : ℕ) (p : Plan) : Type 0 where
   op_room : ops + length p.ops ≤ MAX_OPS
   dep_room : deps + length p.deps ≤ MAX_DEPS

@@ -1,4 +1,4 @@
--- Reading ranks one after the other, as a loop does.
+-- Reading ranks one after another, as a loop does.
 use Rattle.std.proofs.Common.{◌≡◌, ℕ, suc, ◌-◌, ◌+◌, ◌≤◌, ◌<◌, List, [], ◌∷◌, ◌++◌, length, Ok, Err, refl, sym, ◌∙◌, arith}
 use Rattle.std.proofs.lemmas.List.Sums.{sum_by_push}
 use Rattle.goal_graph.specs.Schedule.{Plan}
@@ -8,7 +8,7 @@ use Rattle.goal_binary.specs.declared.layout.Layout.{Layout}
 use Rattle.goal_binary.specs.Fields.{Read}
 use Rattle.goal_binary.specs.Reading.{rank_at, ranks_at}
 
--- one rank more
+-- another rank
 pub op_count-push : (ps : List Plan) (p : Plan) → op_count (ps ++ p ∷ []) ≡ op_count ps + length p.ops
 unfolding op_count
 op_count-push ps p = sum_by_push (λ (p : Plan). length p.ops) ps p
@@ -21,13 +21,13 @@ pub note_count-push : (ps : List Plan) (p : Plan) → note_count (ps ++ p ∷ []
 unfolding note_count
 note_count-push ps p = sum_by_push (λ (p : Plan). length p.notes) ps p
 
--- no rank has nothing
+-- no ranks have nothing
 pub no_counts : (op_count [] ≡ 0) × (dep_count [] ≡ 0) × (note_count [] ≡ 0)
 unfolding op_count dep_count note_count
 no_counts = (refl, refl, refl)
 
 module _ (bytes : List ℕ) (layout : Layout) where
-  -- the next rank, behind those before
+  -- the next rank, after those before
   abbrev pub next_rank : List Plan → ℕ → Read Plan
   next_rank before at = rank_at bytes layout (op_count before) (dep_count before) (note_count before) at
 

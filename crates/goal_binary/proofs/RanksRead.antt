@@ -16,7 +16,7 @@ use Rattle.goal_binary.proofs.Readers.{Reader, Reads, then, give, then_reads, gi
 use Rattle.goal_binary.proofs.NumbersRead.{count_reads, rank_count_reads}
 use Rattle.goal_binary.proofs.ItemsRead.{anything, op_reads, dep_reads, note_reads}
 
--- so many items
+-- n items
 abbrev pub list_of : {A : Type 0} → Reader A → ℕ → Reader (List A)
 list_of item n bytes at = list_at (item bytes) n at
 
@@ -29,7 +29,7 @@ list_reads {l = l} {A = A} item reads (suc n) =
     then_reads (list_reads item reads n) (λ xs len.
     give_reads {V = λ (xs : List A). length xs ≡ suc n} (x ∷ xs) (ap suc len))))
 
--- the counts of a rank, behind so many of the ranks before
+-- the counts of a rank after the ranks before it
 pub record AreFew (ops deps notes : ℕ) (p : Plan) : Type 0 where
   pub ops_within : ops + length p.ops ≤ MAX_OPS
   pub deps_within : deps + length p.deps ≤ MAX_DEPS
@@ -72,7 +72,7 @@ AreWithin-none : AreWithin []
 unfolding op_count dep_count note_count
 AreWithin-none = record { ops = omega arith; deps = omega arith; notes = omega arith }
 
--- so many ranks more
+-- n more ranks
 record AreRanks (n : ℕ) (plans : List Plan) : Type 0 where
   count : length plans ≡ n
   within : AreWithin plans
@@ -87,7 +87,7 @@ ranks_reads l (suc n) before within =
     (λ p few. let count : length (before ++ p ∷ []) + n ≡ length before + suc n = omega (arith, length-append before (p ∷ [])) in
     subst (λ (k : ℕ). Reads l (AreRanks k) (λ bytes at. ranks_at bytes l n (before ++ p ∷ []) at)) count (ranks_reads l n (before ++ p ∷ []) (AreWithin-next before p few))))
 
--- what follows the version: the number of ranks and the ranks
+-- what follows the version: the number of ranks, and the ranks
 abbrev pub body : Layout → Reader (List Plan)
 body l bytes at = records_at bytes l at
 

@@ -20,7 +20,7 @@ use Rattle.goal_binary.proofs.Steps.{IsBytes, bind_ok, ok_is, Takes, Takes-then}
 use Rattle.goal_binary.proofs.NumbersTaken.{number_taken, count_ok, rank_count_taken, opening_taken}
 use Rattle.goal_binary.proofs.ItemsTaken.{op_taken, dep_taken, note_taken}
 
--- a test that did not fail
+-- a test that passed
 guard_ok : {A : Type 0} (b : Bool) (d : FileFault) (x y : A) → cond b (Err d) (Ok x) ≡ Ok y → (b ≡ false) × (x ≡ y)
 guard_ok true d x y e = absurd cc
 guard_ok false d x y e = (refl, cc)

@@ -1,4 +1,4 @@
--- Readers: what one gives stands in the bytes that it takes, and a fault stands where the bytes before it can go on.
+-- Readers: the value of one is in the bytes that it takes, and a fault is where the bytes before it can still continue.
 use Rattle.std.proofs.Common.{◌≡◌, ℕ, ◌+◌, ◌-◌, ◌<◌, ◌≤◌, Bool, cond, ltb, List, [], ◌++◌, length, take, drop, Ok, Err, refl, sym, ap, subst, ◌∙◌, append_assoc, arith, inl, inr}
 use Rattle.std.proofs.lemmas.Bool.{cases_lt}
 use Rattle.std.proofs.lemmas.List.{append-nil, take-take, take-append-le, length-append, length-take, get_or_append_left, get_or-append_right}
@@ -12,7 +12,7 @@ use Rattle.goal_binary.proofs.Steps.{IsBytes, bind_ok, ok_is}
 abbrev pub Reader : Type 0 → Type 0
 Reader A = List ℕ → ℕ → Read A
 
--- one reader after the other
+-- one reader after another
 unfoldable pub then : {A B : Type 0} → Reader A → (A → Reader B) → Reader B
 then P Q bytes at = P bytes at >>= λ x. Q x.0 bytes x.1
 
@@ -20,7 +20,7 @@ then P Q bytes at = P bytes at >>= λ x. Q x.0 bytes x.1
 unfoldable pub give : {A : Type 0} → A → Reader A
 give x bytes at = Ok (x, at)
 
--- behind these bytes others can stand with which all is read
+-- these bytes have a continuation with which all is read
 pub record Completed {A : Type 0} (P : Reader A) (at : ℕ) (front : List ℕ) : Type 0 where
   pub tail : List ℕ
   pub fits : IsBytes tail
@@ -34,7 +34,7 @@ Halts P bytes at place width (Field p) =
     (p ≡ place) × (place + width ≤ length bytes) × ((other : List ℕ) → take (place + width) other ≡ take (place + width) bytes → P other at ≡ Err (Field p))
 Halts P bytes at place width _ = ⊥
 
--- the field at which reading ends; the bytes before it can go on
+-- the field at which reading ends, after bytes that have a continuation
 pub record Stop {A : Type 0} (l : Layout) (P : Reader A) (bytes : List ℕ) (at : ℕ) (fault : FileFault) : Type 0 where
   pub place : ℕ
   pub width : ℕ
@@ -199,7 +199,7 @@ module _ {l : Layout} {A : Type 0} {V : A → Type 0} where
         };
   }
 
--- the same reader, of which less is said
+-- the same reader, with a weaker statement
 pub reads_weaker : {l : Layout} {A : Type 0} (V W : A → Type 0) (P : Reader A) → ((x : A) → V x → W x) → Reads l V P → Reads l W P
 reads_weaker V W P less reads = record {
   inside = λ bytes at x after le e. let h = reads.inside bytes at x after le e in (h.0, h.1, less x h.2);
@@ -208,7 +208,7 @@ reads_weaker V W P less reads = record {
   stops = reads.stops;
 }
 
--- a field of so many bytes, whose value may be one that passes the test
+-- a field of this number of bytes, whose value passes the test
 unfoldable pub field : ℕ → (List ℕ → ℕ) → (ℕ → Bool) → Reader ℕ
 field width value test bytes at =
     let n = value (take width (drop at bytes)) in

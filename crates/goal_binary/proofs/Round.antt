@@ -1,4 +1,4 @@
--- What is decoded is the file of the schedule, and the file of a schedule is decoded as the schedule.
+-- A file that is decoded is the file of the schedule, and the file of a schedule is decoded as the schedule.
 use Rattle.std.proofs.Common.{◌≡◌, ◌≢◌, ◌⊎◌, ℕ, List, Result, Ok, Err, refl, sym, ap, subst, ◌∙◌, inl, inr}
 use Rattle.std.specs.Prelude.{IfOk, IfErr, IsOkUnless}
 use Rattle.goal_graph.specs.Schedule.{Plan}
@@ -26,7 +26,7 @@ pub is_file : (bytes : List ℕ) (r : Result (List Plan) FileFault) → IsBytes 
 is_file bytes (Ok plans) fits said = meaning_is bytes fits plans said
 is_file bytes (Err f) fits said = tt
 
--- where plans are accepted, memory ran out
+-- for accepted plans the only error is out of memory
 only_memory : (plans : List Plan) (f : FileFault) → IsAccepted plans → (f ≢ fault.NoMemory → IsFaultOf (Ok plans) f) → f ≡ fault.NoMemory
 only_memory plans fault.NoMemory accepted told = refl
 only_memory plans (fault.Plan f) accepted told = absurd (IsAccepted-no_fault plans f accepted (told (λ e. absurd cc)))

@@ -1,4 +1,4 @@
--- Steps of reading, one after the other.
+-- Steps of reading, one after another.
 use Rattle.std.proofs.Common.{◌≡◌, ℕ, ◌<◌, Bool, true, false, List, ◌++◌, get_or, drop, Result, Ok, Err, refl, sym, ap, ◌∙◌, append_assoc}
 use Rattle.goal_binary.specs.declared.fault.FileFault.{FileFault}
 use Rattle.goal_binary.specs.Fields.{◌>>=◌, allow}
@@ -6,12 +6,12 @@ use Rattle.goal_binary.specs.Fields.{◌>>=◌, allow}
 abbrev pub IsBytes : List ℕ → Type 0
 IsBytes bytes = (i : ℕ) → get_or bytes i 0 < 256
 
--- the value of a step that did not fail
+-- the value of a step without a fault
 pub bind_ok : {A B : Type 0} (r : Result A FileFault) (f : A → Result B FileFault) (y : B) → (r >>= f) ≡ Ok y → (x : A) × (r ≡ Ok x) × (f x ≡ Ok y)
 bind_ok (Ok x) f y e = (x, refl, e)
 bind_ok (Err d) f y e = absurd cc
 
--- a test that did not fail
+-- a test that passed
 pub allow_ok : {A : Type 0} (b : Bool) (at : ℕ) (x y : A) → allow b at x ≡ Ok y → (b ≡ true) × (x ≡ y)
 allow_ok true at x y e = (refl, cc)
 allow_ok false at x y e = absurd cc
@@ -22,7 +22,7 @@ done x = Ok x
 pub ok_is : {A : Type 0} (x y : A) → done x ≡ done y → x ≡ y
 ok_is x y e = cc
 
--- what a reader takes from one place to the place behind it
+-- what a reader takes, from one place to the place after it
 pub record Takes (bytes : List ℕ) (at : ℕ) (text : List ℕ) (after : ℕ) : Type 0 where
   pub parts : drop at bytes ≡ text ++ drop after bytes
 

@@ -1,4 +1,4 @@
--- The compiled files of a schedule, one in each layout: a header, and then a record for each rank.
+-- The compiled files of a schedule, one in each layout: a header, followed by a record for each rank.
 use Rattle.std.specs.Prelude.{ℕ, zero, suc, ◌+◌, ◌*◌, ◌/◌, ◌%◌, ◌==◌, List, [], ◌∷◌, ◌++◌, length, Option, Some, None, unwrap_or, nat_lt, if◌then◌else◌}
 use Rattle.std.specs.List.{flat_map}
 use Rattle.std.specs.Int.{w32, w64, to_le_bytes}
@@ -16,29 +16,29 @@ use Rattle.goal_binary.specs.declared.layout.Layout.{Layout}
 use Rattle.goal_binary.specs.declared.layout.Layout.TheVariants.{Fixed, Packed}
 use Rattle.goal_binary.specs.Layouts.{version_of}
 
--- a number in four or in eight bytes, the lowest byte first
+-- a number in four or in eight bytes, lowest byte first
 abbrev pub spelled_u32 : ℕ → List ℕ
 spelled_u32 n = to_le_bytes w32 n
 
 abbrev pub spelled_u64 : ℕ → List ℕ
 spelled_u64 n = to_le_bytes w64 n
 
--- a number in groups of seven bits, a byte each, the lowest group first; 128 is added to each but the last; so many at most
+-- a number in at most `left` groups of seven bits, a byte each, lowest group first; all but the last have 128 added
 unfoldable pub groups : ℕ → ℕ → List ℕ
 groups zero n = []
 groups (suc left) n = if nat_lt n 128 then n ∷ [] else ((128 + n % 128) ∷ groups left (n / 128))
 
--- a packed number: a number of 64 bits has ten groups at most
+-- a packed number: a number of 64 bits has at most ten groups
 abbrev pub packed : ℕ → List ℕ
 packed n = groups 10 n
 
--- the number of a kind
+-- the code of a kind
 abbrev pub kind_code : Kind → ℕ
 kind_code (Calc nanos) = 0
 kind_code (Send bytes to tag) = 1
 kind_code (Recv bytes from tag) = 2
 
--- the flags of an operation: a receive has 1 where any source will do, and 2 more where any tag will
+-- the flags of an operation: 1 for a receive from any source, plus 2 for a receive with any tag
 abbrev pub any_flag : ℕ → Option ℕ → ℕ
 any_flag flag None = flag
 any_flag flag (Some n) = 0
@@ -48,7 +48,7 @@ flags_of (Calc nanos) = 0
 flags_of (Send bytes to tag) = 0
 flags_of (Recv bytes from tag) = any_flag 1 from + any_flag 2 tag
 
--- the target or the source, the tag, and the nanoseconds or bytes
+-- the target or source, the tag, and the nanoseconds or bytes
 abbrev pub peer_in : Kind → Option ℕ
 peer_in (Calc nanos) = None
 peer_in (Send bytes to tag) = Some to
@@ -64,7 +64,7 @@ size_of (Calc nanos) = nanos
 size_of (Send bytes to tag) = bytes
 size_of (Recv bytes from tag) = bytes
 
--- version 1: what is not there is 0
+-- version 1: a missing number is 0
 abbrev pub peer_of : Kind → ℕ
 peer_of k = unwrap_or (peer_in k) 0
 
@@ -79,7 +79,7 @@ op_bytes kind flags cpu nic peer tag size =
 unfoldable pub fixed_op : Op → List ℕ
 fixed_op o = op_bytes (kind_code o.kind) (flags_of o.kind) o.cpu o.nic (peer_of o.kind) (tag_of o.kind) (size_of o.kind)
 
--- the number of the moment that a dependency waits for
+-- the code of the start or end that a dependency waits for
 abbrev pub when_code : When → ℕ
 when_code AfterEnd = 0
 when_code AfterStart = 1
@@ -99,7 +99,7 @@ note_fields (Adds op from to) = note_bytes 1 op from to
 unfoldable pub fixed_note : Note → List ℕ
 fixed_note n = note_fields n
 
--- version 2: what is 0 or not there has no byte
+-- version 2: a number that is 0 or missing has no byte
 abbrev pub byte_unless_zero : ℕ → List ℕ
 byte_unless_zero n = if n == 0 then [] else n ∷ []
 
@@ -110,17 +110,17 @@ abbrev pub packed_if_some : Option ℕ → List ℕ
 packed_if_some None = []
 packed_if_some (Some n) = packed n
 
--- the head of an operation: its kind, 4 where any source will do, 8 where any tag will, 16 and 32 where it has a cpu and a nic
+-- the head of an operation: its kind, 4 for any source, 8 for any tag, 16 if its cpu is not 0, 32 if its nic is not 0
 abbrev pub head_code : Op → ℕ
 head_code o = kind_code o.kind + 4 * flags_of o.kind + flag_unless_zero 16 o.cpu + flag_unless_zero 32 o.nic
 
--- an operation: head, cpu, nic, peer, tag, size
+-- an operation: head, cpu if not 0, nic if not 0, peer, tag, size
 unfoldable pub packed_op : Op → List ℕ
 packed_op o =
     (head_code o ∷ []) ++ byte_unless_zero o.cpu ++ byte_unless_zero o.nic ++ packed_if_some (peer_in o.kind)
     ++ packed_if_some (tag_in o.kind) ++ packed (size_of o.kind)
 
--- a dependency: later, and earlier with the moment
+-- a dependency: later, and twice earlier plus the code of its start or end
 unfoldable pub packed_dep : Dep → List ℕ
 packed_dep d = packed d.later ++ packed (2 * d.earlier + when_code d.when)
 
@@ -135,7 +135,7 @@ packed_note_fields (Adds op from to) = packed_note_bytes 1 op from to
 unfoldable pub packed_note : Note → List ℕ
 packed_note n = packed_note_fields n
 
--- a count, an operation, a dependency and a note in a layout
+-- a count, an operation, a dependency and a note, in a layout
 unfoldable pub spelled_count : Layout → ℕ → List ℕ
 spelled_count Fixed n = spelled_u32 n
 spelled_count Packed n = packed n
@@ -152,7 +152,7 @@ unfoldable pub spelled_note : Layout → Note → List ℕ
 spelled_note Fixed n = fixed_note n
 spelled_note Packed n = packed_note n
 
--- the record of a rank: the numbers of its operations, dependencies and notes, and then these
+-- the record of a rank: its numbers of operations, dependencies and notes, followed by these
 unfoldable pub spelled_counts : Layout → Plan → List ℕ
 spelled_counts l p = spelled_count l (length p.ops) ++ spelled_count l (length p.deps) ++ spelled_count l (length p.notes)
 
@@ -160,7 +160,7 @@ unfoldable pub spelled_rank : Layout → Plan → List ℕ
 spelled_rank l p =
     spelled_counts l p ++ flat_map (spelled_op l) p.ops ++ flat_map (spelled_dep l) p.deps ++ flat_map (spelled_note l) p.notes
 
--- the magic, the version, and the number of ranks
+-- the magic number, the version, and the number of ranks
 unfoldable pub header : Layout → List Plan → List ℕ
 header l plans = magic_bytes ++ spelled_u32 (version_of l) ++ spelled_count l (length plans)
 
@@ -168,7 +168,7 @@ header l plans = magic_bytes ++ spelled_u32 (version_of l) ++ spelled_count l (l
 unfoldable pub written : Layout → List Plan → List ℕ
 written l plans = header l plans ++ flat_map (spelled_rank l) plans
 
--- the file of a schedule, which is of version 2, and the old one, of version 1
+-- the file of a schedule, of version 2, and its old file, of version 1
 abbrev pub file : List Plan → List ℕ
 file plans = written Packed plans
 

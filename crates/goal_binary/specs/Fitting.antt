@@ -1,5 +1,5 @@
--- Plans that have a file: their counts and sizes are within the limits, and their numbers have room in their fields.
--- They may break the other rules of schedules.
+-- Plans that have a file: their counts and sizes are within the limits, and their numbers fit their fields. They may
+-- break the other rules of schedules.
 use Rattle.std.specs.Prelude.{◌≡◌, ◌^◌, ◌<◌, true, List, All}
 use Rattle.goal_graph.specs.declared.plan.Op.{Op}
 use Rattle.goal_graph.specs.declared.plan.Dep.{Dep}

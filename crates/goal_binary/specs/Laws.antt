@@ -1,4 +1,4 @@
--- The laws that join a schedule and its files.
+-- The laws that relate a schedule and its files.
 use Rattle.std.specs.Prelude.{◌≡◌, ◌≢◌, ◌<◌, ◌≤◌, ◌+◌, ◌^◌, ◌⊎◌, ℕ, List, ◌∷◌, ◌++◌, length, take, drop, Ok, Err, All, None, ◌*◌}
 use Rattle.goal_limits.specs.Limits.{input_limit}
 use Rattle.goal_graph.specs.Schedule.{Plan}
@@ -15,23 +15,23 @@ use Rattle.goal_binary.specs.Fitting.{HaveFile}
 use Rattle.goal_binary.specs.File.{spelled_u32, packed, written, file, old}
 use Rattle.goal_binary.specs.Meaning.{meaning}
 
--- no packed number is the front of another
+-- no packed number is a prefix of another
 abbrev pub PackedApart : Type 0
 PackedApart = (m n : ℕ) (xs ys : List ℕ) → m < 2 ^ 64 → n < 2 ^ 64 → packed m ++ xs ≡ packed n ++ ys → (m ≡ n) × (xs ≡ ys)
 
--- how many bytes the old one has
+-- the number of bytes of the old file
 abbrev pub old_length : List Plan → ℕ
 old_length plans = 16 + 12 * length plans + 24 * op_count plans + 12 * dep_count plans + 16 * note_count plans
 
--- the old file has so many bytes as the plans call for
+-- the old file has this number of bytes
 abbrev pub LengthIsTold : Type 0
 LengthIsTold = (plans : List Plan) → length (old plans) ≡ old_length plans
 
--- plans whose counts are within the limits have an old file that is read whole, of 93,061,136 bytes at most
+-- plans whose counts are within the limits have an old file of at most 93,061,136 bytes, short enough for an input
 abbrev pub WithinInput : Type 0
 WithinInput = (plans : List Plan) → AreCountsWithin plans → (length (old plans) ≤ 93061136) × (length (old plans) ≤ input_limit)
 
--- the file of plans that have one is no longer than the old one
+-- the file of plans that have one is at most as long as the old one
 abbrev pub NoLonger : Type 0
 NoLonger = (plans : List Plan) → HaveFile plans → length (file plans) ≤ length (old plans)
 
@@ -57,7 +57,7 @@ MoreIsExtra = (layout : Layout) (plans : List Plan) (b : ℕ) (more : List ℕ) 
 abbrev pub WithinLimits : Type 0
 WithinLimits = (bytes : List ℕ) (plans : List Plan) → All (λ b. b < 256) bytes → meaning bytes ≡ Ok plans → HaveFile plans
 
--- plans that have a file are what it means, in each layout, and a schedule has one
+-- the file of plans that have one means these plans, in each layout; and every schedule has one
 abbrev pub PlansAgain : Type 0
 PlansAgain = (layout : Layout) (plans : List Plan) → HaveFile plans → meaning (written layout plans) ≡ Ok plans
 
@@ -68,19 +68,19 @@ SchedulesHaveFiles = (plans : List Plan) → IsSchedule plans → HaveFile plans
 abbrev pub ReadAgain : Type 0
 ReadAgain = (layout : Layout) (plans : List Plan) → IsSchedule plans → meaning (written layout plans) ≡ Ok plans
 
--- a file in this layout of some plans, which may break other rules, begins with these bytes
+-- these bytes are the beginning of a file in this layout, of plans that may break other rules
 pub record BeginAFile (layout : Layout) (front : List ℕ) : Type 0 where
   pub plans : List Plan
   pub more : List ℕ
   pub have_file : HaveFile plans
   pub is : front ++ more ≡ written layout plans
 
--- a field has one, four or eight bytes, and with packed numbers any number of bytes up to ten
+-- the possible lengths of a field: one, four or eight bytes, or for packed numbers one to ten
 abbrev pub IsWidth : Layout → ℕ → Type 0
 IsWidth Fixed n = (n ≡ 1) ⊎ (n ≡ 4) ⊎ (n ≡ 8)
 IsWidth Packed n = (0 < n) × (n ≤ 10)
 
--- the bytes end in the field that begins at this place, and the whole fields before begin a file
+-- the bytes end inside the field at this place, and the whole fields before it begin a file
 pub record EndInField (bytes : List ℕ) (n : ℕ) : Type 0 where
   pub length_is : n ≡ length bytes
   pub layout : Layout
@@ -91,8 +91,8 @@ pub record EndInField (bytes : List ℕ) (n : ℕ) : Type 0 where
   pub is_cut : n < at + width
   pub before : BeginAFile layout (take at bytes)
 
--- The whole field at this place is one that no file of the version has there: the bytes before it, with the magic and
--- the version, begin a file, with it they begin none.
+-- The whole field at this place has a value that no file of the version has there: the bytes before it, with the magic
+-- number and the version, begin a file, and with the field they begin none.
 pub record IsFirstBadField (bytes : List ℕ) (at : ℕ) : Type 0 where
   pub layout : Layout
   pub behind : 12 ≤ at
@@ -102,19 +102,19 @@ pub record IsFirstBadField (bytes : List ℕ) (at : ℕ) : Type 0 where
   pub before : BeginAFile layout (take at bytes)
   pub none : BeginAFile layout (take (at + width) bytes) → ⊥
 
--- the first eight bytes are another magic
+-- the first eight bytes are not the magic number
 pub record IsOtherMagic (bytes : List ℕ) : Type 0 where
   pub whole : 8 ≤ length bytes
   pub other : take 8 bytes ≢ magic_bytes
 
--- the magic, and then the number of another version
+-- the magic number is followed by another version
 pub record IsOtherVersion (bytes : List ℕ) (found : ℕ) : Type 0 where
   pub magic : take 8 bytes ≡ magic_bytes
   pub whole : 12 ≤ length bytes
   pub is : take 4 (drop 8 bytes) ≡ spelled_u32 found
   pub other : layout_of found ≡ None
 
--- the bytes before are a whole file
+-- the bytes before this place are a whole file
 pub record IsBehindFile (bytes : List ℕ) (at : ℕ) : Type 0 where
   pub inside : at < length bytes
   pub plans : List Plan
@@ -122,7 +122,7 @@ pub record IsBehindFile (bytes : List ℕ) (at : ℕ) : Type 0 where
   pub layout : Layout
   pub is : take at bytes ≡ written layout plans
 
--- what each fault of bytes says of them
+-- what each fault says of the bytes
 abbrev pub IsTrueOf : List ℕ → FileFault → Type 0
 IsTrueOf bytes (Short n) = EndInField bytes n
 IsTrueOf bytes Magic = IsOtherMagic bytes
@@ -134,14 +134,14 @@ IsTrueOf bytes _ = ⊥
 abbrev pub FaultsAreTrue : Type 0
 FaultsAreTrue = (bytes : List ℕ) (fault : FileFault) → All (λ b. b < 256) bytes → meaning bytes ≡ Err fault → IsTrueOf bytes fault
 
--- the fault is that of a whole field
+-- the fault is about a whole field
 abbrev pub IsOfField : FileFault → Type 0
 IsOfField Magic = Unit {0}
 IsOfField (Version found) = Unit {0}
 IsOfField (Field at) = Unit {0}
 IsOfField _ = ⊥
 
--- no file begins with bytes of which a whole field is at fault
+-- no file begins with bytes in which a whole field is at fault
 abbrev pub NoFileBegins : Type 0
 NoFileBegins = (layout : Layout) (bytes more : List ℕ) (fault : FileFault) (plans : List Plan) → IsSchedule plans → meaning bytes ≡ Err fault → IsOfField fault
     → bytes ++ more ≢ written layout plans

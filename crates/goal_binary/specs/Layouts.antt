@@ -1,4 +1,4 @@
--- What each compiled file begins with, the two layouts of files, and the versions that name them.
+-- The first bytes of each compiled file, the two layouts of files, and their versions.
 use Rattle.std.specs.Prelude.{ℕ, zero, suc, List, [], ◌∷◌, Option, Some, None}
 use Rattle.goal_binary.specs.declared.layout.Layout.{Layout}
 use Rattle.goal_binary.specs.declared.layout.Layout.TheVariants.{Fixed, Packed}

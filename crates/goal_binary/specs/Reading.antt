@@ -1,4 +1,4 @@
--- Reading operations, dependencies, notes and whole ranks, field after field.
+-- Reading operations, dependencies, notes and whole ranks, field by field.
 use Rattle.std.specs.Prelude.{ℕ, zero, suc, ◌/◌, ◌%◌, ◌==◌, ◌&&◌, ◌||◌, not, Bool, true, false, List, [], ◌∷◌, ◌++◌, Option, Some, None, Ok, nat_lt, nat_le, if◌then◌else◌}
 use Rattle.goal_limits.specs.Limits.{op_limit, dep_limit, note_limit, size_limit, calc_limit}
 use Rattle.goal_graph.specs.declared.plan.Op.{Op}
@@ -18,26 +18,26 @@ use Rattle.goal_binary.specs.declared.layout.Layout.TheVariants.{Fixed, Packed}
 use Rattle.goal_binary.specs.declared.form.Head.{Head}
 use Rattle.goal_binary.specs.Fields.{Read, ◌>>=◌, allow, byte_at, u32_at, byte_up_to, u32_up_to, u64_up_to, packed_up_to, some_byte_at, count_at, rank_count_at}
 
--- the flags that an operation of this kind may have at most
+-- the greatest flags of an operation of this kind
 abbrev pub most_flags : ℕ → ℕ
 most_flags zero = 0
 most_flags (suc zero) = 0
 most_flags (suc (suc k)) = 3
 
--- the form that a kind and its flags stand for
+-- the form of a kind with its flags
 abbrev pub form_of : ℕ → ℕ → Form
 form_of zero flags = form.Calc
 form_of (suc zero) flags = form.Send
 form_of (suc (suc k)) flags = form.Recv (flags % 2 == 1) (nat_le 2 flags)
 
--- the head of an operation in version 2: 64 is too much, it has a kind and flags that the kind may have, and a calc has no nic
+-- a valid head in version 2: below 64, with a valid kind and flags of this kind; a calc has no nic
 abbrev pub is_head : ℕ → Bool
 is_head head = nat_lt head 64 && nat_le (head % 4) 2 && nat_le (head / 4 % 4) (most_flags (head % 4)) && (nat_lt head 32 || nat_lt 0 (head % 4))
 
 abbrev pub head_of : ℕ → Head
 head_of head = record { form = form_of (head % 4) (head / 4 % 4); has_cpu = head / 16 % 2 == 1; has_nic = nat_le 32 head }
 
--- whether an operation of this form has a peer and a tag
+-- an operation of this form has a peer; it has a tag
 abbrev pub has_peer : Form → Bool
 has_peer form.Calc = false
 has_peer form.Send = true
@@ -48,7 +48,7 @@ has_tag form.Calc = false
 has_tag form.Send = true
 has_tag (form.Recv any_source any_tag) = not any_tag
 
--- how large the nic, the peer, the tag and the size of an operation of this form may be; what is not used is 0
+-- the greatest nic, peer, tag and size of an operation of this form; a field without use is 0
 abbrev pub used_unless : Bool → ℕ
 used_unless any = if any then 0 else 4294967295
 
@@ -72,7 +72,7 @@ most_size form.Calc = calc_limit
 most_size form.Send = size_limit
 most_size (form.Recv any_source any_tag) = size_limit
 
--- what an operation of this form does
+-- the kind of an operation of this form
 abbrev pub unless_any : Bool → ℕ → Option ℕ
 unless_any any n = if any then None else Some n
 
@@ -81,7 +81,7 @@ kind_of form.Calc peer tag size = Calc size
 kind_of form.Send peer tag size = Send size peer tag
 kind_of (form.Recv any_source any_tag) peer tag size = Recv size (unless_any any_source peer) (unless_any any_tag tag)
 
--- the moment of a number, and the note of a kind
+-- the start or end with this code, and the note with this code
 abbrev pub when_of : ℕ → When
 when_of zero = AfterEnd
 when_of (suc k) = AfterStart
@@ -90,11 +90,11 @@ abbrev pub note_of : (kind op first second : ℕ) → Note
 note_of zero op first second = Moves op first second
 note_of (suc k) op first second = Adds op first second
 
--- a number that is read where it is there, and else is 0
+-- a number that is read if it is there, and is 0 otherwise
 abbrev pub number_if : Bool → Read ℕ → ℕ → Read ℕ
 number_if there read at = if there then read else Ok (0, at)
 
--- so many items
+-- n items, one after another
 unfoldable pub list_at : {A : Type 0} → (ℕ → Read A) → ℕ → ℕ → Read (List A)
 list_at item_at zero at = Ok ([], at)
 list_at item_at (suc n) at = do
@@ -198,7 +198,7 @@ module _ (bytes : List ℕ) where
   note_at Fixed at = fixed_note_at at
   note_at Packed at = packed_note_at at
 
-  -- the record of a rank, where the ranks before have so many operations, dependencies and notes
+  -- the record of a rank; the ranks before it have these numbers of operations, dependencies and notes
   unfoldable pub rank_at : Layout → (ops deps notes : ℕ) → ℕ → Read Plan
   rank_at layout ops deps notes at = do
     op_number ← count_at bytes layout op_limit ops at
@@ -209,14 +209,14 @@ module _ (bytes : List ℕ) where
     note_list ← list_at (note_at layout) note_number.0 dep_list.1
     Ok (record { ops = op_list.0; deps = dep_list.0; notes = note_list.0 }, note_list.1)
 
-  -- the plans before, and so many more
+  -- the plans before, and n more
   unfoldable pub ranks_at : Layout → ℕ → List Plan → ℕ → Read (List Plan)
   ranks_at layout zero before at = Ok (before, at)
   ranks_at layout (suc n) before at = do
     plan ← rank_at layout (op_count before) (dep_count before) (note_count before) at
     ranks_at layout n (before ++ plan.0 ∷ []) plan.1
 
-  -- the number of ranks, and a record for each
+  -- the number of ranks, followed by a record for each
   unfoldable pub records_at : Layout → ℕ → Read (List Plan)
   records_at layout at = do
     ranks ← rank_count_at bytes layout at

@@ -1,4 +1,4 @@
--- What the functions that read a compiled file return.
+-- The results of the functions that read a compiled file.
 use Rattle.std.specs.Prelude.{◌≡◌, ◌≢◌, Result, Ok, Err}
 use Rattle.goal_graph.specs.declared.fault.PlanFault.{PlanFault}
 use Rattle.goal_graph.specs.Limits.{IsLimitRule}
@@ -6,17 +6,17 @@ use Rattle.goal_binary.specs.declared.fault.FileFault.{FileFault}
 use Rattle.goal_graph.specs.declared.fault.PlanFault.TheVariants as plan
 use Rattle.goal_binary.specs.declared.fault.FileFault.TheVariants as fault
 
--- the fault is that of a count or a value over its limit
+-- the fault is a count or a value over its limit
 abbrev pub IsLimitFault : FileFault → Type 0
 IsLimitFault (fault.Plan rule) = IsLimitRule rule
 IsLimitFault _ = ⊥
 
--- the fault of plans, as that of the file
+-- the fault of plans, as a fault of the file
 abbrev pub fault_of_plans : PlanFault → FileFault
 fault_of_plans plan.NoMemory = fault.NoMemory
 fault_of_plans f = fault.Plan f
 
--- what a function that takes memory returned, seen by view, is what reading gives, unless memory ran out
+-- the result of a function, seen by `view`, is what reading gives, unless memory ran out
 abbrev pub Fails : {Y : Type 0} → FileFault → Result Y FileFault → Type 0
 Fails found read = found ≢ fault.NoMemory → read ≡ Err found
 

@@ -1,4 +1,4 @@
-//! From a schedule to its compiled files.
+//! Writing a schedule as its compiled file.
 ghost use Rattle.std.specs.Prelude.{◌≡◌, ◌++◌, ◌≤◌, ◌<◌, ◌+◌, ◌*◌, ◌^◌, length, IfOk, OnOk};
 ghost use Rattle.std.specs.List.{flat_map};
 ghost use Rattle.goal_binary.specs.declared.layout.TheConstants.{MAGIC};
@@ -10,14 +10,14 @@ use goal_graph::{Dep, Kind, Note, Op, RankPlan, Sched, When};
 use goal_limits::NoMemory;
 use std::alloc::Global;
 
-/// The compiled file of a schedule, which is of version 2.
+/// Returns the compiled file of a schedule, of version 2. `Err` means out of memory.
 pub fn encode(alloc: Global, sched: &Sched) -> Result<Vec<u8>, NoMemory>
     ensures file { IfOk result (λ bytes. bytes.items ≡ file sched.now) }
 {
     write(alloc, Layout::Packed, sched)
 }
 
-/// The file of version 1, which is read as well.
+/// Returns the compiled file of a schedule of version 1, which `decode` reads as well. `Err` means out of memory.
 pub fn encode_old(alloc: Global, sched: &Sched) -> Result<Vec<u8>, NoMemory>
     ensures file { IfOk result (λ bytes. bytes.items ≡ old sched.now) }
 {
@@ -47,7 +47,7 @@ fn put_header(out: &mut Vec<u8>, layout: Layout, plans: &[RankPlan]) -> Result<(
     put_count(out, layout, plans.len() as u32)
 }
 
-// Appends the magic and the version.
+// Appends the magic number and the version.
 fn put_opening(out: &mut Vec<u8>, version: u32) -> Result<(), NoMemory>
     ensures { OnOk result (out.new.items ≡ out.old.items ++ (MAGIC ++ spelled_u32 version)) }
 {
@@ -156,7 +156,7 @@ fn put_note(out: &mut Vec<u8>, layout: Layout, note: Note) -> Result<(), NoMemor
     }
 }
 
-// The number of a kind, and the flags that only a receive has.
+// The code of a kind, and the flags, which only a receive has.
 fn kind_code(kind: Kind) -> u8
     ensures code { result ≡ kind_code kind }
     ensures within { result ≤ 2 }
@@ -178,7 +178,7 @@ fn flags_of(kind: Kind) -> u8
     }
 }
 
-// The flag, where any number will do.
+// The flag, if any number will do.
 fn any_flag(flag: u8, number: Option<u32>) -> u8
     ensures flag { result ≡ any_flag flag number }
     ensures within { result ≤ flag }
@@ -189,7 +189,7 @@ fn any_flag(flag: u8, number: Option<u32>) -> u8
     }
 }
 
-// The target or the source, where one is named.
+// The target or the source, if one is named.
 fn peer_in(kind: Kind) -> Option<u32>
     ensures { result ≡ peer_in kind }
 {
@@ -200,7 +200,7 @@ fn peer_in(kind: Kind) -> Option<u32>
     }
 }
 
-// The tag, where one is named.
+// The tag, if one is named.
 fn tag_in(kind: Kind) -> Option<u32>
     ensures { result ≡ tag_in kind }
 {
@@ -260,7 +260,7 @@ fn put_fixed_dep(out: &mut Vec<u8>, dep: Dep) -> Result<(), NoMemory>
     put_u32(out, code_of(dep.when))
 }
 
-// The number of the moment that a dependency waits for.
+// The code of the start or end that a dependency waits for.
 fn code_of(when: When) -> u32
     ensures code { result ≡ when_code when }
     ensures within { result ≤ 1 }
@@ -370,7 +370,7 @@ fn put_unless_zero(out: &mut Vec<u8>, byte: u8) -> Result<(), NoMemory>
     Ok(())
 }
 
-// Appends a packed number, where there is one.
+// Appends a packed number, if there is one.
 fn put_if_some(out: &mut Vec<u8>, number: Option<u32>) -> Result<(), NoMemory>
     ensures { OnOk result (out.new.items ≡ out.old.items ++ packed_if_some number) }
 {
@@ -387,7 +387,7 @@ fn put_packed(out: &mut Vec<u8>, number: u64) -> Result<(), NoMemory>
     put_groups(out, 10, number)
 }
 
-// Appends the groups of a packed number, the lowest first, `left` at most.
+// Appends the groups of a packed number, lowest first, at most `left`.
 #[tactic(auto, unfolding(crate::specs::File::groups))]
 fn put_groups(out: &mut Vec<u8>, left: u32, number: u64) -> Result<(), NoMemory>
     ensures { OnOk result (out.new.items ≡ out.old.items ++ groups left number) }

@@ -1,4 +1,4 @@
-//! Why bytes are no compiled file of a schedule.
+//! Why bytes are not the compiled file of a schedule.
 ghost use Rattle.std.specs.Prelude.{◌≡◌, Some};
 ghost use Rattle.goal_binary.specs.declared.fault.FileFault.TheVariants.{NoMemory};
 ghost use Rattle.goal_binary.specs.FaultWords.{fault_words};
@@ -8,22 +8,22 @@ use std::alloc::{AllocError, AllocFailed};
 use std::error::Error;
 use std::fmt;
 
-/// The first fault of bytes that should be a compiled file. Offsets are in bytes from 0.
+/// The first fault of bytes that should be a compiled file. Places are in bytes, from 0.
 #[derive(Clone, Copy, Debug, PartialEq, Eq)]
 pub enum FileFault {
-    /// The input ends, after `at` bytes, before a field is whole.
+    /// The input ends after `at` bytes, inside a field.
     Short { at: u64 },
-    /// The file does not begin with the magic.
+    /// The file does not begin with the magic number.
     Magic,
-    /// The file is of another version than 1 and 2.
+    /// The file is of version `found`, which is neither 1 nor 2.
     Version { found: u32 },
-    /// No file can have what the whole field that begins at `at` has.
+    /// The field that begins at `at` has a value that no file can have there.
     Field { at: u64 },
-    /// Bytes follow the record of the last rank, the first of them at `at`.
+    /// Bytes follow the record of the last rank; the first of them is at `at`.
     Extra { at: u64 },
-    /// The plans of the file are no schedule.
+    /// The file has plans, but they are no schedule.
     Plan(PlanFault),
-    /// Memory ran out.
+    /// Out of memory.
     NoMemory,
 }
 

@@ -1,4 +1,4 @@
-//! The fields of a file. Each function gives the value at a place and the place behind it, or the first fault.
+//! The fields of a file. Each function returns the value at a place and the place after it, or the first fault.
 ghost use Rattle.std.specs.Prelude.{◌≡◌, ℕ, ◌+◌, ◌<◌, ◌≤◌, length, slice_index, IfOk};
 ghost use Rattle.goal_binary.specs.Fields.{byte_at, u32_at, u64_at, below, groups_at, packed_at, byte_up_to, u32_up_to, u64_up_to, packed_up_to, some_byte_at, number_at, count_at, magic_at, layout_at, opening_at, rank_count_at};
 
@@ -7,7 +7,7 @@ use crate::layout::{Layout, MAGIC, layout_of};
 use byteorder::{ByteOrder, LittleEndian};
 use goal_limits::MAX_RANKS;
 
-/// The input ends before a field is whole.
+/// The fault of an input that ends inside a field.
 fn short(bytes: &[u8]) -> FileFault
     ensures { result ≡ FileFault.Short (length bytes.now) }
 {
@@ -16,14 +16,14 @@ fn short(bytes: &[u8]) -> FileFault
     }
 }
 
-/// No file can have what the field at this place has.
+/// The fault of a value that no file can have at this place.
 pub fn misfit(at: usize) -> FileFault
     ensures { result ≡ FileFault.Field at }
 {
     FileFault::Field { at: at as u64 }
 }
 
-/// One byte.
+/// Reads one byte.
 #[inline(always)]
 #[tactic(auto, unfolding(crate::specs::Fields::byte_at))]
 pub fn byte_at(bytes: &[u8], at: usize) -> Result<(u8, usize), FileFault>
@@ -35,7 +35,7 @@ pub fn byte_at(bytes: &[u8], at: usize) -> Result<(u8, usize), FileFault>
     }
 }
 
-/// A number of four bytes, the lowest first.
+/// Reads a number of four bytes, lowest first.
 #[tactic(auto, using(crate::proofs::FixedNumbers::number_of_4_bytes), unfolding(crate::specs::Fields::u32_at))]
 pub fn u32_at(bytes: &[u8], at: usize) -> Result<(u32, usize), FileFault>
     ensures { result ≡ u32_at bytes.now at }
@@ -46,7 +46,7 @@ pub fn u32_at(bytes: &[u8], at: usize) -> Result<(u32, usize), FileFault>
     Ok((LittleEndian::read_u32(&bytes[at..]), at + 4))
 }
 
-/// A number of eight bytes, the lowest first.
+/// Reads a number of eight bytes, lowest first.
 #[tactic(auto, using(crate::proofs::FixedNumbers::number_of_8_bytes), unfolding(crate::specs::Fields::u64_at))]
 pub fn u64_at(bytes: &[u8], at: usize) -> Result<(u64, usize), FileFault>
     ensures { result ≡ u64_at bytes.now at }
@@ -57,8 +57,8 @@ pub fn u64_at(bytes: &[u8], at: usize) -> Result<(u64, usize), FileFault>
     Ok((LittleEndian::read_u64(&bytes[at..]), at + 8))
 }
 
-/// A group of seven bits of a packed number, and the number of the groups above it where there is one. There is none
-/// where the groups above are 0, since fewer bytes would do, nor above 64 bits.
+/// Joins a group of seven bits and the number of the groups above it, if these are valid. They are not if they are 0,
+/// since fewer bytes would do, or beyond 64 bits.
 fn below(group: u8, others: Option<u64>) -> Option<u64>
     requires { group < 128 }
     ensures { result ≡ below group others }
@@ -69,8 +69,8 @@ fn below(group: u8, others: Option<u64>) -> Option<u64>
     }
 }
 
-/// The groups of a packed number, `left` at most: the field ends with the first below 128, or else with the last. They are
-/// put together from the last one on.
+/// Reads the groups of a packed number, at most `left`. The field ends with the first group below 128, or after `left`
+/// groups. They are joined from the last one to the first.
 fn groups_at(bytes: &[u8], left: u32, at: usize) -> Result<(Option<u64>, usize), FileFault>
     ensures { result ≡ groups_at bytes.now left at }
 {
@@ -90,7 +90,7 @@ fn groups_at(bytes: &[u8], left: u32, at: usize) -> Result<(Option<u64>, usize),
     Ok((groups, after))
 }
 
-/// How many bytes at this place are not below 128, up to the first that is, and `most` at most.
+/// Returns the number of bytes from this place that are at least 128, up to the first that is less, and at most `most`.
 #[inline(always)]
 fn groups_before_last(bytes: &[u8], most: u32, at: usize) -> usize
     ensures most { result ≤ most }
@@ -105,7 +105,7 @@ fn groups_before_last(bytes: &[u8], most: u32, at: usize) -> usize
     count
 }
 
-/// The groups behind the first of a packed number. Where there are some, most often it is one.
+/// Reads the groups after the first of a packed number: usually one.
 #[inline(always)]
 #[tactic(auto, unfolding(crate::specs::Fields::groups_at))]
 fn groups_behind(bytes: &[u8], at: usize) -> Result<(Option<u64>, usize), FileFault>
@@ -119,7 +119,7 @@ fn groups_behind(bytes: &[u8], at: usize) -> Result<(Option<u64>, usize), FileFa
     Ok((below(group - 128, others), after))
 }
 
-/// A packed number. Most have one byte.
+/// Reads a packed number. Most have one byte.
 #[inline(always)]
 #[tactic(auto, using(crate::proofs::Packed::packed_step))]
 pub fn packed_at(bytes: &[u8], at: usize) -> Result<(u64, usize), FileFault>
@@ -136,7 +136,7 @@ pub fn packed_at(bytes: &[u8], at: usize) -> Result<(u64, usize), FileFault>
     }
 }
 
-/// One byte that may be `most` at most.
+/// Reads one byte, which is at most `most`.
 #[inline(always)]
 #[tactic(auto, unfolding(crate::specs::Fields::byte_up_to))]
 pub fn byte_up_to(bytes: &[u8], most: u8, at: usize) -> Result<(u8, usize), FileFault>
@@ -149,7 +149,7 @@ pub fn byte_up_to(bytes: &[u8], most: u8, at: usize) -> Result<(u8, usize), File
     Ok((byte, after))
 }
 
-/// A number of four bytes that may be `most` at most.
+/// Reads a number of four bytes, which is at most `most`.
 #[tactic(auto, unfolding(crate::specs::Fields::u32_up_to))]
 pub fn u32_up_to(bytes: &[u8], most: u32, at: usize) -> Result<(u32, usize), FileFault>
     ensures { result ≡ u32_up_to bytes.now most at }
@@ -161,7 +161,7 @@ pub fn u32_up_to(bytes: &[u8], most: u32, at: usize) -> Result<(u32, usize), Fil
     Ok((number, after))
 }
 
-/// A number of eight bytes that may be `most` at most.
+/// Reads a number of eight bytes, which is at most `most`.
 #[tactic(auto, unfolding(crate::specs::Fields::u64_up_to))]
 pub fn u64_up_to(bytes: &[u8], most: u64, at: usize) -> Result<(u64, usize), FileFault>
     ensures { result ≡ u64_up_to bytes.now most at }
@@ -173,7 +173,7 @@ pub fn u64_up_to(bytes: &[u8], most: u64, at: usize) -> Result<(u64, usize), Fil
     Ok((number, after))
 }
 
-/// A packed number that may be `most` at most.
+/// Reads a packed number, which is at most `most`.
 #[inline(always)]
 #[tactic(auto, unfolding(crate::specs::Fields::packed_up_to))]
 pub fn packed_up_to(bytes: &[u8], most: u64, at: usize) -> Result<(u64, usize), FileFault>
@@ -187,7 +187,7 @@ pub fn packed_up_to(bytes: &[u8], most: u64, at: usize) -> Result<(u64, usize), 
     Ok((number, after))
 }
 
-/// One byte that is not 0.
+/// Reads one byte, which is not 0.
 #[inline(always)]
 #[tactic(auto, unfolding(crate::specs::Fields::some_byte_at))]
 pub fn some_byte_at(bytes: &[u8], at: usize) -> Result<(u8, usize), FileFault>
@@ -200,7 +200,7 @@ pub fn some_byte_at(bytes: &[u8], at: usize) -> Result<(u8, usize), FileFault>
     Ok((byte, after))
 }
 
-/// A number in a layout.
+/// Reads a number in a layout.
 #[inline(always)]
 #[tactic(auto, unfolding(crate::specs::Fields::number_at))]
 fn number_at(bytes: &[u8], layout: Layout, at: usize) -> Result<(u64, usize), FileFault>
@@ -215,7 +215,7 @@ fn number_at(bytes: &[u8], layout: Layout, at: usize) -> Result<(u64, usize), Fi
     }
 }
 
-/// A count that may, added to the `before` of the ranks before, be `limit` at most.
+/// Reads a count that, added to the counts `before` of earlier ranks, is at most `limit`.
 #[tactic(auto, unfolding(crate::specs::Fields::count_at))]
 pub fn count_at(
     bytes: &[u8],
@@ -235,7 +235,7 @@ pub fn count_at(
     Ok((number as u32, after))
 }
 
-/// The place behind the magic.
+/// Returns the place after the magic number.
 #[tactic(auto, unfolding(crate::specs::Fields::magic_at))]
 fn magic_at(bytes: &[u8]) -> Result<usize, FileFault>
     ensures { result ≡ magic_at bytes.now }
@@ -250,7 +250,7 @@ fn magic_at(bytes: &[u8]) -> Result<usize, FileFault>
     }
 }
 
-/// The layout that the version names.
+/// Reads the version, and returns its layout.
 #[tactic(auto, unfolding(crate::specs::Fields::layout_at))]
 fn layout_at(bytes: &[u8], at: usize) -> Result<(Layout, usize), FileFault>
     ensures { result ≡ layout_at bytes.now at }
@@ -262,7 +262,7 @@ fn layout_at(bytes: &[u8], at: usize) -> Result<(Layout, usize), FileFault>
     }
 }
 
-/// The magic and the version: the layout.
+/// Reads the magic number and the version, and returns the layout.
 #[tactic(auto, unfolding(crate::specs::Fields::opening_at))]
 pub fn opening_at(bytes: &[u8]) -> Result<(Layout, usize), FileFault>
     ensures { result ≡ opening_at bytes.now }
@@ -271,7 +271,7 @@ pub fn opening_at(bytes: &[u8]) -> Result<(Layout, usize), FileFault>
     layout_at(bytes, version_at)
 }
 
-/// The number of ranks, at least one.
+/// Reads the number of ranks, at least one.
 #[tactic(auto, unfolding(crate::specs::Fields::rank_count_at))]
 pub fn rank_count_at(bytes: &[u8], layout: Layout, at: usize) -> Result<(u32, usize), FileFault>
     ensures { result ≡ rank_count_at bytes.now layout at }

@@ -1,4 +1,4 @@
-//! The form of an operation, which its first two bytes tell, or in version 2 its first.
+//! The form of an operation, which its first two bytes give, or in version 2 its first.
 ghost use Rattle.std.specs.Prelude.{◌≡◌};
 ghost use Rattle.goal_binary.specs.Reading.{most_flags, form_of, form_at, used_unless, most_nic, most_peer, most_tag, most_size, has_peer, has_tag, unless_any, kind_of, is_head, head_of, head_byte_at, head_at};
 
@@ -7,15 +7,18 @@ use crate::fields::{byte_at, byte_up_to, misfit};
 use goal_graph::Kind;
 use goal_limits::{MAX_BYTES, MAX_NANOS};
 
-/// What an operation does, but for its numbers.
+/// The kind of an operation, without its numbers.
 #[derive(Clone, Copy)]
 pub enum Form {
+    /// A calc.
     Calc,
+    /// A send.
     Send,
+    /// A receive, from any source or not, and with any tag or not.
     Recv { any_source: bool, any_tag: bool },
 }
 
-/// The flags of an operation of this kind, at most.
+/// Returns the greatest flags of an operation of this kind.
 fn most_flags(kind: u8) -> u8
     ensures { result ≡ most_flags kind }
 {
@@ -25,7 +28,7 @@ fn most_flags(kind: u8) -> u8
     }
 }
 
-/// The form that a kind and its flags stand for.
+/// Returns the form of a kind with its flags.
 fn form_of(kind: u8, flags: u8) -> Form
     ensures { result ≡ form_of kind flags }
 {
@@ -39,14 +42,14 @@ fn form_of(kind: u8, flags: u8) -> Form
     }
 }
 
-/// The largest number of a field that is 0 where any will do.
+/// Returns the greatest value of a field that is 0 if any will do.
 fn used_unless(any: bool) -> u32
     ensures { result ≡ used_unless any }
 {
     if any { 0 } else { u32::MAX }
 }
 
-/// The number, where not any will do.
+/// Returns the number, or `None` if any will do.
 fn unless_any(any: bool, number: u32) -> Option<u32>
     ensures { result ≡ unless_any any number }
 {
@@ -54,7 +57,7 @@ fn unless_any(any: bool, number: u32) -> Option<u32>
 }
 
 impl Form {
-    /// The interface, at most.
+    /// Returns the greatest NIC.
     pub fn most_nic(self) -> u8
         ensures { result ≡ most_nic self }
     {
@@ -64,7 +67,7 @@ impl Form {
         }
     }
 
-    /// The target or the source, at most.
+    /// Returns the greatest target or source.
     pub fn most_peer(self) -> u32
         ensures { result ≡ most_peer self }
     {
@@ -75,7 +78,7 @@ impl Form {
         }
     }
 
-    /// The tag, at most.
+    /// Returns the greatest tag.
     pub fn most_tag(self) -> u32
         ensures { result ≡ most_tag self }
     {
@@ -86,7 +89,7 @@ impl Form {
         }
     }
 
-    /// Whether there is a target or a source.
+    /// Returns whether it has a target or a source.
     pub fn has_peer(self) -> bool
         ensures { result ≡ has_peer self }
     {
@@ -97,7 +100,7 @@ impl Form {
         }
     }
 
-    /// Whether there is a tag.
+    /// Returns whether it has a tag.
     pub fn has_tag(self) -> bool
         ensures { result ≡ has_tag self }
     {
@@ -108,7 +111,7 @@ impl Form {
         }
     }
 
-    /// The nanoseconds or the bytes, at most.
+    /// Returns the greatest number of nanoseconds or bytes.
     pub fn most_size(self) -> u64
         ensures { result ≡ most_size self }
     {
@@ -118,7 +121,7 @@ impl Form {
         }
     }
 
-    /// What an operation of this form with these numbers does.
+    /// Returns the kind of an operation with these numbers.
     pub fn kind(self, peer: u32, tag: u32, size: u64) -> Kind
         ensures { result ≡ kind_of self peer tag size }
     {
@@ -141,7 +144,7 @@ impl Form {
     }
 }
 
-/// The kind and the flags of the operation at this place.
+/// Reads the kind and the flags of the operation at this place.
 #[tactic(auto, unfolding(crate::specs::Reading::form_at))]
 pub fn form_at(bytes: &[u8], at: usize) -> Result<(Form, usize), FileFault>
     ensures { result ≡ form_at bytes.now at }
@@ -151,15 +154,18 @@ pub fn form_at(bytes: &[u8], at: usize) -> Result<(Form, usize), FileFault>
     Ok((form_of(kind, flags), after))
 }
 
-/// What the first byte of an operation tells in version 2.
+/// The first byte of an operation in version 2.
 #[derive(Clone, Copy)]
 pub struct Head {
+    /// The form of the operation.
     pub form: Form,
+    /// Whether a byte for the cpu follows; otherwise the cpu is 0.
     pub has_cpu: bool,
+    /// Whether a byte for the NIC follows; otherwise the NIC is 0.
     pub has_nic: bool,
 }
 
-/// Whether an operation can begin with this byte: its kind and its flags have a meaning, and a calc has no interface.
+/// Returns whether an operation can begin with this byte: its kind and its flags are valid, and a calc has no NIC.
 fn is_head(head: u8) -> bool
     ensures { result ≡ is_head head }
 {
@@ -167,7 +173,7 @@ fn is_head(head: u8) -> bool
     head < 64 && kind <= 2 && head / 4 % 4 <= most_flags(kind) && (head < 32 || 0 < kind)
 }
 
-/// What this byte tells.
+/// Returns the parts of this byte.
 fn head_of(head: u8) -> Head
     ensures { result ≡ head_of head }
 {
@@ -178,7 +184,7 @@ fn head_of(head: u8) -> Head
     }
 }
 
-/// The first byte of the operation at this place.
+/// Reads the first byte of the operation at this place.
 #[tactic(auto, unfolding(crate::specs::Reading::head_byte_at))]
 fn head_byte_at(bytes: &[u8], at: usize) -> Result<(u8, usize), FileFault>
     ensures { result ≡ head_byte_at bytes.now at }
@@ -190,7 +196,7 @@ fn head_byte_at(bytes: &[u8], at: usize) -> Result<(u8, usize), FileFault>
     Ok((head, after))
 }
 
-/// What it tells.
+/// Reads the first byte of the operation at this place, and returns its parts.
 #[tactic(auto, unfolding(crate::specs::Reading::head_at))]
 pub fn head_at(bytes: &[u8], at: usize) -> Result<(Head, usize), FileFault>
     ensures { result ≡ head_at bytes.now at }

@@ -12,7 +12,7 @@ use crate::layout::Layout;
 use goal_graph::{Dep, Note, Op, When};
 use std::alloc::Global;
 
-/// The operation at this place, in version 1.
+/// Reads the operation at this place, in version 1.
 #[tactic(auto, unfolding(crate::specs::Reading::fixed_op_at))]
 fn fixed_op_at(bytes: &[u8], at: usize) -> Result<(Op, usize), FileFault>
     ensures { result ≡ fixed_op_at bytes.now at }
@@ -28,7 +28,7 @@ fn fixed_op_at(bytes: &[u8], at: usize) -> Result<(Op, usize), FileFault>
     Ok((Op { kind, cpu, nic }, after))
 }
 
-/// The moment of this number.
+/// Returns the start or end with this code.
 fn when_of(number: u32) -> When
     ensures { result ≡ when_of number }
 {
@@ -38,7 +38,7 @@ fn when_of(number: u32) -> When
     }
 }
 
-/// The dependency at this place, in version 1.
+/// Reads the dependency at this place, in version 1.
 #[tactic(auto, unfolding(crate::specs::Reading::fixed_dep_at))]
 fn fixed_dep_at(bytes: &[u8], at: usize) -> Result<(Dep, usize), FileFault>
     ensures { result ≡ fixed_dep_at bytes.now at }
@@ -57,7 +57,7 @@ fn fixed_dep_at(bytes: &[u8], at: usize) -> Result<(Dep, usize), FileFault>
     ))
 }
 
-/// The note of this kind.
+/// Returns the note of this kind.
 fn note_of(kind: u32, op: u32, first: u32, second: u32) -> Note
     ensures { result ≡ note_of kind op first second }
 {
@@ -75,7 +75,7 @@ fn note_of(kind: u32, op: u32, first: u32, second: u32) -> Note
     }
 }
 
-/// The note at this place, in version 1.
+/// Reads the note at this place, in version 1.
 #[tactic(auto, unfolding(crate::specs::Reading::fixed_note_at))]
 fn fixed_note_at(bytes: &[u8], at: usize) -> Result<(Note, usize), FileFault>
     ensures { result ≡ fixed_note_at bytes.now at }
@@ -87,7 +87,7 @@ fn fixed_note_at(bytes: &[u8], at: usize) -> Result<(Note, usize), FileFault>
     Ok((note_of(kind, op, first, second), after))
 }
 
-/// The byte at this place, where it is there, and else 0.
+/// Reads the byte at this place, which is not 0, if it is there, and otherwise gives 0.
 #[inline(always)]
 #[tactic(auto, unfolding(crate::specs::Reading::some_byte_if))]
 fn some_byte_if(bytes: &[u8], there: bool, at: usize) -> Result<(u8, usize), FileFault>
@@ -100,7 +100,7 @@ fn some_byte_if(bytes: &[u8], there: bool, at: usize) -> Result<(u8, usize), Fil
     }
 }
 
-/// A packed number of 32 bits.
+/// Reads a packed number of 32 bits.
 #[inline(always)]
 #[tactic(auto, unfolding(crate::specs::Reading::packed_u32_at))]
 fn packed_u32_at(bytes: &[u8], at: usize) -> Result<(u32, usize), FileFault>
@@ -110,7 +110,7 @@ fn packed_u32_at(bytes: &[u8], at: usize) -> Result<(u32, usize), FileFault>
     Ok((number as u32, after))
 }
 
-/// The packed number at this place, where it is there, and else 0.
+/// Reads the packed number at this place, if it is there, and otherwise gives 0.
 #[inline(always)]
 #[tactic(auto, unfolding(crate::specs::Reading::packed_u32_if))]
 fn packed_u32_if(bytes: &[u8], there: bool, at: usize) -> Result<(u32, usize), FileFault>
@@ -123,7 +123,7 @@ fn packed_u32_if(bytes: &[u8], there: bool, at: usize) -> Result<(u32, usize), F
     }
 }
 
-/// The operation at this place, in version 2.
+/// Reads the operation at this place, in version 2.
 #[inline(always)]
 #[tactic(auto, unfolding(crate::specs::Reading::packed_op_at))]
 fn packed_op_at(bytes: &[u8], at: usize) -> Result<(Op, usize), FileFault>
@@ -140,7 +140,7 @@ fn packed_op_at(bytes: &[u8], at: usize) -> Result<(Op, usize), FileFault>
     Ok((Op { kind, cpu, nic }, after))
 }
 
-/// The dependency at this place, in version 2.
+/// Reads the dependency at this place, in version 2.
 #[inline(always)]
 #[tactic(auto, unfolding(crate::specs::Reading::packed_dep_at))]
 fn packed_dep_at(bytes: &[u8], at: usize) -> Result<(Dep, usize), FileFault>
@@ -160,7 +160,7 @@ fn packed_dep_at(bytes: &[u8], at: usize) -> Result<(Dep, usize), FileFault>
     ))
 }
 
-/// The note at this place, in version 2.
+/// Reads the note at this place, in version 2.
 #[inline(always)]
 #[tactic(auto, unfolding(crate::specs::Reading::packed_note_at))]
 fn packed_note_at(bytes: &[u8], at: usize) -> Result<(Note, usize), FileFault>
@@ -173,7 +173,7 @@ fn packed_note_at(bytes: &[u8], at: usize) -> Result<(Note, usize), FileFault>
     Ok((note_of(u32::from(kind), op, first, second), after))
 }
 
-/// The operation at this place.
+/// Reads the operation at this place.
 #[tactic(auto, unfolding(crate::specs::Reading::op_at))]
 fn op_at(bytes: &[u8], layout: Layout, at: usize) -> Result<(Op, usize), FileFault>
     ensures { result ≡ op_at bytes.now layout at }
@@ -184,7 +184,7 @@ fn op_at(bytes: &[u8], layout: Layout, at: usize) -> Result<(Op, usize), FileFau
     }
 }
 
-/// The dependency at this place.
+/// Reads the dependency at this place.
 #[tactic(auto, unfolding(crate::specs::Reading::dep_at))]
 fn dep_at(bytes: &[u8], layout: Layout, at: usize) -> Result<(Dep, usize), FileFault>
     ensures { result ≡ dep_at bytes.now layout at }
@@ -195,7 +195,7 @@ fn dep_at(bytes: &[u8], layout: Layout, at: usize) -> Result<(Dep, usize), FileF
     }
 }
 
-/// The note at this place.
+/// Reads the note at this place.
 #[tactic(auto, unfolding(crate::specs::Reading::note_at))]
 fn note_at(bytes: &[u8], layout: Layout, at: usize) -> Result<(Note, usize), FileFault>
     ensures { result ≡ note_at bytes.now layout at }
@@ -206,7 +206,8 @@ fn note_at(bytes: &[u8], layout: Layout, at: usize) -> Result<(Note, usize), Fil
     }
 }
 
-/// Room for so many items at this place, but for no more than half the bytes behind it: an item has at least two.
+/// Returns how many items get room at once: `count`, or half the number of bytes that follow if that is less, since an
+/// item has at least two.
 fn room(bytes: &[u8], count: u32, at: usize) -> usize
     ensures count { result ≤ count }
     ensures held { 2 * result ≤ length bytes.now - at }
@@ -215,7 +216,7 @@ fn room(bytes: &[u8], count: u32, at: usize) -> usize
     most.min(count as usize)
 }
 
-/// So many operations.
+/// Reads `count` operations.
 pub fn ops_at(
     alloc: Global,
     bytes: &[u8],
@@ -236,7 +237,7 @@ pub fn ops_at(
     Ok((ops, place))
 }
 
-/// So many dependencies.
+/// Reads `count` dependencies.
 pub fn deps_at(
     alloc: Global,
     bytes: &[u8],
@@ -257,7 +258,7 @@ pub fn deps_at(
     Ok((deps, place))
 }
 
-/// So many notes.
+/// Reads `count` notes.
 pub fn notes_at(
     alloc: Global,
     bytes: &[u8],

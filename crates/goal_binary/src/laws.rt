@@ -7,22 +7,22 @@ use crate::layout::MAGIC;
 
 /// The laws of compiled files, for every schedule and all bytes:
 ///
-/// - `magic`: each begins with the eight bytes that the definitions name.
-/// - `packed_apart`: no packed number is the front of another.
-/// - `length_is_told`: the file of version 1 has so many bytes as the numbers of its ranks, operations, dependencies and
-///   notes say.
+/// - `magic`: each begins with the eight bytes `magic_bytes` of the definitions.
+/// - `packed_apart`: no packed number is a prefix of another.
+/// - `length_is_told`: the length of the file of version 1 follows from the numbers of ranks, operations, dependencies
+///   and notes.
 /// - `within_input`: where these are within their limits, it is short enough to be an input.
-/// - `no_longer`: the file of version 2 is no longer than it.
+/// - `no_longer`: the file of version 2 is at most as long.
 /// - `two_files`: bytes that mean plans are the file of these plans in one of the versions, so no schedule has a third.
 /// - `within_limits`: plans that bytes mean have counts, sizes and numbers that a file can have.
 /// - `plans_again`: each of the two files of such plans means these plans.
 /// - `schedules_have_files`: a schedule has such plans.
 /// - `read_again`: so the file of a schedule means the schedule.
-/// - `faults_are_true`: the fault of bytes says of them what its name says. Up to the field at fault they begin a file
-///   of some plans, and with the whole field they begin none; or they end inside a field; or a whole file stands before.
-/// - `cut_is_short`: a file that is cut is short where it ends.
-/// - `more_is_extra`: of bytes behind a file the first is extra.
-/// - `no_file_begins`: no file begins with bytes of which a whole field is at fault.
+/// - `faults_are_true`: the fault of bytes describes them. Up to the field at fault they begin a file of some plans,
+///   and with the whole field they begin none; or they end inside a field; or more follows a whole file.
+/// - `cut_is_short`: a file that is cut off is `Short` where it ends.
+/// - `more_is_extra`: the first byte after a file is `Extra`.
+/// - `no_file_begins`: no file begins with bytes in which a whole field is at fault.
 pub fn laws_of_files()
     ensures magic { MAGIC ≡ magic_bytes }
     ensures packed_apart { PackedApart }

@@ -1,6 +1,6 @@
-//! The compiled files of a schedule, and back.
+//! Writing a schedule as a compiled file, and reading it back.
 //!
-//! `specs/File` is the file of a schedule, which is of version 2, and its old one, of version 1. `specs/Reading` says
+//! `specs/File` defines the file of a schedule, of version 2, and its old file, of version 1. `specs/Reading` defines
 //! apart from it what bytes of either version mean: the plans of the ranks, or the first fault.
 #![tactic(auto)]
 

@@ -1,4 +1,4 @@
-//! The records of the ranks, which are alike in both layouts.
+//! The records of the ranks, in both layouts.
 ghost use Rattle.std.specs.Prelude.{◌≡◌, ◌+◌, ◌≤◌, [], length, IfOk};
 ghost use Rattle.goal_binary.specs.Reading.{rank_at, ranks_at, records_at};
 ghost use Rattle.goal_binary.specs.Returned.{Gives};
@@ -11,7 +11,7 @@ use goal_graph::RankPlan;
 use goal_limits::{MAX_DEPS, MAX_NOTES, MAX_OPS};
 use std::alloc::Global;
 
-/// How many operations, dependencies and notes some ranks have together.
+/// The numbers of operations, dependencies and notes of some ranks together.
 #[derive(Clone, Copy)]
 struct Totals {
     ops: u32,
@@ -19,7 +19,7 @@ struct Totals {
     notes: u32,
 }
 
-/// The record of a rank, where the ranks before have so many operations, dependencies and notes.
+/// Reads the record of a rank; the ranks before it have these totals.
 #[tactic(auto, unfolding(crate::specs::Reading::rank_at))]
 fn rank_at(
     alloc: Global,
@@ -48,7 +48,7 @@ fn rank_at(
     Ok((RankPlan { ops, deps, notes }, after))
 }
 
-/// The records of so many ranks, which begin at this place.
+/// Reads the records of `count` ranks, from this place on.
 fn ranks_at(
     alloc: Global,
     bytes: &[u8],
@@ -78,7 +78,7 @@ fn ranks_at(
     Ok((plans, place))
 }
 
-/// The number of ranks, and their records.
+/// Reads the number of ranks, and their records.
 #[tactic(auto, unfolding(crate::specs::Reading::records_at))]
 pub fn records_at(
     alloc: Global,

@@ -9,7 +9,7 @@ use Rattle.goal_binary.specs.File.{header, spelled_rank, written}
 use Rattle.goal_binary.proofs.Appended.{one_appended}
 use Rattle.goal_binary.proofs.encoding.write.Goals as goal
 
--- a rank has no more than all ranks together
+-- a rank has at most as many as all ranks together
 within_all : (f : Plan → ℕ) (ps : List Plan) (i : ℕ) (p : Plan) (most : ℕ) → i < length ps → p ≡ get_or ps i p
     → sum_by f ps ≤ most → f p ≤ most
 within_all f ps i p most inside is all =

@@ -2,7 +2,7 @@ use Rattle.std.proofs.Common.{◌≡◌, ◌-◌, ◌≤◌, Ok}
 use Rattle.goal_binary.specs.Fields.{groups_at}
 use Rattle.goal_binary.proofs.fields.groups_at.Given as goal
 
--- the groups from this place on are put together
+-- the groups from this place on are joined
 abbrev pub invariant-loop-place : goal.invariant-loop-place
 invariant-loop-place l = record {
   from : l.at ≤ l.place;

@@ -1,7 +1,7 @@
 use Rattle.std.proofs.Common.{ℕ, ◌+◌, ◌-◌, ◌<◌, ◌≤◌, length, get_or}
 use Rattle.goal_binary.proofs.fields.groups_before_last.Given as goal
 
--- the bytes counted so far are there, and none is below 128
+-- the bytes counted so far exist, and none is below 128
 abbrev pub invariant-loop-count : goal.invariant-loop-count
 invariant-loop-count l = record {
   few : l.count ≤ l.most;
