@@ -40,7 +40,7 @@ module _ (ranks bytes : ℕ) (some : 0 < ranks) (few : ranks ≤ 512) where
   abbrev first : Store
   first = initial Alltoall ranks
 
-  -- a slot is found as it was at first, and the slot of a rank gets what that rank has for this one
+  -- a slot is found with its first value, and the slot of a rank gets what that rank had for this one
   abbrev shift_finds : ℕ → ℕ → ℕ → Value
   shift_finds r i k = first r k
 
@@ -107,7 +107,7 @@ module _ (ranks bytes : ℕ) (some : 0 < ranks) (few : ranks ≤ 512) where
   at_slot : (j k : ℕ) → Mem k (flat_map slots_of_span (slot j)) → j ≡ k
   at_slot j k n = ⊎_elim (λ e. e) (λ none. absurd none) (subst (λ (ks : List ℕ). Mem k ks) (moved_slot j) n)
 
-  -- the slot that an operation writes: that of its own rank, or of the one that it hears from
+  -- that of its own rank, or of the one from which it receives
   writes_place : (r i k : ℕ) → Mem k (writes (entry r i)) → ((i ≡ 0) × (ranks + r ≡ k)) ⊎ ((s : ℕ) × (i ≡ suc (2 * s + 1)) × (ranks + back ranks r (s + 1) ≡ k))
   writes_place r i k m = ⊎_elim (λ e. inl (e, one (subst (λ (x : Entry). Mem k (writes x)) (ap (λ (n : ℕ). entry r n) e ∙ copies r) m))) (λ c. inr (⊎_elim (λ p. absurd (subst (λ (x : Entry). Mem k (writes x)) (ap (λ (n : ℕ). entry r n) p.1 ∙ sends r p.0) m)) (λ p. (p.0, p.1, at_slot (ranks + back ranks r (p.0 + 1)) k (subst (λ (x : Entry). Mem k (writes x)) (ap (λ (n : ℕ). entry r n) p.1 ∙ receives r p.0) m))) c)) (cases_step i)
     where

@@ -73,7 +73,7 @@ all_range p f a zero each = refl
 all_range p f a (suc m) each =
     rw (each a (omega arith), all_range p f (a + 1) m (λ q l. each q (omega (arith, l)))) refl
 
--- so many back twice
+-- two steps back in the ring
 back_more : (ranks r a b : ℕ) → r < ranks → a + b < ranks → back ranks (back ranks r a) b ≡ back ranks r (a + b)
 back_more ranks r a b p q = go (back_is ranks r a) (back_is ranks (back ranks r a) b) (back_is ranks r (a + b))
   where

@@ -30,7 +30,7 @@ lengths_of_one f one (k ∷ ks) =
     sum_by-cons (λ (v : Value). length v) (f k) (map f ks) ∙ omega (arith, here, rest)
 
 module _ (ranks : ℕ) (few : ranks ≤ 65536) (root : ℕ) (rooted : root < ranks) where
-  -- an entry of v moves at most so many slots as its block has, and low ones
+  -- an entry of v moves at most as many slots as its block has, and low ones
   pub record IsMoving (v n : ℕ) (x : Entry) : Type 0 where
     pub few_moved : length (moved x) ≤ block_size ranks v
     pub low_slots : All NamesLowSlots (notes_of n x)
@@ -58,7 +58,7 @@ module _ (ranks : ℕ) (few : ranks ≤ 65536) (root : ℕ) (rooted : root < ran
           low_slots = moving_low n (share ranks root (v + 2 ^ j) (2 ^ j)) (share_low ranks root (v + 2 ^ j) (2 ^ j) rooted child (pow_pos j) few);
         }
 
-  -- so many operations of each virtual rank, and their entries
+  -- the number of operations of each virtual rank, and their entries
   module _ (count : ℕ → ℕ) (most : (v : ℕ) → count v ≤ 17) (e : ℕ → ℕ → Entry) (moving : (v i n : ℕ) → v < ranks → i < count v → IsMoving v n (e v i)) where
     pub blocks_small : IsSmall (made_by ranks (λ r. count (back ranks r root)) (λ r i. e (back ranks r root) i))
     blocks_small =

@@ -103,7 +103,7 @@ module _ (ranks : ℕ) (count : ℕ → ℕ) (e : ℕ → ℕ → Entry) where
   IsThere r i = (r < ranks) × (i < count r)
 
   module _ (first : Store) (wanted : ℕ → ℕ → Value → Bool) (finds leaves : ℕ → ℕ → ℕ → Value) where
-    -- where the entry i finds the value of a slot: as it was at first, or as j, the last before i that writes it, leaves it
+    -- the first value, or what j, the last before i that writes it, leaves
     abbrev pub Origin : ℕ → ℕ → ℕ → Type 0
     Origin r i k =
         ((first r k ≡ finds r i k) × ((j : ℕ) → j < count r → Mem k (writes (e r j)) → (j ≡ i) ⊎ Precedes (e r) i j))
@@ -119,7 +119,7 @@ module _ (ranks : ℕ) (count : ℕ → ℕ) (e : ℕ → ℕ → Entry) where
 
     pub record IsBlueprint (M : Type 0) (bytes : ℕ) (send recv : M → OpId) (tag : M → ℕ) (level : ℕ → ℕ → ℕ) : Type 0 where
       pub messages : AreMessages ranks count e M bytes send recv tag
-      -- what an entry requires is there, at a lower level
+      -- what an entry needs exists, at a lower level
       pub lower : (r i k : ℕ) → IsThere r i → Mem k (e r i).needs → (k < count r) × (level r k < level r i)
       pub same_level : (m : M) → level (send m).rank (send m).op ≡ level (recv m).rank (recv m).op
       -- of two entries of which one writes a slot that the other touches, one precedes the other

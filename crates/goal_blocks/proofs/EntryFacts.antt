@@ -48,7 +48,7 @@ sifted h i (suc n) others inside = go (cases_lt i n) (sifted h i n others)
         let last : n ≡ i = omega arith in
         one_more h n ∙ rw (none_sifted h n (λ j l. others j (λ same. omega arith))) (ap h last)
 
--- the dependencies and notes of one operation are those of its own number
+-- the dependencies and notes of an operation are those of its number
 
 deps_of_own : (i : ℕ) (ks : List ℕ) → map earlier_of (filter (λ (d : Dep). eqb d.later i) (map (λ (k : ℕ). record { later = i; earlier = k; when = AfterEnd }) ks)) ≡ map (λ (k : ℕ). record { op = k; when = AfterEnd }) ks
 deps_of_own i [] = refl

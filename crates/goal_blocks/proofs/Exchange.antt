@@ -108,7 +108,7 @@ none_exchanged width slot = go (cases_exchange width 0 slot)
     go (inr (inl (high, from, to, is))) = let none = zero-mul width in omega (arith, is, none)
     go (inr (inr is)) = is
 
--- so there a collective is done as it is
+-- so there a collective uses its usual slots
 pub first_initial : (what : Collective) (ranks : ℕ) → initial_in what 0 0 ranks ≡ initial what ranks
 first_initial what ranks = λ i r k. initial what ranks r (none_exchanged 0 k i)
 

@@ -25,7 +25,7 @@ module _ (plans : List Plan) (matched : IsMatched plans) (first : Store) where
   state xs = run (ended plans (sender plans matched)) (start plans first) xs
 
   module _ (finds leaves : OpId → ℕ → Value) where
-    -- where x finds the value of a slot: as it was at first, or as the last operation that writes it before x leaves it
+    -- the first value, or what the last operation that writes it before x leaves
     abbrev pub Source : OpId → ℕ → Type 0
     Source x k =
         ((first x.rank k ≡ finds x k) × ((z : OpId) → Writes z x.rank k → (z ≡ x) ⊎ Before plans matched x z))
@@ -46,7 +46,7 @@ module _ (plans : List Plan) (matched : IsMatched plans) (first : Store) where
       pub payloads : (m : OpId) → Mem m xs → IsSend plans m → (state xs).payload m ≡ map (finds m) (slots plans m)
       -- a payload is empty, or that of one of these sends
       pub some_payload : (m : OpId) → ((state xs).payload m ≡ []) ⊎ (Mem m xs × IsSend plans m)
-      -- a slot that none of these writes is as it was at first
+      -- a slot that none of these writes has its first value
       pub unwritten : (r k : ℕ) → ((z : OpId) → Mem z xs → Writes z r k → ⊥) → (state xs).store r k ≡ first r k
       -- a slot holds what the last of these that writes it leaves
       pub left : (y : OpId) (k : ℕ) → Mem y xs → Mem k (written plans y) → IsLast xs y k → (state xs).store y.rank k ≡ leaves y k

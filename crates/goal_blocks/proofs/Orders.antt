@@ -2,7 +2,7 @@
 -- Lists are newest first.
 use Rattle.std.proofs.Common.{⊎_elim, ◌≡◌, ◌⊎◌, inl, inr, List, [], ◌∷◌, refl, sym, ap, ◌∙◌, subst}
 
--- x stands in the list
+-- x is in the list
 abbrev pub Mem : {A : Type 0} → A → List A → Type 0
 Mem x [] = ⊥
 Mem x (y ∷ ys) = (y ≡ x) ⊎ Mem x ys

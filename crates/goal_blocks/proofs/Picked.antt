@@ -47,7 +47,7 @@ picked_same p q b a zero same = refl
 picked_same p q b a (suc m) same =
     rw (same a (omega arith) (omega arith), picked_same p q b (a + 1) m (λ k l g. same k (omega (arith, l)) (omega (arith, g)))) refl
 
--- a rank that was not picked is picked besides
+-- a rank that was not picked is also picked
 pub insert_picked : (p q : ℕ → Bool) (r b a m : ℕ) → a ≤ r → r < a + m → p r ≡ false → q r ≡ true → ((k : ℕ) → (k ≡ r → ⊥) → p k ≡ q k) → insert_one (record { rank = r; item = b }) (picked p b a m) ≡ picked q b a m
 unfolding picked insert_one
 insert_picked p q r b a zero l g left taken same = absurd (omega (arith, l, g))

@@ -97,7 +97,7 @@ module _ (to back : ℕ → ℕ) (plans : List Plan) (perm : IsPermutation (leng
   same_op_of x y e =
       sym (there_and_back (length plans) to back perm x) ∙ (ap (placed_op to) e ∙ there_and_back (length plans) to back perm y)
 
-  -- an operation, seen from the ranks as they were
+  -- an operation, seen from the original ranks
   send_back : (m : OpId) → IsSend other m → IsSend plans (placed_op back m)
   send_back m s = send_placed (length plans) back to perm_back other plans is_back m s
 

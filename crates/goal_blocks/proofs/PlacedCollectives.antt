@@ -20,7 +20,7 @@ use Rattle.goal_blocks.proofs.PlacedAlike.{same_number}
 use Rattle.goal_blocks.proofs.PlacedPlans.{turned, placed_is}
 use Rattle.goal_blocks.proofs.PlacedRight.{placed_right}
 
--- which item a contribution is of on other ranks: where items are told by rank, that of the renamed rank
+-- where items belong to ranks, the item of the permuted rank
 abbrev pub placed_item : (ℕ → ℕ) → Collective → ℕ → ℕ
 placed_item to Alltoall item = to item
 placed_item to (Scatter root) item = to item

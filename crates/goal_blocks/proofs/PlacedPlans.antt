@@ -117,7 +117,7 @@ module _ (to back : ℕ → ℕ) (plans : List Plan) (perm : IsPermutation (leng
     adds = added_placed;
   }
 
--- back on its own ranks, it is as it was
+-- moved back to its own ranks, it is the original
 module _ (ranks : ℕ) (to back : ℕ → ℕ) (perm : IsPermutation ranks to back) where
   kind_back : (k : Kind) → placed_kind back (placed_kind to k) ≡ k
   kind_back (Calc nanos) = refl

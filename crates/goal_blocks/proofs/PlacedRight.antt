@@ -82,7 +82,7 @@ module _ (ranks : ℕ) (to back : ℕ → ℕ) (perm : IsPermutation ranks to ba
   abbrev is_back : IsPlaced back other plans
   is_back = placed_back ranks to back perm plans other is
 
-  -- the same actions on the ranks as they were
+  -- the same actions on the original ranks
   abbrev pub before : List Act
   before = map (placed_act back) h
 

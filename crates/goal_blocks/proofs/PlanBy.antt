@@ -1,4 +1,4 @@
--- A plan that is told by entries, one operation after the other; the plans of ranks, one rank after the other.
+-- A plan that is given by entries, one operation after another; the plans of ranks, one rank after another.
 use Rattle.std.proofs.Common.{◌≡◌, ℕ, ◌+◌, List, [], ◌∷◌, ◌++◌, map, refl, sym, ap, ◌∙◌, append_assoc, zero-add}
 use Rattle.std.specs.List.{flat_map, range_with_len}
 use Rattle.std.proofs.lemmas.List.{append-nil}
@@ -13,7 +13,7 @@ use Rattle.goal_blocks.specs.declared.steps.Step.{Step}
 use Rattle.goal_blocks.specs.Steps.{entry_of}
 use Rattle.goal_blocks.specs.Entries.{Entry, op_of, deps_of, notes_of, plan_by, made_by}
 
--- one number more
+-- another number
 pub map_range_more : {X : Type 0} (f : ℕ → X) (n : ℕ) → map f (range_with_len 0 (n + 1)) ≡ map f (range_with_len 0 n) ++ f n ∷ []
 map_range_more f n = map-range_with_len_more f 0 n n (zero-add n)
 
@@ -33,7 +33,7 @@ flat_map_range_more f n =
     ∙ flat_map-append f (range_with_len 0 n) (n ∷ [])
     ∙ ap (λ ys. flat_map f (range_with_len 0 n) ++ ys) (flat_map-cons f n [] ∙ append-nil (f n))
 
--- one operation more
+-- another operation
 module _ (e : ℕ → Entry) (n : ℕ) where
   pub ops_more : (plan_by (n + 1) e).ops ≡ (plan_by n e).ops ++ op_of (e n) ∷ []
   unfolding plan_by
@@ -97,7 +97,7 @@ pub ranks_more : (count : ℕ → ℕ) (e : ℕ → ℕ → Entry) (n : ℕ) →
 unfolding made_by
 ranks_more count e n = map_range_more (λ (r : ℕ). plan_by (count r) (e r)) n
 
--- one item more after the first ones
+-- another item after the first ones
 pub next_item : {X : Type 0} (f : ℕ → X) (n : ℕ) (first old new : List X) → old ≡ first ++ map f (range_with_len 0 n) → new ≡ old ++ f n ∷ [] → new ≡ first ++ map f (range_with_len 0 (n + 1))
 next_item f n first old new so_far pushed =
     pushed

@@ -52,7 +52,7 @@ module _ (ranks bytes : ℕ) (some : 0 < ranks) (few : ranks ≤ 128) where
       go (inr (l, f)) (inl (m, g)) = omega (arith, p, q, s, t, u, e, l, f, m, g)
       go (inr (l, f)) (inr (m, g)) = omega (arith, p, q, s, t, u, e, l, f, m, g)
 
-  -- two ranks that are so many behind one place are one
+  -- two ranks that are equally far behind one place are the same
   one_rank : (k r c : ℕ) → k < ranks → r < ranks → c ≤ ranks → back ranks k c ≡ back ranks r c → k ≡ r
   one_rank k r c p q s e = go (back_is ranks k c) (back_is ranks r c)
     where

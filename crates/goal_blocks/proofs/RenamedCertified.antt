@@ -1,4 +1,4 @@
--- A renamed schedule is certified where the schedule as it is, under the names, is certified.
+-- A renamed schedule is certified if and only if the original is certified, under the names.
 use Rattle.std.proofs.Common.{ℕ, ◌+◌, ◌^◌, ◌≤◌, ◌≡◌, ◌↔◌, ◌&&◌, inl, inr, ⊎_elim, Bool, not, List, [], ◌∷◌, length, map, flat_map, take, Contains, Option, Some, None, if◌then◌else◌, refl, sym, ap, ◌∙◌, subst}
 use Rattle.std.specs.List.{sum_by}
 use Rattle.std.proofs.lemmas.List.{length-map, take-map}

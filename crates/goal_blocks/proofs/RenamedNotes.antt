@@ -145,7 +145,7 @@ adds_back name old back [] = refl
 adds_back name old back (a ∷ more) =
     λ i. record { from = back a.from i; to = back a.to i } ∷ adds_back name old back more i
 
--- renamed back, it is as it was
+-- renamed back, it is the original
 pub renamed_back : (name old : ℕ → ℕ → ℕ) (plans other : List Plan) → IsUndoneBy name old → IsRenamed name plans other → IsRenamed old other plans
 renamed_back name old plans other undone is = record {
   ranks = sym is.ranks;

@@ -1,4 +1,4 @@
--- What is right of a renamed schedule is right of the schedule as it is.
+-- What is right of a renamed schedule is right of the original.
 use Rattle.std.proofs.Common.{ℕ, ◌<◌, ◌≡◌, ◌↔◌, Bool, true, List, Some, is_some, sym, ap, ◌∙◌, subst}
 use Rattle.goal_graph.specs.declared.action.OpId.{OpId}
 use Rattle.goal_graph.specs.Schedule.{Plan, op_at, IsSend, IsReceive}
@@ -69,7 +69,7 @@ module _ (plans other : List Plan) (ops : (x : OpId) → op_at other x ≡ op_at
       same m = ap (λ (ps : List Pair). partner ps m) (pairs_alike plans other ops h)
 
 module _ (name old : ℕ → ℕ → ℕ) (plans other : List Plan) (undone : IsUndoneBy name old) (is : IsRenamed name plans other) (first : Store) (wanted : ℕ → ℕ → Value → Bool) where
-  -- where the one holds what is wanted of it, the other holds what the names tell
+  -- one holds what is wanted of it if the other holds what is wanted under the names
   pub wanted_alike : (eager : OpId → Bool) (h : List Act) → HoldsWanted other wanted (held_after other eager first h).store → HoldsWanted plans (under name wanted) (held_after plans eager (under name first) h).store
   wanted_alike eager h holds rank slot low =
       subst (λ (v : Value). wanted rank (name rank slot) v ≡ true) same (holds rank (name rank slot) (subst (λ (n : ℕ). rank < n) (sym is.ranks) low))

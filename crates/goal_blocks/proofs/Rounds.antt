@@ -45,7 +45,7 @@ module _ (ranks n bytes : ℕ) (to from : ℕ → ℕ → ℕ) (to_rank : (r k :
   abbrev pub rounds_entry : ℕ → ℕ → Entry
   rounds_entry r i = round_in bytes (to r (i / 3)) (from r (i / 3)) (i / 3) (i % 3)
 
-  -- what slot 0 has after so many rounds
+  -- what slot 0 has after a number of rounds
   unfoldable pub gained : ℕ → ℕ → Value
   gained zero r = single r 0
   gained (suc k) r = merge (gained k r) (gained k (from r k))

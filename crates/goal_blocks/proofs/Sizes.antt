@@ -1,4 +1,4 @@
--- Sizes of schedules that are told by entries, and sums of bounds.
+-- Sizes of schedules that are given by entries, and sums of bounds.
 use Rattle.std.proofs.Common.{⊎_elim, ◌≡◌, ℕ, zero, suc, ◌*◌, ◌^◌, ◌<◌, ◌≤◌, List, [], ◌∷◌, length, All, refl, sym, ap, ◌∙◌, subst, arith}
 use Rattle.std.specs.List.{flat_map, range_with_len, sum_by}
 use Rattle.std.proofs.Math.Nat.{mul-le-mul_right, le_trans}

@@ -49,7 +49,7 @@ pub note_more : {A : Type 0} (f : Note → List A) (notes : List Note) (i : ℕ)
 note_more f notes i d l =
     ap (flat_map f) (take_more notes i d l) ∙ flat_map-append f (take i notes) (get_or notes i d ∷ []) ∙ ap (λ xs. flat_map f (take i notes) ++ xs) (flat_map-cons f (get_or notes i d) [] ∙ append-nil (f (get_or notes i d)))
 
--- what holds of each element holds of each where one more stands behind them
+-- what holds of each element holds of each after another is appended, if it holds of that one
 pub pushed_each : {X : Type 0} (P : X → Type 0) (xs : List X) (x : X) (n : ℕ) (d : X) → length xs ≡ n → ((k : ℕ) → k < n → P (get_or xs k d)) → P x → (k : ℕ) → k < n + 1 → P (get_or (xs ++ x ∷ []) k d)
 pushed_each P xs x n d long each last k h = go (cases_lt k n)
   where

@@ -116,7 +116,7 @@ module _ {A : Type 0} where
     others = λ k apart. refl;
   }
 
-  -- one note more
+  -- another note
   pub pushed_more : (of : ℕ → Note → List A) (notes : List Note) (at next op : ℕ) (d : Note) (old now new : List A) → ((n : Note) (k : ℕ) → k ≢ op_of n → of k n ≡ []) → next < length notes → op_of (get_or notes next d) ≡ op → IsRowPushed of notes at next op old now → new ≡ now ++ of (op_of (get_or notes next d)) (get_or notes next d) → IsRowPushed of notes at (next + 1) op old new
   pushed_more of notes at next op d old now new apart inside own p pushed = record {
     pushed =

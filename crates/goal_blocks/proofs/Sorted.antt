@@ -1,4 +1,4 @@
--- Sorted values, and what `merge` and `insert_one` make of them.
+-- Sorted values, and the results of `merge` and `insert_one` on them.
 use Rattle.std.proofs.Common.{ℕ, ◌≡◌, ◌==◌, ◌&&◌, ◌||◌, nat_lt, Bool, true, false, [], ◌∷◌, if◌then◌else◌, refl, sym, ap, ◌∙◌, arith, suc, ◌+◌, ◌<◌, ◌≤◌, ◌⊎◌, inl, inr, ◌++◌, ◌-◌, length, take, drop, length-drop, get_or, zero-add, add-one, drop-cons, append_assoc, append-nil, subst}
 use Rattle.std.proofs.lemmas.List.{drop_all, take_all}
 use Rattle.std.specs.List.{AllByRecursion}

@@ -64,7 +64,7 @@ unfolding sum_below
 sum_below_twice f zero = refl
 sum_below_twice f (suc n) = let more = sum_below_twice f n in omega (arith, more)
 
--- how often 2 divides v, looking at so many digits, and 0 for 0
+-- how often 2 divides v, up to a number of digits, and 0 for 0
 halvings : ℕ → ℕ → ℕ
 halvings k v = if eqb v 0 then 0 else count_trailing_zeros k v
 

@@ -1,5 +1,5 @@
--- The ten collectives: what the slots of each rank hold at the start, and what they must hold at the end.
--- A slot that is not named is empty at the start, and may hold anything at the end.
+-- The ten collectives: what the slots of each rank hold at the start, and what they must hold at the end. A slot
+-- without a rule is empty at the start, and may hold anything at the end.
 use Rattle.std.specs.Prelude.{ℕ, ◌+◌, ◌-◌, ◌==◌, ◌&&◌, Bool, true, false, nat_lt, nat_le, [], ◌∷◌, map, if◌then◌else◌}
 use Rattle.std.specs.List.{range_with_len, list_all}
 use Rattle.goal_blocks.specs.declared.collective.Collective.{Collective}
@@ -10,11 +10,11 @@ use Rattle.goal_blocks.specs.Values.{Contribution, Value, Store}
 abbrev pub single : ℕ → ℕ → Value
 single rank item = record { rank = rank; item = item } ∷ []
 
--- the item of that number of each of the first n ranks, once
+-- item number `item` of each of the first n ranks, once each
 unfoldable pub of_each : ℕ → ℕ → Value
 of_each n item = map (λ (q : ℕ). record { rank = q; item = item }) (range_with_len 0 n)
 
--- what the slot k of the rank r, one of these many ranks, holds at the start
+-- what slot k of rank r holds at the start, if there are `ranks` ranks
 abbrev pub initial_at : Collective → ℕ → ℕ → ℕ → Value
 initial_at (Bcast root) ranks r k = if (r == root) && (k == 0) then single root 0 else []
 initial_at Barrier ranks r k = if k == 0 then single r 0 else []
@@ -27,14 +27,14 @@ initial_at (Scatter root) ranks r k = if (r == root) && nat_lt k ranks then sing
 initial_at ReduceScatter ranks r k = if nat_lt k ranks then single r k else []
 initial_at Scan ranks r k = if k == 0 then single r 0 else []
 
--- the slots of so many ranks at the start
+-- the slots of all ranks at the start
 unfoldable pub initial : Collective → ℕ → Store
 initial what ranks r k = if nat_lt r ranks then initial_at what ranks r k else []
 
 abbrev pub is_one : Contribution → Contribution → Bool
 is_one c d = (c.rank == d.rank) && (c.item == d.item)
 
--- the values have the same contributions
+-- the values have the same contributions, equally often
 unfoldable pub is_value : Value → Value → Bool
 is_value [] [] = true
 is_value (c ∷ v) (d ∷ w) = is_one c d && is_value v w
@@ -45,12 +45,12 @@ unfoldable pub has_one : Value → Contribution → Bool
 has_one [] c = false
 has_one (d ∷ v) c = if is_one c d then true else has_one v c
 
--- a root that is no rank is asked for what no slot can get
+-- a root that does not exist makes the condition impossible to meet
 abbrev pub wanted_of_root : ℕ → ℕ → ℕ → ℕ → Value → Value → Bool
 wanted_of_root root ranks r k wish v =
     if nat_lt root ranks then (if r == root then is_value v wish else true) else (if (r == 0) && (k == 0) then is_value v (single root 0) else true)
 
--- whether the value v is what the slot k of the rank r, one of these many ranks, must hold at the end
+-- v is a value that slot k of rank r may hold at the end, if there are `ranks` ranks
 abbrev pub wanted_at : Collective → ℕ → ℕ → ℕ → Value → Bool
 wanted_at (Bcast root) ranks r k v = if k == 0 then is_value v (single root 0) else true
 wanted_at Barrier ranks r k v = if k == 0 then list_all (has_one v) (of_each ranks 0) else true
@@ -66,6 +66,6 @@ wanted_at (Scatter root) ranks r k v = if k == r then is_value v (single root r)
 wanted_at ReduceScatter ranks r k v = if k == r then is_value v (of_each ranks r) else true
 wanted_at Scan ranks r k v = if k == 0 then is_value v (of_each (r + 1) 0) else true
 
--- what the slots of so many ranks must hold at the end
+-- the condition on the slots of all ranks at the end
 unfoldable pub wanted : Collective → ℕ → ℕ → ℕ → Value → Bool
 wanted what ranks r k v = if nat_lt r ranks then wanted_at what ranks r k v else true

@@ -1,5 +1,5 @@
--- A schedule told by an entry for each rank and number: what the operation does, what it requires, and what it does to
--- slots. The operations of a rank, their dependencies and their notes stand in the order of the numbers.
+-- A schedule given by an entry for each rank and number: the operation's kind, its needs, and what it does to slots.
+-- The operations of a rank, their dependencies and their notes are in the order of these numbers.
 use Rattle.std.specs.Prelude.{ℕ, List, [], ◌∷◌, ◌++◌, map, Some}
 use Rattle.std.specs.List.{flat_map, range_with_len}
 use Rattle.goal_graph.specs.declared.plan.Kind.{Kind}
@@ -12,14 +12,14 @@ use Rattle.goal_graph.specs.declared.plan.Note.TheVariants.{Moves, Adds}
 use Rattle.goal_graph.specs.Schedule.{Plan}
 use Rattle.goal_blocks.specs.Slots.{Adding}
 
--- the slots lo up to hi
+-- the slots from lo to hi, both included
 pub record Span : Type 0 where
   pub lo : ℕ
   pub hi : ℕ
 
 pub record Entry : Type 0 where
   pub kind : Kind
-  -- the numbers of the operations whose ends it requires
+  -- the numbers of the operations whose ends it needs
   pub needs : List ℕ
   pub moves : List Span
   pub adds : List Adding
@@ -27,15 +27,15 @@ pub record Entry : Type 0 where
 abbrev pub slot : ℕ → List Span
 slot k = record { lo = k; hi = k } ∷ []
 
--- a send of `bytes` bytes to a rank with a tag, after the ends of these, of these slots
+-- a send of `bytes` bytes of these slots to a rank, with a tag, after the ends of `needs`
 abbrev pub sending : ℕ → ℕ → ℕ → List ℕ → List Span → Entry
 sending bytes to tag needs moves = record { kind = Send bytes to tag; needs = needs; moves = moves; adds = [] }
 
--- a receive of `bytes` bytes from a rank with a tag, into these slots
+-- a receive of `bytes` bytes from a rank, with a tag, into these slots
 abbrev pub receiving : ℕ → ℕ → ℕ → List Span → Entry
 receiving bytes from tag moves = record { kind = Recv bytes (Some from) (Some tag); needs = []; moves = moves; adds = [] }
 
--- a calc that takes no time, after the ends of these, which adds the slot `from` to the slot `to`
+-- a calc without duration, after the ends of `needs`, which adds the slot `from` to the slot `to`
 abbrev pub summing : List ℕ → ℕ → ℕ → Entry
 summing needs from to = record { kind = Calc 0; needs = needs; moves = []; adds = record { from = from; to = to } ∷ [] }
 
@@ -49,7 +49,7 @@ abbrev pub notes_of : ℕ → Entry → List Note
 notes_of i e =
     map (λ (s : Span). Moves i s.lo s.hi) e.moves ++ map (λ (a : Adding). Adds i a.from a.to) e.adds
 
--- the operations 0 up to n - 1 of a rank
+-- the operations 0 to n - 1 of a rank
 unfoldable pub plan_by : ℕ → (ℕ → Entry) → Plan
 plan_by n e = record {
   ops = map (λ (i : ℕ). op_of (e i)) (range_with_len 0 n);
@@ -57,6 +57,6 @@ plan_by n e = record {
   notes = flat_map (λ (i : ℕ). notes_of i (e i)) (range_with_len 0 n);
 }
 
--- the schedule of so many ranks, of which the rank r has `count r` operations
+-- the schedule of these ranks, of which rank r has `count r` operations
 unfoldable pub made_by : ℕ → (ℕ → ℕ) → (ℕ → ℕ → Entry) → List Plan
 made_by ranks count e = map (λ (r : ℕ). plan_by (count r) (e r)) (range_with_len 0 ranks)

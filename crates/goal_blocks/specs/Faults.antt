@@ -1,4 +1,4 @@
--- Why a schedule is not certified: nine kinds of faults, each of which is readable alone, and the first of them.
+-- Why a schedule is not certified: nine kinds of fault, each of which can be read separately, and which is the first.
 use Rattle.std.specs.Prelude.{ℕ, ◌+◌, ◌^◌, ◌≡◌, ◌≢◌, ◌<◌, ◌≤◌, ◌⊎◌, Bool, false, List, [], ◌∷◌, length, take, Contains, Option, Some, is_some}
 use Rattle.std.specs.List.{sum_by}
 use Rattle.goal_graph.specs.declared.action.OpId.{OpId}
@@ -20,7 +20,7 @@ use Rattle.goal_blocks.specs.Values.{Value, Store, Held, held_after, value}
 use Rattle.goal_blocks.specs.Weight.{weight, weight_within}
 use Rattle.goal_blocks.specs.Certification.{NamesLowSlots, moved_count, AddsAreLight, IsLight}
 
--- x is the least of which P holds, by a key
+-- P holds of x, and of nothing with a lesser key
 pub record IsLeast {A : Type 0} (key : A → List ℕ) (P : A → Type 0) (x : A) : Type 0 where
   pub holds : P x
   pub none_less : (y : A) → IsLess (key y) (key x) → P y → ⊥
@@ -31,13 +31,13 @@ rank_key rank = rank ∷ []
 abbrev pub op_key : OpId → List ℕ
 op_key x = x.rank ∷ x.op ∷ []
 
--- too many operations, a slot that is too high, or too many slots moved up to this rank
+-- too many operations, too high a slot, or too many slots moved by the ranks up to this one
 pub data IsLarge (plans : List Plan) (rank : ℕ) : Type 0 where
   too_many : 2048 < length (ops_at plans rank) → IsLarge plans rank
   too_high : (n : Note) → Contains (notes_at plans rank) n → (NamesLowSlots n → ⊥) → IsLarge plans rank
   too_much : rank < length plans → 2 ^ 24 < sum_by (λ (p : Plan). sum_by moved_count p.notes) (take (rank + 1) plans) → IsLarge plans rank
 
--- a receive from any source, or of any tag
+-- a receive from any source or with any tag
 pub record IsWildcard (plans : List Plan) (x : OpId) : Type 0 where
   pub room : ℕ
   pub from : Option ℕ
@@ -45,7 +45,7 @@ pub record IsWildcard (plans : List Plan) (x : OpId) : Type 0 where
   pub kind : kind_at plans x ≡ Some (Recv room from tag)
   pub any : (is_some from ≡ false) ⊎ (is_some tag ≡ false)
 
--- two sends, or two receives, of one channel, of which y is the lesser
+-- two sends, or two receives, of one channel; y is the lesser
 pub record AreDouble (plans : List Plan) (y x : OpId) : Type 0 where
   pub in_order : IsBefore y x
   pub alike : (IsSend plans y × IsSend plans x) ⊎ (IsReceive plans y × IsReceive plans x)
@@ -79,7 +79,7 @@ first_of a = record { rank = a.rank; op = a.first }
 abbrev pub second_of : RaceAt → OpId
 second_of a = record { rank = a.rank; op = a.second }
 
--- both touch the slot, one of them writes it, and neither is before the other
+-- both touch the slot, one of them writes it, and neither ends before the other starts
 pub record IsRace (plans : List Plan) (a : RaceAt) : Type 0 where
   pub in_order : a.first < a.second
   pub first_touches : Contains (touched plans (first_of a)) a.slot
@@ -88,22 +88,22 @@ pub record IsRace (plans : List Plan) (a : RaceAt) : Type 0 where
   pub not_before : EndsBefore plans (first_of a) (second_of a) → ⊥
   pub not_after : EndsBefore plans (second_of a) (first_of a) → ⊥
 
--- an operation without an end in the walk
+-- an operation that has not ended after the walk
 abbrev pub IsStalled : List Plan → OpId → Type 0
 IsStalled plans x =
     IsOp plans x × ((w : List Act) → IsWalk plans w → has_ended plans no_send x w ≡ false)
 
--- so many are too many contributions
+-- n contributions are too many
 abbrev pub IsTooHeavy : ℕ → Type 0
 IsTooHeavy n = 2 ^ 24 < n
 
--- what is held after the first of the notes that a calc adds after which it is too much
+-- `total` is held after the first note of a calc after which it is too much
 abbrev pub AddsTooMuch : List Plan → List Act → Held → OpId → Option Kind → ℕ → Type 0
 AddsTooMuch plans h held x (Some (Calc nanos)) total =
     (n : ℕ) × (weight_within plans h held x n ≡ total) × IsTooHeavy total × ((k : ℕ) → k < n → weight_within plans h held x k ≤ 2 ^ 24)
 AddsTooMuch plans h held x _ total = ⊥
 
--- so many contributions are held at the first moment of these actions at which they are too many
+-- `total` is held after the first of these actions after which it is too much, or at the start
 abbrev pub IsFirstTooHeavy : List Plan → Store → List Act → ℕ → Type 0
 IsFirstTooHeavy plans first [] total =
     (weight plans [] (held_after plans no_send first []) ≡ total) × IsTooHeavy total
@@ -118,7 +118,7 @@ pub record SlotAt : Type 0 where
 abbrev pub slot_key : SlotAt → List ℕ
 slot_key a = a.rank ∷ a.slot ∷ []
 
--- it does not hold what is wanted at the end of the walk
+-- at the end of the walk it holds a value that does not pass the test
 abbrev pub IsWrong : List Plan → Store → (ℕ → ℕ → Value → Bool) → SlotAt → Type 0
 IsWrong plans first wanted a =
     (a.rank < length plans) × ((w : List Act) → IsWalk plans w → wanted a.rank a.slot (value plans no_send first w a.rank a.slot) ≡ false)
@@ -139,10 +139,10 @@ HasFault plans first wanted (Weight total) =
     (w : List Act) → IsWalk plans w → IsFirstTooHeavy plans first w total
 HasFault plans first wanted (Wrong rank slot) =
     IsLeast slot_key (IsWrong plans first wanted) (record { rank = rank; slot = slot })
--- want of memory is no fault of a schedule
+-- out of memory is not a fault of the schedule
 HasFault plans first wanted NoMemory = ⊥
 
--- the place of a kind of fault in the order in which they are told
+-- the order in which kinds of faults are tried
 abbrev pub fault_place : CertFault → ℕ
 fault_place (TooLarge rank) = 0
 fault_place (Wildcard op) = 1

@@ -1,4 +1,4 @@
--- When a schedule that is told by entries is accepted: what each entry must be, and how many there may be.
+-- When a schedule that is given by entries is accepted: what each entry must be, and how many there may be.
 use Rattle.std.specs.Prelude.{ℕ, ◌≡◌, ◌+◌, ◌<◌, ◌≤◌, true, false, length, All}
 use Rattle.std.specs.List.{sum_by, range_with_len}
 use Rattle.goal_limits.specs.Limits.{rank_limit, op_limit, dep_limit, note_limit}
@@ -6,20 +6,20 @@ use Rattle.goal_graph.specs.Fault.{value_fits, has_peer, is_calc, IsAccepted}
 use Rattle.goal_blocks.specs.Slots.{Adding}
 use Rattle.goal_blocks.specs.Entries.{Entry, Span, made_by}
 
--- an entry may be number i of a rank, where there are so many ranks
+-- the entry may be number i of a rank, if there are `ranks` ranks
 pub record IsFitting (ranks i : ℕ) (e : Entry) : Type 0 where
   -- its size or duration is within the limit
   pub value : value_fits e.kind 0 ≡ true
   -- its peer is a rank
   pub peer : has_peer ranks e.kind ≡ true
-  -- it requires operations of lower numbers alone
+  -- it needs only operations of lower numbers
   pub lower : All (λ (k : ℕ). k < i) e.needs
-  -- a calc moves no slots, and the others move them in order
+  -- a calc moves no slots, and other operations move ranges in order
   pub moves : All (λ (s : Span). (is_calc e.kind ≡ false) × (s.lo ≤ s.hi)) e.moves
   -- only a calc adds slots
   pub adds : All (λ (a : Adding). is_calc e.kind ≡ true) e.adds
 
--- how many operations the entries of all ranks require together, and how many notes they have
+-- the number of needs in the entries of all ranks, and the number of their notes
 unfoldable pub need_total : ℕ → (ℕ → ℕ) → (ℕ → ℕ → Entry) → ℕ
 need_total ranks count e =
     sum_by (λ (r : ℕ). sum_by (λ (i : ℕ). length (e r i).needs) (range_with_len 0 (count r))) (range_with_len 0 ranks)
@@ -28,7 +28,7 @@ unfoldable pub note_total : ℕ → (ℕ → ℕ) → (ℕ → ℕ → Entry) �
 note_total ranks count e =
     sum_by (λ (r : ℕ). sum_by (λ (i : ℕ). length (e r i).moves + length (e r i).adds) (range_with_len 0 (count r))) (range_with_len 0 ranks)
 
--- there is a rank, there are not too many, each entry fits, and there are not too many of them
+-- there are ranks, not too many, each entry fits, and there are not too many entries, needs and notes
 pub record AreFitting (ranks : ℕ) (count : ℕ → ℕ) (e : ℕ → ℕ → Entry) : Type 0 where
   pub some_rank : 0 < ranks
   pub few_ranks : ranks ≤ rank_limit
@@ -37,6 +37,6 @@ pub record AreFitting (ranks : ℕ) (count : ℕ → ℕ) (e : ℕ → ℕ → E
   pub few_notes : note_total ranks count e ≤ note_limit
   pub each : (r i : ℕ) → r < ranks → i < count r → IsFitting ranks i (e r i)
 
--- The law: a schedule of entries that fit is accepted.
+-- The law: a schedule whose entries fit is accepted.
 abbrev pub FittingIsAccepted : Type 0
 FittingIsAccepted = (ranks : ℕ) (count : ℕ → ℕ) (e : ℕ → ℕ → Entry) → AreFitting ranks count e → IsAccepted (made_by ranks count e)

@@ -5,13 +5,13 @@ use Rattle.goal_blocks.specs.Generated.{most_ranks, HasRoot, HasPower, IsPossibl
 use Rattle.goal_blocks.specs.declared.gen_fault.GenFault.{GenFault}
 use Rattle.goal_blocks.specs.declared.gen_fault.GenFault.TheVariants.{Ranks, Root, NotPowerOfTwo, NoMemory}
 
--- there is a rank, and there are not too many
+-- there are ranks, and not too many
 pub record AreRanksWithin (what : Collective) (ranks : ℕ) : Type 0 where
   pub some_rank : 0 < ranks
   pub few_ranks : ranks ≤ most_ranks what
 
--- The first of the faults that there is: that of the ranks comes before that of the root, that before that of the power.
--- Only where there is none can memory run out.
+-- The first fault of a collective: that of the ranks comes before that of the root, and that before the power of two.
+-- Memory can run out only if there is none.
 abbrev pub IsGenFault : Collective → ℕ → GenFault → Type 0
 IsGenFault what ranks (Ranks limit) = (limit ≡ most_ranks what) × ((ranks ≡ 0) ⊎ (most_ranks what < ranks))
 IsGenFault what ranks Root = AreRanksWithin what ranks × (HasRoot what ranks → ⊥)

@@ -1,4 +1,4 @@
--- The schedule of each of the ten collectives, and for which ranks there is one.
+-- The schedule of each of the ten collectives, and for which numbers of ranks it exists.
 use Rattle.std.specs.Prelude.{ℕ, ◌+◌, ◌-◌, ◌*◌, ◌<◌, ◌≤◌, List}
 use Rattle.std.specs.Int.{IsPowerOfTwo}
 use Rattle.goal_graph.specs.Schedule.{Plan}
@@ -9,7 +9,7 @@ use Rattle.goal_blocks.specs.Positions.{back, digits, rounds, upward}
 use Rattle.goal_blocks.specs.Made.{bcast_in, bcast_count, barrier_in, allreduce_in, allgather_in, alltoall_in}
 use Rattle.goal_blocks.specs.MadeRooted.{reduce_in, gather_in, scatter_in, reduce_scatter_in, scan_in, scan_count}
 
--- how many operations the rank r has, of so many ranks
+-- the number of operations of rank r
 abbrev pub count_in : Collective → ℕ → ℕ → ℕ
 count_in (Bcast root) ranks r = bcast_count ranks (back ranks r root)
 count_in Barrier ranks r = 3 * digits (ranks - 1)
@@ -22,7 +22,7 @@ count_in (Scatter root) ranks r = upward (back ranks r root) + rounds ranks (bac
 count_in ReduceScatter ranks r = 3 * (ranks - 1)
 count_in Scan ranks r = scan_count ranks r
 
--- its operation number i, with messages of so many bytes
+-- operation number i of rank r, with messages of `bytes` bytes
 abbrev pub entry_in : Collective → ℕ → ℕ → ℕ → ℕ → Entry
 entry_in (Bcast root) ranks bytes r i = bcast_in ranks root bytes (back ranks r root) i
 entry_in Barrier ranks bytes r i = barrier_in ranks bytes r i
@@ -35,11 +35,11 @@ entry_in (Scatter root) ranks bytes r i = scatter_in ranks root bytes (back rank
 entry_in ReduceScatter ranks bytes r i = reduce_scatter_in ranks bytes r i
 entry_in Scan ranks bytes r i = scan_in bytes r i
 
--- the schedule of a collective, for so many ranks, and messages of so many bytes
+-- the schedule of a collective for these ranks, with messages of `bytes` bytes
 unfoldable pub made : Collective → ℕ → ℕ → List Plan
 made what ranks bytes = made_by ranks (λ r. count_in what ranks r) (λ r i. entry_in what ranks bytes r i)
 
--- the most ranks that it may have
+-- the most ranks of a collective
 abbrev pub most_ranks : Collective → ℕ
 most_ranks (Bcast root) = 65536
 most_ranks Barrier = 16384
@@ -52,7 +52,7 @@ most_ranks (Scatter root) = 65536
 most_ranks ReduceScatter = 128
 most_ranks Scan = 2048
 
--- the root, where there is one, is a rank
+-- the root, if the collective has one, is a rank
 abbrev pub HasRoot : Collective → ℕ → Type 0
 HasRoot (Bcast root) ranks = root < ranks
 HasRoot (Reduce root) ranks = root < ranks
@@ -60,12 +60,12 @@ HasRoot (Gather root) ranks = root < ranks
 HasRoot (Scatter root) ranks = root < ranks
 HasRoot _ ranks = Unit {0}
 
--- the ranks of an allreduce are a power of two
+-- the number of ranks of an allreduce is a power of two
 abbrev pub HasPower : Collective → ℕ → Type 0
 HasPower Allreduce ranks = IsPowerOfTwo ranks
 HasPower _ ranks = Unit {0}
 
--- there is a schedule for so many ranks
+-- the collective has a schedule for this number of ranks
 pub record IsPossible (what : Collective) (ranks : ℕ) : Type 0 where
   pub some_rank : 0 < ranks
   pub few_ranks : ranks ≤ most_ranks what

@@ -1,4 +1,4 @@
--- Starts joined: what is held from two of them at once, and the segments of a collective that all begin at once.
+-- Joined starts: what is held from two of them together, and the segments of a collective that all begin together.
 use Rattle.std.specs.Prelude.{ℕ, zero, suc, ◌+◌, ◌*◌, ◌&&◌, ◌≡◌, ◌<◌, Bool, true, not, nat_lt, nat_le, List, [], length, if◌then◌else◌}
 use Rattle.goal_graph.specs.declared.action.OpId.{OpId}
 use Rattle.goal_graph.specs.Schedule.{Plan}
@@ -11,17 +11,17 @@ use Rattle.goal_blocks.specs.Right.{EndsInItsPairs}
 use Rattle.goal_blocks.specs.Certification.{IsCertified}
 use Rattle.goal_blocks.specs.Segments.{initial_in, IsCertifiedIn, HoldsSegment}
 
--- each slot holds what it holds in the one and in the other
+-- each slot holds what it holds in both, merged
 abbrev pub joined : Store → Store → Store
 joined first more rank slot = merge (first rank slot) (more rank slot)
 
--- the starts of the first segments, at once
+-- the starts of the first `count` segments, joined
 unfoldable pub all_starts : Collective → ℕ → ℕ → ℕ → Store
 all_starts what width zero ranks rank slot = []
 all_starts what width (suc count) ranks rank slot =
     merge (all_starts what width count ranks rank slot) (initial_in what width count ranks rank slot)
 
--- a slot of one of so many blocks, but not of this one
+-- a slot of one of the `count` blocks other than this one
 abbrev pub is_elsewhere : ℕ → ℕ → ℕ → ℕ → Bool
 is_elsewhere width count block slot =
     nat_lt slot (count * width) && not (nat_le (block * width) slot && nat_lt slot (block * width + width))
@@ -30,15 +30,15 @@ is_elsewhere width count block slot =
 abbrev pub keeps_out : ℕ → ℕ → ℕ → ℕ → ℕ → Value → Bool
 keeps_out width count block rank slot v = if is_elsewhere width count block slot then is_value v [] else true
 
--- The laws, for all schedules. The function `laws_of_joined_starts` ensures each.
+-- The laws hold for all schedules. The function `laws_of_joined_starts` ensures each of them.
 
--- what is held from two starts joined is what is held from the one and from the other, joined
+-- what is held from two joined starts is what is held from each of them, merged
 abbrev pub JoinedHoldsBoth : Type 0
 JoinedHoldsBoth = (plans : List Plan) (eager : OpId → Bool) (first more : Store) (h : List Act) (rank slot : ℕ) → value plans eager (joined first more) h rank slot ≡ merge (value plans eager first h rank slot) (value plans eager more h rank slot)
 
--- Where a schedule is certified in each of so many blocks, and for leaving the other blocks empty, then from the starts of all
--- segments at once each complete interleaving, whatever is eager, leaves in each block what it leaves there from the start of
--- its own segment alone, which is what is wanted.
+-- A schedule that is certified in each of `count` blocks, and for leaving the other blocks empty, is right in all
+-- blocks together: from the joined starts of all segments, each complete interleaving, whichever sends are eager,
+-- leaves in each block what it leaves there from the start of its own segment alone, which is what is wanted.
 abbrev pub SegmentsAtOnce : Type 0
 SegmentsAtOnce = (what : Collective) (width count : ℕ) (plans : List Plan) (eager : OpId → Bool) (h : List Act)
     → ((block : ℕ) → block < count → IsCertifiedIn what width block plans)

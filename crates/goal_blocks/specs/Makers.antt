@@ -1,11 +1,11 @@
--- Which of the ten collectives `generate` makes, and what the code keeps of a root.
+-- Which of the ten collectives `generate` makes, and a fact on roots that only the code uses.
 use Rattle.std.specs.Prelude.{ℕ, Bool, true, false}
 use Rattle.std.proofs.Props.{props}
 use Rattle.goal_blocks.specs.declared.collective.Collective.{Collective}
 use Rattle.goal_blocks.specs.declared.collective.Collective.TheVariants.{Bcast, Reduce, Gather, Scatter, Barrier, Allgather, Allreduce, Alltoall}
 use Rattle.goal_blocks.specs.Generated.{HasRoot}
 
--- that it has its root says no more than that it holds
+-- two proofs that a collective has its root are equal
 pub HasRoot-prop : (what : Collective) (ranks : ℕ) → IsProp (HasRoot what ranks)
 HasRoot-prop (Bcast root) ranks = hlevel props
 HasRoot-prop (Reduce root) ranks = hlevel props
@@ -13,7 +13,7 @@ HasRoot-prop (Gather root) ranks = hlevel props
 HasRoot-prop (Scatter root) ranks = hlevel props
 HasRoot-prop _ ranks = hlevel props
 
--- `generate` of goal_collectives makes its schedule, and not `generate_rooted` of goal_rooted
+-- its schedule comes from `generate` of goal_collectives, and otherwise from `generate_rooted` of goal_rooted
 abbrev pub is_made_by_generate : Collective → Bool
 is_made_by_generate (Bcast root) = true
 is_made_by_generate Barrier = true

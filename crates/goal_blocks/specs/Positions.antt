@@ -1,11 +1,11 @@
--- Where ranks stand in a ring and in a tree, and which slots a part of the tree has.
--- Where there is a root z, the rank r has the virtual rank `back ranks r z`; the rank of the virtual rank v is
+-- The places of ranks in a ring and in a tree, and the slots of a part of the tree.
+-- With root z, rank r has the virtual rank `back ranks r z`, and the rank of the virtual rank v is
 -- `ahead ranks v z`.
 use Rattle.std.specs.Prelude.{ℕ, ◌+◌, ◌-◌, ◌/◌, ◌%◌, ◌^◌, ◌==◌, nat_lt, nat_le, min, List, [], ◌∷◌, if◌then◌else◌}
 use Rattle.std.specs.Int.Count.{count_leading_zeros, count_trailing_zeros}
 use Rattle.goal_blocks.specs.Entries.{Span}
 
--- s ranks on in the ring: (v + s) mod ranks, for s and v below `ranks`
+-- s ranks ahead in the ring: (v + s) mod ranks, for s and v below `ranks`
 unfoldable pub ahead : ℕ → ℕ → ℕ → ℕ
 ahead ranks v s = if nat_lt (v + s) ranks then v + s else v + s - ranks
 
@@ -37,11 +37,11 @@ parent ranks root v = ahead ranks (v - 2 ^ low v) root
 abbrev pub upward : ℕ → ℕ
 upward v = if v == 0 then 0 else 1
 
--- the slots x up to y of so many, or from x to the last and then from 0 up to y
+-- the slots from x to y in the ring of `ranks` slots: x to y, or x to the last one and then 0 to y
 abbrev pub span : ℕ → ℕ → ℕ → List Span
 span ranks x y =
     if nat_le x y then record { lo = x; hi = y } ∷ [] else record { lo = x; hi = ranks - 1 } ∷ record { lo = 0; hi = y } ∷ []
 
--- the slots of the virtual ranks v up to v + s - 1, as far as there are such
+-- the slots of the virtual ranks v to v + s - 1, as far as these exist
 unfoldable pub share : ℕ → ℕ → ℕ → ℕ → List Span
 share ranks root v s = span ranks (ahead ranks v root) (ahead ranks (min (v + s) ranks - 1) root)

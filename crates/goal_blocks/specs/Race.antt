@@ -1,4 +1,4 @@
--- Races: two operations of one rank of which neither is before the other, though one writes what the other touches.
+-- Races: two operations of one rank, neither ending before the other, though one writes a slot that the other touches.
 use Rattle.std.specs.Prelude.{ℕ, ◌≡◌, ◌≢◌, ◌⊎◌, List, Contains}
 use Rattle.goal_graph.specs.declared.action.OpId.{OpId}
 use Rattle.goal_graph.specs.declared.plan.Need.{Need}
@@ -6,12 +6,12 @@ use Rattle.goal_graph.specs.declared.plan.When.TheVariants.{AfterEnd}
 use Rattle.goal_graph.specs.Schedule.{Plan, needs, needed}
 use Rattle.goal_blocks.specs.Slots.{written, touched}
 
--- z is y, or is reached from y by needs of either kind
+-- z is y, or y needs it, directly or through other operations, by needs of either kind
 pub data Reaches (plans : List Plan) : OpId → OpId → Type 0 where
   here : {y : OpId} → Reaches plans y y
   through : {y z : OpId} → (d : Need) → Contains (needs plans y) d → Reaches plans (needed y d) z → Reaches plans y z
 
--- the end of x comes before the start of y: some operation that is y, or is reached from y, requires the end of x
+-- x ends before y starts: y, or an operation that y reaches, needs the end of x
 pub record EndsBefore (plans : List Plan) (x y : OpId) : Type 0 where
   pub by : OpId
   pub reached : Reaches plans y by
@@ -20,7 +20,7 @@ pub record EndsBefore (plans : List Plan) (x y : OpId) : Type 0 where
   pub at_end : need.when ≡ AfterEnd
   pub names : needed by need ≡ x
 
--- of two operations of a rank of which one writes a slot that the other touches
+-- two operations of a rank conflict: one writes a slot that the other touches
 pub record Conflict (plans : List Plan) (x y : OpId) : Type 0 where
   pub one_rank : x.rank ≡ y.rank
   pub two : x ≢ y
@@ -28,6 +28,6 @@ pub record Conflict (plans : List Plan) (x y : OpId) : Type 0 where
   pub is_touched : Contains (touched plans x) slot
   pub is_written : Contains (written plans y) slot
 
--- where two operations conflict, one ends before the other
+-- if two operations conflict, one ends before the other starts
 abbrev pub HasNoRace : List Plan → Type 0
 HasNoRace plans = (x y : OpId) → Conflict plans x y → EndsBefore plans x y ⊎ EndsBefore plans y x

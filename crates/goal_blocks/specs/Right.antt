@@ -1,4 +1,4 @@
--- What is right in every interleaving: what certification brings, and for which ranks the made schedules are certified by proof.
+-- What is right in every interleaving, as certification ensures; and which generated schedules are certified by proof.
 use Rattle.std.specs.Prelude.{◌≡◌, ◌↔◌, Bool, List, Some, ℕ, ◌≤◌, length}
 use Rattle.goal_graph.specs.declared.action.OpId.{OpId}
 use Rattle.goal_graph.specs.Schedule.{Plan, IsSend}
@@ -13,27 +13,27 @@ use Rattle.goal_blocks.specs.declared.collective.Collective.{Collective}
 use Rattle.goal_blocks.specs.declared.collective.Collective.TheVariants.{Barrier, Allreduce}
 use Rattle.goal_blocks.specs.Collectives.{initial, wanted}
 
--- each operation has an end, and the pairs join each send with the receive of its channel and no others
+-- each operation has ended, and each send is paired with the receive of its channel; there are no other pairs
 pub record EndsInItsPairs (plans : List Plan) (eager : OpId → Bool) (h : List Act) : Type 0 where
   pub all_end : AllEnd plans eager h
   pub pairs : (m x : OpId) → ((partner (pairs plans h) m ≡ Some x) × IsSend plans m) ↔ AreOfOneChannel plans m x
 
--- right in one interleaving: it ends, with the right pairs, and leaves what is wanted
+-- right in one interleaving: it ends, with the right pairs, and the slots hold what is wanted
 pub record IsRight (plans : List Plan) (first : Store) (wanted : ℕ → ℕ → Value → Bool) (eager : OpId → Bool) (h : List Act) : Type 0 where
   pub ends : EndsInItsPairs plans eager h
   pub wanted_held : HoldsWanted plans wanted (value plans eager first h)
 
--- right in every complete interleaving, whatever is eager
+-- right in every complete interleaving, whichever sends are eager
 abbrev pub IsRightEverywhere : List Plan → Store → (ℕ → ℕ → Value → Bool) → Type 0
 IsRightEverywhere plans first wanted =
     (eager : OpId → Bool) (h : List Act) → IsCompleteInterleaving plans eager h → IsRight plans first wanted eager h
 
--- it does what the collective wants in every complete interleaving, whatever is eager
+-- it does what the collective wants, in every complete interleaving, whichever sends are eager
 abbrev pub IsRightFor : Collective → List Plan → Type 0
 IsRightFor what plans = IsRightEverywhere plans (initial what (length plans)) (wanted what (length plans))
 
--- For which numbers of ranks the made schedules are certified by proof: all that there may be, but those of a barrier and an
--- allreduce, which hold too many contributions above this.
+-- The numbers of ranks for which generated schedules are certified by proof: all possible ones, except those of a
+-- barrier and an allreduce with more than 2,048 ranks, which hold too many contributions.
 abbrev pub IsCertifiedByProof : Collective → ℕ → Type 0
 IsCertifiedByProof Barrier ranks = ranks ≤ 2048
 IsCertifiedByProof Allreduce ranks = ranks ≤ 2048

@@ -1,4 +1,4 @@
--- The slots that operations touch, from the notes of their rank in list order.
+-- The slots that operations touch, by the notes of their rank, in list order.
 use Rattle.std.specs.Prelude.{ℕ, zero, suc, ◌+◌, ◌-◌, ◌==◌, List, [], ◌∷◌, map, flat_map, Option, Some, None, slice_get, unwrap_or, if◌then◌else◌}
 use Rattle.std.specs.Option.{option_map}
 use Rattle.goal_graph.specs.declared.action.OpId.{OpId}
@@ -9,12 +9,12 @@ use Rattle.goal_graph.specs.declared.plan.Note.TheVariants.{Moves, Adds}
 use Rattle.goal_graph.specs.Schedule.{Plan, kind_at}
 pub use Rattle.goal_blocks.specs.declared.slots.Adding.{Adding}
 
--- n slots, the first of which is given
+-- n slots from `lo` on
 unfoldable pub slots_from : ℕ → ℕ → List ℕ
 slots_from lo zero = []
 slots_from lo (suc n) = lo ∷ slots_from (lo + 1) n
 
--- the notes of a rank, none where there is no such rank
+-- the notes of a rank, or none if the rank does not exist
 unfoldable pub notes_at : List Plan → ℕ → List Note
 notes_at plans rank = unwrap_or (option_map (λ (p : Plan). p.notes) (slice_get plans rank)) []
 
@@ -30,7 +30,7 @@ added_by op (Adds of from to) = if of == op then record { from = from; to = to }
 unfoldable pub slots : List Plan → OpId → List ℕ
 slots plans x = flat_map (moved_by x.op) (notes_at plans x.rank)
 
--- what a calc adds
+-- what a calc adds, in order
 unfoldable pub adds : List Plan → OpId → List Adding
 adds plans x = flat_map (added_by x.op) (notes_at plans x.rank)
 

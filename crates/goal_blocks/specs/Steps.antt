@@ -1,4 +1,4 @@
--- The entry that a step of the code stands for.
+-- The entry of a step, as the code gives it.
 use Rattle.std.specs.Prelude.{ℕ, Some, None, List, [], ◌∷◌, ◌++◌, map}
 use Rattle.std.specs.List.{range_with_len}
 use Rattle.goal_blocks.specs.declared.steps.Step.{Step}
@@ -30,7 +30,7 @@ abbrev pub adds_of : Effect → List Adding
 adds_of (Moves first second) = []
 adds_of (Adds from to) = record { from = from; to = to } ∷ []
 
--- the notes of the operation with that number
+-- the notes of operation number `op`
 abbrev pub notes_from : ℕ → Effect → List Note
 notes_from op effect =
     map (λ (s : Span). note.Moves op s.lo s.hi) (moves_of effect) ++ map (λ (a : Adding). note.Adds op a.from a.to) (adds_of effect)

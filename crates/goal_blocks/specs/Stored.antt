@@ -1,4 +1,4 @@
--- What a store keeps: the slots that were set since the start, with their values. Each other slot has its first value.
+-- What a store keeps: the slots that were set since the start, with their values. Every other slot has its first value.
 use Rattle.std.specs.Prelude.{ℕ, ◌≡◌, ◌≤◌, false, List, [], ◌∷◌, map, Option, Some, None, unwrap_or, Vec}
 use Rattle.std.specs.Global.{Global}
 use Rattle.std.specs.List.{AllByRecursion}
@@ -35,12 +35,12 @@ values s r k = unwrap_or (written_at s (r, k)) (initial s.what s.ranks r k)
 abbrev pub ComesFirst : Contribution → Value → Type 0
 ComesFirst c v = AllByRecursion (λ d. is_lower d c ≡ false) v
 
--- the contributions of a value rise: none is lower than an earlier one
+-- a value is sorted: no contribution is lower than an earlier one
 abbrev pub IsSorted : Value → Type 0
 IsSorted [] = Unit {0}
 IsSorted (c ∷ v) = ComesFirst c v × IsSorted v
 
--- what is true of each store that counts so many contributions
+-- the invariant of a store that counts `held` contributions
 pub record IsSound (s : Kept) (held : ℕ) : Type 0 where
   pub ranks : s.ranks ≤ 65536
   pub sorted : (r k : ℕ) → IsSorted (values s r k)
@@ -59,7 +59,7 @@ abbrev pub one_or_none : Option Contribution → Value
 one_or_none None = []
 one_or_none (Some c) = c ∷ []
 
--- what a slot held that was set to this, or else had that one contribution at the start
+-- what a slot held: the value to which it was set, or if it was not set its contribution at the start
 abbrev pub before : Option (Vec Contribution Global) → Option Contribution → Value
 before None first = one_or_none first
 before (Some v) first = v.items

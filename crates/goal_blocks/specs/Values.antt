@@ -1,4 +1,4 @@
--- The values of slots, told by looking back through the actions. A list of actions is newest first.
+-- The values of slots after a list of actions, which is newest first.
 use Rattle.std.specs.Prelude.{ℕ, ◌==◌, ◌&&◌, ◌||◌, nat_lt, Bool, List, [], ◌∷◌, map, Option, Some, None, if◌then◌else◌}
 use Rattle.goal_graph.specs.declared.action.OpId.{OpId}
 use Rattle.goal_graph.specs.declared.action.Class.{Class}
@@ -11,7 +11,7 @@ use Rattle.goal_graph.specs.Matching.{pairs, partner}
 pub use Rattle.goal_blocks.specs.declared.collective.Contribution.{Contribution}
 use Rattle.goal_blocks.specs.Slots.{Adding, slots, adds}
 
--- contributions in order, each as often as it was combined
+-- sorted contributions, each as often as it was combined
 abbrev pub Value : Type 0
 Value = List Contribution
 
@@ -26,7 +26,7 @@ unfoldable pub insert_one : Contribution → Value → Value
 insert_one c [] = c ∷ []
 insert_one c (d ∷ ds) = if is_lower c d then c ∷ d ∷ ds else d ∷ insert_one c ds
 
--- both values together; what stands in both stands twice
+-- the contributions of both values; one in both occurs twice
 unfoldable pub merge : Value → Value → Value
 merge [] w = w
 merge (c ∷ v) w = insert_one c (merge v w)
@@ -34,7 +34,7 @@ merge (c ∷ v) w = insert_one c (merge v w)
 unfoldable pub set_slot : ℕ → ℕ → Value → Store → Store
 set_slot rank slot v store r k = if (r == rank) && (k == slot) then v else store r k
 
--- the slots take the values in order; where a slot stands twice, the later value stays
+-- the slots are set to the values, in order; if a slot occurs twice, the later value stays
 unfoldable pub write : ℕ → List ℕ → List Value → Store → Store
 write rank [] vs store = store
 write rank (k ∷ ks) [] store = store
@@ -45,7 +45,7 @@ add_all rank [] store = store
 add_all rank (a ∷ more) store =
     add_all rank more (set_slot rank a.to (merge (store rank a.to) (store rank a.from)) store)
 
--- the values of slots, and what each send has read
+-- the values of all slots, and what each send has read
 pub record Held : Type 0 where
   pub store : Store
   pub payload : OpId → List Value
@@ -62,7 +62,7 @@ module _ (plans : List Plan) where
     payload = λ n. if same_op n m then map (held.store m.rank) (slots plans m) else held.payload n;
   }
 
-  -- what an action of x, an operation of that kind, changes; the pairs are those before it
+  -- the effect of an action of x, an operation of that kind; `with` is its partner in the pairs before it
   abbrev pub change : (OpId → Bool) → Option OpId → Class → OpId → Option Kind → Held → Held
   -- a calc adds at its Begin
   change eager with Begin x (Some (Calc nanos)) held = record { store = add_all x.rank (adds plans x) held.store; payload = held.payload }
@@ -73,7 +73,7 @@ module _ (plans : List Plan) where
   change eager with Serve x (Some (Recv room from tag)) held = record { store = write x.rank (slots plans x) (payload_from held with) held.store; payload = held.payload }
   change eager with _ x _ held = held
 
-  -- what is held after a list of actions, where the slots hold `first` at the start
+  -- what is held after a list of actions, if the slots hold `first` at the start
   unfoldable pub held_after : (OpId → Bool) → Store → List Act → Held
   held_after eager first [] = record { store = first; payload = λ m. [] }
   held_after eager first (a ∷ h) =

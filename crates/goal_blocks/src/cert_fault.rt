@@ -1,58 +1,58 @@
-// Why a schedule is not certified.
+//! Why a schedule is not certified.
 ghost use Rattle.std.specs.Prelude.{◌≡◌};
 ghost use Rattle.goal_blocks.specs.declared.cert_fault.CertFault.TheVariants.{NoMemory};
 
 use goal_graph::OpId;
 use std::alloc::{AllocError, AllocFailed};
 
-/// Why a schedule is not certified for a collective, in the order in which the first fault is told. Of each kind the
-/// least is told: by rank and number of the operation, or by the numbers in the order of the fields.
+/// Why a schedule is not certified for a collective. The kinds are tried in this order, and the least fault of a kind
+/// is returned: by rank and number of the operation, or by the fields in their order.
 #[derive(Clone, Copy, Debug, PartialEq, Eq)]
 pub enum CertFault {
-    /// The rank has more than 2,048 operations, or a note that names a slot over 65,535, or its moves and those of all
+    /// The rank has more than 2,048 operations, or a note names a slot above 65,535, or the moves of this and all
     /// lesser ranks name more than 2^24 slots.
     TooLarge {
         rank: u32,
     },
-    /// The receive takes any source or any tag.
+    /// The receive has a wildcard: any source or any tag.
     Wildcard {
         op: OpId,
     },
-    /// Both are sends, or both are receives, of one source, target and tag.
+    /// Both are sends, or both are receives, of the same source, target and tag.
     DoubleChannel {
         first: OpId,
         second: OpId,
     },
-    /// No receive has the channel of this send, or no send that of this receive.
+    /// No receive has the channel of this send, or no send has the channel of this receive.
     Unpaired {
         op: OpId,
     },
-    /// The send reads another number of slots than the receive of its channel sets.
+    /// The send reads a different number of slots than the receive of its channel sets.
     Lengths {
         send: OpId,
         recv: OpId,
     },
-    /// Both operations touch the slot, one of them sets it, and neither ends before the other by dependencies.
+    /// Both operations touch the slot, one of them sets it, and neither ends before the other starts by dependencies.
     Race {
         rank: u32,
         first: u32,
         second: u32,
         slot: u32,
     },
-    /// The operation has no end in the walk.
+    /// The operation has not ended after the walk.
     Stalls {
         op: OpId,
     },
-    /// So many contributions are held at the first moment of the walk at which they are more than 2^24.
+    /// The number of contributions held when they first exceed 2^24 in the walk.
     Weight {
         held: u64,
     },
-    /// The slot does not hold at the end what is wanted of it.
+    /// At the end the slot does not hold what is wanted.
     Wrong {
         rank: u32,
         slot: u32,
     },
-    /// Memory ran out: nothing is said of the schedule.
+    /// Out of memory: nothing is known of the schedule.
     NoMemory,
 }
 

@@ -1,9 +1,9 @@
-// The collectives, and what their values are made of.
+//! The collectives, and what values consist of.
 ghost use Rattle.std.specs.Prelude.{◌≡◌};
 ghost use Rattle.goal_blocks.specs.Makers.{is_made_by_generate};
 
-/// A collective: what all ranks together are to do with the values of their slots. `initial` and `wanted` say for each
-/// what the slots hold at the start, and what they must hold at the end.
+/// A collective: what all ranks together do with the values of their slots. `initial` and `wanted` (specs/Collectives)
+/// define what the slots hold at the start, and must hold at the end.
 #[derive(Clone, Copy, Debug, PartialEq, Eq)]
 pub enum Collective {
     /// Every rank gets the value of the root.
@@ -29,8 +29,8 @@ pub enum Collective {
 }
 
 impl Collective {
-    /// Whether it is a broadcast, barrier, allgather, allreduce or alltoall, the schedules of which `generate` of goal_collectives
-    /// makes; `generate_rooted` of goal_rooted makes those of the others.
+    /// Returns whether it is a broadcast, barrier, allgather, allreduce or alltoall. `generate` of goal_collectives
+    /// makes the schedules of these; `generate_rooted` of goal_rooted makes those of the others.
     #[must_use]
     pub fn is_made_by_generate(&self) -> bool
         ensures { result ≡ is_made_by_generate self.now }
@@ -45,7 +45,7 @@ impl Collective {
         )
     }
 
-    /// The same, by its shorter name.
+    /// Returns the same as [`Collective::is_made_by_generate`].
     #[must_use]
     pub fn is_first(&self) -> bool
         ensures { result ≡ is_made_by_generate self.now }
@@ -54,9 +54,11 @@ impl Collective {
     }
 }
 
-/// A part of a value: the item of that number of the rank that had it at the start.
+/// A part of a value: an item of the rank that had it at the start.
 #[derive(Clone, Copy, Debug, PartialEq, Eq, PartialOrd, Ord, Hash)]
 pub struct Contribution {
+    /// The rank that had it.
     pub rank: u32,
+    /// The number of the item on that rank.
     pub item: u32,
 }

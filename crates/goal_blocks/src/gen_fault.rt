@@ -1,19 +1,19 @@
-// Why a collective has no schedule.
+//! Why a collective has no schedule.
 ghost use Rattle.std.specs.Prelude.{◌≡◌};
 ghost use Rattle.goal_blocks.specs.declared.gen_fault.GenFault.TheVariants.{NoMemory};
 
 use std::alloc::{AllocError, AllocFailed};
 
-/// Why there is no schedule of a collective for so many ranks.
+/// Why a collective has no schedule for a number of ranks.
 #[derive(Clone, Copy, Debug, PartialEq, Eq)]
 pub enum GenFault {
-    /// There is no rank, or there are more than `limit`, the most that the collective may have.
+    /// There is no rank, or there are more than `limit`, the most of this collective.
     Ranks { limit: u32 },
-    /// The root is none of the ranks.
+    /// The root is not one of the ranks.
     Root,
-    /// The number of ranks is not a power of two.
+    /// The number of ranks of an allreduce is not a power of two.
     NotPowerOfTwo,
-    /// Memory ran out.
+    /// Out of memory.
     NoMemory,
 }
 

@@ -1,5 +1,5 @@
-// For which ranks a collective has a schedule. The laws of schedules that are told by entries: their function does
-// nothing, and a proof cites a law by a call.
+//! For which numbers of ranks a collective has a schedule, and the laws of schedules that are given by entries. The
+//! function of the laws does nothing: a proof cites a law by a call.
 ghost use Rattle.goal_blocks.specs.Fitting.{FittingIsAccepted};
 ghost use Rattle.goal_blocks.specs.Laws.{MadeIsAccepted, MadeIsCertified, OnlyTheseAreCertified, MadeIsRight};
 ghost use Rattle.goal_blocks.specs.Messages.{BcastIsPaired, AllgatherIsPaired, ScanIsPaired};
@@ -10,7 +10,7 @@ impl Collective {
     ghost use Rattle.std.specs.Prelude.{◌≡◌, ◌↔◌, IsTrue};
     ghost use Rattle.goal_blocks.specs.Generated.{most_ranks, HasRoot};
 
-    /// The most ranks that its schedule may have.
+    /// Returns the most ranks of its schedule.
     #[must_use]
     pub fn most_ranks(&self) -> u32
         ensures { result ≡ most_ranks self.now }
@@ -27,7 +27,7 @@ impl Collective {
         }
     }
 
-    /// Whether its root, if it has one, is one of so many ranks.
+    /// Returns whether its root, if it has one, is one of `ranks` ranks.
     #[must_use]
     pub fn has_root(&self, ranks: u32) -> bool
         ensures { IsTrue result ↔ HasRoot self.now ranks }
@@ -42,20 +42,21 @@ impl Collective {
     }
 }
 
-/// The laws of schedules that are told by an entry for each rank and number:
+/// The laws of schedules that are given by an entry for each rank and number:
 ///
-/// - `fitting_is_accepted`: a schedule is accepted whose entries name ranks, require operations of lower numbers and
-///   have notes that fit, and of which there are not too many. So nobody waits for himself in it.
+/// - `fitting_is_accepted`: a schedule is accepted if its entries name existing ranks, need only operations of lower
+/// numbers,
+///   have notes that fit, and are not too many. So no operation waits for itself.
 /// - `made_is_accepted`: the schedule of each of the ten collectives is accepted, for all ranks, roots and sizes within
 ///   the limits.
 /// - `bcast_is_paired`, `allgather_is_paired`, `scan_is_paired`: in a broadcast, an allgather and a scan each send has
-///   exactly one receive of its channel, and each receive one send.
-/// - `made_is_certified`: the schedules of the ten collectives, of the barrier and allreduce those up to 2,048 ranks, are
-///   certified, for all ranks, roots and sizes within the limits, without a check.
-/// - `only_these_are_certified`: those of the barrier and allreduce for more than 2,048 ranks are not certified, since at
-///   the end of the walk too much is held.
+///   exactly one receive of its channel, and each receive exactly one send.
+/// - `made_is_certified`: the schedules of the ten collectives are certified without a check, for all ranks, roots and
+///   sizes within the limits; those of the barrier and allreduce for up to 2,048 ranks.
+/// - `only_these_are_certified`: those of the barrier and allreduce for more than 2,048 ranks are not certified, since
+///   too much is held at the end of the walk.
 /// - `made_is_right`: the schedules of all ten are right everywhere, for all ranks, roots and sizes within the limits,
-///   those of the barrier and allreduce for more than 2,048 ranks too.
+///   including the barrier and allreduce for more than 2,048 ranks.
 pub fn laws_of_made_schedules()
     ensures fitting_is_accepted { FittingIsAccepted }
     ensures made_is_accepted { MadeIsAccepted }

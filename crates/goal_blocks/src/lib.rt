@@ -1,4 +1,4 @@
-//! What a schedule does to the slots of its ranks, and when that is right whatever comes first.
+//! What a schedule does to the slots of its ranks, and when that is right in every order of events.
 #![tactic(auto)]
 
 mod cert_fault;

@@ -1,4 +1,4 @@
-// Whether a collective has a schedule, and the schedule that a formula of it gives.
+//! Whether a collective has a schedule, and the schedule that its formula gives.
 ghost use Rattle.std.specs.Prelude.{◌≡◌, ◌≢◌, ◌≤◌, ◌↔◌, IsTrue, OnOk, IfOk, IfErr};
 ghost use Rattle.goal_graph.specs.Fault.{IsAccepted};
 ghost use Rattle.goal_blocks.specs.Certified.{IsCertifiedFor};
@@ -14,7 +14,7 @@ use goal_graph::Sched;
 use goal_limits::MAX_BYTES;
 use std::alloc::Global;
 
-// Whether the number of ranks is a power of two, where it has to be.
+// Returns whether the number of ranks is a power of two, if it has to be.
 fn has_power(what: Collective, ranks: u32) -> bool
     ensures { IsTrue result ↔ HasPower what ranks }
 {
@@ -24,12 +24,12 @@ fn has_power(what: Collective, ranks: u32) -> bool
     }
 }
 
-/// Whether a collective has a schedule for so many ranks.
+/// Checks that a collective has a schedule for this number of ranks.
 ///
 /// # Errors
 ///
-/// The first of these: no ranks, or more than the collective may have; a root that is no rank; an allreduce among
-/// another number of ranks than a power of two.
+/// The first of these: no rank, or more than the collective may have; a root that is not a rank; an allreduce whose
+/// number of ranks is not a power of two. It is never `NoMemory`.
 pub fn possible(what: Collective, ranks: u32) -> Result<(), GenFault>
     ensures possible { OnOk result (IsPossible what ranks) }
     ensures fault { IfErr result (λ fault. IsGenFault what ranks fault) }
@@ -48,12 +48,12 @@ pub fn possible(what: Collective, ranks: u32) -> Result<(), GenFault>
     Ok(())
 }
 
-/// The schedule of a collective among so many ranks, with messages of so many bytes, by a formula that tells its operations.
-/// It is made in one pass over the ranks and their operations.
+/// Returns the schedule of a collective for `ranks` ranks, with messages of `bytes` bytes, by a formula that gives its
+/// operations. It makes one pass over the ranks and their operations.
 ///
 /// # Errors
 ///
-/// Want of memory.
+/// Only `NoMemory`.
 pub fn schedule_by<F: Formula>(
     alloc: Global,
     what: Collective,

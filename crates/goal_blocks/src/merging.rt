@@ -1,4 +1,4 @@
-// Two values together.
+//! Merging two values.
 ghost use Rattle.std.specs.Prelude.{◌≡◌, IfOk};
 ghost use Rattle.goal_blocks.specs.Values.{is_lower, merge};
 ghost use Rattle.goal_blocks.specs.Stored.{IsSorted};
@@ -7,14 +7,14 @@ use crate::collective::Contribution;
 use goal_limits::NoMemory;
 use std::alloc::Global;
 
-// Whether the first comes before the second.
+// Returns whether the first comes before the second.
 fn is_lower(first: Contribution, second: Contribution) -> bool
     ensures { result ≡ is_lower first second }
 {
     first.rank < second.rank || (first.rank == second.rank && first.item < second.item)
 }
 
-/// Both sorted values together, in one pass. `NoMemory` where memory ran out.
+/// Returns the contributions of both sorted values, sorted, in one pass. `Err` means out of memory.
 pub(crate) fn merged(
     alloc: Global,
     left: &[Contribution],

@@ -1,10 +1,10 @@
-// Where ranks stand in a ring and in a binomial tree.
+//! The places of ranks in a ring and in a binomial tree.
 ghost use Rattle.std.specs.Prelude.{◌≡◌, ◌+◌, ◌-◌, ◌^◌, ◌<◌, ◌≤◌};
 ghost use Rattle.goal_blocks.specs.Positions.{ahead, back, digits};
 
 use goal_limits::MAX_RANKS;
 
-/// The rank that is `steps` ahead of another one in the ring.
+/// Returns the rank that is `steps` ahead of `rank` in the ring.
 #[must_use]
 #[tactic(auto, unfolding(crate::specs::Positions::ahead))]
 pub fn ahead(ranks: u32, rank: u32, steps: u32) -> u32
@@ -18,8 +18,7 @@ pub fn ahead(ranks: u32, rank: u32, steps: u32) -> u32
     if place < ranks { place } else { place - ranks }
 }
 
-/// The rank that is `steps` back from another one in the ring. A rank's virtual rank is it, as many steps back as the
-/// root's number.
+/// Returns the rank that is `steps` back from `rank` in the ring. With the root as `steps`, this is the virtual rank.
 #[must_use]
 #[tactic(auto, unfolding(crate::specs::Positions::back))]
 pub fn back(ranks: u32, rank: u32, steps: u32) -> u32
@@ -36,7 +35,7 @@ pub fn back(ranks: u32, rank: u32, steps: u32) -> u32
     }
 }
 
-/// The number of binary digits.
+/// Returns the number of binary digits.
 #[must_use]
 #[tactic(auto, unfolding(crate::specs::Positions::digits))]
 pub fn digits(number: u32) -> u32
@@ -45,7 +44,7 @@ pub fn digits(number: u32) -> u32
     u32::BITS - number.leading_zeros()
 }
 
-/// 2 to this power.
+/// Returns 2 to this power, which is below 32.
 #[must_use]
 #[tactic(auto, using(crate::proofs::RingAndTree::one_shifted))]
 pub fn power(exponent: u32) -> u32

@@ -1,4 +1,4 @@
-// Segments of a collective, each in a block of slots of its own.
+//! Segments of a collective, each in its own block of slots.
 ghost use Rattle.std.specs.Prelude.{◌≡◌, ◌+◌, ◌*◌, ◌^◌, ◌≤◌, ◌++◌, flat_map, IfOk, OnOk};
 ghost use Rattle.goal_graph.specs.declared.plan.Note.TheVariants.{Moves};
 ghost use Rattle.goal_blocks.specs.Renamed.{renamed_note};
@@ -8,18 +8,18 @@ use goal_graph::Note;
 use goal_limits::NoMemory;
 use std::alloc::{AllocError, Global};
 
-/// A segment of a collective: it is done in a block of slots as the collective is done in the first ones. The segment of
-/// that number has the slots `block` times `width` up to `width` - 1 more.
+/// A segment of a collective, which is done in a block of slots as the collective is done in the first ones. Its slots
+/// are the `width` ones from `block` times `width` on.
 #[derive(Clone, Copy, Debug, PartialEq, Eq)]
 pub struct Segment {
-    /// How many slots a block has, which are those that the collective names.
+    /// The number of slots of a block: those that the collective names.
     pub width: u32,
     /// The number of the block, from 0.
     pub block: u32,
 }
 
 impl Segment {
-    /// The first segment, in which a collective is done as it is.
+    /// Returns the first segment, in which a collective uses its usual slots.
     #[must_use]
     pub const fn first() -> Segment
         ensures { result ≡ record { width = 0; block = 0 } }
@@ -27,8 +27,8 @@ impl Segment {
         Segment { width: 0, block: 0 }
     }
 
-    /// The slot for which this one is exchanged: those of the first block and those of its own are, each for the one at
-    /// its place.
+    /// Returns the slot with which this one is exchanged. A slot of the first block and the one at its place in this
+    /// block are exchanged; any other stays.
     #[must_use]
     pub fn exchanged(self, slot: u32) -> u32
         requires { self.block * self.width + self.width ≤ 2 ^ 32 }
@@ -44,8 +44,8 @@ impl Segment {
         }
     }
 
-    /// The notes of a rank with the two blocks exchanged in them: a move of many slots becomes one of each of them.
-    /// `NoMemory` where memory ran out.
+    /// Returns the notes of a rank with the two blocks exchanged in them: a move of several slots becomes a move of
+    /// each. `Err` means out of memory.
     pub fn exchanged_notes(self, alloc: Global, notes: &[Note]) -> Result<Vec<Note>, NoMemory>
         requires { self.block * self.width + self.width ≤ 2 ^ 32 }
         ensures { IfOk result (λ v. v.items ≡ flat_map (renamed_note (exchange self.width self.block)) notes.now) }
@@ -75,7 +75,7 @@ impl Segment {
         }
     }
 
-    // Appends a move of each of the slots from `lo` up to `hi`, exchanged.
+    // Appends a move of each of the slots from `lo` to `hi`, exchanged.
     fn push_moves(self, list: &mut Vec<Note>, op: u32, lo: u32, hi: u32) -> Result<(), AllocError>
         requires { self.block * self.width + self.width ≤ 2 ^ 32 }
         ensures { OnOk result (list.new.items

@@ -1,4 +1,4 @@
-//! The slots that the operations of a schedule move, and what its calcs add, found once for all.
+//! The slots that the operations of a schedule move, and what its calcs add, collected once.
 ghost use Rattle.std.specs.Prelude.{◌≡◌, ℕ, ◌+◌, ◌<◌, ◌≤◌, [], ◌++◌, length, take, flat_map, slice_index, slice_range, IfOk, IfSome, OnOk};
 ghost use Rattle.goal_graph.specs.Fault.{IsOp};
 ghost use Rattle.goal_blocks.specs.Slots.{added_by, slots, adds};
@@ -12,8 +12,8 @@ use goal_limits::NoMemory;
 use std::alloc::{AllocError, Global};
 use std::marker::Model;
 
-/// The ranges of slots that each operation of a rank moves, and what it adds. Each is one list, with the place where each
-/// operation's entries start, and one more start, where the last entries end.
+/// The ranges of slots that each operation of a rank moves, and its sums. Each is one list, with the start of each
+/// operation's entries, and last the end of all.
 #[derive(Drop)]
 pub(crate) struct RankSlots {
     pub(crate) moved_starts: Vec<usize>,
@@ -22,7 +22,7 @@ pub(crate) struct RankSlots {
     pub(crate) added: Vec<Adding>,
 }
 
-/// For each operation of a schedule the slots that it moves, and what it adds. Contracts see it as the schedule.
+/// The slots that each operation of a schedule moves, and what it adds. Contracts see the schedule.
 #[derive(Drop)]
 pub struct SlotTable<'a> {
     sched: &'a Sched,
@@ -42,7 +42,7 @@ impl<'a> Model for SlotTable<'a> {
 }
 
 impl<'a> SlotTable<'a> {
-    /// The table of this schedule. `NoMemory` where memory ran out.
+    /// Builds the table of this schedule. `Err` means out of memory.
     pub fn new(alloc: Global, sched: &'a Sched) -> Result<SlotTable<'a>, NoMemory>
         ensures { IfOk result (λ t. t ≡ sched.now) }
     {
@@ -53,7 +53,7 @@ impl<'a> SlotTable<'a> {
         Ok(SlotTable { sched, ranks })
     }
 
-    /// The ranges of the slots that the operation moves, in the order of its rank's notes.
+    /// Returns the ranges of the slots that the operation moves, in the order of its rank's notes.
     pub fn slots_of(&self, id: OpId) -> &[SlotRange]
         requires { IsOp self.now id }
         ensures { slots_in result.now ≡ slots self.now id }
@@ -62,7 +62,7 @@ impl<'a> SlotTable<'a> {
         between(&of_rank.moved, &of_rank.moved_starts, id.op as usize)
     }
 
-    /// What the calc adds, in the order of its rank's notes.
+    /// Returns what the calc adds, in the order of its rank's notes.
     pub fn adds_of(&self, id: OpId) -> &[Adding]
         requires { IsOp self.now id }
         ensures { result.now ≡ adds self.now id }
@@ -72,7 +72,7 @@ impl<'a> SlotTable<'a> {
     }
 }
 
-// The entries from the start of row i up to that of the next.
+// The entries from the start of row i up to the start of the next.
 fn between<'a, T>(entries: &'a [T], starts: &[usize], i: usize) -> &'a [T]
     requires inside { i + 1 < length starts.now }
     requires ordered { slice_index starts.now i ≤ slice_index starts.now (i + 1) }
@@ -92,7 +92,7 @@ fn listed(alloc: Global, plan: &RankPlan) -> Result<RankSlots, AllocError>
     }
 }
 
-// The same in one pass, where the notes stand in the order of their operations, as they mostly do.
+// The same in one pass, if the notes are in the order of their operations, as they usually are.
 fn listed_in_order(alloc: Global, plan: &RankPlan) -> Result<Option<RankSlots>, AllocError>
     ensures { IfOk result (λ found. IfSome found (AreListed plan.now)) }
 {
@@ -118,8 +118,8 @@ fn listed_in_order(alloc: Global, plan: &RankPlan) -> Result<Option<RankSlots>, 
     }))
 }
 
-// Appends what the notes of this operation from the place `at` on move and add. Answers the place of the first note behind
-// them.
+// Appends what the notes of this operation, from the place `at` on, move and add. Returns the place of the first note
+// after them.
 fn push_notes(
     moved: &mut Vec<SlotRange>,
     added: &mut Vec<Adding>,
@@ -209,7 +209,7 @@ fn moved_of(alloc: Global, plan: &RankPlan) -> Result<Vec<Vec<SlotRange>>, Alloc
     Ok(moved)
 }
 
-// The operation of that number, if there is one, moves this range too.
+// Operation number `op`, if it exists, also moves this range.
 fn move_more(moved: &mut [Vec<SlotRange>], op: u32, range: SlotRange) -> Result<(), AllocError>
     ensures { OnOk result (TellsMore ranges_by (Note.Moves op range.lo range.hi) moved.old moved.new) }
 {
@@ -236,7 +236,7 @@ fn added_of(alloc: Global, plan: &RankPlan) -> Result<Vec<Vec<Adding>>, AllocErr
     Ok(added)
 }
 
-// The operation of that number, if there is one, adds this too.
+// Operation number `op`, if it exists, also adds this.
 fn add_more(added: &mut [Vec<Adding>], op: u32, adding: Adding) -> Result<(), AllocError>
     ensures { OnOk result (TellsMore added_by (Note.Adds op adding.from adding.to) added.old added.new) }
 {

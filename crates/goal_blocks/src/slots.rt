@@ -10,22 +10,26 @@ use smallvec::SmallVec;
 use std::alloc::{AllocError, Global};
 use std::marker::Model;
 
-/// The value of the slot `from` is added to that of the slot `to`.
+/// A sum: the value of one slot is added to that of another.
 #[derive(Clone, Copy, Debug, PartialEq, Eq)]
 pub struct Adding {
+    /// The slot that is read.
     pub from: u32,
+    /// The slot to which it is added.
     pub to: u32,
 }
 
-/// The slots from `lo` up to `hi`. There is none where `hi` is less than `lo`.
+/// The slots from `lo` to `hi`, both included. There is none if `hi` is less than `lo`.
 #[derive(Clone, Copy, Debug, Default, PartialEq, Eq)]
 pub struct SlotRange {
+    /// The first slot.
     pub lo: u32,
+    /// The last slot.
     pub hi: u32,
 }
 
 impl SlotRange {
-    /// How many slots the range has.
+    /// Returns the number of slots in the range, at most 2^32.
     #[must_use]
     pub fn count(self) -> u64
         ensures count { result ≡ length (slots_of self) }
@@ -52,7 +56,7 @@ impl SlotRange {
     }
 }
 
-/// How many slots these ranges have, or 2^64-1 where they have more.
+/// Returns the number of slots in these ranges, or 2^64-1 if there are more.
 #[must_use]
 pub fn slot_count(ranges: &[SlotRange]) -> u64
     ensures { result ≡ min (length (slots_in ranges.now)) (2 ^ 64 - 1) }
@@ -64,7 +68,7 @@ pub fn slot_count(ranges: &[SlotRange]) -> u64
     count
 }
 
-/// A list of slots. Contracts see it as that list.
+/// A list of slots. Contracts see that list.
 #[derive(Drop)]
 pub struct Slots {
     ranges: SmallVec<SlotRange, 2>,
@@ -82,7 +86,7 @@ impl Model for Slots {
 }
 
 impl Slots {
-    /// The slots that the operation moves, in the order of its rank's notes. `NoMemory` where memory ran out.
+    /// Returns the slots that the operation moves, in the order of its rank's notes. `Err` means out of memory.
     pub fn of(alloc: Global, sched: &Sched, id: OpId) -> Result<Slots, NoMemory>
         requires { IsOp sched.now id }
         ensures { IfOk result (λ s. s ≡ slots sched.now id) }
@@ -100,21 +104,21 @@ impl Slots {
         Ok(Slots { ranges })
     }
 
-    /// How many slots there are.
+    /// Returns the number of slots.
     pub fn len(&self) -> u64
         ensures { result ≡ length self.now }
     {
         slot_count(self.ranges.as_slice())
     }
 
-    /// Whether there is none.
+    /// Returns whether there is no slot.
     pub fn is_empty(&self) -> bool
         ensures { result ≡ (length self.now == 0) }
     {
         self.len() == 0
     }
 
-    /// The slot at this index.
+    /// Returns the slot at this index.
     pub fn get(&self, i: u64) -> u32
         requires { i < length self.now }
         ensures { result ≡ slice_index self.now i }
@@ -130,7 +134,7 @@ impl Slots {
         unreachable!()
     }
 
-    /// The slots, one after another.
+    /// Returns the slots, one after another.
     pub fn iter(&self) -> SlotIter<'_>
         ensures { result ≡ self.now }
     {
@@ -138,7 +142,7 @@ impl Slots {
     }
 }
 
-// One more range.
+// Appends a range.
 fn push_range(ranges: &mut SmallVec<SlotRange, 2>, range: SlotRange) -> Result<(), AllocError>
     ensures more { OnOk result (slots_in ranges.new.items ≡ slots_in ranges.old.items ++ slots_of range) }
     ensures few { length (slots_of range) ≤ 2 ^ 32 }
@@ -147,7 +151,7 @@ fn push_range(ranges: &mut SmallVec<SlotRange, 2>, range: SlotRange) -> Result<(
     Ok(())
 }
 
-/// The slots of ranges, one after another. Contracts see it as the list of those that are left.
+/// The slots of ranges, one after another. Contracts see the list of those that are left.
 #[derive(Drop)]
 pub struct SlotIter<'a> {
     ranges: &'a [SlotRange],
@@ -168,7 +172,7 @@ impl<'a> Model for SlotIter<'a> {
 }
 
 impl<'a> SlotIter<'a> {
-    /// The slots of these ranges.
+    /// Starts with the slots of these ranges.
     pub fn new(ranges: &'a [SlotRange]) -> SlotIter<'a>
         ensures { result ≡ slots_in ranges.now }
     {
@@ -179,7 +183,7 @@ impl<'a> SlotIter<'a> {
         }
     }
 
-    /// The next slot, if one is left.
+    /// Returns the next slot, if any is left.
     pub fn next(&mut self) -> Option<u32>
         ensures { MatchOption result ((self.old ≡ []) × (self.new ≡ [])) (λ slot. self.old ≡ slot ∷ self.new) }
     {

@@ -1,4 +1,4 @@
-// Schedules that are told by rank and number: what a step is, and the plans of all ranks.
+//! Schedules that are given by rank and number: what a step is, and the plans of all ranks.
 ghost use Rattle.std.specs.Prelude.{◌≡◌, ℕ, ◌^◌, ◌<◌, [], ◌∷◌, ◌++◌, map, OnOk, IfOk};
 ghost use Rattle.std.specs.List.{range_with_len};
 ghost use Rattle.goal_graph.specs.declared.plan.When.TheVariants.{AfterEnd};
@@ -10,20 +10,23 @@ use crate::slots::SlotRange;
 use goal_graph::{Dep, Kind, Note, Op, RankPlan, When};
 use std::alloc::{AllocError, Global};
 
-/// The numbers of the operations whose ends a step requires.
+/// The numbers of the operations whose ends a step needs.
 #[derive(Clone, Copy, Debug, PartialEq, Eq)]
 pub enum Needs {
+    /// None.
     Nothing,
+    /// This one.
     One(u32),
+    /// These two.
     Two(u32, u32),
-    /// All below a number.
+    /// All below this number.
     Below(u32),
 }
 
-/// What a step does to slots.
+/// The effect of a step on slots.
 #[derive(Clone, Copy, Debug, PartialEq, Eq)]
 pub enum Effect {
-    /// A send reads, or a receive sets, the slots of a range, and then those of a second one, if there is one.
+    /// A send reads, or a receive sets, the slots of one range, and then those of a second one, if given.
     Moves {
         first: SlotRange,
         second: Option<SlotRange>,
@@ -35,11 +38,14 @@ pub enum Effect {
     },
 }
 
-/// An operation of a rank, with what it requires and what it does to slots.
+/// An operation of a rank, with its needs and its effect on slots.
 #[derive(Clone, Copy, Debug, PartialEq, Eq)]
 pub struct Step {
+    /// Its kind.
     pub kind: Kind,
+    /// The operations whose ends it needs.
     pub needs: Needs,
+    /// Its effect on slots.
     pub effect: Effect,
 }
 
@@ -49,7 +55,7 @@ impl Step {
     ghost use Rattle.goal_blocks.specs.declared.steps.Needs.TheVariants.{Nothing};
     ghost use Rattle.goal_blocks.specs.declared.steps.Effect.TheVariants.{Adds};
 
-    /// A send of `bytes` bytes.
+    /// Returns a send of `bytes` bytes.
     #[must_use]
     pub fn send(bytes: u64, to: u32, tag: u32, needs: Needs, effect: Effect) -> Step
         ensures { result ≡ record { kind = Send bytes to tag; needs = needs; effect = effect } }
@@ -62,7 +68,7 @@ impl Step {
         }
     }
 
-    /// A receive of `bytes` bytes, which requires nothing.
+    /// Returns a receive of `bytes` bytes without needs.
     #[must_use]
     pub fn receive(bytes: u64, from: u32, tag: u32, effect: Effect) -> Step
         ensures { result ≡ record { kind = Recv bytes (Some from) (Some tag); needs = Nothing; effect = effect } }
@@ -79,7 +85,7 @@ impl Step {
         }
     }
 
-    /// A calc that takes no time, and adds the slot `from` to the slot `to`.
+    /// Returns a calc without duration that adds the slot `from` to the slot `to`.
     #[must_use]
     pub fn sum(needs: Needs, from: u32, to: u32) -> Step
         ensures { result ≡ record { kind = Calc 0; needs = needs; effect = Adds from to } }
@@ -97,7 +103,7 @@ impl Effect {
     ghost use Rattle.std.specs.Prelude.{◌≡◌, None};
     ghost use Rattle.goal_blocks.specs.declared.steps.Effect.TheVariants.{Moves};
 
-    /// A send reads, or a receive sets, one slot.
+    /// Returns the effect of a send that reads one slot, or of a receive that sets it.
     #[must_use]
     pub fn slot(slot: u32) -> Effect
         ensures { result ≡ Moves (record { lo = slot; hi = slot }) None }
@@ -109,7 +115,7 @@ impl Effect {
     }
 }
 
-/// What the first of the three operations of a round requires: the last one of the round before.
+/// Returns the needs of the first of the three operations of a round: the last one of the round before.
 #[must_use]
 pub fn before_round(round: u32) -> Needs
     requires { round < 2 ^ 30 }
@@ -121,7 +127,7 @@ pub fn before_round(round: u32) -> Needs
     Needs::One(3 * round - 1)
 }
 
-// The operation `later` requires the end of the operation `earlier`.
+// The operation `later` needs the end of the operation `earlier`.
 fn push_need(deps: &mut Vec<Dep>, later: u32, earlier: u32) -> Result<(), AllocError>
     ensures { OnOk result (deps.new.items
         ≡ deps.old.items ++ record { later = later; earlier = earlier; when = AfterEnd } ∷ []) }
@@ -134,7 +140,7 @@ fn push_need(deps: &mut Vec<Dep>, later: u32, earlier: u32) -> Result<(), AllocE
     Ok(())
 }
 
-// The operation `later` requires the ends of all below `end`.
+// The operation `later` needs the ends of all operations below `end`.
 fn push_needs_below(deps: &mut Vec<Dep>, later: u32, end: u32) -> Result<(), AllocError>
     ensures { OnOk result (deps.new.items ≡ deps.old.items
         ++ map (λ k. record { later = later; earlier = k; when = AfterEnd }) (range_with_len 0 end)) }
@@ -145,7 +151,7 @@ fn push_needs_below(deps: &mut Vec<Dep>, later: u32, end: u32) -> Result<(), All
     Ok(())
 }
 
-// The operation `later` requires the ends of these.
+// The operation `later` needs the ends of these.
 fn push_needs(deps: &mut Vec<Dep>, later: u32, needs: Needs) -> Result<(), AllocError>
     ensures { OnOk result (deps.new.items ≡ deps.old.items
         ++ map (λ k. record { later = later; earlier = k; when = AfterEnd }) (needs_of needs)) }
@@ -173,7 +179,7 @@ fn push_moves(notes: &mut Vec<Note>, op: u32, range: SlotRange) -> Result<(), Al
     Ok(())
 }
 
-// What the operation `op` does to slots.
+// The effect of the operation `op` on slots.
 fn push_notes(notes: &mut Vec<Note>, op: u32, effect: Effect) -> Result<(), AllocError>
     ensures { OnOk result (notes.new.items ≡ notes.old.items ++ notes_from op effect) }
 {
@@ -189,27 +195,27 @@ fn push_notes(notes: &mut Vec<Note>, op: u32, effect: Effect) -> Result<(), Allo
     Ok(())
 }
 
-/// A schedule that is told by rank and number: how many operations a rank has, and what each of them is.
+/// A schedule that is given by rank and number: the number of operations of each rank, and each operation.
 pub trait Formula {
-    /// How many ranks there are.
+    /// The number of ranks.
     ghost rank_count: { Self → ℕ };
 
-    /// How many operations a rank has.
+    /// The number of operations of a rank.
     ghost op_count: { Self → ℕ → ℕ };
 
-    /// The operation of a rank and a number.
+    /// The operation of a rank with this number.
     ghost entry_at: { Self → ℕ → ℕ → Entry };
 
-    /// How many ranks there are.
+    /// Returns the number of ranks.
     fn ranks(&self) -> u32
         ensures { result ≡ rank_count self.now };
 
-    /// How many operations a rank has.
+    /// Returns the number of operations of a rank.
     fn count(&self, rank: u32) -> u32
         requires { rank < rank_count self.now }
         ensures { result ≡ op_count self.now rank };
 
-    /// The operation of a rank and a number.
+    /// Returns the operation of a rank with this number.
     fn step(&self, rank: u32, number: u32) -> Step
         requires rank { rank < rank_count self.now }
         requires number { number < op_count self.now rank }
@@ -241,11 +247,7 @@ fn plan_of<F: Formula>(alloc: Global, formula: &F, rank: u32) -> Result<RankPlan
     Ok(RankPlan { ops, deps, notes })
 }
 
-/// The plans of all ranks, made in one pass.
-///
-/// # Errors
-///
-/// Want of memory.
+/// Returns the plans of all ranks, made in one pass. `Err` means out of memory.
 pub fn plans_of<F: Formula>(alloc: Global, formula: &F) -> Result<Vec<RankPlan>, AllocError>
     ensures { IfOk result (λ plans. plans.items
         ≡ made_by (F.rank_count formula.now) (F.op_count formula.now) (F.entry_at formula.now)) }

@@ -1,4 +1,4 @@
-//! The values of all slots, as a schedule changes them.
+//! The values of all slots, which a schedule changes.
 ghost use Rattle.std.specs.Prelude.{◌≡◌, ◌∷◌, [], ℕ, ◌+◌, ◌^◌, ◌<◌, ◌≤◌, false, true, length, map, All, IfOk, OnOk, OnErr, IfSome, IfNone, IsSome, None};
 ghost use Rattle.std.specs.List.{sum_by};
 ghost use Rattle.goal_blocks.specs.Values.{merge, set_slot, write};
@@ -16,7 +16,7 @@ use std::alloc::{AllocError, Global};
 use std::collections::BTreeMap;
 use std::marker::Model;
 
-/// The values of some slots. Contracts see it as the list of these.
+/// The values of some slots. Contracts see the list of them.
 #[derive(Drop)]
 pub struct Payload {
     values: Vec<Vec<Contribution>>,
@@ -34,8 +34,7 @@ impl Model for Payload {
     ghost invariant = { λ p. All IsSorted (lists_of p.values.items) };
 }
 
-/// The values of the slots of all ranks. Contracts see what it keeps, of which `values` is the value of each slot of
-/// each rank.
+/// The values of the slots of all ranks. Contracts see what it keeps; `values` is the value of each slot of each rank.
 #[derive(Drop)]
 pub struct Store {
     alloc: Global,
@@ -55,7 +54,7 @@ impl Model for Store {
     ghost invariant = { λ s. IsSound (record { what = s.what; ranks = s.ranks; written = entries_of s.written.entries }) s.held };
 }
 
-// How many contributions a slot had that was set to this before, or else had this one at the start.
+// The number of contributions that a slot had: of the value to which it was set, or of this one at the start.
 fn size_before(written: Option<Vec<Contribution>>, first: Option<Contribution>) -> u64
     ensures { result ≡ length (before written first) }
 {
@@ -66,7 +65,7 @@ fn size_before(written: Option<Vec<Contribution>>, first: Option<Contribution>) 
 }
 
 impl Store {
-    /// The values of `ranks` ranks at the start.
+    /// Creates the store of `ranks` ranks at the start. `Err` means out of memory.
     pub fn new(alloc: Global, ranks: u32, what: Collective) -> Result<Store, NoMemory>
         requires some { 1 ≤ ranks }
         requires few { ranks ≤ 65536 }
@@ -83,14 +82,14 @@ impl Store {
         })
     }
 
-    /// How many contributions all slots together have.
+    /// Returns the number of contributions in all slots together.
     pub fn held(&self) -> u64
         ensures { result ≡ stored self.now.ranks (values self.now) }
     {
         self.held
     }
 
-    /// How many contributions the slot of the rank has.
+    /// Returns the number of contributions in the slot of the rank.
     pub fn size_at(&self, rank: u32, slot: u32) -> u64
         requires rank { rank < self.now.ranks }
         ensures size { result ≡ length (values self.now rank slot) }
@@ -100,7 +99,7 @@ impl Store {
         self.value_at(rank, slot, &first).len() as u64
     }
 
-    /// How many contributions `read` would copy.
+    /// Returns the number of contributions that `read` would copy.
     pub fn payload_size(&self, rank: u32, slots: &Slots) -> u64
         requires rank { rank < self.now.ranks }
         requires few { length slots.now ≤ 2 ^ 24 }
@@ -115,7 +114,7 @@ impl Store {
         size
     }
 
-    /// Copies the values of these slots of the rank. `NoMemory` where memory ran out.
+    /// Returns copies of the values of these slots of the rank. `Err` means out of memory.
     pub fn read(&self, rank: u32, slots: &Slots) -> Result<Payload, NoMemory>
         requires { rank < self.now.ranks }
         ensures { IfOk result (λ p. p ≡ map (values self.now rank) slots.now) }
@@ -128,8 +127,8 @@ impl Store {
         Ok(Payload { values: copies })
     }
 
-    /// Sets these slots of the rank to the values, in order: where a slot stands twice, the later value stays.
-    /// `NoMemory` where memory ran out; all values are then as they were.
+    /// Sets these slots of the rank to the values, in order: if a slot occurs twice, the later value stays. On `Err`
+    /// (out of memory) all values are unchanged.
     pub fn write(&mut self, rank: u32, slots: &Slots, payload: Payload) -> Result<(), NoMemory>
         requires rank { rank < self.old.ranks }
         requires lengths { length slots.now ≡ length payload }
@@ -149,8 +148,8 @@ impl Store {
         Ok(())
     }
 
-    /// Adds the value of the slot `from` of the rank to that of its slot `to`. `NoMemory` where memory ran out; all
-    /// values are then as they were.
+    /// Adds the value of slot `from` of the rank to that of its slot `to`. On `Err` (out of memory) all values are
+    /// unchanged.
     pub fn add(&mut self, rank: u32, from: u32, to: u32) -> Result<(), NoMemory>
         requires rank { rank < self.old.ranks }
         requires light { stored self.old.ranks (values self.old) ≤ 2 ^ 24 }
@@ -163,7 +162,7 @@ impl Store {
         self.put(rank, to, sum)
     }
 
-    /// The least rank and slot that does not hold what the collective wants of it, None where each slot does.
+    /// Returns the least rank and slot that does not hold what the collective wants, or `None` if each slot does.
     pub fn first_wrong(&self, what: Collective) -> Option<(u32, u32)>
         ensures wrong { IfSome result (λ p. IsLeast slot_key
             (λ (a : SlotAt). wanted what self.now.ranks a.rank a.slot (values self.now a.rank a.slot) ≡ false)
@@ -179,7 +178,7 @@ impl Store {
         None
     }
 
-    // The least slot of the rank that does not hold what is wanted of it.
+    // Returns the least slot of the rank that does not hold what is wanted.
     fn first_wrong_of(&self, what: Collective, rank: u32) -> Option<u32>
         requires { rank < self.now.ranks }
         ensures wrong { IfSome result (λ slot. wanted what self.now.ranks rank slot (values self.now rank slot) ≡ false) }
@@ -196,7 +195,7 @@ impl Store {
         None
     }
 
-    // Whether the slot holds what is wanted of it.
+    // Returns whether the slot holds what is wanted.
     fn is_right(&self, what: Collective, rank: u32, slot: u32) -> bool
         requires { rank < self.now.ranks }
         ensures { result ≡ wanted what self.now.ranks rank slot (values self.now rank slot) }
@@ -218,7 +217,7 @@ impl Store {
         first_of(self.what, self.ranks, rank, slot)
     }
 
-    // The value of a slot, which is its first one where it was never set.
+    // The value of a slot: its first one if it was never set.
     fn value_at<'a>(
         &'a self,
         rank: u32,
@@ -244,7 +243,7 @@ impl Store {
         Ok(Vec::from_slice(self.alloc, self.value_at(rank, slot, &first))?)
     }
 
-    // The values of two slots together.
+    // The merged values of two slots.
     fn sum_of(&self, rank: u32, from: u32, to: u32) -> Result<Vec<Contribution>, NoMemory>
         ensures sum { IfOk result (λ v. v.items ≡ merge (values self.now rank to) (values self.now rank from)) }
         ensures sorted { IfOk result (λ v. IsSorted v.items) }
@@ -256,7 +255,7 @@ impl Store {
         merged(self.alloc, own, other)
     }
 
-    // Sets a slot. At `Err` it was not set before.
+    // Sets a slot. On `Err` it was not set before, and is unchanged.
     fn put(&mut self, rank: u32, slot: u32, value: Vec<Contribution>) -> Result<(), NoMemory>
         requires rank { rank < self.old.ranks }
         requires sorted { IsSorted value.items }
@@ -275,7 +274,7 @@ impl Store {
         Ok(())
     }
 
-    // Sets a slot that is not set yet to what it holds.
+    // Sets a slot that was not set before to the value that it has.
     fn make_room(&mut self, rank: u32, slot: u32) -> Result<(), NoMemory>
         requires rank { rank < self.old.ranks }
         requires light { stored self.old.ranks (values self.old) ≤ 2 ^ 24 }

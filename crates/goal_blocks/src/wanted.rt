@@ -1,4 +1,4 @@
-// What slots hold at the start, and whether they hold what is wanted at the end.
+//! What slots hold at the start, and whether they hold what is wanted at the end.
 ghost use Rattle.std.specs.Prelude.{◌≡◌, ℕ, ◌+◌, ◌^◌, ◌<◌, ◌≤◌, [], false, length, if◌then◌else◌};
 ghost use Rattle.std.specs.List.{list_all};
 ghost use Rattle.goal_blocks.specs.Values.{Value};
@@ -8,7 +8,7 @@ ghost use Rattle.goal_blocks.specs.Stored.{IsSorted, one_or_none};
 
 use crate::collective::{Collective, Contribution};
 
-/// How many contributions the slots of so many ranks have at the start.
+/// Returns the number of contributions that the slots of `ranks` ranks have at the start.
 pub fn initial_size(ranks: u32, what: Collective) -> u64
     requires some { 1 ≤ ranks }
     requires few { ranks ≤ 65536 }
@@ -29,7 +29,7 @@ pub fn initial_size(ranks: u32, what: Collective) -> u64
     }
 }
 
-// The contribution, where the test holds.
+// The contribution, if the test holds.
 fn one_if(test: bool, rank: u32, item: u32) -> Option<Contribution>
     ensures { one_or_none result ≡ (if test then single rank item else []) }
 {
@@ -40,7 +40,7 @@ fn one_if(test: bool, rank: u32, item: u32) -> Option<Contribution>
     }
 }
 
-/// The one contribution that a slot has at the start, if it is not empty.
+/// Returns the one contribution that a slot has at the start, or `None` if it is empty.
 #[tactic(auto, unfolding(crate::specs::Collectives::initial))]
 pub fn first_of(what: Collective, ranks: u32, rank: u32, slot: u32) -> Option<Contribution>
     ensures { one_or_none result ≡ initial what ranks rank slot }
@@ -62,7 +62,7 @@ pub fn first_of(what: Collective, ranks: u32, rank: u32, slot: u32) -> Option<Co
     }
 }
 
-// Whether the value is this contribution alone.
+// Returns whether the value is only this contribution.
 #[tactic(auto, unfolding(crate::specs::Collectives::is_value))]
 fn is_single(value: &[Contribution], rank: u32, item: u32) -> bool
     ensures { result ≡ is_value value.now (single rank item) }
@@ -73,7 +73,7 @@ fn is_single(value: &[Contribution], rank: u32, item: u32) -> bool
     }
 }
 
-// Whether the value is the item of that number of each of the first ranks.
+// Returns whether the value is item number `item` of each of the first `count` ranks.
 fn is_of_each(value: &[Contribution], count: u32, item: u32) -> bool
     ensures { result ≡ is_value value.now (of_each count item) }
 {
@@ -88,7 +88,7 @@ fn is_of_each(value: &[Contribution], count: u32, item: u32) -> bool
     true
 }
 
-// Whether the value has the first item of each of the first ranks.
+// Returns whether the value has item 0 of each of the first `count` ranks.
 fn has_of_each(value: &[Contribution], count: u32) -> bool
     requires { IsSorted value.now }
     ensures { result ≡ list_all (has_one value.now) (of_each count 0) }
@@ -102,7 +102,7 @@ fn has_of_each(value: &[Contribution], count: u32) -> bool
     next == count
 }
 
-// The same of a slot that is asked of the root alone; a root that is no rank is asked for what no slot can get.
+// The same for a slot that only the root must fill; a root that is not a rank makes the condition impossible to meet.
 #[tactic(auto, unfolding(crate::specs::Collectives::wanted))]
 fn is_gathered(root: u32, ranks: u32, rank: u32, slot: u32, value: &[Contribution]) -> bool
     requires { rank < ranks }
@@ -131,7 +131,7 @@ fn is_reduced(root: u32, ranks: u32, rank: u32, slot: u32, value: &[Contribution
     }
 }
 
-/// Whether the value is what the slot of the rank must hold at the end.
+/// Returns whether the value is one that the slot of the rank may hold at the end.
 #[tactic(auto, unfolding(crate::specs::Collectives::wanted))]
 pub fn is_wanted(what: Collective, ranks: u32, rank: u32, slot: u32, value: &[Contribution]) -> bool
     requires few { ranks ≤ 65536 }
@@ -155,8 +155,8 @@ pub fn is_wanted(what: Collective, ranks: u32, rank: u32, slot: u32, value: &[Co
     }
 }
 
-/// The slots of the rank of which something is asked, from the first up to the second: they are few where little is
-/// asked.
+/// Returns the range of slots of the rank on which there is a condition, from the first to before the second. Slots
+/// outside it may hold anything.
 #[tactic(auto, unfolding(crate::specs::Collectives::wanted))]
 pub fn asked(what: Collective, ranks: u32, rank: u32) -> (u32, u32)
     requires few { ranks ≤ 65536 }
