@@ -1,4 +1,4 @@
--- A value is listed by its parts: each part is a contribution, or two parts.
+-- A value is listed part by part: each part is a contribution, or two parts.
 use Rattle.std.proofs.Common.{Bool, true, false, if◌then◌else◌, ℕ, ◌≡◌, ◌+◌, ◌*◌, ◌-◌, ◌<◌, List, [], ◌∷◌, ◌++◌, length, get_or, All, sym, ap, ◌∙◌, subst, arith}
 use Rattle.std.proofs.Common.{length-append}
 use Rattle.std.proofs.Math.ListN.{get_or-append}
@@ -17,27 +17,27 @@ use Rattle.goal_values.specs.Sums.{meaning, IsBelow}
 use Rattle.goal_values.specs.Parts.{told, IsSum, AreSums}
 use Rattle.goal_values.proofs.Told.{below_more}
 
--- how much is left to do for a part: it falls where a part is opened
+-- how much remains to be done for a part: it falls when the part is opened
 abbrev pub weight : List Value → Term → ℕ
 weight sums t = 2 * length (meaning sums t) - 1 + (1 - length (meaning sums t))
 
--- what is read where there is no sum
+-- what is read if there is no sum
 abbrev none : Sum
 none = record { left = Nothing; right = Nothing; size = 0 }
 
--- the left part of the sum of a number
+-- the left part of a sum
 abbrev pub left_of : List Sum → ℕ → Term
 left_of sums n = (get_or sums n none).left
 
--- the sum of f over all contributions of the left parts of the sums of these numbers
+-- the sum of f over the contributions of the left parts of these sums
 abbrev pub shares : List Sum → (Contribution → ℕ) → List ℕ → ℕ
 shares sums f numbers = sum_by (λ n. sum_by f (meaning (told [] sums) (left_of sums n))) numbers
 
--- how much is left to do for these left parts
+-- how much remains to be done for these left parts
 abbrev pub weights : List Sum → List ℕ → ℕ
 weights sums numbers = sum_by (λ n. weight (told [] sums) (left_of sums n)) numbers
 
--- one contribution more
+-- another contribution
 pub with_one : (f : Contribution → ℕ) (v : Value) (c : Contribution) → sum_by f (v ++ c ∷ []) ≡ sum_by f v + sum_by f (c ∷ [])
 with_one f v c = sum_by-append f v (c ∷ [])
 
@@ -50,14 +50,14 @@ insert_sum f c (d ∷ v) = go (is_lower c d) (insert_sum f c v)
     go true rest = sum_by-cons f c (d ∷ v)
     go false rest = omega (arith, sum_by-cons f d (insert_one c v), rest, sum_by-cons f d v)
 
--- what stands in both stands in the sum as often
+-- a contribution in both parts is in the sum as often
 pub merge_sum : (f : Contribution → ℕ) (v w : Value) → sum_by f (merge v w) ≡ sum_by f v + sum_by f w
 unfolding merge
 merge_sum f [] w = omega arith
 merge_sum f (c ∷ v) w =
     omega (arith, insert_sum f c (merge v w), merge_sum f v w, sum_by-cons f c v)
 
--- a sum is opened: its number is kept, and its right part is at hand
+-- a sum is opened: its number is kept, and its right part is next
 module _ (sums : List Sum) (are : AreSums sums) (i : ℕ) (inside : i < length (told [] sums)) where
   abbrev known : List Value
   known = told [] sums
@@ -74,7 +74,7 @@ module _ (sums : List Sum) (are : AreSums sums) (i : ℕ) (inside : i < length (
   pub right_below : IsBelow (length known) s.right
   right_below = below_more i (length known) s.right (omega (arith, inside)) is.right
 
-  -- what stands in its parts stands in it as often
+  -- a contribution of its parts is in it as often
   pub opened_parts : (f : Contribution → ℕ) (part : Term) → part ≡ Made i → sum_by f (meaning known part) ≡ sum_by f (meaning known s.left) + sum_by f (meaning known s.right)
   opened_parts f part e =
       ap (λ t. sum_by f (meaning known t)) e ∙ ap (sum_by f) is.value ∙ merge_sum f (meaning known s.left) (meaning known s.right)
@@ -84,7 +84,7 @@ module _ (sums : List Sum) (are : AreSums sums) (i : ℕ) (inside : i < length (
       let h : ℕ → ℕ = λ n. sum_by f (meaning known (left_of sums n)) in
       omega (arith, ap (shares sums f) g, sum_by-append h numbers (i ∷ []), sum_by-cons h i [], opened_parts f part e)
 
-  -- where its right part is listed at once its left part is at hand
+  -- if its right part is listed at once, its left part is next
   pub left_weight : (part : Term) → part ≡ Made i → weight known s.left < weight known part
   left_weight part e =
       omega (arith, is.some_left, is.some_right, ap length is.value, length_merge (meaning known s.left) (meaning known s.right), ap (weight known) e)

@@ -1,4 +1,4 @@
--- What was lent stays as it is where more sums are made.
+-- Lent values are unchanged when sums are appended.
 use Rattle.std.proofs.Common.{◌≡◌, List, [], ◌∷◌, ◌++◌, length, map, All, refl, sym, ap, ap₂, ◌∙◌, arith, append-nil, append_assoc, length-append}
 use Rattle.std.proofs.lemmas.List.Elements.{All-head, All-tail}
 use Rattle.goal_blocks.specs.Values.{Value}
@@ -20,7 +20,7 @@ meanings_stay sums more [] below = refl
 meanings_stay sums more (t ∷ ts) below =
     ap₂ (λ (v : Value) (vs : List Value). v ∷ vs) (meaning_stays sums more t (All-head (IsBelow (length sums)) t ts below)) (meanings_stay sums more ts (All-tail (IsBelow (length sums)) t ts below))
 
--- what was lent says the same, and is there
+-- a lent value has the same meaning, and still refers to existing sums
 pub lent_stays : (old new : List Value) → HasGrown old new → (l : Lent) → IsLent old l → (lent_values new l ≡ lent_values old l) × IsLent new l
 lent_stays old new grown l lent =
     (ap (λ (vs : List Value). map (meaning vs) l.terms.items) grown.1 ∙ meanings_stay old grown.0 l.terms.items lent, λ k d inside. below_more (length old) (length new) _ (omega (arith, ap length grown.1, length-append old grown.0)) (lent k d inside))

@@ -41,7 +41,7 @@ found sums [] (suc r) k = refl
 found sums (row ∷ m) zero k = found_told sums (is_at (nat_cmp k)) row
 found sums (row ∷ m) (suc r) k = found sums m r k
 
--- the value of a slot, by the term that it has
+-- the value of a slot, from its term
 pub value_by : (what : Collective) (ranks : ℕ) (segment : Segment) (sums : List Value) (m : Terms) (r k : ℕ) → values (kept_in what ranks segment sums m) r k ≡ unwrap_or (option_map (meaning sums) (found_in m r k)) (initial_in what segment.width segment.block ranks r k)
 unfolding values
 value_by what ranks segment sums m r k =
@@ -63,7 +63,7 @@ module _ (what : Collective) (ranks : ℕ) (segment : Segment) (sums : List Valu
   pub values_after : values (kept_in what ranks segment sums n) ≡ set_slot rank slot (meaning sums t) (values (kept_in what ranks segment sums m))
   values_after = λ i r k. value_after r k i
 
--- where each slot has what it had, all values are as they were
+-- if each slot has the same, all values are unchanged
 pub values_same : (what : Collective) (ranks : ℕ) (segment : Segment) (sums : List Value) (m n : Terms) → HasSameSlots m n → values (kept_in what ranks segment sums n) ≡ values (kept_in what ranks segment sums m)
 values_same what ranks segment sums m n same = λ i r k. at r k i
   where
@@ -71,12 +71,12 @@ values_same what ranks segment sums m n same = λ i r k. at r k i
     at r k =
         value_by what ranks segment sums n r k ∙ ap (λ (o : Option Term). unwrap_or (option_map (meaning sums) o) (initial_in what segment.width segment.block ranks r k)) (same r k) ∙ sym (value_by what ranks segment sums m r k)
 
--- what is true of a map of terms: each names sums that there are
+-- the invariant of a map of terms: each refers to existing sums
 abbrev pub AreBelow : ℕ → Terms → Type 0
 AreBelow n m = (r k : ℕ) (t : Term) → found_in m r k ≡ Some t → IsBelow n t
 
 module _ (what : Collective) (ranks : ℕ) (segment : Segment) (sums more : List Value) (m : Terms) (below : AreBelow (length sums) m) where
-  -- where sums have grown, all values are as they were
+  -- if sums are appended, all values are unchanged
   pub values_stay : values (kept_in what ranks segment (sums ++ more) m) ≡ values (kept_in what ranks segment sums m)
   values_stay = λ i r k. at r k i
     where
@@ -137,7 +137,7 @@ module _ (what : Collective) (ranks : ℕ) (segment : Segment) (sums : List Valu
         omega (arith, kept_before, now, most, is, sound.held_is);
   }
 
--- where each slot has what it had
+-- each slot has the same
 pub sound_same : (what : Collective) (ranks : ℕ) (segment : Segment) (sums : List Value) (m n : Terms) (held : ℕ) → HasSameSlots m n → IsSound (record { kept = kept_in what ranks segment sums m; sums = sums }) m held → IsSound (record { kept = kept_in what ranks segment sums n; sums = sums }) n held
 sound_same what ranks segment sums m n held same sound = record {
   ranks = sound.ranks;
@@ -146,7 +146,7 @@ sound_same what ranks segment sums m n held same sound = record {
   held_is = sound.held_is ∙ ap (stored ranks) (sym (values_same what ranks segment sums m n same));
 }
 
--- what the map has, or else the first value, is the value
+-- the value is that in the map, or else the first value
 module _ (what : Collective) (ranks : ℕ) (segment : Segment) (sums : List Value) (m : Terms) (s : Summed) (is : record { kept = kept_in what ranks segment sums m; sums = sums } ≡ s) where
   pub value_there : (r k : ℕ) (t : Term) → Some t ≡ found_in m r k → meaning s.sums t ≡ values s.kept r k
   value_there r k t e =
@@ -164,7 +164,7 @@ module _ (what : Collective) (ranks : ℕ) (segment : Segment) (sums : List Valu
   held_there held sound =
       sound.held_is ∙ ap (λ (u : Summed). stored u.kept.ranks (values u.kept)) is
 
--- what was in the map of a slot, or else a term of its first value
+-- the term in the map of a slot, or else a term of its first value
 module _ (what : Collective) (ranks : ℕ) (segment : Segment) (sums : List Value) (m : Terms) (r k : ℕ) (old : Option Term) (first : Term) (there : old ≡ found_in m r k) where
   pub old_size : meaning sums first ≡ initial_in what segment.width segment.block ranks r k → length (meaning sums (unwrap_or old first)) ≡ length (values (kept_in what ranks segment sums m) r k)
   old_size is =
@@ -181,7 +181,7 @@ module _ (what : Collective) (ranks : ℕ) (segment : Segment) (sums : List Valu
       go None e = small
       go (Some t) e = below r k t e
 
--- the sums have grown
+-- sums were appended
 module _ (what : Collective) (ranks : ℕ) (segment : Segment) (sums new : List Value) (m : Terms) (held : ℕ) (sound : IsSound (record { kept = kept_in what ranks segment sums m; sums = sums }) m held) (grown : HasGrown sums new) where
   pub values_grown : values (kept_in what ranks segment new m) ≡ values (kept_in what ranks segment sums m)
   values_grown =

@@ -1,4 +1,4 @@
--- The least of the slots that fail a test, where they are looked at in another order.
+-- The least of the slots that fail a test, if they are tested in another order.
 use Rattle.std.proofs.Common.{ℕ, ◌+◌, ◌<◌, ◌≤◌, ◌≡◌, ⊎_elim, Bool, true, false, nat_lt, if◌then◌else◌, Option, Some, None, IfSome, IfNone, refl, sym, ap, subst, arith}
 use Rattle.std.proofs.lemmas.Bool.{both_ways, cases_Bool, cases_eq, ltb-true, ltb-false}
 use Rattle.goal_values.specs.Summed.{lesser}
@@ -11,7 +11,7 @@ module _ (test : ℕ → Bool) (slot_of : ℕ → ℕ) where
   IsLeastWrong from place (Some slot) =
       (test slot ≡ false) × ((p : ℕ) → from ≤ p → p < place → test (slot_of p) ≡ false → slot ≤ slot_of p)
 
-  -- one place more, whose slot passes
+  -- another place, whose slot passes
   pub one_right : (from place : ℕ) (least : Option ℕ) → test (slot_of place) ≡ true → IsLeastWrong from place least → IsLeastWrong from (place + 1) least
   one_right from place None passes so_far =
       λ p low high. ⊎_elim (λ e. subst (λ (q : ℕ). test (slot_of q) ≡ true) (sym e) passes) (λ ne. so_far p low (omega (arith, high, ne))) (cases_eq p place)

@@ -1,4 +1,4 @@
--- Sorted values that have each contribution as often are the same.
+-- Sorted values with each contribution equally often are the same.
 use Rattle.std.proofs.Common.{ℕ, ap₂, get_or, cond, Less, Equal, Greater, ◌≡◌, ◌+◌, ◌<◌, ◌≤◌, ◌==◌, ◌&&◌, ◌||◌, nat_lt, Bool, true, false, [], ◌∷◌, length, if◌then◌else◌, refl, sym, ap, ◌∙◌, subst, arith, suc}
 use Rattle.std.specs.List.{sum_by}
 use Rattle.std.proofs.lemmas.List.Sums.{sum_by-cons}
@@ -10,7 +10,7 @@ use Rattle.std.proofs.lemmas.Bool.Decides.{nat_tests}
 use Rattle.std.specs.Ordering.{nat_cmp, ordering_then, is_lt}
 use Rattle.goal_values.specs.Parts.{HasSame}
 
--- 1 for a contribution, 0 for each other
+-- 1 for a contribution, 0 for every other
 abbrev is_it : Contribution → Contribution → ℕ
 is_it c d = if is_lower c d || is_lower d c then 0 else 1
 
@@ -20,13 +20,13 @@ not_itself a b = grind (arith, nat_tests)
 is_it_itself : (c : Contribution) → is_it c c ≡ 1
 is_it_itself c = ap {B = ℕ} (λ (b : Bool). if b || b then 0 else 1) (not_itself c.rank c.item)
 
--- what comes before all of a sorted value does not stand there
+-- a contribution before all of a sorted value is not in it
 none_below : (c : Contribution) (v : Value) → ComesFirst c v → (d : Contribution) → is_lower d c ≡ true → sum_by (is_it d) v ≡ 0
 none_below c [] first d lower = refl
 none_below c (x ∷ v) first d lower =
     omega (arith, sum_by-cons (is_it d) x v, ap {B = ℕ} (λ (b : Bool). if b || is_lower x d then 0 else 1) (lower_still c d x lower first.0), none_below c v first.1 d lower)
 
--- the first of a sorted value stands in each that has the same
+-- the first of a sorted value is in each value with the same contributions
 first_stands : (c d : Contribution) (v w : Value) → ComesFirst d w → HasSame (c ∷ v) (d ∷ w) → is_lower c d ≡ true → ⊥
 first_stands c d v w first same lower =
     omega (arith, same (is_it c), sum_by-cons (is_it c) c v, is_it_itself c, sum_by-cons (is_it c) d w, none_below d w first c lower, ap {B = ℕ} (λ (b : Bool). if b || is_lower d c then 0 else 1) lower)

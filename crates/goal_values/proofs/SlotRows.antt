@@ -1,4 +1,4 @@
--- What slots have in maps, one for each of the first ranks, after a change of these.
+-- What slots have in maps, one for each of the first ranks, after a change.
 use Rattle.std.proofs.Common.{ℕ, zero, suc, ◌≡◌, ◌≢◌, ◌==◌, ◌&&◌, ◌<◌, Bool, true, false, List, [], ◌∷◌, ◌++◌, map, length, get_or, set, Option, Some, Result, Ok, Err, OnOk, OnErr, if◌then◌else◌, refl, sym, ap, ◌∙◌, arith, eq-eqb}
 use Rattle.std.proofs.lemmas.List.{get_or-set_same, get_or-set_other, length-map}
 use Rattle.std.proofs.lemmas.Bool.{both_ways, eqb-true}
@@ -11,7 +11,7 @@ use Rattle.goal_values.specs.Rows.{found_in, HasSameSlots, HasSet}
 abbrev pub listed : List (BTreeMap ℕ Term) → List (List (ℕ × Term))
 listed maps = map (λ (row : BTreeMap ℕ Term). row.entries) maps
 
--- a map behind the others that has nothing
+-- an empty map is appended
 one_more : (maps : List (BTreeMap ℕ Term)) (m : BTreeMap ℕ Term) → m.entries ≡ [] → (r : ℕ) → get_or (listed (maps ++ m ∷ [])) r [] ≡ get_or (listed maps) r []
 one_more [] m none zero = none
 one_more [] m none (suc r) = refl
@@ -67,7 +67,7 @@ module _ (before : List (List (ℕ × Term))) (maps : List (BTreeMap ℕ Term)) 
           ap (λ (i : ℕ). found_in (listed (set maps rank new)) i k) is ∙ here k ∙ ap (λ (row : List (ℕ × Term)). found_in (row ∷ []) 0 k) stays ∙ was_found k ∙ ap (λ (i : ℕ). found_in before i k) (sym is)
       go false e = elsewhere r k (λ s. both_ways _ e (eq-eqb r rank s))
 
--- the same, as the answer of the change tells
+-- the same, from the result of the change
 pub set_if_ok : {X E : Type 0} (old : List (List (ℕ × Term))) (rank slot : ℕ) (t : Term) (new : List (List (ℕ × Term))) (P : Type 0) (r : Result X E) → OnOk r P → (P → HasSet rank slot t old new) → OnOk r (HasSet rank slot t old new)
 set_if_ok old rank slot t new P (Ok x) p f = f p
 set_if_ok old rank slot t new P (Err e) p f = tt

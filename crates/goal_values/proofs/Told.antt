@@ -1,4 +1,4 @@
--- What the sums made so far say, and what one more says.
+-- The meaning of the sums so far, and of another one.
 use Rattle.std.proofs.Common.{ℕ, zero, suc, ◌≡◌, ◌-◌, ◌+◌, ◌<◌, ◌≤◌, List, [], ◌∷◌, ◌++◌, length, get_or, Some, slice_get, refl, sym, ap, ap₂, ◌∙◌, subst, inl, inr, arith, length-append}
 use Rattle.std.proofs.lemmas.Bool.{cases_lt}
 use Rattle.std.proofs.lemmas.Option.{slice_get_within, slice_get_read, get_or_from_slice_get}
@@ -18,13 +18,13 @@ use Rattle.goal_values.specs.Parts.{told, IsSum, AreSums}
 abbrev pub sum_in : List Value → Sum → Value
 sum_in known s = merge (meaning known s.left) (meaning known s.right)
 
--- one sum more says one value more
+-- another sum gives another value
 pub told_more : (known : List Value) (sums : List Sum) (s : Sum) → told known (sums ++ s ∷ []) ≡ told known sums ++ sum_in (told known sums) s ∷ []
 unfolding told
 told_more known [] s = refl
 told_more known (t ∷ sums) s = told_more (known ++ sum_in known t ∷ []) sums s
 
--- values that come later change nothing of what a term says that names an earlier one
+-- later values do not change the meaning of a term that refers to an earlier one
 pub meaning_stays : (known more : List Value) (t : Term) → IsBelow (length known) t → meaning (known ++ more) t ≡ meaning known t
 meaning_stays known more Nothing below = refl
 meaning_stays known more (One c) below = refl
@@ -55,7 +55,7 @@ module _ (sums : List Sum) (are : AreSums sums) (s : Sum) where
   abbrev after : List Value
   after = values ++ sum_in values s ∷ []
 
-  -- a sum that was there is as it was
+  -- an existing sum is unchanged
   kept : (i : ℕ) (t : Sum) → slice_get sums i ≡ Some t → IsSum after i t
   kept i t at =
       let is = are.each i t at in
@@ -119,7 +119,7 @@ module _ (sums : List Sum) (are : AreSums sums) (s : Sum) where
       many = omega (arith, ap length (told_more [] sums s), length-append values (sum_in values s ∷ []), length-append sums (s ∷ []), are.many);
     }
 
--- a sum that is read tells how long its value is
+-- a sum that is read says how many contributions its value has
 pub size_told : (sums : List Sum) → AreSums sums → (values : List Value) → told [] sums ≡ values → (i : ℕ) (s : Sum) → s ≡ get_or sums i s → i < length values → s.size ≡ length (get_or values i [])
 size_told sums are values is i s read inside =
     let few : i < length sums = omega (arith, inside, are.many, ap length is) in
@@ -129,7 +129,7 @@ pub none_of_length : (v : Value) → length v ≡ 0 → v ≡ []
 none_of_length [] e = refl
 none_of_length (c ∷ v) e = absurd (omega (arith, e))
 
--- a sum is added to those of some values
+-- a sum is appended to those of some values
 module _ (sums : List Sum) (are : AreSums sums) (known : List Value) (is : told [] sums ≡ known) (s : Sum) (more : List Sum) (put : more ≡ sums ++ s ∷ []) where
   pub sums_put : IsBelow (length known) s.left → IsBelow (length known) s.right → 0 < length (meaning known s.left) → 0 < length (meaning known s.right) → s.size ≡ length (meaning known s.left) + length (meaning known s.right) → AreSums more
   sums_put left right some_left some_right size =
@@ -149,7 +149,7 @@ module _ (sums : List Sum) (are : AreSums sums) (known : List Value) (is : told 
 pub sorted_as : (sums : List Sum) → AreSums sums → (known : List Value) → told [] sums ≡ known → (i : ℕ) → IsSorted (get_or known i [])
 sorted_as sums are known is i = subst (λ (vs : List Value). IsSorted (get_or vs i [])) is (are.sorted i)
 
--- what is true of a sum that is read
+-- the invariant of a sum that is read
 pub sum_there : (sums : List Sum) → AreSums sums → (known : List Value) → told [] sums ≡ known → (i : ℕ) (s : Sum) → s ≡ get_or sums i s → i < length known → IsSum known i s
 sum_there sums are known is i s read inside =
     let few : i < length sums = omega (arith, inside, are.many, ap length is) in

@@ -1,4 +1,4 @@
--- One more of the values that were lent is written.
+-- Another of the lent values is written.
 use Rattle.std.proofs.Common.{ℕ, suc, ◌≡◌, ◌≢◌, ◌+◌, ◌<◌, ◌≤◌, ◌==◌, ◌&&◌, Bool, true, false, if◌then◌else◌, List, [], ◌∷◌, length, map, take, drop, get_or, refl, sym, ap, ◌∙◌, arith, add-one, drop-cons, ne_eqb}
 use Rattle.std.specs.List.{sum_by}
 use Rattle.std.proofs.lemmas.List.{take_all}
@@ -10,7 +10,7 @@ use Rattle.goal_values.specs.declared.sums.Term.TheVariants.{Nothing}
 use Rattle.goal_values.specs.Sums.{meaning}
 use Rattle.goal_values.specs.Summed.{Summed}
 
--- the next value and those behind it
+-- the next value and those after it
 pub next_value : (sums : List Value) (terms : List Term) (at : ℕ) → at < length terms → drop at (map (meaning sums) terms) ≡ meaning sums (get_or terms at Nothing) ∷ drop (at + 1) (map (meaning sums) terms)
 next_value sums terms at inside =
     let few : at < length (map (meaning sums) terms) = omega (arith, length-map terms (meaning sums)) in
@@ -20,7 +20,7 @@ pub next_size : (sums : List Value) (terms : List Term) (at : ℕ) → at < leng
 next_size sums terms at inside =
     ap (sum_by (λ (v : Value). length v)) (next_value sums terms at inside) ∙ sum_by-cons (λ (v : Value). length v) _ (drop (at + 1) (map (meaning sums) terms))
 
--- the slots of other ranks are as they were
+-- the slots of other ranks are unchanged
 pub set_elsewhere : (rank slot : ℕ) (v : Value) (s : Store) (r k : ℕ) → r ≢ rank → set_slot rank slot v s r k ≡ s r k
 unfolding set_slot
 set_elsewhere rank slot v s r k apart = go (r == rank) (ne_eqb r rank apart)
@@ -34,7 +34,7 @@ sizes_mapped sums [] = refl
 sizes_mapped sums (t ∷ more) =
     omega (arith, sum_by-cons (λ (v : Value). length v) (meaning sums t) (map (meaning sums) more), sum_by-cons (λ x. length (meaning sums x)) t more, sizes_mapped sums more)
 
--- how many contributions the first of the values have that were lent
+-- the number of contributions in the first of the lent values
 abbrev pub first_sizes : List Value → List Term → ℕ → ℕ
 first_sizes sums terms i = sum_by (λ t. length (meaning sums t)) (take i terms)
 

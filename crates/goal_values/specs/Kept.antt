@@ -1,5 +1,5 @@
--- What is kept of the values of slots: for each rank those that were set since the start, with their values. Each other slot has
--- its first value, that of a collective in a segment.
+-- What is kept of the values of slots: for each rank those that were set since the start, with their values. Every
+-- other slot has its first value: that of the collective, in its segment.
 use Rattle.std.specs.Prelude.{ℕ, List, unwrap_or}
 use Rattle.goal_blocks.specs.declared.collective.Collective.{Collective}
 use Rattle.goal_blocks.specs.declared.segment.Segment.{Segment}

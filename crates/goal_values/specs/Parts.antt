@@ -1,4 +1,4 @@
--- What sums are made of, and what is true of each list of them.
+-- What sums consist of, and the invariant of a list of sums.
 use Rattle.std.specs.Prelude.{ℕ, ◌≡◌, ◌<◌, List, [], ◌∷◌, ◌++◌, length, Some, slice_get, slice_index_or}
 use Rattle.std.specs.List.{sum_by}
 use Rattle.goal_blocks.specs.declared.collective.Contribution.{Contribution}
@@ -7,12 +7,12 @@ use Rattle.goal_blocks.specs.Stored.{IsSorted}
 use Rattle.goal_values.specs.Sums.{meaning, IsBelow}
 use Rattle.goal_values.specs.declared.sums.Sum.{Sum}
 
--- the values of sums, behind those that are known: each is made of values before it
+-- the values of sums, after those already known: each sum is of values before it
 unfoldable pub told : List Value → List Sum → List Value
 told known [] = known
 told known (s ∷ more) = told (known ++ (merge (meaning known s.left) (meaning known s.right) ∷ [])) more
 
--- what is true of the sum number i, where the sums have these values
+-- the invariant of sum number i, if all sums have these values
 pub record IsSum (values : List Value) (i : ℕ) (s : Sum) : Type 0 where
   pub left : IsBelow i s.left
   pub right : IsBelow i s.right
@@ -21,12 +21,12 @@ pub record IsSum (values : List Value) (i : ℕ) (s : Sum) : Type 0 where
   pub some_right : 0 < length (meaning values s.right)
   pub size : s.size ≡ length (slice_index_or values i [])
 
--- what is true of all sums
+-- the invariant of all sums
 pub record AreSums (sums : List Sum) : Type 0 where
   pub each : (i : ℕ) (s : Sum) → slice_get sums i ≡ Some s → IsSum (told [] sums) i s
   pub sorted : (i : ℕ) → IsSorted (slice_index_or (told [] sums) i [])
   pub many : length (told [] sums) ≡ length sums
 
--- two lists have each contribution as often
+-- two lists have each contribution equally often
 abbrev pub HasSame : Value → Value → Type 0
 HasSame v w = (f : Contribution → ℕ) → sum_by f v ≡ sum_by f w

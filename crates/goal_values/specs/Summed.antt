@@ -1,4 +1,4 @@
--- What is kept of the values of slots, where they are told as sums.
+-- What is kept of the values of slots, if these are given as sums.
 use Rattle.std.specs.Prelude.{ℕ, ◌≡◌, ◌+◌, ◌*◌, ◌^◌, ◌≤◌, nat_lt, List, map, length, All, Option, Some, None, if◌then◌else◌}
 use Rattle.goal_blocks.specs.declared.collective.Collective.{Collective}
 use Rattle.goal_blocks.specs.declared.segment.Segment.{Segment}
@@ -10,7 +10,7 @@ use Rattle.goal_values.specs.declared.values.Lent.{Lent}
 use Rattle.goal_values.specs.Rows.{found_in}
 use Rattle.goal_values.specs.Sums.{meaning, IsBelow}
 
--- the slots that were set, with their values, and the sums that these may name
+-- the slots that were set, with their values, and the sums that these refer to
 pub record Summed : Type 0 where
   pub kept : Kept
   pub sums : List Value
@@ -19,11 +19,11 @@ pub record Summed : Type 0 where
 abbrev pub lent_values : List Value → Lent → List Value
 lent_values sums lent = map (meaning sums) lent.terms.items
 
--- each of them is one of these sums, where it is a sum
+-- each of them refers only to these sums
 abbrev pub IsLent : List Value → Lent → Type 0
 IsLent sums lent = All (IsBelow (length sums)) lent.terms.items
 
--- what the terms of slots keep
+-- what is kept, for slots with these terms
 abbrev pub kept_in : Collective → ℕ → Segment → List Value → List (List (ℕ × Term)) → Kept
 kept_in what ranks segment sums terms = record {
   what = what;
@@ -32,14 +32,14 @@ kept_in what ranks segment sums terms = record {
   written = map (λ (row : List (ℕ × Term)). map (λ (e : ℕ × Term). (e.0, meaning sums e.1)) row) terms;
 }
 
--- what is true of it, where so many contributions are counted
+-- the invariant, with `held` contributions counted
 pub record IsSound (s : Summed) (terms : List (List (ℕ × Term))) (held : ℕ) : Type 0 where
   pub ranks : s.kept.ranks ≤ 65536
   pub fits : s.kept.segment.block * s.kept.segment.width + s.kept.segment.width ≤ 2 ^ 32
   pub below : (r k : ℕ) (t : Term) → found_in terms r k ≡ Some t → IsBelow (length s.sums) t
   pub held_is : held ≡ stored s.kept.ranks (values s.kept)
 
--- the lesser one of two slots, of which the first may be missing
+-- the lesser of two slots; the first may be missing
 abbrev pub lesser : Option ℕ → ℕ → ℕ
 lesser None slot = slot
 lesser (Some other) slot = if nat_lt other slot then other else slot

@@ -1,5 +1,5 @@
-//! The values of all slots along a walk, kept as sums: what is added to what is noted and not carried out, so that no value is
-//! ever copied. What a slot holds is listed where it is asked for.
+//! The values of all slots along a walk, kept as unevaluated sums, so that no value is ever copied. The contributions
+//! of a slot are listed when they are asked for.
 #![tactic(auto)]
 
 mod rows;

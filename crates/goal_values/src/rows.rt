@@ -1,4 +1,4 @@
-// The terms of the slots that were set, in a map of slots for each rank.
+//! The terms of the slots that were set, in a map of slots for each rank.
 ghost use Rattle.std.specs.Prelude.{ℕ, ◌≡◌, ◌<◌, [], Some, if◌then◌else◌, ◌==◌, length, IfOk, OnOk, OnErr};
 ghost use Rattle.std.specs.Ordering.{nat_cmp};
 ghost use Rattle.std.specs.BTreeMap.{get};
@@ -9,8 +9,8 @@ use std::alloc::{AllocError, Global};
 use std::collections::BTreeMap;
 use std::marker::Model;
 
-/// The terms of some slots. A rank mostly has few of them, so a slot is looked for among those of its rank alone. Contracts see
-/// for each of the first ranks a list of its slots and their terms.
+/// The terms of some slots. A rank usually has few, so a slot is looked up among those of its rank. Contracts see a
+/// list of slots with their terms for each of the first ranks.
 #[derive(Drop)]
 pub(crate) struct Rows {
     alloc: Global,
@@ -28,7 +28,7 @@ impl Model for Rows {
 }
 
 impl Rows {
-    /// No slot has a term.
+    /// Creates a table in which no slot has a term.
     pub(crate) fn new(alloc: Global) -> Rows
         ensures { result ≡ [] }
     {
@@ -38,7 +38,7 @@ impl Rows {
         }
     }
 
-    /// The term of a slot.
+    /// Returns the term of a slot, if it has one.
     pub(crate) fn get(&self, rank: u32, slot: u32) -> Option<Term>
         ensures { result ≡ found_in self.now rank slot }
     {
@@ -48,7 +48,7 @@ impl Rows {
         }
     }
 
-    /// The slot gets this term. Answers the one that it had. `Err` where memory ran out.
+    /// Sets the term of a slot, and returns the one that it had, if any. `Err` means out of memory.
     pub(crate) fn insert(
         &mut self,
         rank: u32,
@@ -63,7 +63,7 @@ impl Rows {
         insert_in(&mut self.of_ranks[rank as usize], slot, term)
     }
 
-    // There are maps up to that of this rank. New ones are empty.
+    // Makes maps up to that of this rank. New ones are empty.
     fn make_room(&mut self, rank: usize) -> Result<(), AllocError>
         ensures same { HasSameSlots self.old self.new }
         ensures room { OnOk result (rank < length self.new) }
@@ -75,7 +75,7 @@ impl Rows {
     }
 }
 
-// The slot gets this term in the map of its rank.
+// Sets the term of a slot in the map of its rank.
 fn insert_in(
     row: &mut BTreeMap<u32, Term>,
     slot: u32,

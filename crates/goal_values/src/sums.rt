@@ -1,4 +1,4 @@
-// Values that are told by what they were made of.
+//! Values that are given by their origin.
 ghost use Rattle.std.specs.Prelude.{ℕ, ◌≡◌, ◌+◌, ◌^◌, ◌<◌, ◌++◌, [], length, IfOk, IfSome, OnOk};
 ghost use Rattle.goal_values.specs.declared.sums.Term.TheVariants.{One};
 ghost use Rattle.goal_blocks.specs.Values.{merge};
@@ -11,18 +11,18 @@ use goal_limits::NoMemory;
 use std::alloc::{AllocError, Global};
 use std::marker::Model;
 
-/// A value, by what it was made of. It tells its contributions beside the sums that it was made in.
+/// A value, given by its origin. Its contributions follow from the sums among which it was made.
 #[derive(Clone, Copy, Debug)]
 pub enum Term {
     /// No contribution.
     Nothing,
     /// This contribution alone.
     One(Contribution),
-    /// The sum of that number.
+    /// The sum of this number.
     Made(usize),
 }
 
-/// Two values together, and how many contributions they have. Neither is empty.
+/// The sum of two values, neither of which is empty, and the number of its contributions.
 #[derive(Clone, Copy)]
 struct Sum {
     left: Term,
@@ -30,7 +30,7 @@ struct Sum {
     size: u64,
 }
 
-/// Sums of values, each made of values that were there before. Contracts see the list of their values.
+/// Sums of values, each of values that existed before. Contracts see the list of their values.
 #[derive(Drop)]
 pub struct Sums {
     list: Vec<Sum>,
@@ -49,7 +49,7 @@ impl Model for Sums {
 }
 
 impl Sums {
-    /// No sums.
+    /// Creates a list without sums.
     pub fn new(alloc: Global) -> Sums
         ensures { result ≡ [] }
     {
@@ -58,7 +58,7 @@ impl Sums {
         }
     }
 
-    /// How many contributions a value has.
+    /// Returns the number of contributions of a value.
     pub fn size(&self, term: Term) -> u64
         requires { IsBelow (length self.now) term }
         ensures { result ≡ length (meaning self.now term) }
@@ -70,7 +70,8 @@ impl Sums {
         }
     }
 
-    /// Two values together. Neither is looked at: it takes the same time whatever they hold. All values so far stay.
+    /// Returns the sum of two values, without reading either. All values so far are unchanged. `Err` means out of
+    /// memory.
     pub fn add(&mut self, left: Term, right: Term) -> Result<Term, NoMemory>
         requires left { IsBelow (length self.old) left }
         requires right { IsBelow (length self.old) right }
@@ -93,7 +94,7 @@ impl Sums {
         Ok(Term::Made(number))
     }
 
-    /// The contributions of a value, in order.
+    /// Returns the contributions of a value, sorted. `Err` means out of memory.
     pub fn list(&self, alloc: Global, term: Term) -> Result<Vec<Contribution>, NoMemory>
         requires { IsBelow (length self.now) term }
         ensures list { IfOk result (λ v. v.items ≡ meaning self.now term) }
@@ -105,7 +106,7 @@ impl Sums {
         Ok(list)
     }
 
-    // The contributions of a value, in any order.
+    // Returns the contributions of a value, in any order.
     fn gathered(&self, alloc: Global, term: Term) -> Result<Vec<Contribution>, AllocError>
         requires { IsBelow (length self.now) term }
         ensures { IfOk result (λ v. HasSame v.items (meaning self.now term)) }
@@ -116,7 +117,7 @@ impl Sums {
     }
 }
 
-// The right part of a sum, where it is one contribution.
+// Returns the right part of a sum, if it is a single contribution.
 fn right_one(sum: &Sum) -> Option<Contribution>
     ensures { IfSome result (λ c. sum.now.right ≡ One c) }
 {
@@ -126,8 +127,8 @@ fn right_one(sum: &Sum) -> Option<Contribution>
     }
 }
 
-// The list gets the contributions of a value. Of each sum that is opened it goes on with the right part, and keeps the number:
-// the left part is looked up once the right one is listed.
+// Appends the contributions of a value to the list. For each sum that it opens it continues with the right part and
+// keeps the number; it returns to the left part once the right one is listed.
 fn gather(
     alloc: Global,
     sums: &[Sum],

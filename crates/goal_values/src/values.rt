@@ -1,4 +1,4 @@
-// The values of the slots of all ranks.
+//! The values of the slots of all ranks.
 ghost use Rattle.std.specs.Prelude.{◌≡◌, ◌≢◌, ℕ, List, ◌+◌, ◌*◌, ◌^◌, ◌<◌, ◌≤◌, false, true, length, map, take, All, IfOk, OnOk, OnErr, IfErr, IfSome, IfNone, MatchOption};
 ghost use Rattle.std.specs.List.{sum_by};
 ghost use Rattle.goal_blocks.specs.SlotRanges.{slots_in};
@@ -22,14 +22,16 @@ use goal_limits::NoMemory;
 use std::alloc::{AllocError, Global};
 use std::marker::Model;
 
-/// The values of some slots, none of which was copied. They are told beside the values that they were lent from.
+/// The values of some slots, none of which was copied. They have a meaning only with the values from which they were
+/// lent.
 #[derive(Drop)]
 pub struct Lent {
+    /// The values, as terms.
     pub terms: Vec<Term>,
 }
 
-/// The values of the slots of all ranks, where a collective is done in a segment. Contracts see what it keeps and the sums
-/// that it has made.
+/// The values of the slots of all ranks, if a collective is done in a segment. Contracts see what it keeps, and the
+/// sums that it has made.
 #[derive(Drop)]
 pub struct SlotValues {
     alloc: Global,
@@ -51,7 +53,7 @@ impl Model for SlotValues {
     ghost invariant = { λ s. IsSound (record { kept = kept_in s.what s.ranks s.segment s.sums s.written; sums = s.sums }) s.written s.held };
 }
 
-// A contribution, or none, as a term.
+// Returns a term for one contribution or none.
 fn term_of(first: Option<Contribution>) -> Term
     ensures value { (sums : List Value) → meaning sums result ≡ one_or_none first }
     ensures below { (n : ℕ) → IsBelow n result }
@@ -63,7 +65,7 @@ fn term_of(first: Option<Contribution>) -> Term
 }
 
 impl SlotValues {
-    /// The values of `ranks` ranks at the start of a segment.
+    /// Creates the values of `ranks` ranks at the start of a segment.
     pub fn new(alloc: Global, ranks: u32, what: Collective, segment: Segment) -> SlotValues
         requires some { 1 ≤ ranks }
         requires few { ranks ≤ 65536 }
@@ -82,14 +84,14 @@ impl SlotValues {
         }
     }
 
-    /// How many contributions all slots together have.
+    /// Returns the number of contributions in all slots together.
     pub fn held(&self) -> u64
         ensures { result ≡ stored self.now.kept.ranks (values self.now.kept) }
     {
         self.held
     }
 
-    /// How many contributions the slot of the rank has.
+    /// Returns the number of contributions in the slot of the rank.
     pub fn size_at(&self, rank: u32, slot: u32) -> u64
         requires { rank < self.now.kept.ranks }
         ensures size { result ≡ length (values self.now.kept rank slot) }
@@ -98,7 +100,7 @@ impl SlotValues {
         self.sums.size(self.term_at(rank, slot))
     }
 
-    /// How many contributions the values that were lent have together.
+    /// Returns the number of contributions in the lent values together.
     pub fn lent_size(&self, lent: &Lent) -> u64
         requires lent { IsLent self.now.sums lent.now }
         requires fits { sum_by (λ v. length v) (lent_values self.now.sums lent.now) < 2 ^ 64 }
@@ -111,7 +113,7 @@ impl SlotValues {
         size
     }
 
-    /// The values of the slots of these ranges at the rank. `NoMemory` where memory ran out.
+    /// Returns the values of the slots in these ranges of the rank. `Err` means out of memory.
     pub fn lend(&self, rank: u32, ranges: &[SlotRange]) -> Result<Lent, NoMemory>
         requires { rank < self.now.kept.ranks }
         ensures values { IfOk result (λ l. lent_values self.now.sums l ≡ map (values self.now.kept rank) (slots_in ranges.now)) }
@@ -125,8 +127,8 @@ impl SlotValues {
         Ok(Lent { terms })
     }
 
-    /// Sets the slots of these ranges at the rank to the values, in order: where a slot is named twice, the later value stays.
-    /// `NoMemory` where memory ran out; some of the slots are set then.
+    /// Sets the slots in these ranges of the rank to the values, in order: if a slot is named twice, the later value
+    /// stays. On `Err` (out of memory) some of the slots may be set; those of other ranks are unchanged.
     pub fn write(&mut self, rank: u32, ranges: &[SlotRange], lent: &Lent) -> Result<(), NoMemory>
         requires rank { rank < self.old.kept.ranks }
         requires lent { IsLent self.old.sums lent.now }
@@ -150,8 +152,8 @@ impl SlotValues {
         Ok(())
     }
 
-    /// Adds the value of the slot `from` of the rank to that of its slot `to`. `NoMemory` where memory ran out; all
-    /// values are then as they were.
+    /// Adds the value of slot `from` of the rank to that of its slot `to`. On `Err` (out of memory) all values are
+    /// unchanged.
     pub fn add(&mut self, rank: u32, from: u32, to: u32) -> Result<(), NoMemory>
         requires rank { rank < self.old.kept.ranks }
         requires light { stored self.old.kept.ranks (values self.old.kept) ≤ 2 ^ 24 }
@@ -168,7 +170,7 @@ impl SlotValues {
         Ok(())
     }
 
-    // Two values together. What the slots hold stays.
+    // Returns the sum of two values. The slots are unchanged.
     fn sum_of(&mut self, left: Term, right: Term) -> Result<Term, NoMemory>
         requires left { IsBelow (length self.old.sums) left }
         requires right { IsBelow (length self.old.sums) right }
@@ -183,7 +185,7 @@ impl SlotValues {
         self.sums.add(left, right)
     }
 
-    // What a slot holds.
+    // The value of a slot.
     fn term_at(&self, rank: u32, slot: u32) -> Term
         ensures value { meaning self.now.sums result ≡ values self.now.kept rank slot }
         ensures below { IsBelow (length self.now.sums) result }
@@ -194,7 +196,7 @@ impl SlotValues {
         }
     }
 
-    // What it holds at the start.
+    // The value of a slot at the start.
     fn first_at(&self, rank: u32, slot: u32) -> Term
         ensures value { (sums : List Value) → meaning sums result ≡ first_values self.now.kept rank slot }
         ensures below { (n : ℕ) → IsBelow n result }
@@ -202,7 +204,7 @@ impl SlotValues {
         term_of(first_of(self.what, self.ranks, rank, self.segment.exchanged(slot)))
     }
 
-    // Sets a slot. `Err` where memory ran out.
+    // Sets a slot. `Err` means out of memory.
     fn put(&mut self, rank: u32, slot: u32, term: Term) -> Result<(), AllocError>
         requires rank { rank < self.old.kept.ranks }
         requires below { IsBelow (length self.old.sums) term }
@@ -220,8 +222,8 @@ impl SlotValues {
         Ok(())
     }
 
-    /// The least rank and slot that does not hold what the collective wants of it in the segment, None where each slot does.
-    /// `NoMemory` where memory ran out.
+    /// Returns the least rank and slot that does not hold what the collective wants in the segment, or `None` if each
+    /// slot does. `Err` means out of memory.
     pub fn first_wrong(
         &self,
         what: Collective,
@@ -242,7 +244,7 @@ impl SlotValues {
         Ok(None)
     }
 
-    // The least slot of the rank that does not hold what is wanted of it.
+    // Returns the least slot of the rank that does not hold what is wanted.
     fn first_wrong_of(
         &self,
         what: Collective,
@@ -269,7 +271,7 @@ impl SlotValues {
         Ok(least)
     }
 
-    // Whether the slot holds what is wanted of it.
+    // Returns whether the slot holds what is wanted.
     fn is_right(
         &self,
         what: Collective,
@@ -295,7 +297,7 @@ impl SlotValues {
     }
 }
 
-// The lesser one of two slots, of which the first may be missing.
+// Returns the lesser of two slots; the first may be missing.
 fn lesser(least: Option<u32>, slot: u32) -> u32
     ensures { result ≡ lesser least slot }
 {

@@ -6,7 +6,7 @@ use Rattle.goal_values.specs.Parts.{told}
 use Rattle.goal_values.proofs.Gathering.{weight, weights, shares}
 use Rattle.goal_values.proofs.sums.gather.Given as goal
 
--- what is listed, the left parts of the opened sums and the part at hand have together what the list and the value had
+-- what is listed, the left parts of the opened sums and the next part have together what the list and the value had
 abbrev pub invariant-parts : goal.invariant-parts
 invariant-parts l = record {
   numbers : All (λ (n : ℕ). n < length (told [] l.sums)) l.opened.items;

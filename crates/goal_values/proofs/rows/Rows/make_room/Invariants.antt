@@ -3,7 +3,7 @@ use Rattle.goal_values.specs.Rows.{HasSameSlots}
 use Rattle.goal_values.proofs.SlotRows.{listed}
 use Rattle.goal_values.proofs.rows.Rows.make_room.Given as goal
 
--- each slot has what it had
+-- each slot has the same as before
 abbrev pub invariant-loop-self : goal.invariant-loop-self
 invariant-loop-self l = HasSameSlots (listed l.initial.self-inside.of_ranks.items) (listed l.self-inside.of_ranks.items)
 

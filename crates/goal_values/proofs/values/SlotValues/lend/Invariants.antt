@@ -4,7 +4,7 @@ use Rattle.goal_values.specs.Kept.{values}
 use Rattle.goal_values.specs.Sums.{meaning, IsBelow}
 use Rattle.goal_values.proofs.values.SlotValues.lend.Given as goal
 
--- with the values of the slots that are left these are all
+-- with the values of the remaining slots these are all
 abbrev pub invariant-loop-slot : goal.invariant-loop-slot
 invariant-loop-slot l = record {
   read : map (meaning l.self.sums) l.terms.items ++ map (values l.self.kept l.rank) l.slots ≡ map (values l.self.kept l.rank) (slots_in l.ranges);

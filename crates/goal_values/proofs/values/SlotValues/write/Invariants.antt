@@ -7,7 +7,7 @@ use Rattle.goal_values.specs.Kept.{values}
 use Rattle.goal_values.specs.Sums.{meaning}
 use Rattle.goal_values.proofs.values.SlotValues.write.Given as goal
 
--- writing what is left completes it
+-- writing the remaining values completes it
 abbrev pub invariant-loop-term : goal.invariant-loop-term
 invariant-loop-term l = record {
   sums : l.self.sums ≡ l.initial.self.sums;
