@@ -1,4 +1,4 @@
--- What holds of the plans of a probe, and that they are accepted.
+-- Properties of the plans of a probe, and that they are accepted.
 use Rattle.std.proofs.Common.{◌≡◌, ℕ, zero, suc, ◌+◌, ◌*◌, ◌-◌, ◌<◌, ◌≤◌, ◌%◌, ◌^◌, ◌&&◌, eqb, leb, Bool, true, false, List, [], ◌∷◌, ◌++◌, length, get_or, Some, None, All, refl, add-one, set, take, drop, subst, ap, sym, ◌∙◌, arith, if◌then◌else◌}
 use Rattle.std.specs.List.{sum_by}
 use Rattle.std.proofs.lemmas.Bool.{eqb-false, le-leb, lt-ltb}
@@ -17,7 +17,7 @@ use Rattle.goal_blocks.proofs.ForCallers.{first_fault-of_none, lower_have_depths
 use Rattle.goal_collectives.specs.declared.draws.Round.{Round}
 use Rattle.goal_collectives.specs.Probe.{next_state, drawn, round_from, state_before, op_in, requires_end, after_last, source_in, with_work, with_receive, at_rank, with_round, idle, idle_ranks, probed}
 
--- one item more in front
+-- another item at the front
 all_cons : {X : Type 0} (P : X → Type 0) (x : X) (xs : List X) → P x → All P xs → All P (x ∷ xs)
 all_cons P x xs h t zero d l = h
 all_cons P x xs h t (suc k) d l = t k d (omega arith)
@@ -108,7 +108,7 @@ receive_sound i x p small sound = record {
     source true = refl
     source false = lt-ltb x.from 64 small.from
 
--- what holds of plans of which one is changed
+-- properties of plans of which one is changed
 all_at_rank : (P Q : Plan → Type 0) (r : ℕ) (f : Plan → Plan) (ps : List Plan) → ((p : Plan) → P p → Q p) → ((p : Plan) → P p → Q (f p)) → All P ps → All Q (at_rank r f ps)
 unfolding at_rank
 all_at_rank P Q r f [] stays changes h = all_none Q
@@ -258,7 +258,7 @@ probed_accepted n seed few = record {
       lower_have_depths (probed n seed) (λ k p l. (λ j d inside. ((probed_sound n seed k p l).deps j d inside).1)) x;
 }
 
--- one idle rank more, at the end
+-- another idle rank at the end
 pub idle_more : (n : ℕ) → idle_ranks n ++ idle ∷ [] ≡ idle_ranks (suc n)
 unfolding idle_ranks
 idle_more zero = refl
@@ -286,7 +286,7 @@ few_enough n seed few k p l = omega (arith, probed_few n seed k p l)
 pub pushed_idle : (n : ℕ) (p : Plan) (old new : List Plan) → old ≡ idle_ranks n → p ≡ idle → new ≡ old ++ p ∷ [] → new ≡ idle_ranks (n + 1)
 pushed_idle n p old new so_far none pushed = rw (pushed, so_far, none, add-one) (idle_more n)
 
--- the plan of a rank is changed by writing it
+-- replacing a plan in the list changes the plan of that rank
 pub written : (r : ℕ) (f : Plan → Plan) (ps : List Plan) (old new : Plan) → r < length ps → old ≡ get_or ps r old → new ≡ f old → set ps r new ≡ at_rank r f ps
 unfolding at_rank
 written r f [] old new inside here changed = absurd (omega arith)

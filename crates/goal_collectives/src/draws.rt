@@ -1,4 +1,4 @@
-// What a probe draws.
+//! The random numbers of a probe.
 ghost use Rattle.std.specs.Prelude.{◌≡◌, ◌<◌, ◌^◌};
 ghost use Rattle.goal_collectives.specs.Probe.{next_state, drawn, round_from};
 
@@ -6,30 +6,34 @@ const MULTIPLIER: u64 = 6_364_136_223_846_793_005;
 
 const INCREMENT: u64 = 1_442_695_040_888_963_407;
 
-// A round: the rank of its calc and its send, the rank of its receive, the nanoseconds and the bytes.
+/// A round of a probe.
 #[derive(Clone, Copy)]
 pub struct Round {
+    /// The rank of its calc and its send.
     pub from: u32,
+    /// The rank of its receive.
     pub to: u32,
+    /// The duration of the calc, in nanoseconds.
     pub nanos: u64,
+    /// The size of the message, in bytes.
     pub bytes: u64,
 }
 
-// The state of a row of draws, by a linear congruence modulo 2^64.
+/// A sequence of draws, by a linear congruence modulo 2^64.
 #[derive(Drop)]
 pub struct Draws {
     state: u64,
 }
 
 impl Draws {
-    // The draws from a seed.
+    /// Starts a sequence with a seed.
     pub fn new(seed: u64) -> Draws
         ensures { result.state ≡ seed }
     {
         Draws { state: seed }
     }
 
-    // The next draw.
+    // Draws a number below 2^31.
     fn draw(&mut self) -> u64
         ensures state { self.new.state ≡ next_state self.old.state }
         ensures drawn { result ≡ drawn self.new.state }
@@ -38,7 +42,7 @@ impl Draws {
         self.state >> 33
     }
 
-    // The next round, by four draws.
+    /// Draws a round, by four draws.
     pub fn round(&mut self) -> Round
         ensures round { result ≡ round_from self.old.state }
         ensures state { self.new.state ≡ next_state (next_state (next_state (next_state self.old.state))) }

@@ -1,4 +1,4 @@
-//! The schedules of the broadcast, barrier, allgather, allreduce and alltoall, and that of a probe.
+//! The schedules of the broadcast, barrier, allgather, allreduce and alltoall, and of a probe.
 #![tactic(auto)]
 
 mod draws;

@@ -1,4 +1,4 @@
-// The schedule of a collective, or why there is none.
+//! The schedule of a collective, or why there is none.
 ghost use Rattle.std.specs.Prelude.{◌≡◌, ◌≢◌, ◌≤◌, true, OnOk, IfOk, IfErr, IsErrOf, IsOkUnless};
 ghost use Rattle.goal_graph.specs.Fault.{IsAccepted};
 ghost use Rattle.goal_blocks.specs.Makers.{is_made_by_generate};
@@ -13,13 +13,13 @@ use goal_graph::Sched;
 use goal_limits::MAX_BYTES;
 use std::alloc::Global;
 
-/// The schedule of a broadcast, barrier, allgather, allreduce or alltoall among so many ranks, with messages of so many
-/// bytes. It is made in one pass over the ranks and their operations.
+/// Returns the schedule of a broadcast, barrier, allgather, allreduce or alltoall for `ranks` ranks, with messages of
+/// `bytes` bytes. It makes one pass over the ranks and their operations.
 ///
 /// # Errors
 ///
-/// The first of these: no ranks, or more than the collective may have; a root that is no rank; an allreduce among
-/// another number of ranks than a power of two; want of memory.
+/// The first of these: no rank, or more than the collective may have; a root that is not a rank; an allreduce whose
+/// number of ranks is not a power of two; out of memory.
 pub fn generate(alloc: Global, what: Collective, ranks: u32, bytes: u64) -> Result<Sched, GenFault>
     requires made_here { is_made_by_generate what ≡ true }
     requires size { bytes ≤ MAX_BYTES }
@@ -29,11 +29,11 @@ pub fn generate(alloc: Global, what: Collective, ranks: u32, bytes: u64) -> Resu
     ensures accepted { IfOk result (λ sched. IsAccepted sched) }
     ensures exact { OnOk result (IsPossible what ranks) }
 
-    // It is right in every interleaving, and certified but where it holds too much.
+    // It is right in every interleaving, and certified unless it holds too many contributions.
     ensures certified { IsCertifiedByProof what ranks → IfOk result (λ sched. IsCertifiedFor what sched) }
     ensures right { IfOk result (λ sched. IsRightFor what sched) }
 
-    // A fault is told exactly where it is the first one; memory can only run out where there is none.
+    // A fault is returned exactly if it is the first; memory can run out only if there is none.
     ensures fault { IfErr result (λ fault. IsGenFault what ranks fault) }
     ensures faults { (fault : GenFault) → IsGenFault what ranks fault → fault ≢ GenFault.NoMemory
         → IsErrOf result fault }

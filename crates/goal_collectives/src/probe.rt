@@ -1,4 +1,4 @@
-// The schedule of a probe.
+//! The schedule of a probe.
 ghost use Rattle.std.specs.Prelude.{◌≡◌, ◌<◌, ◌≤◌, ◌+◌, ◌^◌, [], ◌∷◌, ◌++◌, length, All, OnOk, IfOk};
 ghost use Rattle.goal_graph.specs.Schedule.{Plan};
 ghost use Rattle.goal_graph.specs.Fault.{IsAccepted};
@@ -11,8 +11,8 @@ use std::alloc::{AllocError, Global};
 
 const RANKS: u32 = 64;
 
-// Ranks without operations. Each has room for its share of so many rounds, and for a third more of it, since the ranks of a
-// round are drawn: three operations in 64, and two dependencies.
+// Ranks without operations. Each has room for its share of the rounds, three operations and two dependencies per round
+// and 64 ranks, and a third more, since the ranks of a round are random.
 fn idle_ranks(alloc: Global, rounds: u32) -> Result<Vec<RankPlan>, AllocError>
     ensures { IfOk result (λ plans. plans.items ≡ idle_ranks RANKS) }
 {
@@ -37,7 +37,7 @@ fn op_in(number: u32, kind: Kind) -> Op
     }
 }
 
-// The operation `later` requires the operation `earlier`.
+// The operation `later` needs the end of the operation `earlier`.
 fn requires_end(later: u32, earlier: u32) -> Dep
     ensures { result ≡ requires_end later earlier }
 {
@@ -48,8 +48,8 @@ fn requires_end(later: u32, earlier: u32) -> Dep
     }
 }
 
-// What the calc number `calc` of a rank and the send after it require: the calc the operation before it, if there is one,
-// and the send the calc.
+// Appends the needs of calc number `calc` of a rank and of the send after it: the calc needs the operation before it,
+// if any, and the send needs the calc.
 fn add_needs(deps: &mut Vec<Dep>, calc: u32) -> Result<(), AllocError>
     requires { calc < 2 ^ 31 }
     ensures { OnOk result (deps.new.items
@@ -62,7 +62,7 @@ fn add_needs(deps: &mut Vec<Dep>, calc: u32) -> Result<(), AllocError>
     Ok(())
 }
 
-// The calc and the send of a round.
+// Appends the calc and the send of a round.
 #[tactic(auto, unfolding(crate::specs::Probe::with_work))]
 fn add_work(plan: &mut RankPlan, number: u32, round: Round) -> Result<(), AllocError>
     requires { length plan.old.ops < 2 ^ 31 }
@@ -80,7 +80,7 @@ fn add_work(plan: &mut RankPlan, number: u32, round: Round) -> Result<(), AllocE
     Ok(())
 }
 
-// The source of the receive of a round: any, in one round of eight.
+// Returns the source of the receive of a round: any in every eighth round.
 fn source_in(number: u32, round: Round) -> Option<u32>
     ensures { result ≡ source_in number round }
 {
@@ -91,7 +91,7 @@ fn source_in(number: u32, round: Round) -> Option<u32>
     }
 }
 
-// The receive of a round.
+// Appends the receive of a round.
 #[tactic(auto, unfolding(crate::specs::Probe::with_receive))]
 fn add_receive(plan: &mut RankPlan, number: u32, round: Round) -> Result<(), AllocError>
     ensures { OnOk result (plan.new ≡ with_receive number round plan.old) }
@@ -105,7 +105,7 @@ fn add_receive(plan: &mut RankPlan, number: u32, round: Round) -> Result<(), All
     Ok(())
 }
 
-// A round.
+// Appends a round.
 fn add_round(plans: &mut [RankPlan], number: u32, round: Round) -> Result<(), AllocError>
     requires ranks { length plans.old ≡ 64 }
     requires from { round.from < 64 }
@@ -118,12 +118,12 @@ fn add_round(plans: &mut [RankPlan], number: u32, round: Round) -> Result<(), Al
     Ok(())
 }
 
-/// The schedule of a probe: so many rounds of a calc, a send and a receive among 64 ranks, drawn from a seed. It is made
-/// in one pass over the rounds.
+/// Returns the schedule of a probe: `rounds` rounds of a calc, a send and a receive among 64 ranks, drawn from a seed.
+/// It makes one pass over the rounds.
 ///
 /// # Errors
 ///
-/// Want of memory.
+/// Only `NoMemory`.
 pub fn probe_plan(alloc: Global, rounds: u32, seed: u64) -> Result<Sched, NoMemory>
     requires { rounds ≤ MAX_ROUNDS }
     ensures probed { IfOk result (λ sched. sched ≡ probed rounds seed) }

@@ -1,4 +1,4 @@
-// The steps of the broadcast, barrier, allgather, allreduce and alltoall, as their formulas say.
+//! The steps of the broadcast, barrier, allgather, allreduce and alltoall, by the formulas of goal_blocks (specs/Made).
 ghost use Rattle.std.specs.Prelude.{◌≡◌, ◌+◌, ◌-◌, ◌*◌, ◌^◌, ◌<◌, ◌≤◌, [], ◌∷◌};
 ghost use Rattle.goal_blocks.specs.Steps.{entry_of, needs_of};
 ghost use Rattle.goal_blocks.specs.Positions.{flipped, digits};
@@ -7,7 +7,7 @@ ghost use Rattle.goal_blocks.specs.Made.{bcast_in, bcast_count, bcast_send, roun
 use goal_blocks::{Effect, Needs, Step, ahead, back, before_round, digits, power};
 use goal_limits::MAX_RANKS;
 
-// How many operations a virtual rank has in a broadcast.
+/// Returns the number of operations of a virtual rank in a broadcast.
 pub fn bcast_count(ranks: u32, rank: u32) -> u32
     requires few { ranks ≤ MAX_RANKS }
     requires rank { rank < ranks }
@@ -20,7 +20,7 @@ pub fn bcast_count(ranks: u32, rank: u32) -> u32
     1 + rounds.saturating_sub(digits(rank))
 }
 
-// In a broadcast, the send of a virtual rank in a round.
+// Returns the send of a virtual rank in a round of a broadcast.
 fn bcast_send(ranks: u32, root: u32, bytes: u64, rank: u32, round: u32, needs: Needs) -> Step
     requires few { ranks ≤ MAX_RANKS }
     requires root { root < ranks }
@@ -32,7 +32,7 @@ fn bcast_send(ranks: u32, root: u32, bytes: u64, rank: u32, round: u32, needs: N
     Step::send(bytes, child, round, needs, Effect::slot(0))
 }
 
-// An operation of a virtual rank in a broadcast.
+/// Returns operation `number` of a virtual rank in a broadcast.
 pub fn bcast_step(ranks: u32, root: u32, bytes: u64, rank: u32, number: u32) -> Step
     requires few { ranks ≤ MAX_RANKS }
     requires root { root < ranks }
@@ -52,7 +52,7 @@ pub fn bcast_step(ranks: u32, root: u32, bytes: u64, rank: u32, number: u32) -> 
     bcast_send(ranks, root, bytes, rank, own + (number - 1), Needs::One(0))
 }
 
-// One of the three operations of a round of a barrier or an allreduce.
+// Returns one of the three operations of a round of a barrier or an allreduce.
 fn round_step(bytes: u64, to: u32, from: u32, round: u32, part: u32) -> Step
     requires { round < 32 }
     ensures { entry_of result ≡ round_in bytes to from round part }
@@ -64,7 +64,7 @@ fn round_step(bytes: u64, to: u32, from: u32, round: u32, part: u32) -> Step
     }
 }
 
-// An operation of a barrier.
+/// Returns operation `number` of a rank in a barrier.
 pub fn barrier_step(ranks: u32, bytes: u64, rank: u32, number: u32) -> Step
     requires few { ranks ≤ MAX_RANKS }
     requires rank { rank < ranks }
@@ -78,7 +78,7 @@ pub fn barrier_step(ranks: u32, bytes: u64, rank: u32, number: u32) -> Step
     round_step(bytes, to, from, round, number % 3)
 }
 
-// The rank with the other binary digit of a round.
+// Returns the rank that differs in the binary digit of a round.
 fn flipped(rank: u32, round: u32) -> u32
     requires rank { rank < 2 ^ 16 }
     requires round { round < 16 }
@@ -92,7 +92,7 @@ fn flipped(rank: u32, round: u32) -> u32
     }
 }
 
-// An operation of an allreduce.
+/// Returns operation `number` of a rank in an allreduce.
 pub fn allreduce_step(ranks: u32, bytes: u64, rank: u32, number: u32) -> Step
     requires few { ranks ≤ MAX_RANKS }
     requires rank { rank < ranks }
@@ -104,7 +104,7 @@ pub fn allreduce_step(ranks: u32, bytes: u64, rank: u32, number: u32) -> Step
     round_step(bytes, other, other, round, number % 3)
 }
 
-// What the send of a step of an allgather requires: the operation before it, if it is not the first.
+// Returns the needs of the send of a step of an allgather: the operation before it, unless it is the first.
 fn before_send(number: u32) -> Needs
     ensures root { number ≡ 0 → needs_of result ≡ [] }
     ensures others { 0 < number → needs_of result ≡ (number - 1) ∷ [] }
@@ -115,7 +115,7 @@ fn before_send(number: u32) -> Needs
     Needs::One(number - 1)
 }
 
-// An operation of an allgather.
+/// Returns operation `number` of a rank in an allgather.
 pub fn allgather_step(ranks: u32, bytes: u64, rank: u32, number: u32) -> Step
     requires few { ranks ≤ MAX_RANKS }
     requires rank { rank < ranks }
@@ -133,7 +133,7 @@ pub fn allgather_step(ranks: u32, bytes: u64, rank: u32, number: u32) -> Step
     Step::receive(bytes, from, step, Effect::slot(slot))
 }
 
-// An operation of an alltoall.
+/// Returns operation `number` of a rank in an alltoall.
 pub fn alltoall_step(ranks: u32, bytes: u64, rank: u32, number: u32) -> Step
     requires few { ranks ≤ MAX_RANKS }
     requires rank { rank < ranks }
