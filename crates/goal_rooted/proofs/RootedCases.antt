@@ -24,7 +24,7 @@ rounds_of_other ranks v some =
     let e : eqb v 0 ≡ false = grind (arith, nat_tests) in
     rw e refl
 
--- a virtual rank has one parent at most
+-- a virtual rank has at most one parent
 pub upward_few : (v : ℕ) → upward v ≤ 1
 upward_few v = grind (arith, nat_tests)
 

@@ -8,13 +8,13 @@ use Rattle.goal_blocks.specs.GenFaults.{AreRanksWithin}
 use Rattle.goal_rooted.specs.declared.fault.RootedFault.{RootedFault}
 use Rattle.goal_rooted.specs.declared.fault.RootedFault.TheVariants.{Ranks, Root, NoMemory}
 
--- The first fault: the number of ranks is checked before the root. Memory can run out only where there is no other fault.
+-- The first fault: the number of ranks is checked before the root. Memory can run out only if there is no other fault.
 abbrev pub IsRootedFault : Collective → ℕ → RootedFault → Type 0
 IsRootedFault what ranks (Ranks limit) = (limit ≡ most_ranks what) × ((ranks ≡ 0) ⊎ (most_ranks what < ranks))
 IsRootedFault what ranks Root = AreRanksWithin what ranks × (HasRoot what ranks → ⊥)
 IsRootedFault what ranks NoMemory = IsPossible what ranks
 
--- the same fault, as all ten collectives have it
+-- the same fault, as one of all ten collectives
 abbrev pub as_gen_fault : RootedFault → GenFault
 as_gen_fault (Ranks limit) = gen.Ranks limit
 as_gen_fault Root = gen.Root

@@ -1,17 +1,17 @@
-// Why a collective has no schedule here.
+//! Why one of these collectives has no schedule.
 ghost use Rattle.std.specs.Prelude.{◌≡◌};
 ghost use Rattle.goal_rooted.specs.Faults.{as_gen_fault};
 
 use goal_blocks::GenFault;
 
-/// Why there is no schedule of a reduce, gather, scatter, reduce_scatter or scan for `ranks` ranks.
+/// Why a reduce, gather, scatter, reduce_scatter or scan has no schedule for a number of ranks.
 #[derive(Clone, Copy, Debug, PartialEq, Eq)]
 pub enum RootedFault {
-    /// There is no rank, or there are more than `limit`, the most that the collective may have.
+    /// There is no rank, or there are more than `limit`, the most of this collective.
     Ranks { limit: u32 },
-    /// The root is none of the ranks.
+    /// The root is not one of the ranks.
     Root,
-    /// Memory ran out.
+    /// Out of memory.
     NoMemory,
 }
 

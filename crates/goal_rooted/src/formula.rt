@@ -1,4 +1,4 @@
-// The formulas of the five collectives, as counts and steps.
+//! The formulas of the five collectives, as numbers of operations and steps.
 ghost use Rattle.std.specs.Prelude.{◌≡◌, ◌<◌, ◌≤◌, false};
 ghost use Rattle.goal_blocks.specs.Generated.{most_ranks, HasRoot};
 ghost use Rattle.goal_blocks.specs.Makers.{HasRoot-prop, is_made_by_generate};
@@ -9,11 +9,14 @@ use crate::steps::{
 use crate::tree::{children, upward};
 use goal_blocks::{Collective, Formula, Step, back};
 
-/// A schedule that is asked for: of a collective, among so many ranks, which it may have, with messages of so many bytes.
+/// A request for the schedule of a collective, for a possible number of ranks.
 #[derive(Drop)]
 pub struct Asked {
+    /// The collective.
     pub what: Collective,
+    /// The number of ranks.
     pub ranks: u32,
+    /// The size of each message, in bytes.
     pub bytes: u64,
     ghost made_here: { is_made_by_generate what ≡ false },
     ghost some_rank: { 0 < ranks },

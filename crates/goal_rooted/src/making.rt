@@ -1,4 +1,4 @@
-// The schedule of a collective, or why there is none.
+//! The schedule of a collective, or why there is none.
 ghost use Rattle.std.specs.Prelude.{◌≡◌, ◌≢◌, ◌≤◌, false, OnOk, IfOk, IfErr, IsErrOf, IsOkUnless};
 ghost use Rattle.goal_graph.specs.Fault.{IsAccepted};
 ghost use Rattle.goal_blocks.specs.Makers.{is_made_by_generate};
@@ -14,12 +14,12 @@ use goal_graph::Sched;
 use goal_limits::MAX_BYTES;
 use std::alloc::Global;
 
-/// The schedule of a reduce, gather, scatter, reduce_scatter or scan among `ranks` ranks, with messages of `bytes` bytes. One
-/// pass over the ranks and their operations makes it.
+/// Returns the schedule of a reduce, gather, scatter, reduce_scatter or scan for `ranks` ranks, with messages of
+/// `bytes` bytes. It makes one pass over the ranks and their operations.
 ///
 /// # Errors
 ///
-/// The first of these: no ranks, or more than the collective may have; a root that is no rank; out of memory.
+/// The first of these: no rank, or more than the collective may have; a root that is not a rank; out of memory.
 pub fn generate_rooted(
     alloc: Global,
     what: Collective,
@@ -34,11 +34,11 @@ pub fn generate_rooted(
     ensures accepted { IfOk result (λ sched. IsAccepted sched) }
     ensures exact { OnOk result (IsPossible what ranks) }
 
-    // It is right in every interleaving, and certified but where it holds too much.
+    // It is right in every interleaving, and certified unless it holds too many contributions.
     ensures certified { IsCertifiedByProof what ranks → IfOk result (λ sched. IsCertifiedFor what sched) }
     ensures right { IfOk result (λ sched. IsRightFor what sched) }
 
-    // A fault is told exactly where it is the first one; memory can only run out where there is none.
+    // A fault is returned exactly if it is the first; memory can run out only if there is none.
     ensures fault { IfErr result (λ fault. IsRootedFault what ranks fault) }
     ensures faults { (fault : RootedFault) → IsRootedFault what ranks fault → fault ≢ RootedFault.NoMemory
         → IsErrOf result fault }

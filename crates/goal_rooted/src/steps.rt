@@ -1,4 +1,5 @@
-// The steps of the reduce, gather, scatter, reduce_scatter and scan, as their formulas say.
+//! The steps of the reduce, gather, scatter, reduce_scatter and scan, by the formulas of goal_blocks
+//! (specs/MadeRooted).
 ghost use Rattle.std.specs.Prelude.{◌≡◌, ◌+◌, ◌-◌, ◌*◌, ◌^◌, ◌<◌, ◌≤◌, ◌∷◌};
 ghost use Rattle.goal_blocks.specs.Steps.{entry_of, needs_of};
 ghost use Rattle.goal_blocks.specs.Positions.{rounds, upward};
@@ -8,7 +9,7 @@ use crate::tree::{children, low, parent, part, share, upward};
 use goal_blocks::{Effect, Needs, Step, ahead, back, before_round, power};
 use goal_limits::MAX_RANKS;
 
-// What comes after the calcs of the rounds before this one: the last of them.
+// Returns the last calc of the rounds before this one, if any, as a need.
 fn earlier_sum(round: u32) -> Needs
     requires { round < 2 ^ 30 }
     ensures { needs_of result ≡ earlier_sum round }
@@ -19,7 +20,7 @@ fn earlier_sum(round: u32) -> Needs
     Needs::One(2 * round - 1)
 }
 
-// What the calc of a round requires: its receive, and the calc before.
+// Returns the needs of the calc of a round: its receive, and the calc before.
 fn before_sum(round: u32) -> Needs
     requires { round < 2 ^ 30 }
     ensures { needs_of result ≡ (round + round) ∷ earlier_sum round }
@@ -30,7 +31,7 @@ fn before_sum(round: u32) -> Needs
     Needs::Two(2 * round, 2 * round - 1)
 }
 
-// An operation of a virtual rank in a reduce.
+/// Returns operation `number` of a virtual rank in a reduce.
 pub fn reduce_step(ranks: u32, root: u32, bytes: u64, rank: u32, number: u32) -> Step
     requires few { ranks ≤ MAX_RANKS }
     requires root { root < ranks }
@@ -51,7 +52,7 @@ pub fn reduce_step(ranks: u32, root: u32, bytes: u64, rank: u32, number: u32) ->
     Step::sum(before_sum(round), round + 1, 0)
 }
 
-// An operation of a virtual rank in a gather.
+/// Returns operation `number` of a virtual rank in a gather.
 pub fn gather_step(ranks: u32, root: u32, bytes: u64, rank: u32, number: u32) -> Step
     requires few { ranks ≤ MAX_RANKS }
     requires root { root < ranks }
@@ -71,7 +72,7 @@ pub fn gather_step(ranks: u32, root: u32, bytes: u64, rank: u32, number: u32) ->
     Step::receive(bytes, from, number, share(ranks, root, child, size))
 }
 
-// In a scatter, the send of a virtual rank to a child.
+// Returns the send of a virtual rank to a child in a scatter.
 fn give_step(ranks: u32, root: u32, bytes: u64, rank: u32, round: u32, needs: Needs) -> Step
     requires few { ranks ≤ MAX_RANKS }
     requires root { root < ranks }
@@ -85,7 +86,7 @@ fn give_step(ranks: u32, root: u32, bytes: u64, rank: u32, round: u32, needs: Ne
     Step::send(bytes, to, round, needs, share(ranks, root, child, size))
 }
 
-// An operation of a virtual rank in a scatter.
+/// Returns operation `number` of a virtual rank in a scatter.
 pub fn scatter_step(ranks: u32, root: u32, bytes: u64, rank: u32, number: u32) -> Step
     requires few { ranks ≤ MAX_RANKS }
     requires root { root < ranks }
@@ -118,7 +119,7 @@ pub fn scatter_step(ranks: u32, root: u32, bytes: u64, rank: u32, number: u32) -
     )
 }
 
-// An operation of a reduce_scatter.
+/// Returns operation `number` of a rank in a reduce_scatter.
 pub fn reduce_scatter_step(ranks: u32, bytes: u64, rank: u32, number: u32) -> Step
     requires few { ranks ≤ MAX_RANKS }
     requires rank { rank < ranks }
@@ -139,7 +140,7 @@ pub fn reduce_scatter_step(ranks: u32, bytes: u64, rank: u32, number: u32) -> St
     Step::sum(Needs::One(3 * step + 1), ranks + slot, slot)
 }
 
-// How many operations a rank has in a scan.
+/// Returns the number of operations of a rank in a scan.
 #[tactic(auto, unfolding(goal_blocks::specs::MadeRooted::scan_count))]
 pub fn scan_count(ranks: u32, rank: u32) -> u32
     requires few { ranks ≤ MAX_RANKS }
@@ -150,7 +151,7 @@ pub fn scan_count(ranks: u32, rank: u32) -> u32
     2 * upward(rank) + sends
 }
 
-// An operation of a rank in a scan.
+/// Returns operation `number` of a rank in a scan.
 pub fn scan_step(bytes: u64, rank: u32, number: u32) -> Step
     requires { rank < MAX_RANKS }
     ensures { entry_of result ≡ scan_in bytes rank number }

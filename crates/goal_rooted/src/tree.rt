@@ -1,4 +1,4 @@
-// The binomial tree: children, parents, and the slots of a part of it.
+//! The binomial tree: children, parents, and the slots of a part of it.
 ghost use Rattle.std.specs.Prelude.{◌≡◌, ◌+◌, ◌^◌, ◌<◌, ◌≤◌, []};
 ghost use Rattle.goal_blocks.specs.Steps.{moves_of, adds_of};
 ghost use Rattle.goal_blocks.specs.Positions.{low, rounds, parent, upward, share};
@@ -6,7 +6,7 @@ ghost use Rattle.goal_blocks.specs.Positions.{low, rounds, parent, upward, share
 use goal_blocks::{Effect, SlotRange, ahead, digits, power};
 use goal_limits::MAX_RANKS;
 
-/// The greatest power of two that divides a number.
+/// Returns the exponent of the greatest power of two that divides a number.
 #[tactic(auto, unfolding(goal_blocks::specs::Positions::low))]
 pub fn low(number: u32) -> u32
     ensures { result ≡ low number }
@@ -14,7 +14,7 @@ pub fn low(number: u32) -> u32
     number.trailing_zeros()
 }
 
-/// The number of the children of a virtual rank.
+/// Returns the number of children of a virtual rank.
 pub fn children(ranks: u32, rank: u32) -> u32
     requires few { ranks ≤ MAX_RANKS }
     requires rank { rank < ranks }
@@ -27,14 +27,15 @@ pub fn children(ranks: u32, rank: u32) -> u32
     low(rank).min(rounds)
 }
 
-/// 1 for the virtual ranks that have a parent.
+/// Returns 1 for the virtual ranks that have a parent, and 0 for virtual rank 0.
 pub fn upward(rank: u32) -> u32
     ensures { result ≡ upward rank }
 {
     if rank == 0 { 0 } else { 1 }
 }
 
-/// The size of the part of the tree that begins at a virtual rank other than 0.
+/// Returns the number of virtual ranks in the part of the tree below a virtual rank other than 0, itself included, if
+/// none is missing.
 pub fn part(rank: u32) -> u32
     requires some { 0 < rank }
     requires few { rank < MAX_RANKS }
@@ -45,7 +46,7 @@ pub fn part(rank: u32) -> u32
     power(low(rank))
 }
 
-/// The rank of the parent of a virtual rank other than 0.
+/// Returns the rank of the parent of a virtual rank other than 0.
 #[tactic(auto, unfolding(goal_blocks::specs::Positions::parent))]
 pub fn parent(ranks: u32, root: u32, rank: u32) -> u32
     requires few { ranks ≤ MAX_RANKS }
@@ -57,7 +58,7 @@ pub fn parent(ranks: u32, root: u32, rank: u32) -> u32
     ahead(ranks, rank - part(rank), root)
 }
 
-/// The slots of so many virtual ranks from one on.
+/// Returns the move of the slots of `size` virtual ranks from one on.
 pub fn share(ranks: u32, root: u32, rank: u32, size: u32) -> Effect
     requires few { ranks ≤ MAX_RANKS }
     requires root { root < ranks }
